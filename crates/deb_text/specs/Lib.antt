@@ -1,0 +1,6 @@
+pub mod Answers
+pub mod Bytes
+pub mod Classes
+pub mod Cuts
+pub mod Lines
+pub mod Steps

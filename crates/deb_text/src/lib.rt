@@ -1,0 +1,12 @@
+//! What the readers of control data share: faults, byte classes, cuts and lines.
+#![tactic(auto)]
+
+mod classes;
+mod cuts;
+mod fault;
+mod lines;
+
+pub use classes::{Class, all_in, begins_with, has};
+pub use cuts::{cut_at_first, cut_at_last, next_part, skip_front, split_front, trim};
+pub use fault::{Fault, MEMORY};
+pub use lines::{Line, is_blank_line, is_comment, next_line};
