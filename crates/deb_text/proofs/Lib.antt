@@ -1,5 +1,11 @@
+pub mod AgainLaws
 pub mod CutLaws
 pub mod FindLaws
+pub mod GroupLaws
 pub mod LineLaws
+pub mod ListLaws
+pub mod NumberLaws
 pub mod PartLaws
+pub mod PlaceLaws
 pub mod StepLaws
+pub mod WordLaws

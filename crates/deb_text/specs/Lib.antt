@@ -2,5 +2,9 @@ pub mod Answers
 pub mod Bytes
 pub mod Classes
 pub mod Cuts
+pub mod Groups
 pub mod Lines
+pub mod Lists
+pub mod Numbers
 pub mod Steps
+pub mod Words

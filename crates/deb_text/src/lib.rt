@@ -1,12 +1,19 @@
-//! What the readers of control data share: faults, byte classes, cuts and lines.
+//! What the readers of control data share: faults, byte classes, cuts, lines, words and numbers.
 #![tactic(auto)]
 
 mod classes;
 mod cuts;
 mod fault;
 mod lines;
+mod numbers;
+mod words;
 
 pub use classes::{Class, all_in, begins_with, has};
 pub use cuts::{cut_at_first, cut_at_last, next_part, skip_front, split_front, trim};
 pub use fault::{Fault, MEMORY};
 pub use lines::{Line, is_blank_line, is_comment, next_line};
+pub use numbers::{is_number, number_of, read_number};
+pub use words::{is_name, is_word, next_word};
+
+#[cfg(test)]
+mod tests;
