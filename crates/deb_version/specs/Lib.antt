@@ -1,0 +1,6 @@
+pub mod Padded
+pub mod Order
+pub mod Runs
+pub mod Grammar
+pub mod View
+pub mod OrderLaws

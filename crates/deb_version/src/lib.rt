@@ -1,0 +1,13 @@
+//! Versions of Debian packages: their grammar and their order.
+#![tactic(auto)]
+
+mod error;
+mod grammar;
+mod laws;
+mod order;
+mod version;
+
+pub use error::{BAD_CHARACTER, EMPTY_PART, EPOCH_TOO_LARGE, TOO_LONG, VersionError};
+pub use grammar::{MAX_EPOCH, MAX_LENGTH};
+pub use laws::order_is_total;
+pub use version::Version;

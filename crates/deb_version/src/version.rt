@@ -1,0 +1,164 @@
+//! Versions of packages.
+
+ghost use Rattle.std.specs.Prelude.{◌≡◌, Ok, IfOk, unwrap_or, codes, refl};
+ghost use Rattle.std.specs.Option.{option_map};
+ghost use Rattle.std.proofs.Common.{rules};
+ghost use Rattle.std.specs.Cmp.{partial_equiv_from_equiv, po};
+ghost use Rattle.std.specs.Cmp.Rules.{comparing};
+ghost use Rattle.std.specs.Ordering.{as_partial_cmp, eq_by_cmp};
+ghost use Rattle.deb_version.specs.OrderLaws.{text_cmp_total, text_eq_equiv};
+ghost use Rattle.deb_version.specs.Grammar.{version_at, parts_at, text_cmp};
+ghost use Rattle.deb_text.specs.Answers.{Gives};
+ghost use Rattle.deb_version.specs.View.{refusal_of};
+
+use crate::error::{BAD_CHARACTER, EMPTY_PART, TOO_LONG, VersionError};
+use crate::grammar::{MAX_LENGTH, cut_into_pieces, epoch_of, has_bad_byte, has_empty_piece};
+use crate::order::compare_parts;
+use std::alloc::Global;
+use std::cmp::Ordering;
+use std::marker::Model;
+
+#[cfg(test)]
+mod tests;
+
+/// A version of a package, `[epoch:]upstream[-revision]`, as Debian Policy 5.6.12 describes it.
+///
+/// A contract sees its text. Versions that Policy takes for equal are equal, however they are
+/// written: `1.0`, `1.0-0` and `0:1.0` are.
+#[derive(Debug, Drop)]
+pub struct Version {
+    text: Vec<u8>,
+    epoch: u32,
+    upstream: Vec<u8>,
+    revision: Option<Vec<u8>>,
+}
+
+impl Model for Version {
+    ghost use Rattle.std.specs.Prelude.{◌≡◌, ℕ, List, Ok};
+    ghost use Rattle.std.specs.Option.{option_map};
+    ghost use Rattle.deb_version.specs.Grammar.{version_at};
+
+    ghost Value = { List ℕ };
+
+    ghost view = { λ v. v.text.items };
+
+    ghost invariant = { λ v. version_at v.text.items
+        ≡ Ok (record { epoch = v.epoch; upstream = v.upstream.items; revision = option_map (λ r. r.items) v.revision }) };
+}
+
+impl Version {
+    /// Reads a version.
+    ///
+    /// Upstream may have letters, digits and `. + - ~`, and colons where an epoch is present; a
+    /// revision may have letters, digits and `+ . ~`. Upstream need not begin with a digit.
+    ///
+    /// # Errors
+    ///
+    /// In this order: [`TOO_LONG`] over 512 bytes; [`EMPTY_PART`] where the epoch, the upstream or
+    /// the revision is there and empty; [`BAD_CHARACTER`] where one has a byte that it may not
+    /// have; [`EPOCH_TOO_LARGE`](crate::EPOCH_TOO_LARGE) over 2147483647. Last, 900 where memory ran
+    /// out. Nothing is kept then.
+    #[tactic(auto, unfolding(crate::specs::Grammar::version_at))]
+    pub fn parse(alloc: Global, text: &[u8]) -> Result<Version, VersionError>
+        ensures parts { Gives refusal_of parts_at result (version_at text.now) }
+        ensures text { IfOk result (λ version. version ≡ text.now) }
+    {
+        if text.len() > MAX_LENGTH {
+            return Err(VersionError { code: TOO_LONG });
+        }
+        let pieces = cut_into_pieces(text);
+        if has_empty_piece(&pieces) {
+            return Err(VersionError { code: EMPTY_PART });
+        }
+        if has_bad_byte(&pieces) {
+            return Err(VersionError {
+                code: BAD_CHARACTER,
+            });
+        }
+        let epoch = epoch_of(&pieces)?;
+        let revision = match pieces.revision {
+            None => None,
+            Some(revision) => Some(Vec::from_slice(alloc, revision)?),
+        };
+        Ok(Version {
+            text: Vec::from_slice(alloc, text)?,
+            epoch,
+            upstream: Vec::from_slice(alloc, pieces.upstream)?,
+            revision,
+        })
+    }
+
+    /// The text, as it was written.
+    pub fn text(&self) -> &[u8]
+        ensures text { result.now ≡ self.now }
+        ensures version { version_at self.now ≡ Ok (parts_at self.now) }
+    {
+        &self.text
+    }
+
+    /// Compares two versions: their epochs, then their upstreams, then their revisions.
+    #[tactic(auto, unfolding(crate::specs::Order::version_cmp))]
+    pub fn compare(&self, other: &Version) -> Ordering
+        ensures order { result ≡ text_cmp self.now other.now }
+    {
+        match self.epoch.cmp(&other.epoch) {
+            Ordering::Equal => {}
+            unequal => return unequal,
+        }
+        match compare_parts(&self.upstream, &other.upstream) {
+            Ordering::Equal => {}
+            unequal => return unequal,
+        }
+        compare_parts(
+            revision_or_zero(&self.revision),
+            revision_or_zero(&other.revision),
+        )
+    }
+}
+
+fn revision_or_zero(revision: &Option<Vec<u8>>) -> &[u8]
+    ensures { result.now ≡ unwrap_or (option_map (λ r. r.items) revision.now) (codes "0") }
+{
+    match revision {
+        Some(revision) => revision,
+        None => b"0",
+    }
+}
+
+impl PartialEq for Version {
+    ghost eq = { eq_by_cmp text_cmp };
+
+    ghost laws = { partial_equiv_from_equiv text_eq_equiv };
+
+    fn eq(&self, other: &Version) -> bool {
+        self.compare(other).is_eq()
+    }
+}
+
+impl Eq for Version {
+    ghost laws = { text_eq_equiv };
+}
+
+impl PartialOrd for Version {
+    ghost partial_cmp = { as_partial_cmp text_cmp };
+
+    ghost laws = { po text_cmp_total (λ _ _. refl) };
+
+    fn partial_cmp(&self, other: &Version) -> Option<Ordering> {
+        Some(self.compare(other))
+    }
+}
+
+impl Ord for Version {
+    ghost cmp = { text_cmp };
+
+    ghost total = { text_cmp_total };
+
+    ghost matches_partial_cmp = { Prim.search (comparing, rules) };
+
+    ghost matches_eq = { Prim.search (comparing, rules) };
+
+    fn cmp(&self, other: &Version) -> Ordering {
+        self.compare(other)
+    }
+}
