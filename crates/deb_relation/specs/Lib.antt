@@ -1,3 +1,7 @@
 pub mod Relations
+pub mod Kinds
+pub mod Grammar
+pub mod Restrictions
+pub mod Field
 pub mod Satisfaction
 pub mod View

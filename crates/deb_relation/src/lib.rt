@@ -1,14 +1,24 @@
-//! Relation fields of Debian control data, by Debian Policy chapter 7: their parts, and which
-//! package satisfies one of them.
+//! Relation fields of Debian control data, by Debian Policy chapter 7: their parts, how they are
+//! read, and which package satisfies one of them.
 #![tactic(auto)]
 
 mod atom;
+mod error;
+mod field;
+mod grammar;
+mod kind;
+mod lists;
 mod operator;
 mod relations;
 mod restriction;
 mod satisfaction;
 
 pub use atom::Atom;
+pub use error::{
+    ALTERNATIVES, BAD_ARCHITECTURES, BAD_NAME, BAD_OPERATOR, BAD_PROFILES, BAD_VERSION, BAD_WORD,
+    NO_ALTERNATIVE, NOT_CLOSED, NOT_EQUAL, OUT_OF_MEMORY, RESTRICTION, RelationError,
+};
+pub use kind::Kind;
 pub use operator::Op;
 pub use relations::{Entry, Relations};
 pub use restriction::{ArchList, Item, ProfileList, Word};

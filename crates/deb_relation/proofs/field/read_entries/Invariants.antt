@@ -1,0 +1,14 @@
+use Rattle.std.proofs.Common.{◌≡◌, Some}
+use Rattle.std.specs.Option.{option_map}
+use Rattle.deb_text.specs.Cuts.{length_left}
+use Rattle.deb_text.specs.Steps.{traverse, with_front}
+use Rattle.deb_relation.specs.Field.{entry_at, entries_left}
+use Rattle.deb_relation.proofs.field.read_entries.Given as goal
+
+abbrev pub invariant-loop-entry : goal.invariant-loop-entry
+invariant-loop-entry l =
+    with_front l.entries.items (traverse (entry_at l.kind) (entries_left (option_map (λ rest. rest.now) l.left)))
+    ≡ traverse (entry_at l.kind) (entries_left (Some l.text))
+
+abbrev pub decreases-loop-entry : goal.decreases-loop-entry
+decreases-loop-entry l = length_left (option_map (λ rest. rest.now) l.left)

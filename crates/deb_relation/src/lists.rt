@@ -1,0 +1,175 @@
+//! How the lists of architectures and profiles of an alternative are read.
+
+ghost use Rattle.std.specs.Prelude.{◌≡◌, []};
+ghost use Rattle.deb_text.specs.Answers.{Gives};
+ghost use Rattle.deb_text.specs.Bytes.{is_blank};
+ghost use Rattle.deb_text.specs.Cuts.{behind};
+ghost use Rattle.deb_text.specs.Steps.{traverse};
+ghost use Rattle.deb_text.specs.Words.{words};
+ghost use Rattle.deb_relation.specs.Restrictions.{item_at, arch_at, arch_list_of, archs_in, archs_at, items_in, list_in, end_in, lists_at, profiles_at};
+ghost use Rattle.deb_relation.specs.View.{refusal_of};
+
+use crate::error::{
+    BAD_ARCHITECTURES, BAD_NAME, BAD_PROFILES, NOT_CLOSED, RESTRICTION, RelationError,
+};
+use crate::kind::Kind;
+use crate::restriction::{ArchList, Item, ProfileList, Word};
+use deb_text::{Class, cut_at_first, is_word, next_word, skip_front};
+use std::alloc::Global;
+
+#[tactic(auto, unfolding(crate::specs::Restrictions::arch_at))]
+fn read_arch(alloc: Global, negated: bool, text: &[u8]) -> Result<Word, RelationError>
+    ensures { Gives refusal_of (λ word. word) result (arch_at negated text.now) }
+{
+    let name = match text {
+        [b'!', name @ ..] if negated => name,
+        _ if negated => b"",
+        _ => text,
+    };
+    if !is_word(name) {
+        return Err(RelationError {
+            code: BAD_ARCHITECTURES,
+        });
+    }
+    Ok(Word::from_slice(alloc, name)?)
+}
+
+fn read_names(alloc: Global, negated: bool, text: &[u8]) -> Result<Vec<Word>, RelationError>
+    ensures { Gives refusal_of (λ names. names.items) result (traverse (arch_at negated) (words text.now)) }
+{
+    let mut names = Vec::new(alloc);
+    let mut rest = text;
+    while let Some((name, after)) = next_word(rest) {
+        names.push(read_arch(alloc, negated, name)?)?;
+        rest = after;
+    }
+    Ok(names)
+}
+
+fn read_arch_list(alloc: Global, text: &[u8]) -> Result<ArchList, RelationError>
+    ensures { Gives refusal_of (λ list. list) result (arch_list_of (words text.now)) }
+{
+    let Some((first, _)) = next_word(text) else {
+        return Err(RelationError {
+            code: BAD_ARCHITECTURES,
+        });
+    };
+    let negated = matches!(first, [b'!', ..]);
+    Ok(ArchList {
+        negated,
+        names: read_names(alloc, negated, text)?,
+    })
+}
+
+fn read_archs_in(alloc: Global, text: &[u8]) -> Result<(Option<ArchList>, &[u8]), RelationError>
+    ensures { Gives refusal_of (λ part. (part.0, part.1.now)) result (archs_in text.now) }
+{
+    let Some((inside, rest)) = cut_at_first(b']', text) else {
+        return Err(RelationError { code: NOT_CLOSED });
+    };
+    Ok((Some(read_arch_list(alloc, inside)?), rest))
+}
+
+#[tactic(auto, unfolding(crate::specs::Restrictions::archs_at))]
+pub fn read_archs(
+    alloc: Global,
+    kind: Kind,
+    text: &[u8],
+) -> Result<(Option<ArchList>, &[u8]), RelationError>
+    ensures { Gives refusal_of (λ part. (part.0, part.1.now)) result (archs_at kind text.now) }
+{
+    match text {
+        [b'[', rest @ ..] => {
+            if !kind.has_restrictions() {
+                return Err(RelationError { code: RESTRICTION });
+            }
+            read_archs_in(alloc, rest)
+        }
+        _ => Ok((None, text)),
+    }
+}
+
+#[tactic(auto, unfolding(crate::specs::Restrictions::item_at))]
+fn read_item(alloc: Global, text: &[u8]) -> Result<Item, RelationError>
+    ensures { Gives refusal_of (λ item. item) result (item_at text.now) }
+{
+    let (negated, word) = match text {
+        [b'!', word @ ..] => (true, word),
+        _ => (false, text),
+    };
+    if !is_word(word) {
+        return Err(RelationError { code: BAD_PROFILES });
+    }
+    Ok(Item {
+        word: Word::from_slice(alloc, word)?,
+        negated,
+    })
+}
+
+fn read_all_items(alloc: Global, text: &[u8]) -> Result<Vec<Item>, RelationError>
+    ensures { Gives refusal_of (λ items. items.items) result (traverse item_at (words text.now)) }
+{
+    let mut items = Vec::new(alloc);
+    let mut rest = text;
+    while let Some((word, after)) = next_word(rest) {
+        items.push(read_item(alloc, word)?)?;
+        rest = after;
+    }
+    Ok(items)
+}
+
+#[tactic(auto, unfolding(crate::specs::Restrictions::items_in))]
+fn read_items(alloc: Global, text: &[u8]) -> Result<Vec<Item>, RelationError>
+    ensures { Gives refusal_of (λ items. items.items) result (items_in text.now) }
+{
+    if next_word(text).is_none() {
+        return Err(RelationError { code: BAD_PROFILES });
+    }
+    read_all_items(alloc, text)
+}
+
+fn read_list(alloc: Global, text: &[u8]) -> Result<ProfileList, RelationError>
+    ensures { Gives refusal_of (λ list. list) result (list_in (behind is_blank text.now)) }
+{
+    match skip_front(Class::Blank, text) {
+        [b'<', items @ ..] => Ok(ProfileList::from_items(read_items(alloc, items)?)),
+        _ => Err(RelationError { code: BAD_NAME }),
+    }
+}
+
+fn check_end(text: &[u8]) -> Result<(), RelationError>
+    ensures { Gives refusal_of (λ _. []) result (end_in (behind is_blank text.now)) }
+{
+    match skip_front(Class::Blank, text) {
+        [] => Ok(()),
+        [b'<', ..] => Err(RelationError { code: NOT_CLOSED }),
+        _ => Err(RelationError { code: BAD_NAME }),
+    }
+}
+
+fn read_lists(alloc: Global, text: &[u8]) -> Result<Vec<ProfileList>, RelationError>
+    ensures { Gives refusal_of (λ lists. lists.items) result (lists_at text.now) }
+{
+    let mut lists = Vec::new(alloc);
+    let mut rest = text;
+    while let Some((list, after)) = cut_at_first(b'>', rest) {
+        lists.push(read_list(alloc, list)?)?;
+        rest = after;
+    }
+    check_end(rest)?;
+    Ok(lists)
+}
+
+#[tactic(auto, unfolding(crate::specs::Restrictions::profiles_at))]
+pub fn read_profiles(
+    alloc: Global,
+    kind: Kind,
+    text: &[u8],
+) -> Result<Vec<ProfileList>, RelationError>
+    ensures { Gives refusal_of (λ lists. lists.items) result (profiles_at kind text.now) }
+{
+    if !kind.has_restrictions() && matches!(skip_front(Class::Blank, text), [b'<', ..]) {
+        return Err(RelationError { code: RESTRICTION });
+    }
+    read_lists(alloc, text)
+}
