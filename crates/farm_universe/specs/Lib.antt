@@ -1,0 +1,6 @@
+pub mod Below
+pub mod Universe
+pub mod Packages
+pub mod Chroot
+pub mod Traps
+pub mod Sound
