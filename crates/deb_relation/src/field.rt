@@ -46,16 +46,32 @@ fn read_atom(alloc: Global, kind: Kind, text: &[u8]) -> Result<Atom, RelationErr
     })
 }
 
-#[tactic(auto, unfolding(crate::specs::Field::alternative_at))]
-fn read_alternative(alloc: Global, kind: Kind, text: &[u8]) -> Result<Atom, RelationError>
-    ensures { Gives refusal_of (λ atom. atom) result (alternative_at kind text.now) }
-{
-    if all_in(Class::Blank, text) {
-        return Err(RelationError {
-            code: NO_ALTERNATIVE,
-        });
+impl Atom {
+    /// Reads one alternative of a field of a kind (Debian Policy 7.1).
+    ///
+    /// # Errors
+    ///
+    /// The first fault by its code: [`NO_ALTERNATIVE`] for a text of blanks alone;
+    /// [`BAD_NAME`](crate::BAD_NAME) for its name and qualifier;
+    /// [`BAD_OPERATOR`](crate::BAD_OPERATOR), [`NOT_EQUAL`](crate::NOT_EQUAL),
+    /// [`BAD_VERSION`](crate::BAD_VERSION) and [`NOT_CLOSED`](crate::NOT_CLOSED) for its relation;
+    /// [`RESTRICTION`](crate::RESTRICTION), [`NOT_CLOSED`](crate::NOT_CLOSED) and
+    /// [`BAD_ARCHITECTURES`](crate::BAD_ARCHITECTURES) for its architectures, then
+    /// [`RESTRICTION`](crate::RESTRICTION), [`NOT_CLOSED`](crate::NOT_CLOSED) and
+    /// [`BAD_PROFILES`](crate::BAD_PROFILES) for its profiles; and
+    /// [`BAD_NAME`](crate::BAD_NAME) for a byte that no later part begins with. 900 where memory
+    /// is refused. Nothing is left behind.
+    #[tactic(auto, unfolding(crate::specs::Field::alternative_at))]
+    pub fn parse(alloc: Global, text: &[u8], kind: Kind) -> Result<Atom, RelationError>
+        ensures { Gives refusal_of (λ atom. atom) result (alternative_at kind text.now) }
+    {
+        if all_in(Class::Blank, text) {
+            return Err(RelationError {
+                code: NO_ALTERNATIVE,
+            });
+        }
+        read_atom(alloc, kind, text)
     }
-    read_atom(alloc, kind, text)
 }
 
 fn read_alternatives(alloc: Global, kind: Kind, text: &[u8]) -> Result<Vec<Atom>, RelationError>
@@ -66,20 +82,28 @@ fn read_alternatives(alloc: Global, kind: Kind, text: &[u8]) -> Result<Vec<Atom>
     let mut left = Some(text);
     while let Some(rest) = left {
         let (piece, after) = next_part(b'|', rest);
-        alternatives.push(read_alternative(alloc, kind, piece)?)?;
+        alternatives.push(Atom::parse(alloc, piece, kind)?)?;
         left = after;
     }
     Ok(alternatives)
 }
 
-#[tactic(auto, unfolding(crate::specs::Field::entry_at))]
-fn read_entry(alloc: Global, kind: Kind, text: &[u8]) -> Result<Entry, RelationError>
-    ensures { Gives refusal_of (λ entry. entry) result (entry_at kind text.now) }
-{
-    if !kind.has_alternatives() && cut_at_first(b'|', text).is_some() {
-        return Err(RelationError { code: ALTERNATIVES });
+impl Entry {
+    /// Reads one entry of a field of a kind, which is cut at each `|` (Debian Policy 7.1).
+    ///
+    /// # Errors
+    ///
+    /// [`ALTERNATIVES`] for a `|` in a kind that has no alternatives; else the first fault of
+    /// [`Atom::parse`] from left to right. 900 where memory is refused. Nothing is left behind.
+    #[tactic(auto, unfolding(crate::specs::Field::entry_at))]
+    pub fn parse(alloc: Global, text: &[u8], kind: Kind) -> Result<Entry, RelationError>
+        ensures { Gives refusal_of (λ entry. entry) result (entry_at kind text.now) }
+    {
+        if !kind.has_alternatives() && cut_at_first(b'|', text).is_some() {
+            return Err(RelationError { code: ALTERNATIVES });
+        }
+        Ok(Entry::from_alternatives(read_alternatives(alloc, kind, text)?))
     }
-    Ok(Entry::from_alternatives(read_alternatives(alloc, kind, text)?))
 }
 
 /// The first entry that is not of blanks alone, and what is left behind it.
@@ -107,25 +131,20 @@ fn read_entries(alloc: Global, kind: Kind, text: &[u8]) -> Result<Vec<Entry>, Re
     let mut entries = Vec::new(alloc);
     let mut left = Some(text);
     while let Some((entry, after)) = next_entry(left) {
-        entries.push(read_entry(alloc, kind, entry)?)?;
+        entries.push(Entry::parse(alloc, entry, kind)?)?;
         left = after;
     }
     Ok(entries)
 }
 
 impl Relations {
-    /// Reads a relation field of a kind (Debian Policy 7.1).
-    ///
-    /// The text is cut at each `,` into entries, of which those of blanks alone are skipped, and
-    /// an entry at each `|` into alternatives.
+    /// Reads a relation field of a kind, which is cut at each `,` (Debian Policy 7.1). An entry of
+    /// blanks alone is skipped.
     ///
     /// # Errors
     ///
-    /// The first fault in the order of the text, by its code. In an entry 126 comes first, then
-    /// each alternative: 129 where it is of blanks alone, 121 for its name and qualifier, then
-    /// 122, 128, 123 and 125 for its relation, 127, 125 and 124 for its architectures, 127, 125
-    /// and 130 for its profiles, and 121 for a byte that none of these begins with. 900 comes
-    /// where memory is refused. Nothing is left behind.
+    /// The first fault of [`Entry::parse`] from left to right. 900 where memory is refused.
+    /// Nothing is left behind.
     pub fn parse(alloc: Global, text: &[u8], kind: Kind) -> Result<Relations, RelationError>
         ensures { Gives refusal_of (λ relations. relations) result (relations_at kind text.now) }
     {
