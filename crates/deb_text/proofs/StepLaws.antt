@@ -65,6 +65,43 @@ module _ {S X F : Type 0} (f : S → X → Result S F) where
   unfolding steps
   steps-ends s all total cut so_far = sym (rw cut at so_far)
 
+-- a loop over the places of a list
+module _ {S X F : Type 0} (f : S → X → Result S F) where
+  pub place-goes : (xs : List X) (i : ℕ) (d : X) (s t : S) (total : Result S F)
+      → i < length xs → f s (get_or xs i d) ≡ Ok t → steps f s (drop i xs) ≡ total → steps f t (drop (i + 1) xs) ≡ total
+  place-goes xs i d s t total lt is so_far =
+      steps-goes f s t (get_or xs i d) (drop (i + 1) xs) (drop i xs) total (at_drop_more (λ (ys : List X). ys) xs i d lt) is so_far
+
+  pub place-stops : {E : Type 0} (refusal : E → Option F) (e : E) (xs : List X) (i : ℕ) (d : X) (s : S) (total : Result S F)
+      → i < length xs → Fails refusal e (f s (get_or xs i d)) → steps f s (drop i xs) ≡ total → Fails refusal e total
+  place-stops refusal e xs i d s total lt is so_far =
+      steps-stops f refusal e s (get_or xs i d) (drop (i + 1) xs) (drop i xs) total (at_drop_more (λ (ys : List X). ys) xs i d lt) is so_far
+
+  pub place-ends : (xs : List X) (i : ℕ) (s : S) (total : Result S F) → length xs ≤ i → steps f s (drop i xs) ≡ total → total ≡ Ok s
+  place-ends xs i s total le so_far = steps-ends f s (drop i xs) total (drop_all i xs le) so_far
+
+-- what is made of the meaning of items is judged as they are
+module _ {X A B F : Type 0} (judge : List X → X → Option F) (meaning : List X → A) (made : A → B) where
+  pub judged-made : (xs : List X) (x : A) → judged judge meaning xs ≡ Ok x → judged judge (λ ys. made (meaning ys)) xs ≡ Ok (made x)
+  unfolding judged
+  judged-made xs x is = by (first_fault judge [] xs) is where
+    by : (o : Option F) → answer o (meaning xs) ≡ Ok x → answer o (made (meaning xs)) ≡ Ok (made x)
+    by None e = let h : meaning xs ≡ x = cc in ap (λ y. Ok (made y)) h
+    by (Some f) e = absurd cc
+
+  pub judged-fails : {E : Type 0} (refusal : E → Option F) (e : E) (xs : List X)
+      → Fails refusal e (judged judge meaning xs) → Fails refusal e (judged judge (λ ys. made (meaning ys)) xs)
+  unfolding judged
+  judged-fails refusal e xs is = on (refusal e) is where
+    by : (f : F) (o : Option F) → answer o (meaning xs) ≡ Err f → answer o (made (meaning xs)) ≡ Err f
+    by f None h = absurd cc
+    by f (Some g) h = let same : g ≡ f = cc in ap Err same
+
+    on : (o : Option F) → MatchOption o (Unit {0}) (λ d. answer (first_fault judge [] xs) (meaning xs) ≡ Err d)
+        → MatchOption o (Unit {0}) (λ d. answer (first_fault judge [] xs) (made (meaning xs)) ≡ Err d)
+    on None h = tt
+    on (Some f) h = by f (first_fault judge [] xs) h
+
 -- a `for` over a slice
 module _ {S X F C : Type 0} (f : S → X → Result S F) (view : C → X) where
   first-left : (cs : List C) (i : ℕ) (d : C) → i < length cs → map view (drop i cs) ≡ view (get_or cs i d) ∷ map view (drop (i + 1) cs)

@@ -1,6 +1,6 @@
 //! The lines of a text.
 
-ghost use Rattle.std.specs.Prelude.{◌≡◌, ◌<◌, [], ◌∷◌, IfSome, IfNone, length};
+ghost use Rattle.std.specs.Prelude.{◌≡◌, ◌+◌, ◌<◌, ◌≤◌, [], ◌∷◌, IfSome, IfNone, length};
 ghost use Rattle.deb_text.specs.Lines.{lines_of, is_comment, is_blank_line};
 
 use crate::classes::{Class, all_in};
@@ -18,6 +18,7 @@ pub fn next_line(text: &[u8]) -> Option<(&[u8], &[u8])>
     ensures none { IfNone result (lines_of text.now ≡ []) }
     ensures line { IfSome result (λ cut. lines_of text.now ≡ cut.0.now ∷ lines_of cut.1.now) }
     ensures shorter { IfSome result (λ cut. length cut.1.now < length text.now) }
+    ensures within { IfSome result (λ cut. length cut.0.now + length cut.1.now ≤ length text.now) }
 {
     if text.is_empty() {
         return None;
