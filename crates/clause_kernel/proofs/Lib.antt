@@ -1,0 +1,5 @@
+pub mod Words
+pub mod Pairs
+pub mod Meanings
+mod Lanes
+mod Blocks
