@@ -1,0 +1,79 @@
+-- The may map at each place of a lane. The project's own rules: it changes as the chroot does. Parameters as in May;
+-- p a plan, l a lane, i a place.
+--
+--   may_base, may_after       the map of a base chroot, and after an instruction
+--   may_at, lane_cost         the map at a place; the most that the lane spends
+use Rattle.std.specs.Prelude.{ℕ, zero, suc, ◌+◌, Bool, false, ◌==◌, List, length, Option, Some, None, if◌then◌else◌}
+use Rattle.std.specs.List.{find}
+use Rattle.deb_relation.specs.declared.operator.Op.{Op}
+use Rattle.farm_universe.specs.declared.types.Variant.{Variant}
+use Rattle.farm_universe.specs.Universe.{Universe}
+use Rattle.farm_universe.specs.Packages.{recipe, outputs, base}
+use Rattle.farm_universe.specs.Chroot.{member}
+use Rattle.plan_asm.specs.declared.instructions.Instruction.{Instruction}
+use Rattle.plan_asm.specs.declared.instructions.Instruction.TheVariants.{Unpack, Configure, Deconfigure, Remove, Build, Publish, Wait}
+use Rattle.plan_asm.specs.Plan.{Lane, Plan, lane, instruction_at}
+use Rattle.plan_asm.specs.Turn.{no_builds, with_built, newest}
+use Rattle.plan_asm.specs.Known.{Rows, possible}
+use Rattle.plan_asm.specs.May.{Bits, MaySlot, MayAbsent, MayUnpacked, MayConfigured, May}
+use Rattle.plan_asm.specs.Risk.{candidates, greatest_cost}
+
+abbrev pub may_be_last : MaySlot → Bits
+may_be_last MayAbsent = λ b. false
+may_be_last (MayUnpacked current last) = last
+may_be_last (MayConfigured current) = current
+
+abbrev pub may_unpack : Universe → (Variant → Bool) → May → ℕ → Option (Op × List ℕ) → Option ℕ → May
+may_unpack u there m name wanted None = m
+may_unpack u there m name wanted (Some highest) =
+    let set = candidates u there name wanted highest in
+    record {
+      slots = λ n. if n == name then MayUnpacked set (may_be_last (m.slots n)) else m.slots n;
+      cost = m.cost + greatest_cost u name set;
+      built = m.built;
+    }
+
+abbrev pub may_be_configured : MaySlot → MaySlot
+may_be_configured MayAbsent = MayAbsent
+may_be_configured (MayUnpacked current last) = MayConfigured current
+may_be_configured (MayConfigured current) = MayConfigured current
+
+abbrev pub may_be_deconfigured : MaySlot → MaySlot
+may_be_deconfigured MayAbsent = MayAbsent
+may_be_deconfigured (MayUnpacked current last) = MayUnpacked current last
+may_be_deconfigured (MayConfigured current) = MayUnpacked current current
+
+-- each member's slot changed
+abbrev pub may_change : (MaySlot → MaySlot) → May → List ℕ → May
+may_change f m members = record { slots = λ n. if member members n then f (m.slots n) else m.slots n; cost = m.cost + length members; built = m.built }
+
+-- the map after an instruction
+abbrev pub may_after : Universe → (Variant → Bool) → (Variant → Bool) → May → Instruction → May
+may_after u known there m (Unpack name wanted) = may_unpack u there m name wanted (newest u known name wanted)
+may_after u known there m (Configure members) = may_change may_be_configured m members
+may_after u known there m (Deconfigure members) = may_change may_be_deconfigured m members
+may_after u known there m (Remove members) = may_change (λ s. MayAbsent) m members
+may_after u known there m (Build r) = record { slots = m.slots; cost = m.cost + (recipe u r).steps; built = with_built m.built r }
+may_after u known there m (Publish r) = record { slots = m.slots; cost = m.cost + length (outputs u r); built = m.built }
+may_after u known there m (Wait e) = m
+
+abbrev pub may_after_some : Universe → (Variant → Bool) → (Variant → Bool) → May → Option Instruction → May
+may_after_some u known there m None = m
+may_after_some u known there m (Some x) = may_after u known there m x
+
+abbrev pub may_base_slot : Option Variant → MaySlot
+may_base_slot None = MayAbsent
+may_base_slot (Some v) = MayConfigured (λ b. b == v.bit)
+
+-- the map of a base chroot: just what it holds
+abbrev pub may_base : Universe → Lane → May
+may_base u of = record { slots = λ n. may_base_slot (find (λ v. v.name == n) (base u of.base).packages); cost = 0; built = no_builds u }
+
+-- the map of lane l when i instructions are done
+abbrev pub may_at : Universe → Plan → Rows → ℕ → ℕ → May
+may_at u p rows l zero = may_base u (lane p l)
+may_at u p rows l (suc i) = may_after_some u (rows l i) (possible u p l i) (may_at u p rows l i) (instruction_at p l i)
+
+-- the most that a lane may spend
+unfoldable pub lane_cost : Universe → Plan → Rows → ℕ → ℕ
+lane_cost u p rows l = (may_at u p rows l (length (lane p l).instructions)).cost

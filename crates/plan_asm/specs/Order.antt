@@ -1,0 +1,71 @@
+-- In which order the waits and outputs of the lanes can be made: the waits and outputs alone, without chroots and
+-- budgets (the project's own rule; a wait is wanna-build's Dep-Wait).
+--
+--   Item, items                 a wait or an output; those of a lane, in turn
+--   Board, board_after          what each lane has left, and what was published; one item made
+--   Reaches, IsOrder            lists of lanes; one that brings each lane past its last item
+--   CannotEnd, AreStuck         a lane that no list brings there; all such lanes
+use Rattle.std.specs.Prelude.{◌≡◌, ◌≢◌, ℕ, ◌<◌, Bool, ◌||◌, List, [], ◌∷◌, length, map, Option, Some, None, slice_index_or, slice_set, if◌then◌else◌, All, Contains}
+use Rattle.std.specs.List.{flat_map}
+use Rattle.std.specs.List.Sorted.{IsStrictlyIncreasing}
+use Rattle.deb_relation.specs.Relations.{Entry}
+use Rattle.farm_universe.specs.declared.types.Variant.{Variant}
+use Rattle.farm_universe.specs.Universe.{Universe}
+use Rattle.farm_universe.specs.Packages.{contains, initial, outputs}
+use Rattle.plan_asm.specs.declared.instructions.Instruction.{Instruction}
+use Rattle.plan_asm.specs.declared.instructions.Instruction.TheVariants.{Publish, Wait}
+use Rattle.plan_asm.specs.Plan.{Lane, Plan}
+use Rattle.plan_asm.specs.Turn.{passes}
+
+pub data Item : Type 0 where
+  Pass : (entry : Entry) → Item
+  Give : (output : Variant) → Item
+
+abbrev pub items_of : Universe → Instruction → List Item
+items_of u (Publish r) = map Give (outputs u r)
+items_of u (Wait e) = Pass e ∷ []
+items_of u _ = []
+
+unfoldable pub items : Universe → List Instruction → List Item
+items u xs = flat_map (items_of u) xs
+
+-- what each lane has left to do in the archive, and what was published
+pub record Board : Type 0 where
+  pub rest : List (List Item)
+  pub published : List Variant
+
+abbrev pub start_board : Universe → Plan → Board
+start_board u p = record { rest = map (λ (of : Lane). items u of.instructions) p; published = [] }
+
+abbrev pub on_board : Universe → Board → Variant → Bool
+on_board u b v = initial u v || contains b.published v
+
+abbrev pub rest_of : Board → ℕ → List Item
+rest_of b l = slice_index_or b.rest l []
+
+-- the first of these items of lane l made: a wait passes where it can, an output enters the archive
+abbrev pub board_after : Universe → Board → ℕ → List Item → Option Board
+board_after u b l [] = None
+board_after u b l (Pass e ∷ is) = if passes u (on_board u b) e then Some (record { rest = slice_set b.rest l is; published = b.published }) else None
+board_after u b l (Give v ∷ is) = Some (record { rest = slice_set b.rest l is; published = v ∷ b.published })
+
+-- these lanes' items, one after another, lead from one board to another
+abbrev pub Reaches : Universe → Board → List ℕ → Board → Type 0
+Reaches u b [] t = b ≡ t
+Reaches u b (l ∷ ls) t = (m : Board) × (board_after u b l (rest_of b l) ≡ Some m) × Reaches u m ls t
+
+-- an order: this list of lanes brings each lane past its last wait or output
+pub record IsOrder (u : Universe) (p : Plan) (order : List ℕ) : Type 0 where
+  pub end : Board
+  pub way : Reaches u (start_board u p) order end
+  pub all_done : (l : ℕ) → rest_of end l ≡ []
+
+-- no list of waits and outputs brings the lane past its last one
+abbrev pub CannotEnd : Universe → Plan → ℕ → Type 0
+CannotEnd u p l = (order : List ℕ) (end : Board) → Reaches u (start_board u p) order end → rest_of end l ≢ []
+
+-- these are all such lanes, in file order
+pub record AreStuck (u : Universe) (p : Plan) (lanes : List ℕ) : Type 0 where
+  pub stuck : All (λ l. (l < length p) × CannotEnd u p l) lanes
+  pub all : (l : ℕ) → l < length p → CannotEnd u p l → Contains lanes l
+  pub in_order : IsStrictlyIncreasing lanes

@@ -1,0 +1,79 @@
+-- A plan: lanes of instructions. Parameters: u a universe, p a plan, l the number of a lane, i a place in it (the
+-- number of instructions before it), x an instruction, v a variant. The project's own rules, unless said.
+--
+--   Lane, Plan                        what a plan's text says
+--   lane, instruction_at              a lane, and the instruction at a place, by number
+--   outputs_of, events_of, count      what an instruction publishes; its events; the plan's events
+--   unpack_cost, cost_of              what an instruction costs
+use Rattle.std.specs.Prelude.{ℕ, ◌+◌, ◌/◌, List, [], length, take, Option, slice_get, slice_index_or}
+use Rattle.std.specs.List.{sum_by, flat_map}
+use Rattle.farm_universe.specs.declared.types.Variant.{Variant}
+use Rattle.farm_universe.specs.Below.{sum_below}
+use Rattle.farm_universe.specs.Universe.{Universe}
+use Rattle.farm_universe.specs.Packages.{size, recipe, outputs, base}
+use Rattle.plan_asm.specs.declared.instructions.Instruction.{Instruction}
+use Rattle.plan_asm.specs.declared.instructions.Instruction.TheVariants.{Unpack, Configure, Deconfigure, Remove, Build, Publish, Wait}
+
+-- a lane: the number of its base chroot, how much it may spend, and its instructions with all blocks expanded
+pub record Lane : Type 0 where
+  pub name : List ℕ
+  pub base : ℕ
+  pub budget : ℕ
+  pub instructions : List Instruction
+
+-- the lanes, in file order
+abbrev pub Plan : Type 0
+Plan = List Lane
+
+abbrev pub no_lane : Lane
+no_lane = record { name = []; base = 0; budget = 0; instructions = [] }
+
+abbrev pub lane : Plan → ℕ → Lane
+lane p l = slice_index_or p l no_lane
+
+-- none past the end
+abbrev pub instruction_at : Plan → ℕ → ℕ → Option Instruction
+instruction_at p l i = slice_get (lane p l).instructions i
+
+-- the KiB that the lane's chroot can hold
+unfoldable pub capacity : Universe → Lane → ℕ
+capacity u of = (base u of.base).capacity
+
+-- the variants that an instruction publishes, in declared order
+abbrev pub outputs_of : Universe → Instruction → List Variant
+outputs_of u (Publish r) = outputs u r
+outputs_of u _ = []
+
+-- the events of an instruction: a publish has one for each output
+abbrev pub events_of : Universe → Instruction → ℕ
+events_of u (Publish r) = length (outputs u r)
+events_of u _ = 1
+
+-- the events of the plan: its instructions, a publish counted once for each output
+unfoldable pub count : Universe → Plan → ℕ
+count u p = sum_below (length p) (λ l. sum_by (events_of u) (lane p l).instructions)
+
+-- an unpack of a variant costs 1 and one more for each whole MiB of its size
+abbrev pub unpack_cost : Universe → Variant → ℕ
+unpack_cost u v = 1 + size u v / 1024
+
+-- the other costs: one for each member of a set, a recipe's steps, one for each output; a wait costs nothing
+abbrev pub cost_of : Universe → Instruction → ℕ
+cost_of u (Unpack name wanted) = 0
+cost_of u (Configure members) = length members
+cost_of u (Deconfigure members) = length members
+cost_of u (Remove members) = length members
+cost_of u (Build r) = (recipe u r).steps
+cost_of u (Publish r) = length (outputs u r)
+cost_of u (Wait e) = 0
+
+-- what a lane publishes, in its order, and the output of number k of it, from 0
+abbrev pub lane_outputs : Universe → Lane → List Variant
+lane_outputs u of = flat_map (outputs_of u) of.instructions
+
+abbrev pub output_at : Universe → Lane → ℕ → Option Variant
+output_at u of k = slice_get (lane_outputs u of) k
+
+-- how many outputs a lane has published where so many instructions are done, and so many outputs of the next
+abbrev pub outputs_before : Universe → Lane → ℕ → ℕ → ℕ
+outputs_before u of done made = length (flat_map (outputs_of u) (take done of.instructions)) + made

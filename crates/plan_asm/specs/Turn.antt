@@ -1,0 +1,123 @@
+-- One turn of a lane: one instruction, or one output of a publish. The project's own rules, unless said.
+--
+--   LaneState             where a lane stands, its chroot, what it has spent and built
+--   newest, passes        the variant that an unpack takes; whether a wait passes
+--   Turn, turn_of         what a lane does at its turn
+use Rattle.std.specs.Prelude.{ℕ, suc, ◌+◌, zero, Bool, true, false, not, ◌&&◌, ◌==◌, nat_lt, List, [], ◌∷◌, length, replicate, Option, Some, None, slice_get, slice_index_or, slice_set, if◌then◌else◌}
+use Rattle.deb_relation.specs.declared.operator.Op.{Op}
+use Rattle.deb_relation.specs.Relations.{Entry}
+use Rattle.farm_universe.specs.declared.types.Variant.{Variant}
+use Rattle.farm_universe.specs.declared.types.Trap.{Trap}
+use Rattle.farm_universe.specs.declared.types.Trap.TheVariants.{Missing, NotBuilt, OverBudget}
+use Rattle.farm_universe.specs.Below.{highest_below}
+use Rattle.farm_universe.specs.Universe.{Universe}
+use Rattle.farm_universe.specs.Packages.{variant, variants, recipe, outputs, is_wanted, satisfies_entry, some_variant}
+use Rattle.farm_universe.specs.Chroot.{Chroot, base_chroot}
+use Rattle.farm_universe.specs.Traps.{first_trap, unpack_traps, unpacked, configure_traps, configured, deconfigure_traps, deconfigured, remove_traps, removed, build_traps}
+use Rattle.plan_asm.specs.declared.instructions.Instruction.{Instruction}
+use Rattle.plan_asm.specs.declared.instructions.Instruction.TheVariants.{Unpack, Configure, Deconfigure, Remove, Build, Publish, Wait}
+use Rattle.plan_asm.specs.Plan.{Lane, capacity, unpack_cost}
+
+-- a lane: the instructions that are done, the outputs that are made of the publish it stands at, its chroot, what
+-- it has spent, and for each recipe, by number, whether it has built it
+pub record LaneState : Type 0 where
+  pub done : ℕ
+  pub made : ℕ
+  pub chroot : Chroot
+  pub spent : ℕ
+  pub built : List Bool
+
+-- nothing is built
+abbrev pub no_builds : Universe → List Bool
+no_builds u = replicate (length u.recipes) false
+
+abbrev pub was_built : List Bool → ℕ → Bool
+was_built built r = slice_index_or built r false
+
+abbrev pub with_built : List Bool → ℕ → List Bool
+with_built built r = slice_set built r true
+
+-- a lane at its beginning, in its base chroot
+abbrev pub start_lane : Universe → Lane → LaneState
+start_lane u of = record { done = 0; made = 0; chroot = base_chroot u of.base; spent = 0; built = no_builds u }
+
+-- the highest variant of the name that is in the archive and in the relation
+unfoldable pub newest : Universe → (Variant → Bool) → ℕ → Option (Op × List ℕ) → Option ℕ
+newest u there name wanted = highest_below (variants u name) (λ b. there (variant name b) && is_wanted u wanted (variant name b))
+
+-- some variant in the archive satisfies an alternative of the entry (wanna-build's Dep-Wait)
+abbrev pub passes : Universe → (Variant → Bool) → Entry → Bool
+passes u there e = some_variant u (λ v. there v && satisfies_entry u e v)
+
+-- what a lane does at its turn: an instruction; an output; it waits, has ended, or meets a trap
+pub data Turn : Type 0 where
+  Goes : (next : LaneState) → Turn
+  Gives : (next : LaneState) (output : Variant) → Turn
+  Waits : Turn
+  Ends : Turn
+  Fails : (trap : Trap) → Turn
+
+-- the lane behind its instruction
+abbrev pub past : LaneState → ℕ → Chroot → LaneState
+past st cost chroot = record { done = suc st.done; made = 0; chroot = chroot; spent = st.spent + cost; built = st.built }
+
+-- the lane behind a build
+abbrev pub past_build : LaneState → ℕ → ℕ → LaneState
+past_build st cost r = record { done = suc st.done; made = 0; chroot = st.chroot; spent = st.spent + cost; built = with_built st.built r }
+
+-- goes on, unless there is a trap
+abbrev pub unless : Option Trap → Turn → Turn
+unless None turn = turn
+unless (Some trap) turn = Fails trap
+
+abbrev pub over_budget : Lane → LaneState → ℕ → Bool
+over_budget of st cost = nat_lt of.budget (st.spent + cost)
+
+-- an unpack of what the archive gives, or of nothing
+abbrev pub unpacks : Universe → Lane → LaneState → ℕ → Option ℕ → Turn
+unpacks u of st name None = Fails Missing
+unpacks u of st name (Some b) =
+    let v = variant name b in
+    unless (first_trap ((over_budget of st (unpack_cost u v), OverBudget) ∷ unpack_traps u (capacity u of) st.chroot v)) (Goes (past st (unpack_cost u v) (unpacked st.chroot v)))
+
+-- the lane behind one more of so many outputs: the last one ends the publish
+abbrev pub given : ℕ → LaneState → ℕ → LaneState
+given count st cost =
+    if nat_lt (suc st.made) count
+    then record { done = st.done; made = suc st.made; chroot = st.chroot; spent = st.spent + cost; built = st.built }
+    else past st cost st.chroot
+
+-- a publish is charged whole with its first output
+abbrev pub first_only : ℕ → ℕ → ℕ
+first_only zero cost = cost
+first_only (suc made) cost = 0
+
+-- and its traps are tried with its first output
+abbrev pub publish_traps : Universe → Lane → LaneState → ℕ → List (Bool × Trap)
+publish_traps u of st r =
+    ((st.made == 0) && over_budget of st (length (outputs u r)), OverBudget) ∷ ((st.made == 0) && not (was_built st.built r), NotBuilt) ∷ []
+
+-- the next output of a publish, or none
+abbrev pub publishes : Universe → Lane → LaneState → ℕ → Option Variant → Turn
+publishes u of st r None = Waits
+publishes u of st r (Some v) =
+    unless (first_trap (publish_traps u of st r)) (Gives (given (length (outputs u r)) st (first_only st.made (length (outputs u r)))) v)
+
+-- a lane's turn, at the instruction it stands at, over the archive that is there
+abbrev pub turn_of : Universe → (Variant → Bool) → Lane → LaneState → Option Instruction → Turn
+turn_of u there of st None = Ends
+turn_of u there of st (Some (Unpack name wanted)) = unpacks u of st name (newest u there name wanted)
+turn_of u there of st (Some (Configure members)) =
+    unless (first_trap ((over_budget of st (length members), OverBudget) ∷ configure_traps u st.chroot members))
+    (Goes (past st (length members) (configured st.chroot members)))
+turn_of u there of st (Some (Deconfigure members)) =
+    unless (first_trap ((over_budget of st (length members), OverBudget) ∷ deconfigure_traps u st.chroot members))
+    (Goes (past st (length members) (deconfigured st.chroot members)))
+turn_of u there of st (Some (Remove members)) =
+    unless (first_trap ((over_budget of st (length members), OverBudget) ∷ remove_traps u st.chroot members))
+    (Goes (past st (length members) (removed st.chroot members)))
+turn_of u there of st (Some (Build r)) =
+    unless (first_trap ((over_budget of st (recipe u r).steps, OverBudget) ∷ build_traps u (capacity u of) st.chroot (recipe u r)))
+    (Goes (past_build st (recipe u r).steps r))
+turn_of u there of st (Some (Publish r)) = publishes u of st r (slice_get (outputs u r) st.made)
+turn_of u there of st (Some (Wait e)) = if passes u there e then Goes (past st 0 st.chroot) else Waits

@@ -1,0 +1,83 @@
+-- A farm as the words of its archive and the lanes' records show it: each lane stands just after its last archive
+-- step (an unpack, a passed wait or an output), or at its beginning. The project's own rules.
+--
+--   World, start_world, Shows      words and records, and the state that they show
+--   settled, ready                 a lane's local instructions, up to its next archive step
+--   archive_step                   a lane's local instructions and then its archive step
+--   OneArchiveStep                 the law: a world shown goes over into a world shown
+use Rattle.std.specs.Prelude.{◌≡◌, ℕ, ◌<◌, ◌^◌, Bool, false, List, [], ◌∷◌, length, map, drop, Option, Some, None, slice_index, slice_index_or, slice_set, bit_or}
+use Rattle.farm_universe.specs.declared.types.Variant.{Variant}
+use Rattle.farm_universe.specs.Universe.{Universe}
+use Rattle.farm_universe.specs.Packages.{has_bit}
+use Rattle.plan_asm.specs.declared.instructions.Instruction.{Instruction}
+use Rattle.plan_asm.specs.declared.instructions.Instruction.TheVariants.{Unpack, Configure, Deconfigure, Remove, Build, Publish, Wait}
+use Rattle.plan_asm.specs.Plan.{Lane, Plan, lane, instruction_at}
+use Rattle.plan_asm.specs.Turn.{LaneState, start_lane, Turn, Goes, Gives, turn_of}
+use Rattle.plan_asm.specs.Run.{State, no_state, archive, Reachable}
+
+-- the words, by name, whose bits are the archive, and the lanes
+pub record World : Type 0 where
+  pub words : List ℕ
+  pub lanes : List LaneState
+
+abbrev pub start_world : Universe → Plan → World
+start_world u p = record { words = u.initial; lanes = map (start_lane u) p }
+
+abbrev pub world_lane : World → ℕ → LaneState
+world_lane w l = slice_index_or w.lanes l no_state
+
+-- the state has these lanes, and the archive of these words
+pub record Shows (u : Universe) (w : World) (s : State) : Type 0 where
+  pub lanes : s.lanes ≡ w.lanes
+  pub archive_is : (v : Variant) → archive u s.published v ≡ has_bit w.words v
+
+-- the world shows a reachable state
+abbrev pub IsShown : Universe → Plan → World → Type 0
+IsShown u p w = (s : State) × Reachable u p s × Shows u w s
+
+-- the lane after a turn that goes on, and then what comes next; else as it was
+abbrev pub goes_on : LaneState → Turn → (LaneState → LaneState) → LaneState
+goes_on st (Goes next) rest = rest next
+goes_on st _ rest = st
+
+-- nothing in the archive: local instructions do not look at it
+abbrev pub nothing : Variant → Bool
+nothing v = false
+
+-- the lane after these local instructions, up to the first unpack, wait or publish
+abbrev pub settled : Universe → Lane → List Instruction → LaneState → LaneState
+settled u of [] st = st
+settled u of (Unpack name wanted ∷ xs) st = st
+settled u of (Configure members ∷ xs) st = goes_on st (turn_of u nothing of st (Some (Configure members))) (λ next. settled u of xs next)
+settled u of (Deconfigure members ∷ xs) st = goes_on st (turn_of u nothing of st (Some (Deconfigure members))) (λ next. settled u of xs next)
+settled u of (Remove members ∷ xs) st = goes_on st (turn_of u nothing of st (Some (Remove members))) (λ next. settled u of xs next)
+settled u of (Build r ∷ xs) st = goes_on st (turn_of u nothing of st (Some (Build r))) (λ next. settled u of xs next)
+settled u of (Publish r ∷ xs) st = st
+settled u of (Wait e ∷ xs) st = st
+
+-- the lane at its next archive step
+abbrev pub ready : Universe → Lane → LaneState → LaneState
+ready u of st = settled u of (drop st.done of.instructions) st
+
+-- the words with the bit of the variant set
+abbrev pub with_bit : List ℕ → Variant → List ℕ
+with_bit words v = slice_set words v.name (bit_or (slice_index words v.name) (2 ^ v.bit))
+
+-- the lane's turn in the world; none where it does not step
+abbrev pub world_after : World → ℕ → Turn → Option World
+world_after w l (Goes next) = Some (record { words = w.words; lanes = slice_set w.lanes l next })
+world_after w l (Gives next v) = Some (record { words = with_bit w.words v; lanes = slice_set w.lanes l next })
+world_after w l _ = None
+
+-- the lane's local instructions and then its archive step; none where that cannot be made
+unfoldable pub archive_step : Universe → Plan → World → ℕ → Option World
+archive_step u p w l =
+    let st = ready u (lane p l) (world_lane w l) in
+    world_after w l (turn_of u (has_bit w.words) (lane p l) st (instruction_at p l st.done))
+
+-- the law of one archive step: from a world that shows a reachable state, a lane's local instructions give such a
+-- world, and so does its archive step after them. The other lanes' records are as they were
+pub record OneArchiveStep (u : Universe) (p : Plan) : Type 0 where
+  pub local : (w : World) (l : ℕ) → l < length p → IsShown u p w
+      → IsShown u p (record { words = w.words; lanes = slice_set w.lanes l (ready u (lane p l) (world_lane w l)) })
+  pub archive : (w next : World) (l : ℕ) → l < length p → IsShown u p w → archive_step u p w l ≡ Some next → IsShown u p next

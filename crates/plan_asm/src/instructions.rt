@@ -1,0 +1,66 @@
+//! The instructions of a lane.
+
+ghost use Rattle.std.specs.Prelude.{◌≡◌};
+
+use deb_relation::{Entry, Op};
+use deb_version::Version;
+use std::marker::Model;
+
+/// The members of a set of packages, by the numbers of their names, as they were written.
+#[derive(Debug, Drop)]
+pub struct Members {
+    names: Vec<u32>,
+}
+
+impl Model for Members {
+    ghost use Rattle.std.specs.Prelude.{List, ℕ};
+
+    ghost Value = { List ℕ };
+
+    ghost view = { λ members. members.names.items };
+}
+
+impl Members {
+    /// Makes a set of these names.
+    pub fn new(names: Vec<u32>) -> Members
+        ensures { result ≡ names.items }
+    {
+        Members { names }
+    }
+
+    /// Gives the names in their order.
+    pub fn as_slice(&self) -> &[u32]
+        ensures { result.now ≡ self.now }
+    {
+        self.names.as_slice()
+    }
+
+    /// Gives the names back, with their memory.
+    pub fn into_vec(self) -> Vec<u32>
+        ensures { result.items ≡ self }
+    {
+        self.names
+    }
+}
+
+/// One instruction of a lane. Names and recipes go by their numbers in the universe.
+#[derive(Debug, Drop)]
+pub enum Instruction {
+    /// Unpacks the highest variant of the name that is in the archive and in the relation.
+    Unpack {
+        name: u32,
+        relation: Option<(Op, Version)>,
+    },
+    /// Configures unpacked packages together.
+    Configure(Members),
+    /// Takes configured packages back to unpacked.
+    Deconfigure(Members),
+    /// Removes packages and all that is known of them.
+    Remove(Members),
+    /// Builds a recipe in the chroot.
+    Build(u32),
+    /// Publishes the outputs of a recipe that was built, one by one.
+    Publish(u32),
+    /// Waits until some variant in the archive satisfies the entry.
+    Wait(Entry),
+}
