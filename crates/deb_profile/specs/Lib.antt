@@ -1,0 +1,3 @@
+pub mod Restriction
+pub mod Reduction
+pub mod WordList

@@ -1,0 +1,13 @@
+//! Which alternatives of a relation field stay for one architecture under some build profiles
+//! (Debian Policy 7.1, BuildProfileSpec).
+#![tactic(auto)]
+
+mod reduction;
+mod restriction;
+#[cfg(test)]
+mod tests;
+mod word_list;
+
+pub use reduction::reduce;
+pub use restriction::keeps;
+pub use word_list::{ArchNames, ProfileSet};

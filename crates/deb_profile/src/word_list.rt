@@ -1,0 +1,130 @@
+//! Lists of words: the names of an architecture, and build profiles.
+
+ghost use Rattle.std.specs.Prelude.{◌≡◌, []};
+ghost use Rattle.deb_text.specs.Answers.{Gives};
+ghost use Rattle.deb_text.specs.Steps.{traverse};
+ghost use Rattle.deb_text.specs.Words.{words};
+ghost use Rattle.deb_relation.specs.View.{refusal_of};
+ghost use Rattle.deb_profile.specs.Restriction.{is_among};
+ghost use Rattle.deb_profile.specs.WordList.{word_at, words_at};
+
+use deb_relation::{BAD_WORD, RelationError, Word};
+use deb_text::{is_word, next_word};
+use std::alloc::Global;
+use std::marker::Model;
+
+fn read_word(alloc: Global, run: &[u8]) -> Result<Word, RelationError>
+    ensures { Gives refusal_of (λ word. word) result (word_at run.now) }
+{
+    if !is_word(run) {
+        return Err(RelationError { code: BAD_WORD });
+    }
+    Ok(Word::from_slice(alloc, run)?)
+}
+
+fn read_words(alloc: Global, text: &[u8]) -> Result<Vec<Word>, RelationError>
+    ensures { Gives refusal_of (λ list. list.items) result (words_at text.now) }
+{
+    let mut list = Vec::new(alloc);
+    let mut rest = text;
+    while let Some((run, after)) = next_word(rest) {
+        list.push(read_word(alloc, run)?)?;
+        rest = after;
+    }
+    Ok(list)
+}
+
+fn is_among(list: &[Word], word: &[u8]) -> bool
+    ensures { result ≡ is_among list.now word.now }
+{
+    list.iter().any(|other| word == other.text())
+}
+
+/// The names of an architecture, the wildcards that match it among them, as
+/// `riscv64 any linux-any`. A contract sees their list.
+#[derive(Debug, Drop)]
+pub struct ArchNames {
+    list: Vec<Word>,
+}
+
+impl Model for ArchNames {
+    ghost use Rattle.std.specs.Prelude.{ℕ, List};
+
+    ghost Value = { List (List ℕ) };
+
+    ghost view = { λ names. names.list.items };
+}
+
+impl ArchNames {
+    /// Reads names that are separated by blanks.
+    ///
+    /// # Errors
+    ///
+    /// 131 where one of them is no word, and 900 where memory is refused.
+    pub fn parse(alloc: Global, text: &[u8]) -> Result<ArchNames, RelationError>
+        ensures { Gives refusal_of (λ names. names) result (words_at text.now) }
+    {
+        Ok(ArchNames {
+            list: read_words(alloc, text)?,
+        })
+    }
+
+    /// The names in their order.
+    pub fn names(&self) -> &[Word]
+        ensures { result.now ≡ self.now }
+    {
+        &self.list
+    }
+
+    /// Tells whether a name is the architecture's.
+    pub fn matches(&self, name: &[u8]) -> bool
+        ensures { result ≡ is_among self.now name.now }
+    {
+        is_among(&self.list, name)
+    }
+}
+
+/// The build profiles that are active (BuildProfileSpec). A contract sees their list.
+#[derive(Debug, Drop)]
+pub struct ProfileSet {
+    list: Vec<Word>,
+}
+
+impl Model for ProfileSet {
+    ghost use Rattle.std.specs.Prelude.{ℕ, List};
+
+    ghost Value = { List (List ℕ) };
+
+    ghost view = { λ profiles. profiles.list.items };
+}
+
+impl ProfileSet {
+    /// Reads profiles that are separated by blanks.
+    ///
+    /// # Errors
+    ///
+    /// 131 where one of them is no word, and 900 where memory is refused.
+    pub fn parse(alloc: Global, text: &[u8]) -> Result<ProfileSet, RelationError>
+        ensures { Gives refusal_of (λ profiles. profiles) result (words_at text.now) }
+    {
+        Ok(ProfileSet {
+            list: read_words(alloc, text)?,
+        })
+    }
+
+    /// The set without a profile. It takes no memory.
+    pub fn none(alloc: Global) -> ProfileSet
+        ensures { result ≡ [] }
+    {
+        ProfileSet {
+            list: Vec::new(alloc),
+        }
+    }
+
+    /// Tells whether a profile is active.
+    pub fn is_active(&self, profile: &[u8]) -> bool
+        ensures { result ≡ is_among self.now profile.now }
+    {
+        is_among(&self.list, profile)
+    }
+}
