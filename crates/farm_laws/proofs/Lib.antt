@@ -1,0 +1,4 @@
+pub mod Steps
+pub mod Places
+pub mod Archive
+pub mod KnownRows
