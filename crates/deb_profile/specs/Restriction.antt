@@ -13,8 +13,9 @@ use Rattle.deb_relation.specs.Relations.{Item, ArchList, Atom}
 abbrev pub is_among : List (List ℕ) → List ℕ → Bool
 is_among list word = list_any (bytes_eq word) list
 
--- "If none of the names of the architectures in the list matches .. the package name and the associated version
--- specification are ignored"; with `!` before each name, where one of them matches (Policy 7.1)
+-- "If the current Debian host architecture is not in this list and there are no exclamation marks in the list, or it
+-- is in the list with a prepended exclamation mark, the package name and the associated version specification are
+-- ignored completely" (Policy 7.1)
 abbrev pub arch_holds : List (List ℕ) → Option ArchList → Bool
 arch_holds names None = true
 arch_holds names (Some list) =
