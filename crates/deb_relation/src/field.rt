@@ -19,6 +19,9 @@ use crate::relations::{Entry, Relations};
 use deb_text::{Class, all_in, cut_at_first, next_part, skip_front};
 use std::alloc::{AllocError, Global};
 
+#[cfg(test)]
+mod tests;
+
 fn copy_qualifier(alloc: Global, text: Option<&[u8]>) -> Result<Option<Vec<u8>>, AllocError>
     ensures { IfOk result (λ copy. option_map (λ q. q.items) copy ≡ option_map (λ q. q.now) text.entry) }
 {

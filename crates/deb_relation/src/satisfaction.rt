@@ -12,6 +12,9 @@ use crate::relations::{Entry, Relations};
 use deb_version::Version;
 use std::cmp::Ordering;
 
+#[cfg(test)]
+mod tests;
+
 /// What is known of one package.
 #[derive(Clone, Copy, Debug)]
 pub struct Facts<'a> {
