@@ -1,0 +1,3 @@
+pub mod FirstUnsafe
+pub mod Families
+pub mod Greatest

@@ -1,0 +1,5 @@
+//! Laws that exact verdicts rest on, over the definitions of universes and plans alone.
+#![tactic(auto)]
+
+pub mod known;
+pub mod safety;
