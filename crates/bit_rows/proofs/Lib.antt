@@ -1,0 +1,2 @@
+pub mod NewestBit
+pub mod SetLaws

@@ -1,0 +1,155 @@
+//! A row of words, and what it does with other rows.
+
+ghost use Rattle.std.specs.Prelude.{◌≡◌, ◌<◌, ◌↔◌, IsTrue, IfOk, OnOk, OnErr, length, replicate, slice_index, slice_set};
+ghost use Rattle.clause_kernel.specs.Kernels.{hits, met, within, same, joined, common, remaining};
+ghost use Rattle.bit_rows.specs.Sets.{variants_of, HasNone, IsSubset, HaveCommon, HasNameInside, IsUnion, IsIntersection, IsDifference, ReplacesName};
+
+use std::alloc::{AllocError, Allocator, Global};
+use std::marker::Model;
+
+/// A set of variants as a list of words, one for each name.
+///
+/// Clauses see a row as its words, and as the set of the variants whose bit is set. How the words
+/// are kept is no part of the contract. Two rows that meet in one call have one length.
+#[derive(Debug, Drop)]
+pub struct Row<A: Allocator = Global> {
+    words: Vec<u64, A>,
+}
+
+impl<A: Allocator> Model for Row<A> {
+    ghost use Rattle.std.specs.Prelude.{List, ℕ};
+
+    ghost Value = { List ℕ };
+
+    ghost view = { λ row. row.words.items };
+}
+
+impl<A: Allocator> Row<A> {
+    /// Makes a row of `n` words, all 0.
+    ///
+    /// # Errors
+    ///
+    /// [`AllocError`] where memory is refused.
+    pub fn new(alloc: A, n: usize) -> Result<Row<A>, AllocError>
+        ensures words { IfOk result (λ row. row ≡ replicate n 0) }
+        ensures set { IfOk result (λ row. HasNone (variants_of row)) }
+        ensures len { IfOk result (λ row. length row ≡ n) }
+    {
+        Ok(Row {
+            words: Vec::from_elem(alloc, 0, n)?,
+        })
+    }
+
+    /// Gives the number of words.
+    pub fn len(&self) -> usize
+        ensures { result ≡ length self.now }
+    {
+        self.words.len()
+    }
+
+    /// Gives the word of name `i`.
+    pub fn word(&self, i: usize) -> u64
+        requires { i < length self.now }
+        ensures { result ≡ slice_index self.now i }
+    {
+        self.words[i]
+    }
+
+    /// Puts a word in the place of name `i`'s.
+    ///
+    /// # Errors
+    ///
+    /// [`AllocError`] where memory is refused. The row is then as it was.
+    pub fn set_word(&mut self, i: usize, word: u64) -> Result<(), AllocError>
+        requires { i < length self.old }
+        ensures words { OnOk result (self.new ≡ slice_set self.old i word) }
+        ensures set { OnOk result (ReplacesName (variants_of self.old) i word (variants_of self.new)) }
+        ensures len { length self.new ≡ length self.old }
+        ensures unchanged { OnErr result (self.new ≡ self.old) }
+    {
+        self.words[i] = word;
+        Ok(())
+    }
+
+    /// Joins the variants of another row to these.
+    ///
+    /// # Errors
+    ///
+    /// [`AllocError`] where memory is refused. The row is then as it was.
+    pub fn or_into(&mut self, other: &Row<A>) -> Result<(), AllocError>
+        requires { length self.old ≡ length other.now }
+        ensures words { OnOk result (self.new ≡ joined self.old other.now) }
+        ensures set { OnOk result (IsUnion (variants_of self.old) (variants_of other.now) (variants_of self.new)) }
+        ensures len { length self.new ≡ length self.old }
+        ensures unchanged { OnErr result (self.new ≡ self.old) }
+    {
+        clause_kernel::or_into(&mut self.words, &other.words);
+        Ok(())
+    }
+
+    /// Keeps the variants that another row has too.
+    pub fn and_into(&mut self, other: &Row<A>)
+        requires { length self.old ≡ length other.now }
+        ensures words { self.new ≡ common self.old other.now }
+        ensures set { IsIntersection (variants_of self.old) (variants_of other.now) (variants_of self.new) }
+        ensures len { length self.new ≡ length self.old }
+    {
+        clause_kernel::and_into(&mut self.words, &other.words);
+    }
+
+    /// Takes the variants of another row out.
+    pub fn take_out(&mut self, other: &Row<A>)
+        requires { length self.old ≡ length other.now }
+        ensures words { self.new ≡ remaining self.old other.now }
+        ensures set { IsDifference (variants_of self.old) (variants_of other.now) (variants_of self.new) }
+        ensures len { length self.new ≡ length self.old }
+    {
+        clause_kernel::take_out(&mut self.words, &other.words);
+    }
+
+    /// Tells whether some variant is in both rows.
+    pub fn hits(&self, other: &Row<A>) -> bool
+        requires { length self.now ≡ length other.now }
+        ensures test { result ≡ hits self.now other.now }
+        ensures set { IsTrue result ↔ HaveCommon (variants_of self.now) (variants_of other.now) }
+    {
+        clause_kernel::hits(&self.words, &other.words)
+    }
+
+    /// Tells whether some name has variants here, and all of them in the other row.
+    pub fn met(&self, other: &Row<A>) -> bool
+        requires { length self.now ≡ length other.now }
+        ensures test { result ≡ met self.now other.now }
+        ensures set { IsTrue result ↔ HasNameInside (variants_of self.now) (variants_of other.now) }
+    {
+        clause_kernel::met(&self.words, &other.words)
+    }
+
+    /// Tells whether each variant of this row is in the other.
+    pub fn within(&self, other: &Row<A>) -> bool
+        requires { length self.now ≡ length other.now }
+        ensures test { result ≡ within self.now other.now }
+        ensures set { IsTrue result ↔ IsSubset (variants_of self.now) (variants_of other.now) }
+    {
+        clause_kernel::within(&self.words, &other.words)
+    }
+
+    /// Tells whether both rows have the same words, and so the same variants.
+    pub fn same(&self, other: &Row<A>) -> bool
+        requires { length self.now ≡ length other.now }
+        ensures test { result ≡ same self.now other.now }
+        ensures equal { IsTrue result ↔ (self.now ≡ other.now) }
+    {
+        clause_kernel::same(&self.words, &other.words)
+    }
+}
+
+impl<A: Allocator + Clone> Clone for Row<A> {
+    ghost is_clone = { λ row copy. copy ≡ row };
+
+    fn clone(&self) -> Result<Row<A>, AllocError> {
+        Ok(Row {
+            words: self.words.clone()?,
+        })
+    }
+}
