@@ -15,19 +15,24 @@ pub position_of : (row : List ℕ) (i k : ℕ) → Has row i k → i < length ro
 position_of row i k h =
     elim (cases_lt i (length row)) [
       | inl lt ↦ lt
-      | inr ge ↦ absurd (both_ways _ (ap (λ w. word_has w k) (get_or_past row i 0 ge) ∙ word_has_zero k) h)
+      | inr ge ↦ absurd
+          (both_ways _ (ap (λ w. word_has w k) (get_or_past row i 0 ge) ∙ word_has_zero k) h)
     ]
 
 pub hits-bits : (a b : List ℕ) → length a ≡ length b → (hits a b ≡ true) ↔ Hits a b
 hits-bits a b long = (
-  (λ e. let s = some_pair-at shares_bit a b e in let both = (shares_bit-bits _ _).0 s.1 in (s.0, both.0, both.1, both.2)),
-  (λ h. some_pair-from shares_bit a b h.0 long (position_of a h.0 h.1 h.2) ((shares_bit-bits _ _).1 (h.1, h.2, h.3))),
+  (λ e. let s = some_pair-at shares_bit a b e in let both = (shares_bit-bits _ _).0 s.1 in
+      (s.0, both.0, both.1, both.2)),
+  (λ h. some_pair-from shares_bit a b h.0 long (position_of a h.0 h.1 h.2)
+      ((shares_bit-bits _ _).1 (h.1, h.2, h.3))),
 )
 
 pub met-bits : (a b : List ℕ) → length a ≡ length b → (met a b ≡ true) ↔ Met a b
 met-bits a b long = (
-  (λ e. let s = some_pair-at is_met_by a b e in let m = (is_met_by-bits _ _).0 s.1 in (s.0, m.0, m.1)),
-  (λ h. some_pair-from is_met_by a b h.0 long (position_of a h.0 h.1.0 h.1.1) ((is_met_by-bits _ _).1 (h.1, h.2))),
+  (λ e. let s = some_pair-at is_met_by a b e in let m = (is_met_by-bits _ _).0 s.1 in
+      (s.0, m.0, m.1)),
+  (λ h. some_pair-from is_met_by a b h.0 long (position_of a h.0 h.1.0 h.1.1)
+      ((is_met_by-bits _ _).1 (h.1, h.2))),
 )
 
 pub within-bits : (a b : List ℕ) → length a ≡ length b → (within a b ≡ true) ↔ Within a b
@@ -47,24 +52,31 @@ same-equal a b long = (
     equal [] (y ∷ ys) long e = absurd (omega arith)
     equal (x ∷ xs) [] long e = absurd (omega arith)
     equal (x ∷ xs) (y ∷ ys) long e =
-        ap₂ (λ w l. w ∷ l) (eqb-true x y (and_parts (x == y) (same xs ys) e).0) (equal xs ys (omega arith) (and_parts (x == y) _ e).1)
+        ap₂ (λ w l. w ∷ l) (eqb-true x y (and_parts (x == y) (same xs ys) e).0)
+        (equal xs ys (omega arith) (and_parts (x == y) _ e).1)
 
 -- rows of one length with the same bits are equal
-pub same_from_bits : (a b : List ℕ) → length a ≡ length b → ((i k : ℕ) → is_set a i k ≡ is_set b i k) → a ≡ b
+pub same_from_bits : (a b : List ℕ) → length a ≡ length b
+    → ((i k : ℕ) → is_set a i k ≡ is_set b i k) → a ≡ b
 same_from_bits [] [] long same = refl
 same_from_bits [] (y ∷ ys) long same = absurd (omega arith)
 same_from_bits (x ∷ xs) [] long same = absurd (omega arith)
 same_from_bits (x ∷ xs) (y ∷ ys) long same =
-    ap₂ (λ w l. w ∷ l) (same_from_word_has x y (same 0)) (same_from_bits xs ys (omega arith) (λ i. same (suc i)))
+    ap₂ (λ w l. w ∷ l) (same_from_word_has x y (same 0))
+    (same_from_bits xs ys (omega arith) (λ i. same (suc i)))
 
 -- the bits of a row that is made word by word
-is_set-zip2 : (f : ℕ → ℕ → ℕ) (g : Bool → Bool → Bool) → g false false ≡ false → ((x y k : ℕ) → word_has (f x y) k ≡ g (word_has x k) (word_has y k))
-    → (a b : List ℕ) → length a ≡ length b → (i k : ℕ) → is_set (zip2 f a b) i k ≡ g (is_set a i k) (is_set b i k)
-is_set-zip2 f g none each [] [] long i k = word_has_zero k ∙ sym (ap₂ g (word_has_zero k) (word_has_zero k) ∙ none)
+is_set-zip2 : (f : ℕ → ℕ → ℕ) (g : Bool → Bool → Bool) → g false false ≡ false
+    → ((x y k : ℕ) → word_has (f x y) k ≡ g (word_has x k) (word_has y k))
+    → (a b : List ℕ) → length a ≡ length b → (i k : ℕ)
+    → is_set (zip2 f a b) i k ≡ g (is_set a i k) (is_set b i k)
+is_set-zip2 f g none each [] [] long i k =
+    word_has_zero k ∙ sym (ap₂ g (word_has_zero k) (word_has_zero k) ∙ none)
 is_set-zip2 f g none each [] (y ∷ ys) long i k = absurd (omega arith)
 is_set-zip2 f g none each (x ∷ xs) [] long i k = absurd (omega arith)
 is_set-zip2 f g none each (x ∷ xs) (y ∷ ys) long zero k = each x y k
-is_set-zip2 f g none each (x ∷ xs) (y ∷ ys) long (suc i) k = is_set-zip2 f g none each xs ys (omega arith) i k
+is_set-zip2 f g none each (x ∷ xs) (y ∷ ys) long (suc i) k =
+    is_set-zip2 f g none each xs ys (omega arith) i k
 
 pub joined-bits : (a b : List ℕ) → length a ≡ length b → HasEither a b (joined a b)
 joined-bits = is_set-zip2 bit_or (λ p q. p || q) refl word_has-or
@@ -76,9 +88,11 @@ pub remaining-bits : (a b : List ℕ) → length a ≡ length b → HasRest a b 
 remaining-bits = is_set-zip2 bits_left (λ p q. p && not q) refl word_has-left
 
 -- `x & !y` over two rows
-pub remaining-and_not : (a b : List ℕ) → ((i : ℕ) → get_or a i 0 < 2 ^ 64) → ((i : ℕ) → get_or b i 0 < 2 ^ 64)
+pub remaining-and_not : (a b : List ℕ) → ((i : ℕ) → get_or a i 0 < 2 ^ 64)
+    → ((i : ℕ) → get_or b i 0 < 2 ^ 64)
     → zip2 (λ x y. bit_and x (bit_not w64 y)) a b ≡ remaining a b
 remaining-and_not [] ys small_a small_b = refl
 remaining-and_not (x ∷ xs) [] small_a small_b = refl
 remaining-and_not (x ∷ xs) (y ∷ ys) small_a small_b =
-    ap₂ (λ w l. w ∷ l) (and_not x y (small_a 0) (small_b 0)) (remaining-and_not xs ys (λ i. small_a (suc i)) (λ i. small_b (suc i)))
+    ap₂ (λ w l. w ∷ l) (and_not x y (small_a 0) (small_b 0))
+    (remaining-and_not xs ys (λ i. small_a (suc i)) (λ i. small_b (suc i)))

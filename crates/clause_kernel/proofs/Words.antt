@@ -21,7 +21,8 @@ word_has_top n k low high =
     eq-eqb (bit_at n k) 1 (
     let rest : n - 2 ^ k < 2 ^ k = omega (arith, two-pow-succ k) in
     let whole : n ≡ 1 * 2 ^ k + (n - 2 ^ k) = omega arith in
-    ap (λ m. bit_at m k) whole ∙ bit_at_cat_high 1 k (n - 2 ^ k) k rest (omega arith) ∙ ap (bit_at 1) (let e : k - k ≡ 0 = omega arith in e))
+    ap (λ m. bit_at m k) whole ∙ bit_at_cat_high 1 k (n - 2 ^ k) k rest (omega arith)
+    ∙ ap (bit_at 1) (let e : k - k ≡ 0 = omega arith in e))
 
 pub word_has_zero : (k : ℕ) → word_has 0 k ≡ false
 word_has_zero k = ne_eqb (bit_at 0 k) 1 (λ e. omega (arith, bit_at-zero k))
@@ -36,7 +37,9 @@ some_bit n some =
     let t = leading_top n n (omega arith) (lt_two_pow n) in (t.0, word_has_top n t.0 t.2 t.3)
 
 pub same_from_word_has : (x y : ℕ) → ((k : ℕ) → word_has x k ≡ word_has y k) → x ≡ y
-same_from_word_has x y same = same_from_bits x y (λ k. same_bit (bit_at x k) (bit_at y k) (bit_at-lt x k) (bit_at-lt y k) (same k))
+same_from_word_has x y same =
+    same_from_bits x y
+    (λ k. same_bit (bit_at x k) (bit_at y k) (bit_at-lt x k) (bit_at-lt y k) (same k))
   where
     same_bit : (p q : ℕ) → p < 2 → q < 2 → (p == 1) ≡ (q == 1) → p ≡ q
     same_bit zero zero lp lq e = refl
@@ -50,7 +53,9 @@ same_from_word_has x y same = same_from_bits x y (λ k. same_bit (bit_at x k) (b
 -- the operators on words
 
 pub word_has-and : (x y k : ℕ) → word_has (bit_and x y) k ≡ (word_has x k && word_has y k)
-word_has-and x y k = ap (λ b. b == 1) (bit_at_and x y k) ∙ one (bit_at x k) (bit_at y k) (bit_at-lt x k) (bit_at-lt y k)
+word_has-and x y k =
+    ap (λ b. b == 1) (bit_at_and x y k)
+    ∙ one (bit_at x k) (bit_at y k) (bit_at-lt x k) (bit_at-lt y k)
   where
     one : (p q : ℕ) → p < 2 → q < 2 → (min p q == 1) ≡ ((p == 1) && (q == 1))
     one zero q lp lq = ap (λ m. m == 1) (let e : min zero q ≡ zero = omega arith in e)
@@ -60,7 +65,9 @@ word_has-and x y k = ap (λ b. b == 1) (bit_at_and x y k) ∙ one (bit_at x k) (
     one (suc (suc p)) q lp lq = absurd (omega arith)
 
 pub word_has-or : (x y k : ℕ) → word_has (bit_or x y) k ≡ (word_has x k || word_has y k)
-word_has-or x y k = ap (λ b. b == 1) (bit_at_or x y k) ∙ one (bit_at x k) (bit_at y k) (bit_at-lt x k) (bit_at-lt y k)
+word_has-or x y k =
+    ap (λ b. b == 1) (bit_at_or x y k)
+    ∙ one (bit_at x k) (bit_at y k) (bit_at-lt x k) (bit_at-lt y k)
   where
     one : (p q : ℕ) → p < 2 → q < 2 → (max p q == 1) ≡ ((p == 1) || (q == 1))
     one zero zero lp lq = refl
@@ -73,7 +80,9 @@ word_has-or x y k = ap (λ b. b == 1) (bit_at_or x y k) ∙ one (bit_at x k) (bi
 
 pub word_has-left : (x y k : ℕ) → word_has (bits_left x y) k ≡ (word_has x k && not (word_has y k))
 word_has-left x y k =
-    ap (λ b. b == 1) (bit_at_xor x (bit_and x y) k ∙ ap (λ b. (bit_at x k + b) % 2) (bit_at_and x y k)) ∙ one (bit_at x k) (bit_at y k) (bit_at-lt x k) (bit_at-lt y k)
+    ap (λ b. b == 1)
+    (bit_at_xor x (bit_and x y) k ∙ ap (λ b. (bit_at x k + b) % 2) (bit_at_and x y k))
+    ∙ one (bit_at x k) (bit_at y k) (bit_at-lt x k) (bit_at-lt y k)
   where
     one : (p q : ℕ) → p < 2 → q < 2 → ((p + min p q) % 2 == 1) ≡ ((p == 1) && not (q == 1))
     one zero zero lp lq = refl
@@ -86,42 +95,67 @@ word_has-left x y k =
 
 -- `x & !y`
 pub and_not : (x y : ℕ) → x < 2 ^ 64 → y < 2 ^ 64 → bit_and x (bit_not w64 y) ≡ bits_left x y
-and_not x y small_x small_y = same_from_word_has _ _ (λ k. word_has-and x (bit_not w64 y) k ∙ one k (cases_lt k 64) ∙ sym (word_has-left x y k))
+and_not x y small_x small_y =
+    same_from_word_has _ _
+    (λ k. word_has-and x (bit_not w64 y) k ∙ one k (cases_lt k 64) ∙ sym (word_has-left x y k))
   where
     flip : (q : ℕ) → q < 2 → (1 - q == 1) ≡ not (q == 1)
     flip zero lq = refl
     flip (suc zero) lq = refl
     flip (suc (suc q)) lq = absurd (omega arith)
 
-    one : (k : ℕ) → (k < 64) ⊎ (64 ≤ k) → (word_has x k && word_has (bit_not w64 y) k) ≡ (word_has x k && not (word_has y k))
-    one k (inl lt) = ap (λ b. word_has x k && b) (ap (λ b. b == 1) (bit_at_not w64 y k small_y lt) ∙ flip (bit_at y k) (bit_at-lt y k))
-    one k (inr ge) = let none = word_has_above x 64 k small_x ge in and_left _ _ none ∙ sym (and_left _ _ none)
+    one : (k : ℕ) → (k < 64) ⊎ (64 ≤ k)
+        → (word_has x k && word_has (bit_not w64 y) k) ≡ (word_has x k && not (word_has y k))
+    one k (inl lt) =
+        ap (λ b. word_has x k && b)
+        (ap (λ b. b == 1) (bit_at_not w64 y k small_y lt) ∙ flip (bit_at y k) (bit_at-lt y k))
+    one k (inr ge) =
+        let none = word_has_above x 64 k small_x ge in and_left _ _ none ∙ sym (and_left _ _ none)
 
 -- the tests of two words
 
-pub shares_bit-bits : (x y : ℕ) → (shares_bit x y ≡ true) ↔ ((k : ℕ) × (word_has x k ≡ true) × (word_has y k ≡ true))
+pub shares_bit-bits : (x y : ℕ) → (shares_bit x y ≡ true)
+    ↔ ((k : ℕ) × (word_has x k ≡ true) × (word_has y k ≡ true))
 shares_bit-bits x y = (
   (λ e.
-      let s = some_bit (bit_and x y) (λ z. both_ways (bit_and x y == 0) (not-true _ e) (eq-eqb _ 0 z)) in
+      let s = some_bit (bit_and x y)
+      (λ z. both_ways (bit_and x y == 0) (not-true _ e) (eq-eqb _ 0 z)) in
       let both = and_parts _ _ (sym (word_has-and x y s.0) ∙ s.1) in
       (s.0, both.0, both.1)),
-  (λ h. not_from_false _ (ne_eqb _ 0 (λ z. both_ways _ (ap (λ n. word_has n h.0) z ∙ word_has_zero h.0) (word_has-and x y h.0 ∙ and_from _ _ h.1 h.2)))),
+  (λ h. not_from_false _
+      (ne_eqb _ 0
+      (λ z. both_ways _ (ap (λ n. word_has n h.0) z ∙ word_has_zero h.0)
+      (word_has-and x y h.0 ∙ and_from _ _ h.1 h.2)))),
 )
 
-pub lies_in-bits : (x y : ℕ) → (lies_in x y ≡ true) ↔ ((k : ℕ) → word_has x k ≡ true → word_has y k ≡ true)
+pub lies_in-bits : (x y : ℕ) → (lies_in x y ≡ true)
+    ↔ ((k : ℕ) → word_has x k ≡ true → word_has y k ≡ true)
 lies_in-bits x y = (
-  (λ e k h. (and_parts (word_has x k) (word_has y k) (sym (word_has-and x y k) ∙ ap (λ n. word_has n k) (eqb-true _ x e) ∙ h)).1),
-  (λ all. eq-eqb _ x (same_from_word_has _ x (λ k. word_has-and x y k ∙ one k (cases_Bool (word_has x k)) (all k)))),
+  (λ e k h.
+      (and_parts (word_has x k) (word_has y k)
+      (sym (word_has-and x y k) ∙ ap (λ n. word_has n k) (eqb-true _ x e) ∙ h)).1),
+  (λ all. eq-eqb _ x
+      (same_from_word_has _ x
+      (λ k. word_has-and x y k ∙ one k (cases_Bool (word_has x k)) (all k)))),
 )
   where
-    one : (k : ℕ) → (word_has x k ≡ true) ⊎ (word_has x k ≡ false) → (word_has x k ≡ true → word_has y k ≡ true) → (word_has x k && word_has y k) ≡ word_has x k
+    one : (k : ℕ) → (word_has x k ≡ true) ⊎ (word_has x k ≡ false)
+        → (word_has x k ≡ true → word_has y k ≡ true)
+        → (word_has x k && word_has y k) ≡ word_has x k
     one k (inl h) all = and_from _ _ h (all h) ∙ sym h
     one k (inr n) all = and_left _ _ n ∙ sym n
 
-pub is_met_by-bits : (x y : ℕ) → (is_met_by x y ≡ true) ↔ (((k : ℕ) × (word_has x k ≡ true)) × ((k : ℕ) → word_has x k ≡ true → word_has y k ≡ true))
+pub is_met_by-bits : (x y : ℕ) → (is_met_by x y ≡ true)
+    ↔ (((k : ℕ) × (word_has x k ≡ true)) × ((k : ℕ) → word_has x k ≡ true → word_has y k ≡ true))
 is_met_by-bits x y = (
   (λ e.
-      let p = and_parts (not (x == 0)) (lies_in x y) e in
-      (some_bit x (λ z. both_ways (x == 0) (not-true _ p.0) (eq-eqb x 0 z)), (lies_in-bits x y).0 p.1)),
-  (λ h. and_from _ _ (not_from_false _ (ne_eqb x 0 (λ z. both_ways _ (ap (λ n. word_has n h.0.0) z ∙ word_has_zero h.0.0) h.0.1))) ((lies_in-bits x y).1 h.1)),
+      let p = and_parts (not (x == 0)) (lies_in x y) e in (
+        some_bit x (λ z. both_ways (x == 0) (not-true _ p.0) (eq-eqb x 0 z)),
+        (lies_in-bits x y).0
+            p.1,
+      )),
+  (λ h. and_from _ _
+      (not_from_false _
+      (ne_eqb x 0 (λ z. both_ways _ (ap (λ n. word_has n h.0.0) z ∙ word_has_zero h.0.0) h.0.1)))
+      ((lies_in-bits x y).1 h.1)),
 )

@@ -13,7 +13,8 @@ loop-a-preserved g c =
     let is = c.loop-a.invariant in
     record {
       within = omega arith;
-      rest = ap (λ block. changed_from f (at + 8) (put_chunk at a block) b) c.lanes-changed.ensures ∙ (changed_from-block f at a b (omega arith) (omega arith) ∙ is.rest);
+      rest = ap (λ block. changed_from f (at + 8) (put_chunk at a block) b) c.lanes-changed.ensures
+          ∙ (changed_from-block f at a b (omega arith) (omega arith) ∙ is.rest);
       fits = is.fits;
     }
 
@@ -26,6 +27,7 @@ loop-at-preserved g c =
     let is = c.loop-at.invariant in
     record {
       within = omega arith;
-      rest = ap (λ word. changed_from f (at + 1) (set a at word) b) c.word.ensures ∙ (changed_from-word f at a b (omega arith) (omega arith) ∙ is.rest);
+      rest = ap (λ word. changed_from f (at + 1) (set a at word) b) c.word.ensures
+          ∙ (changed_from-word f at a b (omega arith) (omega arith) ∙ is.rest);
       fits = is.fits;
     }

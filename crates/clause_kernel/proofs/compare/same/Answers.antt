@@ -7,4 +7,6 @@ pub returns-clause-test : goal.returns-clause-test
 returns-clause-test c = ap not c.some_pair.ensures ∙ not-some_pair ◌==◌ c.args.a.now c.args.b.now
 
 pub returns-clause-equal : goal.returns-clause-equal
-returns-clause-equal c = rw (c.some_pair.ensures, not-some_pair ◌==◌ c.args.a.now c.args.b.now) (same-equal c.args.a.now c.args.b.now c.requires)
+returns-clause-equal c =
+    rw (c.some_pair.ensures, not-some_pair ◌==◌ c.args.a.now c.args.b.now)
+    (same-equal c.args.a.now c.args.b.now c.requires)

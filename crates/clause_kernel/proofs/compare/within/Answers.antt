@@ -8,4 +8,6 @@ pub returns-clause-test : goal.returns-clause-test
 returns-clause-test c = ap not c.some_pair.ensures ∙ not-some_pair lies_in c.args.a.now c.args.b.now
 
 pub returns-clause-bits : goal.returns-clause-bits
-returns-clause-bits c = rw (c.some_pair.ensures, not-some_pair lies_in c.args.a.now c.args.b.now) (within-bits c.args.a.now c.args.b.now c.requires)
+returns-clause-bits c =
+    rw (c.some_pair.ensures, not-some_pair lies_in c.args.a.now c.args.b.now)
+    (within-bits c.args.a.now c.args.b.now c.requires)

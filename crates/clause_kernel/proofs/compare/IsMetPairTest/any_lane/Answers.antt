@@ -11,4 +11,7 @@ both false true = refl
 both false false = refl
 
 pub returns : goal.returns
-returns c = any-lanes _ _ c.args.x c.args.y (tests-both _ _ _ _ 0 _ (λ x y. both (not (x == 0)) (lies_in x y)) 8 c.args.x c.args.y c.requires.x_len c.requires.y_len) c.requires.x_len
+returns c =
+    any-lanes _ _ c.args.x c.args.y
+    (tests-both _ _ _ _ 0 _ (λ x y. both (not (x == 0)) (lies_in x y)) 8 c.args.x c.args.y
+    c.requires.x_len c.requires.y_len) c.requires.x_len
