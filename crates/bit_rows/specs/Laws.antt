@@ -6,18 +6,25 @@ use Rattle.bit_rows.specs.Sets.{variants_of, IsSubset, HaveCommon, HasNameInside
 -- For all rows a and b of one length:
 pub record RowsAreSets : Type 0 where
   -- `hits` finds a common variant;
-  pub common_variant : (a b : List ℕ) → length a ≡ length b → IsTrue (hits a b) ↔ HaveCommon (variants_of a) (variants_of b)
+  pub common_variant : (a b : List ℕ) → length a ≡ length b
+      → IsTrue (hits a b) ↔ HaveCommon (variants_of a) (variants_of b)
   -- `met` finds a name whose variants in a, at least one, all lie in b;
-  pub name_inside : (a b : List ℕ) → length a ≡ length b → IsTrue (met a b) ↔ HasNameInside (variants_of a) (variants_of b)
+  pub name_inside : (a b : List ℕ) → length a ≡ length b
+      → IsTrue (met a b) ↔ HasNameInside (variants_of a) (variants_of b)
   -- `within` is inclusion;
-  pub subset : (a b : List ℕ) → length a ≡ length b → IsTrue (within a b) ↔ IsSubset (variants_of a) (variants_of b)
+  pub subset : (a b : List ℕ) → length a ≡ length b
+      → IsTrue (within a b) ↔ IsSubset (variants_of a) (variants_of b)
   -- `same` is equality;
   pub equal : (a b : List ℕ) → length a ≡ length b → IsTrue (same a b) ↔ (a ≡ b)
   -- joined rows are the union,
-  pub union : (a b : List ℕ) → length a ≡ length b → IsUnion (variants_of a) (variants_of b) (variants_of (joined a b))
+  pub union : (a b : List ℕ) → length a ≡ length b
+      → IsUnion (variants_of a) (variants_of b) (variants_of (joined a b))
   -- common bits the intersection,
-  pub intersection : (a b : List ℕ) → length a ≡ length b → IsIntersection (variants_of a) (variants_of b) (variants_of (common a b))
+  pub intersection : (a b : List ℕ) → length a ≡ length b
+      → IsIntersection (variants_of a) (variants_of b) (variants_of (common a b))
   -- and remaining bits the difference;
-  pub difference : (a b : List ℕ) → length a ≡ length b → IsDifference (variants_of a) (variants_of b) (variants_of (remaining a b))
+  pub difference : (a b : List ℕ) → length a ≡ length b
+      → IsDifference (variants_of a) (variants_of b) (variants_of (remaining a b))
   -- and rows with the same variants are equal.
-  pub told_by_set : (a b : List ℕ) → length a ≡ length b → ((name bit : ℕ) → variants_of a name bit ≡ variants_of b name bit) → a ≡ b
+  pub told_by_set : (a b : List ℕ) → length a ≡ length b
+      → ((name bit : ℕ) → variants_of a name bit ≡ variants_of b name bit) → a ≡ b

@@ -1,4 +1,4 @@
--- Sets of variants. A variant is told by two numbers, its name's and its bit's, so a set is a test of
+-- Sets of variants. A variant is told by two numbers, its name and its bit, so a set is a test of
 -- two numbers. A row stands for the set of the variants whose bit is set.
 --
 --   variants_of row                            the set of a row
@@ -31,7 +31,8 @@ HaveCommon s t = (name : ℕ) × (bit : ℕ) × IsTrue (s name bit) × IsTrue (t
 -- some name has variants in s, and all of them are in t
 abbrev pub HasNameInside : Variants → Variants → Type 0
 HasNameInside s t =
-    (name : ℕ) × ((bit : ℕ) × IsTrue (s name bit)) × ((bit : ℕ) → IsTrue (s name bit) → IsTrue (t name bit))
+    (name : ℕ) × ((bit : ℕ) × IsTrue (s name bit))
+    × ((bit : ℕ) → IsTrue (s name bit) → IsTrue (t name bit))
 
 -- new has the variants that are in s or in t
 abbrev pub IsUnion : Variants → Variants → Variants → Type 0

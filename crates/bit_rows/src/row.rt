@@ -63,7 +63,8 @@ impl<A: Allocator> Row<A> {
     pub fn set_word(&mut self, i: usize, word: u64) -> Result<(), AllocError>
         requires { i < length self.old }
         ensures words { OnOk result (self.new ≡ slice_set self.old i word) }
-        ensures set { OnOk result (ReplacesName (variants_of self.old) i word (variants_of self.new)) }
+        ensures set { OnOk result
+            (ReplacesName (variants_of self.old) i word (variants_of self.new)) }
         ensures len { length self.new ≡ length self.old }
         ensures unchanged { OnErr result (self.new ≡ self.old) }
     {
@@ -79,7 +80,8 @@ impl<A: Allocator> Row<A> {
     pub fn or_into(&mut self, other: &Row<A>) -> Result<(), AllocError>
         requires { length self.old ≡ length other.now }
         ensures words { OnOk result (self.new ≡ joined self.old other.now) }
-        ensures set { OnOk result (IsUnion (variants_of self.old) (variants_of other.now) (variants_of self.new)) }
+        ensures set { OnOk result
+            (IsUnion (variants_of self.old) (variants_of other.now) (variants_of self.new)) }
         ensures len { length self.new ≡ length self.old }
         ensures unchanged { OnErr result (self.new ≡ self.old) }
     {
@@ -91,7 +93,8 @@ impl<A: Allocator> Row<A> {
     pub fn and_into(&mut self, other: &Row<A>)
         requires { length self.old ≡ length other.now }
         ensures words { self.new ≡ common self.old other.now }
-        ensures set { IsIntersection (variants_of self.old) (variants_of other.now) (variants_of self.new) }
+        ensures set { IsIntersection (variants_of self.old) (variants_of other.now)
+            (variants_of self.new) }
         ensures len { length self.new ≡ length self.old }
     {
         clause_kernel::and_into(&mut self.words, &other.words);
@@ -101,7 +104,8 @@ impl<A: Allocator> Row<A> {
     pub fn take_out(&mut self, other: &Row<A>)
         requires { length self.old ≡ length other.now }
         ensures words { self.new ≡ remaining self.old other.now }
-        ensures set { IsDifference (variants_of self.old) (variants_of other.now) (variants_of self.new) }
+        ensures set { IsDifference (variants_of self.old) (variants_of other.now)
+            (variants_of self.new) }
         ensures len { length self.new ≡ length self.old }
     {
         clause_kernel::take_out(&mut self.words, &other.words);
