@@ -1,5 +1,9 @@
 pub mod FirstOne
+pub mod AtRest
 pub mod Unions
 pub mod Quiet
 pub mod Inclusions
 pub mod Rounds
+pub mod Narrower
+pub mod NarrowMaps
+pub mod MoreSafe

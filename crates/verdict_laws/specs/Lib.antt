@@ -1,3 +1,5 @@
 pub mod FirstUnsafe
 pub mod Families
 pub mod Greatest
+pub mod MoreKnown
+pub mod Stuck
