@@ -43,32 +43,50 @@ grows m [] = omega arith
 grows m (x ∷ xs) = omega (arith, grows (m * 10 + (x - 48)) xs)
 
 -- one more digit of each
-more : (m n x y : ℕ) → 48 ≤ x → x < 58 → 48 ≤ y → y < 58 → ordering_then (nat_cmp m n) (nat_cmp x y) ≡ nat_cmp (m * 10 + (x - 48)) (n * 10 + (y - 48))
+more : (m n x y : ℕ) → 48 ≤ x → x < 58 → 48 ≤ y → y < 58
+    → ordering_then (nat_cmp m n) (nat_cmp x y) ≡ nat_cmp (m * 10 + (x - 48)) (n * 10 + (y - 48))
 more m n x y x_low x_high y_low y_high =
+    let next_m = m * 10 + (x - 48) in
+    let next_n = n * 10 + (y - 48) in
     elim (cases_order m n) [
       | inl e ↦ rw (cmp_equal m n e) (elim (cases_order x y) [
-        | inl f ↦ rw (cmp_equal x y f) (sym (cmp_equal (m * 10 + (x - 48)) (n * 10 + (y - 48)) (omega arith)))
+        | inl f ↦ rw (cmp_equal x y f) (sym (cmp_equal next_m next_n (omega arith)))
         | inr f ↦ elim f [
-          | inl lt ↦ rw (cmp_less x y lt) (sym (cmp_less (m * 10 + (x - 48)) (n * 10 + (y - 48)) (omega arith)))
-          | inr gt ↦ rw (cmp_greater x y gt) (sym (cmp_greater (m * 10 + (x - 48)) (n * 10 + (y - 48)) (omega arith)))
+          | inl lt ↦ rw (cmp_less x y lt) (sym (cmp_less next_m next_n (omega arith)))
+          | inr gt ↦ rw (cmp_greater x y gt) (sym (cmp_greater next_m next_n (omega arith)))
         ]
       ])
       | inr f ↦ elim f [
-        | inl lt ↦ rw (cmp_less m n lt) (sym (cmp_less (m * 10 + (x - 48)) (n * 10 + (y - 48)) (omega arith)))
-        | inr gt ↦ rw (cmp_greater m n gt) (sym (cmp_greater (m * 10 + (x - 48)) (n * 10 + (y - 48)) (omega arith)))
+        | inl lt ↦ rw (cmp_less m n lt) (sym (cmp_less next_m next_n (omega arith)))
+        | inr gt ↦ rw (cmp_greater m n gt) (sym (cmp_greater next_m next_n (omega arith)))
       ]
     ]
 
-pub digits_cmp-is : (xs ys : List ℕ) (m n : ℕ) → AreDigits xs → AreDigits ys → Alike m n xs ys → digits_cmp (nat_cmp m n) xs ys ≡ nat_cmp (value_from m xs) (value_from n ys)
+pub digits_cmp-is : (xs ys : List ℕ) (m n : ℕ) → AreDigits xs → AreDigits ys → Alike m n xs ys
+    → digits_cmp (nat_cmp m n) xs ys ≡ nat_cmp (value_from m xs) (value_from n ys)
 digits_cmp-is [] [] m n dx dy alike = refl
-digits_cmp-is [] (y ∷ ys) m n dx dy alike = sym (cmp_less m (value_from n (y ∷ ys)) (elim alike [ inl a ↦ omega (arith, grows (n * 10 + (y - 48)) ys) | inr a ↦ omega (arith, grows (n * 10 + (y - 48)) ys) ]))
-digits_cmp-is (x ∷ xs) [] m n dx dy alike = sym (cmp_greater (value_from m (x ∷ xs)) n (elim alike [ inl a ↦ omega (arith, grows (m * 10 + (x - 48)) xs) | inr a ↦ omega (arith, grows (m * 10 + (x - 48)) xs) ]))
+digits_cmp-is [] (y ∷ ys) m n dx dy alike =
+    let later = grows (n * 10 + (y - 48)) ys in
+    sym (cmp_less m (value_from n (y ∷ ys)) (elim alike [ inl a ↦ omega arith | inr a ↦ omega arith ]))
+digits_cmp-is (x ∷ xs) [] m n dx dy alike =
+    let later = grows (m * 10 + (x - 48)) xs in
+    sym (cmp_greater (value_from m (x ∷ xs)) n (elim alike [ inl a ↦ omega arith | inr a ↦ omega arith ]))
 digits_cmp-is (x ∷ xs) (y ∷ ys) m n dx dy alike =
-    ap (λ (o : Ordering). digits_cmp o xs ys) (more m n x y dx.0 dx.1 dy.0 dy.1) ∙ digits_cmp-is xs ys (m * 10 + (x - 48)) (n * 10 + (y - 48)) dx.2 dy.2 (inl (elim alike [ inl a ↦ (omega arith, omega arith) | inr a ↦ (omega arith, omega arith) ]))
+    let next_m = m * 10 + (x - 48) in
+    let next_n = n * 10 + (y - 48) in
+    let next : (next_n < 10 * next_m) × (next_m < 10 * next_n) =
+    elim alike [ inl a ↦ (omega arith, omega arith) | inr a ↦ (omega arith, omega arith) ] in
+    ap (λ (o : Ordering). digits_cmp o xs ys) (more m n x y dx.0 dx.1 dy.0 dy.1)
+    ∙ digits_cmp-is xs ys next_m next_n dx.2 dy.2 (inl next)
 
--- a number_of has at least the value of its first digits
-pub number_of-take : (ds : List ℕ) (i : ℕ) → i < length ds → number_of (take i ds) * 10 + (get_or ds i 0 - 48) ≤ number_of ds
+-- a number has at least the value of its first digits
+pub number_of-take : (ds : List ℕ) (i : ℕ) → i < length ds
+    → number_of (take i ds) * 10 + (get_or ds i 0 - 48) ≤ number_of ds
 number_of-take ds i lt =
-    let next = fold_more (λ n d. n * 10 + (d - 48)) 0 ds i 0 lt in
-    let whole : number_of ds ≡ value_from (number_of (take (i + 1) ds)) (drop (i + 1) ds) = ap number_of (sym (take-append-drop (i + 1) ds)) ∙ fold-append (λ n d. n * 10 + (d - 48)) 0 (take (i + 1) ds) (drop (i + 1) ds) in
-    omega (arith, grows (number_of (take (i + 1) ds)) (drop (i + 1) ds))
+    let digit_behind = λ (n d : ℕ). n * 10 + (d - 48) in
+    let front = take (i + 1) ds in
+    let rest = drop (i + 1) ds in
+    let next = fold_more digit_behind 0 ds i 0 lt in
+    let whole : number_of ds ≡ value_from (number_of front) rest =
+    ap number_of (sym (take-append-drop (i + 1) ds)) ∙ fold-append digit_behind 0 front rest in
+    omega (arith, grows (number_of front) rest)

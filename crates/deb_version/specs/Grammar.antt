@@ -44,7 +44,11 @@ abbrev pub revision_at : List ℕ → Option (List ℕ)
 revision_at rest = if list_any is_hyphen rest then Some (after_last is_hyphen rest) else None
 
 abbrev pub pieces_of : List ℕ → Pieces
-pieces_of text = record { epoch = epoch_of text; upstream = upstream_of (rest_of text); revision = revision_at (rest_of text) }
+pieces_of text = record {
+  epoch = epoch_of text;
+  upstream = upstream_of (rest_of text);
+  revision = revision_at (rest_of text);
+}
 
 abbrev pub has_empty_piece : Pieces → Bool
 has_empty_piece pieces =
@@ -52,11 +56,12 @@ has_empty_piece pieces =
     || option_map_or is_nil pieces.epoch false
     || option_map_or is_nil pieces.revision false
 
--- "may contain only alphanumerics and the characters + . ~"
+-- "must contain only alphanumerics and the characters + . ~"
 abbrev pub is_revision_byte : ℕ → Bool
 is_revision_byte b = is_ascii_alphanumeric b || b == 43 || b == 46 || b == 126
 
--- "alphanumerics and the characters . + - ~", and a colon where an epoch is present
+-- "must contain only alphanumerics and the characters . + - ~", and by dpkg also a colon, which stands
+-- there only where an epoch is present
 abbrev pub is_upstream_byte : Bool → ℕ → Bool
 is_upstream_byte has_epoch b = is_revision_byte b || b == 45 || has_epoch && b == 58
 
@@ -69,12 +74,17 @@ has_bad_byte pieces =
 abbrev pub epoch_number : Pieces → ℕ
 epoch_number pieces = option_map_or number_of pieces.epoch 0
 
+abbrev pub parts_with : ℕ → Pieces → Parts
+parts_with epoch pieces =
+    record { epoch = epoch; upstream = pieces.upstream; revision = pieces.revision }
+
+-- the first fault, in this order, or the parts
 abbrev pub parts_of : Pieces → Result Parts ℕ
 parts_of pieces =
     if has_empty_piece pieces then Err EMPTY_PART
     else (if has_bad_byte pieces then Err BAD_CHARACTER
     else (if nat_lt MAX_EPOCH (epoch_number pieces) then Err EPOCH_TOO_LARGE
-    else Ok (record { epoch = epoch_number pieces; upstream = pieces.upstream; revision = pieces.revision })))
+    else Ok (parts_with (epoch_number pieces) pieces)))
 
 unfoldable pub version_at : List ℕ → Result Parts ℕ
 version_at text = if nat_lt MAX_LENGTH (length text) then Err TOO_LONG else parts_of (pieces_of text)

@@ -3,4 +3,5 @@ pub mod Order
 pub mod Runs
 pub mod Grammar
 pub mod View
+pub mod Laws
 pub mod OrderLaws

@@ -18,7 +18,8 @@ use Rattle.std.specs.Ordering.{nat_cmp, on, then_cmp}
 use Rattle.deb_text.specs.Bytes.{is_digit}
 use Rattle.deb_version.specs.Padded.{padded_cmp}
 
--- "all the letters sort earlier than all the non-letters", and "a tilde sorts before anything, even the end of a part"
+-- "all the letters sort earlier than all the non-letters and .. a tilde sorts before anything, even
+-- the end of a part"
 abbrev pub rank_of : ℕ → ℕ
 rank_of b = if b == 126 then 0 else (if is_ascii_alphabetic b then b else b + 256)
 
@@ -33,8 +34,8 @@ word_cmp = on (λ word. map rank_of word ++ end_rank ∷ []) (slice_cmp nat_cmp)
 abbrev pub number_of : List ℕ → ℕ
 number_of digits = fold (λ n digit. n * 10 + (digit - 48)) 0 digits
 
--- "the initial part .. consisting entirely of non-digit characters", and "the initial part of the remainder .. which
--- consists entirely of digit characters"
+-- "the initial part .. consisting entirely of non-digit characters", and "the initial part of the
+-- remainder .. which consists entirely of digit characters"
 pub record Run : Type 0 where
   pub word : List ℕ
   pub digits : List ℕ

@@ -11,4 +11,8 @@ abbrev pub refusal_of : VersionError → Option ℕ
 refusal_of error = refusal_code error.code
 
 abbrev pub pieces_view : Pieces → grammar.Pieces
-pieces_view pieces = record { epoch = option_map (λ e. e.now) pieces.epoch; upstream = pieces.upstream.now; revision = option_map (λ r. r.now) pieces.revision }
+pieces_view pieces = record {
+  epoch = option_map (λ epoch. epoch.now) pieces.epoch;
+  upstream = pieces.upstream.now;
+  revision = option_map (λ revision. revision.now) pieces.revision;
+}

@@ -1,6 +1,6 @@
 //! The grammar of versions: the pieces of a text, and what is wrong with them.
 
-ghost use Rattle.std.specs.Prelude.{◌≡◌, nat_lt, true, false, MatchOption, Ok, Err, if◌then◌else◌};
+ghost use Rattle.std.specs.Prelude.{◌≡◌, nat_lt, unwrap_or, codes, true, false, MatchOption, Ok, Err, if◌then◌else◌};
 ghost use Rattle.std.specs.List.{list_all};
 ghost use Rattle.deb_text.specs.Answers.{Gives};
 ghost use Rattle.deb_text.specs.Bytes.{is_digit};
@@ -11,10 +11,10 @@ ghost use Rattle.deb_version.specs.View.{refusal_of, pieces_view};
 use crate::error::{EPOCH_TOO_LARGE, VersionError};
 use deb_text::{Class, all_in, cut_at_first, cut_at_last};
 
-/// The longest text of a version, in bytes.
+/// The longest text of a version, in bytes. The limit is this crate's own.
 pub const MAX_LENGTH: usize = 512;
 
-/// The greatest epoch.
+/// The greatest epoch, as in dpkg.
 pub const MAX_EPOCH: u32 = 2_147_483_647;
 
 /// A text, cut at its first colon and at the last hyphen behind that.
@@ -41,6 +41,16 @@ pub fn cut_into_pieces(text: &[u8]) -> Pieces<'_>
         epoch,
         upstream,
         revision,
+    }
+}
+
+/// The revision, which is `0` where it is absent.
+pub fn revision_or_zero(pieces: Pieces<'_>) -> &[u8]
+    ensures { result.now ≡ unwrap_or (pieces_view pieces.entry).revision (codes "0") }
+{
+    match pieces.revision {
+        Some(revision) => revision,
+        None => b"0",
     }
 }
 

@@ -41,7 +41,8 @@ fn are_used_up(a: &[u8], b: &[u8]) -> bool
 #[tactic(auto, using(crate::proofs::RunLaws::number_plain, crate::proofs::RunLaws::behind_plain))]
 fn compare_runs<'a, 'b>(a: &'a [u8], b: &'b [u8]) -> (Ordering, &'a [u8], &'b [u8])
     ensures order { result.0 ≡ run_cmp (first_run a.now) (first_run b.now) }
-    ensures rest { result.0 ≡ Ordering.Equal → (result.1.now ≡ after_run a.now) × (result.2.now ≡ after_run b.now) }
+    ensures rest { result.0 ≡ Ordering.Equal
+        → (result.1.now ≡ after_run a.now) × (result.2.now ≡ after_run b.now) }
 {
     match compare_words(a, b) {
         (Ordering::Equal, xs, ys) => compare_digits(without_zeros(xs), without_zeros(ys)),
@@ -52,7 +53,8 @@ fn compare_runs<'a, 'b>(a: &'a [u8], b: &'b [u8]) -> (Ordering, &'a [u8], &'b [u
 /// Compares the words at the front, and gives what stands behind them where they are equal.
 fn compare_words<'a, 'b>(a: &'a [u8], b: &'b [u8]) -> (Ordering, &'a [u8], &'b [u8])
     ensures order { result.0 ≡ word_cmp (front is_other a.now) (front is_other b.now) }
-    ensures rest { result.0 ≡ Ordering.Equal → (result.1.now ≡ behind is_other a.now) × (result.2.now ≡ behind is_other b.now) }
+    ensures rest { result.0 ≡ Ordering.Equal
+        → (result.1.now ≡ behind is_other a.now) × (result.2.now ≡ behind is_other b.now) }
 {
     let mut xs = a;
     let mut ys = b;
@@ -109,8 +111,10 @@ fn without_zeros(part: &[u8]) -> &[u8]
 fn compare_digits<'a, 'b>(a: &'a [u8], b: &'b [u8]) -> (Ordering, &'a [u8], &'b [u8])
     requires a_plain { first_is is_zero a.now ≡ false }
     requires b_plain { first_is is_zero b.now ≡ false }
-    ensures order { result.0 ≡ nat_cmp (number_of (front is_digit a.now)) (number_of (front is_digit b.now)) }
-    ensures rest { result.0 ≡ Ordering.Equal → (result.1.now ≡ behind is_digit a.now) × (result.2.now ≡ behind is_digit b.now) }
+    ensures order { result.0
+        ≡ nat_cmp (number_of (front is_digit a.now)) (number_of (front is_digit b.now)) }
+    ensures rest { result.0 ≡ Ordering.Equal
+        → (result.1.now ≡ behind is_digit a.now) × (result.2.now ≡ behind is_digit b.now) }
 {
     let mut xs = a;
     let mut ys = b;
@@ -131,7 +135,8 @@ fn compare_digits<'a, 'b>(a: &'a [u8], b: &'b [u8]) -> (Ordering, &'a [u8], &'b 
 
 /// The digit at the front, and what stands behind it.
 fn split_digit(part: &[u8]) -> Option<(u8, &[u8])>
-    ensures none { IfNone result ((front is_digit part.now ≡ []) × (behind is_digit part.now ≡ part.now)) }
+    ensures none { IfNone result
+        ((front is_digit part.now ≡ []) × (behind is_digit part.now ≡ part.now)) }
     ensures digit { IfSome result (λ x. front is_digit part.now ≡ x.0 ∷ front is_digit x.1.now) }
     ensures rest { IfSome result (λ x. behind is_digit part.now ≡ behind is_digit x.1.now) }
     ensures shorter { IfSome result (λ x. length x.1.now < length part.now) }

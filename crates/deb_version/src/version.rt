@@ -1,7 +1,6 @@
 //! Versions of packages.
 
-ghost use Rattle.std.specs.Prelude.{◌≡◌, Ok, IfOk, unwrap_or, codes, refl};
-ghost use Rattle.std.specs.Option.{option_map};
+ghost use Rattle.std.specs.Prelude.{◌≡◌, Ok, IfOk, refl};
 ghost use Rattle.std.proofs.Common.{rules};
 ghost use Rattle.std.specs.Cmp.{partial_equiv_from_equiv, po};
 ghost use Rattle.std.specs.Cmp.Rules.{comparing};
@@ -12,14 +11,13 @@ ghost use Rattle.deb_text.specs.Answers.{Gives};
 ghost use Rattle.deb_version.specs.View.{refusal_of};
 
 use crate::error::{BAD_CHARACTER, EMPTY_PART, TOO_LONG, VersionError};
-use crate::grammar::{MAX_LENGTH, cut_into_pieces, epoch_of, has_bad_byte, has_empty_piece};
+use crate::grammar::{
+    MAX_LENGTH, cut_into_pieces, epoch_of, has_bad_byte, has_empty_piece, revision_or_zero,
+};
 use crate::order::compare_parts;
 use std::alloc::Global;
 use std::cmp::Ordering;
 use std::marker::Model;
-
-#[cfg(test)]
-mod tests;
 
 /// A version of a package, `[epoch:]upstream[-revision]`, as Debian Policy 5.6.12 describes it.
 ///
@@ -29,21 +27,18 @@ mod tests;
 pub struct Version {
     text: Vec<u8>,
     epoch: u32,
-    upstream: Vec<u8>,
-    revision: Option<Vec<u8>>,
 }
 
 impl Model for Version {
     ghost use Rattle.std.specs.Prelude.{◌≡◌, ℕ, List, Ok};
-    ghost use Rattle.std.specs.Option.{option_map};
-    ghost use Rattle.deb_version.specs.Grammar.{version_at};
+    ghost use Rattle.deb_version.specs.Grammar.{version_at, pieces_of, parts_with};
 
     ghost Value = { List ℕ };
 
     ghost view = { λ v. v.text.items };
 
     ghost invariant = { λ v. version_at v.text.items
-        ≡ Ok (record { epoch = v.epoch; upstream = v.upstream.items; revision = option_map (λ r. r.items) v.revision }) };
+        ≡ Ok (parts_with v.epoch (pieces_of v.text.items)) };
 }
 
 impl Version {
@@ -75,16 +70,9 @@ impl Version {
                 code: BAD_CHARACTER,
             });
         }
-        let epoch = epoch_of(&pieces)?;
-        let revision = match pieces.revision {
-            None => None,
-            Some(revision) => Some(Vec::from_slice(alloc, revision)?),
-        };
         Ok(Version {
+            epoch: epoch_of(&pieces)?,
             text: Vec::from_slice(alloc, text)?,
-            epoch,
-            upstream: Vec::from_slice(alloc, pieces.upstream)?,
-            revision,
         })
     }
 
@@ -105,23 +93,14 @@ impl Version {
             Ordering::Equal => {}
             unequal => return unequal,
         }
-        match compare_parts(&self.upstream, &other.upstream) {
+        // cut again, so that a version is no more than its text and its epoch
+        let left = cut_into_pieces(&self.text);
+        let right = cut_into_pieces(&other.text);
+        match compare_parts(left.upstream, right.upstream) {
             Ordering::Equal => {}
             unequal => return unequal,
         }
-        compare_parts(
-            revision_or_zero(&self.revision),
-            revision_or_zero(&other.revision),
-        )
-    }
-}
-
-fn revision_or_zero(revision: &Option<Vec<u8>>) -> &[u8]
-    ensures { result.now ≡ unwrap_or (option_map (λ r. r.items) revision.now) (codes "0") }
-{
-    match revision {
-        Some(revision) => revision,
-        None => b"0",
+        compare_parts(revision_or_zero(left), revision_or_zero(right))
     }
 }
 
@@ -162,3 +141,6 @@ impl Ord for Version {
         self.compare(other)
     }
 }
+
+#[cfg(test)]
+mod tests;

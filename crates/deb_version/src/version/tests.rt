@@ -2,6 +2,7 @@
 
 use super::*;
 use crate::error::{EMPTY_PART, EPOCH_TOO_LARGE};
+use deb_text::MEMORY;
 use std::process::Abort;
 use std::test::Fail;
 
@@ -235,6 +236,16 @@ fn keeps_the_text(rt: HostRuntime) -> Result<(), Fail> {
         assert_eq!(rt; version.text(), text.as_bytes(), "{text}");
     }
     Ok(())
+}
+
+#[test]
+fn gives_the_version_or_says_that_memory_ran_out(rt: HostRuntime) {
+    // also run with each allocation refused in turn
+    let text = "1:2.0~rc1-3".as_bytes();
+    match Version::parse(rt.alloc(), text) {
+        Ok(version) => assert_eq!(rt; version.text(), text),
+        Err(error) => assert_eq!(rt; error.code, MEMORY),
+    }
 }
 
 /// The code of a refusal.

@@ -8,7 +8,8 @@ use Rattle.deb_version.proofs.order.compare_digits.Given as goal
 
 abbrev pub invariant-loop-x : goal.invariant-loop-x
 invariant-loop-x l = record {
-  order : digits_cmp l.so_far (front is_digit l.xs) (front is_digit l.ys) ≡ nat_cmp (number_of (front is_digit l.a)) (number_of (front is_digit l.b));
+  order : digits_cmp l.so_far (front is_digit l.xs) (front is_digit l.ys)
+      ≡ nat_cmp (number_of (front is_digit l.a)) (number_of (front is_digit l.b));
   behind_a : behind is_digit l.xs ≡ behind is_digit l.a;
   behind_b : behind is_digit l.ys ≡ behind is_digit l.b;
 }
