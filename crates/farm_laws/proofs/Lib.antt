@@ -6,3 +6,7 @@ pub mod Boards
 pub mod Progress
 pub mod Slots
 pub mod MayMaps
+pub mod Safe
+pub mod Whole
+pub mod Budget
+pub mod LawsOfPlans
