@@ -22,20 +22,28 @@ pub or_assoc : (a b c : Bool) → ((a || b) || c) ≡ (a || (b || c))
 or_assoc true b c = refl
 or_assoc false b c = refl
 
-pub take_some : {X : Type 0} (xs : List X) (i : ℕ) (x : X) → slice_get xs i ≡ Some x → take (suc i) xs ≡ take i xs ++ x ∷ []
+pub take_some : {X : Type 0} (xs : List X) (i : ℕ) (x : X) → slice_get xs i ≡ Some x
+    → take (suc i) xs ≡ take i xs ++ x ∷ []
 take_some [] i x e = cc
 take_some (y ∷ ys) zero x e = let h : y ≡ x = cc in ap (λ z. z ∷ []) h
 take_some (y ∷ ys) (suc i) x e = ap (λ zs. y ∷ zs) (take_some ys i x e)
 
-pub list_any-take : {X : Type 0} (p : X → Bool) (i : ℕ) (xs : List X) → list_any p (take i xs) ≡ true → list_any p xs ≡ true
+pub list_any-take : {X : Type 0} (p : X → Bool) (i : ℕ) (xs : List X)
+    → list_any p (take i xs) ≡ true → list_any p xs ≡ true
 list_any-take p zero xs e = absurd (false≢true e)
 list_any-take p (suc i) [] e = e
 list_any-take p (suc i) (x ∷ xs) e =
-    elim (or_cases (p x) _ e) [ inl here ↦ or_left (p x) _ here | inr there ↦ or_right (p x) _ (list_any-take p i xs there) ]
+    elim (or_cases (p x) _ e) [
+      | inl here ↦ or_left (p x) _ here
+      | inr there ↦
+          or_right (p x) _ (list_any-take p i xs there)
+    ]
 
-pub list_any-some : {X : Type 0} (p : X → Bool) (xs : List X) (i : ℕ) (x : X) → slice_get xs i ≡ Some x → p x ≡ true → list_any p xs ≡ true
+pub list_any-some : {X : Type 0} (p : X → Bool) (xs : List X) (i : ℕ) (x : X)
+    → slice_get xs i ≡ Some x → p x ≡ true → list_any p xs ≡ true
 list_any-some p [] i x e h = cc
-list_any-some p (y ∷ ys) zero x e h = let s : y ≡ x = cc in or_left (p y) _ (subst (λ z. p z ≡ true) (sym s) h)
+list_any-some p (y ∷ ys) zero x e h = let s : y ≡ x = cc in
+    or_left (p y) _ (subst (λ z. p z ≡ true) (sym s) h)
 list_any-some p (y ∷ ys) (suc i) x e h = or_right (p y) _ (list_any-some p ys i x e h)
 
 pub same-true : (v w : Variant) → same v w ≡ true → v ≡ w
@@ -56,7 +64,8 @@ pub archive-push : (u : Universe) (published : List Publication) (l : ℕ) (v w 
 unfolding archive
 archive-push u published l v w =
     let test : Publication → Bool = λ q. same q.variant w in
-    ap (λ b. initial u w || b) (list_any-append test published (publication l v ∷ []) ∙ ap (λ b. list_any test published || b) (or-false (same v w)))
+    ap (λ b. initial u w || b) (list_any-append test published (publication l v ∷ [])
+    ∙ ap (λ b. list_any test published || b) (or-false (same v w)))
     ∙ sym (or_assoc (initial u w) _ (same v w))
 
 contains-take_nil : (n : ℕ) (v : Variant) → contains (take n []) v ≡ false
@@ -70,55 +79,82 @@ made_before u is done v = list_any (gives u v) (take done is)
 abbrev pub made_by : Universe → List Instruction → ℕ → ℕ → Variant → Bool
 made_by u is done made v = made_before u is done v || publishing u (slice_get is done) made v
 
-pub publishing-zero : (u : Universe) (o : Option Instruction) (v : Variant) → publishing u o 0 v ≡ false
+pub publishing-zero : (u : Universe) (o : Option Instruction) (v : Variant)
+    → publishing u o 0 v ≡ false
 publishing-zero u None v = refl
 publishing-zero u (Some x) v = refl
 
-pub made_by-zero : (u : Universe) (is : List Instruction) (done : ℕ) (v : Variant) → made_by u is done 0 v ≡ made_before u is done v
-made_by-zero u is done v = ap (λ b. made_before u is done v || b) (publishing-zero u (slice_get is done) v) ∙ or-false _
+pub made_by-zero : (u : Universe) (is : List Instruction) (done : ℕ) (v : Variant)
+    → made_by u is done 0 v ≡ made_before u is done v
+made_by-zero u is done v = ap (λ b. made_before u is done v || b)
+    (publishing-zero u (slice_get is done) v) ∙ or-false _
 
-made_before-suc : (u : Universe) (is : List Instruction) (done : ℕ) (x : Instruction) (v : Variant) → slice_get is done ≡ Some x → made_before u is (suc done) v ≡ (made_before u is done v || gives u v x)
+made_before-suc : (u : Universe) (is : List Instruction) (done : ℕ) (x : Instruction) (v : Variant)
+    → slice_get is done ≡ Some x → made_before u is (suc done) v
+    ≡ (made_before u is done v || gives u v x)
 unfolding made_before
 made_before-suc u is done x v e =
-    ap (list_any (gives u v)) (take_some is done x e) ∙ list_any-append (gives u v) (take done is) (x ∷ []) ∙ ap (λ b. list_any (gives u v) (take done is) || b) (or-false (gives u v x))
+    ap (list_any (gives u v)) (take_some is done x e)
+    ∙ list_any-append (gives u v) (take done is) (x ∷ [])
+    ∙ ap (λ b. list_any (gives u v) (take done is) || b) (or-false (gives u v x))
 
-outputs_of-quiet : (u : Universe) (there : Variant → Bool) (x : Instruction) → IsQuiet u there x → outputs_of u x ≡ []
+outputs_of-quiet : (u : Universe) (there : Variant → Bool) (x : Instruction) → IsQuiet u there x
+    → outputs_of u x ≡ []
 outputs_of-quiet u there (Publish r) q = absurd q
 outputs_of-quiet u there _ q = refl
 
-gives-quiet : (u : Universe) (there : Variant → Bool) (x : Instruction) (v : Variant) → IsQuiet u there x → gives u v x ≡ false
+gives-quiet : (u : Universe) (there : Variant → Bool) (x : Instruction) (v : Variant)
+    → IsQuiet u there x → gives u v x ≡ false
 gives-quiet u there x v q = ap (λ vs. contains vs v) (outputs_of-quiet u there x q)
 
-pub publishing-quiet : (u : Universe) (there : Variant → Bool) (x : Instruction) (made : ℕ) (v : Variant) → IsQuiet u there x → publishing u (Some x) made v ≡ false
-publishing-quiet u there x made v q = ap (λ vs. contains (take made vs) v) (outputs_of-quiet u there x q) ∙ contains-take_nil made v
+pub publishing-quiet : (u : Universe) (there : Variant → Bool) (x : Instruction) (made : ℕ)
+    (v : Variant) → IsQuiet u there x → publishing u (Some x) made v ≡ false
+publishing-quiet u there x made v q =
+    ap (λ vs. contains (take made vs) v) (outputs_of-quiet u there x q) ∙ contains-take_nil made v
 
 -- a quiet turn makes nothing
-pub made_goes : (u : Universe) (there : Variant → Bool) (is : List Instruction) (st next : LaneState) (v : Variant) → GoesOn u there st (slice_get is st.done) next → made_by u is next.done next.made v ≡ made_by u is st.done st.made v
+pub made_goes : (u : Universe) (there : Variant → Bool) (is : List Instruction)
+    (st next : LaneState) (v : Variant) → GoesOn u there st (slice_get is st.done) next
+    → made_by u is next.done next.made v ≡ made_by u is st.done st.made v
 made_goes u there is st next v g =
     rw (g.done, g.made)
     (made_by-zero u is (suc st.done) v
     ∙ made_before-suc u is st.done g.instruction v g.is
-    ∙ ap (λ b. made_before u is st.done v || b) (gives-quiet u there g.instruction v g.quiet ∙ sym (publishing-quiet u there g.instruction st.made v g.quiet) ∙ ap (λ o. publishing u o st.made v) (sym g.is)))
+    ∙ ap (λ b. made_before u is st.done v || b)
+    (gives-quiet u there g.instruction v g.quiet
+    ∙ sym (publishing-quiet u there g.instruction st.made v g.quiet)
+    ∙ ap (λ o. publishing u o st.made v) (sym g.is)))
 
-pub contains-more : (vs : List Variant) (i : ℕ) (v w : Variant) → slice_get vs i ≡ Some v → contains (take (suc i) vs) w ≡ (contains (take i vs) w || same v w)
+pub contains-more : (vs : List Variant) (i : ℕ) (v w : Variant) → slice_get vs i ≡ Some v
+    → contains (take (suc i) vs) w ≡ (contains (take i vs) w || same v w)
 contains-more vs i v w e =
-    ap (λ xs. contains xs w) (take_some vs i v e) ∙ list_any-append (λ x. same x w) (take i vs) (v ∷ []) ∙ ap (λ b. contains (take i vs) w || b) (or-false (same v w))
+    ap (λ xs. contains xs w) (take_some vs i v e)
+    ∙ list_any-append (λ x. same x w) (take i vs) (v ∷ [])
+    ∙ ap (λ b. contains (take i vs) w || b) (or-false (same v w))
 
 -- an output adds itself
-pub made_gives : (u : Universe) (is : List Instruction) (st next : LaneState) (v w : Variant) → GivesOne u st (slice_get is st.done) next v → made_by u is next.done next.made w ≡ (made_by u is st.done st.made w || same v w)
+pub made_gives : (u : Universe) (is : List Instruction) (st next : LaneState) (v w : Variant)
+    → GivesOne u st (slice_get is st.done) next v
+    → made_by u is next.done next.made w ≡ (made_by u is st.done st.made w || same v w)
 made_gives u is st next v w g =
     let outs = outputs u g.recipe in
-    let now : publishing u (slice_get is st.done) st.made w ≡ contains (take st.made outs) w = ap (λ o. publishing u o st.made w) g.is in
-    let before : ((made_before u is st.done w || contains (take st.made outs) w) || same v w) ≡ (made_by u is st.done st.made w || same v w) = ap (λ b. (made_before u is st.done w || b) || same v w) (sym now) in
+    let now : publishing u (slice_get is st.done) st.made w ≡ contains (take st.made outs) w =
+    ap (λ o. publishing u o st.made w) g.is in
+    let before : ((made_before u is st.done w || contains (take st.made outs) w) || same v w)
+    ≡ (made_by u is st.done st.made w || same v w) =
+    ap (λ b. (made_before u is st.done w || b) || same v w) (sym now) in
     elim g.place [
       | inl m ↦ rw (m.1, m.2)
           (ap (λ o. made_before u is st.done w || publishing u o (suc st.made) w) g.is
           ∙ ap (λ b. made_before u is st.done w || b) (contains-more outs st.made v w g.output)
-          ∙ sym (or_assoc (made_before u is st.done w) (contains (take st.made outs) w) (same v w)) ∙ before)
+          ∙ sym (or_assoc (made_before u is st.done w) (contains (take st.made outs) w) (same v w))
+          ∙ before)
       | inr m ↦ rw (m.1, m.2)
           (made_by-zero u is (suc st.done) w
           ∙ made_before-suc u is st.done (Publish g.recipe) w g.is
-          ∙ ap (λ xs. made_before u is st.done w || contains xs w) (sym (take_all (suc st.made) outs m.0))
+          ∙ ap (λ xs. made_before u is st.done w || contains xs w)
+          (sym (take_all (suc st.made) outs m.0))
           ∙ ap (λ b. made_before u is st.done w || b) (contains-more outs st.made v w g.output)
-          ∙ sym (or_assoc (made_before u is st.done w) (contains (take st.made outs) w) (same v w)) ∙ before)
+          ∙ sym (or_assoc (made_before u is st.done w) (contains (take st.made outs) w) (same v w))
+          ∙ before)
     ]

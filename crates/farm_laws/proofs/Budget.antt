@@ -22,19 +22,29 @@ use Rattle.plan_asm.specs.Safety.{IsSafeUnder}
 use Rattle.farm_laws.proofs.Safe.{Agrees, place_paid}
 use Rattle.farm_laws.proofs.Whole.{safe_at, Holds, holds_step, never_trapped}
 
-within_first : (limit n : ℕ) (x : Trap) (rest : List (Bool × Trap)) → first_trap ((nat_lt limit n, x) ∷ rest) ≡ None → n ≤ limit
+within_first : (limit n : ℕ) (x : Trap) (rest : List (Bool × Trap))
+    → first_trap ((nat_lt limit n, x) ∷ rest) ≡ None → n ≤ limit
 unfolding first_trap
 within_first limit n x rest e =
-    ltb-false limit n (false_from_ne_true (nat_lt limit n) (λ over. none-some x (sym e ∙ cond-true (nat_lt limit n) (Some x) (first_trap rest) over)))
+    ltb-false limit n (false_from_ne_true (nat_lt limit n)
+    (λ over. none-some x (sym e ∙ cond-true (nat_lt limit n) (Some x) (first_trap rest) over)))
 
-cost_unpack : (u : Universe) (there : Variant → Bool) (of : Lane) (m : May) (name : ℕ) (wanted : Option (Op × List ℕ)) (o : Option ℕ) → m.cost ≤ of.budget → unpack_risk u there of m name wanted o ≡ None → (may_unpack u there m name wanted o).cost ≤ of.budget
+cost_unpack : (u : Universe) (there : Variant → Bool) (of : Lane) (m : May) (name : ℕ)
+    (wanted : Option (Op × List ℕ)) (o : Option ℕ) → m.cost ≤ of.budget
+    → unpack_risk u there of m name wanted o ≡ None
+    → (may_unpack u there m name wanted o).cost ≤ of.budget
 cost_unpack u there of m name wanted None low e = low
 cost_unpack u there of m name wanted (Some h) low e = within_first _ _ _ _ e
 
 -- safe rows: what a lane may spend is within its budget
-cost_after : (u : Universe) (p : Plan) (rows : Rows) (l i : ℕ) (x : Instruction) → (may_at u p rows l i).cost ≤ (lane p l).budget
-    → risk u (lane p l) (rows l i) (possible u p l i) (may_at u p rows l i) x ≡ None → (may_after u (rows l i) (possible u p l i) (may_at u p rows l i) x).cost ≤ (lane p l).budget
-cost_after u p rows l i (Unpack name wanted) low safe = cost_unpack u (possible u p l i) (lane p l) (may_at u p rows l i) name wanted (newest u (rows l i) name wanted) low safe
+cost_after : (u : Universe) (p : Plan) (rows : Rows) (l i : ℕ) (x : Instruction)
+    → (may_at u p rows l i).cost ≤ (lane p l).budget
+    → risk u (lane p l) (rows l i) (possible u p l i) (may_at u p rows l i) x ≡ None
+    → (may_after u (rows l i) (possible u p l i) (may_at u p rows l i) x).cost
+    ≤ (lane p l).budget
+cost_after u p rows l i (Unpack name wanted) low safe =
+    cost_unpack u (possible u p l i) (lane p l) (may_at u p rows l i) name wanted
+    (newest u (rows l i) name wanted) low safe
 cost_after u p rows l i (Configure members) low safe = within_first _ _ _ _ safe
 cost_after u p rows l i (Deconfigure members) low safe = within_first _ _ _ _ safe
 cost_after u p rows l i (Remove members) low safe = within_first _ _ _ _ safe
@@ -42,21 +52,30 @@ cost_after u p rows l i (Build r) low safe = within_first _ _ _ _ safe
 cost_after u p rows l i (Publish r) low safe = within_first _ _ _ _ safe
 cost_after u p rows l i (Wait entry) low safe = low
 
-pub cost_within : (u : Universe) (p : Plan) (rows : Rows) → IsSafeUnder u p rows → (l i : ℕ) → l < length p → (may_at u p rows l i).cost ≤ (lane p l).budget
+pub cost_within : (u : Universe) (p : Plan) (rows : Rows) → IsSafeUnder u p rows → (l i : ℕ)
+    → l < length p → (may_at u p rows l i).cost ≤ (lane p l).budget
 cost_within u p rows safe l zero h = omega arith
-cost_within u p rows safe l (suc i) h = by (instruction_at p l i) refl (cost_within u p rows safe l i h)
+cost_within u p rows safe l (suc i) h =
+    by (instruction_at p l i) refl (cost_within u p rows safe l i h)
   where
-    by : (o : Option Instruction) → instruction_at p l i ≡ o → (may_at u p rows l i).cost ≤ (lane p l).budget → (may_after_some u (rows l i) (possible u p l i) (may_at u p rows l i) (instruction_at p l i)).cost ≤ (lane p l).budget
+    by : (o : Option Instruction) → instruction_at p l i ≡ o
+        → (may_at u p rows l i).cost ≤ (lane p l).budget
+        → (may_after_some u (rows l i) (possible u p l i) (may_at u p rows l i)
+        (instruction_at p l i)).cost ≤ (lane p l).budget
     by None e low = rw e low
     by (Some x) e low = rw e (cost_after u p rows l i x low (safe_at u p rows safe l i x h e))
 
 -- a schedule of an annotated plan meets no trap
-module _ (u : Universe) (p : Plan) (rows : Rows) (sound : IsSound u p) (keeps : KeepsRows u p rows) (safe : IsSafeUnder u p rows) where
-  pub play_safe : (schedule : List ℕ) (k : ℕ) (s : State) → Holds u p rows sound keeps safe s → (play u p k s schedule).stop ≡ None
+module _ (u : Universe) (p : Plan) (rows : Rows) (sound : IsSound u p) (keeps : KeepsRows u p rows)
+    (safe : IsSafeUnder u p rows) where
+  pub play_safe : (schedule : List ℕ) (k : ℕ) (s : State) → Holds u p rows sound keeps safe s
+      → (play u p k s schedule).stop ≡ None
   play_safe [] k s h = refl
   play_safe (l ∷ schedule) k s h = by (step u p s l) refl (λ m g. play_safe schedule (suc k) m g)
     where
-      by : (o : Outcome) → step u p s l ≡ o → ((m : State) → Holds u p rows sound keeps safe m → (play u p (suc k) m schedule).stop ≡ None)
+      by : (o : Outcome) → step u p s l ≡ o
+          → ((m : State) → Holds u p rows sound keeps safe m
+          → (play u p (suc k) m schedule).stop ≡ None)
           → (play_on k s l (step u p s l) (λ m. play u p (suc k) m schedule)).stop ≡ None
       by (Moved m) e ih = rw e (ih m (holds_step u p rows sound keeps safe s m l h e))
       by Blocked e ih = rw e (ih s h)
@@ -65,7 +84,8 @@ module _ (u : Universe) (p : Plan) (rows : Rows) (sound : IsSound u p) (keeps : 
       by (Trapped t) e ih = absurd (never_trapped u p rows sound keeps safe s h l t e)
 
 -- what a lane may spend only grows, up to its end
-cost_grows : (u : Universe) (known there : Variant → Bool) (m : May) (x : Instruction) → m.cost ≤ (may_after u known there m x).cost
+cost_grows : (u : Universe) (known there : Variant → Bool) (m : May) (x : Instruction)
+    → m.cost ≤ (may_after u known there m x).cost
 cost_grows u known there m (Unpack name wanted) = by (newest u known name wanted)
   where
     by : (o : Option ℕ) → m.cost ≤ (may_unpack u there m name wanted o).cost
@@ -80,7 +100,8 @@ module _ (u : Universe) (p : Plan) (rows : Rows) (l : ℕ) where
   cost_next : (i : ℕ) → cost_at i ≤ cost_at (suc i)
   cost_next i = by (instruction_at p l i)
     where
-      by : (o : Option Instruction) → (may_at u p rows l i).cost ≤ (may_after_some u (rows l i) (possible u p l i) (may_at u p rows l i) o).cost
+      by : (o : Option Instruction) → (may_at u p rows l i).cost
+          ≤ (may_after_some u (rows l i) (possible u p l i) (may_at u p rows l i) o).cost
       by None = omega arith
       by (Some x) = cost_grows u (rows l i) (possible u p l i) (may_at u p rows l i) x
 
@@ -93,13 +114,21 @@ module _ (u : Universe) (p : Plan) (rows : Rows) (l : ℕ) where
       ]
 
   cost_past : (i : ℕ) → length (lane p l).instructions ≤ i → cost_at (suc i) ≡ cost_at i
-  cost_past i h = ap (λ o. (may_after_some u (rows l i) (possible u p l i) (may_at u p rows l i) o).cost) (slice_get_past (lane p l).instructions i h)
+  cost_past i h = ap (λ o. (may_after_some u (rows l i) (possible u p l i)
+      (may_at u p rows l i) o).cost) (slice_get_past (lane p l).instructions i h)
 
   pub cost_end : (i : ℕ) → cost_at i ≤ cost_at (length (lane p l).instructions)
   cost_end zero = cost_up zero (length (lane p l).instructions) (omega arith)
   cost_end (suc i) =
-      elim (cases_lt i (length (lane p l).instructions)) [ inl lt ↦ cost_up (suc i) (length (lane p l).instructions) (omega arith) | inr ge ↦ omega (arith, cost_past i ge, cost_end i) ]
+      elim (cases_lt i (length (lane p l).instructions)) [
+        | inl lt ↦
+            cost_up (suc i) (length (lane p l).instructions) (omega arith)
+        | inr ge ↦
+            omega (arith, cost_past i ge, cost_end i)
+      ]
 
 -- a lane has spent at most the map's cost at its end
-pub spent_within : (u : Universe) (p : Plan) (rows : Rows) (l : ℕ) (st : LaneState) → Agrees u p rows l st → st.spent ≤ (may_at u p rows l (length (lane p l).instructions)).cost
-spent_within u p rows l st a = omega (arith, a.spent, cost_end u p rows l (place_paid st.done st.made))
+pub spent_within : (u : Universe) (p : Plan) (rows : Rows) (l : ℕ) (st : LaneState)
+    → Agrees u p rows l st → st.spent ≤ (may_at u p rows l (length (lane p l).instructions)).cost
+spent_within u p rows l st a =
+    omega (arith, a.spent, cost_end u p rows l (place_paid st.done st.made))

@@ -31,41 +31,55 @@ use Rattle.farm_laws.proofs.Archive.{publishing-zero}
 use Rattle.farm_laws.proofs.KnownRows.{ArchiveHolds, possible_at_zero, archive_stays, archive_at_start}
 use Rattle.farm_laws.proofs.Safe.{variants_name, Agrees, AgreesAfter, turn_agrees}
 
-find_some : {X : Type 0} (p : X → Bool) (P : X → Type 0) (xs : List X) (x : X) → All P xs → find p xs ≡ Some x → (p x ≡ true) × P x
+find_some : {X : Type 0} (p : X → Bool) (P : X → Type 0) (xs : List X) (x : X) → All P xs
+    → find p xs ≡ Some x → (p x ≡ true) × P x
 find_some p P [] x all e = absurd (none-some x e)
 find_some p P (y ∷ ys) x all e =
     elim (cases_Bool (p y)) [
-      | inl here ↦ let same : y ≡ x = same_Some y x (sym (cond-true (p y) (Some y) (find p ys) here) ∙ e) in
+      | inl here ↦ let same : y ≡ x =
+          same_Some y x (sym (cond-true (p y) (Some y) (find p ys) here) ∙ e) in
           (subst (λ z. p z ≡ true) same here, subst P same (All-head P y ys all))
-      | inr other ↦ find_some p P ys x (All-tail P y ys all) (sym (cond-false (p y) (Some y) (find p ys) other) ∙ e)
+      | inr other ↦ find_some p P ys x (All-tail P y ys all)
+          (sym (cond-false (p y) (Some y) (find p ys) other) ∙ e)
     ]
 
-pub safe_at : (u : Universe) (p : Plan) (rows : Rows) → IsSafeUnder u p rows → (l i : ℕ) (x : Instruction) → l < length p → instruction_at p l i ≡ Some x → risk u (lane p l) (rows l i) (possible u p l i) (may_at u p rows l i) x ≡ None
+pub safe_at : (u : Universe) (p : Plan) (rows : Rows) → IsSafeUnder u p rows
+    → (l i : ℕ) (x : Instruction) → l < length p → instruction_at p l i ≡ Some x
+    → risk u (lane p l) (rows l i) (possible u p l i) (may_at u p rows l i) x ≡ None
 unfolding risk_at
 safe_at u p rows safe l i x h e = ap (risk_of u p rows l i) (sym e) ∙ safe l i h
 
-module _ (u : Universe) (p : Plan) (rows : Rows) (sound : IsSound u p) (keeps : KeepsRows u p rows) (safe : IsSafeUnder u p rows) where
+module _ (u : Universe) (p : Plan) (rows : Rows) (sound : IsSound u p) (keeps : KeepsRows u p rows)
+    (safe : IsSafeUnder u p rows) where
   -- what holds of each reachable state
   pub record Holds (s : State) : Type 0 where
     pub archive_holds : ArchiveHolds u p rows keeps s
     pub agrees : (l : ℕ) → l < length p → Agrees u p rows l (lane_state s l)
 
-  pub state_agrees : (s : State) (l : ℕ) → l < length p → Holds s → AgreesAfter u p rows l (turn_at u p s l)
+  pub state_agrees : (s : State) (l : ℕ) → l < length p → Holds s
+      → AgreesAfter u p rows l (turn_at u p s l)
   unfolding turn_at
   state_agrees s l h hs = by_instruction (instruction_at p l (lane_state s l).done) refl
     where
-      by_instruction : (o : Option Instruction) → instruction_at p l (lane_state s l).done ≡ o → AgreesAfter u p rows l (turn_of u (archive u s.published) (lane p l) (lane_state s l) (instruction_at p l (lane_state s l).done))
+      by_instruction : (o : Option Instruction) → instruction_at p l (lane_state s l).done ≡ o
+          → AgreesAfter u p rows l (turn_of u (archive u s.published) (lane p l) (lane_state s l)
+          (instruction_at p l (lane_state s l).done))
       by_instruction None e = rw e tt
       by_instruction (Some x) e =
           rw e
-          (turn_agrees u p rows l (lane_state s l) (archive u s.published) (hs.agrees l h) x e (rw e at (hs.archive_holds.places.each l h))
+          (turn_agrees u p rows l (lane_state s l) (archive u s.published) (hs.agrees l h) x e
+          (rw e at (hs.archive_holds.places.each l h))
           (λ v k. hs.archive_holds.rows_there.known l v h k)
-          (λ z v k. possible_at_zero u p rows keeps s l v h hs.archive_holds.archive_is (λ w. rw z (publishing-zero u _ w)) k)
+          (λ z v k. possible_at_zero u p rows keeps s l v h hs.archive_holds.archive_is
+          (λ w. rw z (publishing-zero u _ w)) k)
           (safe_at u p rows safe l (lane_state s l).done x h e))
 
-  agrees_put : (s : State) (l : ℕ) (m : Turn) → l < length p → Holds s → AgreesAfter u p rows l m → After (λ t. (k : ℕ) → k < length p → Agrees u p rows k (lane_state t k)) s l m
-  agrees_put s l (Goes next) h hs a = put_each p (Agrees u p rows) s l next hs.archive_holds.places.long h hs.agrees a
-  agrees_put s l (Gives next v) h hs a = put_each p (Agrees u p rows) s l next hs.archive_holds.places.long h hs.agrees a
+  agrees_put : (s : State) (l : ℕ) (m : Turn) → l < length p → Holds s → AgreesAfter u p rows l m
+      → After (λ t. (k : ℕ) → k < length p → Agrees u p rows k (lane_state t k)) s l m
+  agrees_put s l (Goes next) h hs a =
+      put_each p (Agrees u p rows) s l next hs.archive_holds.places.long h hs.agrees a
+  agrees_put s l (Gives next v) h hs a =
+      put_each p (Agrees u p rows) s l next hs.archive_holds.places.long h hs.agrees a
   agrees_put s l Waits h hs a = tt
   agrees_put s l Ends h hs a = tt
   agrees_put s l (Fails t) h hs a = tt
@@ -74,32 +88,44 @@ module _ (u : Universe) (p : Plan) (rows : Rows) (sound : IsSound u p) (keeps : 
   holds_step s t l hs e =
       record {
         archive_holds = archive_stays u p rows keeps sound s t l hs.archive_holds e;
-        agrees = step_keeps u p (λ t. (k : ℕ) → k < length p → Agrees u p rows k (lane_state t k)) s t l e (λ h. agrees_put s l (turn_at u p s l) h hs (state_agrees s l h hs));
+        agrees = step_keeps u p (λ t. (k : ℕ) → k < length p
+            → Agrees u p rows k (lane_state t k)) s t l e
+            (λ h. agrees_put s l (turn_at u p s l) h hs (state_agrees s l h hs));
       }
 
   -- what is found among the packages of a lane's base is a known variant of the name
-  in_base : (l n : ℕ) (v : Variant) → find (λ v. v.name == n) (base u (lane p l).base).packages ≡ Some v → v.bit < variants u n
+  in_base : (l n : ℕ) (v : Variant)
+      → find (λ v. v.name == n) (base u (lane p l).base).packages ≡ Some v → v.bit < variants u n
   in_base l n v e =
-      let r = find_some (λ v. v.name == n) (λ v. v.bit < variants u v.name) (base u (lane p l).base).packages v (sound.universe.bases_known (lane p l).base) e in
+      let r = find_some (λ v. v.name == n) (λ v. v.bit < variants u v.name)
+      (base u (lane p l).base).packages v (sound.universe.bases_known (lane p l).base) e in
       subst (λ k. v.bit < variants u k) (eqb-true v.name n r.0) r.1
 
-  base_allows : (l n : ℕ) (o : Option Variant) → find (λ v. v.name == n) (base u (lane p l).base).packages ≡ o → Allows (variants u n) (may_base_slot o) (base_slot o)
+  base_allows : (l n : ℕ) (o : Option Variant)
+      → find (λ v. v.name == n) (base u (lane p l).base).packages ≡ o
+      → Allows (variants u n) (may_base_slot o) (base_slot o)
   base_allows l n None e = allows_absent
   base_allows l n (Some v) e = allows_configured (in_base l n v e) (eq-eqb v.bit v.bit refl)
 
-  base_past : (l n : ℕ) → names u ≤ n → (o : Option Variant) → find (λ v. v.name == n) (base u (lane p l).base).packages ≡ o → Allows (variants u n) (may_base_slot o) Absent
+  base_past : (l n : ℕ) → names u ≤ n → (o : Option Variant)
+      → find (λ v. v.name == n) (base u (lane p l).base).packages ≡ o
+      → Allows (variants u n) (may_base_slot o) Absent
   base_past l n ge None e = allows_absent
-  base_past l n ge (Some v) e = let lt = variants_name u n v.bit (in_base l n v e) in absurd (omega (arith, lt))
+  base_past l n ge (Some v) e = let lt = variants_name u n v.bit (in_base l n v e) in
+      absurd (omega (arith, lt))
 
   base_agrees : (l : ℕ) → AllowsAll u (may_base u (lane p l)) (base_chroot u (lane p l).base)
   unfolding base_chroot
   base_agrees l =
-      let at : ℕ → Slot = λ k. base_slot (find (λ (v : Variant). v.name == k) (base u (lane p l).base).packages) in
+      let at : ℕ → Slot = λ k. base_slot
+      (find (λ (v : Variant). v.name == k) (base u (lane p l).base).packages) in
       record {
         long = length-map-range_with_len _ 0 (names u);
         each = λ n. elim (cases_lt n (names u)) [
-          | inl lt ↦ rw (get_or-map-range_with_len at 0 (names u) n n Absent lt (zero-add n)) (base_allows l n _ refl)
-          | inr ge ↦ let off : slot (base_chroot u (lane p l).base) n ≡ Absent = get_or_past _ n Absent (omega (arith, length-map-range_with_len at 0 (names u))) in
+          | inl lt ↦ rw (get_or-map-range_with_len at 0 (names u) n n Absent lt (zero-add n))
+              (base_allows l n _ refl)
+          | inr ge ↦ let off : slot (base_chroot u (lane p l).base) n ≡ Absent =
+              get_or_past _ n Absent (omega (arith, length-map-range_with_len at 0 (names u))) in
               rw off (base_past l n ge _ refl)
         ];
       }
@@ -108,13 +134,16 @@ module _ (u : Universe) (p : Plan) (rows : Rows) (sound : IsSound u p) (keeps : 
   holds_at_start =
       record {
         archive_holds = archive_at_start u p rows keeps sound;
-        agrees = λ l h. rw (state_at_start u p sound l h) (record { allows = base_agrees l; spent = omega arith; built = refl });
+        agrees = λ l h. rw (state_at_start u p sound l h)
+            (record { allows = base_agrees l; spent = omega arith; built = refl });
       }
 
   pub holds_after : (ls : List ℕ) (s : State) → Run u p (start u p) ls s → Holds s
-  holds_after ls s r = run_keeps u p Holds (λ s t l hs e. holds_step s t l hs e) ls (start u p) s r holds_at_start
+  holds_after ls s r = run_keeps u p Holds (λ s t l hs e. holds_step s t l hs e) ls
+      (start u p) s r holds_at_start
 
-  fails : (s : State) (l : ℕ) (t : Trap) (m : Turn) → AgreesAfter u p rows l m → outcome s l m ≡ Trapped t → ⊥
+  fails : (s : State) (l : ℕ) (t : Trap) (m : Turn) → AgreesAfter u p rows l m
+      → outcome s l m ≡ Trapped t → ⊥
   fails s l t (Goes next) a e = cc
   fails s l t (Gives next v) a e = cc
   fails s l t Waits a e = cc
@@ -125,8 +154,11 @@ module _ (u : Universe) (p : Plan) (rows : Rows) (sound : IsSound u p) (keeps : 
   unfolding step turn_at
   never_trapped s hs l t e =
       elim (cases_lt l (length p)) [
-        | inl lt ↦ fails s l t (turn_at u p s l) (state_agrees s l lt hs) (sym (cond-true (nat_lt l (length p)) _ Unknown (lt-ltb l (length p) lt)) ∙ e)
-        | inr ge ↦ let c : Unknown ≡ Trapped t = sym (cond-false (nat_lt l (length p)) (outcome s l (turn_at u p s l)) Unknown (le-ltb l (length p) ge)) ∙ e in absurd (unknown t c)
+        | inl lt ↦ fails s l t (turn_at u p s l) (state_agrees s l lt hs)
+            (sym (cond-true (nat_lt l (length p)) _ Unknown (lt-ltb l (length p) lt)) ∙ e)
+        | inr ge ↦ let c : Unknown ≡ Trapped t =
+            sym (cond-false (nat_lt l (length p)) (outcome s l (turn_at u p s l)) Unknown
+            (le-ltb l (length p) ge)) ∙ e in absurd (unknown t c)
       ]
     where
       unknown : (t : Trap) → Unknown ≡ Trapped t → ⊥
