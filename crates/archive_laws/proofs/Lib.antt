@@ -1,0 +1,6 @@
+pub mod Words
+pub mod Turns
+pub mod Settles
+pub mod Recorded
+pub mod Foreseen
+pub mod OneWord

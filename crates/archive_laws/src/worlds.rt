@@ -1,0 +1,39 @@
+//! Laws of the worlds that are reached.
+
+ghost use Rattle.archive_laws.specs.Loads.{EachWordDecides};
+ghost use Rattle.archive_laws.specs.Shown.{StartIsReached, EachLaneSteps, WordsAreRecorded, WorldsAreForeseen, WorldsAreReady};
+
+/// The initial archive and the lanes at their beginnings show the start.
+pub fn start_is_reached()
+    ensures { StartIsReached }
+{}
+
+/// From a world that shows a reachable state, one lane's local instructions and then its archive step
+/// lead to a world that shows a reachable state, in which the other lanes' records are unchanged.
+pub fn one_archive_step()
+    ensures { EachLaneSteps }
+{}
+
+/// An unpack looks at the word of its name alone, and a wait passes on any one word.
+pub fn each_word_decides()
+    ensures { EachWordDecides }
+{}
+
+/// The words of a world that shows a reachable state are the initial archive and the outputs that the
+/// lanes' records stand for.
+pub fn words_are_recorded()
+    ensures { WordsAreRecorded }
+{}
+
+/// In a world that shows a reachable state of an annotated plan, the words have what each lane knows
+/// and the facts of what is in them, and nothing but what may be there; each chroot is one that its
+/// may map allows, and no lane has spent more than its cost.
+pub fn worlds_are_foreseen()
+    ensures { WorldsAreForeseen }
+{}
+
+/// In such a world the local instructions of a lane lead to its next archive step or to its end, and
+/// that step meets no trap.
+pub fn worlds_are_ready()
+    ensures { WorldsAreReady }
+{}
