@@ -1,5 +1,6 @@
 pub mod FirstOne
 pub mod AtRest
+pub mod ToRest
 pub mod Unions
 pub mod Quiet
 pub mod Inclusions

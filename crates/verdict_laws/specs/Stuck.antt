@@ -46,3 +46,14 @@ EachRestIsExact = (u : Universe) (p : Plan) (order : List ℕ) (end : Board) →
 -- each board has its list of lanes left
 abbrev pub LanesLeftAreLeft : Type 0
 LanesLeftAreLeft = (b : Board) → AreLeft b (lanes_left b)
+
+-- some list of waits and outputs leads to a board at rest
+pub record ComesToRest (u : Universe) (b : Board) : Type 0 where
+  pub order : List ℕ
+  pub end : Board
+  pub way : Reaches u b order end
+  pub at_rest : IsAtRest u end
+
+-- so each plan has an order, or stuck lanes
+abbrev pub PlansComeToRest : Type 0
+PlansComeToRest = (u : Universe) (p : Plan) → ComesToRest u (start_board u p)

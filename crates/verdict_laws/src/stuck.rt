@@ -1,6 +1,11 @@
 //! Laws of stuck lanes.
 
-ghost use Rattle.verdict_laws.specs.Stuck.{EachRestIsExact, LanesLeftAreLeft};
+ghost use Rattle.verdict_laws.specs.Stuck.{PlansComeToRest, EachRestIsExact, LanesLeftAreLeft};
+
+/// Some list of waits and outputs leads each plan to a board on which nothing more goes.
+pub fn plans_come_to_rest()
+    ensures { PlansComeToRest }
+{}
 
 /// A board on which nothing more goes, and to which some list of waits and outputs leads, leaves
 /// exactly the lanes that no list brings past their last wait or output. Where it leaves none, the
