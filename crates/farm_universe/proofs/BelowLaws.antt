@@ -12,7 +12,8 @@ some_below-at (suc n) p k h e =
       | inr other ↦ or_right (p n) _ (some_below-at n p k (omega arith) e)
     ]
 
-pub some_below-found : (n : ℕ) (p : ℕ → Bool) → some_below n p ≡ true → (k : ℕ) × (k < n) × (p k ≡ true)
+pub some_below-found : (n : ℕ) (p : ℕ → Bool) → some_below n p ≡ true
+    → (k : ℕ) × (k < n) × (p k ≡ true)
 some_below-found zero p e = absurd (false≢true e)
 some_below-found (suc n) p e =
     elim (or_cases (p n) _ e) [
@@ -20,18 +21,24 @@ some_below-found (suc n) p e =
       | inr there ↦ let r = some_below-found n p there in (r.0, omega (arith, r.1), r.2)
     ]
 
-pub some_below-mono : (n : ℕ) (p q : ℕ → Bool) → ((k : ℕ) → k < n → p k ≡ true → q k ≡ true) → some_below n p ≡ true → some_below n q ≡ true
-some_below-mono n p q h e = let r = some_below-found n p e in some_below-at n q r.0 r.1 (h r.0 r.1 r.2)
+pub some_below-mono : (n : ℕ) (p q : ℕ → Bool) → ((k : ℕ) → k < n → p k ≡ true → q k ≡ true)
+    → some_below n p ≡ true → some_below n q ≡ true
+some_below-mono n p q h e = let r = some_below-found n p e in
+    some_below-at n q r.0 r.1 (h r.0 r.1 r.2)
 
-pub some_below-same : (n : ℕ) (p q : ℕ → Bool) → ((k : ℕ) → k < n → p k ≡ q k) → some_below n p ≡ some_below n q
+pub some_below-same : (n : ℕ) (p q : ℕ → Bool) → ((k : ℕ) → k < n → p k ≡ q k)
+    → some_below n p ≡ some_below n q
 some_below-same zero p q h = refl
-some_below-same (suc n) p q h = let now = h n (omega arith) in let rest = some_below-same n p q (λ k l. h k (omega arith)) in cc
+some_below-same (suc n) p q h = let now = h n (omega arith) in
+    let rest = some_below-same n p q (λ k l. h k (omega arith)) in cc
 
 -- for a loop that counts up
-pub some_below-more : (n : ℕ) (p : ℕ → Bool) → some_below n p ≡ false → p n ≡ false → some_below (n + 1) p ≡ false
+pub some_below-more : (n : ℕ) (p : ℕ → Bool) → some_below n p ≡ false → p n ≡ false
+    → some_below (n + 1) p ≡ false
 some_below-more n p h e = rw (add-one, e) h
 
-pub some_below-all : (n k : ℕ) (p : ℕ → Bool) → some_below n p ≡ false → n ≡ k → false ≡ some_below k p
+pub some_below-all : (n k : ℕ) (p : ℕ → Bool) → some_below n p ≡ false → n ≡ k
+    → false ≡ some_below k p
 some_below-all n k p h e = sym h ∙ ap (λ m. some_below m p) e
 
 pub every_below-at : (n : ℕ) (p : ℕ → Bool) (k : ℕ) → k < n → every_below n p ≡ true → p k ≡ true
@@ -43,12 +50,15 @@ every_below-at (suc n) p k h e =
       | inr other ↦ every_below-at n p k (omega arith) parts.1
     ]
 
-pub every_below-all : (n : ℕ) (p : ℕ → Bool) → ((k : ℕ) → k < n → p k ≡ true) → every_below n p ≡ true
+pub every_below-all : (n : ℕ) (p : ℕ → Bool) → ((k : ℕ) → k < n → p k ≡ true)
+    → every_below n p ≡ true
 every_below-all zero p h = refl
-every_below-all (suc n) p h = and_from _ _ (h n (omega arith)) (every_below-all n p (λ k lt. h k (omega arith)))
+every_below-all (suc n) p h = and_from _ _ (h n (omega arith))
+    (every_below-all n p (λ k lt. h k (omega arith)))
 
 -- where not each number passes, some number does not
-pub every_below-fails : (n : ℕ) (p : ℕ → Bool) → every_below n p ≡ false → (k : ℕ) × (k < n) × (p k ≡ false)
+pub every_below-fails : (n : ℕ) (p : ℕ → Bool) → every_below n p ≡ false
+    → (k : ℕ) × (k < n) × (p k ≡ false)
 every_below-fails zero p e = absurd (false≢true (sym e))
 every_below-fails (suc n) p e =
     elim (cases_Bool (p n)) [
@@ -56,29 +66,37 @@ every_below-fails (suc n) p e =
       | inr fails ↦ (n, omega arith, fails)
     ]
 
-pub sum_below-mono : (n : ℕ) (f g : ℕ → ℕ) → ((k : ℕ) → k < n → f k ≤ g k) → sum_below n f ≤ sum_below n g
+pub sum_below-mono : (n : ℕ) (f g : ℕ → ℕ) → ((k : ℕ) → k < n → f k ≤ g k)
+    → sum_below n f ≤ sum_below n g
 sum_below-mono zero f g h = omega arith
-sum_below-mono (suc n) f g h = omega (arith, h n (omega arith), sum_below-mono n f g (λ k l. h k (omega arith)))
+sum_below-mono (suc n) f g h =
+    omega (arith, h n (omega arith), sum_below-mono n f g (λ k l. h k (omega arith)))
 
-pub sum_below-same : (n : ℕ) (f g : ℕ → ℕ) → ((k : ℕ) → k < n → f k ≡ g k) → sum_below n f ≡ sum_below n g
+pub sum_below-same : (n : ℕ) (f g : ℕ → ℕ) → ((k : ℕ) → k < n → f k ≡ g k)
+    → sum_below n f ≡ sum_below n g
 sum_below-same zero f g h = refl
-sum_below-same (suc n) f g h = omega (arith, h n (omega arith), sum_below-same n f g (λ k l. h k (omega arith)))
+sum_below-same (suc n) f g h =
+    omega (arith, h n (omega arith), sum_below-same n f g (λ k l. h k (omega arith)))
 
 -- two sums that differ at one place
-pub sum_below-change : (n l : ℕ) (f g : ℕ → ℕ) → l < n → ((k : ℕ) → k < n → (k ≡ l → ⊥) → f k ≡ g k) → sum_below n f + g l ≡ sum_below n g + f l
+pub sum_below-change : (n l : ℕ) (f g : ℕ → ℕ) → l < n → ((k : ℕ) → k < n → (k ≡ l → ⊥) → f k ≡ g k)
+    → sum_below n f + g l ≡ sum_below n g + f l
 sum_below-change zero l f g h same = absurd (omega arith)
 sum_below-change (suc n) l f g h same =
     elim (cases_eq l n) [
-      | inl here ↦ let rest : sum_below n f ≡ sum_below n g = sum_below-same n f g (λ k b. same k (omega arith) (λ e. omega arith)) in
+      | inl here ↦ let rest : sum_below n f ≡ sum_below n g =
+          sum_below-same n f g (λ k b. same k (omega arith) (λ e. omega arith)) in
           let a : f l ≡ f n = ap f here in
           let b : g l ≡ g n = ap g here in
           omega arith
-      | inr other ↦ let ih = sum_below-change n l f g (omega arith) (λ k b ne. same k (omega arith) ne) in
+      | inr other ↦ let ih = sum_below-change n l f g (omega arith)
+          (λ k b ne. same k (omega arith) ne) in
           let e = same n (omega arith) (λ (q : n ≡ l). other (sym q)) in
           omega (arith, ih, e)
     ]
 
-pub greatest_below-at : (n : ℕ) (p : ℕ → Bool) (f : ℕ → ℕ) (k : ℕ) → k < n → p k ≡ true → f k ≤ greatest_below n p f
+pub greatest_below-at : (n : ℕ) (p : ℕ → Bool) (f : ℕ → ℕ) (k : ℕ) → k < n → p k ≡ true
+    → f k ≤ greatest_below n p f
 greatest_below-at zero p f k h e = absurd (omega arith)
 greatest_below-at (suc n) p f k h e =
     elim (cases_eq k n) [
@@ -95,14 +113,22 @@ pub record IsHighest (n : ℕ) (p : ℕ → Bool) (b : ℕ) : Type 0 where
   pub passes : p b ≡ true
   pub highest : (k : ℕ) → k < n → p k ≡ true → k ≤ b
 
-pub highest_below-some : (n : ℕ) (p : ℕ → Bool) (b : ℕ) → highest_below n p ≡ Some b → IsHighest n p b
+pub highest_below-some : (n : ℕ) (p : ℕ → Bool) (b : ℕ) → highest_below n p ≡ Some b
+    → IsHighest n p b
 highest_below-some zero p b e = absurd (none-some b e)
 highest_below-some (suc n) p b e =
     elim (cases_Bool (p n)) [
-      | inl here ↦ let c : Some n ≡ Some b = sym (cond-true (p n) (Some n) (highest_below n p) here) ∙ e in
+      | inl here ↦ let c : Some n ≡ Some b = sym (cond-true (p n) (Some n) (highest_below n p) here)
+          ∙ e in
           let same : n ≡ b = same_Some n b c in
-          record { below = omega arith; passes = subst (λ i. p i ≡ true) same here; highest = λ k h q. omega arith }
-      | inr fails ↦ let r = highest_below-some n p b (sym (cond-false (p n) (Some n) (highest_below n p) fails) ∙ e) in
+          record {
+            below = omega arith;
+            passes = subst (λ i. p i ≡ true) same here;
+            highest =
+                λ k h q. omega arith;
+          }
+      | inr fails ↦ let r = highest_below-some n p b
+          (sym (cond-false (p n) (Some n) (highest_below n p) fails) ∙ e) in
           record {
             below = omega (arith, r.below);
             passes = r.passes;
@@ -114,13 +140,15 @@ highest_below-some (suc n) p b e =
     ]
 
 -- where some number passes there is a highest one
-pub highest_below-there : (n : ℕ) (p : ℕ → Bool) (k : ℕ) → k < n → p k ≡ true → (b : ℕ) × (highest_below n p ≡ Some b)
+pub highest_below-there : (n : ℕ) (p : ℕ → Bool) (k : ℕ) → k < n → p k ≡ true
+    → (b : ℕ) × (highest_below n p ≡ Some b)
 highest_below-there zero p k h e = absurd (omega arith)
 highest_below-there (suc n) p k h e =
     elim (cases_Bool (p n)) [
       | inl here ↦ (n, cond-true (p n) (Some n) (highest_below n p) here)
       | inr fails ↦ elim (cases_eq k n) [
         | inl same ↦ absurd (both_ways (p n) fails (subst (λ i. p i ≡ true) same e))
-        | inr other ↦ let r = highest_below-there n p k (omega arith) e in (r.0, cond-false (p n) (Some n) (highest_below n p) fails ∙ r.1)
+        | inr other ↦ let r = highest_below-there n p k (omega arith) e in
+            (r.0, cond-false (p n) (Some n) (highest_below n p) fails ∙ r.1)
       ]
     ]

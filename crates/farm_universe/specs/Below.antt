@@ -1,5 +1,5 @@
--- Tests, sums and choices over the numbers below n: the project's own words for "some name", "every name"
--- and the like, as tests that compute.
+-- Tests, sums and choices over the numbers below n: the project's own words for "some name", "every
+-- name" and the like, as tests that compute.
 --
 --   some_below, every_below           some number passes; each number passes
 --   sum_below                         a sum over the numbers

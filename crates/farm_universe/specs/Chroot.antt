@@ -1,5 +1,5 @@
--- A chroot: what it holds of each name, and when an entry is met in it. Parameters: u a universe, c a chroot,
--- n a name, b a variant's bit, e an entry, s a slot.
+-- A chroot: what it holds of each name, and when an entry is met in it. Parameters: u a universe, c
+-- a chroot, n a name, b a variant's bit, e an entry, s a slot.
 --
 --   Chroot, slot, used          the slots by name; the disk space taken
 --   met, met_with, pre_met      an entry is met; with the members of a set; ahead of an unpack
@@ -19,6 +19,7 @@ use Rattle.farm_universe.specs.Packages.{variant, names, size, depends, pre_depe
 abbrev pub Chroot : Type 0
 Chroot = List Slot
 
+-- what the chroot holds of a name; past the last name nothing
 abbrev pub slot : Chroot → ℕ → Slot
 slot c n = slice_index_or c n Absent
 
@@ -38,16 +39,19 @@ holds_configured p Absent = false
 holds_configured p (Unpacked b last) = false
 holds_configured p (Configured b) = p b
 
+-- a variant is present
 abbrev pub is_present : Slot → Bool
 is_present Absent = false
 is_present (Unpacked b last) = true
 is_present (Configured b) = true
 
+-- it is unpacked and not configured (the state "unpacked" of dpkg(1))
 abbrev pub is_unpacked : Slot → Bool
 is_unpacked Absent = false
 is_unpacked (Unpacked b last) = true
 is_unpacked (Configured b) = false
 
+-- it is configured (the state "installed" of dpkg(1))
 abbrev pub is_configured : Slot → Bool
 is_configured Absent = false
 is_configured (Unpacked b last) = false
@@ -59,15 +63,18 @@ last_of Absent = None
 last_of (Unpacked b last) = last
 last_of (Configured b) = Some b
 
+-- the size of what a slot holds, in KiB
 abbrev pub size_in : Universe → ℕ → Slot → ℕ
 size_in u n Absent = 0
 size_in u n (Unpacked b last) = size u (variant n b)
 size_in u n (Configured b) = size u (variant n b)
 
--- the disk space taken: the sizes of the present variants in KiB, by Installed-Size (Debian Policy 5.6.20)
+-- the disk space taken: the sizes of the present variants in KiB, by Installed-Size (Debian Policy
+-- 5.6.20)
 unfoldable pub used : Universe → Chroot → ℕ
 used u c = sum_below (length c) (λ n. size_in u n (slot c n))
 
+-- the name is a member of the set
 abbrev pub member : List ℕ → ℕ → Bool
 member members n = list_any (λ m. m == n) members
 
@@ -75,16 +82,18 @@ member members n = list_any (λ m. m == n) members
 unfoldable pub met : Universe → Chroot → Entry → Bool
 met u c e = some_slot c (λ n s. holds_configured (λ b. satisfies_entry u e (variant n b)) s)
 
--- the same, where the present variants of the members count too, since they are configured together (Policy 7.2:
--- packages that depend on each other are configured as one)
+-- the same, where the present variants of the members count too, since they are configured together
+-- (the project's own rule; Policy 7.2 leaves open where a circle of dependencies is broken)
 unfoldable pub met_with : Universe → List ℕ → Chroot → Entry → Bool
 met_with u members c e =
-    some_slot c (λ n s. holds_configured (λ b. satisfies_entry u e (variant n b)) s || (member members n && holds (λ b. satisfies_entry u e (variant n b)) s))
+    some_slot c (λ n s. holds_configured (λ b. satisfies_entry u e (variant n b)) s
+    || (member members n && holds (λ b. satisfies_entry u e (variant n b)) s))
 
 -- one alternative is satisfied by an unpacked variant and by the one that was configured last
 abbrev pub both_satisfy : Universe → Entry → ℕ → ℕ → Option ℕ → Bool
 both_satisfy u e n b None = false
-both_satisfy u e n b (Some last) = list_any (λ a. satisfies u a (variant n b) && satisfies u a (variant n last)) e
+both_satisfy u e n b (Some last) =
+    list_any (λ a. satisfies u a (variant n b) && satisfies u a (variant n last)) e
 
 -- a name's slot meets the entry ahead of an unpack
 abbrev pub pre_meets : Universe → Entry → ℕ → Slot → Bool
@@ -92,8 +101,9 @@ pre_meets u e n Absent = false
 pre_meets u e n (Unpacked b last) = both_satisfy u e n b last
 pre_meets u e n (Configured b) = satisfies_entry u e (variant n b)
 
--- a name other than the one to be unpacked is configured, or is unpacked and was configured before, in
--- variants that satisfy the entry (Policy 7.2, Pre-Depends; one alternative for both: the project's own rule)
+-- a name other than the one to be unpacked is configured, or is unpacked and was configured before,
+-- in variants that satisfy the entry (Policy 7.2, Pre-Depends; one alternative for both: the
+-- project's own rule)
 unfoldable pub pre_met : Universe → ℕ → Chroot → Entry → Bool
 pre_met u name c e = some_slot c (λ n s. not (n == name) && pre_meets u e n s)
 
@@ -107,12 +117,15 @@ entries u v = depends u v ++ pre_depends u v
 
 -- a present variant is not configured, or an entry of one is not met (the project's own rule)
 unfoldable pub unsettled : Universe → Chroot → Bool
-unsettled u c = some_slot c (λ n s. is_unpacked s || holds (λ b. unmet (met u c) (entries u (variant n b))) s)
+unsettled u c = some_slot c (λ n s. is_unpacked s
+    || holds (λ b. unmet (met u c) (entries u (variant n b))) s)
 
+-- a slot of a base chroot: the package found is configured
 abbrev pub base_slot : Option Variant → Slot
 base_slot None = Absent
 base_slot (Some v) = Configured v.bit
 
 -- what a base chroot holds: each of its packages is configured
 unfoldable pub base_chroot : Universe → ℕ → Chroot
-base_chroot u b = map (λ n. base_slot (find (λ v. v.name == n) (base u b).packages)) (range_with_len 0 (names u))
+base_chroot u b = map (λ n. base_slot (find (λ v. v.name == n) (base u b).packages))
+    (range_with_len 0 (names u))

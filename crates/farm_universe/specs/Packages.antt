@@ -1,8 +1,9 @@
--- What the packages of a universe say of each other. Laws never open the words of this file, so they hold
--- however versions and relations are written.
+-- What the packages of a universe say of each other. Laws never open the words of this file, so
+-- they hold however versions and relations are written.
 --
 --   names, variants, package, size, recipe, base      look-ups by number
---   satisfies, satisfies_entry, satisfies_any         a variant satisfies an alternative, an entry, some entry
+-- satisfies, satisfies_entry, satisfies_any a variant satisfies an alternative, an entry, some
+-- entry
 --   is_wanted                                         a variant is in the relation of an unpack
 --   conflict, breaks                                  how two variants exclude each other
 --   initial, has_bit                                  the initial archive
@@ -16,6 +17,7 @@ use Rattle.farm_universe.specs.declared.types.Variant.{Variant}
 use Rattle.farm_universe.specs.Below.{some_below}
 use Rattle.farm_universe.specs.Universe.{Package, Recipe, Base, Universe}
 
+-- the variant of this name and bit
 abbrev pub variant : ℕ → ℕ → Variant
 variant n b = record { name = n; bit = b }
 
@@ -23,6 +25,7 @@ variant n b = record { name = n; bit = b }
 unfoldable pub same : Variant → Variant → Bool
 same v w = (v.name == w.name) && (v.bit == w.bit)
 
+-- the variant is in the list
 abbrev pub contains : List Variant → Variant → Bool
 contains vs v = list_any (λ w. same w v) vs
 
@@ -34,24 +37,40 @@ names u = length u.packages
 unfoldable pub variants : Universe → ℕ → ℕ
 variants u n = length (slice_index_or u.packages n [])
 
+-- what is read past the last variant
 abbrev pub no_package : Package
-no_package = record { version = []; size = 0; pre_depends = []; depends = []; conflicts = []; breaks = []; provides = [] }
+no_package = record {
+  version = [];
+  size = 0;
+  pre_depends = [];
+  depends = [];
+  conflicts =
+      [];
+  breaks = [];
+  provides = [];
+}
 
+-- what is known of a variant
 unfoldable pub package_of : Universe → Variant → Package
 package_of u v = slice_index_or (slice_index_or u.packages v.name []) v.bit no_package
 
+-- its Installed-Size in KiB (Debian Policy 5.6.20)
 unfoldable pub size : Universe → Variant → ℕ
 size u v = (package_of u v).size
 
+-- its Pre-Depends (Policy 7.2)
 unfoldable pub pre_depends : Universe → Variant → Relations
 pre_depends u v = (package_of u v).pre_depends
 
+-- its Depends (Policy 7.2)
 unfoldable pub depends : Universe → Variant → Relations
 depends u v = (package_of u v).depends
 
+-- what is read past the last recipe
 abbrev pub no_recipe : Recipe
 no_recipe = record { name = []; steps = 0; scratch = 0; needs = []; clashes = []; outputs = [] }
 
+-- the recipe of this number
 unfoldable pub recipe : Universe → ℕ → Recipe
 recipe u r = slice_index_or u.recipes r no_recipe
 
@@ -59,15 +78,22 @@ recipe u r = slice_index_or u.recipes r no_recipe
 abbrev pub outputs : Universe → ℕ → List Variant
 outputs u r = (recipe u r).outputs
 
+-- what is read past the last base chroot
 abbrev pub no_base : Base
 no_base = record { name = []; capacity = 0; packages = [] }
 
+-- the base chroot of this number
 unfoldable pub base : Universe → ℕ → Base
 base u b = slice_index_or u.bases b no_base
 
 -- what relations see of a variant: its name, version and Provides
 unfoldable pub facts : Universe → Variant → Facts
-facts u v = record { name = slice_index_or u.names v.name []; version = (package_of u v).version; provides = (package_of u v).provides }
+facts u v = record {
+  name = slice_index_or u.names v.name [];
+  version =
+      (package_of u v).version;
+  provides = (package_of u v).provides;
+}
 
 -- the variant satisfies the alternative (Debian Policy 7.1, 7.5)
 unfoldable pub satisfies : Universe → Atom → Variant → Bool
@@ -77,6 +103,7 @@ satisfies u a v = package_satisfies (facts u v) a
 abbrev pub satisfies_entry : Universe → Entry → Variant → Bool
 satisfies_entry u e v = list_any (λ a. satisfies u a v) e
 
+-- the variant satisfies an alternative of some entry (Policy 7.1)
 abbrev pub satisfies_any : Universe → Relations → Variant → Bool
 satisfies_any u es v = list_any (λ e. satisfies_entry u e v) es
 
@@ -86,7 +113,8 @@ is_wanted u wanted v = in_relation wanted (package_of u v).version
 
 -- one of the two declares a conflict with the other (Policy 7.4)
 unfoldable pub conflict : Universe → Variant → Variant → Bool
-conflict u v w = satisfies_any u (package_of u v).conflicts w || satisfies_any u (package_of u w).conflicts v
+conflict u v w = satisfies_any u (package_of u v).conflicts w
+    || satisfies_any u (package_of u w).conflicts v
 
 -- the first breaks the second (Policy 7.3)
 unfoldable pub breaks : Universe → Variant → Variant → Bool

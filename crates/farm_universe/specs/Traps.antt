@@ -1,6 +1,6 @@
--- What an instruction does to one chroot: the traps that it may meet, in the order in which they are tried, and
--- the chroot after it. Whether the archive has a variant (X1), what was built (X13) and the budget (X14) are the
--- farm's matter (plan_asm).
+-- What an instruction does to one chroot: the traps that it may meet, in the order in which they
+-- are tried, and the chroot after it. Whether the archive has a variant (X1), what was built (X13)
+-- and the budget (X14) are the farm's matter (plan_asm).
 --
 --   first_trap                                                   the first trap whose test holds
 --   unpack_traps, configure_traps, deconfigure_traps,
@@ -22,14 +22,20 @@ unfoldable pub first_trap : List (Bool × Trap) → Option Trap
 first_trap [] = None
 first_trap (x ∷ xs) = if x.0 then Some x.1 else first_trap xs
 
--- unpack: a Pre-Depends entry is not met (Debian Policy 7.2); a conflict with a present variant of another name,
--- declared by either (7.4); a configured variant of another name is broken (7.3); no room, the old and the new
--- variant of the name taken together (the project's own rule)
+-- unpack: a Pre-Depends entry is not met (Debian Policy 7.2); a conflict with a present variant of
+-- another name, declared by either (7.4); a configured variant of another name is broken (7.3); no
+-- room, the old and the new variant of the name taken together (the project's own rule)
 abbrev pub unpack_traps : Universe → ℕ → Chroot → Variant → List (Bool × Trap)
 unpack_traps u capacity c v =
     (unmet (pre_met u v.name c) (pre_depends u v), PreDepends)
-    ∷ (some_slot c (λ n s. not (n == v.name) && holds (λ b. conflict u v (variant n b)) s), Conflict)
-    ∷ (some_slot c (λ n s. not (n == v.name) && holds_configured (λ b. breaks u v (variant n b)) s), BreaksOther)
+    ∷ (
+      some_slot c (λ n s. not (n == v.name) && holds (λ b. conflict u v (variant n b)) s),
+      Conflict,
+    )
+    ∷ (
+      some_slot c (λ n s. not (n == v.name) && holds_configured (λ b. breaks u v (variant n b)) s),
+      BreaksOther,
+    )
     ∷ (nat_lt capacity (used u c + size u v), Full)
     ∷ []
 
@@ -39,23 +45,29 @@ unpacked c v = slice_set c v.name (Unpacked v.bit (last_of (slot c v.name)))
 
 -- each member's slot changed
 abbrev pub changed : (Slot → Slot) → Chroot → List ℕ → Chroot
-changed f c members = map (λ n. if member members n then f (slot c n) else slot c n) (range_with_len 0 (length c))
+changed f c members = map (λ n. if member members n then f (slot c n) else slot c n)
+    (range_with_len 0 (length c))
 
 -- some member's present variant passes
 abbrev pub some_member : List ℕ → Chroot → (Variant → Bool) → Bool
 some_member members c p = list_any (λ m. holds (λ b. p (variant m b)) (slot c m)) members
 
--- configure: a member is not unpacked; a Pre-Depends entry is not met, and members do not count (Policy 7.2); a
--- Depends entry is met neither by a configured variant nor by a member (7.2); a present variant of another name
--- breaks a member (7.3)
+-- configure: a member is not unpacked; a Pre-Depends entry is not met, and members do not count
+-- (Policy 7.2); a Depends entry is met neither by a configured variant nor by a member (7.2); a
+-- present variant of another name breaks a member (7.3)
 abbrev pub configure_traps : Universe → Chroot → List ℕ → List (Bool × Trap)
 configure_traps u c members =
     (list_any (λ m. not (is_unpacked (slot c m))) members, WrongState)
     ∷ (some_member members c (λ v. unmet (met u c) (pre_depends u v)), PreDepends)
     ∷ (some_member members c (λ v. unmet (met_with u members c) (depends u v)), Depends)
-    ∷ (some_member members c (λ v. some_slot c (λ n s. not (n == v.name) && holds (λ b. breaks u (variant n b) v) s)), Broken)
+    ∷ (
+      some_member members c (λ v. some_slot c
+          (λ n s. not (n == v.name) && holds (λ b. breaks u (variant n b) v) s)),
+      Broken,
+    )
     ∷ []
 
+-- a slot whose variant is configured
 abbrev pub configured_slot : Slot → Slot
 configured_slot Absent = Absent
 configured_slot (Unpacked b last) = Configured b
@@ -65,18 +77,23 @@ configured_slot (Configured b) = Configured b
 abbrev pub configured : Chroot → List ℕ → Chroot
 configured c members = changed configured_slot c members
 
--- a configured package outside the set has a Depends or Pre-Depends entry that is met before and not after
--- (the project's own rule; Policy 7.2 wants dependencies of configured packages kept)
+-- a configured package outside the set has a Depends or Pre-Depends entry that is met before and
+-- not after (the project's own rule; Policy 7.2 wants dependencies of configured packages kept)
 unfoldable pub still_needed : Universe → List ℕ → Chroot → Chroot → Bool
 still_needed u members before after =
     some_slot before
-    (λ n s. not (member members n) && holds_configured (λ b. list_any (λ e. met u before e && not (met u after e)) (entries u (variant n b))) s)
+    (λ n s. not (member members n)
+    && holds_configured (λ b. list_any (λ e. met u before e && not (met u after e))
+    (entries u (variant n b))) s)
 
--- deconfigure and remove: a member's slot does not pass; a package outside the set still needs a member
+-- deconfigure and remove: a member's slot does not pass; a package outside the set still needs a
+-- member
 abbrev pub withdraw_traps : Universe → (Slot → Bool) → List ℕ → Chroot → Chroot → List (Bool × Trap)
 withdraw_traps u right members before after =
-    (list_any (λ m. not (right (slot before m))) members, WrongState) ∷ (still_needed u members before after, StillNeeded) ∷ []
+    (list_any (λ m. not (right (slot before m))) members, WrongState) ∷
+    (still_needed u members before after, StillNeeded) ∷ []
 
+-- a slot whose variant is unpacked again, and was configured last
 abbrev pub deconfigured_slot : Slot → Slot
 deconfigured_slot Absent = Absent
 deconfigured_slot (Unpacked b last) = Unpacked b last
@@ -86,6 +103,7 @@ deconfigured_slot (Configured b) = Unpacked b (Some b)
 abbrev pub deconfigured : Chroot → List ℕ → Chroot
 deconfigured c members = changed deconfigured_slot c members
 
+-- deconfigure: a member is not configured; a package outside the set still needs one
 abbrev pub deconfigure_traps : Universe → Chroot → List ℕ → List (Bool × Trap)
 deconfigure_traps u c members = withdraw_traps u is_configured members c (deconfigured c members)
 
@@ -93,11 +111,13 @@ deconfigure_traps u c members = withdraw_traps u is_configured members c (deconf
 abbrev pub removed : Chroot → List ℕ → Chroot
 removed c members = changed (λ s. Absent) c members
 
+-- remove: a member is absent; a package outside the set still needs one
 abbrev pub remove_traps : Universe → Chroot → List ℕ → List (Bool × Trap)
 remove_traps u c members = withdraw_traps u is_present members c (removed c members)
 
--- build: the chroot is not settled (the project's own rule); a need is not met, or a present variant satisfies a
--- clash (Policy 7.7); no room for the scratch space. A build leaves the chroot as it is
+-- build: the chroot is not settled (the project's own rule); a need is not met, or a present
+-- variant satisfies a clash (Policy 7.7); no room for the scratch space. A build leaves the chroot
+-- as it is
 abbrev pub build_traps : Universe → ℕ → Chroot → Recipe → List (Bool × Trap)
 build_traps u capacity c r =
     (unsettled u c, Unsettled)
