@@ -9,7 +9,8 @@ use Rattle.farm_universe.specs.Packages.{names, variants}
 use Rattle.farm_universe.specs.Chroot.{Chroot, slot}
 use Rattle.plan_asm.specs.May.{Bits, MaySlot, MayAbsent, MayUnpacked, MayConfigured, May}
 
--- the last configured variant, if any, is one that the set allows: one of it, or none where it is empty
+-- the last configured variant, if any, is one that the set allows: one of it, or none where it is
+-- empty
 pub data AllowsLast (count : ℕ) (last : Bits) : Option ℕ → Type 0 where
   never : ((b : ℕ) → b < count → last b ≡ true → ⊥) → AllowsLast count last None
   once : {b : ℕ} → b < count → last b ≡ true → AllowsLast count last (Some b)
@@ -17,8 +18,10 @@ pub data AllowsLast (count : ℕ) (last : Bits) : Option ℕ → Type 0 where
 -- a slot of a chroot is one that the map's slot allows, among so many variants
 pub data Allows (count : ℕ) : MaySlot → Slot → Type 0 where
   allows_absent : Allows count MayAbsent Absent
-  allows_unpacked : {current last : Bits} {b : ℕ} {was : Option ℕ} → b < count → current b ≡ true → AllowsLast count last was → Allows count (MayUnpacked current last) (Unpacked b was)
-  allows_configured : {current : Bits} {b : ℕ} → b < count → current b ≡ true → Allows count (MayConfigured current) (Configured b)
+  allows_unpacked : {current last : Bits} {b : ℕ} {was : Option ℕ} → b < count → current b ≡ true
+      → AllowsLast count last was → Allows count (MayUnpacked current last) (Unpacked b was)
+  allows_configured : {current : Bits} {b : ℕ} → b < count → current b ≡ true
+      → Allows count (MayConfigured current) (Configured b)
 
 -- a chroot is one that the map allows: each of its slots is
 pub record AllowsAll (u : Universe) (m : May) (c : Chroot) : Type 0 where

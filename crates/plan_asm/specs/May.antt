@@ -1,5 +1,5 @@
--- What a lane's chroot may hold at a place, and what surely holds of it. The project's own rules. Parameters: u a
--- universe, m a may map, n a name, b a bit, e an entry, s a slot of the map.
+-- What a lane's chroot may hold at a place, and what surely holds of it. The project's own rules.
+-- Parameters: u a universe, m a may map, n a name, b a bit, e an entry, s a slot of the map.
 --
 --   May, MaySlot                                    for each name what it may hold
 --   may_hold, may_hold_configured, may_use          what may hold
@@ -16,14 +16,15 @@ use Rattle.farm_universe.specs.Chroot.{member}
 abbrev pub Bits : Type 0
 Bits = ℕ → Bool
 
--- what a name may hold: nothing; an unpacked variant of `current`, and of `last` the one configured last (none where
--- `last` is empty); a configured variant of `current`
+-- what a name may hold: nothing; an unpacked variant of `current`, and of `last` the one configured
+-- last (none where `last` is empty); a configured variant of `current`
 pub data MaySlot : Type 0 where
   MayAbsent : MaySlot
   MayUnpacked : (current last : Bits) → MaySlot
   MayConfigured : (current : Bits) → MaySlot
 
--- for each name what it may hold, the most that was spent, and for each recipe whether it was surely built
+-- for each name what it may hold, the most that was spent, and for each recipe whether it was
+-- surely built
 pub record May : Type 0 where
   pub slots : ℕ → MaySlot
   pub cost : ℕ
@@ -71,24 +72,30 @@ surely_configured u n p (MayConfigured current) = all_of u n current p
 
 -- some configured name satisfies the entry whichever variant it holds
 unfoldable pub surely_met : Universe → May → Entry → Bool
-surely_met u m e = some_name u m (λ n s. surely_configured u n (λ b. satisfies_entry u e (variant n b)) s)
+surely_met u m e = some_name u m
+    (λ n s. surely_configured u n (λ b. satisfies_entry u e (variant n b)) s)
 
 -- or some member does
 unfoldable pub surely_met_with : Universe → List ℕ → May → Entry → Bool
 surely_met_with u members m e =
     some_name u m
-    (λ n s. surely_configured u n (λ b. satisfies_entry u e (variant n b)) s || (member members n && surely_holds u n (λ b. satisfies_entry u e (variant n b)) s))
+    (λ n s. surely_configured u n (λ b. satisfies_entry u e (variant n b)) s
+    || (member members n && surely_holds u n (λ b. satisfies_entry u e (variant n b)) s))
 
--- of an unpacked name, for one alternative: there are present and last configured variants, and all satisfy it
+-- of an unpacked name, for one alternative: there are present and last configured variants, and all
+-- satisfy it
 abbrev pub all_satisfy : Universe → Entry → ℕ → Bits → Bits → Bool
 all_satisfy u e n current last =
-    is_some_of u n current && (is_some_of u n last && list_any (λ a. all_of u n current (λ b. satisfies u a (variant n b)) && all_of u n last (λ b. satisfies u a (variant n b))) e)
+    is_some_of u n current && (is_some_of u n last
+    && list_any (λ a. all_of u n current (λ b. satisfies u a (variant n b))
+    && all_of u n last (λ b. satisfies u a (variant n b))) e)
 
 -- a name's slot meets the entry ahead of an unpack, whichever variant it holds
 abbrev pub surely_pre_meets : Universe → Entry → ℕ → MaySlot → Bool
 surely_pre_meets u e n MayAbsent = false
 surely_pre_meets u e n (MayUnpacked current last) = all_satisfy u e n current last
-surely_pre_meets u e n (MayConfigured current) = all_of u n current (λ b. satisfies_entry u e (variant n b))
+surely_pre_meets u e n (MayConfigured current) =
+    all_of u n current (λ b. satisfies_entry u e (variant n b))
 
 -- some name other than the one to be unpacked does
 unfoldable pub surely_pre_met : Universe → ℕ → May → Entry → Bool
@@ -98,6 +105,7 @@ surely_pre_met u name m e = some_name u m (λ n s. not (n == name) && surely_pre
 abbrev pub greatest_size : Universe → ℕ → Bits → ℕ
 greatest_size u n set = greatest_below (variants u n) set (λ b. size u (variant n b))
 
+-- the greatest size that a slot may hold, in KiB
 abbrev pub may_size : Universe → ℕ → MaySlot → ℕ
 may_size u n MayAbsent = 0
 may_size u n (MayUnpacked current last) = greatest_size u n current
@@ -107,16 +115,19 @@ may_size u n (MayConfigured current) = greatest_size u n current
 unfoldable pub may_use : Universe → May → ℕ
 may_use u m = sum_below (names u) (λ n. may_size u n (m.slots n))
 
+-- a variant is surely unpacked and not configured
 abbrev pub is_surely_unpacked : MaySlot → Bool
 is_surely_unpacked MayAbsent = false
 is_surely_unpacked (MayUnpacked current last) = true
 is_surely_unpacked (MayConfigured current) = false
 
+-- one is surely configured
 abbrev pub is_surely_configured : MaySlot → Bool
 is_surely_configured MayAbsent = false
 is_surely_configured (MayUnpacked current last) = false
 is_surely_configured (MayConfigured current) = true
 
+-- one is surely present
 abbrev pub is_surely_present : MaySlot → Bool
 is_surely_present MayAbsent = false
 is_surely_present (MayUnpacked current last) = true

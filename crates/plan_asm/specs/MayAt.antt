@@ -1,5 +1,5 @@
--- The may map at each place of a lane. The project's own rules: it changes as the chroot does. Parameters as in May;
--- p a plan, l a lane, i a place.
+-- The may map at each place of a lane. The project's own rules: it changes as the chroot does.
+-- Parameters as in May; p a plan, l a lane, i a place.
 --
 --   may_base, may_after       the map of a base chroot, and after an instruction
 --   may_at, lane_cost         the map at a place; the most that the lane spends
@@ -18,12 +18,15 @@ use Rattle.plan_asm.specs.Known.{Rows, possible}
 use Rattle.plan_asm.specs.May.{Bits, MaySlot, MayAbsent, MayUnpacked, MayConfigured, May}
 use Rattle.plan_asm.specs.Risk.{candidates, greatest_cost}
 
+-- the variants that may be the last configured one
 abbrev pub may_be_last : MaySlot → Bits
 may_be_last MayAbsent = λ b. false
 may_be_last (MayUnpacked current last) = last
 may_be_last (MayConfigured current) = current
 
-abbrev pub may_unpack : Universe → (Variant → Bool) → May → ℕ → Option (Op × List ℕ) → Option ℕ → May
+-- the map after an unpack, where the highest known variant that is wanted is this, or there is none
+abbrev pub may_unpack : Universe → (Variant → Bool) → May → ℕ → Option (Op × List ℕ) → Option ℕ
+    → May
 may_unpack u there m name wanted None = m
 may_unpack u there m name wanted (Some highest) =
     let set = candidates u there name wanted highest in
@@ -33,11 +36,13 @@ may_unpack u there m name wanted (Some highest) =
       built = m.built;
     }
 
+-- a slot after its variant is configured
 abbrev pub may_be_configured : MaySlot → MaySlot
 may_be_configured MayAbsent = MayAbsent
 may_be_configured (MayUnpacked current last) = MayConfigured current
 may_be_configured (MayConfigured current) = MayConfigured current
 
+-- a slot after its variant is unpacked again: it was configured last
 abbrev pub may_be_deconfigured : MaySlot → MaySlot
 may_be_deconfigured MayAbsent = MayAbsent
 may_be_deconfigured (MayUnpacked current last) = MayUnpacked current last
@@ -45,34 +50,53 @@ may_be_deconfigured (MayConfigured current) = MayUnpacked current current
 
 -- each member's slot changed
 abbrev pub may_change : (MaySlot → MaySlot) → May → List ℕ → May
-may_change f m members = record { slots = λ n. if member members n then f (m.slots n) else m.slots n; cost = m.cost + length members; built = m.built }
+may_change f m members = record {
+  slots =
+      λ n. if member members n then f (m.slots n) else m.slots n;
+  cost =
+      m.cost + length members;
+  built = m.built;
+}
 
 -- the map after an instruction
 abbrev pub may_after : Universe → (Variant → Bool) → (Variant → Bool) → May → Instruction → May
-may_after u known there m (Unpack name wanted) = may_unpack u there m name wanted (newest u known name wanted)
+may_after u known there m (Unpack name wanted) =
+    may_unpack u there m name wanted (newest u known name wanted)
 may_after u known there m (Configure members) = may_change may_be_configured m members
 may_after u known there m (Deconfigure members) = may_change may_be_deconfigured m members
 may_after u known there m (Remove members) = may_change (λ s. MayAbsent) m members
-may_after u known there m (Build r) = record { slots = m.slots; cost = m.cost + (recipe u r).steps; built = with_built m.built r }
-may_after u known there m (Publish r) = record { slots = m.slots; cost = m.cost + length (outputs u r); built = m.built }
+may_after u known there m (Build r) =
+    record { slots = m.slots; cost = m.cost + (recipe u r).steps; built = with_built m.built r }
+may_after u known there m (Publish r) =
+    record { slots = m.slots; cost = m.cost + length (outputs u r); built = m.built }
 may_after u known there m (Wait e) = m
 
-abbrev pub may_after_some : Universe → (Variant → Bool) → (Variant → Bool) → May → Option Instruction → May
+-- the map after the instruction that is there, if any
+abbrev pub may_after_some : Universe → (Variant → Bool) → (Variant → Bool) → May
+    → Option Instruction → May
 may_after_some u known there m None = m
 may_after_some u known there m (Some x) = may_after u known there m x
 
+-- a slot of a base chroot: the package found, and no other
 abbrev pub may_base_slot : Option Variant → MaySlot
 may_base_slot None = MayAbsent
 may_base_slot (Some v) = MayConfigured (λ b. b == v.bit)
 
 -- the map of a base chroot: just what it holds
 abbrev pub may_base : Universe → Lane → May
-may_base u of = record { slots = λ n. may_base_slot (find (λ v. v.name == n) (base u of.base).packages); cost = 0; built = no_builds u }
+may_base u of = record {
+  slots =
+      λ n. may_base_slot (find (λ v. v.name == n) (base u of.base).packages);
+  cost = 0;
+  built =
+      no_builds u;
+}
 
 -- the map of lane l when i instructions are done
 abbrev pub may_at : Universe → Plan → Rows → ℕ → ℕ → May
 may_at u p rows l zero = may_base u (lane p l)
-may_at u p rows l (suc i) = may_after_some u (rows l i) (possible u p l i) (may_at u p rows l i) (instruction_at p l i)
+may_at u p rows l (suc i) = may_after_some u (rows l i) (possible u p l i) (may_at u p rows l i)
+    (instruction_at p l i)
 
 -- the most that a lane may spend
 unfoldable pub lane_cost : Universe → Plan → Rows → ℕ → ℕ

@@ -1,5 +1,5 @@
--- In which order the waits and outputs of the lanes can be made: the waits and outputs alone, without chroots and
--- budgets (the project's own rule; a wait is wanna-build's Dep-Wait).
+-- In which order the waits and outputs of the lanes can be made: the waits and outputs alone,
+-- without chroots and budgets (the project's own rule; a wait is wanna-build's Dep-Wait).
 --
 --   Item, items                 a wait or an output; those of a lane, in turn
 --   Board, board_after          what each lane has left, and what was published; one item made
@@ -17,15 +17,18 @@ use Rattle.plan_asm.specs.declared.instructions.Instruction.TheVariants.{Publish
 use Rattle.plan_asm.specs.Plan.{Lane, Plan}
 use Rattle.plan_asm.specs.Turn.{passes}
 
+-- a wait to be passed, or an output to be given
 pub data Item : Type 0 where
   Pass : (entry : Entry) → Item
   Give : (output : Variant) → Item
 
+-- the waits and outputs of an instruction
 abbrev pub items_of : Universe → Instruction → List Item
 items_of u (Publish r) = map Give (outputs u r)
 items_of u (Wait e) = Pass e ∷ []
 items_of u _ = []
 
+-- those of a list of instructions, in turn
 unfoldable pub items : Universe → List Instruction → List Item
 items u xs = flat_map (items_of u) xs
 
@@ -34,20 +37,26 @@ pub record Board : Type 0 where
   pub rest : List (List Item)
   pub published : List Variant
 
+-- all is left, and nothing is published
 abbrev pub start_board : Universe → Plan → Board
 start_board u p = record { rest = map (λ (of : Lane). items u of.instructions) p; published = [] }
 
+-- the archive of a board: the initial variants and the published ones
 abbrev pub on_board : Universe → Board → Variant → Bool
 on_board u b v = initial u v || contains b.published v
 
+-- what a lane has left
 abbrev pub rest_of : Board → ℕ → List Item
 rest_of b l = slice_index_or b.rest l []
 
 -- the first of these items of lane l made: a wait passes where it can, an output enters the archive
 abbrev pub board_after : Universe → Board → ℕ → List Item → Option Board
 board_after u b l [] = None
-board_after u b l (Pass e ∷ is) = if passes u (on_board u b) e then Some (record { rest = slice_set b.rest l is; published = b.published }) else None
-board_after u b l (Give v ∷ is) = Some (record { rest = slice_set b.rest l is; published = v ∷ b.published })
+board_after u b l (Pass e ∷ is) =
+    if passes u (on_board u b) e then Some
+    (record { rest = slice_set b.rest l is; published = b.published }) else None
+board_after u b l (Give v ∷ is) =
+    Some (record { rest = slice_set b.rest l is; published = v ∷ b.published })
 
 -- these lanes' items, one after another, lead from one board to another
 abbrev pub Reaches : Universe → Board → List ℕ → Board → Type 0
@@ -62,7 +71,8 @@ pub record IsOrder (u : Universe) (p : Plan) (order : List ℕ) : Type 0 where
 
 -- no list of waits and outputs brings the lane past its last one
 abbrev pub CannotEnd : Universe → Plan → ℕ → Type 0
-CannotEnd u p l = (order : List ℕ) (end : Board) → Reaches u (start_board u p) order end → rest_of end l ≢ []
+CannotEnd u p l = (order : List ℕ) (end : Board) → Reaches u (start_board u p) order end
+    → rest_of end l ≢ []
 
 -- these are all such lanes, in file order
 pub record AreStuck (u : Universe) (p : Plan) (lanes : List ℕ) : Type 0 where

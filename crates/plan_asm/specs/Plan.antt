@@ -1,5 +1,6 @@
--- A plan: lanes of instructions. Parameters: u a universe, p a plan, l the number of a lane, i a place in it (the
--- number of instructions before it), x an instruction, v a variant. The project's own rules, unless said.
+-- A plan: lanes of instructions. Parameters: u a universe, p a plan, l the number of a lane, i a
+-- place in it (the number of instructions before it), x an instruction, v a variant. The project's
+-- own rules, unless said.
 --
 --   Lane, Plan                        what a plan's text says
 --   lane, instruction_at              a lane, and the instruction at a place, by number
@@ -14,7 +15,8 @@ use Rattle.farm_universe.specs.Packages.{size, recipe, outputs, base}
 use Rattle.plan_asm.specs.declared.instructions.Instruction.{Instruction}
 use Rattle.plan_asm.specs.declared.instructions.Instruction.TheVariants.{Unpack, Configure, Deconfigure, Remove, Build, Publish, Wait}
 
--- a lane: the number of its base chroot, how much it may spend, and its instructions with all blocks expanded
+-- a lane: the number of its base chroot, how much it may spend, and its instructions with all
+-- blocks expanded
 pub record Lane : Type 0 where
   pub name : List ℕ
   pub base : ℕ
@@ -25,9 +27,11 @@ pub record Lane : Type 0 where
 abbrev pub Plan : Type 0
 Plan = List Lane
 
+-- what is read past the last lane
 abbrev pub no_lane : Lane
 no_lane = record { name = []; base = 0; budget = 0; instructions = [] }
 
+-- the lane of this number
 abbrev pub lane : Plan → ℕ → Lane
 lane p l = slice_index_or p l no_lane
 
@@ -57,7 +61,8 @@ count u p = sum_below (length p) (λ l. sum_by (events_of u) (lane p l).instruct
 abbrev pub unpack_cost : Universe → Variant → ℕ
 unpack_cost u v = 1 + size u v / 1024
 
--- the other costs: one for each member of a set, a recipe's steps, one for each output; a wait costs nothing
+-- the other costs: one for each member of a set, a recipe's steps, one for each output; a wait
+-- costs nothing
 abbrev pub cost_of : Universe → Instruction → ℕ
 cost_of u (Unpack name wanted) = 0
 cost_of u (Configure members) = length members
@@ -67,13 +72,15 @@ cost_of u (Build r) = (recipe u r).steps
 cost_of u (Publish r) = length (outputs u r)
 cost_of u (Wait e) = 0
 
--- what a lane publishes, in its order, and the output of number k of it, from 0
+-- what a lane publishes, in its order
 abbrev pub lane_outputs : Universe → Lane → List Variant
 lane_outputs u of = flat_map (outputs_of u) of.instructions
 
+-- the output of number k of a lane, from 0
 abbrev pub output_at : Universe → Lane → ℕ → Option Variant
 output_at u of k = slice_get (lane_outputs u of) k
 
--- how many outputs a lane has published where so many instructions are done, and so many outputs of the next
+-- how many outputs a lane has published where so many instructions are done, and so many outputs of
+-- the next
 abbrev pub outputs_before : Universe → Lane → ℕ → ℕ → ℕ
 outputs_before u of done made = length (flat_map (outputs_of u) (take done of.instructions)) + made

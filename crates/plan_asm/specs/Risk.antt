@@ -1,5 +1,6 @@
--- The traps that an instruction may meet under a may map. The project's own rules: each list mirrors the traps of
--- its instruction, and a test holds where the trap may arise. Parameters as in May.
+-- The traps that an instruction may meet under a may map. The project's own rules: each list
+-- mirrors the traps of its instruction, and a test holds where the trap may arise. Parameters as in
+-- May.
 --
 --   candidates                  the variants that an unpack may take
 --   unpack_risks, .., risk      the tests of each instruction; the first trap that it may meet
@@ -20,9 +21,11 @@ use Rattle.plan_asm.specs.Plan.{Lane, capacity}
 use Rattle.plan_asm.specs.Turn.{was_built, newest}
 use Rattle.plan_asm.specs.May.{Bits, MaySlot, May, some_of, some_name, may_hold, may_hold_configured, surely_configured, surely_met, surely_met_with, surely_pre_met, greatest_size, may_use, is_surely_unpacked, is_surely_configured, is_surely_present}
 
--- the variants that an unpack may take: those that may be there and are wanted, from the highest known one up
+-- the variants that an unpack may take: those that may be there and are wanted, from the highest
+-- known one up
 unfoldable pub candidates : Universe → (Variant → Bool) → ℕ → Option (Op × List ℕ) → ℕ → Bits
-candidates u there name wanted highest b = (there (variant name b) && is_wanted u wanted (variant name b)) && nat_le highest b
+candidates u there name wanted highest b =
+    (there (variant name b) && is_wanted u wanted (variant name b)) && nat_le highest b
 
 -- what an unpack of one of these costs at most
 abbrev pub greatest_cost : Universe → ℕ → Bits → ℕ
@@ -36,43 +39,75 @@ may_exceed of m cost = nat_lt of.budget (m.cost + cost)
 abbrev pub unpack_risks : Universe → Lane → May → ℕ → Bits → List (Bool × Trap)
 unpack_risks u of m name set =
     (may_exceed of m (greatest_cost u name set), OverBudget)
-    ∷ (some_of u name set (λ b. unmet (surely_pre_met u name m) (pre_depends u (variant name b))), PreDepends)
-    ∷ (some_of u name set (λ b. some_name u m (λ n s. not (n == name) && may_hold u n (λ d. conflict u (variant name b) (variant n d)) s)), Conflict)
-    ∷ (some_of u name set (λ b. some_name u m (λ n s. not (n == name) && may_hold_configured u n (λ d. breaks u (variant name b) (variant n d)) s)), BreaksOther)
+    ∷ (
+      some_of u name set (λ b. unmet (surely_pre_met u name m) (pre_depends u (variant name b))),
+      PreDepends,
+    )
+    ∷ (
+      some_of u name set (λ b. some_name u m
+          (λ n s. not (n == name) && may_hold u n
+          (λ d. conflict u (variant name b) (variant n d)) s)),
+      Conflict,
+    )
+    ∷ (
+      some_of u name set (λ b. some_name u m
+          (λ n s. not (n == name) && may_hold_configured u n
+          (λ d. breaks u (variant name b) (variant n d)) s)),
+      BreaksOther,
+    )
     ∷ (nat_lt (capacity u of) (may_use u m + greatest_size u name set), Full)
     ∷ []
 
 -- no known variant is wanted, or the highest one is this
-abbrev pub unpack_risk : Universe → (Variant → Bool) → Lane → May → ℕ → Option (Op × List ℕ) → Option ℕ → Option Trap
+abbrev pub unpack_risk : Universe → (Variant → Bool) → Lane → May → ℕ → Option (Op × List ℕ)
+    → Option ℕ → Option Trap
 unpack_risk u there of m name wanted None = Some Missing
-unpack_risk u there of m name wanted (Some highest) = first_trap (unpack_risks u of m name (candidates u there name wanted highest))
+unpack_risk u there of m name wanted (Some highest) =
+    first_trap (unpack_risks u of m name (candidates u there name wanted highest))
 
 -- some variant that a member may hold passes
 abbrev pub some_may_member : Universe → List ℕ → May → (Variant → Bool) → Bool
-some_may_member u members m p = list_any (λ k. may_hold u k (λ b. p (variant k b)) (m.slots k)) members
+some_may_member u members m p =
+    list_any (λ k. may_hold u k (λ b. p (variant k b)) (m.slots k)) members
 
+-- configure: each test of its traps, for every variant that a member may hold
 abbrev pub configure_risks : Universe → Lane → May → List ℕ → List (Bool × Trap)
 configure_risks u of m members =
     (may_exceed of m (length members), OverBudget)
     ∷ (list_any (λ k. not (is_surely_unpacked (m.slots k))) members, WrongState)
     ∷ (some_may_member u members m (λ v. unmet (surely_met u m) (pre_depends u v)), PreDepends)
-    ∷ (some_may_member u members m (λ v. unmet (surely_met_with u members m) (depends u v)), Depends)
-    ∷ (some_may_member u members m (λ v. some_name u m (λ n s. not (n == v.name) && may_hold u n (λ b. breaks u (variant n b) v) s)), Broken)
+    ∷ (
+      some_may_member u members m (λ v. unmet (surely_met_with u members m) (depends u v)),
+      Depends,
+    )
+    ∷ (
+      some_may_member u members m
+          (λ v. some_name u m (λ n s. not (n == v.name)
+          && may_hold u n (λ b. breaks u (variant n b) v) s)),
+      Broken,
+    )
     ∷ []
 
 -- a configured name outside the set satisfies the entry whichever variant it holds
 unfoldable pub surely_met_outside : Universe → List ℕ → May → Entry → Bool
-surely_met_outside u members m e = some_name u m (λ n s. not (member members n) && surely_configured u n (λ b. satisfies_entry u e (variant n b)) s)
+surely_met_outside u members m e =
+    some_name u m (λ n s. not (member members n)
+    && surely_configured u n (λ b. satisfies_entry u e (variant n b)) s)
 
 -- a configured member may satisfy the entry
 unfoldable pub may_meet : Universe → List ℕ → May → Entry → Bool
-may_meet u members m e = some_name u m (λ n s. member members n && may_hold_configured u n (λ b. satisfies_entry u e (variant n b)) s)
+may_meet u members m e = some_name u m
+    (λ n s. member members n && may_hold_configured u n (λ b. satisfies_entry u e (variant n b)) s)
 
--- an entry of a variant that a configured name outside the set may hold: a member may meet it, and no other surely does
+-- an entry of a variant that a configured name outside the set may hold: a member may meet it, and
+-- no other surely does
 unfoldable pub may_be_needed : Universe → List ℕ → May → Bool
 may_be_needed u members m =
     some_name u m
-    (λ n s. not (member members n) && may_hold_configured u n (λ b. list_any (λ e. may_meet u members m e && not (surely_met_outside u members m e)) (entries u (variant n b))) s)
+    (λ n s. not (member members n)
+    && may_hold_configured u n (λ b. list_any
+    (λ e. may_meet u members m e && not (surely_met_outside u members m e))
+    (entries u (variant n b))) s)
 
 -- deconfigure and remove
 abbrev pub withdraw_risks : Universe → (MaySlot → Bool) → Lane → May → List ℕ → List (Bool × Trap)
@@ -84,26 +119,39 @@ withdraw_risks u right of m members =
 
 -- a present name may be unpacked alone, or hold a variant with an entry that is not surely met
 unfoldable pub may_be_unsettled : Universe → May → Bool
-may_be_unsettled u m = some_name u m (λ n s. is_surely_unpacked s || may_hold u n (λ b. unmet (surely_met u m) (entries u (variant n b))) s)
+may_be_unsettled u m = some_name u m
+    (λ n s. is_surely_unpacked s || may_hold u n
+    (λ b. unmet (surely_met u m) (entries u (variant n b))) s)
 
+-- build: each test of its traps
 abbrev pub build_risks : Universe → Lane → May → Recipe → List (Bool × Trap)
 build_risks u of m r =
     (may_exceed of m r.steps, OverBudget)
     ∷ (may_be_unsettled u m, Unsettled)
     ∷ (unmet (surely_met u m) r.needs, BuildDepends)
-    ∷ (some_name u m (λ n s. may_hold u n (λ b. satisfies_any u r.clashes (variant n b)) s), BuildConflict)
+    ∷ (
+      some_name u m (λ n s. may_hold u n (λ b. satisfies_any u r.clashes (variant n b)) s),
+      BuildConflict,
+    )
     ∷ (nat_lt (capacity u of) (may_use u m + r.scratch), Full)
     ∷ []
 
+-- publish: the cost may be over the budget; the recipe was not surely built
 abbrev pub publish_risks : Universe → Lane → May → ℕ → List (Bool × Trap)
-publish_risks u of m r = (may_exceed of m (length (outputs u r)), OverBudget) ∷ (not (was_built m.built r), NotBuilt) ∷ []
+publish_risks u of m r = (may_exceed of m (length (outputs u r)), OverBudget) ∷
+    (not (was_built m.built r), NotBuilt) ∷ []
 
--- the first trap that an instruction may meet, where `known` is surely in the archive and `there` may be
-abbrev pub risk : Universe → Lane → (Variant → Bool) → (Variant → Bool) → May → Instruction → Option Trap
-risk u of known there m (Unpack name wanted) = unpack_risk u there of m name wanted (newest u known name wanted)
+-- the first trap that an instruction may meet, where `known` is surely in the archive and `there`
+-- may be
+abbrev pub risk : Universe → Lane → (Variant → Bool) → (Variant → Bool) → May → Instruction
+    → Option Trap
+risk u of known there m (Unpack name wanted) =
+    unpack_risk u there of m name wanted (newest u known name wanted)
 risk u of known there m (Configure members) = first_trap (configure_risks u of m members)
-risk u of known there m (Deconfigure members) = first_trap (withdraw_risks u is_surely_configured of m members)
-risk u of known there m (Remove members) = first_trap (withdraw_risks u is_surely_present of m members)
+risk u of known there m (Deconfigure members) =
+    first_trap (withdraw_risks u is_surely_configured of m members)
+risk u of known there m (Remove members) =
+    first_trap (withdraw_risks u is_surely_present of m members)
 risk u of known there m (Build r) = first_trap (build_risks u of m (recipe u r))
 risk u of known there m (Publish r) = first_trap (publish_risks u of m r)
 risk u of known there m (Wait e) = None

@@ -12,9 +12,11 @@ use Rattle.plan_asm.specs.Known.{Rows, possible, KeepsRows}
 use Rattle.plan_asm.specs.Risk.{risk}
 use Rattle.plan_asm.specs.MayAt.{may_at}
 
+-- the first trap that the instruction there may meet, if there is one
 abbrev pub risk_of : Universe → Plan → Rows → ℕ → ℕ → Option Instruction → Option Trap
 risk_of u p rows l i None = None
-risk_of u p rows l i (Some x) = risk u (lane p l) (rows l i) (possible u p l i) (may_at u p rows l i) x
+risk_of u p rows l i (Some x) =
+    risk u (lane p l) (rows l i) (possible u p l i) (may_at u p rows l i) x
 
 -- the first trap that lane l's instruction at place i may meet; none past its end
 unfoldable pub risk_at : Universe → Plan → Rows → ℕ → ℕ → Option Trap
@@ -25,7 +27,8 @@ abbrev pub IsSafeUnder : Universe → Plan → Rows → Type 0
 IsSafeUnder u p rows = (l i : ℕ) → l < length p → risk_at u p rows l i ≡ None
 
 -- the first unsafe instruction of the first lane that has one
-pub record IsFirstUnsafe (u : Universe) (p : Plan) (rows : Rows) (l i : ℕ) (trap : Trap) : Type 0 where
+pub record IsFirstUnsafe (u : Universe) (p : Plan) (rows : Rows) (l i : ℕ)
+    (trap : Trap) : Type 0 where
   pub in_plan : l < length p
   pub here : risk_at u p rows l i ≡ Some trap
   pub before : (k : ℕ) → k < i → risk_at u p rows l k ≡ None

@@ -35,9 +35,11 @@ pub record IsPlan (u : Universe) (p : Plan) : Type 0 where
   -- a lane has a base chroot;
   pub bases : (l : ℕ) → l < length p → (lane p l).base < length u.bases
   -- instructions speak of what there is;
-  pub instructions : (l i : ℕ) (x : Instruction) → l < length p → instruction_at p l i ≡ Some x → IsInstruction u x
+  pub instructions : (l i : ℕ) (x : Instruction) → l < length p → instruction_at p l i ≡ Some x
+      → IsInstruction u x
   -- a recipe is published at one place at most.
-  pub published_once : (l k i j r : ℕ) → l < length p → k < length p → instruction_at p l i ≡ Some (Publish r) → instruction_at p k j ≡ Some (Publish r)
+  pub published_once : (l k i j r : ℕ) → l < length p → k < length p
+      → instruction_at p l i ≡ Some (Publish r) → instruction_at p k j ≡ Some (Publish r)
       → (l ≡ k) × (i ≡ j)
 
 -- what the readers make sure of

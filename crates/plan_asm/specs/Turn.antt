@@ -1,4 +1,5 @@
--- One turn of a lane: one instruction, or one output of a publish. The project's own rules, unless said.
+-- One turn of a lane: one instruction, or one output of a publish. The project's own rules, unless
+-- said.
 --
 --   LaneState             where a lane stands, its chroot, what it has spent and built
 --   newest, passes        the variant that an unpack takes; whether a wait passes
@@ -18,8 +19,8 @@ use Rattle.plan_asm.specs.declared.instructions.Instruction.{Instruction}
 use Rattle.plan_asm.specs.declared.instructions.Instruction.TheVariants.{Unpack, Configure, Deconfigure, Remove, Build, Publish, Wait}
 use Rattle.plan_asm.specs.Plan.{Lane, capacity, unpack_cost}
 
--- a lane: the instructions that are done, the outputs that are made of the publish it stands at, its chroot, what
--- it has spent, and for each recipe, by number, whether it has built it
+-- a lane: the instructions that are done, the outputs that are made of the publish it stands at,
+-- its chroot, what it has spent, and for each recipe, by number, whether it has built it
 pub record LaneState : Type 0 where
   pub done : ℕ
   pub made : ℕ
@@ -31,19 +32,29 @@ pub record LaneState : Type 0 where
 abbrev pub no_builds : Universe → List Bool
 no_builds u = replicate (length u.recipes) false
 
+-- the recipe is built
 abbrev pub was_built : List Bool → ℕ → Bool
 was_built built r = slice_index_or built r false
 
+-- the recipe is built too
 abbrev pub with_built : List Bool → ℕ → List Bool
 with_built built r = slice_set built r true
 
 -- a lane at its beginning, in its base chroot
 abbrev pub start_lane : Universe → Lane → LaneState
-start_lane u of = record { done = 0; made = 0; chroot = base_chroot u of.base; spent = 0; built = no_builds u }
+start_lane u of = record {
+  done = 0;
+  made = 0;
+  chroot = base_chroot u of.base;
+  spent = 0;
+  built =
+      no_builds u;
+}
 
 -- the highest variant of the name that is in the archive and in the relation
 unfoldable pub newest : Universe → (Variant → Bool) → ℕ → Option (Op × List ℕ) → Option ℕ
-newest u there name wanted = highest_below (variants u name) (λ b. there (variant name b) && is_wanted u wanted (variant name b))
+newest u there name wanted = highest_below (variants u name)
+    (λ b. there (variant name b) && is_wanted u wanted (variant name b))
 
 -- some variant in the archive satisfies an alternative of the entry (wanna-build's Dep-Wait)
 abbrev pub passes : Universe → (Variant → Bool) → Entry → Bool
@@ -59,17 +70,32 @@ pub data Turn : Type 0 where
 
 -- the lane behind its instruction
 abbrev pub past : LaneState → ℕ → Chroot → LaneState
-past st cost chroot = record { done = suc st.done; made = 0; chroot = chroot; spent = st.spent + cost; built = st.built }
+past st cost chroot = record {
+  done = suc st.done;
+  made = 0;
+  chroot = chroot;
+  spent =
+      st.spent + cost;
+  built = st.built;
+}
 
 -- the lane behind a build
 abbrev pub past_build : LaneState → ℕ → ℕ → LaneState
-past_build st cost r = record { done = suc st.done; made = 0; chroot = st.chroot; spent = st.spent + cost; built = with_built st.built r }
+past_build st cost r = record {
+  done = suc st.done;
+  made = 0;
+  chroot = st.chroot;
+  spent =
+      st.spent + cost;
+  built = with_built st.built r;
+}
 
 -- goes on, unless there is a trap
 abbrev pub unless : Option Trap → Turn → Turn
 unless None turn = turn
 unless (Some trap) turn = Fails trap
 
+-- with this cost the lane would spend more than its budget
 abbrev pub over_budget : Lane → LaneState → ℕ → Bool
 over_budget of st cost = nat_lt of.budget (st.spent + cost)
 
@@ -78,13 +104,21 @@ abbrev pub unpacks : Universe → Lane → LaneState → ℕ → Option ℕ → 
 unpacks u of st name None = Fails Missing
 unpacks u of st name (Some b) =
     let v = variant name b in
-    unless (first_trap ((over_budget of st (unpack_cost u v), OverBudget) ∷ unpack_traps u (capacity u of) st.chroot v)) (Goes (past st (unpack_cost u v) (unpacked st.chroot v)))
+    unless (first_trap ((over_budget of st (unpack_cost u v), OverBudget) ∷ unpack_traps u
+    (capacity u of) st.chroot v)) (Goes (past st (unpack_cost u v) (unpacked st.chroot v)))
 
 -- the lane behind one more of so many outputs: the last one ends the publish
 abbrev pub given : ℕ → LaneState → ℕ → LaneState
 given count st cost =
     if nat_lt (suc st.made) count
-    then record { done = st.done; made = suc st.made; chroot = st.chroot; spent = st.spent + cost; built = st.built }
+    then record {
+      done = st.done;
+      made = suc st.made;
+      chroot = st.chroot;
+      spent =
+          st.spent + cost;
+      built = st.built;
+    }
     else past st cost st.chroot
 
 -- a publish is charged whole with its first output
@@ -95,29 +129,43 @@ first_only (suc made) cost = 0
 -- and its traps are tried with its first output
 abbrev pub publish_traps : Universe → Lane → LaneState → ℕ → List (Bool × Trap)
 publish_traps u of st r =
-    ((st.made == 0) && over_budget of st (length (outputs u r)), OverBudget) ∷ ((st.made == 0) && not (was_built st.built r), NotBuilt) ∷ []
+    ((st.made == 0) && over_budget of st (length (outputs u r)), OverBudget) ∷
+    ((st.made == 0) && not (was_built st.built r), NotBuilt) ∷ []
 
 -- the next output of a publish, or none
 abbrev pub publishes : Universe → Lane → LaneState → ℕ → Option Variant → Turn
 publishes u of st r None = Waits
 publishes u of st r (Some v) =
-    unless (first_trap (publish_traps u of st r)) (Gives (given (length (outputs u r)) st (first_only st.made (length (outputs u r)))) v)
+    unless (first_trap (publish_traps u of st r))
+    (Gives (given (length (outputs u r)) st (first_only st.made (length (outputs u r)))) v)
 
 -- a lane's turn, at the instruction it stands at, over the archive that is there
 abbrev pub turn_of : Universe → (Variant → Bool) → Lane → LaneState → Option Instruction → Turn
 turn_of u there of st None = Ends
-turn_of u there of st (Some (Unpack name wanted)) = unpacks u of st name (newest u there name wanted)
+turn_of u there of st (Some (Unpack name wanted)) =
+    unpacks u of st name (newest u there name wanted)
 turn_of u there of st (Some (Configure members)) =
-    unless (first_trap ((over_budget of st (length members), OverBudget) ∷ configure_traps u st.chroot members))
+    unless (first_trap ((
+      over_budget of st (length members),
+      OverBudget,
+    ) ∷ configure_traps u st.chroot members))
     (Goes (past st (length members) (configured st.chroot members)))
 turn_of u there of st (Some (Deconfigure members)) =
-    unless (first_trap ((over_budget of st (length members), OverBudget) ∷ deconfigure_traps u st.chroot members))
+    unless (first_trap ((
+      over_budget of st (length members),
+      OverBudget,
+    ) ∷ deconfigure_traps u st.chroot members))
     (Goes (past st (length members) (deconfigured st.chroot members)))
 turn_of u there of st (Some (Remove members)) =
-    unless (first_trap ((over_budget of st (length members), OverBudget) ∷ remove_traps u st.chroot members))
+    unless (first_trap ((
+      over_budget of st (length members),
+      OverBudget,
+    ) ∷ remove_traps u st.chroot members))
     (Goes (past st (length members) (removed st.chroot members)))
 turn_of u there of st (Some (Build r)) =
-    unless (first_trap ((over_budget of st (recipe u r).steps, OverBudget) ∷ build_traps u (capacity u of) st.chroot (recipe u r)))
+    unless (first_trap ((over_budget of st (recipe u r).steps, OverBudget) ∷ build_traps u
+    (capacity u of) st.chroot (recipe u r)))
     (Goes (past_build st (recipe u r).steps r))
 turn_of u there of st (Some (Publish r)) = publishes u of st r (slice_get (outputs u r) st.made)
-turn_of u there of st (Some (Wait e)) = if passes u there e then Goes (past st 0 st.chroot) else Waits
+turn_of u there of st (Some (Wait e)) =
+    if passes u there e then Goes (past st 0 st.chroot) else Waits

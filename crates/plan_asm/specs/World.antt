@@ -1,5 +1,6 @@
--- A farm as the words of its archive and the lanes' records show it: each lane stands just after its last archive
--- step (an unpack, a passed wait or an output), or at its beginning. The project's own rules.
+-- A farm as the words of its archive and the lanes' records show it: each lane stands just after
+-- its last archive step (an unpack, a passed wait or an output), or at its beginning. The project's
+-- own rules.
 --
 --   World, start_world, Shows      words and records, and the state that they show
 --   settled, ready                 a lane's local instructions, up to its next archive step
@@ -20,9 +21,11 @@ pub record World : Type 0 where
   pub words : List ℕ
   pub lanes : List LaneState
 
+-- the first world: the initial archive, each lane at its beginning
 abbrev pub start_world : Universe → Plan → World
 start_world u p = record { words = u.initial; lanes = map (start_lane u) p }
 
+-- the record of the lane of this number
 abbrev pub world_lane : World → ℕ → LaneState
 world_lane w l = slice_index_or w.lanes l no_state
 
@@ -48,10 +51,14 @@ nothing v = false
 abbrev pub settled : Universe → Lane → List Instruction → LaneState → LaneState
 settled u of [] st = st
 settled u of (Unpack name wanted ∷ xs) st = st
-settled u of (Configure members ∷ xs) st = goes_on st (turn_of u nothing of st (Some (Configure members))) (λ next. settled u of xs next)
-settled u of (Deconfigure members ∷ xs) st = goes_on st (turn_of u nothing of st (Some (Deconfigure members))) (λ next. settled u of xs next)
-settled u of (Remove members ∷ xs) st = goes_on st (turn_of u nothing of st (Some (Remove members))) (λ next. settled u of xs next)
-settled u of (Build r ∷ xs) st = goes_on st (turn_of u nothing of st (Some (Build r))) (λ next. settled u of xs next)
+settled u of (Configure members ∷ xs) st =
+    goes_on st (turn_of u nothing of st (Some (Configure members))) (λ next. settled u of xs next)
+settled u of (Deconfigure members ∷ xs) st =
+    goes_on st (turn_of u nothing of st (Some (Deconfigure members))) (λ next. settled u of xs next)
+settled u of (Remove members ∷ xs) st =
+    goes_on st (turn_of u nothing of st (Some (Remove members))) (λ next. settled u of xs next)
+settled u of (Build r ∷ xs) st =
+    goes_on st (turn_of u nothing of st (Some (Build r))) (λ next. settled u of xs next)
 settled u of (Publish r ∷ xs) st = st
 settled u of (Wait e ∷ xs) st = st
 
@@ -66,7 +73,8 @@ with_bit words v = slice_set words v.name (bit_or (slice_index words v.name) (2 
 -- the lane's turn in the world; none where it does not step
 abbrev pub world_after : World → ℕ → Turn → Option World
 world_after w l (Goes next) = Some (record { words = w.words; lanes = slice_set w.lanes l next })
-world_after w l (Gives next v) = Some (record { words = with_bit w.words v; lanes = slice_set w.lanes l next })
+world_after w l (Gives next v) =
+    Some (record { words = with_bit w.words v; lanes = slice_set w.lanes l next })
 world_after w l _ = None
 
 -- the lane's local instructions and then its archive step; none where that cannot be made
@@ -75,9 +83,15 @@ archive_step u p w l =
     let st = ready u (lane p l) (world_lane w l) in
     world_after w l (turn_of u (has_bit w.words) (lane p l) st (instruction_at p l st.done))
 
--- the law of one archive step: from a world that shows a reachable state, a lane's local instructions give such a
--- world, and so does its archive step after them. The other lanes' records are as they were
+-- the law of one archive step: from a world that shows a reachable state, a lane's local
+-- instructions give such a world, and so does its archive step after them. The other lanes' records
+-- are as they were
 pub record OneArchiveStep (u : Universe) (p : Plan) : Type 0 where
   pub local : (w : World) (l : ℕ) → l < length p → IsShown u p w
-      → IsShown u p (record { words = w.words; lanes = slice_set w.lanes l (ready u (lane p l) (world_lane w l)) })
-  pub archive : (w next : World) (l : ℕ) → l < length p → IsShown u p w → archive_step u p w l ≡ Some next → IsShown u p next
+      → IsShown u p (record {
+        words = w.words;
+        lanes =
+            slice_set w.lanes l (ready u (lane p l) (world_lane w l));
+      })
+  pub archive : (w next : World) (l : ℕ) → l < length p → IsShown u p w
+      → archive_step u p w l ≡ Some next → IsShown u p next
