@@ -1,6 +1,5 @@
 -- Boards of waits and outputs: a list of lanes goes past a target only where the target can go on
--- itself; so a board
--- on which nothing more goes has done all that any list can do.
+-- itself; so a board on which nothing more goes has done all that any list can do.
 use Rattle.std.proofs.Common.{◌≡◌, ℕ, ◌<◌, Bool, true, false, ◌&&◌, ◌||◌, ◌⊎◌, inl, inr, List, [], ◌∷◌, ◌++◌, length, get_or, Some, None, slice_set, refl, sym, ap, ◌∙◌, subst, arith, length-set, get_or-set_same, get_or-set_other}
 use Rattle.std.specs.List.{list_any}
 use Rattle.std.proofs.lemmas.Option.{none-some, same_Some, cond_some}
@@ -46,8 +45,7 @@ passes-mono u p q e h =
 -- the target: what each lane has left there, and what is there
 module _ (u : Universe) (lanes : ℕ) (left : ℕ → List Item) (there : Variant → Bool) where
   -- a board that is not past the target: each lane has left what the target has left and some more,
-  -- whose outputs
-  -- the target has
+  -- whose outputs the target has
   pub record Behind (b : Board) : Type 0 where
     pub long : length b.rest ≡ lanes
     pub split : (l : ℕ) → l < lanes

@@ -1,6 +1,5 @@
 -- A chroot that a may map allows: each trap of an instruction is bounded by its risk, and the
--- chroot after the
--- instruction is allowed by the map after it.
+-- chroot after the instruction is allowed by the map after it.
 use Rattle.std.proofs.Common.{◌≡◌, ℕ, ◌+◌, ◌<◌, ◌≤◌, Bool, true, false, not, ◌&&◌, ◌==◌, inl, inr, List, [], ◌∷◌, length, Some, None, refl, sym, ap, ◌∙◌, subst, arith, zero-add, le_refl, length-set, get_or-set_same, get_or-set_other, if◌then◌else◌}
 use Rattle.std.specs.Prelude.{nat_lt}
 use Rattle.std.specs.List.{list_any}

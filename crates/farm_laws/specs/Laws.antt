@@ -1,6 +1,5 @@
 -- The laws of an annotated plan, for every universe and plan that the readers make, every family of
--- rows that keeps to
--- the inclusions and under which each instruction is safe, and every order.
+-- rows that keeps to the inclusions and under which each instruction is safe, and every order.
 use Rattle.std.specs.Prelude.{ℕ, List}
 use Rattle.farm_universe.specs.Universe.{Universe}
 use Rattle.plan_asm.specs.Plan.{Plan}
