@@ -1,10 +1,10 @@
 -- The longest front of a list by its length, and a list less its end.
 use Rattle.std.proofs.Common.{◌≡◌, ◌+◌, ◌-◌, ◌≤◌, Bool, true, false, ◌&&◌, List, [], ◌∷◌, ◌++◌, length, get_or, take, drop, refl, sym, ap, ◌∙◌, one-add, arith, inl, inr}
-use Rattle.std.proofs.lemmas.Bool.{cases_Bool, and_right}
+use Rattle.std.proofs.lemmas.Bool.{cases_Bool, and_right, or_parts}
 use Rattle.std.proofs.lemmas.List.{take_all, take_more}
 use Rattle.std.proofs.lemmas.List.Folds.{list_all-append}
-use Rattle.std.specs.List.{prefix_len, list_all}
-use Rattle.deb_text.specs.Cuts.{front, behind, without_end}
+use Rattle.std.specs.List.{prefix_len, list_all, list_any}
+use Rattle.deb_text.specs.Cuts.{before, after, front, behind, without_end}
 
 and_true : (b : Bool) → (b && true) ≡ b
 and_true true = refl
@@ -47,3 +47,12 @@ module _ {X : Type 0} (p : X → Bool) where
   without_end-whole xs d some is =
       ap (without_end p) (front_last xs d some)
       ∙ without_end-stays (take (length xs - 1) xs) (get_or xs (length xs - 1) d) is ∙ sym (front_last xs d some)
+
+  -- where none passes
+  pub before-none : (xs : List X) → list_any p xs ≡ false → before p xs ≡ xs
+  before-none [] none = refl
+  before-none (x ∷ xs) none = let parts = or_parts (p x) (list_any p xs) none in rw parts.0 (ap (λ ys. x ∷ ys) (before-none xs parts.1))
+
+  pub after-none : (xs : List X) → list_any p xs ≡ false → after p xs ≡ []
+  after-none [] none = refl
+  after-none (x ∷ xs) none = let parts = or_parts (p x) (list_any p xs) none in rw parts.0 (after-none xs parts.1)
