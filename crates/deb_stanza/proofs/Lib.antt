@@ -1,0 +1,6 @@
+pub mod CutLaws
+pub mod NameLaws
+pub mod PartsLaws
+pub mod StateLaws
+pub mod TableLaws
+pub mod PlainLaws

@@ -1,0 +1,5 @@
+pub mod Cut
+pub mod Draft
+pub mod Plain
+pub mod Stanza
+pub mod View

@@ -1,0 +1,84 @@
+//! The lines that begin a field.
+
+ghost use Rattle.std.specs.Prelude.{◌≡◌, nat_le, ◌&&◌, IfOk, true};
+ghost use Rattle.std.specs.List.{list_all, list_any};
+ghost use Rattle.deb_text.specs.Answers.{Gives, refusal_of, fault_at};
+ghost use Rattle.deb_text.specs.Bytes.{is_byte};
+ghost use Rattle.deb_text.specs.Cuts.{first_is, before, after};
+ghost use Rattle.deb_text.specs.Steps.{answer};
+ghost use Rattle.deb_stanza.specs.Draft.{lowered};
+ghost use Rattle.deb_stanza.specs.Stanza.{is_colon, is_field_name, name_of, name_fault, told_at, same_name};
+
+use deb_text::{Fault, Line, cut_at_first};
+use std::alloc::{AllocError, Global};
+
+/// The most bytes that a text has.
+pub const MOST_BYTES: usize = 67_108_864;
+
+/// A code told at a line.
+pub fn fault(line: u32, code: u16) -> Fault
+    ensures { result ≡ fault_at 0 line code }
+{
+    Fault {
+        file: 0,
+        line,
+        code,
+    }
+}
+
+fn are_name_bytes(name: &[u8]) -> bool
+    ensures { result ≡ list_all (λ b. nat_le 33 b && nat_le b 126) name.now }
+{
+    name.iter().all(|b| 33 <= *b && *b <= 126)
+}
+
+fn begins_with_hyphen(name: &[u8]) -> bool
+    ensures { result ≡ first_is (is_byte 45) name.now }
+{
+    name.first() == Some(&b'-')
+}
+
+fn is_field_name(name: &[u8]) -> bool
+    ensures { result ≡ is_field_name name.now }
+{
+    !name.is_empty() && !begins_with_hyphen(name) && are_name_bytes(name)
+}
+
+/// The name before the first colon of a line.
+pub fn head_name(line: Line<'_>) -> Result<&[u8], Fault>
+    ensures name { Gives refusal_of (λ name. name.now) result (answer (told_at line.entry.number (name_fault line.entry.bytes.now)) (name_of line.entry.bytes.now)) }
+    ensures colon { IfOk result (λ _. list_any is_colon line.entry.bytes.now ≡ true) }
+{
+    let Some((name, _)) = cut_at_first(b':', line.bytes) else {
+        return Err(fault(line.number, 102));
+    };
+    if !is_field_name(name) {
+        return Err(fault(line.number, 103));
+    }
+    Ok(name)
+}
+
+/// A name in small letters.
+pub fn lowered_name(alloc: Global, name: &[u8]) -> Result<Vec<u8>, AllocError>
+    ensures { IfOk result (λ key. key.items ≡ lowered name.now) }
+{
+    name.iter().map(|b| b.to_ascii_lowercase()).collect(alloc)
+}
+
+/// Tells whether two names are the same but for the case of ASCII letters.
+pub fn is_same_name(a: &[u8], b: &[u8]) -> bool
+    ensures { result ≡ same_name a.now b.now }
+{
+    a.eq_ignore_ascii_case(b)
+}
+
+/// The name of a field, and what stands behind the colon.
+pub fn cut_field(text: &[u8]) -> (&[u8], &[u8])
+    ensures name { result.0.now ≡ before is_colon text.now }
+    ensures value { result.1.now ≡ after is_colon text.now }
+{
+    match cut_at_first(b':', text) {
+        Some(cut) => cut,
+        None => (text, &text[text.len()..]),
+    }
+}

@@ -1,0 +1,186 @@
+//! The fields of all paragraphs, in one run of bytes.
+
+ghost use Rattle.std.specs.Prelude.{◌≡◌, ◌+◌, ◌<◌, ◌≤◌, ◌^◌, slice_index_or, slice_range, [], ◌∷◌, ◌++◌, length, OnOk};
+ghost use Rattle.std.specs.Option.{option_map};
+ghost use Rattle.deb_stanza.specs.Cut.{end_at, onto_last};
+ghost use Rattle.deb_stanza.specs.Draft.{longer, larger};
+ghost use Rattle.deb_stanza.specs.Stanza.{paragraph_at, value_of};
+ghost use Rattle.deb_stanza.specs.View.{IsSound, first_of, own, table_paragraphs, table_raws, table_texts, value_among, value_named};
+
+use crate::fields::{cut_field, is_same_name};
+use deb_text::trim;
+use std::alloc::{AllocError, Global};
+
+/// Where a paragraph or a line begins: the place of its first field or byte, and its number.
+#[derive(Clone, Copy, Debug)]
+pub struct Start {
+    pub first: u32,
+    pub line: u32,
+}
+
+/// The fields of all paragraphs. A field's text is its line and the lines that continue it,
+/// joined by newlines; it ends where the next one begins, and so does a paragraph.
+#[derive(Debug, Drop)]
+pub struct Table {
+    pub bytes: Vec<u8>,
+    pub fields: Vec<u32>,
+    pub paragraphs: Vec<Start>,
+}
+
+fn push_line(bytes: &mut Vec<u8>, line: &[u8]) -> Result<(), AllocError>
+    ensures { OnOk result (bytes.new.items ≡ bytes.old.items ++ 10 ∷ line.now) }
+{
+    bytes.push(b'\n')?;
+    bytes.extend_from_slice(line)?;
+    Ok(())
+}
+
+/// The bytes from one place up to another.
+pub fn part(bytes: &[u8], start: usize, end: usize) -> &[u8]
+    requires ascends { start ≤ end }
+    requires within { end ≤ length bytes.now }
+    ensures { result.now ≡ slice_range bytes.now start end }
+{
+    &bytes[start..end]
+}
+
+fn field_end(fields: &[u32], field: usize, end: usize) -> usize
+    requires { field < length fields.now }
+    ensures { result ≡ end_at own end fields.now field }
+{
+    match fields.get(field + 1) {
+        Some(next) => *next as usize,
+        None => end,
+    }
+}
+
+/// Where a part ends: where the next one begins, or at the end.
+pub fn start_end(starts: &[Start], place: usize, end: usize) -> usize
+    requires { place < length starts.now }
+    ensures { result ≡ end_at first_of end starts.now place }
+{
+    match starts.get(place + 1) {
+        Some(next) => next.first as usize,
+        None => end,
+    }
+}
+
+/// A table without paragraphs.
+pub fn empty_table(alloc: Global) -> Table
+    ensures raws { table_raws result ≡ [] }
+    ensures sound { IsSound result }
+    ensures bytes { result.bytes.items ≡ [] }
+{
+    Table {
+        bytes: Vec::new(alloc),
+        fields: Vec::new(alloc),
+        paragraphs: Vec::new(alloc),
+    }
+}
+
+impl Table {
+    fn push_text(&mut self, text: &[u8]) -> Result<(), AllocError>
+        requires room { length self.old.bytes.items + length text.now + 1 < 2 ^ 32 }
+        ensures bytes { OnOk result (self.new.bytes.items ≡ self.old.bytes.items ++ text.now) }
+        ensures fields { OnOk result (self.new.fields.items ≡ self.old.fields.items ++ length self.old.bytes.items ∷ []) }
+        ensures paragraphs { self.new.paragraphs.items ≡ self.old.paragraphs.items }
+    {
+        self.fields.push(self.bytes.len() as u32)?;
+        self.bytes.extend_from_slice(text)?;
+        Ok(())
+    }
+
+    /// Gives the last paragraph one more field.
+    pub fn add_field(&mut self, text: &[u8]) -> Result<(), AllocError>
+        requires sound { IsSound self.old }
+        requires some { 0 < length text.now }
+        requires room { length self.old.bytes.items + length text.now + 1 < 2 ^ 32 }
+        ensures raws { OnOk result (table_raws self.new ≡ onto_last (larger text.now) (table_raws self.old)) }
+        ensures sound { OnOk result (IsSound self.new) }
+        ensures bytes { OnOk result (self.new.bytes.items ≡ self.old.bytes.items ++ text.now) }
+        ensures paragraphs { self.new.paragraphs.items ≡ self.old.paragraphs.items }
+    {
+        self.push_text(text)?;
+        Ok(())
+    }
+
+    /// Begins a paragraph with its first field.
+    pub fn add_paragraph(&mut self, line: u32, text: &[u8]) -> Result<(), AllocError>
+        requires sound { IsSound self.old }
+        requires some { 0 < length text.now }
+        requires room { length self.old.bytes.items + length text.now + 1 < 2 ^ 32 }
+        ensures raws { OnOk result (table_raws self.new ≡ table_raws self.old ++ record { line = line; texts = text.now ∷ [] } ∷ []) }
+        ensures sound { OnOk result (IsSound self.new) }
+        ensures bytes { OnOk result (self.new.bytes.items ≡ self.old.bytes.items ++ text.now) }
+    {
+        let first = self.fields.len() as u32;
+        self.paragraphs.push(Start { first, line })?;
+        self.push_text(text)?;
+        Ok(())
+    }
+
+    /// Lets the last field go on with a line.
+    pub fn go_on(&mut self, line: &[u8]) -> Result<(), AllocError>
+        requires sound { IsSound self.old }
+        ensures raws { OnOk result (table_raws self.new ≡ onto_last (longer line.now) (table_raws self.old)) }
+        ensures sound { OnOk result (IsSound self.new) }
+        ensures bytes { OnOk result (self.new.bytes.items ≡ self.old.bytes.items ++ 10 ∷ line.now) }
+        ensures paragraphs { self.new.paragraphs.items ≡ self.old.paragraphs.items }
+    {
+        push_line(&mut self.bytes, line)?;
+        Ok(())
+    }
+
+    /// The text of a field.
+    fn text(&self, field: usize) -> &[u8]
+        requires sound { IsSound self.now }
+        requires within { field < length self.now.fields.items }
+        ensures { result.now ≡ slice_index_or (table_texts self.now) field [] }
+    {
+        let start = self.fields[field] as usize;
+        part(
+            &self.bytes,
+            start,
+            field_end(&self.fields, field, self.bytes.len()),
+        )
+    }
+
+    /// The value of a field, if this is its name.
+    fn value_named(&self, field: usize, name: &[u8]) -> Option<&[u8]>
+        requires sound { IsSound self.now }
+        requires within { field < length self.now.fields.items }
+        ensures { option_map (λ value. value.now) result ≡ value_named name.now (slice_index_or (table_texts self.now) field []) }
+    {
+        let (given, value) = cut_field(self.text(field));
+        if is_same_name(name, given) {
+            Some(trim(value))
+        } else {
+            None
+        }
+    }
+
+    /// The value of the first of some fields that has this name.
+    fn value_among(&self, from: usize, to: usize, name: &[u8]) -> Option<&[u8]>
+        requires sound { IsSound self.now }
+        requires within { to ≤ length self.now.fields.items }
+        ensures { option_map (λ value. value.now) result ≡ value_among name.now (slice_range (table_texts self.now) from to) }
+    {
+        for field in from..to {
+            if let Some(value) = self.value_named(field, name) {
+                return Some(value);
+            }
+        }
+        None
+    }
+
+    /// The value of the field of that name in a paragraph.
+    pub fn value(&self, paragraph: usize, name: &[u8]) -> Option<&[u8]>
+        requires sound { IsSound self.now }
+        requires within { paragraph < length self.now.paragraphs.items }
+        ensures { option_map (λ value. value.now) result ≡ value_of (paragraph_at (table_paragraphs self.now) paragraph) name.now }
+    {
+        let start = self.paragraphs[paragraph].first as usize;
+        let end = start_end(&self.paragraphs, paragraph, self.fields.len());
+        self.value_among(start, end, name)
+    }
+}
