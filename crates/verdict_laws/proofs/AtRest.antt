@@ -16,19 +16,25 @@ use Rattle.farm_laws.proofs.Boards.{stuck_exact}
 use Rattle.verdict_laws.specs.Stuck.{is_left, lanes_left, EachRestIsExact, LanesLeftAreLeft}
 
 -- an item leaves as many lanes as there were
-after_long : (u : Universe) (b next : Board) (l : ℕ) (is : List Item) → board_after u b l is ≡ Some next → length next.rest ≡ length b.rest
+after_long : (u : Universe) (b next : Board) (l : ℕ) (is : List Item)
+    → board_after u b l is ≡ Some next → length next.rest ≡ length b.rest
 after_long u b next l [] e = absurd (none-some next e)
 after_long u b next l (Pass entry ∷ is) e =
-    let r = cond_some _ _ _ e in sym (ap (λ (x : Board). length x.rest) r.1) ∙ length-set b.rest l is
-after_long u b next l (Give v ∷ is) e = sym (ap (λ (x : Board). length x.rest) (same_Some _ _ e)) ∙ length-set b.rest l is
+    let r =
+    cond_some _ _ _ e in sym (ap (λ (x : Board). length x.rest) r.1) ∙ length-set b.rest l is
+after_long u b next l (Give v ∷ is) e =
+    sym (ap (λ (x : Board). length x.rest) (same_Some _ _ e)) ∙ length-set b.rest l is
 
-reaches_long : (u : Universe) (ls : List ℕ) (b t : Board) → Reaches u b ls t → length t.rest ≡ length b.rest
+reaches_long : (u : Universe) (ls : List ℕ) (b t : Board) → Reaches u b ls t
+    → length t.rest ≡ length b.rest
 reaches_long u [] b t r = sym (ap (λ (x : Board). length x.rest) r)
 reaches_long u (l ∷ ls) b t r = reaches_long u ls r.0 t r.2 ∙ after_long u b r.0 l (rest_of b l) r.1
 
 -- a lane that has something left is a lane of the board
 left_lane : (b : Board) (l : ℕ) → rest_of b l ≢ [] → l < length b.rest
-left_lane b l ne = elim (cases_lt l (length b.rest)) [ inl lt ↦ lt | inr past ↦ absurd (ne (get_or_past b.rest l [] past)) ]
+left_lane b l ne =
+    elim (cases_lt l (length b.rest))
+    [ inl lt ↦ lt | inr past ↦ absurd (ne (get_or_past b.rest l [] past)) ]
 
 -- a list is empty where it cannot be otherwise
 empty : (xs : List Item) → ((xs ≢ []) → ⊥) → xs ≡ []
@@ -44,18 +50,37 @@ each_rest_is_exact u p order end way rest =
       cannot_end = cannot_end;
       left = left;
       stuck = λ lanes are. record {
-        stuck = λ k d lt. (omega (arith, long, left_lane end (get_or lanes k d) (are.left k d lt)), cannot_end (get_or lanes k d) (are.left k d lt));
+        stuck =
+            λ k d lt. (
+              omega (
+                arith,
+                long,
+                left_lane end (get_or lanes k d)
+                    (are.left k d lt),
+              ),
+              cannot_end (get_or lanes k d) (are.left k d lt),
+            );
         all = λ l lt cannot. are.all l (left l cannot);
         in_order = are.in_order;
       };
-      is_order = λ none. record { end = end; way = way; all_done = λ l. empty (rest_of end l) (λ ne. nothing_in l (none.all l ne)) };
+      is_order =
+          λ none. record {
+            end = end;
+            way = way;
+            all_done = λ l. empty (rest_of end l)
+                (λ ne. nothing_in l (none.all l ne));
+          };
     }
   where
     long : length end.rest ≡ length p
-    long = reaches_long u order (start_board u p) end way ∙ length-map p (λ (of : Lane). items u of.instructions)
+    long =
+        reaches_long u order (start_board u p) end way
+        ∙ length-map p (λ (of : Lane). items u of.instructions)
 
     cannot_end : (l : ℕ) → rest_of end l ≢ [] → CannotEnd u p l
-    cannot_end l ne other_order other r e = ne (stuck_exact u (start_board u p) end other order other_order way rest r l (left_lane end l ne) e)
+    cannot_end l ne other_order other r e =
+        ne (stuck_exact u (start_board u p) end other order other_order way rest r l
+        (left_lane end l ne) e)
 
     left : (l : ℕ) → CannotEnd u p l → rest_of end l ≢ []
     left l cannot = cannot order end way
@@ -94,10 +119,19 @@ rising a n k lt =
 pub lanes_left_are_left : LanesLeftAreLeft
 lanes_left_are_left b =
     record {
-      left = λ k d lt. is_left-ne (rest_of b (get_or (lanes_left b) k d)) (filter_passes (λ l. is_left (rest_of b l)) (range_with_len 0 (length b.rest)) k d lt);
+      left =
+          λ k d lt. is_left-ne (rest_of b (get_or (lanes_left b) k d))
+          (filter_passes (λ l. is_left (rest_of b l)) (range_with_len 0 (length b.rest)) k d lt);
       all = λ l ne.
           let lt = left_lane b l ne in
-          kept (λ l. is_left (rest_of b l)) (range_with_len 0 (length b.rest)) l (is_left-true (rest_of b l) ne)
-          (l, omega (arith, lt, length-range_with_len 0 (length b.rest)), get_or-range_with_len 0 (length b.rest) l l lt ∙ omega arith);
-      in_order = IsStrictlyIncreasing-filter (λ l. is_left (rest_of b l)) (range_with_len 0 (length b.rest)) (rising 0 (length b.rest));
+          kept (λ l. is_left (rest_of b l)) (range_with_len 0 (length b.rest)) l
+          (is_left-true (rest_of b l) ne) (
+            l,
+            omega (arith, lt, length-range_with_len 0 (length b.rest)),
+            get_or-range_with_len 0
+                (length b.rest) l l lt ∙ omega arith,
+          );
+      in_order =
+          IsStrictlyIncreasing-filter (λ l. is_left (rest_of b l))
+          (range_with_len 0 (length b.rest)) (rising 0 (length b.rest));
     }

@@ -14,13 +14,27 @@ pub first_unsafe_is_one : FirstUnsafeIsOne
 first_unsafe_is_one u p rows l i k j t t' a b =
     elim (cases_order l k) [
       | inl same ↦ of_lane same (cases_order i j)
-      | inr other ↦ elim other [ inl lt ↦ absurd (none-some t (sym (b.lanes_before l i lt) ∙ a.here)) | inr lt ↦ absurd (none-some t' (sym (a.lanes_before k j lt) ∙ b.here)) ]
+      | inr other ↦
+          elim other [
+            | inl lt ↦ absurd
+                (none-some t (sym (b.lanes_before l i lt) ∙ a.here))
+            | inr lt ↦ absurd
+                (none-some t' (sym (a.lanes_before k j lt) ∙ b.here))
+          ]
     ]
   where
     of_lane : l ≡ k → (i ≡ j) ⊎ ((i < j) ⊎ (j < i)) → (l ≡ k) × (i ≡ j) × (t ≡ t')
-    of_lane same (inl place) = (same, place, same_Some t t' (sym a.here ∙ ap (λ n. risk_at u p rows n i) same ∙ ap (risk_at u p rows k) place ∙ b.here))
-    of_lane same (inr (inl lt)) = absurd (none-some t (sym (b.before i lt) ∙ ap (λ n. risk_at u p rows n i) (sym same) ∙ a.here))
-    of_lane same (inr (inr lt)) = absurd (none-some t' (sym (a.before j lt) ∙ ap (λ n. risk_at u p rows n j) same ∙ b.here))
+    of_lane same (inl place) = (
+      same,
+      place,
+      same_Some t t'
+          (sym a.here ∙ ap (λ n. risk_at u p rows n i) same ∙ ap (risk_at u p rows k) place ∙ b.here),
+    )
+    of_lane same (inr (inl lt)) =
+        absurd (none-some t (sym (b.before i lt) ∙ ap (λ n. risk_at u p rows n i) (sym same)
+        ∙ a.here))
+    of_lane same (inr (inr lt)) =
+        absurd (none-some t' (sym (a.before j lt) ∙ ap (λ n. risk_at u p rows n j) same ∙ b.here))
 
 -- the first of the numbers below n that has a trap
 record FirstBelow (f : ℕ → Option Trap) (n : ℕ) : Type 0 where
@@ -35,12 +49,27 @@ first_below f zero = inl (λ k lt. absurd (omega arith))
 first_below f (suc n) =
     elim (first_below f n) [
       | inl none ↦ here none (f n) refl
-      | inr r ↦ inr (record { place = r.place; trap = r.trap; below = omega (arith, r.below); is = r.is; before = r.before })
+      | inr r ↦
+          inr (record {
+            place = r.place;
+            trap = r.trap;
+            below = omega
+                (arith, r.below);
+            is = r.is;
+            before = r.before;
+          })
     ]
   where
-    here : ((k : ℕ) → k < n → f k ≡ None) → (o : Option Trap) → f n ≡ o → ((k : ℕ) → k < suc n → f k ≡ None) ⊎ FirstBelow f (suc n)
-    here none None e = inl (λ k lt. elim (cases_eq k n) [ inl same ↦ ap f same ∙ e | inr other ↦ none k (omega arith) ])
-    here none (Some t) e = inr (record { place = n; trap = t; below = omega arith; is = e; before = none })
+    here : ((k : ℕ) → k < n → f k ≡ None) → (o : Option Trap) → f n ≡ o
+        → ((k : ℕ) → k < suc n → f k ≡ None) ⊎ FirstBelow f (suc n)
+    here none None e =
+        inl (λ k lt. elim (cases_eq k n) [
+          | inl same ↦ ap f same
+              ∙ e
+          | inr other ↦ none k (omega arith)
+        ])
+    here none (Some t) e =
+        inr (record { place = n; trap = t; below = omega arith; is = e; before = none })
 
 module _ (u : Universe) (p : Plan) (rows : Rows) where
   -- past the end of a lane there is none
@@ -60,17 +89,30 @@ module _ (u : Universe) (p : Plan) (rows : Rows) where
   first_lane (suc n) =
       elim (first_lane n) [
         | inl none ↦ here none (first_below (risk_at u p rows n) (length (lane p n).instructions))
-        | inr r ↦ inr (record { lane_number = r.lane_number; below = omega (arith, r.below); first = r.first; before = r.before })
+        | inr r ↦
+            inr (record {
+              lane_number = r.lane_number;
+              below = omega
+                  (arith, r.below);
+              first = r.first;
+              before = r.before;
+            })
       ]
     where
-      here : ((j k : ℕ) → j < n → risk_at u p rows j k ≡ None) → ((k : ℕ) → k < length (lane p n).instructions → risk_at u p rows n k ≡ None) ⊎ FirstBelow (risk_at u p rows n) (length (lane p n).instructions)
+      here : ((j k : ℕ) → j < n → risk_at u p rows j k ≡ None)
+          → ((k : ℕ) → k < length (lane p n).instructions → risk_at u p rows n k ≡ None)
+          ⊎ FirstBelow (risk_at u p rows n) (length (lane p n).instructions)
           → ((j k : ℕ) → j < suc n → risk_at u p rows j k ≡ None) ⊎ FirstLane (suc n)
       here none (inl safe) =
           inl (λ j k lt. elim (cases_eq j n) [
-            | inl same ↦ ap (λ m. risk_at u p rows m k) same ∙ elim (cases_lt k (length (lane p n).instructions)) [ inl within ↦ safe k within | inr past ↦ none_past n k past ]
+            | inl same ↦
+                ap (λ m. risk_at u p rows m k) same
+                ∙ elim (cases_lt k (length (lane p
+                n).instructions)) [ inl within ↦ safe k within | inr past ↦ none_past n k past ]
             | inr other ↦ none j k (omega arith)
           ])
-      here none (inr r) = inr (record { lane_number = n; below = omega arith; first = r; before = none })
+      here none (inr r) =
+          inr (record { lane_number = n; below = omega arith; first = r; before = none })
 
 -- each instruction is safe, or there is a first unsafe one
 pub safe_or_first_unsafe : SafeOrFirstUnsafe
@@ -81,6 +123,13 @@ safe_or_first_unsafe u p rows =
         lane = r.lane_number;
         place = r.first.place;
         trap = r.first.trap;
-        is = record { in_plan = r.below; here = r.first.is; before = r.first.before; lanes_before = r.before };
+        is =
+            record {
+              in_plan = r.below;
+              here = r.first.is;
+              before = r.first.before;
+              lanes_before =
+                  r.before;
+            };
       })
     ]

@@ -18,8 +18,11 @@ use Rattle.plan_asm.specs.Known.{Rows, gives, within_reach, possible, IsFact, Ad
 use Rattle.farm_laws.proofs.Archive.{same-true, same-refl, list_any-take}
 use Rattle.verdict_laws.specs.Greatest.{every_variant, is_that, follows_at, is_fact, adds}
 
-pub every_variant-all : (u : Universe) (test : Variant → Bool) → ((v : Variant) → test v ≡ true) → every_variant u test ≡ true
-every_variant-all u test h = every_below-all (names u) _ (λ n lt. every_below-all (variants u n) _ (λ b lt'. h (variant n b)))
+pub every_variant-all : (u : Universe) (test : Variant → Bool) → ((v : Variant) → test v ≡ true)
+    → every_variant u test ≡ true
+every_variant-all u test h =
+    every_below-all (names u) _ (λ n lt. every_below-all (variants u n) _
+    (λ b lt'. h (variant n b)))
 
 -- a name with a variant is a name of the universe
 name_within : (u : Universe) (v : Variant) → IsKnown u v → v.name < names u
@@ -27,22 +30,32 @@ unfolding names variants
 name_within u v known =
     elim (cases_lt v.name (length u.packages)) [
       | inl lt ↦ lt
-      | inr past ↦ let none : length (get_or u.packages v.name []) ≡ 0 = ap length (get_or_past u.packages v.name [] past) in absurd (omega (arith, none, known))
+      | inr past ↦ let none : length (get_or u.packages v.name []) ≡ 0 =
+          ap length (get_or_past u.packages v.name [] past) in absurd (omega (arith, none, known))
     ]
 
-pub every_variant-at : (u : Universe) (test : Variant → Bool) (v : Variant) → IsKnown u v → every_variant u test ≡ true → test v ≡ true
+pub every_variant-at : (u : Universe) (test : Variant → Bool) (v : Variant) → IsKnown u v
+    → every_variant u test ≡ true → test v ≡ true
 every_variant-at u test v known e =
     every_below-at (variants u v.name) (λ b. test (variant v.name b)) v.bit known
-    (every_below-at (names u) (λ n. every_below (variants u n) (λ b. test (variant n b))) v.name (name_within u v known) e)
+    (every_below-at (names u) (λ n. every_below (variants u n) (λ b. test (variant n b))) v.name
+    (name_within u v known) e)
 
-contained : (P : Variant → Type 0) (vs : List Variant) (v : Variant) → All P vs → contains vs v ≡ true → P v
+contained : (P : Variant → Type 0) (vs : List Variant) (v : Variant) → All P vs
+    → contains vs v ≡ true → P v
 contained P [] v all e = absurd (false≢true e)
 contained P (w ∷ ws) v all e =
-    elim (or_cases (same w v) _ e) [ inl here ↦ subst P (same-true w v here) (All-head P w ws all) | inr rest ↦ contained P ws v (All-tail P w ws all) rest ]
+    elim (or_cases (same w v) _ e) [
+      | inl here ↦ subst P (same-true w v here)
+          (All-head P w ws all)
+      | inr rest ↦ contained P ws v (All-tail P w ws all) rest
+    ]
 
-given_by : (P : Type 0) (test : Instruction → Bool) (xs : List Instruction) → ((x : Instruction) → test x ≡ true → P) → list_any test xs ≡ true → P
+given_by : (P : Type 0) (test : Instruction → Bool) (xs : List Instruction)
+    → ((x : Instruction) → test x ≡ true → P) → list_any test xs ≡ true → P
 given_by P test [] h e = absurd (false≢true e)
-given_by P test (x ∷ xs) h e = elim (or_cases (test x) _ e) [ inl here ↦ h x here | inr rest ↦ given_by P test xs h rest ]
+given_by P test (x ∷ xs) h e =
+    elim (or_cases (test x) _ e) [ inl here ↦ h x here | inr rest ↦ given_by P test xs h rest ]
 
 module _ (u : Universe) (is : IsUniverse u) where
   gives-known : (v : Variant) (x : Instruction) → gives u v x ≡ true → IsKnown u v
@@ -61,12 +74,18 @@ module _ (u : Universe) (is : IsUniverse u) where
       elim (or_cases (initial u v) _ e) [
         | inl here ↦ is.initial_known v here
         | inr some ↦
-            let f = some_below-found (length p) (λ j. list_any (gives u v) (within_reach p l i j)) some in
-            given_by (IsKnown u v) (gives u v) (lane p f.0).instructions (gives-known v) (all f.0 (cases_eq f.0 l) f.2)
+            let f =
+            some_below-found (length p) (λ j. list_any (gives u v)
+            (within_reach p l i j)) some in
+            given_by (IsKnown u v) (gives u v) (lane p f.0).instructions (gives-known v)
+            (all f.0 (cases_eq f.0 l) f.2)
       ]
     where
-      all : (j : ℕ) → (j ≡ l) ⊎ (j ≡ l → ⊥) → list_any (gives u v) (within_reach p l i j) ≡ true → list_any (gives u v) (lane p j).instructions ≡ true
-      all j (inl own) h = let first : list_any (gives u v) (take i (lane p j).instructions) ≡ true = rw (eq-eqb j l own) at h in list_any-take (gives u v) i (lane p j).instructions first
+      all : (j : ℕ) → (j ≡ l) ⊎ (j ≡ l → ⊥) → list_any (gives u v) (within_reach p l i j) ≡ true
+          → list_any (gives u v) (lane p j).instructions ≡ true
+      all j (inl own) h =
+          let first : list_any (gives u v) (take i (lane p j).instructions) ≡ true = rw
+          (eq-eqb j l own) at h in list_any-take (gives u v) i (lane p j).instructions first
       all j (inr other) h = rw (ne_eqb j l other) at h
 
   module _ (p : Plan) (rows : Rows) where
@@ -76,41 +95,68 @@ module _ (u : Universe) (is : IsUniverse u) where
     fact-sound c v e =
         let parts = and_parts _ _ e in
         record {
-          from_start = λ start. elim (or_cases (not (initial u c)) (initial u v) parts.0) [ inl none ↦ absurd (both_ways (initial u c) (not-true _ none) start) | inr here ↦ here ];
+          from_start =
+              λ start. elim (or_cases (not (initial u c)) (initial u v) parts.0) [
+                | inl none ↦ absurd
+                    (both_ways (initial u c) (not-true _ none) start)
+                | inr here ↦ here
+              ];
           from_output = λ j k r m lt at out. by_output j k r m at out
-              (every_below-at (length (lane p j).instructions) (λ k. follows_at u (rows j k v) c v (instruction_at p j k)) k (slice_get_within (lane p j).instructions k (Publish r) at)
-              (every_below-at (length p) (λ j. every_below (length (lane p j).instructions) (λ k. follows_at u (rows j k v) c v (instruction_at p j k))) j lt parts.1));
+              (every_below-at (length (lane p j).instructions)
+              (λ k. follows_at u (rows j k v) c v (instruction_at p j k)) k
+              (slice_get_within (lane p j).instructions k (Publish r) at)
+              (every_below-at (length p) (λ j. every_below (length (lane p j).instructions)
+              (λ k. follows_at u (rows j k v) c v (instruction_at p j k))) j lt parts.1));
         }
       where
-        by_output : (j k r m : ℕ) → instruction_at p j k ≡ Some (Publish r) → slice_get (outputs u r) m ≡ Some c → follows_at u (rows j k v) c v (instruction_at p j k) ≡ true
+        by_output : (j k r m : ℕ) → instruction_at p j k ≡ Some (Publish r)
+            → slice_get (outputs u r) m ≡ Some c
+            → follows_at u (rows j k v) c v (instruction_at p j k) ≡ true
             → (rows j k v ≡ true) ⊎ (contains (take (suc m) (outputs u r)) v ≡ true)
         by_output j k r m at out h =
             let all : follows_at u (rows j k v) c v (Some (Publish r)) ≡ true = rw at at h in
-            let one = every_below-at (length (outputs u r)) (λ m. not (is_that (slice_get (outputs u r) m) c) || (rows j k v || contains (take (suc m) (outputs u r)) v)) m (slice_get_within (outputs u r) m c out) all in
+            let one =
+            every_below-at (length (outputs u r))
+            (λ m. not (is_that (slice_get (outputs u r) m) c) ||
+            (rows j k v || contains (take (suc m) (outputs u r)) v)) m
+            (slice_get_within (outputs u r) m c out) all in
             elim (or_cases _ _ one) [
-              | inl none ↦ absurd (both_ways _ (not-true _ none) (ap (λ o. is_that o c) out ∙ same-refl c))
+              | inl none ↦
+                  absurd (both_ways _ (not-true _ none) (ap (λ o. is_that o c) out ∙ same-refl c))
               | inr some ↦ or_cases (rows j k v) _ some
             ]
 
-    fact_at : (c v : Variant) → IsFact u p rows c v → (j k : ℕ) → j < length p → (o : Option Instruction) → instruction_at p j k ≡ o → follows_at u (rows j k v) c v o ≡ true
+    fact_at : (c v : Variant) → IsFact u p rows c v → (j k : ℕ) → j < length p
+        → (o : Option Instruction) → instruction_at p j k ≡ o
+        → follows_at u (rows j k v) c v o ≡ true
     fact_at c v f j k lt None at = refl
     fact_at c v f j k lt (Some (Unpack name wanted)) at = refl
     fact_at c v f j k lt (Some (Configure members)) at = refl
     fact_at c v f j k lt (Some (Deconfigure members)) at = refl
     fact_at c v f j k lt (Some (Remove members)) at = refl
     fact_at c v f j k lt (Some (Build r)) at = refl
-    fact_at c v f j k lt (Some (Publish r)) at = every_below-all (length (outputs u r)) _ (λ m in_outputs. by m (slice_get (outputs u r) m) refl)
+    fact_at c v f j k lt (Some (Publish r)) at =
+        every_below-all (length (outputs u r)) _
+        (λ m in_outputs. by m (slice_get (outputs u r) m) refl)
       where
-        by : (m : ℕ) (o : Option Variant) → slice_get (outputs u r) m ≡ o → (not (is_that (slice_get (outputs u r) m) c) || (rows j k v || contains (take (suc m) (outputs u r)) v)) ≡ true
+        by : (m : ℕ) (o : Option Variant) → slice_get (outputs u r) m ≡ o
+            → (not (is_that (slice_get (outputs u r) m) c) ||
+            (rows j k v || contains (take (suc m) (outputs u r)) v)) ≡ true
         by m None out = rw out refl
         by m (Some w) out =
             elim (cases_Bool (same w c)) [
-              | inl yes_it ↦ or_right (not (is_that (slice_get (outputs u r) m) c)) (rows j k v || contains (take (suc m) (outputs u r)) v)
+              | inl yes_it ↦
+                  or_right (not (is_that (slice_get (outputs u r) m) c))
+                  (rows j k v || contains (take (suc m) (outputs u r)) v)
                   (elim (f.from_output j k r m lt at (out ∙ ap Some (same-true w c yes_it))) [
-                    | inl known ↦ or_left (rows j k v) (contains (take (suc m) (outputs u r)) v) known
-                    | inr with_it ↦ or_right (rows j k v) (contains (take (suc m) (outputs u r)) v) with_it
+                    | inl known ↦
+                        or_left (rows j k v) (contains (take (suc m) (outputs u r)) v) known
+                    | inr with_it ↦
+                        or_right (rows j k v) (contains (take (suc m) (outputs u r)) v) with_it
                   ])
-              | inr not_it ↦ or_left (not (is_that (slice_get (outputs u r) m) c)) _ (not_from_false _ (ap (λ o. is_that o c) out ∙ not_it))
+              | inr not_it ↦
+                  or_left (not (is_that (slice_get (outputs u r) m) c)) _
+                  (not_from_false _ (ap (λ o. is_that o c) out ∙ not_it))
             ]
     fact_at c v f j k lt (Some (Wait e)) at = refl
 
@@ -118,11 +164,18 @@ module _ (u : Universe) (is : IsUniverse u) where
     unfolding is_fact
     fact-complete c v f =
         and_from _ _
-        (elim (cases_Bool (initial u c)) [ inl here ↦ or_right (not (initial u c)) _ (f.from_start here) | inr none ↦ or_left _ (initial u v) (not_from_false _ none) ])
-        (every_below-all (length p) _ (λ j lt. every_below-all (length (lane p j).instructions) _ (λ k lt'. fact_at c v f j k lt (instruction_at p j k) refl)))
+        (elim (cases_Bool (initial u c)) [
+          | inl here ↦ or_right (not (initial u c)) _ (f.from_start here)
+          | inr none ↦ or_left _
+              (initial u v) (not_from_false _ none)
+        ])
+        (every_below-all (length p) _
+        (λ j lt. every_below-all (length (lane p j).instructions) _
+        (λ k lt'. fact_at c v f j k lt (instruction_at p j k) refl)))
 
     -- the test of what an instruction adds
-    pub adds-sound : (l i : ℕ) (v : Variant) (x : Instruction) → adds u p rows l i v x ≡ true → Adds u p rows l i v x
+    pub adds-sound : (l i : ℕ) (v : Variant) (x : Instruction) → adds u p rows l i v x ≡ true
+        → Adds u p rows l i v x
     adds-sound l i v (Unpack name wanted) e = absurd (false≢true e)
     adds-sound l i v (Configure members) e = absurd (false≢true e)
     adds-sound l i v (Deconfigure members) e = absurd (false≢true e)
@@ -132,13 +185,17 @@ module _ (u : Universe) (is : IsUniverse u) where
     adds-sound l i v (Wait entry) e =
         let parts = and_parts (possible u p l i v) _ e in (
           parts.0,
-          λ c may sat. elim (or_cases _ _ (every_variant-at u (λ c. not (possible u p l i c && satisfies_entry u entry c) || is_fact u p rows c v) c (possible-known p l i c may) parts.1)) [
-            | inl none ↦ absurd (both_ways _ (not-true _ none) (and_from _ _ may sat))
-            | inr fact ↦ fact-sound c v fact
-          ],
+          λ c may sat. elim (or_cases _ _
+              (every_variant-at u (λ c. not
+              (possible u p l i c && satisfies_entry u entry c) || is_fact u p rows c v) c
+              (possible-known p l i c may) parts.1)) [
+                | inl none ↦ absurd (both_ways _ (not-true _ none) (and_from _ _ may sat))
+                | inr fact ↦ fact-sound c v fact
+              ],
         )
 
-    pub adds-complete : (l i : ℕ) (v : Variant) (x : Instruction) → Adds u p rows l i v x → adds u p rows l i v x ≡ true
+    pub adds-complete : (l i : ℕ) (v : Variant) (x : Instruction) → Adds u p rows l i v x
+        → adds u p rows l i v x ≡ true
     adds-complete l i v (Unpack name wanted) add = absurd add
     adds-complete l i v (Configure members) add = absurd add
     adds-complete l i v (Deconfigure members) add = absurd add
@@ -147,8 +204,13 @@ module _ (u : Universe) (is : IsUniverse u) where
     adds-complete l i v (Publish r) add = add
     adds-complete l i v (Wait entry) add =
         and_from _ _ add.0
-        (every_variant-all u (λ c. not (possible u p l i c && satisfies_entry u entry c) || is_fact u p rows c v)
+        (every_variant-all u (λ c. not
+        (possible u p l i c && satisfies_entry u entry c) || is_fact u p rows c v)
         (λ c. elim (cases_Bool (possible u p l i c && satisfies_entry u entry c)) [
-          | inl both ↦ let parts = and_parts _ _ both in or_right (not (possible u p l i c && satisfies_entry u entry c)) (is_fact u p rows c v) (fact-complete c v (add.1 c parts.0 parts.1))
-          | inr none ↦ or_left (not (possible u p l i c && satisfies_entry u entry c)) (is_fact u p rows c v) (not_from_false _ none)
+          | inl both ↦ let parts =
+              and_parts _ _ both in or_right (not (possible u p l i c && satisfies_entry u entry c))
+              (is_fact u p rows c v) (fact-complete c v (add.1 c parts.0 parts.1))
+          | inr none ↦
+              or_left (not (possible u p l i c && satisfies_entry u entry c)) (is_fact u p rows c v)
+              (not_from_false _ none)
         ]))

@@ -7,4 +7,5 @@ pub mod Inclusions
 pub mod Rounds
 pub mod Narrower
 pub mod NarrowMaps
+pub mod Candidates
 pub mod MoreSafe

@@ -1,14 +1,12 @@
 -- What is safe under fewer known variants is safe under more.
-use Rattle.std.proofs.Common.{◌≡◌, inl, inr, ℕ, zero, suc, ◌<◌, ◌≤◌, Bool, true, ◌&&◌, ◌==◌, List, length, Option, Some, None, refl, sym, ap, ◌∙◌, subst, arith}
-use Rattle.std.specs.Prelude.{nat_le}
-use Rattle.std.proofs.lemmas.Bool.{and_parts, and_from, cases_eq, leb-true, le-leb, ne_eqb}
+use Rattle.std.proofs.Common.{◌≡◌, inl, inr, ℕ, zero, suc, ◌<◌, ◌≤◌, Bool, true, ◌==◌, List, length, Option, Some, None, refl, sym, ap, ◌∙◌, subst, arith}
+use Rattle.std.proofs.lemmas.Bool.{cases_eq, ne_eqb}
 use Rattle.std.proofs.lemmas.Option.{none-some, slice_get_within}
 use Rattle.deb_relation.specs.declared.operator.Op.{Op}
 use Rattle.farm_universe.specs.declared.types.Variant.{Variant}
 use Rattle.farm_universe.specs.Universe.{Universe}
-use Rattle.farm_universe.specs.Packages.{variant, variants, recipe, is_wanted}
+use Rattle.farm_universe.specs.Packages.{variant, variants, recipe}
 use Rattle.farm_universe.specs.Chroot.{member}
-use Rattle.farm_universe.proofs.BelowLaws.{some_below-at, highest_below-some, highest_below-there}
 use Rattle.plan_asm.specs.declared.instructions.Instruction.{Instruction}
 use Rattle.plan_asm.specs.declared.instructions.Instruction.TheVariants.{Unpack, Configure, Deconfigure, Remove, Build, Publish, Wait}
 use Rattle.plan_asm.specs.Plan.{Lane, Plan, lane, instruction_at}
@@ -22,114 +20,135 @@ use Rattle.farm_laws.proofs.MayMaps.{no_trap}
 use Rattle.verdict_laws.specs.Families.{IsWithin}
 use Rattle.verdict_laws.specs.MoreKnown.{SafeUnderMore, GreatestIsAnnotation, GreatestRowsAnnotate}
 use Rattle.verdict_laws.proofs.Narrower.{IsPart, Narrows, both_absent, both_unpacked, NarrowsAll, narrows_itself, greatest_size-mono, same_configured, same_present, last-narrower, configured-narrower, deconfigured-narrower, cond-narrower}
+use Rattle.verdict_laws.proofs.Candidates.{higher, candidates-part}
 use Rattle.verdict_laws.proofs.NarrowMaps.{unpack_covers, configure_covers, withdraw_covers, build_covers, publish_covers}
 use Rattle.verdict_laws.proofs.Unions.{there, known_are_possible}
 use Rattle.verdict_laws.proofs.Rounds.{greatest_rows_are_greatest}
 
--- an unpack under more known variants: the highest is no lower
-record Higher (u : Universe) (more : Variant → Bool) (name : ℕ) (wanted : Option (Op × List ℕ)) (b : ℕ) : Type 0 where
-  pub highest : ℕ
-  pub is : newest u more name wanted ≡ Some highest
-  pub above : b ≤ highest
-  pub below : highest < variants u name
-  pub known : more (variant name highest) ≡ true
-  pub is_wanted_too : is_wanted u wanted (variant name highest) ≡ true
-
-higher : (u : Universe) (known more : Variant → Bool) (name : ℕ) (wanted : Option (Op × List ℕ)) (b : ℕ)
-    → ((v : Variant) → known v ≡ true → more v ≡ true) → newest u known name wanted ≡ Some b → Higher u more name wanted b
-unfolding newest
-higher u known more name wanted b h e =
-    let low = highest_below-some (variants u name) (λ b. known (variant name b) && is_wanted u wanted (variant name b)) b e in
-    let parts = and_parts (known (variant name b)) (is_wanted u wanted (variant name b)) low.passes in
-    let both : (more (variant name b) && is_wanted u wanted (variant name b)) ≡ true = and_from _ _ (h (variant name b) parts.0) parts.1 in
-    let found = highest_below-there (variants u name) (λ b. more (variant name b) && is_wanted u wanted (variant name b)) b low.below both in
-    let high = highest_below-some (variants u name) (λ b. more (variant name b) && is_wanted u wanted (variant name b)) found.0 found.1 in
-    let pair = and_parts (more (variant name found.0)) (is_wanted u wanted (variant name found.0)) high.passes in
-    record {
-      highest = found.0;
-      is = found.1;
-      above = high.highest b low.below both;
-      below = high.below;
-      known = pair.0;
-      is_wanted_too = pair.1;
-    }
-
--- the candidates are then a part, which has the highest
-candidates-part : (u : Universe) (may more : Variant → Bool) (name : ℕ) (wanted : Option (Op × List ℕ)) (b : ℕ) (r : Higher u more name wanted b)
-    → (more (variant name r.highest) ≡ true → may (variant name r.highest) ≡ true) → IsPart (variants u name) (candidates u may name wanted r.highest) (candidates u may name wanted b)
-unfolding candidates
-candidates-part u may more name wanted b r h =
-    record {
-      within = λ k lt e. let parts = and_parts (may (variant name k) && is_wanted u wanted (variant name k)) (nat_le r.highest k) e in
-          and_from _ _ parts.0 (le-leb b k (omega (arith, r.above, leb-true r.highest k parts.1)));
-      some = λ e. some_below-at (variants u name) (candidates u may name wanted r.highest) r.highest r.below
-          (and_from _ _ (and_from _ _ (h r.known) r.is_wanted_too) (le-leb r.highest r.highest (omega arith)));
-    }
-
 -- one instruction, at a place where the first rows know less than the second
-module _ (u : Universe) (of : Lane) (known more may : Variant → Bool) (m w : May) (narrow : NarrowsAll u m w) (less : (v : Variant) → known v ≡ true → more v ≡ true) (fits : (v : Variant) → more v ≡ true → may v ≡ true) where
-  unpack_safe : (name : ℕ) (wanted : Option (Op × List ℕ)) (o : Option ℕ) → newest u known name wanted ≡ o
-      → unpack_risk u may of w name wanted o ≡ None → unpack_risk u may of m name wanted (newest u more name wanted) ≡ None
+module _ (u : Universe) (of : Lane) (known more may : Variant → Bool) (m w : May)
+    (narrow : NarrowsAll u m w) (less : (v : Variant) → known v ≡ true → more v ≡ true)
+    (fits : (v : Variant) → more v ≡ true → may v ≡ true) where
+  unpack_safe : (name : ℕ) (wanted : Option (Op × List ℕ)) (o : Option ℕ)
+      → newest u known name wanted ≡ o
+      → unpack_risk u may of w name wanted o ≡ None
+      → unpack_risk u may of m name wanted (newest u more name wanted) ≡ None
   unpack_safe name wanted None e safe = absurd (none-some _ (sym safe))
   unpack_safe name wanted (Some b) e safe =
       let r = higher u known more name wanted b less e in
       rw r.is
-      (no_trap (unpack_covers u m w narrow of name (candidates u may name wanted r.highest) (candidates u may name wanted b) (candidates-part u may more name wanted b r (fits (variant name r.highest)))) safe)
+      (no_trap (unpack_covers u m w narrow of name (candidates u may name wanted r.highest)
+      (candidates u may name wanted b)
+      (candidates-part u may more name wanted b r (fits (variant name r.highest)))) safe)
 
-  instruction_safe : (x : Instruction) → risk u of known may w x ≡ None → risk u of more may m x ≡ None
-  instruction_safe (Unpack name wanted) safe = unpack_safe name wanted (newest u known name wanted) refl safe
-  instruction_safe (Configure members) safe = no_trap (configure_covers u m w narrow of members) safe
-  instruction_safe (Deconfigure members) safe = no_trap (withdraw_covers u m w narrow is_surely_configured (λ n. same_configured (narrow.each n)) of members) safe
-  instruction_safe (Remove members) safe = no_trap (withdraw_covers u m w narrow is_surely_present (λ n. same_present (narrow.each n)) of members) safe
+  instruction_safe : (x : Instruction) → risk u of known may w x ≡ None
+      → risk u of more may m x ≡ None
+  instruction_safe (Unpack name wanted) safe =
+      unpack_safe name wanted (newest u known name wanted) refl safe
+  instruction_safe (Configure members) safe =
+      no_trap (configure_covers u m w narrow of members) safe
+  instruction_safe (Deconfigure members) safe =
+      no_trap (withdraw_covers u m w narrow is_surely_configured
+      (λ n. same_configured (narrow.each n)) of members) safe
+  instruction_safe (Remove members) safe =
+      no_trap (withdraw_covers u m w narrow is_surely_present
+      (λ n. same_present (narrow.each n)) of members) safe
   instruction_safe (Build r) safe = no_trap (build_covers u m w narrow of (recipe u r)) safe
   instruction_safe (Publish r) safe = no_trap (publish_covers u m w narrow of r) safe
   instruction_safe (Wait e) safe = refl
 
-  unpack_narrows : (name : ℕ) (wanted : Option (Op × List ℕ)) (o : Option ℕ) → newest u known name wanted ≡ o
-      → unpack_risk u may of w name wanted o ≡ None → NarrowsAll u (may_unpack u may m name wanted (newest u more name wanted)) (may_unpack u may w name wanted o)
+  unpack_narrows : (name : ℕ) (wanted : Option (Op × List ℕ)) (o : Option ℕ)
+      → newest u known name wanted ≡ o
+      → unpack_risk u may of w name wanted o ≡ None
+      → NarrowsAll u (may_unpack u may m name wanted (newest u more name wanted))
+      (may_unpack u may w name wanted o)
   unpack_narrows name wanted None e safe = absurd (none-some _ (sym safe))
   unpack_narrows name wanted (Some b) e safe =
       let r = higher u known more name wanted b less e in
       let part = candidates-part u may more name wanted b r (fits (variant name r.highest)) in
       rw r.is (after r.highest part)
     where
-      after : (h : ℕ) → IsPart (variants u name) (candidates u may name wanted h) (candidates u may name wanted b) → NarrowsAll u (may_unpack u may m name wanted (Some h)) (may_unpack u may w name wanted (Some b))
+      after : (h : ℕ) → IsPart (variants u name) (candidates u may name wanted h) (candidates u may
+          name wanted b) → NarrowsAll u (may_unpack u may m name wanted
+          (Some h)) (may_unpack u may w name wanted (Some b))
       after h part =
           record {
             each = λ n. elim (cases_eq n name) [
-              | inl same ↦ cond-narrower (n == name) (both_unpacked (subst (λ k. IsPart (variants u k) (candidates u may name wanted h) (candidates u may name wanted b)) (sym same) part) (last-narrower (narrow.each n))) (narrow.each n)
+              | inl same ↦
+                  cond-narrower (n == name) (both_unpacked
+                  (subst (λ k. IsPart (variants u k) (candidates u may name wanted h)
+                  (candidates u may name wanted b)) (sym same) part)
+                  (last-narrower (narrow.each n))) (narrow.each n)
               | inr other ↦ rw (ne_eqb n name other) (narrow.each n)
             ];
-            cost = omega (arith, narrow.cost, greatest_size-mono u name (candidates u may name wanted h) (candidates u may name wanted b) part);
+            cost =
+                omega (
+                  arith,
+                  narrow.cost,
+                  greatest_size-mono u name
+                      (candidates u may name wanted h) (candidates u may name wanted b) part,
+                );
             built = narrow.built;
           }
 
-  change_narrows : (f : MaySlot → MaySlot) → ((n : ℕ) → Narrows (variants u n) (f (m.slots n)) (f (w.slots n))) → (members : List ℕ) → NarrowsAll u (may_change f m members) (may_change f w members)
+  change_narrows : (f : MaySlot → MaySlot)
+      → ((n : ℕ) → Narrows (variants u n) (f (m.slots n)) (f (w.slots n))) → (members : List ℕ)
+      → NarrowsAll u (may_change f m members) (may_change f w members)
   change_narrows f h members =
-      record { each = λ n. cond-narrower (member members n) (h n) (narrow.each n); cost = omega (arith, narrow.cost); built = narrow.built }
+      record {
+        each = λ n. cond-narrower (member members n) (h n) (narrow.each n);
+        cost = omega
+            (arith, narrow.cost);
+        built = narrow.built;
+      }
 
-  instruction_narrows : (x : Instruction) → risk u of known may w x ≡ None → NarrowsAll u (may_after u more may m x) (may_after u known may w x)
-  instruction_narrows (Unpack name wanted) safe = unpack_narrows name wanted (newest u known name wanted) refl safe
-  instruction_narrows (Configure members) safe = change_narrows may_be_configured (λ n. configured-narrower (narrow.each n)) members
-  instruction_narrows (Deconfigure members) safe = change_narrows may_be_deconfigured (λ n. deconfigured-narrower (narrow.each n)) members
-  instruction_narrows (Remove members) safe = change_narrows (λ s. MayAbsent) (λ n. both_absent) members
-  instruction_narrows (Build r) safe = record { each = narrow.each; cost = omega (arith, narrow.cost); built = ap (λ built. with_built built r) narrow.built }
-  instruction_narrows (Publish r) safe = record { each = narrow.each; cost = omega (arith, narrow.cost); built = narrow.built }
+  instruction_narrows : (x : Instruction) → risk u of known may w x ≡ None
+      → NarrowsAll u (may_after u more may m x) (may_after u known may w x)
+  instruction_narrows (Unpack name wanted) safe =
+      unpack_narrows name wanted (newest u known name wanted) refl safe
+  instruction_narrows (Configure members) safe =
+      change_narrows may_be_configured (λ n. configured-narrower (narrow.each n)) members
+  instruction_narrows (Deconfigure members) safe =
+      change_narrows may_be_deconfigured (λ n. deconfigured-narrower (narrow.each n)) members
+  instruction_narrows (Remove members) safe =
+      change_narrows (λ s. MayAbsent) (λ n. both_absent) members
+  instruction_narrows (Build r) safe =
+      record {
+        each = narrow.each;
+        cost = omega (arith, narrow.cost);
+        built = ap
+            (λ built. with_built built r) narrow.built;
+      }
+  instruction_narrows (Publish r) safe =
+      record { each = narrow.each; cost = omega (arith, narrow.cost); built = narrow.built }
   instruction_narrows (Wait e) safe = narrow
 
-module _ (u : Universe) (p : Plan) (rows more : Rows) (keeps : KeepsRows u p more) (within : IsWithin p rows more) (safe : IsSafeUnder u p rows) where
+module _ (u : Universe) (p : Plan) (rows more : Rows) (keeps : KeepsRows u p more)
+    (within : IsWithin p rows more) (safe : IsSafeUnder u p rows) where
   -- where the rows call an instruction safe
-  safe_at : (l i : ℕ) (x : Instruction) → l < length p → instruction_at p l i ≡ Some x → risk u (lane p l) (rows l i) (possible u p l i) (may_at u p rows l i) x ≡ None
+  safe_at : (l i : ℕ) (x : Instruction) → l < length p → instruction_at p l i ≡ Some x
+      → risk u (lane p l) (rows l i) (possible u p l i) (may_at u p rows l i) x ≡ None
   unfolding risk_at
   safe_at l i x lt at = ap (risk_of u p rows l i) (sym at) ∙ safe l i lt
 
   -- the map under more known variants is narrower
-  narrower_at : (l i : ℕ) → l < length p → i ≤ length (lane p l).instructions → NarrowsAll u (may_at u p more l i) (may_at u p rows l i)
-  narrower_at l zero lt le = record { each = λ n. narrows_itself (variants u n) ((may_base u (lane p l)).slots n); cost = omega arith; built = refl }
+  narrower_at : (l i : ℕ) → l < length p → i ≤ length (lane p l).instructions
+      → NarrowsAll u (may_at u p more l i) (may_at u p rows l i)
+  narrower_at l zero lt le =
+      record {
+        each = λ n. narrows_itself (variants u n)
+            ((may_base u (lane p l)).slots n);
+        cost = omega arith;
+        built = refl;
+      }
   narrower_at l (suc i) lt le =
       let x = there p l i (omega arith) in
-      let next = instruction_narrows u (lane p l) (rows l i) (more l i) (possible u p l i) (may_at u p more l i) (may_at u p rows l i) (narrower_at l i lt (omega arith))
-      (λ v e. within l i v lt (omega arith) e) (λ v e. known_are_possible u p more keeps l i v lt (omega arith) e) x.0 (safe_at l i x.0 lt x.1) in
+      let next =
+      instruction_narrows u (lane p l) (rows l i) (more l i) (possible u p l i)
+      (may_at u p more l i) (may_at u p rows l i) (narrower_at l i lt (omega arith))
+      (λ v e. within l i v lt (omega arith) e)
+      (λ v e. known_are_possible u p more keeps l i v lt (omega arith) e) x.0
+      (safe_at l i x.0 lt x.1) in
       rw x.1 next
 
   safe_under_more_at : (l i : ℕ) → l < length p → risk_at u p more l i ≡ None
@@ -140,15 +159,24 @@ module _ (u : Universe) (p : Plan) (rows more : Rows) (keeps : KeepsRows u p mor
       by None at = refl
       by (Some x) at =
           let below = slice_get_within (lane p l).instructions i x at in
-          instruction_safe u (lane p l) (rows l i) (more l i) (possible u p l i) (may_at u p more l i) (may_at u p rows l i) (narrower_at l i lt (omega arith))
-          (λ v e. within l i v lt (omega arith) e) (λ v e. known_are_possible u p more keeps l i v lt (omega arith) e) x (safe_at l i x lt at)
+          instruction_safe u (lane p l) (rows l i) (more l i) (possible u p l i)
+          (may_at u p more l i) (may_at u p rows l i) (narrower_at l i lt (omega arith))
+          (λ v e. within l i v lt (omega arith) e)
+          (λ v e. known_are_possible u p more keeps l i v lt (omega arith) e) x
+          (safe_at l i x lt at)
 
 pub safe_under_more : SafeUnderMore
-safe_under_more u p rows more keeps within safe l i lt = safe_under_more_at u p rows more keeps within safe l i lt
+safe_under_more u p rows more keeps within safe l i lt =
+    safe_under_more_at u p rows more keeps within safe l i lt
 
 pub greatest_is_annotation : GreatestIsAnnotation
 greatest_is_annotation u p rows greatest annotation is =
-    record { keeps = is.keeps; safe = safe_under_more u p rows greatest is.keeps (is.greatest rows annotation.keeps) annotation.safe }
+    record {
+      keeps = is.keeps;
+      safe = safe_under_more u p rows greatest is.keeps
+          (is.greatest rows annotation.keeps) annotation.safe;
+    }
 
 pub greatest_rows_annotate : GreatestRowsAnnotate
-greatest_rows_annotate u p rows sound annotation = greatest_is_annotation u p rows _ annotation (greatest_rows_are_greatest u p sound)
+greatest_rows_annotate u p rows sound annotation =
+    greatest_is_annotation u p rows _ annotation (greatest_rows_are_greatest u p sound)

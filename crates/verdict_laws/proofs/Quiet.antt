@@ -11,7 +11,8 @@ use Rattle.plan_asm.specs.Known.{Rows, Adds, KeepsRows}
 use Rattle.verdict_laws.specs.Families.{waits_or_publishes, HasNoNews, InitialRowsAreGreatest}
 
 -- such an instruction adds nothing
-adds_nothing : (u : Universe) (p : Plan) (rows : Rows) (l i : ℕ) (v : Variant) (x : Instruction) → waits_or_publishes x ≡ false → Adds u p rows l i v x → ⊥
+adds_nothing : (u : Universe) (p : Plan) (rows : Rows) (l i : ℕ) (v : Variant) (x : Instruction)
+    → waits_or_publishes x ≡ false → Adds u p rows l i v x → ⊥
 adds_nothing u p rows l i v (Unpack name wanted) quiet add = add
 adds_nothing u p rows l i v (Configure members) quiet add = add
 adds_nothing u p rows l i v (Deconfigure members) quiet add = add
@@ -22,11 +23,13 @@ adds_nothing u p rows l i v (Wait e) quiet add = cc
 
 -- what any rows that keep to the inclusions have is initial
 only_initial : (u : Universe) (p : Plan) (rows : Rows) → HasNoNews p → KeepsRows u p rows
-    → (l i : ℕ) (v : Variant) → l < length p → i ≤ length (lane p l).instructions → rows l i v ≡ true → initial u v ≡ true
+    → (l i : ℕ) (v : Variant) → l < length p → i ≤ length (lane p l).instructions
+    → rows l i v ≡ true → initial u v ≡ true
 only_initial u p rows quiet keeps l zero v lt le e = keeps.at_start l v lt e
 only_initial u p rows quiet keeps l (suc i) v lt le e =
     let x = get_or (lane p l).instructions i (Wait []) in
-    let at : instruction_at p l i ≡ Some x = slice_get-get_or (lane p l).instructions i (Wait []) (omega arith) in
+    let at : instruction_at p l i ≡ Some x =
+    slice_get-get_or (lane p l).instructions i (Wait []) (omega arith) in
     elim (keeps.after l i x v lt at e) [
       | inl old ↦ only_initial u p rows quiet keeps l i v lt (omega arith) old
       | inr new ↦ absurd (adds_nothing u p rows l i v x (quiet l i x lt at) new)

@@ -16,47 +16,65 @@ use Rattle.farm_laws.proofs.Archive.{take_some}
 use Rattle.verdict_laws.specs.Families.{IsWithin, KnownArePossible, UnionsKeep, UnionOfTwoKeeps, GreatestIsOne}
 
 -- the instruction at a place of a lane
-pub there : (p : Plan) (l i : ℕ) → i < length (lane p l).instructions → (x : Instruction) × (instruction_at p l i ≡ Some x)
-there p l i lt = (get_or (lane p l).instructions i (Wait []), slice_get-get_or (lane p l).instructions i (Wait []) lt)
+pub there : (p : Plan) (l i : ℕ) → i < length (lane p l).instructions → (x : Instruction)
+    × (instruction_at p l i ≡ Some x)
+there p l i lt = (
+  get_or (lane p l).instructions i (Wait []),
+  slice_get-get_or (lane p l).instructions i
+      (Wait []) lt,
+)
 
 -- more rows give more
-IsFact-mono : (u : Universe) (p : Plan) (rows more : Rows) (c v : Variant) → IsWithin p rows more → IsFact u p rows c v → IsFact u p more c v
+IsFact-mono : (u : Universe) (p : Plan) (rows more : Rows) (c v : Variant) → IsWithin p rows more
+    → IsFact u p rows c v → IsFact u p more c v
 IsFact-mono u p rows more c v within f =
     record {
       from_start = f.from_start;
       from_output = λ j k r m lt at out. elim (f.from_output j k r m lt at out) [
-        | inl known ↦ inl (within j k v lt (let below = slice_get_within (lane p j).instructions k (Publish r) at in omega arith) known)
+        | inl known ↦
+            inl (within j k v lt (let below = slice_get_within (lane p j).instructions k
+            (Publish r) at in omega arith) known)
         | inr with_it ↦ inr with_it
       ];
     }
 
-pub Adds-mono : (u : Universe) (p : Plan) (rows more : Rows) (l i : ℕ) (v : Variant) (x : Instruction) → IsWithin p rows more → Adds u p rows l i v x → Adds u p more l i v x
+pub Adds-mono : (u : Universe) (p : Plan) (rows more : Rows) (l i : ℕ) (v : Variant)
+    (x : Instruction) → IsWithin p rows more → Adds u p rows l i v x → Adds u p more l i v x
 Adds-mono u p rows more l i v (Unpack name wanted) within add = add
 Adds-mono u p rows more l i v (Configure members) within add = add
 Adds-mono u p rows more l i v (Deconfigure members) within add = add
 Adds-mono u p rows more l i v (Remove members) within add = add
 Adds-mono u p rows more l i v (Build r) within add = add
 Adds-mono u p rows more l i v (Publish r) within add = add
-Adds-mono u p rows more l i v (Wait e) within add = (add.0, λ c may sat. IsFact-mono u p rows more c v within (add.1 c may sat))
+Adds-mono u p rows more l i v (Wait e) within add =
+    (add.0, λ c may sat. IsFact-mono u p rows more c v within (add.1 c may sat))
 
 -- a place further on, no less is possible
-more_possible : (u : Universe) (p : Plan) (l i : ℕ) (v : Variant) → possible u p l i v ≡ true → possible u p l (suc i) v ≡ true
+more_possible : (u : Universe) (p : Plan) (l i : ℕ) (v : Variant) → possible u p l i v ≡ true
+    → possible u p l (suc i) v ≡ true
 unfolding possible
 more_possible u p l i v e =
     elim (or_cases (initial u v) _ e) [
       | inl is ↦ or_left (initial u v) _ is
-      | inr some ↦ or_right (initial u v) _ (some_below-mono (length p) _ _ (λ j lt h. by j h (cases_eq j l)) some)
+      | inr some ↦
+          or_right (initial u v) _ (some_below-mono (length p) _ _
+          (λ j lt h. by j h (cases_eq j l)) some)
     ]
   where
-    by : (j : ℕ) → list_any (gives u v) (within_reach p l i j) ≡ true → (j ≡ l) ⊎ (j ≡ l → ⊥) → list_any (gives u v) (within_reach p l (suc i) j) ≡ true
+    by : (j : ℕ) → list_any (gives u v) (within_reach p l i j) ≡ true → (j ≡ l) ⊎ (j ≡ l → ⊥)
+        → list_any (gives u v) (within_reach p l (suc i) j) ≡ true
     by j h (inl is) =
-        let own : list_any (gives u v) (take i (lane p j).instructions) ≡ true = rw (eq-eqb j l is) at h in
+        let own : list_any (gives u v) (take i (lane p j).instructions) ≡ true =
+        rw (eq-eqb j l is) at h in
         rw (eq-eqb j l is, ← add-one) (list_any_kept (gives u v) (lane p j).instructions i own)
     by j h (inr other) =
-        let all : list_any (gives u v) (lane p j).instructions ≡ true = rw (ne_eqb j l other) at h in rw (ne_eqb j l other) all
+        let all : list_any (gives u v) (lane p j).instructions ≡ true =
+        rw (ne_eqb j l other) at h in rw (ne_eqb j l other) all
 
 -- behind a publish its outputs are possible
-published_possible : (u : Universe) (p : Plan) (l i r : ℕ) (v : Variant) → l < length p → instruction_at p l i ≡ Some (Publish r) → contains (outputs u r) v ≡ true → possible u p l (suc i) v ≡ true
+published_possible : (u : Universe) (p : Plan) (l i r : ℕ) (v : Variant) → l < length p
+    → instruction_at p l i ≡ Some (Publish r) → contains (outputs u r) v ≡ true
+    → possible u p l (suc i) v ≡ true
 unfolding possible
 published_possible u p l i r v lt at e =
     or_right (initial u v) _
@@ -66,7 +84,9 @@ published_possible u p l i r v lt at e =
     ∙ list_any-append (gives u v) (take i (lane p l).instructions) (Publish r ∷ [])
     ∙ or_right _ _ (or_left (contains (outputs u r) v) _ e))))
 
-adds_possible : (u : Universe) (p : Plan) (rows : Rows) (l i : ℕ) (v : Variant) (x : Instruction) → l < length p → instruction_at p l i ≡ Some x → Adds u p rows l i v x → possible u p l (suc i) v ≡ true
+adds_possible : (u : Universe) (p : Plan) (rows : Rows) (l i : ℕ) (v : Variant) (x : Instruction)
+    → l < length p → instruction_at p l i ≡ Some x → Adds u p rows l i v x
+    → possible u p l (suc i) v ≡ true
 adds_possible u p rows l i v (Unpack name wanted) lt at add = absurd add
 adds_possible u p rows l i v (Configure members) lt at add = absurd add
 adds_possible u p rows l i v (Deconfigure members) lt at add = absurd add
@@ -75,23 +95,27 @@ adds_possible u p rows l i v (Build r) lt at add = absurd add
 adds_possible u p rows l i v (Publish r) lt at add = published_possible u p l i r v lt at add
 adds_possible u p rows l i v (Wait e) lt at add = more_possible u p l i v add.0
 
-possible_at_start : (u : Universe) (p : Plan) (l : ℕ) (v : Variant) → initial u v ≡ true → possible u p l 0 v ≡ true
+possible_at_start : (u : Universe) (p : Plan) (l : ℕ) (v : Variant) → initial u v ≡ true
+    → possible u p l 0 v ≡ true
 unfolding possible
 possible_at_start u p l v e = or_left (initial u v) _ e
 
 pub known_are_possible : KnownArePossible
-known_are_possible u p rows keeps l zero v lt le e = possible_at_start u p l v (keeps.at_start l v lt e)
+known_are_possible u p rows keeps l zero v lt le e =
+    possible_at_start u p l v (keeps.at_start l v lt e)
 known_are_possible u p rows keeps l (suc i) v lt le e =
     let x = there p l i (omega arith) in
     elim (keeps.after l i x.0 v lt x.1 e) [
-      | inl old ↦ more_possible u p l i v (known_are_possible u p rows keeps l i v lt (omega arith) old)
+      | inl old ↦
+          more_possible u p l i v (known_are_possible u p rows keeps l i v lt (omega arith) old)
       | inr new ↦ adds_possible u p rows l i v x.0 lt x.1 new
     ]
 
 pub unions_keep : UnionsKeep
 unions_keep u p rows union =
     record {
-      at_start = λ l v lt e. let part = union l 0 v lt (omega arith) e in part.1.at_start l v lt part.3;
+      at_start =
+          λ l v lt e. let part = union l 0 v lt (omega arith) e in part.1.at_start l v lt part.3;
       after = λ l i x v lt at e.
           let below = slice_get_within (lane p l).instructions i x at in
           let part = union l (suc i) v lt (omega arith) e in
@@ -106,7 +130,8 @@ union_of_two_keeps u p rows more keeps keeps_more =
     unions_keep u p _
     (λ l i v lt le e. elim (or_cases (rows l i v) (more l i v) e) [
       | inl one ↦ (rows, keeps, λ k j w lt' le' h. or_left (rows k j w) (more k j w) h, one)
-      | inr other ↦ (more, keeps_more, λ k j w lt' le' h. or_right (rows k j w) (more k j w) h, other)
+      | inr other ↦
+          (more, keeps_more, λ k j w lt' le' h. or_right (rows k j w) (more k j w) h, other)
     ])
 
 same_tests : (a b : Bool) → (a ≡ true → b ≡ true) → (b ≡ true → a ≡ true) → a ≡ b
@@ -115,4 +140,6 @@ same_tests false true to from = from refl
 same_tests false false to from = refl
 
 pub greatest_is_one : GreatestIsOne
-greatest_is_one u p rows more a b l i v lt le = same_tests (rows l i v) (more l i v) (b.greatest rows a.keeps l i v lt le) (a.greatest more b.keeps l i v lt le)
+greatest_is_one u p rows more a b l i v lt le =
+    same_tests (rows l i v) (more l i v) (b.greatest rows a.keeps l i v lt le)
+    (a.greatest more b.keeps l i v lt le)

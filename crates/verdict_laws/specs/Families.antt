@@ -1,10 +1,11 @@
--- Families of known rows that keep to the inclusions. The project's own rules. Parameters: u a universe, p a plan,
--- l a lane, i a place.
+-- Families of known rows that keep to the inclusions. The project's own rules. Parameters: u a
+-- universe, p a plan, l a lane, i a place.
 --
 --   IsWithin                                  one family has no more than another
 --   KnownArePossible                          known rows are possible
 --   UnionsKeep, UnionOfTwoKeeps               a union of keeping families keeps
---   GreatestIsOne, InitialRowsAreGreatest     the greatest family is one; what it is where nothing is published
+--   GreatestIsOne                             the greatest family is one
+--   InitialRowsAreGreatest                    what it is where nothing is published
 use Rattle.std.specs.Prelude.{◌≡◌, ℕ, ◌<◌, ◌≤◌, Bool, true, false, ◌||◌, length, Some}
 use Rattle.farm_universe.specs.declared.types.Variant.{Variant}
 use Rattle.farm_universe.specs.Universe.{Universe}
@@ -16,14 +17,17 @@ use Rattle.plan_asm.specs.Known.{Rows, possible, KeepsRows, IsGreatest}
 
 -- at the plan's places the first family has no more than the second
 abbrev pub IsWithin : Plan → Rows → Rows → Type 0
-IsWithin p rows more = (l i : ℕ) (v : Variant) → l < length p → i ≤ length (lane p l).instructions → rows l i v ≡ true → more l i v ≡ true
+IsWithin p rows more =
+    (l i : ℕ) (v : Variant) → l < length p → i ≤ length (lane p l).instructions → rows l i v ≡ true
+    → more l i v ≡ true
 
 -- rows that keep to the inclusions have only what may be in the archive
 abbrev pub KnownArePossible : Type 0
-KnownArePossible = (u : Universe) (p : Plan) (rows : Rows) → KeepsRows u p rows → IsWithin p rows (possible u p)
+KnownArePossible =
+    (u : Universe) (p : Plan) (rows : Rows) → KeepsRows u p rows → IsWithin p rows (possible u p)
 
--- the family is a union of families that keep to the inclusions: each variant that it has at a place of the plan, one
--- of them has there
+-- the family is a union of families that keep to the inclusions: each variant that it has at a
+-- place of the plan, one of them has there
 abbrev pub IsUnion : Universe → Plan → Rows → Type 0
 IsUnion u p rows =
     (l i : ℕ) (v : Variant) → l < length p → i ≤ length (lane p l).instructions → rows l i v ≡ true
@@ -35,13 +39,16 @@ UnionsKeep = (u : Universe) (p : Plan) (rows : Rows) → IsUnion u p rows → Ke
 
 -- so does the union of two
 abbrev pub UnionOfTwoKeeps : Type 0
-UnionOfTwoKeeps = (u : Universe) (p : Plan) (rows more : Rows) → KeepsRows u p rows → KeepsRows u p more → KeepsRows u p (λ l i v. rows l i v || more l i v)
+UnionOfTwoKeeps =
+    (u : Universe) (p : Plan) (rows more : Rows) → KeepsRows u p rows → KeepsRows u p more
+    → KeepsRows u p (λ l i v. rows l i v || more l i v)
 
 -- two families that are greatest have the same at the plan's places
 abbrev pub GreatestIsOne : Type 0
 GreatestIsOne =
     (u : Universe) (p : Plan) (rows more : Rows) → IsGreatest u p rows → IsGreatest u p more
-    → (l i : ℕ) (v : Variant) → l < length p → i ≤ length (lane p l).instructions → rows l i v ≡ more l i v
+    → (l i : ℕ) (v : Variant) → l < length p → i ≤ length (lane p l).instructions
+    → rows l i v ≡ more l i v
 
 -- the instruction waits or publishes
 abbrev pub waits_or_publishes : Instruction → Bool
@@ -51,8 +58,11 @@ waits_or_publishes _ = false
 
 -- no lane waits or publishes
 abbrev pub HasNoNews : Plan → Type 0
-HasNoNews p = (l i : ℕ) (x : Instruction) → l < length p → instruction_at p l i ≡ Some x → waits_or_publishes x ≡ false
+HasNoNews p =
+    (l i : ℕ) (x : Instruction) → l < length p → instruction_at p l i ≡ Some x
+    → waits_or_publishes x ≡ false
 
 -- where no lane waits or publishes, each knows just the initial archive at each place
 abbrev pub InitialRowsAreGreatest : Type 0
-InitialRowsAreGreatest = (u : Universe) (p : Plan) → HasNoNews p → IsGreatest u p (λ l i v. initial u v)
+InitialRowsAreGreatest =
+    (u : Universe) (p : Plan) → HasNoNews p → IsGreatest u p (λ l i v. initial u v)

@@ -1,4 +1,5 @@
--- The place at which a plan is refused is one, and there is one where the plan is not safe. The project's own rules.
+-- The place at which a plan is refused is one, and there is one where the plan is not safe. The
+-- project's own rules.
 use Rattle.std.specs.Prelude.{◌≡◌, ◌⊎◌, ℕ}
 use Rattle.farm_universe.specs.declared.types.Trap.{Trap}
 use Rattle.farm_universe.specs.Universe.{Universe}
@@ -10,7 +11,8 @@ use Rattle.plan_asm.specs.Safety.{IsSafeUnder, IsFirstUnsafe}
 abbrev pub FirstUnsafeIsOne : Type 0
 FirstUnsafeIsOne =
     (u : Universe) (p : Plan) (rows : Rows) (l i k j : ℕ) (trap other : Trap)
-    → IsFirstUnsafe u p rows l i trap → IsFirstUnsafe u p rows k j other → (l ≡ k) × (i ≡ j) × (trap ≡ other)
+    → IsFirstUnsafe u p rows l i trap → IsFirstUnsafe u p rows k j other → (l ≡ k) × (i ≡ j)
+    × (trap ≡ other)
 
 -- an instruction that is the first unsafe one
 pub record FirstUnsafe (u : Universe) (p : Plan) (rows : Rows) : Type 0 where
@@ -21,4 +23,5 @@ pub record FirstUnsafe (u : Universe) (p : Plan) (rows : Rows) : Type 0 where
 
 -- each instruction is safe, or there is a first unsafe one
 abbrev pub SafeOrFirstUnsafe : Type 0
-SafeOrFirstUnsafe = (u : Universe) (p : Plan) (rows : Rows) → IsSafeUnder u p rows ⊎ FirstUnsafe u p rows
+SafeOrFirstUnsafe =
+    (u : Universe) (p : Plan) (rows : Rows) → IsSafeUnder u p rows ⊎ FirstUnsafe u p rows

@@ -1,5 +1,5 @@
--- Which lanes are stuck: a board on which nothing more goes shows it. The project's own rules. Parameters: u a
--- universe, p a plan, b a board.
+-- Which lanes are stuck: a board on which nothing more goes shows it. The project's own rules.
+-- Parameters: u a universe, p a plan, b a board.
 --
 --   IsAtRest                nothing more goes on the board
 --   AreLeft, lanes_left     the lanes that have something left on it
@@ -31,7 +31,8 @@ lanes_left b = filter (λ l. is_left (rest_of b l)) (range_with_len 0 (length b.
 
 -- A board at rest, to which some list of waits and outputs leads:
 pub record RestIsExact (u : Universe) (p : Plan) (order : List ℕ) (end : Board) : Type 0 where
-  -- a lane of the plan has something left on it just where no list of waits and outputs brings the lane past its last one;
+  -- a lane of the plan has something left on it just where no list of waits and outputs brings the
+  -- lane past its last one;
   pub cannot_end : (l : ℕ) → rest_of end l ≢ [] → CannotEnd u p l
   pub left : (l : ℕ) → CannotEnd u p l → rest_of end l ≢ []
   -- so the lanes left are the stuck ones;
@@ -41,7 +42,9 @@ pub record RestIsExact (u : Universe) (p : Plan) (order : List ℕ) (end : Board
 
 -- each such board is exact
 abbrev pub EachRestIsExact : Type 0
-EachRestIsExact = (u : Universe) (p : Plan) (order : List ℕ) (end : Board) → Reaches u (start_board u p) order end → IsAtRest u end → RestIsExact u p order end
+EachRestIsExact =
+    (u : Universe) (p : Plan) (order : List ℕ) (end : Board) → Reaches u (start_board u p) order end
+    → IsAtRest u end → RestIsExact u p order end
 
 -- each board has its list of lanes left
 abbrev pub LanesLeftAreLeft : Type 0
