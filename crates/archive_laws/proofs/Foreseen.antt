@@ -26,12 +26,21 @@ use Rattle.archive_laws.proofs.Settles.{next_of, IsBlind, blind_turn, local_step
 pub worlds_are_foreseen : WorldsAreForeseen
 worlds_are_foreseen u p rows sound annotation w r =
     record {
-      known = λ l v lt e. sym (sh.archive_is v) ∙ facts.known l v lt (subst (λ (st : LaneState). rows l st.done v ≡ true) (sym (lane_is l)) e);
+      known =
+          λ l v lt e. sym (sh.archive_is v)
+          ∙ facts.known l v lt (subst (λ (st : LaneState). rows l st.done v ≡ true)
+          (sym (lane_is l)) e);
       facts = λ c v e fact. sym (sh.archive_is v) ∙ facts.facts c v (sh.archive_is c ∙ e) fact;
-      bounded = λ l v lt e. subst (λ (st : LaneState). (possible u p l st.done v ≡ true) ⊎ (publishing u (instruction_at p l st.done) st.made v ≡ true)) (lane_is l)
+      bounded =
+          λ l v lt e. subst (λ (st : LaneState). (possible u p l st.done v ≡ true)
+          ⊎ (publishing u (instruction_at p l st.done) st.made v ≡ true)) (lane_is l)
           (facts.bounded l v lt (sh.archive_is v ∙ e));
-      allowed = λ l lt. subst (λ (st : LaneState). AllowsAll u (may_at u p rows l st.done) st.chroot) (lane_is l) (facts.allowed l lt);
-      spent = λ l lt. subst (λ (st : LaneState). st.spent ≤ lane_cost u p rows l) (lane_is l) (costs.spent l lt);
+      allowed =
+          λ l lt. subst (λ (st : LaneState). AllowsAll u (may_at u p rows l st.done) st.chroot)
+          (lane_is l) (facts.allowed l lt);
+      spent =
+          λ l lt. subst (λ (st : LaneState). st.spent ≤ lane_cost u p rows l) (lane_is l)
+          (costs.spent l lt);
     }
   where
     sh : Shows u w r.shown.0
@@ -64,57 +73,86 @@ unless_goes : (o : Option Trap) (next : LaneState) → OnlyGoes (unless o (Goes 
 unless_goes None next = tt
 unless_goes (Some trap) next = tt
 
-module _ (u : Universe) (p : Plan) (rows : Rows) (sound : IsSound u p) (annotation : IsAnnotation u p rows) (l : ℕ) (in_plan : l < length p) where
+module _ (u : Universe) (p : Plan) (rows : Rows) (sound : IsSound u p)
+    (annotation : IsAnnotation u p rows) (l : ℕ) (in_plan : l < length p) where
   -- no turn in a world that is reached meets a trap
-  never_fails : (w : World) → IsReached u p w → (trap : Trap) → turn_in u p l (has_bit w.words) (world_lane w l) ≢ Fails trap
+  never_fails : (w : World) → IsReached u p w → (trap : Trap)
+      → turn_in u p l (has_bit w.words) (world_lane w l) ≢ Fails trap
   never_fails w r trap e =
       let s = r.shown.0 in
-      let h = holds_after u p rows sound annotation.keeps annotation.safe r.shown.1.0 s r.shown.1.1 in
-      never_trapped u p rows sound annotation.keeps annotation.safe s h l trap (step_is u p s l in_plan ∙ ap (outcome s l) (turn_shown u p w s l r.shown.2 ∙ e))
+      let h =
+      holds_after u p rows sound annotation.keeps annotation.safe r.shown.1.0 s r.shown.1.1 in
+      never_trapped u p rows sound annotation.keeps annotation.safe s h l trap
+      (step_is u p s l in_plan ∙ ap (outcome s l) (turn_shown u p w s l r.shown.2 ∙ e))
 
   -- an instruction of the archive is where the lane stands
-  stands_there : (w : World) (x y : Instruction) (xs : List Instruction) → is_archive_step x ≡ true → drop (world_lane w l).done (lane p l).instructions ≡ x ∷ xs
+  stands_there : (w : World) (x y : Instruction) (xs : List Instruction) → is_archive_step x ≡ true
+      → drop (world_lane w l).done (lane p l).instructions ≡ x ∷ xs
       → instruction_at p l (world_lane w l).done ≡ Some y → is_archive_step y ≡ true
-  stands_there w x y xs is at e = subst (λ z. is_archive_step z ≡ true) (same_Some x y (sym (next_of (lane p l).instructions (world_lane w l).done x xs at).0 ∙ e)) is
+  stands_there w x y xs is at e =
+      subst (λ z. is_archive_step z ≡ true)
+      (same_Some x y (sym (next_of (lane p l).instructions (world_lane w l).done x xs at).0 ∙ e)) is
 
   -- what is to show of the instructions that are left
   abbrev ComesTo : World → List Instruction → Type 0
   ComesTo w xs =
       IsReached u p w → drop (world_lane w l).done (lane p l).instructions ≡ xs
-      → (y : Instruction) → instruction_at p l (settled u (lane p l) xs (world_lane w l)).done ≡ Some y → is_archive_step y ≡ true
+      → (y : Instruction) → instruction_at p l (settled u (lane p l) xs
+      (world_lane w l)).done ≡ Some y → is_archive_step y ≡ true
 
-  local_comes : (w : World) (x : Instruction) (xs : List Instruction) → ((v : World) → ComesTo v xs) → IsReached u p w → IsBlind u p sound l in_plan w x
+  local_comes : (w : World) (x : Instruction) (xs : List Instruction) → ((v : World) → ComesTo v xs)
+      → IsReached u p w → IsBlind u p sound l in_plan w x
       → drop (world_lane w l).done (lane p l).instructions ≡ x ∷ xs
-      → (turn : Turn) → turn_of u nothing (lane p l) (world_lane w l) (Some x) ≡ turn → OnlyGoes turn
-      → (y : Instruction) → instruction_at p l (goes_on (world_lane w l) turn (λ next. settled u (lane p l) xs next)).done ≡ Some y → is_archive_step y ≡ true
+      → (turn : Turn) → turn_of u nothing (lane p l) (world_lane w l) (Some x) ≡ turn
+      → OnlyGoes turn
+      → (y : Instruction) → instruction_at p l (goes_on (world_lane w l) turn
+      (λ next. settled u (lane p l) xs next)).done ≡ Some y → is_archive_step y ≡ true
   local_comes w x xs after r blind at (Goes next) e only y is =
       let one = local_step u p sound l in_plan w x xs next r blind at e in
-      after (with_lane w l next) one.reached one.rest y (subst (λ (st : LaneState). instruction_at p l (settled u (lane p l) xs st).done ≡ Some y) (sym one.stands) is)
+      after (with_lane w l next) one.reached one.rest y
+      (subst (λ (st : LaneState). instruction_at p l (settled u (lane p l) xs st).done ≡ Some y)
+      (sym one.stands) is)
   local_comes w x xs after r blind at (Gives next v) e only y is = absurd only
   local_comes w x xs after r blind at Waits e only y is = absurd only
   local_comes w x xs after r blind at Ends e only y is = absurd only
-  local_comes w x xs after r blind at (Fails trap) e only y is = absurd (never_fails w r trap (blind_turn u p sound l in_plan w x xs blind at ∙ e))
+  local_comes w x xs after r blind at (Fails trap) e only y is =
+      absurd (never_fails w r trap (blind_turn u p sound l in_plan w x xs blind at ∙ e))
 
   comes_to : (xs : List Instruction) (w : World) → ComesTo w xs
-  comes_to [] w r at y is = absurd (none-some y (sym (none_left (lane p l).instructions (world_lane w l).done at) ∙ is))
-  comes_to (Unpack name wanted ∷ xs) w r at y is = stands_there w (Unpack name wanted) y xs refl at is
+  comes_to [] w r at y is =
+      absurd (none-some y (sym (none_left (lane p l).instructions (world_lane w l).done at) ∙ is))
+  comes_to (Unpack name wanted ∷ xs) w r at y is =
+      stands_there w (Unpack name wanted) y xs refl at is
   comes_to (Configure members ∷ xs) w r at y is =
-      local_comes w (Configure members) xs (λ v. comes_to xs v) r (λ there. refl) at (turn_of u nothing (lane p l) (world_lane w l) (Some (Configure members))) refl (unless_goes _ _) y is
+      local_comes w (Configure members) xs (λ v. comes_to xs v) r (λ there. refl) at
+      (turn_of u nothing (lane p l) (world_lane w l) (Some (Configure members))) refl
+      (unless_goes _ _) y is
   comes_to (Deconfigure members ∷ xs) w r at y is =
-      local_comes w (Deconfigure members) xs (λ v. comes_to xs v) r (λ there. refl) at (turn_of u nothing (lane p l) (world_lane w l) (Some (Deconfigure members))) refl (unless_goes _ _) y is
+      local_comes w (Deconfigure members) xs (λ v. comes_to xs v) r (λ there. refl) at
+      (turn_of u nothing (lane p l) (world_lane w l) (Some (Deconfigure members))) refl
+      (unless_goes _ _) y is
   comes_to (Remove members ∷ xs) w r at y is =
-      local_comes w (Remove members) xs (λ v. comes_to xs v) r (λ there. refl) at (turn_of u nothing (lane p l) (world_lane w l) (Some (Remove members))) refl (unless_goes _ _) y is
+      local_comes w (Remove members) xs (λ v. comes_to xs v) r (λ there. refl) at
+      (turn_of u nothing (lane p l) (world_lane w l) (Some (Remove members))) refl
+      (unless_goes _ _) y is
   comes_to (Build recipe ∷ xs) w r at y is =
-      local_comes w (Build recipe) xs (λ v. comes_to xs v) r (λ there. refl) at (turn_of u nothing (lane p l) (world_lane w l) (Some (Build recipe))) refl (unless_goes _ _) y is
+      local_comes w (Build recipe) xs (λ v. comes_to xs v) r (λ there. refl) at
+      (turn_of u nothing (lane p l) (world_lane w l) (Some (Build recipe))) refl
+      (unless_goes _ _) y is
   comes_to (Publish recipe ∷ xs) w r at y is = stands_there w (Publish recipe) y xs refl at is
   comes_to (Wait e ∷ xs) w r at y is = stands_there w (Wait e) y xs refl at is
 
 pub worlds_are_ready : WorldsAreReady
 worlds_are_ready u p rows sound annotation w r l lt =
     record {
-      at_archive = λ x is. comes_to u p rows sound annotation l lt (drop (world_lane w l).done (lane p l).instructions) w r refl x is;
+      at_archive =
+          λ x is. comes_to u p rows sound annotation l lt
+          (drop (world_lane w l).done (lane p l).instructions) w r refl x is;
       no_trap = λ trap e.
           let st = ready_lane u p w l in
-          let here : world_lane (with_lane w l st) l ≡ st = get_or-set_same w.lanes l st no_state (omega (arith, r.lanes, lt)) in
-          never_fails u p rows sound annotation l lt (with_lane w l st) (ready_reached u p sound l lt w r) trap (ap (turn_in u p l (has_bit w.words)) here ∙ e);
+          let here : world_lane (with_lane w l st) l ≡ st =
+          get_or-set_same w.lanes l st no_state (omega (arith, r.lanes, lt)) in
+          never_fails u p rows sound annotation l lt (with_lane w l st)
+          (ready_reached u p sound l lt w r) trap
+          (ap (turn_in u p l (has_bit w.words)) here ∙ e);
     }

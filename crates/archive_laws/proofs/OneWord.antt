@@ -13,20 +13,33 @@ use Rattle.plan_asm.specs.Turn.{newest, passes, Goes, Waits, past, unpacks}
 use Rattle.farm_laws.proofs.Safe.{variants_name}
 use Rattle.archive_laws.specs.Loads.{EachWordDecides}
 
-newest-same : (u : Universe) (there other : Variant → Bool) (name : ℕ) (wanted : Option (Op × List ℕ)) → ((b : ℕ) → there (variant name b) ≡ other (variant name b)) → newest u there name wanted ≡ newest u other name wanted
+newest-same : (u : Universe) (there other : Variant → Bool) (name : ℕ)
+    (wanted : Option (Op × List ℕ)) → ((b : ℕ) → there (variant name b) ≡ other (variant name b))
+    → newest u there name wanted ≡ newest u other name wanted
 unfolding newest
 newest-same u there other name wanted h =
-    let word : ◌≡◌ {A = ℕ → Bool} (λ b. there (variant name b)) (λ b. other (variant name b)) = λ i b. h b i in
-    ap (λ (bits : ℕ → Bool). highest_below (variants u name) (λ b. bits b && is_wanted u wanted (variant name b))) word
+    let word : ◌≡◌ {A = ℕ → Bool} (λ b. there (variant name b)) (λ b. other (variant name b)) =
+    λ i b. h b i in
+    ap (λ (bits : ℕ → Bool). highest_below (variants u name)
+    (λ b. bits b && is_wanted u wanted (variant name b))) word
 
-passes-by : (u : Universe) (there : Variant → Bool) (entry : Entry) (v : Variant) → IsKnown u v → there v ≡ true → satisfies_entry u entry v ≡ true → passes u there entry ≡ true
+passes-by : (u : Universe) (there : Variant → Bool) (entry : Entry) (v : Variant) → IsKnown u v
+    → there v ≡ true → satisfies_entry u entry v ≡ true → passes u there entry ≡ true
 passes-by u there entry v known here sat =
-    some_below-at (names u) (λ n. some_below (variants u n) (λ b. there (variant n b) && satisfies_entry u entry (variant n b))) v.name (variants_name u v.name v.bit known)
-    (some_below-at (variants u v.name) (λ b. there (variant v.name b) && satisfies_entry u entry (variant v.name b)) v.bit known (and_from (there v) (satisfies_entry u entry v) here sat))
+    some_below-at (names u) (λ n. some_below (variants u n)
+    (λ b. there (variant n b) && satisfies_entry u entry (variant n b))) v.name
+    (variants_name u v.name v.bit known)
+    (some_below-at (variants u v.name)
+    (λ b. there (variant v.name b) && satisfies_entry u entry (variant v.name b)) v.bit known
+    (and_from (there v) (satisfies_entry u entry v) here sat))
 
 pub each_word_decides : EachWordDecides
 each_word_decides u of st there =
     record {
-      unpack = λ name wanted other h. ap (unpacks u of st name) (newest-same u there other name wanted h);
-      wait = λ entry v known here sat. cond-true (passes u there entry) (Goes (past st 0 st.chroot)) Waits (passes-by u there entry v known here sat);
+      unpack =
+          λ name wanted other h. ap (unpacks u of st name)
+          (newest-same u there other name wanted h);
+      wait =
+          λ entry v known here sat. cond-true (passes u there entry)
+          (Goes (past st 0 st.chroot)) Waits (passes-by u there entry v known here sat);
     }

@@ -18,15 +18,20 @@ use Rattle.archive_laws.proofs.Words.{with_bit-keeps}
 use Rattle.archive_laws.proofs.Turns.{turn_in, place_of, moves}
 
 -- the next of the instructions that are left
-pub next_of : {X : Type 0} (xs : List X) (i : ℕ) (x : X) (rest : List X) → drop i xs ≡ x ∷ rest → (slice_get xs i ≡ Some x) × (drop (suc i) xs ≡ rest)
+pub next_of : {X : Type 0} (xs : List X) (i : ℕ) (x : X) (rest : List X) → drop i xs ≡ x ∷ rest
+    → (slice_get xs i ≡ Some x) × (drop (suc i) xs ≡ rest)
 next_of [] zero x rest e = absurd (cc)
 next_of [] (suc i) x rest e = absurd (cc)
-next_of (y ∷ ys) zero x rest e = let a : y ≡ x = cc in let b : ys ≡ rest = cc in (ap (λ z. Some z) a, b)
+next_of (y ∷ ys) zero x rest e =
+    let a : y ≡ x = cc in let b : ys ≡ rest = cc in (ap (λ z. Some z) a, b)
 next_of (y ∷ ys) (suc i) x rest e = next_of ys i x rest e
 
 -- the lane itself, written where it stands
-pub stays : (u : Universe) (p : Plan) (w : World) (l : ℕ) → IsReached u p w → IsReached u p (with_lane w l (world_lane w l))
-stays u p w l r = subst (λ (xs : List LaneState). IsReached u p (record { words = w.words; lanes = xs })) (sym (set-get_or w.lanes l no_state)) r
+pub stays : (u : Universe) (p : Plan) (w : World) (l : ℕ) → IsReached u p w
+    → IsReached u p (with_lane w l (world_lane w l))
+stays u p w l r =
+    subst (λ (xs : List LaneState). IsReached u p (record { words = w.words; lanes = xs }))
+    (sym (set-get_or w.lanes l no_state)) r
 
 module _ (u : Universe) (p : Plan) (sound : IsSound u p) (l : ℕ) (in_plan : l < length p) where
   -- a local instruction that goes on
@@ -37,38 +42,59 @@ module _ (u : Universe) (p : Plan) (sound : IsSound u p) (l : ℕ) (in_plan : l 
 
   -- the turn of such an instruction does not look at the archive
   abbrev pub IsBlind : World → Instruction → Type 0
-  IsBlind w x = (there : Variant → Bool) → turn_of u there (lane p l) (world_lane w l) (Some x) ≡ turn_of u nothing (lane p l) (world_lane w l) (Some x)
+  IsBlind w x =
+      (there : Variant
+      → Bool) → turn_of u there (lane p l) (world_lane w l) (Some x) ≡ turn_of u nothing (lane p
+      l) (world_lane w l) (Some x)
 
-  pub blind_turn : (w : World) (x : Instruction) (xs : List Instruction) → IsBlind w x → drop (world_lane w l).done (lane p l).instructions ≡ x ∷ xs
-      → turn_in u p l (has_bit w.words) (world_lane w l) ≡ turn_of u nothing (lane p l) (world_lane w l) (Some x)
+  pub blind_turn : (w : World) (x : Instruction) (xs : List Instruction) → IsBlind w x
+      → drop (world_lane w l).done (lane p l).instructions ≡ x ∷ xs
+      → turn_in u p l (has_bit w.words) (world_lane w l) ≡ turn_of u nothing (lane p l)
+      (world_lane w l) (Some x)
   blind_turn w x xs blind at =
-      ap (turn_of u (has_bit w.words) (lane p l) (world_lane w l)) (next_of (lane p l).instructions (world_lane w l).done x xs at).0 ∙ blind (has_bit w.words)
+      ap (turn_of u (has_bit w.words) (lane p l) (world_lane w l))
+      (next_of (lane p l).instructions (world_lane w l).done x xs at).0
+      ∙ blind (has_bit w.words)
 
-  pub local_step : (w : World) (x : Instruction) (xs : List Instruction) (next : LaneState) → IsReached u p w → IsBlind w x → drop (world_lane w l).done (lane p l).instructions ≡ x ∷ xs
+  pub local_step : (w : World) (x : Instruction) (xs : List Instruction) (next : LaneState)
+      → IsReached u p w → IsBlind w x → drop (world_lane w l).done (lane p l).instructions ≡ x ∷ xs
       → turn_of u nothing (lane p l) (world_lane w l) (Some x) ≡ Goes next → LocalStep w xs next
   local_step w x xs next r blind at e =
-      let is : turn_in u p l (has_bit w.words) (world_lane w l) ≡ Goes next = blind_turn w x xs blind at ∙ e in
-      let stands : world_lane (with_lane w l next) l ≡ next = get_or-set_same w.lanes l next no_state (omega (arith, r.lanes, in_plan)) in
-      let on : GoesOn u (has_bit w.words) (world_lane w l) (instruction_at p l (world_lane w l).done) next = place_of u p w l (Goes next) is in
+      let is : turn_in u p l (has_bit w.words) (world_lane w l) ≡ Goes next =
+      blind_turn w x xs blind at ∙ e in
+      let stands : world_lane (with_lane w l next) l ≡ next =
+      get_or-set_same w.lanes l next no_state (omega (arith, r.lanes, in_plan)) in
+      let on : GoesOn u (has_bit w.words) (world_lane w l)
+      (instruction_at p l (world_lane w l).done) next =
+      place_of u p w l (Goes next) is in
       record {
         reached = moves u p sound w (with_lane w l next) l (Goes next) in_plan r is refl;
         stands = stands;
-        rest = ap (λ (st : LaneState). drop st.done (lane p l).instructions) stands ∙ ap (λ k. drop k (lane p l).instructions) on.done
+        rest =
+            ap (λ (st : LaneState). drop st.done (lane p l).instructions) stands
+            ∙ ap (λ k. drop k (lane p l).instructions) on.done
             ∙ (next_of (lane p l).instructions (world_lane w l).done x xs at).1;
       }
 
   -- what is left to show of the instructions after it
   abbrev Settles : World → List Instruction → Type 0
-  Settles w xs = IsReached u p w → drop (world_lane w l).done (lane p l).instructions ≡ xs → IsReached u p (with_lane w l (settled u (lane p l) xs (world_lane w l)))
+  Settles w xs =
+      IsReached u p w → drop (world_lane w l).done (lane p l).instructions ≡ xs
+      → IsReached u p (with_lane w l (settled u (lane p l) xs (world_lane w l)))
 
-  local_settles : (w : World) (x : Instruction) (xs : List Instruction) → ((v : World) → Settles v xs) → IsReached u p w → IsBlind w x → drop (world_lane w l).done (lane p l).instructions ≡ x ∷ xs
+  local_settles : (w : World) (x : Instruction) (xs : List Instruction)
+      → ((v : World) → Settles v xs) → IsReached u p w → IsBlind w x
+      → drop (world_lane w l).done (lane p l).instructions ≡ x ∷ xs
       → (turn : Turn) → turn_of u nothing (lane p l) (world_lane w l) (Some x) ≡ turn
-      → IsReached u p (with_lane w l (goes_on (world_lane w l) turn (λ next. settled u (lane p l) xs next)))
+      → IsReached u p (with_lane w l
+      (goes_on (world_lane w l) turn (λ next. settled u (lane p l) xs next)))
   local_settles w x xs after r blind at (Goes next) e =
       let one = local_step w x xs next r blind at e in
       let end = after (with_lane w l next) one.reached one.rest in
       subst (λ (ys : List LaneState). IsReached u p (record { words = w.words; lanes = ys }))
-      (set-set w.lanes l next (settled u (lane p l) xs (world_lane (with_lane w l next) l)) ∙ ap (λ (st : LaneState). slice_set w.lanes l (settled u (lane p l) xs st)) one.stands) end
+      (set-set w.lanes l next (settled u (lane p l) xs (world_lane (with_lane w l next) l))
+      ∙ ap (λ (st : LaneState). slice_set w.lanes l (settled u (lane p l) xs st)) one.stands)
+      end
   local_settles w x xs after r blind at (Gives next v) e = stays u p w l r
   local_settles w x xs after r blind at Waits e = stays u p w l r
   local_settles w x xs after r blind at Ends e = stays u p w l r
@@ -77,34 +103,57 @@ module _ (u : Universe) (p : Plan) (sound : IsSound u p) (l : ℕ) (in_plan : l 
   settles : (xs : List Instruction) (w : World) → Settles w xs
   settles [] w r at = stays u p w l r
   settles (Unpack name wanted ∷ xs) w r at = stays u p w l r
-  settles (Configure members ∷ xs) w r at = local_settles w (Configure members) xs (λ v. settles xs v) r (λ there. refl) at (turn_of u nothing (lane p l) (world_lane w l) (Some (Configure members))) refl
-  settles (Deconfigure members ∷ xs) w r at = local_settles w (Deconfigure members) xs (λ v. settles xs v) r (λ there. refl) at (turn_of u nothing (lane p l) (world_lane w l) (Some (Deconfigure members))) refl
-  settles (Remove members ∷ xs) w r at = local_settles w (Remove members) xs (λ v. settles xs v) r (λ there. refl) at (turn_of u nothing (lane p l) (world_lane w l) (Some (Remove members))) refl
-  settles (Build recipe ∷ xs) w r at = local_settles w (Build recipe) xs (λ v. settles xs v) r (λ there. refl) at (turn_of u nothing (lane p l) (world_lane w l) (Some (Build recipe))) refl
+  settles (Configure members ∷ xs) w r at =
+      local_settles w (Configure members) xs (λ v. settles xs v) r (λ there. refl) at
+      (turn_of u nothing (lane p l) (world_lane w l) (Some (Configure members))) refl
+  settles (Deconfigure members ∷ xs) w r at =
+      local_settles w (Deconfigure members) xs (λ v. settles xs v) r (λ there. refl) at
+      (turn_of u nothing (lane p l) (world_lane w l) (Some (Deconfigure members))) refl
+  settles (Remove members ∷ xs) w r at =
+      local_settles w (Remove members) xs (λ v. settles xs v) r (λ there. refl) at
+      (turn_of u nothing (lane p l) (world_lane w l) (Some (Remove members))) refl
+  settles (Build recipe ∷ xs) w r at =
+      local_settles w (Build recipe) xs (λ v. settles xs v) r (λ there. refl) at
+      (turn_of u nothing (lane p l) (world_lane w l) (Some (Build recipe))) refl
   settles (Publish recipe ∷ xs) w r at = stays u p w l r
   settles (Wait e ∷ xs) w r at = stays u p w l r
 
-  pub ready_reached : (w : World) → IsReached u p w → IsReached u p (with_lane w l (ready_lane u p w l))
+  pub ready_reached : (w : World) → IsReached u p w
+      → IsReached u p (with_lane w l (ready_lane u p w l))
   ready_reached w r = settles (drop (world_lane w l).done (lane p l).instructions) w r refl
 
 -- a turn of a lane that is written anew changes the world as it was
-after_again : (w : World) (l : ℕ) (st : LaneState) (turn : Turn) → world_after (with_lane w l st) l turn ≡ world_after w l turn
-after_again w l st (Goes next) = ap (λ (xs : List LaneState). Some (record { words = w.words; lanes = xs })) (set-set w.lanes l st next)
-after_again w l st (Gives next v) = ap (λ (xs : List LaneState). Some (record { words = with_bit w.words v; lanes = xs })) (set-set w.lanes l st next)
+after_again : (w : World) (l : ℕ) (st : LaneState) (turn : Turn)
+    → world_after (with_lane w l st) l turn ≡ world_after w l turn
+after_again w l st (Goes next) =
+    ap (λ (xs : List LaneState). Some (record { words = w.words; lanes = xs }))
+    (set-set w.lanes l st next)
+after_again w l st (Gives next v) =
+    ap (λ (xs : List LaneState). Some (record { words = with_bit w.words v; lanes = xs }))
+    (set-set w.lanes l st next)
 after_again w l st Waits = refl
 after_again w l st Ends = refl
 after_again w l st (Fails trap) = refl
 
-others_after : (w next : World) (l k : ℕ) (turn : Turn) → world_after w l turn ≡ Some next → k ≢ l → world_lane next k ≡ world_lane w k
-others_after w next l k (Goes st) e ne = sym (ap (λ (x : World). world_lane x k) (same_Some _ next e)) ∙ get_or-set_other w.lanes l k st no_state ne
-others_after w next l k (Gives st v) e ne = sym (ap (λ (x : World). world_lane x k) (same_Some _ next e)) ∙ get_or-set_other w.lanes l k st no_state ne
+others_after : (w next : World) (l k : ℕ) (turn : Turn) → world_after w l turn ≡ Some next → k ≢ l
+    → world_lane next k ≡ world_lane w k
+others_after w next l k (Goes st) e ne =
+    sym (ap (λ (x : World). world_lane x k) (same_Some _ next e))
+    ∙ get_or-set_other w.lanes l k st no_state ne
+others_after w next l k (Gives st v) e ne =
+    sym (ap (λ (x : World). world_lane x k) (same_Some _ next e))
+    ∙ get_or-set_other w.lanes l k st no_state ne
 others_after w next l k Waits e ne = absurd (none-some next e)
 others_after w next l k Ends e ne = absurd (none-some next e)
 others_after w next l k (Fails trap) e ne = absurd (none-some next e)
 
-grows_after : (w next : World) (l : ℕ) (v : Variant) (turn : Turn) → world_after w l turn ≡ Some next → has_bit w.words v ≡ true → has_bit next.words v ≡ true
-grows_after w next l v (Goes st) e h = sym (ap (λ (x : World). has_bit x.words v) (same_Some _ next e)) ∙ h
-grows_after w next l v (Gives st output) e h = sym (ap (λ (x : World). has_bit x.words v) (same_Some _ next e)) ∙ with_bit-keeps w.words output v h
+grows_after : (w next : World) (l : ℕ) (v : Variant) (turn : Turn)
+    → world_after w l turn ≡ Some next → has_bit w.words v ≡ true → has_bit next.words v ≡ true
+grows_after w next l v (Goes st) e h =
+    sym (ap (λ (x : World). has_bit x.words v) (same_Some _ next e)) ∙ h
+grows_after w next l v (Gives st output) e h =
+    sym (ap (λ (x : World). has_bit x.words v) (same_Some _ next e))
+    ∙ with_bit-keeps w.words output v h
 grows_after w next l v Waits e h = absurd (none-some next e)
 grows_after w next l v Ends e h = absurd (none-some next e)
 grows_after w next l v (Fails trap) e h = absurd (none-some next e)
@@ -114,10 +163,14 @@ unfolding archive_step
 each_lane_steps u p sound w r l lt =
     let st = ready_lane u p w l in
     let turn = turn_in u p l (has_bit w.words) st in
-    let here : world_lane (with_lane w l st) l ≡ st = get_or-set_same w.lanes l st no_state (omega (arith, r.lanes, lt)) in
+    let here : world_lane (with_lane w l st) l ≡ st =
+    get_or-set_same w.lanes l st no_state (omega (arith, r.lanes, lt)) in
     record {
       local = ready_reached u p sound l lt w r;
-      archive = λ next e. moves u p sound (with_lane w l st) next l turn lt (ready_reached u p sound l lt w r) (ap (turn_in u p l (has_bit w.words)) here) (after_again w l st turn ∙ e);
+      archive =
+          λ next e. moves u p sound (with_lane w l st) next l turn lt
+          (ready_reached u p sound l lt w r) (ap (turn_in u p l (has_bit w.words)) here)
+          (after_again w l st turn ∙ e);
       others = λ next k e ne. others_after w next l k turn e ne;
       grows = λ next v e h. grows_after w next l v turn e h;
     }

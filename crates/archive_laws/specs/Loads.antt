@@ -1,5 +1,5 @@
--- What one word of the archive decides: an unpack looks at the word of its name alone, and a wait passes on any one word.
--- The project's own rules.
+-- What one word of the archive decides: an unpack looks at the word of its name alone, and a wait
+-- passes on any one word. The project's own rules.
 use Rattle.std.specs.Prelude.{◌≡◌, ℕ, Bool, true, List, Option, Some}
 use Rattle.deb_relation.specs.declared.operator.Op.{Op}
 use Rattle.deb_relation.specs.Relations.{Entry}
@@ -12,12 +12,19 @@ use Rattle.plan_asm.specs.Plan.{Lane}
 use Rattle.plan_asm.specs.Turn.{LaneState, Goes, past, turn_of}
 
 -- An instruction that looks at the archive, `there`:
-pub record OneWordDecides (u : Universe) (of : Lane) (st : LaneState) (there : Variant → Bool) : Type 0 where
+pub record OneWordDecides (u : Universe) (of : Lane) (st : LaneState)
+    (there : Variant → Bool) : Type 0 where
   -- an unpack takes the same turn over any archive that has the same variants of its name;
-  pub unpack : (name : ℕ) (wanted : Option (Op × List ℕ)) (other : Variant → Bool) → ((b : ℕ) → there (variant name b) ≡ other (variant name b))
-      → turn_of u there of st (Some (Unpack name wanted)) ≡ turn_of u other of st (Some (Unpack name wanted))
+  pub unpack : (name : ℕ) (wanted : Option (Op × List ℕ)) (other : Variant → Bool)
+      → ((b : ℕ) → there (variant name b) ≡ other (variant name b))
+      → turn_of u there of st (Some (Unpack name wanted)) ≡ turn_of u other of st
+      (Some (Unpack name wanted))
   -- a wait passes where one variant that is there satisfies it.
-  pub wait : (entry : Entry) (v : Variant) → IsKnown u v → there v ≡ true → satisfies_entry u entry v ≡ true → turn_of u there of st (Some (Wait entry)) ≡ Goes (past st 0 st.chroot)
+  pub wait : (entry : Entry) (v : Variant) → IsKnown u v → there v ≡ true
+      → satisfies_entry u entry v ≡ true
+      → turn_of u there of st (Some (Wait entry)) ≡ Goes (past st 0 st.chroot)
 
 abbrev pub EachWordDecides : Type 0
-EachWordDecides = (u : Universe) (of : Lane) (st : LaneState) (there : Variant → Bool) → OneWordDecides u of st there
+EachWordDecides =
+    (u : Universe) (of : Lane) (st : LaneState) (there : Variant → Bool)
+    → OneWordDecides u of st there
