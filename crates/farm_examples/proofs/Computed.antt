@@ -1,0 +1,19 @@
+-- The words that a row opens to compute.
+use Rattle.deb_version.specs.Order.{runs_of, part_cmp, version_cmp}
+use Rattle.deb_version.specs.Grammar.{version_at}
+use Rattle.farm_universe.specs.Packages.{same, names, variants, package_of, size, pre_depends, depends, recipe, base, facts, satisfies, is_wanted, conflict, breaks, has_bit, initial}
+use Rattle.farm_universe.specs.Chroot.{used, met, met_with, pre_met, unsettled, base_chroot}
+use Rattle.farm_universe.specs.Traps.{first_trap, still_needed}
+use Rattle.plan_asm.specs.Plan.{capacity, count}
+use Rattle.plan_asm.specs.Turn.{newest}
+use Rattle.plan_asm.specs.Run.{archive, step, is_finished}
+use Rattle.plan_asm.specs.Known.{possible}
+use Rattle.plan_asm.specs.May.{surely_met, surely_met_with, surely_pre_met, may_use}
+use Rattle.plan_asm.specs.MayAt.{lane_cost}
+use Rattle.plan_asm.specs.Risk.{candidates, surely_met_outside, may_meet, may_be_needed, may_be_unsettled}
+use Rattle.plan_asm.specs.Safety.{risk_at}
+
+-- whoever unfolds this word unfolds all of these
+unfoldable pub by_computation : Unit {0}
+unfolding runs_of part_cmp version_cmp version_at same names variants package_of size pre_depends depends recipe base facts satisfies is_wanted conflict breaks has_bit initial used met met_with pre_met unsettled base_chroot first_trap still_needed capacity count newest archive step is_finished possible surely_met surely_met_with surely_pre_met may_use lane_cost candidates surely_met_outside may_meet may_be_needed may_be_unsettled risk_at
+by_computation = tt

@@ -1,0 +1,10 @@
+pub mod Notation
+pub mod Verdict
+pub mod Configuring
+pub mod Toolchain
+pub mod Excluding
+pub mod Providing
+pub mod Resources
+pub mod Building
+pub mod Waiting
+pub mod Growing

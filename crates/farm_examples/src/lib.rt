@@ -1,0 +1,10 @@
+//! Worked examples of farms: what the definitions say of each is computed.
+#![tactic(auto, unfolding(crate::proofs::Computed::by_computation))]
+
+pub mod building;
+pub mod configuring;
+pub mod excluding;
+pub mod growing;
+pub mod providing;
+pub mod resources;
+pub mod waiting;
