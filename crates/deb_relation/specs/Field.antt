@@ -1,4 +1,5 @@
--- A relation field as a whole (Debian Policy 7.1): entries between commas, alternatives between bars.
+-- A relation field as a whole (Debian Policy 7.1): entries between commas, alternatives between
+-- bars.
 --
 --   relations_at kind text   the field that a text spells, or its first fault
 use Rattle.std.specs.Prelude.{ℕ, Bool, not, ◌&&◌, List, filter, Option, Some, Result, Ok, Err, if◌then◌else◌}
@@ -10,6 +11,7 @@ use Rattle.deb_relation.specs.declared.error.TheConstants.{ALTERNATIVES, NO_ALTE
 use Rattle.deb_relation.specs.declared.kind.Kind.{Kind}
 use Rattle.deb_relation.specs.Grammar.{name_at, qualifier_at, relation_at}
 use Rattle.deb_relation.specs.Kinds.{has_alternatives}
+use Rattle.deb_relation.specs.Marks.{comma, bar}
 use Rattle.deb_relation.specs.Relations.{Atom, Entry, Relations}
 use Rattle.deb_relation.specs.Restrictions.{archs_at, profiles_at}
 
@@ -21,24 +23,32 @@ atom_at kind text = do
   relation ← relation_at kind (behind is_blank qualifier.1)
   archs ← archs_at kind (behind is_blank relation.1)
   profiles ← profiles_at kind archs.1
-  Ok (record { name = name.0; qualifier = qualifier.0; relation = relation.0; archs = archs.0; profiles = profiles })
+  Ok (record {
+    name = name.0;
+    qualifier = qualifier.0;
+    relation = relation.0;
+    archs = archs.0;
+    profiles = profiles;
+  })
 
+-- of blanks alone
 abbrev pub is_empty_text : List ℕ → Bool
 is_empty_text text = list_all is_blank text
 
--- an alternative is not of blanks alone
+-- an alternative is more than blanks
 unfoldable pub alternative_at : Kind → List ℕ → Result Atom ℕ
 alternative_at kind text = if is_empty_text text then Err NO_ALTERNATIVE else atom_at kind text
 
 -- a kind without alternatives refuses the bar before it reads what stands beside it
 unfoldable pub entry_at : Kind → List ℕ → Result Entry ℕ
 entry_at kind text =
-    if not (has_alternatives kind) && list_any (is_byte 124) text then Err ALTERNATIVES
-    else traverse (alternative_at kind) (slice_split (is_byte 124) text)
+    if not (has_alternatives kind) && list_any (is_byte bar) text then Err ALTERNATIVES
+    else traverse (alternative_at kind) (slice_split (is_byte bar) text)
 
 -- the entries of what is left of a text, less those of blanks alone
 unfoldable pub entries_left : Option (List ℕ) → List (List ℕ)
-entries_left left = filter (λ text. not (is_empty_text text)) (parts_left (is_byte 44) left)
+entries_left left = filter (λ text. not (is_empty_text text)) (parts_left (is_byte comma) left)
 
+-- every entry, or the first fault of the first entry that has one
 unfoldable pub relations_at : Kind → List ℕ → Result Relations ℕ
 relations_at kind text = traverse (entry_at kind) (entries_left (Some text))

@@ -1,4 +1,5 @@
 pub mod Relations
+pub mod Marks
 pub mod Kinds
 pub mod Grammar
 pub mod Restrictions

@@ -1,5 +1,5 @@
--- What a relation field says (Debian Policy 7.1): entries, all of them wanted, each a list of alternatives,
--- any of which will do.
+-- What a relation field says (Debian Policy 7.1): entries, all of them wanted, each a list of
+-- alternatives, any of which will do.
 --
 --   Atom         one alternative
 --   Entry        the alternatives of one entry
@@ -17,7 +17,8 @@ pub record ArchList : Type 0 where
   pub negated : Bool
   pub names : List (List ℕ)
 
--- one alternative: `name:qualifier (op version) [architectures] <profiles> ..`; a version stands as its text
+-- one alternative: `name:qualifier (op version) [architectures] <profiles> ..`; a version stands
+-- as its text
 pub record Atom : Type 0 where
   pub name : List ℕ
   pub qualifier : Option (List ℕ)

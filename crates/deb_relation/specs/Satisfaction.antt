@@ -19,7 +19,8 @@ pub record Facts : Type 0 where
   pub version : List ℕ
   pub provides : Relations
 
--- "<<, <=, =, >= and >> for strictly earlier, earlier or equal, exactly equal, later or equal and strictly later"
+-- "<<, <=, =, >= and >> for strictly earlier, earlier or equal, exactly equal, later or equal and
+-- strictly later": op admits a version that stands so to the one in the relation
 abbrev pub admits : Op → Ordering → Bool
 admits Earlier order = is_lt order
 admits EarlierOrEqual order = is_le order
@@ -44,11 +45,15 @@ provides_in wanted (Some (op, version)) = in_relation wanted version
 -- what is provided has the name; by this project's own rule, under a qualifier nothing is provided
 abbrev pub provides_it : Atom → Atom → Bool
 provides_it atom provided =
-    is_none provided.qualifier && bytes_eq provided.name atom.name && provides_in atom.relation provided.relation
+    is_none provided.qualifier
+    && bytes_eq provided.name atom.name
+    && provides_in atom.relation provided.relation
 
 abbrev pub is_provided : Relations → Atom → Bool
 is_provided provides atom = list_any (λ entry. list_any (provides_it atom) entry) provides
 
--- by this project's own rule no package satisfies an alternative with a qualifier: those that mean nothing are taken off before
+-- by this project's own rule no package satisfies an alternative with a qualifier (those that mean
+-- nothing are taken off before)
 abbrev pub satisfies : Facts → Atom → Bool
-satisfies facts atom = is_none atom.qualifier && (is_its_own facts atom || is_provided facts.provides atom)
+satisfies facts atom =
+    is_none atom.qualifier && (is_its_own facts atom || is_provided facts.provides atom)

@@ -6,7 +6,8 @@ use Rattle.deb_relation.specs.declared.satisfaction.Facts.{Facts}
 use Rattle.deb_relation.specs.Satisfaction as spec
 
 abbrev pub facts_of : Facts → spec.Facts
-facts_of facts = record { name = facts.name.now; version = facts.version.now; provides = facts.provides.now }
+facts_of facts =
+    record { name = facts.name.now; version = facts.version.now; provides = facts.provides.now }
 
 -- the code, unless memory ran out
 abbrev pub refusal_of : RelationError → Option ℕ

@@ -9,7 +9,8 @@ use deb_version::Version;
 use std::alloc::{AllocError, Global};
 use std::marker::Model;
 
-/// One alternative: `name:qualifier (op version) [architectures] <profiles> ..` (Debian Policy 7.1).
+/// One alternative, `name:qualifier (op version) [architectures] <profiles> ..` (Debian Policy
+/// 7.1).
 #[derive(Debug, Drop)]
 pub struct Atom {
     pub name: Vec<u8>,
@@ -35,7 +36,8 @@ impl Model for Atom {
 }
 
 fn clone_qualifier(qualifier: &Option<Vec<u8>>) -> Result<Option<Vec<u8>>, AllocError>
-    ensures { IfOk result (λ copy. option_map (λ q. q.items) copy ≡ option_map (λ q. q.items) qualifier.now) }
+    ensures { IfOk result
+        (λ copy. option_map (λ q. q.items) copy ≡ option_map (λ q. q.items) qualifier.now) }
 {
     match qualifier {
         Some(qualifier) => Ok(Some(qualifier.clone()?)),

@@ -8,6 +8,7 @@ ghost use Rattle.deb_text.specs.Bytes.{is_byte};
 ghost use Rattle.deb_text.specs.Cuts.{length_left, parts_left};
 ghost use Rattle.deb_text.specs.Steps.{traverse};
 ghost use Rattle.deb_relation.specs.Field.{atom_at, is_empty_text, alternative_at, entry_at, entries_left, relations_at};
+ghost use Rattle.deb_relation.specs.Marks.{bar};
 ghost use Rattle.deb_relation.specs.View.{refusal_of};
 
 use crate::atom::Atom;
@@ -23,7 +24,8 @@ use std::alloc::{AllocError, Global};
 mod tests;
 
 fn copy_qualifier(alloc: Global, text: Option<&[u8]>) -> Result<Option<Vec<u8>>, AllocError>
-    ensures { IfOk result (λ copy. option_map (λ q. q.items) copy ≡ option_map (λ q. q.now) text.entry) }
+    ensures { IfOk result
+        (λ copy. option_map (λ q. q.items) copy ≡ option_map (λ q. q.now) text.entry) }
 {
     match text {
         Some(text) => Ok(Some(Vec::from_slice(alloc, text)?)),
@@ -79,7 +81,7 @@ impl Atom {
 
 fn read_alternatives(alloc: Global, kind: Kind, text: &[u8]) -> Result<Vec<Atom>, RelationError>
     ensures { Gives refusal_of (λ atoms. atoms.items) result
-        (traverse (alternative_at kind) (slice_split (is_byte 124) text.now)) }
+        (traverse (alternative_at kind) (slice_split (is_byte bar) text.now)) }
 {
     let mut alternatives = Vec::new(alloc);
     let mut left = Some(text);

@@ -28,7 +28,8 @@ pub fn read_name(text: &[u8]) -> Result<(&[u8], &[u8]), RelationError>
 
 #[tactic(auto, unfolding(crate::specs::Grammar::qualifier_at))]
 pub fn read_qualifier(text: &[u8]) -> Result<(Option<&[u8]>, &[u8]), RelationError>
-    ensures { Gives refusal_of (λ part. (option_map (λ q. q.now) part.0, part.1.now)) result (qualifier_at text.now) }
+    ensures { Gives refusal_of (λ part. (option_map (λ q. q.now) part.0, part.1.now)) result
+        (qualifier_at text.now) }
 {
     match text {
         [b':', rest @ ..] => {

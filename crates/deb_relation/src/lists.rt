@@ -35,7 +35,8 @@ fn read_arch(alloc: Global, negated: bool, text: &[u8]) -> Result<Word, Relation
 }
 
 fn read_names(alloc: Global, negated: bool, text: &[u8]) -> Result<Vec<Word>, RelationError>
-    ensures { Gives refusal_of (λ names. names.items) result (traverse (arch_at negated) (words text.now)) }
+    ensures { Gives refusal_of (λ names. names.items) result
+        (traverse (arch_at negated) (words text.now)) }
 {
     let mut names = Vec::new(alloc);
     let mut rest = text;

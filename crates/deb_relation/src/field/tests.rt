@@ -111,7 +111,7 @@ fn refuses_the_first_fault(rt: HostRuntime) {
     }
 }
 
-// A kind, a text, and how many entries it has. The first are those of Policy 7.1 and BuildProfileSpec.
+// A kind, a text, and how many entries it has. The first are from Policy 7.1 and BuildProfileSpec.
 const ACCEPTED: [(Kind, &[u8], usize); 17] = [
     (
         Kind::Need,

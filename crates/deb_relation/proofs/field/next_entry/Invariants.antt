@@ -6,8 +6,9 @@ use Rattle.deb_relation.proofs.field.next_entry.Given as goal
 
 abbrev pub invariant-loop-left : goal.invariant-loop-left
 invariant-loop-left l =
-    (entries_left (option_map (λ rest. rest.now) l.left) ≡ entries_left (option_map (λ rest. rest.now) l.fn.text))
-    × (length_left (option_map (λ rest. rest.now) l.left) ≤ length_left (option_map (λ rest. rest.now) l.fn.text))
+    let left = option_map (λ rest. rest.now) l.left in
+    let all = option_map (λ rest. rest.now) l.fn.text in
+    (entries_left left ≡ entries_left all) × (length_left left ≤ length_left all)
 
 abbrev pub decreases-loop-left : goal.decreases-loop-left
 decreases-loop-left l = length_left (option_map (λ rest. rest.now) l.left)

@@ -5,12 +5,14 @@ use Rattle.deb_text.specs.Bytes.{is_byte}
 use Rattle.deb_text.specs.Cuts.{length_left, parts_left}
 use Rattle.deb_text.specs.Steps.{traverse, with_front}
 use Rattle.deb_relation.specs.Field.{alternative_at}
+use Rattle.deb_relation.specs.Marks.{bar}
 use Rattle.deb_relation.proofs.field.read_alternatives.Given as goal
 
 abbrev pub invariant-loop-left : goal.invariant-loop-left
 invariant-loop-left l =
-    with_front l.alternatives.items (traverse (alternative_at l.kind) (parts_left (is_byte 124) (option_map (λ rest. rest.now) l.left)))
-    ≡ traverse (alternative_at l.kind) (slice_split (is_byte 124) l.text)
+    let left = parts_left (is_byte bar) (option_map (λ rest. rest.now) l.left) in
+    with_front l.alternatives.items (traverse (alternative_at l.kind) left)
+    ≡ traverse (alternative_at l.kind) (slice_split (is_byte bar) l.text)
 
 abbrev pub decreases-loop-left : goal.decreases-loop-left
 decreases-loop-left l = length_left (option_map (λ rest. rest.now) l.left)

@@ -7,7 +7,8 @@ use Rattle.deb_relation.proofs.field.read_entries.Given as goal
 
 abbrev pub invariant-loop-entry : goal.invariant-loop-entry
 invariant-loop-entry l =
-    with_front l.entries.items (traverse (entry_at l.kind) (entries_left (option_map (λ rest. rest.now) l.left)))
+    let left = entries_left (option_map (λ rest. rest.now) l.left) in
+    with_front l.entries.items (traverse (entry_at l.kind) left)
     ≡ traverse (entry_at l.kind) (entries_left (Some l.text))
 
 abbrev pub decreases-loop-entry : goal.decreases-loop-entry
