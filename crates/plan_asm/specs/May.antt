@@ -75,7 +75,7 @@ unfoldable pub surely_met : Universe → May → Entry → Bool
 surely_met u m e = some_name u m
     (λ n s. surely_configured u n (λ b. satisfies_entry u e (variant n b)) s)
 
--- or some member does
+-- the same, where members count too
 unfoldable pub surely_met_with : Universe → List ℕ → May → Entry → Bool
 surely_met_with u members m e =
     some_name u m
@@ -97,7 +97,7 @@ surely_pre_meets u e n (MayUnpacked current last) = all_satisfy u e n current la
 surely_pre_meets u e n (MayConfigured current) =
     all_of u n current (λ b. satisfies_entry u e (variant n b))
 
--- some name other than the one to be unpacked does
+-- some name other than the one to be unpacked surely meets the entry ahead of the unpack
 unfoldable pub surely_pre_met : Universe → ℕ → May → Entry → Bool
 surely_pre_met u name m e = some_name u m (λ n s. not (n == name) && surely_pre_meets u e n s)
 

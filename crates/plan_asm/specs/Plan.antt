@@ -35,7 +35,7 @@ no_lane = record { name = []; base = 0; budget = 0; instructions = [] }
 abbrev pub lane : Plan → ℕ → Lane
 lane p l = slice_index_or p l no_lane
 
--- none past the end
+-- the instruction at a place of a lane, none past the end
 abbrev pub instruction_at : Plan → ℕ → ℕ → Option Instruction
 instruction_at p l i = slice_get (lane p l).instructions i
 

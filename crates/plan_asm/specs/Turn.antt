@@ -126,7 +126,7 @@ abbrev pub first_only : ℕ → ℕ → ℕ
 first_only zero cost = cost
 first_only (suc made) cost = 0
 
--- and its traps are tried with its first output
+-- publish: over the budget; the recipe was not built. Tried with the first output alone
 abbrev pub publish_traps : Universe → Lane → LaneState → ℕ → List (Bool × Trap)
 publish_traps u of st r =
     ((st.made == 0) && over_budget of st (length (outputs u r)), OverBudget) ∷
