@@ -5,8 +5,7 @@
 --   World, start_world, Shows      words and records, and the state that they show
 --   settled, ready                 a lane's local instructions, up to its next archive step
 --   archive_step                   a lane's local instructions and then its archive step
---   OneArchiveStep                 the law: a world shown goes over into a world shown
-use Rattle.std.specs.Prelude.{◌≡◌, ℕ, ◌<◌, ◌^◌, Bool, false, List, [], ◌∷◌, length, map, drop, Option, Some, None, slice_index, slice_index_or, slice_set, bit_or}
+use Rattle.std.specs.Prelude.{◌≡◌, ℕ, ◌^◌, Bool, false, List, [], ◌∷◌, map, drop, Option, Some, None, slice_index, slice_index_or, slice_set, bit_or}
 use Rattle.farm_universe.specs.declared.types.Variant.{Variant}
 use Rattle.farm_universe.specs.Universe.{Universe}
 use Rattle.farm_universe.specs.Packages.{has_bit}
@@ -82,16 +81,3 @@ unfoldable pub archive_step : Universe → Plan → World → ℕ → Option Wor
 archive_step u p w l =
     let st = ready u (lane p l) (world_lane w l) in
     world_after w l (turn_of u (has_bit w.words) (lane p l) st (instruction_at p l st.done))
-
--- the law of one archive step: from a world that shows a reachable state, a lane's local
--- instructions give such a world, and so does its archive step after them. The other lanes' records
--- are as they were
-pub record OneArchiveStep (u : Universe) (p : Plan) : Type 0 where
-  pub local : (w : World) (l : ℕ) → l < length p → IsShown u p w
-      → IsShown u p (record {
-        words = w.words;
-        lanes =
-            slice_set w.lanes l (ready u (lane p l) (world_lane w l));
-      })
-  pub archive : (w next : World) (l : ℕ) → l < length p → IsShown u p w
-      → archive_step u p w l ≡ Some next → IsShown u p next
