@@ -1,0 +1,4 @@
+use Rattle.portfarm.proofs.lines.push_unsafe.Goals as goal
+
+pub returns : goal.returns
+returns c = rw (c.as_bytes.ensures.value, c.in_ok-instruction.ensures.ok) at c.push_pieces.ensures

@@ -1,0 +1,23 @@
+-- The lines of an answer. The project's own format; numbers are decimal without leading zeros.
+use Rattle.std.specs.Prelude.{ℕ, List, [], ◌∷◌, codes}
+use Rattle.std.specs.List.{concat}
+use Rattle.std.specs.Fmt.{decimal}
+
+-- `WORD N`
+abbrev pub counted_line : List ℕ → ℕ → List ℕ
+counted_line word number = concat (word ∷ codes " " ∷ decimal number ∷ codes "\n" ∷ [])
+
+-- `lane NAME cost N budget N`
+abbrev pub lane_line : List ℕ → ℕ → ℕ → List ℕ
+lane_line name cost budget =
+    concat (codes "lane " ∷ name ∷ codes " cost " ∷ decimal cost ∷ codes " budget " ∷ decimal budget ∷ codes "\n" ∷ [])
+
+-- `refused CODE FILE line N`
+abbrev pub fault_line : ℕ → List ℕ → ℕ → List ℕ
+fault_line code file line =
+    concat (codes "refused " ∷ decimal code ∷ codes " " ∷ file ∷ codes " line " ∷ decimal line ∷ codes "\n" ∷ [])
+
+-- `refused 401 lane NAME instruction N TRAP`
+abbrev pub unsafe_line : List ℕ → ℕ → List ℕ → List ℕ
+unsafe_line lane instruction trap =
+    concat (codes "refused 401 lane " ∷ lane ∷ codes " instruction " ∷ decimal instruction ∷ codes " " ∷ trap ∷ codes "\n" ∷ [])

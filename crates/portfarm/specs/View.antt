@@ -1,0 +1,6 @@
+-- What the types of the crate stand for.
+use Rattle.portfarm.specs.declared.input.Texts.{Texts}
+use Rattle.portfarm.specs.Input as spec
+
+abbrev pub texts_view : Texts → spec.Texts
+texts_view texts = record { packages = texts.packages.now; sources = texts.sources.now; farm = texts.farm.now; plan = texts.plan.now }
