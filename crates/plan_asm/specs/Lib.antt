@@ -11,3 +11,9 @@ pub mod Order
 pub mod World
 pub mod Sound
 pub mod Promise
+pub mod Forms
+pub mod Drafts
+pub mod Ends
+pub mod PlanText
+pub mod View
+pub mod Seen

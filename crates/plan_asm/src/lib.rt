@@ -1,6 +1,17 @@
-//! The plan of a farm: lanes of instructions.
+//! The plan of a farm: lanes of instructions, and how a text is read as a plan.
 #![tactic(auto)]
 
+mod draft;
+mod error;
+mod form;
 pub mod instructions;
+mod lane;
+mod plan;
 
+pub use error::{
+    BAD_LINE, FILE, LANE_TWICE, MOST_INSTRUCTIONS, MOST_LANES, NAME_TWICE, NO_PLAN, OVER_LIMIT,
+    UNCLOSED, UNKNOWN_NAME,
+};
 pub use instructions::{Instruction, Members};
+pub use lane::Lane;
+pub use plan::Plan;

@@ -1,0 +1,60 @@
+-- What the form of a line keeps: a budget is small.
+use Rattle.std.proofs.Common.{◌≡◌, ℕ, ◌<◌, ◌^◌, Bool, true, false, not, ◌&&◌, List, [], ◌∷◌, refl, Result, Ok, Err, IfOk}
+use Rattle.std.specs.Prelude.{codes}
+use Rattle.std.specs.List.{list_all}
+use Rattle.std.specs.Option.{is_none}
+use Rattle.std.specs.Str.{bytes_eq}
+use Rattle.deb_relation.specs.declared.kind.Kind.TheVariants.{Need}
+use Rattle.deb_relation.specs.Field.{alternative_at}
+use Rattle.deb_relation.specs.Relations.{Atom}
+use Rattle.deb_text.proofs.AgainLaws.{number-small}
+use Rattle.deb_text.specs.Cuts.{is_nil}
+use Rattle.deb_text.specs.Numbers.{is_number, number_at}
+use Rattle.deb_text.specs.Words.{words, is_word}
+use Rattle.plan_asm.specs.Forms.{Form, LaneForm, EndForm, UnpackForm, ConfigureForm, lane_with, lane_form, is_exact, unpack_in, form_at, first_word, behind_word}
+use Rattle.plan_asm.proofs.Carried.{if-has}
+
+abbrev pub IsForm : Form → Type 0
+IsForm (LaneForm name chroot budget) = budget < 10 ^ 15
+IsForm EndForm = Unit {0}
+IsForm (UnpackForm name relation) = Unit {0}
+IsForm (ConfigureForm names) = Unit {0}
+
+lane_with-has : (name chroot budget : List ℕ)
+    → IfOk (lane_with name chroot (number_at budget)) IsForm
+lane_with-has name chroot budget = go (is_number budget) refl where
+  go : (b : Bool) → is_number budget ≡ b → IfOk (lane_with name chroot (number_at budget)) IsForm
+  go true is = rw is (number-small budget is)
+  go false is = rw is tt
+
+lane_form-has : (ws : List (List ℕ)) → IfOk (lane_form ws) IsForm
+lane_form-has [] = tt
+lane_form-has (a ∷ []) = tt
+lane_form-has (a ∷ b ∷ []) = tt
+lane_form-has (a ∷ b ∷ c ∷ []) = tt
+lane_form-has (a ∷ b ∷ c ∷ d ∷ []) = tt
+lane_form-has (a ∷ b ∷ c ∷ d ∷ e ∷ []) =
+    if-has IsForm
+    (is_word a && bytes_eq b (codes "chroot") && is_word c && bytes_eq d (codes "budget")) _ _
+    (λ _. lane_with-has a c e) (λ _. tt)
+lane_form-has (a ∷ b ∷ c ∷ d ∷ e ∷ f ∷ ws) = tt
+
+unpack_in-has : (r : Result Atom ℕ) → IfOk (unpack_in r) IsForm
+unpack_in-has (Ok atom) =
+    if-has IsForm (is_none atom.qualifier && is_exact atom.relation) _ _ (λ _. tt) (λ _. tt)
+unpack_in-has (Err code) = tt
+
+pub form-has : (line : List ℕ) → IfOk (form_at line) IsForm
+unfolding form_at
+form-has line =
+    if-has IsForm (bytes_eq (first_word line) (codes "lane")) _ _
+    (λ _. lane_form-has (words (behind_word line)))
+    (λ _. if-has IsForm (bytes_eq (first_word line) (codes "end")) _ _
+    (λ _. if-has IsForm (is_nil (words (behind_word line))) _ _ (λ _. tt) (λ _. tt))
+    (λ _. if-has IsForm (bytes_eq (first_word line) (codes "unpack")) _ _
+    (λ _. unpack_in-has (alternative_at Need (behind_word line)))
+    (λ _. if-has IsForm (bytes_eq (first_word line) (codes "configure")) _ _
+    (λ _. if-has IsForm
+    (not (is_nil (words (behind_word line))) && list_all is_word (words (behind_word line))) _ _
+    (λ _. tt) (λ _. tt))
+    (λ _. tt))))

@@ -1,0 +1,133 @@
+-- What is read without a fault keeps to the limits and is a plan of its universe.
+use Rattle.std.proofs.Common.{◌≡◌, ℕ, ◌<◌, ◌^◌, List, [], ◌∷◌, length, refl, subst, arith, Some, Result, Ok, Err, IfOk, All}
+use Rattle.std.specs.Prelude.{slice_get}
+use Rattle.std.proofs.lemmas.List.Elements.{All-nil, All-weaker}
+use Rattle.std.proofs.lemmas.Option.{get_or_from_slice_get, slice_get_within}
+use Rattle.deb_stanza.specs.Plain.{plain_lines_at}
+use Rattle.deb_text.specs.declared.fault.Fault.{Fault}
+use Rattle.deb_text.specs.Answers.{Gives, refusal_of}
+use Rattle.deb_text.specs.Lines.{Line}
+use Rattle.farm_universe.specs.Packages.{names}
+use Rattle.farm_universe.specs.Sound.{IsUniverse}
+use Rattle.farm_universe.specs.Universe.{Universe}
+use Rattle.plan_asm.specs.declared.draft.Open.{Open}
+use Rattle.plan_asm.specs.declared.draft.Open.TheVariants.{Nothing, InLane}
+use Rattle.plan_asm.specs.declared.error.TheConstants.{FILE}
+use Rattle.plan_asm.specs.declared.instructions.Instruction.{Instruction}
+use Rattle.plan_asm.specs.declared.instructions.Instruction.TheVariants.{Unpack, Configure, Deconfigure, Remove, Build, Publish, Wait}
+use Rattle.plan_asm.specs.Drafts.{Draft, empty, all_lanes}
+use Rattle.plan_asm.specs.Ends.{finished, AreSingle, IsRead}
+use Rattle.plan_asm.specs.Forms.{form_at, is_head}
+use Rattle.plan_asm.specs.Plan.{Lane, Plan, lane, no_lane, events_of}
+use Rattle.plan_asm.specs.PlanText.{take_text, take_line, draft_of, plan_in, of_file, plan_of}
+use Rattle.plan_asm.specs.Sound.{IsInstruction, IsPlan}
+use Rattle.plan_asm.proofs.Carried.{if-has, then-has, steps-keep, placed-has, always, has-ok}
+use Rattle.plan_asm.proofs.DraftLaws.{IsGood, IsGoodLane, IsGoodDraft, take_form-has}
+use Rattle.plan_asm.proofs.FormLaws.{IsForm, form-has}
+
+-- an instruction that lines can give so far is one event
+good-single : (u : Universe) (x : Instruction) → IsGood u x → (v : Universe) → events_of v x ≡ 1
+good-single u (Unpack name wanted) good v = refl
+good-single u (Configure members) good v = refl
+good-single u (Deconfigure members) good v = absurd good
+good-single u (Remove members) good v = absurd good
+good-single u (Build r) good v = absurd good
+good-single u (Publish r) good v = absurd good
+good-single u (Wait e) good v = absurd good
+
+-- and speaks of what there is
+good-instruction : (u : Universe) → length u.names ≡ names u → (x : Instruction) → IsGood u x
+    → IsInstruction u x
+good-instruction u listed (Unpack name wanted) good = rw listed at good
+good-instruction u listed (Configure members) good =
+    record { known = rw listed at good.0; distinct = good.1 }
+good-instruction u listed (Deconfigure members) good = absurd good
+good-instruction u listed (Remove members) good = absurd good
+good-instruction u listed (Build r) good = absurd good
+good-instruction u listed (Publish r) good = absurd good
+good-instruction u listed (Wait e) good = absurd good
+
+module _ (u : Universe) where
+  -- ---- lines
+
+  line-has : (d : Draft) (line : Line) → IsGoodDraft u d → IfOk (take_line u d line) (IsGoodDraft u)
+  unfolding take_text
+  line-has d (number, line) good =
+      placed-has (IsGoodDraft u) FILE number _
+      (then-has IsForm (IsGoodDraft u) (form_at line) _ (form-has line)
+      (λ form small. take_form-has u number d form good small))
+
+  draft-has : (ls : List Line) → IfOk (draft_of u ls) (IsGoodDraft u)
+  unfolding draft_of
+  draft-has ls =
+      steps-keep (take_line u) (IsGoodDraft u) line-has ls empty
+      (record { lanes = All-nil (IsGoodLane u); few = omega arith; small = omega arith })
+
+  good-read : (d : Draft) → IsGoodDraft u d → IsRead d
+  good-read d good =
+      let lanes = all_lanes d.lanes d.current in
+      record {
+        limits = record {
+          lanes = good.few;
+          instructions = good.small;
+          budgets = All-weaker (IsGoodLane u) (λ (l : Lane). l.budget < 10 ^ 15) (λ l h. h.budget)
+              lanes good.lanes;
+        };
+        single = All-weaker (IsGoodLane u) (λ (l : Lane). AreSingle l.instructions)
+            (λ l h. All-weaker (IsGood u)
+            (λ (x : Instruction). (v : Universe) → events_of v x ≡ 1) (good-single u)
+            l.instructions h.instructions)
+            lanes good.lanes;
+      }
+
+  -- lines that were read without a fault
+  pub draft-read : (ls : List Line) (d : Draft) → draft_of u ls ≡ Ok d → IsRead d
+  draft-read ls d is = good-read d (has-ok (IsGoodDraft u) (draft_of u ls) d (draft-has ls) is)
+
+  -- ---- a text
+
+  finished-has : (ls : List Lane) (o : Open) → IsGoodDraft u (record { lanes = ls; current = o })
+      → IfOk (finished ls o) (All (IsGoodLane u))
+  finished-has ls Nothing good = good.lanes
+  finished-has ls (InLane line l) good = tt
+
+  lines-has : (ls : List Line) → IfOk (plan_in u ls) (All (IsGoodLane u))
+  lines-has [] = tt
+  lines-has ((number, line) ∷ ls) =
+      if-has (All (IsGoodLane u)) (is_head line) _ _
+      (λ _. then-has (IsGoodDraft u) (All (IsGoodLane u)) (draft_of u ls) _ (draft-has ls)
+      (λ d good. finished-has d.lanes d.current good))
+      (λ _. tt)
+
+  text-has : (text : List ℕ) → IfOk (plan_of u text) (All (IsGoodLane u))
+  unfolding plan_of
+  text-has text =
+      then-has (λ _. Unit {0}) (All (IsGoodLane u)) (of_file FILE (plain_lines_at text)) _
+      (always (of_file FILE (plain_lines_at text))) (λ ls _. lines-has ls)
+
+  -- ---- a plan
+
+  good-at : (p : Plan) → All (IsGoodLane u) p → (l i : ℕ) (x : Instruction) → l < length p
+      → slice_get (lane p l).instructions i ≡ Some x → IsGood u x
+  good-at p good l i x lt is =
+      let xs = (lane p l).instructions in
+      subst (IsGood u) (get_or_from_slice_get xs i x x is)
+      ((good l no_lane lt).instructions i x (slice_get_within xs i x is))
+
+  good-plan : (p : Plan) → length u.names ≡ names u → All (IsGoodLane u) p → IsPlan u p
+  good-plan p listed good = record {
+    bases = λ l lt. (good l no_lane lt).base;
+    instructions = λ l i x lt is. good-instruction u listed x (good-at p good l i x lt is);
+    published_once = λ l k i j r lt _ is _. absurd (good-at p good l i (Publish r) lt is);
+  }
+
+  plan-sound : (text : List ℕ) (p : Plan) → plan_of u text ≡ Ok p → IsUniverse u → IsPlan u p
+  unfolding names
+  plan-sound text p is sound =
+      good-plan p sound.listed (has-ok (All (IsGoodLane u)) (plan_of u text) p (text-has text) is)
+
+  -- a plan that was read over a sound universe
+  pub gives-sound : (text : List ℕ) (r : Result Plan Fault)
+      → Gives refusal_of (λ p. p) r (plan_of u text) → IfOk r (λ p. IsUniverse u → IsPlan u p)
+  gives-sound text (Ok p) gives = plan-sound text p gives
+  gives-sound text (Err e) gives = tt

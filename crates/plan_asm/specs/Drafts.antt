@@ -1,0 +1,118 @@
+-- What a line of a plan does behind the lines before it (the project's own format). Parameters: u a
+-- universe, d a draft, ls the lanes that have ended.
+--
+--   Draft                        what the lines so far say
+--   known_name, known_base       a name's number in the universe, or UNKNOWN_NAME
+--   set_of                       the numbers of a set of names
+--   take_form u number d form    the draft with one more line, or the code of the line's fault
+use Rattle.std.specs.Prelude.{ℕ, Bool, true, false, nat_le, List, [], ◌∷◌, ◌++◌, length, map, Option, Some, None, Result, Ok, Err, if◌then◌else◌}
+use Rattle.std.specs.List.{list_any, flat_map}
+use Rattle.std.specs.Str.{bytes_eq}
+use Rattle.deb_text.specs.Groups.{place_in}
+use Rattle.deb_text.specs.Steps.{◌>>=◌, traverse}
+use Rattle.farm_universe.specs.Universe.{Base, Universe}
+use Rattle.plan_asm.specs.declared.draft.Open.{Open}
+use Rattle.plan_asm.specs.declared.draft.Open.TheVariants.{Nothing, InLane}
+use Rattle.plan_asm.specs.declared.error.TheConstants.{BAD_LINE, UNKNOWN_NAME, NAME_TWICE, LANE_TWICE, OVER_LIMIT, MOST_LANES, MOST_INSTRUCTIONS}
+use Rattle.plan_asm.specs.declared.instructions.Instruction.{Instruction}
+use Rattle.plan_asm.specs.declared.instructions.Instruction.TheVariants.{Unpack, Configure}
+use Rattle.plan_asm.specs.Forms.{Form, LaneForm, EndForm, UnpackForm, ConfigureForm}
+use Rattle.plan_asm.specs.Plan.{Lane}
+use Rattle.plan_asm.specs.Sound.{has_double}
+
+-- the lanes that have ended, and what is left open
+pub record Draft : Type 0 where
+  pub lanes : List Lane
+  pub current : Open
+
+abbrev pub empty : Draft
+empty = record { lanes = []; current = Nothing }
+
+abbrev pub is_open : Open → Bool
+is_open Nothing = false
+is_open (InLane line lane) = true
+
+-- the lanes that have ended, and the open one
+abbrev pub all_lanes : List Lane → Open → List Lane
+all_lanes ls Nothing = ls
+all_lanes ls (InLane line lane) = ls ++ lane ∷ []
+
+abbrev pub instructions_of : List Lane → List Instruction
+instructions_of ls = flat_map (λ (l : Lane). l.instructions) ls
+
+-- ---- names
+
+abbrev pub or_unknown : Option ℕ → Result ℕ ℕ
+or_unknown (Some n) = Ok n
+or_unknown None = Err UNKNOWN_NAME
+
+-- the number of a package's name
+unfoldable pub known_name : Universe → List ℕ → Result ℕ ℕ
+known_name u word = or_unknown (place_in bytes_eq u.names word)
+
+abbrev pub base_names : Universe → List (List ℕ)
+base_names u = map (λ (b : Base). b.name) u.bases
+
+-- the number of a base chroot
+unfoldable pub known_base : Universe → List ℕ → Result ℕ ℕ
+known_base u word = or_unknown (place_in bytes_eq (base_names u) word)
+
+-- the numbers of these names: all of them known, and then none twice
+abbrev pub distinct_set : List ℕ → Result (List ℕ) ℕ
+distinct_set members = if has_double members then Err NAME_TWICE else Ok members
+
+unfoldable pub set_of : Universe → List (List ℕ) → Result (List ℕ) ℕ
+set_of u ws = traverse (known_name u) ws >>= distinct_set
+
+-- ---- lines
+
+abbrev pub fresh_lane : List ℕ → ℕ → ℕ → Lane
+fresh_lane name base budget = record {
+  name = name;
+  base = base;
+  budget = budget;
+  instructions = [];
+}
+
+-- a lane opens at the line of this number
+abbrev pub open_lane : ℕ → Draft → List ℕ → ℕ → ℕ → Result Draft ℕ
+open_lane number d name budget base =
+    if list_any (λ (l : Lane). bytes_eq l.name name) d.lanes then Err LANE_TWICE
+    else (if nat_le MOST_LANES (length d.lanes) then Err OVER_LIMIT
+    else Ok (record {
+      lanes = d.lanes;
+      current = InLane number (fresh_lane name base budget);
+    }))
+
+-- the open lane ends
+abbrev pub end_lane : List Lane → Open → Result Draft ℕ
+end_lane ls Nothing = Err BAD_LINE
+end_lane ls (InLane line lane) = Ok (record { lanes = ls ++ lane ∷ []; current = Nothing })
+
+abbrev pub with_instruction : Lane → Instruction → Lane
+with_instruction l x = record {
+  name = l.name;
+  base = l.base;
+  budget = l.budget;
+  instructions = l.instructions ++ x ∷ [];
+}
+
+-- an instruction comes into the open lane
+abbrev pub add : List Lane → Open → Instruction → Result Draft ℕ
+add ls Nothing x = Err BAD_LINE
+add ls (InLane line lane) x =
+    if nat_le MOST_INSTRUCTIONS (length (instructions_of (ls ++ lane ∷ []))) then Err OVER_LIMIT
+    else Ok (record { lanes = ls; current = InLane line (with_instruction lane x) })
+
+-- first whether the line may stand here, then its names, then what it changes
+unfoldable pub take_form : Universe → ℕ → Draft → Form → Result Draft ℕ
+take_form u number d (LaneForm name chroot budget) =
+    if is_open d.current then Err BAD_LINE
+    else (known_base u chroot >>= open_lane number d name budget)
+take_form u number d EndForm = end_lane d.lanes d.current
+take_form u number d (UnpackForm name relation) =
+    if is_open d.current then (known_name u name >>= λ n. add d.lanes d.current (Unpack n relation))
+    else Err BAD_LINE
+take_form u number d (ConfigureForm ws) =
+    if is_open d.current then (set_of u ws >>= λ members. add d.lanes d.current (Configure members))
+    else Err BAD_LINE

@@ -1,0 +1,42 @@
+-- The plan that a text stands for, and its first fault (the project's own format): the lines that
+-- are neither blank nor comments, one after the other. Parameters: u a universe, d a draft.
+--
+--   take_line u d line     the draft with one more line, or the line's fault
+--   plan_of u text         the plan of a text, or its first fault
+use Rattle.std.specs.Prelude.{ℕ, List, [], ◌∷◌, Result, Ok, Err, if◌then◌else◌}
+use Rattle.deb_stanza.specs.Plain.{plain_lines_at}
+use Rattle.deb_text.specs.declared.fault.Fault.{Fault}
+use Rattle.deb_text.specs.Answers.{fault_at, placed}
+use Rattle.deb_text.specs.Lines.{Line}
+use Rattle.deb_text.specs.Steps.{◌>>=◌, steps}
+use Rattle.farm_universe.specs.Universe.{Universe}
+use Rattle.plan_asm.specs.declared.error.TheConstants.{FILE, NO_PLAN}
+use Rattle.plan_asm.specs.Drafts.{Draft, empty, take_form}
+use Rattle.plan_asm.specs.Ends.{finished}
+use Rattle.plan_asm.specs.Forms.{form_at, is_head}
+use Rattle.plan_asm.specs.Plan.{Plan}
+
+unfoldable pub take_text : Universe → ℕ → Draft → List ℕ → Result Draft ℕ
+take_text u number d line = form_at line >>= take_form u number d
+
+abbrev pub take_line : Universe → Draft → Line → Result Draft Fault
+take_line u d (number, line) = placed FILE number (take_text u number d line)
+
+-- what the lines behind the first one come to
+unfoldable pub draft_of : Universe → List Line → Result Draft Fault
+draft_of u ls = steps (take_line u) empty ls
+
+-- the first line is `plan 1`, and nothing is left open at the end
+abbrev pub plan_in : Universe → List Line → Result Plan Fault
+plan_in u [] = Err (fault_at FILE 0 NO_PLAN)
+plan_in u ((number, line) ∷ ls) =
+    if is_head line then (draft_of u ls >>= λ d. finished d.lanes d.current)
+    else Err (fault_at FILE number NO_PLAN)
+
+-- the fault of a text, told of this file
+abbrev pub of_file : {X : Type 0} → ℕ → Result X Fault → Result X Fault
+of_file file (Ok x) = Ok x
+of_file file (Err fault) = Err (fault_at file fault.line fault.code)
+
+unfoldable pub plan_of : Universe → List ℕ → Result Plan Fault
+plan_of u text = of_file FILE (plain_lines_at text) >>= plan_in u
