@@ -1,1 +1,7 @@
 pub mod BelowLaws
+pub mod ToldLaws
+pub mod TableLaws
+pub mod FitLaws
+pub mod ArchiveLaws
+pub mod FarmLaws
+pub mod KeptLaws

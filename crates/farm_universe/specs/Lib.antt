@@ -4,3 +4,15 @@ pub mod Packages
 pub mod Chroot
 pub mod Traps
 pub mod Sound
+pub mod Fields
+pub mod Told
+pub mod PackagesText
+pub mod View
+pub mod TableSteps
+pub mod TableView
+pub mod ListText
+pub mod FarmText
+pub mod FarmSteps
+pub mod FarmView
+pub mod UniverseText
+pub mod Kept

@@ -1,6 +1,30 @@
 //! The universe of a port's farm: its packages, recipes, base chroots and initial archive.
 #![tactic(auto)]
 
+mod archive;
+mod base;
+mod binary;
+mod chroots;
+mod error;
+mod farm;
+mod fields;
+mod files;
+pub mod limits;
+mod packages;
+mod paragraph;
+mod reduction;
+mod table;
+#[cfg(test)]
+mod tests;
+mod texts;
 pub mod types;
+mod universe;
 
+pub use base::Base;
+pub use binary::PackageRelations;
+pub use error::{
+    ABSENT, BAD_NUMBER, OVER_LIMIT, TOO_MANY_VARIANTS, TWICE, UNKNOWN_VARIANT, UNREAD,
+};
+pub use files::{FARM, PACKAGES, SOURCES};
 pub use types::{Slot, Trap, Variant};
+pub use universe::Universe;

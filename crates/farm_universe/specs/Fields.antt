@@ -1,0 +1,53 @@
+-- The fields of a paragraph, as the texts of a farm use them. What is read is a value, or the code of a fault.
+--
+--   needed_at p name             the value of a field that has to stand
+--   name_at, version_text_at     a name; a version, as it is written
+--   number_up_to most text       a number
+--   size_at, relations_in        Installed-Size and relation fields, which may be absent
+--   unread_at                    a field that is not read yet
+use Rattle.std.specs.Prelude.{ℕ, nat_lt, List, [], Option, Some, None, Result, Ok, Err, ok_or, if◌then◌else◌}
+use Rattle.deb_text.specs.Numbers.{number_at}
+use Rattle.deb_text.specs.Steps.{◌>>=◌}
+use Rattle.deb_text.specs.Words.{is_name}
+use Rattle.deb_stanza.specs.Stanza.{Paragraph, value_of}
+use Rattle.deb_version.specs.Grammar.{version_at}
+use Rattle.deb_relation.specs.declared.error.TheConstants.{BAD_NAME}
+use Rattle.deb_relation.specs.declared.kind.Kind.{Kind}
+use Rattle.deb_relation.specs.Field.{relations_at}
+use Rattle.deb_relation.specs.Relations.{Relations}
+use Rattle.farm_universe.specs.declared.error.TheConstants.{ABSENT, BAD_NUMBER, UNREAD}
+use Rattle.farm_universe.specs.declared.limits.TheConstants.{MOST_SIZE}
+
+abbrev pub needed_at : Paragraph → List ℕ → Result (List ℕ) ℕ
+needed_at p name = ok_or (value_of p name) ABSENT
+
+-- Debian Policy 5.6.7
+abbrev pub name_at : List ℕ → Result (List ℕ) ℕ
+name_at text = if is_name text then Ok text else Err BAD_NAME
+
+-- Policy 5.6.12
+abbrev pub version_text_at : List ℕ → Result (List ℕ) ℕ
+version_text_at text = version_at text >>= λ parts. Ok text
+
+-- a number, if there is one, of at most this much
+abbrev pub up_to : ℕ → Option ℕ → Result ℕ ℕ
+up_to most None = Err BAD_NUMBER
+up_to most (Some n) = if nat_lt most n then Err BAD_NUMBER else Ok n
+
+abbrev pub number_up_to : ℕ → List ℕ → Result ℕ ℕ
+number_up_to most text = up_to most (number_at text)
+
+-- Installed-Size in KiB (Policy 5.6.20); absent: 0 (the project's own rule)
+abbrev pub size_at : Option (List ℕ) → Result ℕ ℕ
+size_at None = Ok 0
+size_at (Some text) = number_up_to MOST_SIZE text
+
+-- a relation field (Policy 7.1); absent: no entry
+abbrev pub relations_in : Kind → Option (List ℕ) → Result Relations ℕ
+relations_in kind None = Ok []
+relations_in kind (Some text) = relations_at kind text
+
+-- a field that is not read yet
+abbrev pub unread_at : Option (List ℕ) → Result (Unit {0}) ℕ
+unread_at None = Ok tt
+unread_at (Some text) = Err UNREAD

@@ -1,0 +1,22 @@
+-- What every universe that was read keeps.
+--
+--   IsKept u
+use Rattle.std.specs.Prelude.{◌≤◌, length, All}
+use Rattle.std.specs.Str.{bytes_eq}
+use Rattle.deb_text.specs.Groups.{AllDistinct}
+use Rattle.farm_universe.specs.declared.limits.TheConstants.{MOST_NAMES, MOST_SIZE, MOST_BASES, MOST_CAPACITY}
+use Rattle.farm_universe.specs.Sound.{IsUniverse, IsInOrder}
+use Rattle.farm_universe.specs.Universe.{Universe}
+
+pub record IsKept (u : Universe) : Type 0 where
+  -- what the laws of farms use;
+  pub sound : IsUniverse u
+  -- the variants of a name stand in version order, with no version twice, and base chroots are settled;
+  pub in_order : IsInOrder u
+  -- no name stands twice, and there are not too many;
+  pub distinct : AllDistinct bytes_eq u.names
+  pub few_names : length u.names ≤ MOST_NAMES
+  -- sizes and capacities are within their limits, in KiB, and there are not too many base chroots.
+  pub small : All (All (λ v. v.size ≤ MOST_SIZE)) u.packages
+  pub few_bases : length u.bases ≤ MOST_BASES
+  pub limited : All (λ base. base.capacity ≤ MOST_CAPACITY) u.bases

@@ -1,0 +1,66 @@
+-- A list of variants, as `name (= version), name (= version)`: it is written as a Provides field is (Debian Policy 7.5).
+--
+--   find_variant table name version   the variant of a name with this version
+--   variant_at table entry            the variant that an item of a list names
+--   list_of made table text           what is made of the variants of a list, or the first fault
+--   words_of n vs                     for each of n names a word, with a bit for each variant of the list
+use Rattle.std.specs.Prelude.{ℕ, ◌^◌, Bool, ◌==◌, List, [], ◌∷◌, map, filter, fold, get_or, position, ok_or, if◌then◌else◌, Option, Some, None, Result, Err, bit_or}
+use Rattle.std.specs.List.{range_with_len}
+use Rattle.std.specs.Option.{option_map}
+use Rattle.std.specs.Ordering.{is_eq}
+use Rattle.std.specs.Str.{bytes_eq}
+use Rattle.deb_text.specs.Groups.{place_in}
+use Rattle.deb_text.specs.Steps.{◌>>=◌, judged, goods, item_fault}
+use Rattle.deb_version.specs.Grammar.{text_cmp}
+use Rattle.deb_relation.specs.declared.kind.Kind.TheVariants.{Provide}
+use Rattle.deb_relation.specs.declared.operator.Op.{Op}
+use Rattle.deb_relation.specs.Field.{relations_at}
+use Rattle.deb_relation.specs.Relations.{Entry}
+use Rattle.farm_universe.specs.declared.error.TheConstants.{TWICE, UNKNOWN_VARIANT}
+use Rattle.farm_universe.specs.declared.types.Variant.{Variant}
+use Rattle.farm_universe.specs.Packages.{variant, contains}
+use Rattle.farm_universe.specs.PackagesText.{Table}
+use Rattle.farm_universe.specs.Universe.{Package}
+
+abbrev pub has_version : List ℕ → Package → Bool
+has_version version v = is_eq (text_cmp version v.version)
+
+-- the variant of the name with this number
+abbrev pub variant_of : Table → List ℕ → Option ℕ → Option Variant
+variant_of table version None = None
+variant_of table version (Some n) = option_map (variant n) (position (has_version version) (get_or table.packages n []))
+
+unfoldable pub find_variant : Table → List ℕ → List ℕ → Option Variant
+find_variant table name version = variant_of table version (place_in bytes_eq table.names name)
+
+-- with a version and without a qualifier
+abbrev pub named_variant : Table → Option (List ℕ) → List ℕ → Option (Op × List ℕ) → Option Variant
+named_variant table (Some qualifier) name relation = None
+named_variant table None name None = None
+named_variant table None name (Some relation) = find_variant table name relation.1
+
+-- an item has one alternative, since no list of variants has a bar
+unfoldable pub variant_at : Table → Entry → Result Variant ℕ
+variant_at table [] = Err UNKNOWN_VARIANT
+variant_at table (a ∷ []) = ok_or (named_variant table a.qualifier a.name a.relation) UNKNOWN_VARIANT
+variant_at table (a ∷ b ∷ more) = Err UNKNOWN_VARIANT
+
+-- a variant that stands twice, however its version is written
+abbrev pub twice : List Variant → Variant → Option ℕ
+twice before v = if contains before v then Some TWICE else None
+
+-- the faults of the field first, then item by item
+unfoldable pub list_of : {A : Type 0} → (List Variant → A) → Table → List ℕ → Result A ℕ
+list_of made table text = relations_at Provide text >>= judged (item_fault (variant_at table) twice) (λ items. made (goods (variant_at table) items))
+
+-- ---- words
+
+abbrev pub with_bit : ℕ → ℕ → ℕ
+with_bit word bit = bit_or word (2 ^ bit)
+
+-- the bits of the variants whose name has this number
+abbrev pub word_of : List Variant → ℕ → ℕ
+word_of vs n = fold (λ word v. with_bit word v.bit) 0 (filter (λ v. v.name == n) vs)
+
+abbrev pub words_of : ℕ → List Variant → List ℕ
+words_of n vs = map (word_of vs) (range_with_len 0 n)

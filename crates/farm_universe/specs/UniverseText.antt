@@ -1,0 +1,67 @@
+-- The universe that three texts describe, or their first fault: packages before sources before the farm. Each text is
+-- read as a whole, and then paragraph by paragraph.
+--
+--   universe_of packages sources farm
+use Rattle.std.specs.Prelude.{ℕ, List, [], ◌∷◌, map, Result, Ok, Err}
+use Rattle.deb_text.specs.declared.fault.Fault.{Fault}
+use Rattle.deb_text.specs.Answers.{fault_at}
+use Rattle.deb_text.specs.Steps.{◌>>=◌}
+use Rattle.deb_stanza.specs.Stanza.{Paragraph, paragraphs_at}
+use Rattle.deb_profile.specs.Reduction.{reduced}
+use Rattle.deb_relation.specs.Relations.{Relations}
+use Rattle.farm_universe.specs.declared.error.TheConstants.{UNREAD}
+use Rattle.farm_universe.specs.FarmText.{Farm, farm_of}
+use Rattle.farm_universe.specs.PackagesText.{Table, packages_of}
+use Rattle.farm_universe.specs.Told.{in_file}
+use Rattle.farm_universe.specs.Universe.{Package, Universe}
+
+-- the paragraphs of a text
+unfoldable pub paragraphs_in : ℕ → List ℕ → Result (List Paragraph) Fault
+paragraphs_in file text = in_file file (paragraphs_at text)
+
+-- sources are not read yet
+abbrev pub sources_of : List Paragraph → Result (Unit {0}) Fault
+sources_of [] = Ok tt
+sources_of (p ∷ ps) = Err (fault_at 2 p.line UNREAD)
+
+-- a relation field, reduced by the names of the architecture and by no profile (Debian Policy 7.1)
+unfoldable pub reduced_field : List (List ℕ) → Relations → Relations
+reduced_field architectures field = reduced architectures [] field
+
+unfoldable pub reduced_package : List (List ℕ) → Package → Package
+reduced_package architectures v = record {
+  version = v.version;
+  size = v.size;
+  pre_depends = reduced_field architectures v.pre_depends;
+  depends = reduced_field architectures v.depends;
+  conflicts = reduced_field architectures v.conflicts;
+  breaks = reduced_field architectures v.breaks;
+  provides = reduced_field architectures v.provides;
+}
+
+abbrev pub universe_with : Table → Farm → Universe
+universe_with table farm = record {
+  names = table.names;
+  packages = map (map (reduced_package farm.architectures)) table.packages;
+  recipes = [];
+  bases = farm.bases;
+  initial = farm.initial;
+  architectures = farm.architectures;
+}
+
+-- what each text says
+unfoldable pub table_at : List ℕ → Result Table Fault
+table_at packages = paragraphs_in 1 packages >>= packages_of
+
+unfoldable pub sources_at : List ℕ → Result (Unit {0}) Fault
+sources_at sources = paragraphs_in 2 sources >>= sources_of
+
+unfoldable pub farm_at : Table → List ℕ → Result Farm Fault
+farm_at table farm = paragraphs_in 3 farm >>= farm_of table
+
+unfoldable pub universe_of : List ℕ → List ℕ → List ℕ → Result Universe Fault
+universe_of packages sources farm = do
+  table ← table_at packages
+  read ← sources_at sources
+  described ← farm_at table farm
+  Ok (universe_with table described)

@@ -1,0 +1,181 @@
+//! What is known of one version of a package.
+
+ghost use Rattle.std.specs.Prelude.{◌≡◌, ◌≤◌, nat_le, ◌-◌, SomeIff, OnOk, position, length, []};
+ghost use Rattle.std.specs.List.{list_any};
+ghost use Rattle.deb_text.specs.Groups.{in_order};
+ghost use Rattle.farm_universe.specs.PackagesText.{entry_count, is_below, is_same};
+
+use crate::limits::MOST_ENTRIES;
+use deb_relation::Relations;
+use deb_version::Version;
+use std::alloc::AllocFailed;
+use std::marker::Model;
+
+/// The relation fields of a package (Debian Policy 7).
+#[derive(Debug, Drop)]
+pub struct PackageRelations {
+    pub pre_depends: Relations,
+    pub depends: Relations,
+    pub conflicts: Relations,
+    pub breaks: Relations,
+    pub provides: Relations,
+}
+
+/// What is known of one version of a package.
+#[derive(Debug, Drop)]
+pub struct Package {
+    version: Version,
+    size: u64,
+    relations: PackageRelations,
+}
+
+impl Model for Package {
+    ghost use Rattle.farm_universe.specs.Universe as universe;
+
+    ghost Value = { universe.Package };
+
+    ghost view = { λ p. record {
+      version = p.version;
+      size = p.size;
+      pre_depends = p.relations.pre_depends;
+      depends = p.relations.depends;
+      conflicts = p.relations.conflicts;
+      breaks = p.relations.breaks;
+      provides = p.relations.provides;
+    } };
+}
+
+impl Package {
+    pub fn new(version: Version, size: u64, relations: PackageRelations) -> Package
+        ensures { result ≡ record {
+          version = version;
+          size = size;
+          pre_depends = relations.pre_depends;
+          depends = relations.depends;
+          conflicts = relations.conflicts;
+          breaks = relations.breaks;
+          provides = relations.provides;
+        } }
+    {
+        Package {
+            version,
+            size,
+            relations,
+        }
+    }
+
+    pub fn version(&self) -> &Version
+        ensures { result.now ≡ self.now.version }
+    {
+        &self.version
+    }
+
+    /// Installed-Size, in KiB.
+    pub fn size(&self) -> u64
+        ensures { result ≡ self.now.size }
+    {
+        self.size
+    }
+
+    pub fn relations(&self) -> &PackageRelations
+        ensures { result.now ≡ record {
+          pre_depends = self.now.pre_depends;
+          depends = self.now.depends;
+          conflicts = self.now.conflicts;
+          breaks = self.now.breaks;
+          provides = self.now.provides;
+        } }
+    {
+        &self.relations
+    }
+
+    /// The package with other relations.
+    pub fn with_relations(self, relations: PackageRelations) -> Package
+        ensures { result ≡ record {
+          version = self.version;
+          size = self.size;
+          pre_depends = relations.pre_depends;
+          depends = relations.depends;
+          conflicts = relations.conflicts;
+          breaks = relations.breaks;
+          provides = relations.provides;
+        } }
+    {
+        let Package { version, size, .. } = self;
+        Package {
+            version,
+            size,
+            relations,
+        }
+    }
+
+    /// Tells whether its relation fields have at most this many entries.
+    pub fn has_at_most(&self, most: usize) -> bool
+        ensures { result ≡ nat_le (entry_count self.now) most }
+    {
+        let relations = &self.relations;
+        room_behind(most, &relations.pre_depends)
+            .and_then(|room| room_behind(room, &relations.depends))
+            .and_then(|room| room_behind(room, &relations.conflicts))
+            .and_then(|room| room_behind(room, &relations.breaks))
+            .and_then(|room| room_behind(room, &relations.provides))
+            .is_some()
+    }
+
+    /// How many entries its relation fields have.
+    pub fn entry_count(&self) -> usize
+        requires { entry_count self.now ≤ MOST_ENTRIES }
+        ensures { result ≡ entry_count self.now }
+    {
+        let relations = &self.relations;
+        relations.pre_depends.len()
+            + relations.depends.len()
+            + relations.conflicts.len()
+            + relations.breaks.len()
+            + relations.provides.len()
+    }
+}
+
+/// What is left of some room behind the entries of a field, if they fit in it.
+fn room_behind(room: usize, field: &Relations) -> Option<usize>
+    ensures { SomeIff result (length field.now ≤ room) (room - length field.now) }
+{
+    room.checked_sub(field.len())
+}
+
+/// Tells whether two packages have the same version.
+fn is_same(v: &Package, w: &Package) -> bool
+    ensures { result ≡ is_same v.now w.now }
+{
+    v.version().compare(w.version()).is_eq()
+}
+
+fn is_below(v: &Package, w: &Package) -> bool
+    ensures { result ≡ is_below v.now w.now }
+{
+    v.version().compare(w.version()).is_lt()
+}
+
+/// Tells whether one of the packages has the version of this one.
+pub fn is_given(given: &[Package], binary: &Package) -> bool
+    ensures { result ≡ list_any (is_same binary.now) given.now }
+{
+    given.iter().any(|v| is_same(binary, v))
+}
+
+fn first_above(given: &[Package], binary: &Package) -> Option<usize>
+    ensures { result ≡ position (is_below binary.now) given.now }
+{
+    given.iter().position(|v| is_below(binary, v))
+}
+
+/// Puts a package in its place among others of its name, by version.
+pub fn insert_in_order(
+    given: &mut Vec<Package>,
+    binary: Package,
+) -> Result<(), AllocFailed<Package>>
+    ensures { OnOk result (given.new.items ≡ in_order is_below binary given.old.items) }
+{
+    let at = first_above(given, &binary).unwrap_or(given.len());
+    given.insert(at, binary)
+}

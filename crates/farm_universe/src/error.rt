@@ -1,0 +1,67 @@
+//! Why a part of the texts is refused.
+
+ghost use Rattle.std.specs.Prelude.{◌≡◌};
+
+use deb_relation::RelationError;
+use deb_text::MEMORY;
+use deb_version::VersionError;
+use std::alloc::{AllocError, AllocFailed};
+
+/// A field that has to stand is absent.
+pub const ABSENT: u16 = 201;
+
+/// A field has no number, or one over its limit.
+pub const BAD_NUMBER: u16 = 202;
+
+/// A version of a package, a variant of a list or the name of a chroot stands a second time.
+pub const TWICE: u16 = 203;
+
+/// A name has more than [`MOST_VARIANTS`](crate::limits::MOST_VARIANTS) versions.
+pub const TOO_MANY_VARIANTS: u16 = 204;
+
+/// An item of a list of variants names none.
+pub const UNKNOWN_VARIANT: u16 = 205;
+
+/// There are more names, relation entries or base chroots than the limits allow.
+pub const OVER_LIMIT: u16 = 210;
+
+/// A field or a paragraph that is not read yet.
+pub const UNREAD: u16 = 211;
+
+/// Why a paragraph is refused: the code of its fault, or that memory ran out.
+#[derive(Clone, Copy, Debug, PartialEq, Eq)]
+pub struct Refusal {
+    pub code: u16,
+}
+
+impl From<AllocError> for Refusal {
+    ghost from_gives = { λ _ refusal. refusal ≡ record { code = 900 } };
+
+    fn from(_error: AllocError) -> Refusal {
+        Refusal { code: MEMORY }
+    }
+}
+
+impl<T: Drop> From<AllocFailed<T>> for Refusal {
+    ghost from_gives = { λ _ refusal. refusal ≡ record { code = 900 } };
+
+    fn from(_error: AllocFailed<T>) -> Refusal {
+        Refusal { code: MEMORY }
+    }
+}
+
+impl From<VersionError> for Refusal {
+    ghost from_gives = { λ error refusal. refusal ≡ record { code = error.code } };
+
+    fn from(error: VersionError) -> Refusal {
+        Refusal { code: error.code }
+    }
+}
+
+impl From<RelationError> for Refusal {
+    ghost from_gives = { λ error refusal. refusal ≡ record { code = error.code } };
+
+    fn from(error: RelationError) -> Refusal {
+        Refusal { code: error.code }
+    }
+}

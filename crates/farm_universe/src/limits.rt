@@ -1,0 +1,19 @@
+//! How much the texts of a farm may hold.
+
+/// Names of packages.
+pub const MOST_NAMES: usize = 512;
+
+/// Relation entries of all packages, as they are read.
+pub const MOST_ENTRIES: usize = 8192;
+
+/// Versions of a name: as many as a word of the archive has bits.
+pub const MOST_VARIANTS: usize = 64;
+
+/// Base chroots.
+pub const MOST_BASES: usize = 64;
+
+/// Installed-Size, in KiB.
+pub const MOST_SIZE: u64 = 4_294_967_295;
+
+/// The capacity of a chroot, in KiB.
+pub const MOST_CAPACITY: u64 = 999_999_999_999_999;

@@ -1,0 +1,49 @@
+//! What a paragraph of the packages text says.
+
+ghost use Rattle.std.specs.Prelude.{IfOk, ◌≤◌};
+ghost use Rattle.deb_text.specs.Answers.{Gives};
+ghost use Rattle.farm_universe.specs.PackagesText.{package_at};
+ghost use Rattle.farm_universe.specs.View.{refusal_of};
+ghost use Rattle.farm_universe.specs.TableView.{listed_view};
+
+use crate::binary::{Package, PackageRelations};
+use crate::error::Refusal;
+use crate::fields::{read_name, read_relations, read_size, read_version, refuse_unread};
+use crate::limits::MOST_SIZE;
+use crate::paragraph::Paragraph;
+use deb_relation::{Kind, Relations};
+use std::alloc::Global;
+
+/// What a paragraph says.
+#[derive(Debug, Drop)]
+pub struct Listed {
+    pub name: Vec<u8>,
+    pub binary: Package,
+}
+
+/// Reads a paragraph of the packages text.
+#[tactic(auto, unfolding(crate::specs::PackagesText::package_at))]
+pub fn read_package(alloc: Global, paragraph: &Paragraph) -> Result<Listed, Refusal>
+    ensures read { Gives refusal_of listed_view result (package_at paragraph.now) }
+    ensures small { IfOk result (λ listed. listed.binary.size ≤ MOST_SIZE) }
+{
+    let name = read_name(alloc, paragraph.needed(b"Package")?)?;
+    let version = read_version(alloc, paragraph.needed(b"Version")?)?;
+    let size = read_size(paragraph.field(b"Installed-Size"))?;
+    refuse_unread(paragraph.field(b"Pre-Depends"))?;
+    let depends = read_relations(alloc, Kind::Need, paragraph.field(b"Depends"))?;
+    refuse_unread(paragraph.field(b"Conflicts"))?;
+    refuse_unread(paragraph.field(b"Breaks"))?;
+    refuse_unread(paragraph.field(b"Provides"))?;
+    let relations = PackageRelations {
+        pre_depends: Relations::from_entries(Vec::new(alloc)),
+        depends,
+        conflicts: Relations::from_entries(Vec::new(alloc)),
+        breaks: Relations::from_entries(Vec::new(alloc)),
+        provides: Relations::from_entries(Vec::new(alloc)),
+    };
+    Ok(Listed {
+        name,
+        binary: Package::new(version, size, relations),
+    })
+}

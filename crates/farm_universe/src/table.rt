@@ -1,0 +1,196 @@
+//! The packages of the first text, by the number of their name and by version.
+
+ghost use Rattle.std.specs.Prelude.{◌≡◌, ◌+◌, ◌<◌, ◌≤◌, IfSome, OnOk, IfOk, IfErr, IfNone, None, Some, length, false, ◌++◌, ◌∷◌, [], get_or, set, position};
+ghost use Rattle.std.specs.List.{list_any};
+ghost use Rattle.std.specs.Str.{bytes_eq};
+ghost use Rattle.indexmap.specs.IndexSet.{index_set_len};
+ghost use Rattle.deb_text.specs.Answers.{Gives, refusal_of as fault_of};
+ghost use Rattle.deb_text.specs.Groups.{in_order, place_in};
+ghost use Rattle.deb_text.specs.Lists.{lists};
+ghost use Rattle.farm_universe.specs.PackagesText.{entry_count, is_below, is_over, packages_of};
+ghost use Rattle.farm_universe.specs.TableSteps.{given_at, put_at, code_at, add, add_paragraph, tell_paragraph};
+ghost use Rattle.farm_universe.specs.TableView.{listed_view, table_view, IsFit, IsWithin};
+ghost use Rattle.farm_universe.specs.View.{refusal_of};
+
+use crate::binary::{Package, insert_in_order, is_given};
+use crate::error::{OVER_LIMIT, Refusal, TOO_MANY_VARIANTS, TWICE};
+use crate::files::PACKAGES;
+use crate::limits::{MOST_ENTRIES, MOST_NAMES, MOST_SIZE, MOST_VARIANTS};
+use crate::packages::{Listed, read_package};
+use crate::paragraph::Paragraph;
+use deb_stanza::Paragraphs;
+use deb_text::Fault;
+use indexmap::IndexSet;
+use std::alloc::Global;
+
+/// The names in the order of their first appearance, and for each its packages from the lowest
+/// version up.
+#[derive(Drop)]
+pub struct Table {
+    pub names: IndexSet<Vec<u8>>,
+    pub packages: Vec<Vec<Package>>,
+    pub entries: usize,
+}
+
+/// The number of a name.
+pub fn place_of(names: &IndexSet<Vec<u8>>, name: &[u8]) -> Option<usize>
+    ensures place { result ≡ place_in bytes_eq (lists names.now.keys) name.now }
+    ensures within { IfSome result (λ i. i < index_set_len names.now) }
+{
+    names.get_index_of(name)
+}
+
+/// The packages of a name, from the lowest version up.
+pub fn packages_at(table: &Table, number: usize) -> &[Package]
+    requires fit { IsFit (table_view table.now) }
+    requires within { number < length (table_view table.now).packages }
+    ensures packages { result.now ≡ get_or (table_view table.now).packages number [] }
+    ensures few { length result.now ≤ MOST_VARIANTS }
+{
+    &table.packages[number]
+}
+
+/// The packages of the name with this number, if there is one.
+fn given_at(table: &Table, at: Option<usize>) -> &[Package]
+    requires { IsWithin (table_view table.now) at }
+    ensures { result.now ≡ given_at (table_view table.now) at }
+{
+    match at {
+        None => &[],
+        Some(i) => &table.packages[i],
+    }
+}
+
+/// Tells whether there are too many names or entries with this package.
+fn is_over(table: &Table, at: Option<usize>, listed: &Listed) -> bool
+    requires { IsFit (table_view table.now) }
+    ensures { result ≡ is_over (put_at (table_view table.now) at (listed_view listed.now)) }
+{
+    if at.is_none() && table.names.len() == MOST_NAMES {
+        return true;
+    }
+    !listed.binary.has_at_most(MOST_ENTRIES - table.entries)
+}
+
+#[tactic(auto, unfolding(crate::specs::TableSteps::code_at))]
+fn code_at(table: &Table, at: Option<usize>, listed: &Listed) -> Option<u16>
+    requires fit { IsFit (table_view table.now) }
+    requires within { IsWithin (table_view table.now) at }
+    ensures { result ≡ code_at (table_view table.now) at (listed_view listed.now) }
+{
+    let given = given_at(table, at);
+    if is_given(given, &listed.binary) {
+        return Some(TWICE);
+    }
+    if given.len() >= MOST_VARIANTS {
+        return Some(TOO_MANY_VARIANTS);
+    }
+    if is_over(table, at, listed) {
+        return Some(OVER_LIMIT);
+    }
+    None
+}
+
+/// Puts a package to those of a name that is there.
+fn put_there(table: &mut Table, at: usize, binary: Package) -> Result<(), Refusal>
+    requires { at < length (table_view table.old).packages }
+    ensures names { table.new.names ≡ table.old.names }
+    ensures packages { OnOk result (lists table.new.packages.items ≡ set (lists table.old.packages.items) at (in_order is_below binary (get_or (lists table.old.packages.items) at []))) }
+    ensures entries { table.new.entries ≡ table.old.entries }
+    ensures memory { IfErr result (λ e. refusal_of e ≡ None) }
+{
+    insert_in_order(&mut table.packages[at], binary)?;
+    Ok(())
+}
+
+/// Puts a package of a new name.
+fn put_new(alloc: Global, table: &mut Table, listed: Listed) -> Result<(), Refusal>
+    requires { list_any (bytes_eq listed.name.items) (lists table.old.names.keys) ≡ false }
+    ensures put { OnOk result (table_view table.new ≡ record {
+      names = lists table.old.names.keys ++ listed.name.items ∷ [];
+      packages = lists table.old.packages.items ++ (listed.binary ∷ []) ∷ [];
+      entries = table.old.entries;
+    }) }
+    ensures memory { IfErr result (λ e. refusal_of e ≡ None) }
+{
+    let mut packages = Vec::new(alloc);
+    packages.push(listed.binary)?;
+    table.packages.push(packages)?;
+    table.names.insert(listed.name)?;
+    Ok(())
+}
+
+/// Puts a package of the name with this number, or of a new name.
+fn put_at(
+    alloc: Global,
+    table: &mut Table,
+    at: Option<usize>,
+    listed: Listed,
+) -> Result<(), Refusal>
+    requires at { at ≡ place_in bytes_eq (lists table.old.names.keys) listed.name.items }
+    requires within { IsWithin (table_view table.old) at }
+    requires fits { table.old.entries + entry_count listed.binary ≤ MOST_ENTRIES }
+    ensures put { OnOk result (table_view table.new ≡ put_at (table_view table.old) at (listed_view listed)) }
+    ensures memory { IfErr result (λ e. refusal_of e ≡ None) }
+{
+    table.entries += listed.binary.entry_count();
+    match at {
+        Some(i) => put_there(table, i, listed.binary),
+        None => put_new(alloc, table, listed),
+    }
+}
+
+/// Goes on by a package.
+#[tactic(auto, unfolding(crate::specs::TableSteps::add))]
+fn add(alloc: Global, table: &mut Table, listed: Listed) -> Result<(), Refusal>
+    requires fit { IsFit (table_view table.old) }
+    requires small { listed.binary.size ≤ MOST_SIZE }
+    ensures read { Gives refusal_of (λ _. table_view table.new) result (add (table_view table.old) (listed_view listed)) }
+    ensures fit { OnOk result (IsFit (table_view table.new)) }
+{
+    let at = place_of(&table.names, &listed.name);
+    if let Some(code) = code_at(table, at, &listed) {
+        return Err(Refusal { code });
+    }
+    put_at(alloc, table, at, listed)
+}
+
+/// Goes on by a paragraph.
+#[tactic(auto, unfolding(crate::specs::TableSteps::add_paragraph))]
+fn add_paragraph(alloc: Global, table: &mut Table, paragraph: &Paragraph) -> Result<(), Refusal>
+    requires { IsFit (table_view table.old) }
+    ensures read { Gives refusal_of (λ _. table_view table.new) result (add_paragraph (table_view table.old) paragraph.now) }
+    ensures fit { OnOk result (IsFit (table_view table.new)) }
+{
+    let listed = read_package(alloc, paragraph)?;
+    add(alloc, table, listed)
+}
+
+/// Goes on by a paragraph, and tells its fault at its line.
+fn tell_paragraph(alloc: Global, table: &mut Table, paragraph: &Paragraph) -> Result<(), Fault>
+    requires { IsFit (table_view table.old) }
+    ensures read { Gives fault_of (λ _. table_view table.new) result (tell_paragraph (table_view table.old) paragraph.now) }
+    ensures fit { OnOk result (IsFit (table_view table.new)) }
+{
+    match add_paragraph(alloc, table, paragraph) {
+        Ok(()) => Ok(()),
+        Err(refusal) => Err(Fault::place(PACKAGES, paragraph.line(), refusal.code)),
+    }
+}
+
+/// Reads the paragraphs of the packages text.
+pub fn read_table(alloc: Global, paragraphs: &Paragraphs) -> Result<Table, Fault>
+    ensures read { Gives fault_of table_view result (packages_of paragraphs.now) }
+    ensures fit { IfOk result (λ table. IsFit (table_view table)) }
+{
+    let mut table = Table {
+        names: IndexSet::new(alloc),
+        packages: Vec::new(alloc),
+        entries: 0,
+    };
+    for number in 0..paragraphs.count() {
+        let paragraph = Paragraph::new(paragraphs, number);
+        tell_paragraph(alloc, &mut table, &paragraph)?;
+    }
+    Ok(table)
+}

@@ -1,0 +1,262 @@
+//! The universe of a farm, as its three texts describe it.
+
+ghost use Rattle.std.specs.Prelude.{◌≡◌, ◌<◌, ◌≤◌, length, slice_index, slice_index_or, [], IfOk, IfSome};
+ghost use Rattle.std.specs.Option.{option_copied};
+ghost use Rattle.std.specs.Str.{bytes_eq};
+ghost use Rattle.deb_text.specs.Answers.{Gives, refusal_of as fault_of};
+ghost use Rattle.deb_text.specs.Groups.{place_in};
+ghost use Rattle.farm_universe.specs.FarmView.{AreBases, AreWords, farm_view};
+ghost use Rattle.farm_universe.specs.Kept.{IsKept};
+ghost use Rattle.farm_universe.specs.Packages.{names, variants, package_of, size, pre_depends, depends, satisfies, is_wanted, base};
+ghost use Rattle.farm_universe.specs.Sound.{IsKnown};
+ghost use Rattle.farm_universe.specs.TableView.{IsFit, table_view};
+ghost use Rattle.farm_universe.specs.UniverseText.{universe_of, universe_with};
+
+use crate::base::Base;
+use crate::binary::{Package, PackageRelations};
+use crate::farm::Farm;
+use crate::limits::MOST_VARIANTS;
+use crate::reduction::reduce_all;
+use crate::table::{Table, place_of};
+use crate::texts::{read_farm_text, read_packages_text, read_sources_text};
+use crate::types::Variant;
+use deb_profile::ArchNames;
+use deb_relation::{Atom, Facts, Op, in_relation, satisfies};
+use deb_text::Fault;
+use deb_version::Version;
+use indexmap::IndexSet;
+use std::alloc::{AllocError, Global};
+use std::marker::Model;
+
+/// The universe of a farm: names by number, the variants of each from the lowest version up, base
+/// chroots, and the initial archive.
+#[derive(Drop)]
+pub struct Universe {
+    names: IndexSet<Vec<u8>>,
+    packages: Vec<Vec<Package>>,
+    initial: Vec<u64>,
+    bases: Vec<Base>,
+    architectures: ArchNames,
+}
+
+impl Model for Universe {
+    ghost use Rattle.std.specs.Prelude.{[]};
+    ghost use Rattle.deb_text.specs.Lists.{lists};
+    ghost use Rattle.farm_universe.specs.Universe as universe;
+    ghost use Rattle.farm_universe.specs.Kept.{IsKept};
+
+    ghost Value = { universe.Universe };
+
+    ghost view = { λ u. record {
+      names = lists u.names.keys;
+      packages = lists u.packages.items;
+      recipes = [];
+      bases = u.bases.items;
+      initial = u.initial.items;
+      architectures = u.architectures;
+    } };
+
+    ghost invariant = { λ u. IsKept (record {
+      names = lists u.names.keys;
+      packages = lists u.packages.items;
+      recipes = [];
+      bases = u.bases.items;
+      initial = u.initial.items;
+      architectures = u.architectures;
+    }) };
+}
+
+/// Puts a table and a farm together.
+fn assemble(alloc: Global, table: Table, farm: Farm) -> Result<Universe, AllocError>
+    requires fit { IsFit (table_view table) }
+    requires words { AreWords (table_view table) farm.initial.items }
+    requires bases { AreBases farm.bases.items }
+    ensures { IfOk result (λ u. u ≡ universe_with (table_view table) (farm_view farm)) }
+{
+    let packages = reduce_all(alloc, table.packages, &farm.architectures)?;
+    Ok(Universe {
+        names: table.names,
+        packages,
+        initial: farm.initial,
+        bases: farm.bases,
+        architectures: farm.architectures,
+    })
+}
+
+impl Universe {
+    /// Reads the three texts of a farm. Each is read as a whole, and then paragraph by paragraph.
+    ///
+    /// Names are numbered in the order of their first appearance in the packages text, and the
+    /// variants of a name in the order of their versions (Debian Policy 5.6.12).
+    ///
+    /// # Errors
+    ///
+    /// The first fault, packages (file 1) before sources (2) before the farm (3), told at the
+    /// first line of its paragraph. Of a text: 105 at line 0, 101 to 104. Of a packages paragraph:
+    /// 201, 121 of `Package`; 201, 111 to 114 of `Version`; 202 of `Installed-Size`; 211 where
+    /// `Pre-Depends` stands; 121 to 130 of `Depends`; 211 where `Conflicts`, `Breaks` or `Provides`
+    /// stands; then 203 for a version that the name has, 204 for too many of them, 210 for too many
+    /// names or relation entries. Of a sources paragraph: 211. Of the farm: 201 at line 0 where it
+    /// has no paragraph; in the first 201, 131 of `Architecture-Names`, then of `Archive` the faults
+    /// of a Provides field, and item by item 205 for one that names no variant and 203 for one that
+    /// stands twice; in each later one 211 where `Recipe` stands, 201, 121, 203 of `Chroot`, 201,
+    /// 202 of `Capacity`, 211 where `Packages` stands, 210 for too many chroots. Last, 900 (file 0,
+    /// line 0) where memory ran out. Nothing is left behind.
+    #[tactic(auto, unfolding(crate::specs::UniverseText::universe_of))]
+    pub fn read(
+        alloc: Global,
+        packages: &[u8],
+        sources: &[u8],
+        farm: &[u8],
+    ) -> Result<Universe, Fault>
+        ensures { Gives fault_of (λ u. u) result (universe_of packages.now sources.now farm.now) }
+    {
+        let table = read_packages_text(alloc, packages)?;
+        read_sources_text(alloc, sources)?;
+        let farm = read_farm_text(alloc, &table, farm)?;
+        Ok(assemble(alloc, table, farm)?)
+    }
+
+    /// How many names of packages there are.
+    #[tactic(auto, unfolding(crate::specs::Packages::names))]
+    pub fn names(&self) -> u32
+        ensures number { result ≡ names self.now }
+        ensures kept { IsKept self.now }
+    {
+        self.packages.len() as u32
+    }
+
+    /// The name with this number.
+    #[tactic(auto, unfolding(crate::specs::Packages::names))]
+    pub fn name_text(&self, name: u32) -> &[u8]
+        requires { name < names self.now }
+        ensures { result.now ≡ slice_index_or self.now.names name [] }
+    {
+        &self.names[name as usize]
+    }
+
+    /// The number of a name.
+    #[tactic(auto, unfolding(crate::specs::Packages::names))]
+    pub fn find(&self, text: &[u8]) -> Option<u32>
+        ensures number { result ≡ place_in bytes_eq self.now.names text.now }
+        ensures within { IfSome result (λ name. name < names self.now) }
+    {
+        match place_of(&self.names, text) {
+            Some(place) => Some(place as u32),
+            None => None,
+        }
+    }
+
+    /// The packages of a name, from the lowest version up.
+    #[tactic(auto, unfolding(crate::specs::Packages::names))]
+    fn packages_named(&self, name: u32) -> &[Package]
+        requires { name < names self.now }
+        ensures packages { result.now ≡ slice_index_or self.now.packages name [] }
+        ensures few { length result.now ≤ MOST_VARIANTS }
+    {
+        &self.packages[name as usize]
+    }
+
+    /// How many variants a name has.
+    #[tactic(auto, unfolding(crate::specs::Packages::variants))]
+    pub fn variants(&self, name: u32) -> u32
+        requires { name < names self.now }
+        ensures { result ≡ variants self.now name }
+    {
+        self.packages_named(name).len() as u32
+    }
+
+    #[tactic(auto, unfolding(crate::specs::Packages::variants, crate::specs::Packages::package_of))]
+    fn package_of(&self, variant: Variant) -> &Package
+        requires { IsKnown self.now variant }
+        ensures { result.now ≡ package_of self.now variant }
+    {
+        &self.packages_named(variant.name)[variant.bit as usize]
+    }
+
+    /// The version of a variant.
+    pub fn version(&self, variant: Variant) -> &Version
+        requires { IsKnown self.now variant }
+        ensures { result.now ≡ (package_of self.now variant).version }
+    {
+        self.package_of(variant).version()
+    }
+
+    /// The Installed-Size of a variant, in KiB.
+    #[tactic(auto, unfolding(crate::specs::Packages::size))]
+    pub fn size(&self, variant: Variant) -> u64
+        requires { IsKnown self.now variant }
+        ensures { result ≡ size self.now variant }
+    {
+        self.package_of(variant).size()
+    }
+
+    /// The relation fields of a variant, reduced to the farm's architecture.
+    #[tactic(auto, unfolding(crate::specs::Packages::depends, crate::specs::Packages::pre_depends))]
+    pub fn relations(&self, variant: Variant) -> &PackageRelations
+        requires { IsKnown self.now variant }
+        ensures pre_depends { result.now.pre_depends ≡ pre_depends self.now variant }
+        ensures depends { result.now.depends ≡ depends self.now variant }
+        ensures conflicts { result.now.conflicts ≡ (package_of self.now variant).conflicts }
+        ensures breaks { result.now.breaks ≡ (package_of self.now variant).breaks }
+        ensures provides { result.now.provides ≡ (package_of self.now variant).provides }
+    {
+        self.package_of(variant).relations()
+    }
+
+    /// Tells whether a variant satisfies an alternative (Debian Policy 7.1 and 7.5).
+    #[tactic(auto, unfolding(crate::specs::Packages::satisfies, crate::specs::Packages::facts))]
+    pub fn satisfies(&self, variant: Variant, atom: &Atom) -> bool
+        requires { IsKnown self.now variant }
+        ensures { result ≡ satisfies self.now atom.now variant }
+    {
+        let binary = self.package_of(variant);
+        let facts = Facts {
+            name: self.name_text(variant.name),
+            version: binary.version(),
+            provides: &binary.relations().provides,
+        };
+        satisfies(&facts, atom)
+    }
+
+    /// Tells whether the version of a variant stands in a relation (Debian Policy 7.1).
+    #[tactic(auto, unfolding(crate::specs::Packages::is_wanted))]
+    pub fn is_wanted(&self, variant: Variant, relation: Option<&(Op, Version)>) -> bool
+        requires { IsKnown self.now variant }
+        ensures { result ≡ is_wanted self.now (option_copied relation.entry) variant }
+    {
+        in_relation(relation, self.version(variant))
+    }
+
+    /// How many base chroots there are.
+    pub fn bases(&self) -> u32
+        ensures { result ≡ length self.now.bases }
+    {
+        self.bases.len() as u32
+    }
+
+    /// The base chroot with this number.
+    #[tactic(auto, unfolding(crate::specs::Packages::base))]
+    pub fn base(&self, number: u32) -> &Base
+        requires { number < length self.now.bases }
+        ensures { result.now ≡ base self.now number }
+    {
+        &self.bases[number as usize]
+    }
+
+    /// The word of a name in the initial archive: bit b is set where variant b is in it.
+    #[tactic(auto, unfolding(crate::specs::Packages::names))]
+    pub fn initial(&self, name: u32) -> u64
+        requires { name < names self.now }
+        ensures { result ≡ slice_index self.now.initial name }
+    {
+        self.initial[name as usize]
+    }
+
+    /// The names of the farm's architecture, the wildcards that match it among them.
+    pub fn arch_names(&self) -> &ArchNames
+        ensures { result.now ≡ self.now.architectures }
+    {
+        &self.architectures
+    }
+}
