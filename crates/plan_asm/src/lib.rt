@@ -6,7 +6,9 @@ mod error;
 mod form;
 pub mod instructions;
 mod lane;
+mod names;
 mod plan;
+mod reader;
 
 pub use error::{
     BAD_LINE, FILE, LANE_TWICE, MOST_INSTRUCTIONS, MOST_LANES, NAME_TWICE, NO_PLAN, OVER_LIMIT,
@@ -15,3 +17,7 @@ pub use error::{
 pub use instructions::{Instruction, Members};
 pub use lane::Lane;
 pub use plan::Plan;
+pub use reader::assemble;
+
+#[cfg(test)]
+mod tests;

@@ -1,0 +1,104 @@
+//! The names in a line, looked up in the universe.
+
+ghost use Rattle.std.specs.Prelude.{◌≡◌, ◌<◌, [], length, All, IfOk};
+ghost use Rattle.deb_text.specs.Answers.{Gives};
+ghost use Rattle.deb_text.specs.Steps.{traverse};
+ghost use Rattle.deb_text.specs.Words.{words};
+ghost use Rattle.farm_universe.specs.Packages.{names};
+ghost use Rattle.plan_asm.specs.Drafts.{known_name, known_base, set_of};
+ghost use Rattle.plan_asm.specs.Sound.{has_double};
+ghost use Rattle.plan_asm.specs.Seen.{Shows};
+ghost use Rattle.plan_asm.specs.View.{refusal_of_line};
+
+use crate::error::{LineError, NAME_TWICE, UNKNOWN_NAME};
+use crate::instructions::Members;
+use deb_text::next_word;
+use farm_universe::Universe;
+use std::alloc::{AllocError, Global};
+
+/// The number of a package's name.
+///
+/// # Errors
+///
+/// [`UNKNOWN_NAME`].
+#[tactic(auto, unfolding(crate::specs::Drafts::known_name))]
+pub fn known_name(universe: &Universe, word: &[u8]) -> Result<u32, LineError>
+    ensures value { Gives refusal_of_line (λ name. name) result (known_name universe.now word.now) }
+    ensures known { IfOk result (λ name. name < names universe.now) }
+{
+    match universe.find(word) {
+        Some(name) => Ok(name),
+        None => Err(LineError { code: UNKNOWN_NAME }),
+    }
+}
+
+/// The number of the base chroot of a name.
+///
+/// # Errors
+///
+/// [`UNKNOWN_NAME`].
+pub fn known_base(universe: &Universe, word: &[u8]) -> Result<u32, LineError>
+    ensures { Gives refusal_of_line (λ base. base) result (known_base universe.now word.now) }
+{
+    for base in 0..universe.bases() {
+        if word == universe.base(base).name() {
+            return Ok(base);
+        }
+    }
+    Err(LineError { code: UNKNOWN_NAME })
+}
+
+fn known_names(alloc: Global, universe: &Universe, text: &[u8]) -> Result<Vec<u32>, LineError>
+    ensures value { Gives refusal_of_line (λ numbers. numbers.items) result
+        (traverse (known_name universe.now) (words text.now)) }
+    ensures known { IfOk result (λ numbers. All (λ n. n < names universe.now) numbers.items) }
+{
+    let mut numbers = Vec::new(alloc);
+    let mut rest = text;
+    while let Some((word, after)) = next_word(rest) {
+        numbers.push(known_name(universe, word)?)?;
+        rest = after;
+    }
+    Ok(numbers)
+}
+
+/// Tells whether a number stands twice, where `seen` is clear and has a place for each number.
+fn finds_double(numbers: &[u32], seen: &mut [bool]) -> bool
+    requires known { All (λ n. n < length seen.old) numbers.now }
+    requires clear { Shows seen.old [] }
+    ensures { result ≡ has_double numbers.now }
+{
+    for i in 0..numbers.len() {
+        let number = numbers[i] as usize;
+        if seen[number] {
+            return true;
+        }
+        seen[number] = true;
+    }
+    false
+}
+
+fn has_double(alloc: Global, numbers: &[u32], bound: u32) -> Result<bool, AllocError>
+    requires { All (λ n. n < bound) numbers.now }
+    ensures { IfOk result (λ answer. answer ≡ has_double numbers.now) }
+{
+    let mut seen = vec![in alloc; false; bound as usize]?;
+    Ok(finds_double(numbers, &mut seen))
+}
+
+/// The set of these names.
+///
+/// # Errors
+///
+/// [`UNKNOWN_NAME`] for one of them; [`NAME_TWICE`]. 900 where memory ran out.
+#[tactic(auto, unfolding(crate::specs::Drafts::set_of))]
+pub fn read_set(alloc: Global, universe: &Universe, names: &[u8]) -> Result<Members, LineError>
+    ensures { Gives refusal_of_line (λ members. members) result
+        (set_of universe.now (words names.now)) }
+{
+    let members = known_names(alloc, universe, names)?;
+    if has_double(alloc, &members, universe.names())? {
+        return Err(LineError { code: NAME_TWICE });
+    }
+    Ok(Members::new(members))
+}

@@ -1,0 +1,180 @@
+//! A text read as a plan.
+
+ghost use Rattle.std.specs.Prelude.{◌≡◌, ◌<◌, length, drop, IfOk};
+ghost use Rattle.std.specs.Option.{option_map};
+ghost use Rattle.deb_stanza.specs.Plain.{plain_lines_at};
+ghost use Rattle.deb_text.specs.Answers.{Gives, fault_at, refusal_of};
+ghost use Rattle.farm_universe.specs.Sound.{IsUniverse};
+ghost use Rattle.plan_asm.specs.Drafts.{take_form};
+ghost use Rattle.plan_asm.specs.PlanText.{take_text, take_line, draft_of};
+ghost use Rattle.plan_asm.specs.PlanText.{of_file, plan_in, plan_of};
+ghost use Rattle.plan_asm.specs.Sound.{IsPlan};
+ghost use Rattle.plan_asm.specs.View.{refusal_of_line, form_of};
+
+use crate::draft::Draft;
+use crate::error::{BAD_LINE, FILE, LineError, NO_PLAN};
+use crate::form::{Form, is_head, read_form};
+use crate::instructions::Instruction;
+use crate::names::{known_base, known_name, read_set};
+use crate::plan::Plan;
+use deb_stanza::{Lines, plain_lines};
+use deb_text::Fault;
+use farm_universe::Universe;
+use std::alloc::Global;
+
+#[tactic(auto, unfolding(crate::specs::Drafts::take_form))]
+fn take_form(
+    alloc: Global,
+    universe: &Universe,
+    number: u32,
+    draft: Draft,
+    form: Form,
+) -> Result<Draft, LineError>
+    ensures { Gives refusal_of_line (λ next. next) result
+        (take_form universe.now number draft (form_of form.entry)) }
+{
+    match form {
+        Form::Lane {
+            name,
+            chroot,
+            budget,
+        } => {
+            if draft.is_open() {
+                return Err(LineError { code: BAD_LINE });
+            }
+            let base = known_base(universe, chroot)?;
+            draft.open_lane(alloc, number, name, budget, base)
+        }
+        Form::End => draft.end_lane(),
+        Form::Unpack { name, relation } => {
+            if !draft.is_open() {
+                return Err(LineError { code: BAD_LINE });
+            }
+            let name = known_name(universe, &name)?;
+            draft.add(Instruction::Unpack { name, relation })
+        }
+        Form::Configure { names } => {
+            if !draft.is_open() {
+                return Err(LineError { code: BAD_LINE });
+            }
+            let members = read_set(alloc, universe, names)?;
+            draft.add(Instruction::Configure(members))
+        }
+    }
+}
+
+#[tactic(auto, unfolding(crate::specs::PlanText::take_text))]
+fn take_text(
+    alloc: Global,
+    universe: &Universe,
+    number: u32,
+    draft: Draft,
+    line: &[u8],
+) -> Result<Draft, LineError>
+    ensures { Gives refusal_of_line (λ next. next) result
+        (take_text universe.now number draft line.now) }
+{
+    let form = read_form(alloc, line)?;
+    take_form(alloc, universe, number, draft, form)
+}
+
+fn take_line(
+    alloc: Global,
+    universe: &Universe,
+    draft: Draft,
+    number: u32,
+    line: &[u8],
+) -> Result<Draft, Fault>
+    ensures { Gives refusal_of (λ next. next) result
+        (take_line universe.now draft (number, line.now)) }
+{
+    match take_text(alloc, universe, number, draft, line) {
+        Ok(next) => Ok(next),
+        Err(error) => Err(Fault::place(FILE, number, error.code)),
+    }
+}
+
+/// What the lines behind the first one come to.
+fn read_draft(alloc: Global, universe: &Universe, lines: &Lines) -> Result<Draft, Fault>
+    requires { 0 < length lines.now }
+    ensures { Gives refusal_of (λ draft. draft) result (draft_of universe.now (drop 1 lines.now)) }
+{
+    let mut draft = Draft::new(alloc);
+    for i in 1..lines.count() {
+        draft = take_line(alloc, universe, draft, lines.number(i), lines.line(i))?;
+    }
+    Ok(draft)
+}
+
+fn in_plan(fault: Fault) -> Fault
+    ensures { refusal_of result
+        ≡ option_map (λ fault. fault_at FILE fault.line fault.code) (refusal_of fault) }
+{
+    if fault == Fault::MEMORY {
+        return Fault::MEMORY;
+    }
+    Fault {
+        file: FILE,
+        line: fault.line,
+        code: fault.code,
+    }
+}
+
+fn read_lines(alloc: Global, text: &[u8]) -> Result<Lines, Fault>
+    ensures { Gives refusal_of (λ lines. lines) result (of_file FILE (plain_lines_at text.now)) }
+{
+    plain_lines(alloc, text).map_err(in_plan)
+}
+
+const fn no_plan(line: u32) -> Fault
+    ensures { result ≡ fault_at FILE line NO_PLAN }
+{
+    Fault {
+        file: FILE,
+        line,
+        code: NO_PLAN,
+    }
+}
+
+fn read_plan(alloc: Global, universe: &Universe, lines: &Lines) -> Result<Plan, Fault>
+    ensures { Gives refusal_of (λ plan. plan) result (plan_in universe.now lines.now) }
+{
+    if lines.count() == 0 {
+        return Err(no_plan(0));
+    }
+    if !is_head(lines.line(0)) {
+        return Err(no_plan(lines.number(0)));
+    }
+    let draft = read_draft(alloc, universe, lines)?;
+    draft.finish()
+}
+
+#[tactic(auto, unfolding(crate::specs::PlanText::plan_of))]
+fn read_text(alloc: Global, universe: &Universe, text: &[u8]) -> Result<Plan, Fault>
+    ensures { Gives refusal_of (λ plan. plan) result (plan_of universe.now text.now) }
+{
+    let lines = read_lines(alloc, text)?;
+    read_plan(alloc, universe, &lines)
+}
+
+/// Reads a plan, whose names are those of a universe.
+///
+/// So far a plan has `lane NAME chroot CHROOT budget NUMBER` and `end`, and between them
+/// `unpack NAME (= VERSION)` and `configure NAME ..`, below a first line `plan 1`. Blank lines and
+/// comments mean nothing.
+///
+/// # Errors
+///
+/// All of file [`FILE`]: 105 at line 0 for a text over 67,108,864 bytes. Then the first line with a
+/// fault: [`NO_PLAN`] for the first line, at line 0 where there is none; else, of one line in this
+/// order, [`BAD_LINE`], [`UNKNOWN_NAME`](crate::UNKNOWN_NAME), [`NAME_TWICE`](crate::NAME_TWICE),
+/// [`LANE_TWICE`](crate::LANE_TWICE) and [`OVER_LIMIT`](crate::OVER_LIMIT), which is told for more
+/// than 64 lanes and for more than 65,536 instructions of all lanes. Last
+/// [`UNCLOSED`](crate::UNCLOSED), at the line of a lane without `end`. 900 of file 0 and line 0
+/// where memory ran out. Nothing is left behind.
+pub fn assemble(alloc: Global, universe: &Universe, text: &[u8]) -> Result<Plan, Fault>
+    ensures plan { Gives refusal_of (λ plan. plan) result (plan_of universe.now text.now) }
+    ensures sound { IfOk result (λ plan. IsUniverse universe.now → IsPlan universe.now plan) }
+{
+    read_text(alloc, universe, text)
+}
