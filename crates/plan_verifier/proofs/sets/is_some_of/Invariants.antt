@@ -1,0 +1,7 @@
+use Rattle.std.proofs.Common.{◌≡◌, false}
+use Rattle.farm_universe.specs.Below.{some_below}
+use Rattle.plan_verifier.specs.Sets.{has}
+use Rattle.plan_verifier.proofs.sets.is_some_of.Given as goal
+
+abbrev pub invariant-loop-bit : goal.invariant-loop-bit
+invariant-loop-bit l = some_below l.bit (has l.set) ≡ false
