@@ -78,7 +78,7 @@ fn reduced(
     Ok(spelling(alloc, &left)?)
 }
 
-/// Fields of real sources and made ones, with what Dpkg::Deps of dpkg 1.21.23 leaves of them for the
+/// Fields of real sources and made ones, with what dpkg's own Dpkg::Deps leaves of them for the
 /// architecture and the profiles; the qualifiers that mean nothing on a native farm are taken off.
 /// In one row dpkg differs: it matches `[RISCV64]`, and here names are compared byte for byte.
 #[test]
