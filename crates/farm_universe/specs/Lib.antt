@@ -3,6 +3,7 @@ pub mod Universe
 pub mod Packages
 pub mod Chroot
 pub mod Traps
+pub mod TrapText
 pub mod Sound
 pub mod Fields
 pub mod Told

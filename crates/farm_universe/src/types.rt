@@ -1,6 +1,10 @@
 //! The small types that definitions and code share.
 
-use thiserror::Error;
+ghost use Rattle.std.specs.Prelude.{◌≡◌};
+ghost use Rattle.farm_universe.specs.TrapText.{trap_text};
+
+use std::error::Error;
+use std::fmt;
 
 /// One version of a package: the number of its name, and its place among the name's versions,
 /// 0 for the lowest.
@@ -21,52 +25,74 @@ pub enum Slot {
     Configured { bit: u32 },
 }
 
-/// Why an instruction cannot be carried out. The texts are part of the output format.
-#[derive(Clone, Copy, Debug, PartialEq, Eq, Error)]
+/// Why an instruction cannot be carried out.
+#[derive(Clone, Copy, Debug, PartialEq, Eq)]
 pub enum Trap {
     /// No variant in the archive is in the stated relation.
-    #[error("X1 Missing")]
     Missing,
     /// A Pre-Depends entry is not met.
-    #[error("X2 PreDepends")]
     PreDepends,
     /// A present variant of another name is in conflict with the one to be unpacked.
-    #[error("X3 Conflict")]
     Conflict,
     /// The variant to be unpacked breaks a configured one.
-    #[error("X4 BreaksOther")]
     BreaksOther,
     /// The capacity of the chroot does not suffice.
-    #[error("X5 Full")]
     Full,
     /// A member of the set is not in the state that the instruction asks for.
-    #[error("X6 WrongState")]
     WrongState,
     /// A Depends entry is not met.
-    #[error("X7 Depends")]
     Depends,
     /// A present variant of another name breaks the one to be configured.
-    #[error("X8 Broken")]
     Broken,
     /// A configured package outside the set still needs a member of it.
-    #[error("X9 StillNeeded")]
     StillNeeded,
     /// A present package is not configured, or an entry of it is not met.
-    #[error("X10 Unsettled")]
     Unsettled,
     /// A build dependency is not met.
-    #[error("X11 BuildDepends")]
     BuildDepends,
     /// A present variant is in a build conflict.
-    #[error("X12 BuildConflict")]
     BuildConflict,
     /// The recipe was not built in this lane.
-    #[error("X13 NotBuilt")]
     NotBuilt,
     /// The cost spent would be over the budget.
-    #[error("X14 OverBudget")]
     OverBudget,
 }
+
+impl Trap {
+    /// The trap as answers name it: its number and its name.
+    pub fn text(self) -> &'static str
+        ensures { result.now ≡ trap_text self }
+    {
+        match self {
+            Trap::Missing => "X1 Missing",
+            Trap::PreDepends => "X2 PreDepends",
+            Trap::Conflict => "X3 Conflict",
+            Trap::BreaksOther => "X4 BreaksOther",
+            Trap::Full => "X5 Full",
+            Trap::WrongState => "X6 WrongState",
+            Trap::Depends => "X7 Depends",
+            Trap::Broken => "X8 Broken",
+            Trap::StillNeeded => "X9 StillNeeded",
+            Trap::Unsettled => "X10 Unsettled",
+            Trap::BuildDepends => "X11 BuildDepends",
+            Trap::BuildConflict => "X12 BuildConflict",
+            Trap::NotBuilt => "X13 NotBuilt",
+            Trap::OverBudget => "X14 OverBudget",
+        }
+    }
+}
+
+impl fmt::Display for Trap {
+    ghost use Rattle.std.specs.Prelude.{Some};
+
+    ghost output = { λ trap. Some (trap_text trap) };
+
+    fn fmt<W: fmt::Write>(&self, f: &mut fmt::Formatter<W>) -> fmt::Result {
+        f.pad(self.text())
+    }
+}
+
+impl Error for Trap {}
 
 #[cfg(test)]
 mod tests {
