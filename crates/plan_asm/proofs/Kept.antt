@@ -1,5 +1,5 @@
 -- What is read without a fault keeps to the limits and is a plan of its universe.
-use Rattle.std.proofs.Common.{◌≡◌, ℕ, ◌<◌, ◌^◌, List, [], ◌∷◌, length, refl, subst, arith, Some, Result, Ok, Err, IfOk, All}
+use Rattle.std.proofs.Common.{◌≡◌, ℕ, ◌<◌, ◌^◌, true, List, [], ◌∷◌, length, refl, subst, arith, Some, Result, Ok, Err, IfOk, All}
 use Rattle.std.specs.Prelude.{slice_get}
 use Rattle.std.proofs.lemmas.List.Elements.{All-nil, All-weaker}
 use Rattle.std.proofs.lemmas.Option.{get_or_from_slice_get, slice_get_within}
@@ -20,7 +20,7 @@ use Rattle.plan_asm.specs.Ends.{finished, AreSingle, IsRead}
 use Rattle.plan_asm.specs.Forms.{form_at, is_head}
 use Rattle.plan_asm.specs.Plan.{Lane, Plan, lane, no_lane, events_of}
 use Rattle.plan_asm.specs.PlanText.{take_text, take_line, draft_of, plan_in, of_file, plan_of}
-use Rattle.plan_asm.specs.Sound.{IsInstruction, IsPlan}
+use Rattle.plan_asm.specs.Sound.{IsInstruction, IsPlan, unpacks_or_configures, UnpacksAndConfigures}
 use Rattle.plan_asm.proofs.Carried.{if-has, then-has, steps-keep, placed-has, always, has-ok}
 use Rattle.plan_asm.proofs.DraftLaws.{IsGood, IsGoodLane, IsGoodDraft, take_form-has}
 use Rattle.plan_asm.proofs.FormLaws.{IsForm, form-has}
@@ -46,6 +46,16 @@ good-instruction u listed (Remove members) good = absurd good
 good-instruction u listed (Build r) good = absurd good
 good-instruction u listed (Publish r) good = absurd good
 good-instruction u listed (Wait e) good = absurd good
+
+-- and an unpack or a configure
+good-so-far : (u : Universe) (x : Instruction) → IsGood u x → unpacks_or_configures x ≡ true
+good-so-far u (Unpack name wanted) good = refl
+good-so-far u (Configure members) good = refl
+good-so-far u (Deconfigure members) good = absurd good
+good-so-far u (Remove members) good = absurd good
+good-so-far u (Build r) good = absurd good
+good-so-far u (Publish r) good = absurd good
+good-so-far u (Wait e) good = absurd good
 
 module _ (u : Universe) where
   -- ---- lines
@@ -131,3 +141,11 @@ module _ (u : Universe) where
       → Gives refusal_of (λ p. p) r (plan_of u text) → IfOk r (λ p. IsUniverse u → IsPlan u p)
   gives-sound text (Ok p) gives = plan-sound text p gives
   gives-sound text (Err e) gives = tt
+
+  -- its instructions
+  pub gives-so-far : (text : List ℕ) (r : Result Plan Fault)
+      → Gives refusal_of (λ p. p) r (plan_of u text) → IfOk r UnpacksAndConfigures
+  gives-so-far text (Ok p) gives =
+      let good = has-ok (All (IsGoodLane u)) (plan_of u text) p (text-has text) gives in
+      λ l i x lt is. good-so-far u x (good-at p good l i x lt is)
+  gives-so-far text (Err e) gives = tt

@@ -8,7 +8,7 @@ ghost use Rattle.farm_universe.specs.Sound.{IsUniverse};
 ghost use Rattle.plan_asm.specs.Drafts.{take_form};
 ghost use Rattle.plan_asm.specs.PlanText.{take_text, take_line, draft_of};
 ghost use Rattle.plan_asm.specs.PlanText.{of_file, plan_in, plan_of};
-ghost use Rattle.plan_asm.specs.Sound.{IsPlan};
+ghost use Rattle.plan_asm.specs.Sound.{IsPlan, UnpacksAndConfigures};
 ghost use Rattle.plan_asm.specs.View.{refusal_of_line, form_of};
 
 use crate::draft::Draft;
@@ -175,6 +175,7 @@ fn read_text(alloc: Global, universe: &Universe, text: &[u8]) -> Result<Plan, Fa
 pub fn assemble(alloc: Global, universe: &Universe, text: &[u8]) -> Result<Plan, Fault>
     ensures plan { Gives refusal_of (λ plan. plan) result (plan_of universe.now text.now) }
     ensures sound { IfOk result (λ plan. IsUniverse universe.now → IsPlan universe.now plan) }
+    ensures so_far { IfOk result UnpacksAndConfigures }
 {
     read_text(alloc, universe, text)
 }

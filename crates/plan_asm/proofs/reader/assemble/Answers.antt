@@ -1,5 +1,8 @@
-use Rattle.plan_asm.proofs.Kept.{gives-sound}
+use Rattle.plan_asm.proofs.Kept.{gives-sound, gives-so-far}
 use Rattle.plan_asm.proofs.reader.assemble.Goals as goal
 
 pub returns-clause-sound : goal.returns-clause-sound
 returns-clause-sound c = gives-sound c.args.universe.now c.args.text.now _ c.read_text.ensures
+
+pub returns-clause-so_far : goal.returns-clause-so_far
+returns-clause-so_far c = gives-so-far c.args.universe.now c.args.text.now _ c.read_text.ensures
