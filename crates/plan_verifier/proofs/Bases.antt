@@ -1,16 +1,16 @@
 -- The map of a base chroot.
-use Rattle.std.proofs.Common.{◌≡◌, ℕ, ◌<◌, ◌≤◌, true, refl, sym, ap, subst, ◌∙◌, inl, inr, List, length, Option, Some, None, arith}
+use Rattle.std.proofs.Common.{◌≡◌, ℕ, ◌≤◌, refl, sym, ap, ◌∙◌, inl, inr, Option, Some, None, arith}
 use Rattle.std.specs.Prelude.{◌==◌}
 use Rattle.std.specs.List.{find}
 use Rattle.std.proofs.lemmas.Bool.{cases_lt, eqb-true}
 use Rattle.std.proofs.lemmas.List.{get_or_past}
 use Rattle.farm_universe.specs.declared.types.Variant.{Variant}
 use Rattle.farm_universe.specs.Universe.{Universe}
-use Rattle.farm_universe.specs.Packages.{names, variants, base}
+use Rattle.farm_universe.specs.Packages.{names, base}
 use Rattle.farm_universe.specs.Sound.{IsKnown, IsUniverse}
 use Rattle.plan_asm.specs.Plan.{Lane}
 use Rattle.plan_asm.specs.Turn.{no_builds}
-use Rattle.plan_asm.specs.May.{MayAbsent, May}
+use Rattle.plan_asm.specs.May.{May}
 use Rattle.plan_asm.specs.MayAt.{may_base_slot, may_base}
 use Rattle.plan_verifier.specs.declared.map.Held.TheVariants.{Absent}
 use Rattle.plan_verifier.specs.declared.map.MayMap.{MayMap}

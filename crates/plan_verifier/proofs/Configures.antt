@@ -1,18 +1,18 @@
 -- The map after a configure.
-use Rattle.std.proofs.Common.{◌≡◌, ℕ, zero, suc, ◌+◌, ◌<◌, Bool, true, false, refl, sym, ap, subst, ◌∙◌, inl, inr, List, [], ◌∷◌, length, length-set, All, arith, if◌then◌else◌}
-use Rattle.std.specs.Prelude.{◌||◌, ◌==◌, slice_set, slice_index_or}
-use Rattle.std.proofs.lemmas.Bool.{cases_eq, cases_Bool, eq-eqb, eqb-true}
+use Rattle.std.proofs.Common.{◌≡◌, ℕ, zero, suc, ◌+◌, ◌<◌, Bool, true, false, refl, sym, ap, ◌∙◌, inl, inr, List, [], ◌∷◌, length, length-set, All, arith, if◌then◌else◌}
+use Rattle.std.specs.Prelude.{slice_set, slice_index_or}
+use Rattle.std.proofs.lemmas.Bool.{cases_eq, eq-eqb}
 use Rattle.std.proofs.lemmas.List.{get_or-set_same, get_or-set_other}
 use Rattle.farm_universe.specs.Chroot.{member}
 use Rattle.farm_universe.specs.Universe.{Universe}
 use Rattle.plan_asm.specs.declared.instructions.Instruction.TheVariants.{Configure}
 use Rattle.plan_asm.specs.Turn.{no_builds}
-use Rattle.plan_asm.specs.May.{MaySlot, MayAbsent, MayUnpacked, MayConfigured, May}
+use Rattle.plan_asm.specs.May.{MaySlot, MayAbsent, MayUnpacked, MayConfigured}
 use Rattle.plan_asm.specs.MayAt.{may_be_configured}
 use Rattle.plan_verifier.specs.declared.map.Held.{Held}
 use Rattle.plan_verifier.specs.declared.map.Held.TheVariants.{Absent, Unpacked, Configured}
 use Rattle.plan_verifier.specs.declared.map.MayMap.{MayMap}
-use Rattle.plan_verifier.specs.Map.{slot_of, held_at, may_of, held_configured, all_configured}
+use Rattle.plan_verifier.specs.Map.{slot_of, may_of, held_configured, all_configured}
 use Rattle.plan_verifier.specs.Walk.{may_then}
 use Rattle.plan_verifier.proofs.SetLaws.{not_same}
 

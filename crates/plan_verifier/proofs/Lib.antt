@@ -5,3 +5,6 @@ pub mod Configures
 pub mod Risks
 pub mod Bases
 pub mod Quiet
+pub mod SoFar
+pub mod Walks
+pub mod Promises

@@ -1,12 +1,10 @@
 -- The one variant that an unpack can take while nothing is published.
-use Rattle.std.proofs.Common.{◌≡◌, ℕ, ◌+◌, ◌<◌, ◌≤◌, ◌^◌, Bool, true, false, refl, sym, ap, subst, ◌∙◌, inl, inr, Option, Some, None, length, arith, List, if◌then◌else◌}
+use Rattle.std.proofs.Common.{◌≡◌, ℕ, ◌+◌, ◌<◌, ◌^◌, Bool, true, false, refl, sym, ap, subst, ◌∙◌, inl, inr, Option, Some, length, arith, List, if◌then◌else◌}
 use Rattle.std.specs.Prelude.{◌&&◌, ◌==◌, nat_le, slice_set, slice_index_or}
-use Rattle.std.proofs.lemmas.Bool.{cases_eq, cases_Bool, and_parts, and_from, eq-eqb, eqb-true, leb-true, le-leb, both_ways}
+use Rattle.std.proofs.lemmas.Bool.{cases_eq, and_parts, and_from, eq-eqb, eqb-true, leb-true, le-leb}
 use Rattle.std.proofs.lemmas.List.{get_or-set_same, get_or-set_other}
 use Rattle.std.proofs.lemmas.Nat.Bits.{bit_at-zero}
 use Rattle.deb_relation.specs.declared.operator.Op.{Op}
-use Rattle.farm_universe.specs.declared.types.Variant.{Variant}
-use Rattle.farm_universe.specs.declared.types.Trap.{Trap}
 use Rattle.farm_universe.specs.Universe.{Universe}
 use Rattle.farm_universe.specs.Packages.{variant, variants, initial, is_wanted}
 use Rattle.farm_universe.specs.Sound.{IsUniverse}
@@ -15,7 +13,7 @@ use Rattle.farm_universe.proofs.BelowLaws.{IsHighest, highest_below-some}
 use Rattle.plan_asm.specs.declared.instructions.Instruction.TheVariants.{Unpack}
 use Rattle.plan_asm.specs.Plan.{Lane}
 use Rattle.plan_asm.specs.Turn.{newest, no_builds}
-use Rattle.plan_asm.specs.May.{Bits, MaySlot, MayAbsent, MayUnpacked, MayConfigured, May}
+use Rattle.plan_asm.specs.May.{Bits, MayAbsent, MayUnpacked, May}
 use Rattle.plan_asm.specs.MayAt.{may_be_last, may_unpack}
 use Rattle.plan_asm.specs.Risk.{candidates, greatest_cost, unpack_risk, unpack_risks}
 use Rattle.plan_verifier.specs.declared.map.Held.{Held}

@@ -1,8 +1,8 @@
 -- Plans that neither wait nor publish: what is possible is the initial archive, and each place follows from the one
 -- before it.
-use Rattle.std.proofs.Common.{◌≡◌, ℕ, zero, suc, ◌+◌, ◌<◌, ◌≤◌, ◌^◌, Bool, true, false, not, refl, sym, ap, subst, ◌∙◌, inl, inr, List, [], ◌∷◌, length, take, get_or, Option, Some, None, All, arith, if◌then◌else◌}
-use Rattle.std.specs.Prelude.{◌||◌, ◌&&◌, ◌==◌, slice_get}
-use Rattle.std.specs.List.{list_any, flat_map}
+use Rattle.std.proofs.Common.{◌≡◌, ℕ, zero, suc, ◌<◌, ◌≤◌, Bool, true, false, refl, sym, ap, ◌∙◌, inl, inr, List, [], ◌∷◌, length, take, get_or, Option, Some, None, arith, if◌then◌else◌}
+use Rattle.std.specs.Prelude.{◌||◌, ◌==◌, slice_get}
+use Rattle.std.specs.List.{list_any}
 use Rattle.std.proofs.lemmas.Bool.{cases_Bool, true≢false}
 use Rattle.std.proofs.lemmas.List.Folds.{list_any_none, length-flat_map-take}
 use Rattle.std.proofs.lemmas.Option.{slice_get-get_or, get_or_from_slice_get}
@@ -14,7 +14,6 @@ use Rattle.farm_universe.specs.Packages.{initial}
 use Rattle.plan_asm.specs.declared.instructions.Instruction.{Instruction}
 use Rattle.plan_asm.specs.declared.instructions.Instruction.TheVariants.{Unpack, Configure, Deconfigure, Remove, Build, Publish, Wait}
 use Rattle.plan_asm.specs.Ends.{IsWithinLimits}
-use Rattle.plan_asm.specs.Drafts.{instructions_of}
 use Rattle.plan_asm.specs.Plan.{Lane, Plan, lane, no_lane, instruction_at}
 use Rattle.plan_asm.specs.Known.{Rows, possible, gives, within_reach}
 use Rattle.plan_asm.specs.May.{May}

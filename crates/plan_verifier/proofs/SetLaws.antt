@@ -1,5 +1,5 @@
 -- Sets of variants, and tests of each of them.
-use Rattle.std.proofs.Common.{◌≡◌, ℕ, zero, suc, ◌<◌, ◌≤◌, ◌^◌, Bool, true, false, not, refl, sym, ap, subst, ◌∙◌, inl, inr, List, [], ◌∷◌, length, Option, Some, None, All, arith}
+use Rattle.std.proofs.Common.{◌≡◌, ℕ, zero, suc, ◌<◌, ◌≤◌, ◌^◌, Bool, true, false, not, refl, sym, ap, subst, ◌∙◌, inl, inr, List, [], ◌∷◌, length, Some, All, arith}
 use Rattle.std.specs.Prelude.{◌&&◌, ◌||◌, ◌==◌}
 use Rattle.std.specs.Int.{bit_at}
 use Rattle.std.specs.List.{find}

@@ -1,3 +1,7 @@
 pub mod Sets
 pub mod Map
 pub mod Walk
+pub mod Texts
+pub mod Accepted
+pub mod Verdict
+pub mod Costs

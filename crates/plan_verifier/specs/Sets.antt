@@ -1,5 +1,5 @@
 -- Sets of variants of one name, as the bits of a word (the project's own form).
-use Rattle.std.specs.Prelude.{ℕ, Bool, ◌==◌, ◌&&◌, not, ◌||◌}
+use Rattle.std.specs.Prelude.{ℕ, ◌==◌}
 use Rattle.std.specs.Int.{bit_at}
 use Rattle.plan_asm.specs.May.{Bits}
 

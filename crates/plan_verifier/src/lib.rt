@@ -1,14 +1,22 @@
-//! The verdict on a plan: so far the walk over one lane, which gives its cost or its first unsafe
-//! instruction.
+//! The verdict on a plan: it is accepted with a promise, or refused with its first cause.
 #![tactic(auto)]
 
+mod accepted;
 mod configure;
+mod costs;
 mod map;
 mod met;
 mod names;
 mod pick;
+mod refusal;
 mod relations;
 mod sets;
 mod space;
+mod texts;
 mod unpack;
-pub mod walk;
+mod verdict;
+mod walk;
+
+pub use accepted::Accepted;
+pub use refusal::{MANY_LANES, Refusal, STUCK, UNSAFE};
+pub use verdict::check;

@@ -1,4 +1,3 @@
-use Rattle.std.proofs.Common.{◌≡◌}
 use Rattle.farm_universe.specs.Packages.{facts}
 use Rattle.plan_verifier.proofs.SetLaws.{named}
 use Rattle.plan_verifier.proofs.relations.facts.Goals as goal

@@ -1,4 +1,4 @@
-use Rattle.std.proofs.Common.{sym, ◌∙◌, not, arith}
+use Rattle.std.proofs.Common.{sym, ◌∙◌, arith}
 use Rattle.std.specs.Prelude.{◌&&◌}
 use Rattle.farm_universe.specs.Packages.{variant, variants}
 use Rattle.farm_universe.proofs.BelowLaws.{some_below-at}

@@ -1,4 +1,4 @@
-use Rattle.std.proofs.Common.{◌≡◌, false, not}
+use Rattle.std.proofs.Common.{◌≡◌, false}
 use Rattle.std.specs.Prelude.{◌&&◌}
 use Rattle.farm_universe.specs.Below.{some_below}
 use Rattle.farm_universe.specs.Packages.{variant}

@@ -1,5 +1,4 @@
-use Rattle.std.proofs.Common.{◌≡◌, ◌+◌, ◌≤◌, sym, ap, ◌∙◌, arith, length}
-use Rattle.plan_verifier.specs.Map.{may_of}
+use Rattle.std.proofs.Common.{◌+◌, ◌≤◌, sym, ap, ◌∙◌, arith, length}
 use Rattle.plan_verifier.proofs.Configures.{then-configure, all_configured-long}
 use Rattle.plan_verifier.proofs.Risks.{within-budget}
 use Rattle.plan_verifier.proofs.walk.take_configure.Goals as goal

@@ -1,7 +1,6 @@
-use Rattle.std.proofs.Common.{◌≡◌, ◌+◌, ◌/◌, ◌≤◌, Some, sym, ap, ◌∙◌, arith, length, length-set}
-use Rattle.farm_universe.specs.declared.types.Trap.TheVariants.{OverBudget}
-use Rattle.plan_asm.specs.Risk.{greatest_cost, unpack_risks}
-use Rattle.plan_verifier.specs.Map.{may_of, held_at, last_word}
+use Rattle.std.proofs.Common.{◌≡◌, ◌+◌, ◌/◌, ◌≤◌, sym, ap, ◌∙◌, arith, length, length-set}
+use Rattle.plan_asm.specs.Risk.{greatest_cost}
+use Rattle.plan_verifier.specs.Map.{may_of}
 use Rattle.plan_verifier.specs.Sets.{has}
 use Rattle.plan_verifier.proofs.Picks.{highest-small, risk-unpack, then-unpack}
 use Rattle.plan_verifier.proofs.Risks.{within-budget}

@@ -1,0 +1,22 @@
+-- What an accepted plan promises, by the laws of annotated plans.
+use Rattle.std.proofs.Common.{ℕ, ◌<◌, ◌≤◌, [], length, refl}
+use Rattle.farm_laws.proofs.LawsOfPlans.{every_interleaving, lanes_are_within_budget}
+use Rattle.plan_asm.specs.MayAt.{lane_cost}
+use Rattle.plan_asm.specs.Plan.{lane}
+use Rattle.plan_asm.specs.Promise.{IsSafe}
+use Rattle.plan_asm.specs.Run.{start}
+use Rattle.plan_asm.specs.Safety.{IsAnnotation}
+use Rattle.plan_verifier.specs.Accepted.{AcceptedPlan, known_rows, IsAccepted}
+
+module _ (a : AcceptedPlan) (is : IsAccepted a) where
+  annotation : IsAnnotation a.universe a.plan (known_rows a)
+  annotation = record { keeps = is.known.keeps; safe = is.safe }
+
+  pub safe_of : IsSafe a.universe a.plan
+  safe_of = every_interleaving a.universe a.plan (known_rows a) [] is.sound annotation is.order
+
+  pub cost_within : (l : ℕ) → l < length a.plan
+      → lane_cost a.universe a.plan (known_rows a) l ≤ (lane a.plan l).budget
+  cost_within l lt =
+      (lanes_are_within_budget a.universe a.plan (known_rows a) is.sound annotation
+      (start a.universe a.plan) ([], refl)).cost l lt

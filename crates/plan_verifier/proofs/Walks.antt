@@ -1,0 +1,57 @@
+-- What the walks over the lanes come to.
+use Rattle.std.proofs.Common.{◌≡◌, ℕ, ◌+◌, ◌<◌, sym, ◌∙◌, List, [], ◌∷◌, ◌++◌, length, length-append, inl, inr, None, Err, arith}
+use Rattle.std.proofs.lemmas.Bool.{cases_eq}
+use Rattle.std.proofs.lemmas.List.{get_or_append_left}
+use Rattle.std.proofs.Math.Seq.{get_or-append_seam}
+use Rattle.farm_universe.specs.Universe.{Universe}
+use Rattle.plan_asm.specs.Known.{Rows}
+use Rattle.plan_asm.specs.MayAt.{lane_cost}
+use Rattle.plan_asm.specs.Plan.{Plan, lane}
+use Rattle.plan_asm.specs.Safety.{risk_at}
+use Rattle.plan_verifier.specs.declared.refusal.Refusal.{Refusal}
+use Rattle.plan_verifier.specs.declared.walk.Stop.{Stop}
+use Rattle.plan_verifier.specs.Accepted.{AreCosts}
+use Rattle.plan_verifier.specs.Costs.{IsToldOf}
+use Rattle.plan_verifier.specs.Verdict.{IsVerdictOn}
+use Rattle.plan_verifier.specs.Walk.{initial_rows, IsReadable, Walked}
+use Rattle.plan_verifier.proofs.SoFar.{initial_greatest}
+
+-- the cost of one more lane
+pub more_costs : (u : Universe) (p : Plan) (rows : Rows) (n : ℕ) (costs : List ℕ) (cost : ℕ)
+    → AreCosts u p rows n costs → cost ≡ lane_cost u p rows n
+    → AreCosts u p rows (n + 1) (costs ++ cost ∷ [])
+more_costs u p rows n costs cost so_far is = record {
+  long = length-append costs (cost ∷ []) ∙ omega (arith, so_far.long);
+  each = λ l lt. elim (cases_eq l n) [
+    | inl same ↦ rw (same, sym so_far.long) (get_or-append_seam costs cost [] 0 ∙ rw so_far.long is)
+    | inr other ↦
+        get_or_append_left costs (cost ∷ []) 0 l (omega (arith, so_far.long)) ∙ so_far.each l (omega arith)
+  ];
+}
+
+-- the lane at whose first unsafe instruction the plan is refused
+pub refused : (u : Universe) (p : Plan) → IsReadable u p → (l : ℕ) → l < length p
+    → ((j i : ℕ) → j < l → risk_at u p (initial_rows u) j i ≡ None)
+    → (stop : Stop) → Walked u p l (Err stop)
+    → (name : List ℕ) → name ≡ (lane p l).name
+    → (refusal : Refusal) → IsToldOf name stop refusal → IsVerdictOn u p (Err refusal)
+refused u p readable l lt before stop walked name is Refusal.Memory told = tt
+refused u p readable l lt before (Stop.Unsafe number trap) walked name is (Refusal.Unsafe as_name as_number as_trap) told = record {
+  rows = initial_rows u;
+  greatest = initial_greatest u p readable;
+  l = l;
+  i = walked.0;
+  first = record {
+    in_plan = lt;
+    here = rw told.2 walked.2;
+    before = walked.3;
+    lanes_before = before;
+  };
+  named = told.0 ∙ is;
+  numbered = told.1 ∙ walked.1;
+}
+refused u p readable l lt before (Stop.Unsafe number trap) walked name is (Refusal.Text fault) told = absurd told
+refused u p readable l lt before (Stop.Unsafe number trap) walked name is (Refusal.Stuck names) told = absurd told
+refused u p readable l lt before Stop.Memory walked name is (Refusal.Text fault) told = absurd told
+refused u p readable l lt before Stop.Memory walked name is (Refusal.Unsafe as_name as_number as_trap) told = absurd told
+refused u p readable l lt before Stop.Memory walked name is (Refusal.Stuck names) told = absurd told

@@ -1,0 +1,40 @@
+-- An accepted plan, and what is promised of it. The project's own rules.
+--
+--   AcceptedPlan      the universe, the plan, and what each lane costs at most
+--   known_rows        what its lanes know of the archive
+--   IsAccepted        what is kept of every accepted plan
+use Rattle.std.specs.Prelude.{◌≡◌, ℕ, ◌<◌, List, [], length, slice_index}
+use Rattle.farm_universe.specs.Universe.{Universe}
+use Rattle.plan_asm.specs.Known.{Rows, IsGreatest}
+use Rattle.plan_asm.specs.MayAt.{lane_cost}
+use Rattle.plan_asm.specs.Order.{IsOrder}
+use Rattle.plan_asm.specs.Plan.{Plan}
+use Rattle.plan_asm.specs.Safety.{IsSafeUnder}
+use Rattle.plan_asm.specs.Sound.{IsSound}
+use Rattle.plan_verifier.specs.Walk.{initial_rows}
+
+pub record AcceptedPlan : Type 0 where
+  pub universe : Universe
+  pub plan : Plan
+  pub costs : List ℕ
+
+-- what each lane knows at each place: the initial archive, since nothing is published so far
+abbrev pub known_rows : AcceptedPlan → Rows
+known_rows a = initial_rows a.universe
+
+-- the costs of the first n lanes
+pub record AreCosts (u : Universe) (p : Plan) (rows : Rows) (n : ℕ) (costs : List ℕ) : Type 0 where
+  pub long : length costs ≡ n
+  pub each : (l : ℕ) → l < n → slice_index costs l ≡ lane_cost u p rows l
+
+pub record IsAccepted (a : AcceptedPlan) : Type 0 where
+  -- the universe and the plan are what the readers make;
+  pub sound : IsSound a.universe a.plan
+  -- the known rows are the greatest that keep to the inclusions;
+  pub known : IsGreatest a.universe a.plan (known_rows a)
+  -- under them no instruction may meet a trap;
+  pub safe : IsSafeUnder a.universe a.plan (known_rows a)
+  -- there is an order of the waits and outputs (there are none so far);
+  pub order : IsOrder a.universe a.plan []
+  -- and these are the costs of the lanes.
+  pub costs : AreCosts a.universe a.plan (known_rows a) (length a.plan) a.costs

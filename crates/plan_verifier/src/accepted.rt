@@ -1,0 +1,85 @@
+//! An accepted plan, which keeps its promise in its type.
+
+ghost use Rattle.std.specs.Prelude.{◌≡◌, ◌<◌, ◌≤◌, length};
+ghost use Rattle.plan_asm.specs.MayAt.{lane_cost};
+ghost use Rattle.plan_asm.specs.Plan.{lane};
+ghost use Rattle.plan_asm.specs.Promise.{IsSafe};
+ghost use Rattle.plan_verifier.specs.Accepted.{IsAccepted, known_rows};
+
+use farm_universe::Universe;
+use plan_asm::Plan;
+use std::marker::Model;
+
+/// A plan that was accepted, with the universe that it is about.
+#[derive(Drop)]
+pub struct Accepted {
+    universe: Universe,
+    plan: Plan,
+    costs: Vec<u64>,
+}
+
+impl Model for Accepted {
+    ghost use Rattle.plan_verifier.specs.Accepted.{AcceptedPlan, IsAccepted};
+
+    ghost Value = { AcceptedPlan };
+
+    ghost view = { λ a. record { universe = a.universe; plan = a.plan; costs = a.costs.items } };
+
+    ghost invariant = { λ a. IsAccepted (record { universe = a.universe; plan = a.plan; costs = a.costs.items }) };
+}
+
+impl Accepted {
+    /// Accepts a plan of these costs.
+    pub(crate) fn new(universe: Universe, plan: Plan, costs: Vec<u64>) -> Accepted
+        requires { IsAccepted (record { universe = universe; plan = plan; costs = costs.items }) }
+        ensures { result ≡ record { universe = universe; plan = plan; costs = costs.items } }
+    {
+        Accepted {
+            universe,
+            plan,
+            costs,
+        }
+    }
+
+    /// The universe of the packages, the sources and the farm.
+    pub fn universe(&self) -> &Universe
+        ensures { result.now ≡ self.now.universe }
+    {
+        &self.universe
+    }
+
+    /// The plan.
+    pub fn plan(&self) -> &Plan
+        ensures { result.now ≡ self.now.plan }
+    {
+        &self.plan
+    }
+
+    /// What a lane spends at most, in steps, for a number below the plan's `lanes`. It is within
+    /// the lane's budget.
+    #[tactic(auto, using(crate::proofs::Promises::cost_within))]
+    pub fn lane_cost(&self, number: usize) -> u64
+        requires { number < length self.now.plan }
+        ensures cost { result ≡ lane_cost self.now.universe self.now.plan (known_rows self.now) number }
+        ensures within { result ≤ (lane self.now.plan number).budget }
+    {
+        self.keeps();
+        self.costs[number]
+    }
+
+    /// Tells what is kept of an accepted plan. It does nothing.
+    pub fn keeps(&self)
+        ensures { IsAccepted self.now }
+    {
+        let _costs = &self.costs;
+    }
+
+    /// The promise: no interleaving of the lanes meets a trap, in every unfinished state some lane
+    /// can step, and no run is longer than the plan's count. It does nothing.
+    #[tactic(auto, using(crate::proofs::Promises::safe_of))]
+    pub fn every_interleaving(&self)
+        ensures { IsSafe self.now.universe self.now.plan }
+    {
+        self.keeps();
+    }
+}

@@ -1,0 +1,44 @@
+//! The walk over each lane of a plan.
+
+ghost use Rattle.std.specs.Prelude.{◌≡◌, ◌<◌, length};
+ghost use Rattle.plan_asm.specs.Plan.{lane};
+ghost use Rattle.plan_verifier.specs.Costs.{IsWalked, IsToldOf};
+ghost use Rattle.plan_verifier.specs.Walk.{IsReadable};
+
+use crate::refusal::Refusal;
+use crate::walk::{Stop, walk};
+use farm_universe::Universe;
+use plan_asm::Plan;
+use std::alloc::Global;
+
+/// The refusal of a lane of this name.
+fn refusal_of(alloc: Global, name: &[u8], stop: Stop) -> Refusal
+    ensures { IsToldOf name.now stop result }
+{
+    match stop {
+        Stop::Unsafe { instruction, trap } => match Vec::from_slice(alloc, name) {
+            Ok(lane) => Refusal::Unsafe {
+                lane,
+                instruction,
+                trap,
+            },
+            Err(_) => Refusal::Memory,
+        },
+        Stop::Memory => Refusal::Memory,
+    }
+}
+
+/// What each lane costs, or the first unsafe instruction of the first lane that has one.
+pub fn lane_costs(alloc: Global, universe: &Universe, plan: &Plan) -> Result<Vec<u64>, Refusal>
+    requires { IsReadable universe.now plan.now }
+    ensures { IsWalked universe.now plan.now result }
+{
+    let mut costs = Vec::new(alloc);
+    for number in 0..plan.lanes() {
+        match walk(alloc, universe, plan, number) {
+            Ok(cost) => costs.push(cost)?,
+            Err(stop) => return Err(refusal_of(alloc, plan.lane(number).name(), stop)),
+        }
+    }
+    Ok(costs)
+}

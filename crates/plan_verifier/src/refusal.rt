@@ -1,0 +1,77 @@
+//! Why four texts are refused.
+
+ghost use Rattle.std.specs.Prelude.{◌≡◌, if◌then◌else◌};
+ghost use Rattle.deb_text.specs.Answers.{is_memory};
+
+use deb_text::Fault;
+use farm_universe::Trap;
+use std::alloc::{AllocError, AllocFailed};
+use thiserror::Error;
+
+/// A plan has more lanes than can be judged so far, told of the plan at line 0.
+pub const MANY_LANES: u16 = 310;
+
+/// The code of [`Refusal::Unsafe`].
+pub const UNSAFE: u16 = 401;
+
+/// The code of [`Refusal::Stuck`].
+pub const STUCK: u16 = 402;
+
+/// Why four texts are not accepted: the first cause in the order of the texts, then of the lanes
+/// and their instructions, then of the waits.
+#[derive(Debug, Drop, Error)]
+pub enum Refusal {
+    /// A text cannot be read.
+    #[error("{0}")]
+    Text(Fault),
+    /// The instruction of this number, from 1, of the lane of this name may meet a trap ([`UNSAFE`]).
+    #[error("instruction {instruction} of a lane may meet {trap}")]
+    Unsafe {
+        lane: Vec<u8>,
+        instruction: u32,
+        trap: Trap,
+    },
+    /// The lanes of these names wait, and no order of the lanes brings them past their last wait
+    /// ([`STUCK`]).
+    #[error("some lanes are stuck")]
+    Stuck {
+        lanes: Vec<Vec<u8>>,
+    },
+    /// Memory ran out.
+    #[error("out of memory")]
+    Memory,
+}
+
+impl From<AllocError> for Refusal {
+    ghost use Rattle.plan_verifier.specs.declared.refusal.Refusal.{Refusal};
+
+    ghost from_gives = { λ _ refusal. refusal ≡ Refusal.Memory };
+
+    fn from(_error: AllocError) -> Refusal {
+        Refusal::Memory
+    }
+}
+
+impl<T: Drop> From<AllocFailed<T>> for Refusal {
+    ghost use Rattle.plan_verifier.specs.declared.refusal.Refusal.{Refusal};
+
+    ghost from_gives = { λ _ refusal. refusal ≡ Refusal.Memory };
+
+    fn from(_error: AllocFailed<T>) -> Refusal {
+        Refusal::Memory
+    }
+}
+
+impl From<Fault> for Refusal {
+    ghost use Rattle.plan_verifier.specs.declared.refusal.Refusal.{Refusal};
+
+    ghost from_gives = { λ fault refusal. refusal ≡ (if is_memory fault then Refusal.Memory else Refusal.Text fault) };
+
+    fn from(fault: Fault) -> Refusal {
+        if fault == Fault::MEMORY {
+            Refusal::Memory
+        } else {
+            Refusal::Text(fault)
+        }
+    }
+}
