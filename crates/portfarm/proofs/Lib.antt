@@ -1,3 +1,5 @@
 pub mod InputLaws
 pub mod CutText
 pub mod TextLaws
+pub mod PieceLaws
+pub mod LaneLines

@@ -1,6 +1,6 @@
 -- The lines of an answer. The project's own format; numbers are decimal without leading zeros.
-use Rattle.std.specs.Prelude.{ℕ, List, [], ◌∷◌, codes}
-use Rattle.std.specs.List.{concat}
+use Rattle.std.specs.Prelude.{ℕ, List, [], ◌∷◌, ◌++◌, codes}
+use Rattle.std.specs.List.{concat, flat_map}
 use Rattle.std.specs.Fmt.{decimal}
 
 -- `WORD N`
@@ -21,3 +21,11 @@ fault_line code file line =
 abbrev pub unsafe_line : List ℕ → ℕ → List ℕ → List ℕ
 unsafe_line lane instruction trap =
     concat (codes "refused 401 lane " ∷ lane ∷ codes " instruction " ∷ decimal instruction ∷ codes " " ∷ trap ∷ codes "\n" ∷ [])
+
+-- each name behind a space
+abbrev pub spaced : List (List ℕ) → List ℕ
+spaced names = flat_map (λ name. codes " " ++ name) names
+
+-- `refused 402 lanes NAME NAME ..`
+abbrev pub stuck_line : List (List ℕ) → List ℕ
+stuck_line names = concat (codes "refused 402 lanes" ∷ spaced names ∷ codes "\n" ∷ [])

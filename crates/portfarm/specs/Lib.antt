@@ -1,3 +1,5 @@
 pub mod Input
 pub mod View
 pub mod AnswerLines
+pub mod VerdictText
+pub mod Answer

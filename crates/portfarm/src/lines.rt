@@ -2,7 +2,8 @@
 
 ghost use Rattle.std.specs.Prelude.{◌≡◌, ◌++◌, OnOk, map};
 ghost use Rattle.std.specs.List.{concat};
-ghost use Rattle.portfarm.specs.AnswerLines.{counted_line, lane_line, fault_line, unsafe_line};
+ghost use Rattle.deb_text.specs.Lists.{lists};
+ghost use Rattle.portfarm.specs.AnswerLines.{counted_line, lane_line, fault_line, unsafe_line, spaced, stuck_line};
 
 use std::alloc::{AllocError, Global};
 
@@ -104,4 +105,23 @@ pub fn push_unsafe(
             b"\n",
         ],
     )
+}
+
+/// Puts names behind a text, each behind a space.
+fn push_names(text: &mut Vec<u8>, names: &[Vec<u8>]) -> Result<(), AllocError>
+    ensures { OnOk result (text.new.items ≡ text.old.items ++ spaced (lists names.now)) }
+{
+    for name in names {
+        push_pieces(text, &[b" ", name.as_slice()])?;
+    }
+    Ok(())
+}
+
+/// The line of stuck lanes, as `refused 402 lanes a b`.
+pub fn push_stuck(text: &mut Vec<u8>, lanes: &[Vec<u8>]) -> Result<(), AllocError>
+    ensures { OnOk result (text.new.items ≡ text.old.items ++ stuck_line (lists lanes.now)) }
+{
+    text.extend_from_slice(b"refused 402 lanes")?;
+    push_names(text, lanes)?;
+    push_pieces(text, &[b"\n"])
 }

@@ -1,14 +1,54 @@
-//! The program: what it reads, and the lines that it answers with. The call that checks the texts
-//! comes between the two.
+//! The program: reads the four texts of a farm from standard input and prints the verdict.
 #![tactic(auto)]
 
+mod answer;
 mod input;
 mod lines;
 mod outside;
+mod verdict;
 
-pub use input::{Texts, texts_of};
-pub use lines::{push_counted, push_fault, push_lane, push_unsafe};
-pub use outside::{MOST_INPUT, OutsideFault, read_input};
+use crate::answer::answer_to;
+use crate::outside::{OutsideFault, has_words, read_input, write_text};
+use std::env::Env;
+use std::process::ExitCode;
+use std::thread::Threads;
+
+/// The plan was accepted.
+const ACCEPTED: u8 = 0;
+
+/// A text or the plan was refused.
+const REFUSED: u8 = 1;
+
+/// The program was called with words that it does not know.
+const WRONG_WORDS: u8 = 2;
+
+/// What lies outside of the texts failed.
+const OUTSIDE: u8 = 3;
+
+/// Does what the program was called for, and gives its status.
+fn run(
+    rt: &(impl Env + Input + Print + Eprint + AllocGlobal + Threads),
+) -> Result<u8, OutsideFault> {
+    if has_words(rt)? {
+        let _written = eprintln!(rt; "portfarm: takes no words; the texts come by standard input");
+        return Ok(WRONG_WORDS);
+    }
+    let input = read_input(rt)?;
+    let answer = answer_to(rt, rt.alloc(), &input)?;
+    write_text(rt, &answer.text)?;
+    Ok(if answer.accepted { ACCEPTED } else { REFUSED })
+}
+
+fn main(rt: HostRuntime) -> ExitCode {
+    let status = match run(&rt) {
+        Ok(status) => status,
+        Err(fault) => {
+            let _written = eprintln!(rt; "portfarm: {fault}");
+            OUTSIDE
+        }
+    };
+    ExitCode::from(status)
+}
 
 #[cfg(test)]
 mod tests;

@@ -2,6 +2,8 @@
 
 ghost use Rattle.std.specs.Prelude.{◌≤◌, IfOk, vec_len};
 
+use std::alloc::AllocError;
+use std::env::{self, Env};
 use std::io::{ErrorKind, Read};
 use thiserror::Error;
 
@@ -22,6 +24,30 @@ pub enum OutsideFault {
     WriteFailed,
 }
 
+impl From<AllocError> for OutsideFault {
+    ghost use Rattle.std.specs.Prelude.{◌≡◌};
+    ghost use Rattle.portfarm.specs.declared.outside.OutsideFault.{OutsideFault};
+
+    ghost from_gives = { λ _ fault. fault ≡ OutsideFault.OutOfMemory };
+
+    fn from(_error: AllocError) -> OutsideFault {
+        OutsideFault::OutOfMemory
+    }
+}
+
+/// Tells whether the program was called with words. One that is no text is a word too.
+///
+/// # Errors
+///
+/// [`OutsideFault::OutOfMemory`] where memory is refused.
+pub fn has_words(rt: &(impl Env + AllocGlobal)) -> Result<bool, OutsideFault> {
+    match env::args(rt) {
+        Ok(words) => Ok(words.count() > 1),
+        Err(error) if error.kind() == ErrorKind::OutOfMemory => Err(OutsideFault::OutOfMemory),
+        Err(_) => Ok(true),
+    }
+}
+
 /// Reads standard input to its end.
 ///
 /// # Errors
@@ -37,4 +63,13 @@ pub fn read_input(rt: &(impl Input + AllocGlobal)) -> Result<Vec<u8>, OutsideFau
         Err(error) if error.kind() == ErrorKind::OutOfMemory => Err(OutsideFault::OutOfMemory),
         _ => Err(OutsideFault::CannotRead),
     }
+}
+
+/// Writes a text to standard output.
+///
+/// # Errors
+///
+/// [`OutsideFault::WriteFailed`] where a write fails. What was written before stays.
+pub fn write_text(rt: &impl Print, text: &[u8]) -> Result<(), OutsideFault> {
+    rt.write_all(text).map_err(|_| OutsideFault::WriteFailed)
 }

@@ -1,0 +1,31 @@
+-- The lines of the lanes of an accepted plan, one after the other.
+use Rattle.std.proofs.Common.{◌≡◌, ℕ, suc, List, ◌++◌, refl, ap, ◌∙◌, Some}
+use Rattle.std.specs.Prelude.{slice_get}
+use Rattle.std.proofs.lemmas.List.{append_assoc}
+use Rattle.std.proofs.lemmas.Option.{get_or_from_slice_get}
+use Rattle.plan_asm.specs.MayAt.{lane_cost}
+use Rattle.plan_asm.specs.Plan.{Lane, lane, no_lane}
+use Rattle.plan_verifier.specs.Accepted.{AcceptedPlan, known_rows}
+use Rattle.portfarm.specs.AnswerLines.{lane_line}
+use Rattle.portfarm.specs.VerdictText.{lane_lines}
+
+module _ (a : AcceptedPlan) (l : ℕ) (of : Lane) (is : slice_get a.plan l ≡ Some of) where
+  same : lane a.plan l ≡ of
+  same = get_or_from_slice_get a.plan l of no_lane is
+
+  line-is : (name : List ℕ) (cost budget : ℕ) → name ≡ of.name
+      → cost ≡ lane_cost a.universe a.plan (known_rows a) l → budget ≡ of.budget
+      → lane_line name cost budget
+      ≡ lane_line (lane a.plan l).name (lane_cost a.universe a.plan (known_rows a) l)
+      (lane a.plan l).budget
+  line-is name cost budget n c b = rw (n, c, b, same) refl
+
+  pub one_more : (old text new name : List ℕ) (cost budget : ℕ) → name ≡ of.name
+      → cost ≡ lane_cost a.universe a.plan (known_rows a) l → budget ≡ of.budget
+      → text ≡ old ++ lane_lines a l → new ≡ text ++ lane_line name cost budget
+      → new ≡ old ++ lane_lines a (suc l)
+  one_more old text new name cost budget n c b so_far more =
+      more
+      ∙ (ap (λ t. t ++ lane_line name cost budget) so_far
+      ∙ (append_assoc old (lane_lines a l) (lane_line name cost budget)
+      ∙ ap (λ t. old ++ (lane_lines a l ++ t)) (line-is name cost budget n c b)))

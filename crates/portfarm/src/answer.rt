@@ -1,0 +1,45 @@
+//! The answer to an input.
+
+ghost use Rattle.std.specs.Prelude.{IfOk};
+ghost use Rattle.portfarm.specs.Answer.{IsAnswer};
+
+use crate::input::texts_of;
+use crate::outside::OutsideFault;
+use crate::verdict::verdict_text;
+use plan_verifier::{Refusal, check};
+use std::alloc::Global;
+use std::thread::Threads;
+
+/// What is printed, and whether the plan was accepted.
+#[derive(Debug, Drop)]
+pub struct Answer {
+    pub text: Vec<u8>,
+    pub accepted: bool,
+}
+
+/// Answers an input, the four texts divided by lines of `%%`, with the verdict.
+///
+/// # Errors
+///
+/// [`OutsideFault::OutOfMemory`] where memory is refused.
+pub fn answer_to(rt: &impl Threads, alloc: Global, input: &[u8]) -> Result<Answer, OutsideFault>
+    ensures { IfOk result (IsAnswer input.now) }
+{
+    let texts = texts_of(input);
+    let verdict = check(
+        rt,
+        alloc,
+        texts.packages,
+        texts.sources,
+        texts.farm,
+        texts.plan,
+    );
+    if matches!(&verdict, Err(Refusal::Memory)) {
+        return Err(OutsideFault::OutOfMemory);
+    }
+    let text = verdict_text(alloc, &verdict)?;
+    Ok(Answer {
+        text,
+        accepted: verdict.is_ok(),
+    })
+}
