@@ -13,46 +13,76 @@ and_true false = refl
 module _ {X : Type 0} (p : X → Bool) where
   pub front_take : (xs : List X) → front p xs ≡ take (prefix_len p xs) xs
   front_take [] = refl
-  front_take (x ∷ xs) = elim (cases_Bool (p x)) [ inl is ↦ rw (is, one-add) (ap (λ ys. x ∷ ys) (front_take xs)) | inr is ↦ rw is refl ]
+  front_take (x ∷ xs) =
+      elim (cases_Bool (p x)) [
+        | inl is ↦ rw (is, one-add) (ap (λ ys. x ∷ ys) (front_take xs))
+        | inr is ↦ rw is refl
+      ]
 
   pub behind_drop : (xs : List X) → behind p xs ≡ drop (prefix_len p xs) xs
   behind_drop [] = refl
-  behind_drop (x ∷ xs) = elim (cases_Bool (p x)) [ inl is ↦ rw (is, one-add) (behind_drop xs) | inr is ↦ rw is refl ]
+  behind_drop (x ∷ xs) =
+      elim (cases_Bool (p x)) [
+        | inl is ↦ rw (is, one-add) (behind_drop xs)
+        | inr is ↦ rw is refl
+      ]
 
   pub behind_shorter : (xs : List X) → length (behind p xs) ≤ length xs
   behind_shorter [] = omega arith
-  behind_shorter (x ∷ xs) = elim (cases_Bool (p x)) [ inl is ↦ rw is (omega (arith, behind_shorter xs)) | inr is ↦ rw is (omega arith) ]
+  behind_shorter (x ∷ xs) =
+      elim (cases_Bool (p x)) [
+        | inl is ↦ rw is (omega (arith, behind_shorter xs))
+        | inr is ↦ rw is (omega arith)
+      ]
 
   -- a last element that passes is cut off
-  pub without_end-cut : (xs : List X) (x : X) → p x ≡ true → without_end p (xs ++ x ∷ []) ≡ without_end p xs
+  pub without_end-cut : (xs : List X) (x : X) → p x ≡ true
+      → without_end p (xs ++ x ∷ []) ≡ without_end p xs
   without_end-cut [] x is = rw is refl
-  without_end-cut (y ∷ ys) x is = rw (list_all-append p ys (x ∷ []), is, and_true (list_all p ys), without_end-cut ys x is) refl
+  without_end-cut (y ∷ ys) x is =
+      rw (list_all-append p ys (x ∷ []), is, and_true (list_all p ys), without_end-cut ys x is) refl
 
   -- one that doesn't stays
-  pub without_end-stays : (xs : List X) (x : X) → p x ≡ false → without_end p (xs ++ x ∷ []) ≡ xs ++ x ∷ []
+  pub without_end-stays : (xs : List X) (x : X) → p x ≡ false
+      → without_end p (xs ++ x ∷ []) ≡ xs ++ x ∷ []
   without_end-stays [] x is = rw is refl
   without_end-stays (y ∷ ys) x is =
-      rw (list_all-append p ys (x ∷ []), is, and_right (list_all p ys) false refl, and_right (p y) false refl) (ap (λ zs. y ∷ zs) (without_end-stays ys x is))
+      rw (
+        list_all-append p ys (x ∷ []),
+        is,
+        and_right (list_all p ys) false refl,
+        and_right (p y) false refl,
+      ) (ap (λ zs. y ∷ zs) (without_end-stays ys x is))
 
-  front_last : (xs : List X) (d : X) → 1 ≤ length xs → xs ≡ take (length xs - 1) xs ++ get_or xs (length xs - 1) d ∷ []
-  front_last xs d some = sym (take_all (length xs - 1 + 1) xs (omega arith)) ∙ take_more xs (length xs - 1) d (omega arith)
+  front_last : (xs : List X) (d : X) → 1 ≤ length xs
+      → xs ≡ take (length xs - 1) xs ++ get_or xs (length xs - 1) d ∷ []
+  front_last xs d some =
+      sym (take_all (length xs - 1 + 1) xs (omega arith))
+      ∙ take_more xs (length xs - 1) d (omega arith)
 
   -- the same of the last element by its place
-  pub without_end-shorter : (xs : List X) (d : X) → 1 ≤ length xs → p (get_or xs (length xs - 1) d) ≡ true
+  pub without_end-shorter : (xs : List X) (d : X) → 1 ≤ length xs
+      → p (get_or xs (length xs - 1) d) ≡ true
       → without_end p (take (length xs - 1) xs) ≡ without_end p xs
   without_end-shorter xs d some is =
-      sym (ap (without_end p) (front_last xs d some) ∙ without_end-cut (take (length xs - 1) xs) (get_or xs (length xs - 1) d) is)
+      sym (ap (without_end p) (front_last xs d some)
+      ∙ without_end-cut (take (length xs - 1) xs) (get_or xs (length xs - 1) d) is)
 
-  pub without_end-whole : (xs : List X) (d : X) → 1 ≤ length xs → p (get_or xs (length xs - 1) d) ≡ false → without_end p xs ≡ xs
+  pub without_end-whole : (xs : List X) (d : X) → 1 ≤ length xs
+      → p (get_or xs (length xs - 1) d) ≡ false → without_end p xs ≡ xs
   without_end-whole xs d some is =
       ap (without_end p) (front_last xs d some)
-      ∙ without_end-stays (take (length xs - 1) xs) (get_or xs (length xs - 1) d) is ∙ sym (front_last xs d some)
+      ∙ without_end-stays (take (length xs - 1) xs) (get_or xs (length xs - 1) d) is
+      ∙ sym (front_last xs d some)
 
   -- where none passes
   pub before-none : (xs : List X) → list_any p xs ≡ false → before p xs ≡ xs
   before-none [] none = refl
-  before-none (x ∷ xs) none = let parts = or_parts (p x) (list_any p xs) none in rw parts.0 (ap (λ ys. x ∷ ys) (before-none xs parts.1))
+  before-none (x ∷ xs) none =
+      let parts = or_parts (p x) (list_any p xs) none in
+      rw parts.0 (ap (λ ys. x ∷ ys) (before-none xs parts.1))
 
   pub after-none : (xs : List X) → list_any p xs ≡ false → after p xs ≡ []
   after-none [] none = refl
-  after-none (x ∷ xs) none = let parts = or_parts (p x) (list_any p xs) none in rw parts.0 (after-none xs parts.1)
+  after-none (x ∷ xs) none =
+      let parts = or_parts (p x) (list_any p xs) none in rw parts.0 (after-none xs parts.1)

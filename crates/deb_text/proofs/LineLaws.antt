@@ -7,13 +7,15 @@ use Rattle.deb_text.specs.Cuts.{before, after}
 use Rattle.deb_text.specs.Lines.{lines_of, lines_kept}
 use Rattle.deb_text.proofs.FindLaws.{found_at, found_none, from-drop}
 
-first_line : (b : ℕ) (bs : List ℕ) (t : Bool) → is_newline b ≡ t → lines_of (b ∷ bs) ≡ before is_newline (b ∷ bs) ∷ lines_of (after is_newline (b ∷ bs))
+first_line : (b : ℕ) (bs : List ℕ) (t : Bool) → is_newline b ≡ t
+    → lines_of (b ∷ bs) ≡ before is_newline (b ∷ bs) ∷ lines_of (after is_newline (b ∷ bs))
 unfolding lines_of
 first_line b bs true e = rw e refl
 first_line b [] false e = rw e refl
 first_line b (c ∷ cs) false e = rw (e, first_line c cs (is_newline c) refl) refl
 
-pub lines_of-cons : (text : List ℕ) → (length text ≡ 0 → ⊥) → lines_of text ≡ before is_newline text ∷ lines_of (after is_newline text)
+pub lines_of-cons : (text : List ℕ) → (length text ≡ 0 → ⊥)
+    → lines_of text ≡ before is_newline text ∷ lines_of (after is_newline text)
 lines_of-cons [] some = absurd (some refl)
 lines_of-cons (b ∷ bs) some = first_line b bs (is_newline b) refl
 
@@ -25,7 +27,8 @@ pub lines_of-empty : (text : List ℕ) → length text ≡ 0 → lines_of text �
 lines_of-empty [] e = lines_of-nil
 lines_of-empty (b ∷ bs) e = absurd (omega arith)
 
-pub line_found : (text : List ℕ) (k : ℕ) → IsFirstByte is_newline text (Some k) → (length text ≡ 0 → ⊥)
+pub line_found : (text : List ℕ) (k : ℕ) → IsFirstByte is_newline text (Some k)
+    → (length text ≡ 0 → ⊥)
     → lines_of text ≡ take k text ∷ lines_of (take (length text - (k + 1)) (drop (k + 1) text))
 line_found text k found some =
     let cut = found_at is_newline text k found in
@@ -35,18 +38,19 @@ pub line_last : (text : List ℕ) → IsFirstByte is_newline text None → (leng
     → lines_of text ≡ text ∷ lines_of (take (length text - length text) (drop (length text) text))
 line_last text none some =
     let cut = found_none is_newline text none in
-    let nothing : take (length text - length text) (drop (length text) text) ≡ [] = grind (arith, common_steps) in
+    let nothing : take (length text - length text) (drop (length text) text) ≡ [] =
+    grind (arith, common_steps) in
     lines_of-cons text some ∙ rw (nothing, ← cut.0, ← cut.1) refl
 
 module _ (keeps : List ℕ → Bool) where
   -- the lines from one that is kept on
-  pub lines_kept-keeps : (n : ℕ) (text line rest : List ℕ) → lines_of text ≡ line ∷ lines_of rest → keeps line ≡ true
-      → lines_kept keeps n text ≡ (n, line) ∷ lines_kept keeps (n + 1) rest
+  pub lines_kept-keeps : (n : ℕ) (text line rest : List ℕ) → lines_of text ≡ line ∷ lines_of rest
+      → keeps line ≡ true → lines_kept keeps n text ≡ (n, line) ∷ lines_kept keeps (n + 1) rest
   lines_kept-keeps n text line rest cut is = rw (cut, is) refl
 
   -- the lines from one that is skipped on
-  pub lines_kept-skips : (n : ℕ) (text line rest : List ℕ) → lines_of text ≡ line ∷ lines_of rest → keeps line ≡ false
-      → lines_kept keeps n text ≡ lines_kept keeps (n + 1) rest
+  pub lines_kept-skips : (n : ℕ) (text line rest : List ℕ) → lines_of text ≡ line ∷ lines_of rest
+      → keeps line ≡ false → lines_kept keeps n text ≡ lines_kept keeps (n + 1) rest
   lines_kept-skips n text line rest cut is = rw (cut, is) refl
 
   pub lines_kept-ends : (n : ℕ) (text : List ℕ) → lines_of text ≡ [] → lines_kept keeps n text ≡ []

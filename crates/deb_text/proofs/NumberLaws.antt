@@ -15,7 +15,8 @@ grow i zero = grind arith
 grow i (suc k) =
     let later : 10 ^ i ≤ 10 ^ (k + i) = grow i k in
     let e : suc (k + i) ≡ suc k + i = omega arith in
-    subst (λ m. 10 ^ i ≤ 10 ^ m) e (subst (λ p. 10 ^ i ≤ p) (sym (pow-suc 10 (k + i))) (omega (arith, later)))
+    subst (λ m. 10 ^ i ≤ 10 ^ m) e
+    (subst (λ p. 10 ^ i ≤ p) (sym (pow-suc 10 (k + i))) (omega (arith, later)))
 
 -- fewer than 15 digits leave room for one more
 pub below-fifteen : (n i : ℕ) → n < 10 ^ i → i < 15 → n < 100000000000000
@@ -42,12 +43,14 @@ digit-value d is =
     let high : d ≤ 57 = leb-true d 57 p.1 in
     rw (le-ltb d 48 low, lt-ltb d 58 (omega arith)) refl
 
-number_after : (n : ℕ) (ds : List ℕ) → list_all is_digit ds ≡ true → fold (λ n digit. n * 10 + (digit - 48)) n ds ≡ digits_value_after 10 n ds
+number_after : (n : ℕ) (ds : List ℕ) → list_all is_digit ds ≡ true
+    → fold (λ n digit. n * 10 + (digit - 48)) n ds ≡ digits_value_after 10 n ds
 number_after n [] are = refl
 number_after n (d ∷ ds) are =
     let p = and_parts (is_digit d) (list_all is_digit ds) are in
     rw (digit-value d p.0) (number_after (n * 10 + (d - 48)) ds p.1)
 
 -- digits spell what std reads of them
-pub number-digits_value : (ds : List ℕ) → list_all is_digit ds ≡ true → number ds ≡ digits_value 10 ds
+pub number-digits_value : (ds : List ℕ) → list_all is_digit ds ≡ true
+    → number ds ≡ digits_value 10 ds
 number-digits_value ds are = number_after 0 ds are

@@ -13,11 +13,13 @@ module _ {X : Type 0} (p : X → Bool) where
   lt-any [] = refl
   lt-any (x ∷ xs) = by (p x) (lt-any xs) where
     by : (b : Bool) → nat_lt (position_or_len p xs) (length xs) ≡ list_any p xs
-        → nat_lt (cond (not b) (1 + position_or_len p xs) 0) (suc (length xs)) ≡ (b || list_any p xs)
+        → nat_lt (cond (not b) (1 + position_or_len p xs) 0) (suc (length xs))
+        ≡ (b || list_any p xs)
     by true later = lt-ltb 0 (suc (length xs)) (omega arith)
     by false later = lt-suc (position_or_len p xs) (length xs) ∙ later
 
-  pub position-any : (xs : List X) → position p xs ≡ (if list_any p xs then Some (position_or_len p xs) else None)
+  pub position-any : (xs : List X)
+      → position p xs ≡ (if list_any p xs then Some (position_or_len p xs) else None)
   position-any xs = rw (lt-any xs) refl
 
   position_or_len-none : (xs : List X) → list_any p xs ≡ false → position_or_len p xs ≡ length xs
@@ -26,16 +28,21 @@ module _ {X : Type 0} (p : X → Bool) where
       let parts = or_parts (p x) (list_any p xs) e in
       rw (parts.0, one-add) (ap suc (position_or_len-none xs parts.1))
 
-  pub unwrap_or-position : (xs : List X) → unwrap_or (position p xs) (length xs) ≡ position_or_len p xs
+  pub unwrap_or-position : (xs : List X)
+      → unwrap_or (position p xs) (length xs) ≡ position_or_len p xs
   unwrap_or-position xs = rw (position-any xs) (by (list_any p xs) refl) where
-    by : (b : Bool) → list_any p xs ≡ b → unwrap_or (if b then Some (position_or_len p xs) else None) (length xs) ≡ position_or_len p xs
+    by : (b : Bool) → list_any p xs ≡ b
+        → unwrap_or (if b then Some (position_or_len p xs) else None) (length xs)
+        ≡ position_or_len p xs
     by true e = refl
     by false e = sym (position_or_len-none xs e)
 
-pub place_in-position : {K : Type 0} (eq : K → K → Bool) (ks : List K) (k : K) → place_in eq ks k ≡ position (eq k) ks
+pub place_in-position : {K : Type 0} (eq : K → K → Bool) (ks : List K) (k : K)
+    → place_in eq ks k ≡ position (eq k) ks
 place_in-position eq ks k = sym (position-any (eq k) ks)
 
-pub in_order-insert : {V : Type 0} (below : V → V → Bool) (x : V) (vs : List V) → in_order below x vs ≡ insert vs (position_or_len (below x) vs) x
+pub in_order-insert : {V : Type 0} (below : V → V → Bool) (x : V) (vs : List V)
+    → in_order below x vs ≡ insert vs (position_or_len (below x) vs) x
 in_order-insert below x [] = refl
 in_order-insert below x (v ∷ vs) = by (below x v) refl (in_order-insert below x vs) where
   by : (b : Bool) → below x v ≡ b → in_order below x vs ≡ insert vs (position_or_len (below x) vs) x

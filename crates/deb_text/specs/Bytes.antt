@@ -45,4 +45,5 @@ is_version_byte b = not (is_blank b || b == 41)
 -- all but blanks and < > ! , | ( ) [ ]
 abbrev pub is_word_byte : ℕ → Bool
 is_word_byte b =
-    not (is_blank b || b == 60 || b == 62 || b == 33 || b == 44 || b == 124 || b == 40 || b == 41 || b == 91 || b == 93)
+    not (is_blank b || b == 60 || b == 62 || b == 33 || b == 44 || b == 124 || b == 40 || b == 41
+    || b == 91 || b == 93)

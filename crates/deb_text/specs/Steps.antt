@@ -25,10 +25,12 @@ or_else (Some x) o = Some x
 -- the first fault, where judge says what is wrong with an item behind the items before it
 abbrev pub first_fault : {X F : Type 0} → (List X → X → Option F) → List X → List X → Option F
 first_fault judge before [] = None
-first_fault judge before (x ∷ xs) = or_else (judge before x) (first_fault judge (before ++ x ∷ []) xs)
+first_fault judge before (x ∷ xs) =
+    or_else (judge before x) (first_fault judge (before ++ x ∷ []) xs)
 
 -- what these items mean, or their first fault
-unfoldable pub judged : {X A F : Type 0} → (List X → X → Option F) → (List X → A) → List X → Result A F
+unfoldable pub judged : {X A F : Type 0} → (List X → X → Option F) → (List X → A) → List X
+    → Result A F
 judged judge meaning xs = answer (first_fault judge [] xs) (meaning xs)
 
 -- a state that goes from item to item
@@ -66,9 +68,11 @@ own_or (Ok x) later = later x
 own_or (Err e) later = Some e
 
 -- what is wrong with an item behind the items before it: its own fault, or that of its value
-abbrev pub item_fault : {P X F : Type 0} → (P → Result X F) → (List X → X → Option F) → List P → P → Option F
+abbrev pub item_fault : {P X F : Type 0} → (P → Result X F) → (List X → X → Option F) → List P
+    → P → Option F
 item_fault read judge before p = own_or (read p) (judge (goods read before))
 
 -- a state that goes on by an item's value
-abbrev pub read_step : {P X S F : Type 0} → (P → Result X F) → (S → X → Result S F) → S → P → Result S F
+abbrev pub read_step : {P X S F : Type 0} → (P → Result X F) → (S → X → Result S F) → S → P
+    → Result S F
 read_step read step s p = read p >>= step s

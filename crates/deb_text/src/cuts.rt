@@ -78,7 +78,8 @@ fn skip_end(class: Class, text: &[u8]) -> &[u8]
 
 /// The first part of a text that is cut at each such byte, and what is left, if anything is.
 pub fn next_part(byte: u8, text: &[u8]) -> (&[u8], Option<&[u8]>)
-    ensures parts { slice_split (is_byte byte) text.now ≡ result.0.now ∷ parts_left (is_byte byte) (option_map (λ rest. rest.now) result.1) }
+    ensures parts { slice_split (is_byte byte) text.now
+        ≡ result.0.now ∷ parts_left (is_byte byte) (option_map (λ rest. rest.now) result.1) }
     ensures shorter { length_left (option_map (λ rest. rest.now) result.1) ≤ length text.now }
 {
     match cut_at_first(byte, text) {

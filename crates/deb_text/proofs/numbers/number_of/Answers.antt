@@ -13,4 +13,5 @@ overflow_add-number c =
     omega (arith, room, c.type_inv.digits c.loop-digit.digit-index)
 
 pub returns-clause-small : goal.returns-clause-small
-returns-clause-small c = within-fifteen _ _ c.loop-digit.invariant.below (omega (arith, c.requires.short))
+returns-clause-small c =
+    within-fifteen _ _ c.loop-digit.invariant.below (omega (arith, c.requires.short))
