@@ -11,12 +11,21 @@ use Rattle.deb_stanza.specs.View.{finished, first_of, raw_of, texts_in, raws_in,
 use Rattle.deb_stanza.proofs.CutLaws.{IsCut-push, cut-push, get_or-cut, range-cons}
 use Rattle.deb_stanza.proofs.TableLaws.{length-cut, length-texts}
 
-module _ (bytes : List ℕ) (starts : List Start) (line : List ℕ) (number : ℕ) (are : LinesAreCut bytes starts) where
-  pub lines-push : lines_in (bytes ++ line) (starts ++ record { first = length bytes; line = number } ∷ []) ≡ lines_in bytes starts ++ (number, line) ∷ []
-  lines-push = cut-push first_of numbered line bytes starts (record { first = length bytes; line = number }) are refl
+module _ (bytes : List ℕ) (starts : List Start) (line : List ℕ) (number : ℕ)
+    (are : LinesAreCut bytes starts) where
+  pub lines-push : lines_in (bytes ++ line)
+      (starts ++ record { first = length bytes; line = number } ∷ [])
+      ≡ lines_in bytes starts ++ (number, line) ∷ []
+  lines-push =
+      cut-push first_of numbered line bytes starts
+      (record { first = length bytes; line = number }) are refl
 
-  pub LinesAreCut-push : 0 < length line → LinesAreCut (bytes ++ line) (starts ++ record { first = length bytes; line = number } ∷ [])
-  LinesAreCut-push some = IsCut-push first_of (length bytes) (length (bytes ++ line)) starts (record { first = length bytes; line = number }) are refl (omega (arith, length-append bytes line, some))
+  pub LinesAreCut-push : 0 < length line
+      → LinesAreCut (bytes ++ line) (starts ++ record { first = length bytes; line = number } ∷ [])
+  LinesAreCut-push some =
+      IsCut-push first_of (length bytes) (length (bytes ++ line)) starts
+      (record { first = length bytes; line = number }) are refl
+      (omega (arith, length-append bytes line, some))
 
 -- an empty line is blank
 pub some-kept : (line : List ℕ) → is_skipped line ≡ false → 0 < length line
@@ -25,40 +34,63 @@ some-kept (b ∷ bs) kept = omega arith
 
 -- ---- look-ups
 
-pub found-at : (name : List ℕ) (texts : List (List ℕ)) (i j : ℕ) (value : List ℕ) → i < j → j ≤ length texts → Some value ≡ value_named name (get_or texts i [])
+pub found-at : (name : List ℕ) (texts : List (List ℕ)) (i j : ℕ) (value : List ℕ) → i < j
+    → j ≤ length texts → Some value ≡ value_named name (get_or texts i [])
     → value_among name (slice_range texts i j) ≡ Some value
 found-at name texts i j value lt le is =
-    rw (range-cons texts i j [] lt le) (elim (cases_Bool (same_name name (name_of (get_or texts i [])))) [
+    rw (range-cons texts i j [] lt le)
+    (elim (cases_Bool (same_name name (name_of (get_or texts i [])))) [
       | inl same ↦ rw same (sym (rw same at is))
       | inr other ↦ let h = rw other at is in absurd cc
     ])
 
-pub found-later : (name : List ℕ) (texts : List (List ℕ)) (i j : ℕ) → i < j → j ≤ length texts → None ≡ value_named name (get_or texts i [])
+pub found-later : (name : List ℕ) (texts : List (List ℕ)) (i j : ℕ) → i < j → j ≤ length texts
+    → None ≡ value_named name (get_or texts i [])
     → value_among name (slice_range texts i j) ≡ value_among name (slice_range texts (i + 1) j)
 found-later name texts i j lt le is =
-    rw (range-cons texts i j [] lt le) (elim (cases_Bool (same_name name (name_of (get_or texts i [])))) [
+    rw (range-cons texts i j [] lt le)
+    (elim (cases_Bool (same_name name (name_of (get_or texts i [])))) [
       | inl same ↦ let h = rw same at is in absurd cc
       | inr other ↦ rw other refl
     ])
 
 -- the fields of a paragraph
-pub value_of-among : (bytes fields : List ℕ) (paragraphs : List Start) (i : ℕ) (d : Start) (name : List ℕ) → i < length paragraphs
+pub value_of-among : (bytes fields : List ℕ) (paragraphs : List Start) (i : ℕ) (d : Start)
+    (name : List ℕ) → i < length paragraphs
     → value_of (paragraph_at (map finished (raws_in bytes fields paragraphs)) i) name
-    ≡ value_among name (slice_range (texts_in bytes fields) (get_or paragraphs i d).first (end_at first_of (length fields) paragraphs i))
+    ≡ value_among name
+    (slice_range (texts_in bytes fields) (get_or paragraphs i d).first
+    (end_at first_of (length fields) paragraphs i))
 value_of-among bytes fields paragraphs i d name lt =
     let raws = raws_in bytes fields paragraphs in
-    let within : i < length raws = omega (arith, length-cut first_of raw_of (texts_in bytes fields) paragraphs) in
-    ap (λ p. value_of p name) (get_or-map finished raws i (record { line = 0; texts = [] }) (record { line = 0; fields = [] }) within)
-    ∙ ap (λ raw. value_of (finished raw) name) (get_or-cut first_of raw_of (texts_in bytes fields) paragraphs i d (record { line = 0; texts = [] }) lt)
-    ∙ ap (λ n. value_among name (slice_range (texts_in bytes fields) (get_or paragraphs i d).first (end_at first_of n paragraphs i))) (length-texts bytes fields)
+    let within : i < length raws =
+    omega (arith, length-cut first_of raw_of (texts_in bytes fields) paragraphs) in
+    ap (λ p. value_of p name)
+    (get_or-map finished raws i (record { line = 0; texts = [] })
+    (record { line = 0; fields = [] }) within)
+    ∙ ap (λ raw. value_of (finished raw) name)
+    (get_or-cut first_of raw_of (texts_in bytes fields) paragraphs i d
+    (record { line = 0; texts = [] }) lt)
+    ∙ ap (λ n. value_among name (slice_range (texts_in bytes fields) (get_or paragraphs i d).first
+    (end_at first_of n paragraphs i))) (length-texts bytes fields)
 
-pub line_of-paragraph : (bytes fields : List ℕ) (paragraphs : List Start) (i : ℕ) (d : Start) → i < length paragraphs
-    → (paragraph_at (map finished (raws_in bytes fields paragraphs)) i).line ≡ (get_or paragraphs i d).line
+pub line_of-paragraph : (bytes fields : List ℕ) (paragraphs : List Start) (i : ℕ) (d : Start)
+    → i < length paragraphs
+    → (paragraph_at (map finished (raws_in bytes fields paragraphs)) i).line
+    ≡ (get_or paragraphs i d).line
 line_of-paragraph bytes fields paragraphs i d lt =
     let raws = raws_in bytes fields paragraphs in
-    let within : i < length raws = omega (arith, length-cut first_of raw_of (texts_in bytes fields) paragraphs) in
-    ap (λ p. p.line) (get_or-map finished raws i (record { line = 0; texts = [] }) (record { line = 0; fields = [] }) within)
-    ∙ ap (λ raw. raw.line) (get_or-cut first_of raw_of (texts_in bytes fields) paragraphs i d (record { line = 0; texts = [] }) lt)
+    let within : i < length raws =
+    omega (arith, length-cut first_of raw_of (texts_in bytes fields) paragraphs) in
+    ap (λ p. p.line)
+    (get_or-map finished raws i (record { line = 0; texts = [] })
+    (record { line = 0; fields = [] }) within)
+    ∙ ap (λ raw. raw.line)
+    (get_or-cut first_of raw_of (texts_in bytes fields) paragraphs i d
+    (record { line = 0; texts = [] }) lt)
 
-pub length-paragraphs : (bytes fields : List ℕ) (paragraphs : List Start) → length (map finished (raws_in bytes fields paragraphs)) ≡ length paragraphs
-length-paragraphs bytes fields paragraphs = length-map (raws_in bytes fields paragraphs) finished ∙ length-cut first_of raw_of (texts_in bytes fields) paragraphs
+pub length-paragraphs : (bytes fields : List ℕ) (paragraphs : List Start)
+    → length (map finished (raws_in bytes fields paragraphs)) ≡ length paragraphs
+length-paragraphs bytes fields paragraphs =
+    length-map (raws_in bytes fields paragraphs) finished
+    ∙ length-cut first_of raw_of (texts_in bytes fields) paragraphs

@@ -40,7 +40,12 @@ larger text p = record p { texts = p.texts ++ text ∷ [] }
 
 abbrev pub with_head : State → Line → State
 with_head s l =
-    record { raws = if s.is_open then onto_last (larger l.1) s.raws else s.raws ++ record { line = l.0; texts = l.1 ∷ [] } ∷ []; is_open = true }
+    record {
+      raws =
+          if s.is_open then onto_last (larger l.1) s.raws
+          else s.raws ++ record { line = l.0; texts = l.1 ∷ [] } ∷ [];
+      is_open = true;
+    }
 
 abbrev pub with_line : State → Line → State
 with_line s l =
@@ -58,7 +63,10 @@ abbrev pub raw_part : List Line → Raw
 raw_part ls = record { line = first_number ls; texts = texts_of ls }
 
 abbrev pub state_of : List Line → State
-state_of ls = record { raws = map raw_part (filter (λ part. not (is_nil part)) (parts ls)); is_open = not (is_nil (open_part ls)) }
+state_of ls = record {
+  raws = map raw_part (filter (λ part. not (is_nil part)) (parts ls));
+  is_open = not (is_nil (open_part ls));
+}
 
 -- ---- what the code keeps true
 
@@ -67,7 +75,9 @@ lowered name = str_to_ascii_lowercase name
 
 -- the set has the names of these texts, in small letters
 pub record IsKnown (names : BTreeSet (Vec ℕ)) (texts : List (List ℕ)) : Type 0 where
-  pub keys : (q : List ℕ) → list_any (λ k. bytes_eq q k.items) names.keys ≡ list_any (bytes_eq q) (map lowered (map name_of texts))
+  pub keys : (q : List ℕ)
+      → list_any (λ k. bytes_eq q k.items) names.keys
+      ≡ list_any (bytes_eq q) (map lowered (map name_of texts))
   pub colons : list_all (λ text. list_any is_colon text) texts ≡ true
 
 pub record IsFit (d : Draft) : Type 0 where

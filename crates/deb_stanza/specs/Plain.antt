@@ -7,7 +7,8 @@ use Rattle.deb_stanza.specs.Stanza.{MOST_BYTES}
 
 -- untrimmed, with their numbers in the text; 105 is told at line 0
 abbrev pub plain_lines_at : List ℕ → Result (List Line) Fault
-plain_lines_at text = if nat_lt MOST_BYTES (length text) then Err (fault_at 0 0 105) else Ok (plain_lines 1 text)
+plain_lines_at text =
+    if nat_lt MOST_BYTES (length text) then Err (fault_at 0 0 105) else Ok (plain_lines 1 text)
 
 -- the line with this place, the first being 0
 abbrev pub line_at : List Line → ℕ → Line

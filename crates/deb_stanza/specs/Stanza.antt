@@ -30,7 +30,8 @@ abbrev pub same_name : List ℕ → List ℕ → Bool
 same_name a b = str_eq_ignore_ascii_case a b
 
 abbrev pub value_of : Paragraph → List ℕ → Option (List ℕ)
-value_of p name = option_map (λ field. field.value) (find (λ field. same_name name field.name) p.fields)
+value_of p name =
+    option_map (λ field. field.value) (find (λ field. same_name name field.name) p.fields)
 
 -- the paragraph with this number, the first being 0
 abbrev pub paragraph_at : List Paragraph → ℕ → Paragraph
@@ -51,7 +52,9 @@ is_colon b = is_byte 58 b
 
 -- U+0021 to U+0039 and U+003B to U+007E, and no hyphen in front (Policy 5.1)
 abbrev pub is_field_name : List ℕ → Bool
-is_field_name name = not (is_nil name) && not (first_is (is_byte 45) name) && list_all (λ b. nat_le 33 b && nat_le b 126) name
+is_field_name name =
+    not (is_nil name) && not (first_is (is_byte 45) name)
+    && list_all (λ b. nat_le 33 b && nat_le b 126) name
 
 -- ---- fields
 
@@ -66,7 +69,8 @@ field_text l more = l.1 ++ flat_map (λ m. 10 ∷ m.1) more
 -- the texts of the fields of these lines
 abbrev pub texts_of : List Line → List (List ℕ)
 texts_of [] = []
-texts_of (l ∷ ls) = if continues l then texts_of ls else field_text l (continuation ls) ∷ texts_of ls
+texts_of (l ∷ ls) =
+    if continues l then texts_of ls else field_text l (continuation ls) ∷ texts_of ls
 
 -- the name stands before the first colon, the value behind it
 abbrev pub name_of : List ℕ → List ℕ
@@ -77,7 +81,8 @@ field_of text = record { name = name_of text; value = trimmed (after is_colon te
 
 -- ---- paragraphs
 
--- the parts of the lines between those that separate; the last is the open one, to which the next line belongs
+-- the parts of the lines between those that separate; the last is the open one, to which the next
+-- line belongs
 abbrev pub parts : List Line → List (List Line)
 parts ls = slice_split separates ls
 
@@ -108,11 +113,14 @@ name_fault line =
     if not (list_any is_colon line) then Some 102
     else (if not (is_field_name (name_of line)) then Some 103 else None)
 
--- why a line begins no field, where its paragraph has fields of these names: 104 one of that name is there
+-- why a line begins no field, where its paragraph has fields of these names: 104 one of that name
+-- is there
 abbrev pub head_fault : List (List ℕ) → List ℕ → Option ℕ
-head_fault given line = or_else (name_fault line) (if list_any (same_name (name_of line)) given then Some 104 else None)
+head_fault given line =
+    or_else (name_fault line) (if list_any (same_name (name_of line)) given then Some 104 else None)
 
--- why a line is refused, where the fields of its paragraph have these names: 101 it continues no field
+-- why a line is refused, where the fields of its paragraph have these names: 101 it continues no
+-- field
 abbrev pub code_of : Bool → List (List ℕ) → Line → Option ℕ
 code_of is_open given l =
     if separates l then None
@@ -124,7 +132,9 @@ told_at line code = option_map (fault_at 0 line) code
 
 -- what is wrong with a line, behind the lines before it
 abbrev pub fault_of : List Line → Line → Option Fault
-fault_of before l = told_at l.0 (code_of (not (is_nil (open_part before))) (map name_of (texts_of (open_part before))) l)
+fault_of before l =
+    told_at l.0
+    (code_of (not (is_nil (open_part before))) (map name_of (texts_of (open_part before))) l)
 
 -- the most bytes that a text has
 abbrev pub MOST_BYTES : ℕ

@@ -56,7 +56,9 @@ abbrev pub value_named : List ℕ → List ℕ → Option (List ℕ)
 value_named name text = if same_name name (name_of text) then Some (field_of text).value else None
 
 abbrev pub value_among : List ℕ → List (List ℕ) → Option (List ℕ)
-value_among name texts = option_map (λ field. field.value) (find (λ field. same_name name field.name) (map field_of texts))
+value_among name texts =
+    option_map (λ field. field.value)
+    (find (λ field. same_name name field.name) (map field_of texts))
 
 -- ---- plain lines
 

@@ -54,9 +54,14 @@ impl Draft {
     fn go_on(&mut self, line: Line) -> Result<(), Fault>
         requires fit { IsFit self.old }
         ensures state { Gives refusal_of (λ _. draft_state self.new) result
-            (if self.old.is_open then Ok (record (draft_state self.old) { raws = onto_last (longer line.entry.bytes.now) (draft_state self.old).raws }) else Err (fault_at 0 line.entry.number 101)) }
+            (if self.old.is_open
+            then Ok (record (draft_state self.old) {
+              raws = onto_last (longer line.entry.bytes.now) (draft_state self.old).raws;
+            })
+            else Err (fault_at 0 line.entry.number 101)) }
         ensures fit { OnOk result (IsFit self.new) }
-        ensures grown { OnOk result (length self.new.table.bytes.items ≤ length self.old.table.bytes.items + length line.entry.bytes.now + 1) }
+        ensures grown { OnOk result (length self.new.table.bytes.items
+            ≤ length self.old.table.bytes.items + length line.entry.bytes.now + 1) }
     {
         if !self.is_open {
             return Err(fault(line.number, 101));
@@ -71,11 +76,13 @@ impl Draft {
         requires some { self.old.is_open ≡ true → is_nil self.old.table.paragraphs.items ≡ false }
         requires text { 0 < length line.bytes.now }
         requires room { HasRoom self.old line.bytes.now }
-        ensures state { OnOk result (draft_state self.new ≡ with_head (draft_state self.old) (line_of line.entry)) }
+        ensures state { OnOk result (draft_state self.new
+            ≡ with_head (draft_state self.old) (line_of line.entry)) }
         ensures sound { OnOk result (IsSound self.new.table) }
         ensures some { OnOk result (is_nil self.new.table.paragraphs.items ≡ false) }
         ensures names { self.new.names ≡ self.old.names }
-        ensures bytes { OnOk result (self.new.table.bytes.items ≡ self.old.table.bytes.items ++ line.entry.bytes.now) }
+        ensures bytes { OnOk result (self.new.table.bytes.items
+            ≡ self.old.table.bytes.items ++ line.entry.bytes.now) }
         ensures memory { IfErr result (λ e. refusal_of e ≡ None) }
     {
         if self.is_open {
@@ -92,9 +99,12 @@ impl Draft {
         requires fit { IsFit self.old }
         requires room { HasRoom self.old line.bytes.now }
         ensures state { Gives refusal_of (λ _. draft_state self.new) result
-            (answer (told_at line.entry.number (head_fault (open_names (draft_state self.old)) line.entry.bytes.now)) (with_head (draft_state self.old) (line_of line.entry))) }
+            (answer (told_at line.entry.number
+            (head_fault (open_names (draft_state self.old)) line.entry.bytes.now))
+            (with_head (draft_state self.old) (line_of line.entry))) }
         ensures fit { OnOk result (IsFit self.new) }
-        ensures grown { OnOk result (length self.new.table.bytes.items ≤ length self.old.table.bytes.items + length line.entry.bytes.now + 1) }
+        ensures grown { OnOk result (length self.new.table.bytes.items
+            ≤ length self.old.table.bytes.items + length line.entry.bytes.now + 1) }
     {
         let name = head_name(line)?;
         let key = lowered_name(alloc, name)?;
@@ -109,9 +119,11 @@ impl Draft {
     pub fn take_line(&mut self, alloc: Global, line: Line) -> Result<(), Fault>
         requires fit { IsFit self.old }
         requires room { HasRoom self.old line.bytes.now }
-        ensures state { Gives refusal_of (λ _. draft_state self.new) result (step (draft_state self.old) (line_of line.entry)) }
+        ensures state { Gives refusal_of (λ _. draft_state self.new) result
+            (step (draft_state self.old) (line_of line.entry)) }
         ensures fit { OnOk result (IsFit self.new) }
-        ensures grown { OnOk result (length self.new.table.bytes.items ≤ length self.old.table.bytes.items + length line.entry.bytes.now + 1) }
+        ensures grown { OnOk result (length self.new.table.bytes.items
+            ≤ length self.old.table.bytes.items + length line.entry.bytes.now + 1) }
     {
         if is_blank_line(line.bytes) {
             self.close(alloc);
@@ -127,7 +139,8 @@ impl Draft {
 /// The paragraphs of a text, which is no longer than texts may be.
 pub fn read_lines(alloc: Global, text: &[u8]) -> Result<Table, Fault>
     requires { length text.now ≤ 67108864 }
-    ensures read { Gives refusal_of table_paragraphs result (judged fault_of paragraphs_of (control_lines 1 text.now)) }
+    ensures read { Gives refusal_of table_paragraphs result
+        (judged fault_of paragraphs_of (control_lines 1 text.now)) }
     ensures sound { IfOk result IsSound }
 {
     let mut draft = empty_draft(alloc);

@@ -46,7 +46,9 @@ fn is_field_name(name: &[u8]) -> bool
 
 /// The name before the first colon of a line.
 pub fn head_name(line: Line<'_>) -> Result<&[u8], Fault>
-    ensures name { Gives refusal_of (λ name. name.now) result (answer (told_at line.entry.number (name_fault line.entry.bytes.now)) (name_of line.entry.bytes.now)) }
+    ensures name { Gives refusal_of (λ name. name.now) result
+        (answer (told_at line.entry.number (name_fault line.entry.bytes.now))
+        (name_of line.entry.bytes.now)) }
     ensures colon { IfOk result (λ _. list_any is_colon line.entry.bytes.now ≡ true) }
 {
     let Some((name, _)) = cut_at_first(b':', line.bytes) else {

@@ -73,7 +73,8 @@ impl Paragraphs {
     /// ASCII letters. A field without a value has the empty one.
     pub fn field(&self, paragraph: usize, name: &[u8]) -> Option<&[u8]>
         requires { paragraph < length self.now }
-        ensures { option_map (λ value. value.now) result ≡ value_of (paragraph_at self.now paragraph) name.now }
+        ensures { option_map (λ value. value.now) result
+            ≡ value_of (paragraph_at self.now paragraph) name.now }
     {
         self.table.value(paragraph, name)
     }

@@ -88,7 +88,8 @@ fn push_line(bytes: &mut Vec<u8>, starts: &mut Vec<Start>, line: Line) -> Result
     requires cut { LinesAreCut bytes.old.items starts.old.items }
     requires some { 0 < length line.bytes.now }
     requires room { length bytes.old.items < 2 ^ 32 }
-    ensures lines { OnOk result (lines_in bytes.new.items starts.new.items ≡ lines_in bytes.old.items starts.old.items ++ line_of line.entry ∷ []) }
+    ensures lines { OnOk result (lines_in bytes.new.items starts.new.items
+        ≡ lines_in bytes.old.items starts.old.items ++ line_of line.entry ∷ []) }
     ensures cut { OnOk result (LinesAreCut bytes.new.items starts.new.items) }
     ensures bytes { OnOk result (bytes.new.items ≡ bytes.old.items ++ line.entry.bytes.now) }
 {

@@ -82,7 +82,8 @@ impl Table {
     fn push_text(&mut self, text: &[u8]) -> Result<(), AllocError>
         requires room { length self.old.bytes.items + length text.now + 1 < 2 ^ 32 }
         ensures bytes { OnOk result (self.new.bytes.items ≡ self.old.bytes.items ++ text.now) }
-        ensures fields { OnOk result (self.new.fields.items ≡ self.old.fields.items ++ length self.old.bytes.items ∷ []) }
+        ensures fields { OnOk result (self.new.fields.items
+            ≡ self.old.fields.items ++ length self.old.bytes.items ∷ []) }
         ensures paragraphs { self.new.paragraphs.items ≡ self.old.paragraphs.items }
     {
         self.fields.push(self.bytes.len() as u32)?;
@@ -95,7 +96,8 @@ impl Table {
         requires sound { IsSound self.old }
         requires some { 0 < length text.now }
         requires room { length self.old.bytes.items + length text.now + 1 < 2 ^ 32 }
-        ensures raws { OnOk result (table_raws self.new ≡ onto_last (larger text.now) (table_raws self.old)) }
+        ensures raws { OnOk result (table_raws self.new
+            ≡ onto_last (larger text.now) (table_raws self.old)) }
         ensures sound { OnOk result (IsSound self.new) }
         ensures bytes { OnOk result (self.new.bytes.items ≡ self.old.bytes.items ++ text.now) }
         ensures paragraphs { self.new.paragraphs.items ≡ self.old.paragraphs.items }
@@ -109,7 +111,8 @@ impl Table {
         requires sound { IsSound self.old }
         requires some { 0 < length text.now }
         requires room { length self.old.bytes.items + length text.now + 1 < 2 ^ 32 }
-        ensures raws { OnOk result (table_raws self.new ≡ table_raws self.old ++ record { line = line; texts = text.now ∷ [] } ∷ []) }
+        ensures raws { OnOk result (table_raws self.new
+            ≡ table_raws self.old ++ record { line = line; texts = text.now ∷ [] } ∷ []) }
         ensures sound { OnOk result (IsSound self.new) }
         ensures bytes { OnOk result (self.new.bytes.items ≡ self.old.bytes.items ++ text.now) }
     {
@@ -122,7 +125,8 @@ impl Table {
     /// Lets the last field go on with a line.
     pub fn go_on(&mut self, line: &[u8]) -> Result<(), AllocError>
         requires sound { IsSound self.old }
-        ensures raws { OnOk result (table_raws self.new ≡ onto_last (longer line.now) (table_raws self.old)) }
+        ensures raws { OnOk result (table_raws self.new
+            ≡ onto_last (longer line.now) (table_raws self.old)) }
         ensures sound { OnOk result (IsSound self.new) }
         ensures bytes { OnOk result (self.new.bytes.items ≡ self.old.bytes.items ++ 10 ∷ line.now) }
         ensures paragraphs { self.new.paragraphs.items ≡ self.old.paragraphs.items }
@@ -149,7 +153,8 @@ impl Table {
     fn value_named(&self, field: usize, name: &[u8]) -> Option<&[u8]>
         requires sound { IsSound self.now }
         requires within { field < length self.now.fields.items }
-        ensures { option_map (λ value. value.now) result ≡ value_named name.now (slice_index_or (table_texts self.now) field []) }
+        ensures { option_map (λ value. value.now) result
+            ≡ value_named name.now (slice_index_or (table_texts self.now) field []) }
     {
         let (given, value) = cut_field(self.text(field));
         if is_same_name(name, given) {
@@ -163,7 +168,8 @@ impl Table {
     fn value_among(&self, from: usize, to: usize, name: &[u8]) -> Option<&[u8]>
         requires sound { IsSound self.now }
         requires within { to ≤ length self.now.fields.items }
-        ensures { option_map (λ value. value.now) result ≡ value_among name.now (slice_range (table_texts self.now) from to) }
+        ensures { option_map (λ value. value.now) result
+            ≡ value_among name.now (slice_range (table_texts self.now) from to) }
     {
         for field in from..to {
             if let Some(value) = self.value_named(field, name) {
@@ -177,7 +183,8 @@ impl Table {
     pub fn value(&self, paragraph: usize, name: &[u8]) -> Option<&[u8]>
         requires sound { IsSound self.now }
         requires within { paragraph < length self.now.paragraphs.items }
-        ensures { option_map (λ value. value.now) result ≡ value_of (paragraph_at (table_paragraphs self.now) paragraph) name.now }
+        ensures { option_map (λ value. value.now) result
+            ≡ value_of (paragraph_at (table_paragraphs self.now) paragraph) name.now }
     {
         let start = self.paragraphs[paragraph].first as usize;
         let end = start_end(&self.paragraphs, paragraph, self.fields.len());

@@ -20,9 +20,14 @@ loop-bytes-init c = record {
 
 pub loop-bytes-preserved-in-Continue-1 : goal.loop-bytes-preserved-in-Continue-1
 loop-bytes-preserved-in-Continue-1 c =
-    let kept = lines_kept-keeps (λ line. not (is_comment line)) (c.loop-bytes.number + 1) c.loop-bytes.rest.now c.in-Some.bytes.now c.in-Some.behind.now c.in-Some.ensures.line (ap not (sym c.is_comment.ensures ∙ c.if-not-is_comment.true)) in
+    let kept =
+    lines_kept-keeps (λ line. not (is_comment line)) (c.loop-bytes.number + 1)
+    c.loop-bytes.rest.now c.in-Some.bytes.now c.in-Some.behind.now c.in-Some.ensures.line
+    (ap not (sym c.is_comment.ensures ∙ c.if-not-is_comment.true)) in
     record {
-      so_far = steps-goes step _ _ _ _ _ _ kept c.in_ok-take_line.ensures.state c.loop-bytes.invariant.so_far;
+      so_far =
+          steps-goes step _ _ _ _ _ _ kept c.in_ok-take_line.ensures.state
+          c.loop-bytes.invariant.so_far;
       fit = c.in_ok-take_line.ensures.fit;
       in_range = omega (arith, c.in-Some.ensures.shorter);
       room = omega (arith, c.in-Some.ensures.within, c.in_ok-take_line.ensures.grown);
@@ -31,14 +36,24 @@ loop-bytes-preserved-in-Continue-1 c =
 pub returns-in_err-take_line-clause-read : goal.returns-in_err-take_line-clause-read
 returns-in_err-take_line-clause-read c =
     let p = err_from_is_err_and c.from_residual.result c.from_residual.ensures.1 in
-    let kept = lines_kept-keeps (λ line. not (is_comment line)) (c.loop-bytes.number + 1) c.loop-bytes.rest.now c.in-Some.bytes.now c.in-Some.behind.now c.in-Some.ensures.line (ap not (sym c.is_comment.ensures ∙ c.if-not-is_comment.true)) in
+    let kept =
+    lines_kept-keeps (λ line. not (is_comment line)) (c.loop-bytes.number + 1)
+    c.loop-bytes.rest.now c.in-Some.bytes.now c.in-Some.behind.now c.in-Some.ensures.line
+    (ap not (sym c.is_comment.ensures ∙ c.if-not-is_comment.true)) in
     let e = c.in_err-take_line.field-0.0 in
-    let stops = steps-stops step refusal_of e _ _ _ _ _ kept c.in_err-take_line.ensures.state c.loop-bytes.invariant.so_far in
-    rw (p.1, p.2, ← judged-paragraphs (control_lines 1 c.args.text.now)) (judged-fails fault_of state_of (λ s. map finished s.raws) refusal_of e (control_lines 1 c.args.text.now) stops)
+    let stops =
+    steps-stops step refusal_of e _ _ _ _ _ kept c.in_err-take_line.ensures.state
+    c.loop-bytes.invariant.so_far in
+    rw (p.1, p.2, ← judged-paragraphs (control_lines 1 c.args.text.now))
+    (judged-fails fault_of state_of (λ s. map finished s.raws) refusal_of e
+    (control_lines 1 c.args.text.now) stops)
 
 pub returns-clause-read : goal.returns-clause-read
 returns-clause-read c =
     let lines = control_lines 1 c.args.text.now in
-    let ends = lines_kept-ends (λ line. not (is_comment line)) (c.loop-bytes.number + 1) c.loop-bytes.rest.now c.in_default.ensures.none in
+    let ends =
+    lines_kept-ends (λ line. not (is_comment line))
+    (c.loop-bytes.number + 1) c.loop-bytes.rest.now c.in_default.ensures.none in
     let total = steps-ends step _ _ _ ends c.loop-bytes.invariant.so_far in
-    sym (judged-paragraphs lines) ∙ judged-made fault_of state_of (λ s. map finished s.raws) lines _ total
+    sym (judged-paragraphs lines)
+    ∙ judged-made fault_of state_of (λ s. map finished s.raws) lines _ total

@@ -7,7 +7,8 @@ use Rattle.deb_stanza.proofs.draft.read_lines.Given as goal
 
 abbrev pub invariant-loop-bytes : goal.invariant-loop-bytes
 invariant-loop-bytes l = record {
-  so_far : steps step (draft_state l.draft) (control_lines (l.number + 1) l.rest) ≡ judged fault_of state_of (control_lines 1 l.text);
+  so_far : steps step (draft_state l.draft) (control_lines (l.number + 1) l.rest)
+      ≡ judged fault_of state_of (control_lines 1 l.text);
   fit : IsFit l.draft;
   in_range : l.number + length l.rest ≤ length l.text;
   room : length l.draft.table.bytes.items + length l.rest ≤ length l.text + l.number;

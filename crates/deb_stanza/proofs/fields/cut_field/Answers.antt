@@ -10,5 +10,6 @@ returns-in-None-clause-name c = sym (before-none is_colon c.args.text.now c.in-N
 pub returns-in-None-clause-value : goal.returns-in-None-clause-value
 returns-in-None-clause-value c =
     let text = c.args.text.now in
-    let nothing : take (length text - length text) (drop (length text) text) ≡ [] = grind (arith, common_steps) in
+    let nothing : take (length text - length text) (drop (length text) text) ≡ [] =
+    grind (arith, common_steps) in
     rw (nothing, after-none is_colon text c.in-None.ensures.none) refl

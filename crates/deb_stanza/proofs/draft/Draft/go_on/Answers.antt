@@ -11,6 +11,9 @@ returns-clause-fit c =
     let is_open = c.if-not-self.false in
     record {
       table = c.in_ok-go_on.ensures.sound;
-      known = rw (is_open, c.in_ok-go_on.ensures.raws, last_texts-longer c.args.line.bytes.now raws) (known-longer old.names (10 ∷ c.args.line.bytes.now) (last_texts raws) (rw is_open at c.requires.fit.known));
+      known =
+          rw (is_open, c.in_ok-go_on.ensures.raws, last_texts-longer c.args.line.bytes.now raws)
+          (known-longer old.names (10 ∷ c.args.line.bytes.now) (last_texts raws)
+          (rw is_open at c.requires.fit.known));
       some = λ is. rw c.in_ok-go_on.ensures.paragraphs (c.requires.fit.some is);
     }

@@ -6,5 +6,6 @@ use Rattle.deb_stanza.proofs.plain.Lines.count.Goals as goal
 pub returns : goal.returns
 returns c =
     let l = c.self.inside in
-    let count : length c.args.self.now ≡ length l.starts.items = ap length (sym c.self.view_is) ∙ length-cut first_of numbered l.bytes.items l.starts.items in
+    let count : length c.args.self.now ≡ length l.starts.items =
+    ap length (sym c.self.view_is) ∙ length-cut first_of numbered l.bytes.items l.starts.items in
     omega (arith, count, c.len.ensures, l.starts.ok.0)
