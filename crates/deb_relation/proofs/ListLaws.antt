@@ -29,8 +29,8 @@ lists-more text inside rest some cut_before cut_after =
 -- a loop over the lists: it goes on by one, stops at a fault, or ends
 module _ {B F : Type 0} where
   pub list-goes : (done : List B) (list : Result B F) (items : B)
-      (all more total : Result (List B) F) → all ≡ then_all list more → list ≡ Ok items → with_front done all ≡ total
-      → with_front (done ++ items ∷ []) more ≡ total
+      (all more total : Result (List B) F) → all ≡ then_all list more → list ≡ Ok items
+      → with_front done all ≡ total → with_front (done ++ items ∷ []) more ≡ total
   list-goes done list items all more total cut is so_far =
       sym (with_front-push {A = Unit {0}} (λ _. list) done items more) ∙ (rw (cut, is) at so_far)
 
