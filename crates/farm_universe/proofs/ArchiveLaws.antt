@@ -12,38 +12,56 @@ use Rattle.std.proofs.lemmas.Nat.Bits.{bit_at_or, bit_at-pow_same, bit_at-pow_ot
 use Rattle.farm_universe.specs.declared.types.Variant.{Variant}
 use Rattle.farm_universe.specs.ListText.{with_bit, word_of, words_of}
 
-word_of-push : (vs : List Variant) (v : Variant) (k : ℕ) → word_of (vs ++ v ∷ []) k ≡ (if eqb v.name k then with_bit (word_of vs k) v.bit else word_of vs k)
-word_of-push vs v k = rw (filter-append (λ (v : Variant). eqb v.name k) vs (v ∷ [])) (by (eqb v.name k)) where
-  kept : List Variant
-  kept = filter (λ v. eqb v.name k) vs
+word_of-push : (vs : List Variant) (v : Variant) (k : ℕ)
+    → word_of (vs ++ v ∷ []) k
+    ≡ (if eqb v.name k then with_bit (word_of vs k) v.bit else word_of vs k)
+word_of-push vs v k =
+    rw (filter-append (λ (v : Variant). eqb v.name k) vs (v ∷ [])) (by (eqb v.name k))
+  where
+    kept : List Variant
+    kept = filter (λ v. eqb v.name k) vs
 
-  by : (b : Bool) → fold (λ word v. with_bit word v.bit) 0 (kept ++ cond b (v ∷ []) []) ≡ (if b then with_bit (word_of vs k) v.bit else word_of vs k)
-  by true = fold-append (λ (word : ℕ) (v : Variant). with_bit word v.bit) 0 kept (v ∷ [])
-  by false = ap (fold (λ (word : ℕ) (v : Variant). with_bit word v.bit) 0) (append-nil kept)
+    by : (b : Bool) → fold (λ word v. with_bit word v.bit) 0 (kept ++ cond b (v ∷ []) [])
+        ≡ (if b then with_bit (word_of vs k) v.bit else word_of vs k)
+    by true = fold-append (λ (word : ℕ) (v : Variant). with_bit word v.bit) 0 kept (v ∷ [])
+    by false = ap (fold (λ (word : ℕ) (v : Variant). with_bit word v.bit) 0) (append-nil kept)
 
 pub length-words_of : (n : ℕ) (vs : List Variant) → length (words_of n vs) ≡ n
 length-words_of n vs = length-map-range_with_len (word_of vs) 0 n
 
 -- the word of a name
-pub get_or-words_of : (n : ℕ) (vs : List Variant) (k : ℕ) → k < n → get_or (words_of n vs) k 0 ≡ word_of vs k
+pub get_or-words_of : (n : ℕ) (vs : List Variant) (k : ℕ) → k < n
+    → get_or (words_of n vs) k 0 ≡ word_of vs k
 get_or-words_of n vs k lk = get_or-map-range_with_len (word_of vs) 0 n k k 0 lk (omega arith)
 
 -- a variant more sets its bit
 pub words_of-push : (n : ℕ) (vs : List Variant) (v : Variant) → v.name < n
-    → words_of n (vs ++ v ∷ []) ≡ set (words_of n vs) v.name (with_bit (get_or (words_of n vs) v.name 0) v.bit)
-words_of-push n vs v lt = sym (fill_by_all (word_of (vs ++ v ∷ [])) (set (words_of n vs) v.name (with_bit (get_or (words_of n vs) v.name 0) v.bit)) n 0
-    (length-set (words_of n vs) v.name (with_bit (get_or (words_of n vs) v.name 0) v.bit) ∙ length-words_of n vs)
+    → words_of n (vs ++ v ∷ [])
+    ≡ set (words_of n vs) v.name (with_bit (get_or (words_of n vs) v.name 0) v.bit)
+words_of-push n vs v lt =
+    sym (fill_by_all (word_of (vs ++ v ∷ []))
+    (set (words_of n vs) v.name (with_bit (get_or (words_of n vs) v.name 0) v.bit)) n 0
+    (length-set (words_of n vs) v.name (with_bit (get_or (words_of n vs) v.name 0) v.bit)
+    ∙ length-words_of n vs)
     (λ k lk. by k lk (eqb v.name k) refl)) where
-      by : (k : ℕ) → k < n → (b : Bool) → eqb v.name k ≡ b → get_or (set (words_of n vs) v.name (with_bit (get_or (words_of n vs) v.name 0) v.bit)) k 0 ≡ word_of (vs ++ v ∷ []) k
+      by : (k : ℕ) → k < n → (b : Bool) → eqb v.name k ≡ b
+          → get_or (set (words_of n vs) v.name
+          (with_bit (get_or (words_of n vs) v.name 0) v.bit)) k 0
+          ≡ word_of (vs ++ v ∷ []) k
       by k lk true e =
           let is = eqb-true v.name k e in
           let inside : v.name < length (words_of n vs) = rw (length-words_of n vs) lt in
-          get_or-set_at (words_of n vs) v.name k (with_bit (get_or (words_of n vs) v.name 0) v.bit) 0 (sym is) inside
+          get_or-set_at (words_of n vs) v.name k
+          (with_bit (get_or (words_of n vs) v.name 0) v.bit) 0 (sym is) inside
           ∙ ap (λ word. with_bit word v.bit) (get_or-words_of n vs v.name lt ∙ ap (word_of vs) is)
-          ∙ sym (word_of-push vs v k ∙ ap (λ b. if b then with_bit (word_of vs k) v.bit else word_of vs k) e)
+          ∙ sym (word_of-push vs v k
+          ∙ ap (λ b. if b then with_bit (word_of vs k) v.bit else word_of vs k) e)
       by k lk false e =
-          get_or-set_other (words_of n vs) v.name k (with_bit (get_or (words_of n vs) v.name 0) v.bit) 0 (λ q. eqb-false v.name k e (sym q))
-          ∙ get_or-words_of n vs k lk ∙ sym (word_of-push vs v k ∙ ap (λ b. if b then with_bit (word_of vs k) v.bit else word_of vs k) e)
+          get_or-set_other (words_of n vs) v.name k
+          (with_bit (get_or (words_of n vs) v.name 0) v.bit) 0 (λ q. eqb-false v.name k e (sym q))
+          ∙ get_or-words_of n vs k lk
+          ∙ sym (word_of-push vs v k
+          ∙ ap (λ b. if b then with_bit (word_of vs k) v.bit else word_of vs k) e)
 
 or_true : (a : Bool) → (a || true) ≡ true
 or_true true = refl
@@ -62,8 +80,10 @@ bit-with_bit : (w c b : ℕ) → eqb (bit_at (with_bit w c) b) 1 ≡ (eqb (bit_a
 bit-with_bit w c b = by (eqb c b) refl where
   by : (t : Bool) → eqb c b ≡ t → eqb (bit_at (with_bit w c) b) 1 ≡ (eqb (bit_at w b) 1 || t)
   by true e =
-      let one : bit_at (2 ^ c) b ≡ 1 = ap (bit_at (2 ^ c)) (sym (eqb-true c b e)) ∙ bit_at-pow_same c in
-      let is : bit_at (with_bit w c) b ≡ 1 = omega (arith, bit_at_or w (2 ^ c) b, one, bit_at-lt w b) in
+      let one : bit_at (2 ^ c) b ≡ 1 =
+      ap (bit_at (2 ^ c)) (sym (eqb-true c b e)) ∙ bit_at-pow_same c in
+      let is : bit_at (with_bit w c) b ≡ 1 =
+      omega (arith, bit_at_or w (2 ^ c) b, one, bit_at-lt w b) in
       ap (λ n. eqb n 1) is ∙ sym (or_true (eqb (bit_at w b) 1))
   by false e =
       let none : bit_at (2 ^ c) b ≡ 0 = bit_at-pow_other c b (λ q. eqb-false c b e (sym q)) in
@@ -71,21 +91,29 @@ bit-with_bit w c b = by (eqb c b) refl where
       ap (λ n. eqb n 1) is ∙ sym (or_false (eqb (bit_at w b) 1))
 
 bits-from : (vs : List Variant) (i b w : ℕ)
-    → eqb (bit_at (fold (λ word v. with_bit word v.bit) w (filter (λ v. eqb v.name i) vs)) b) 1 ≡ (eqb (bit_at w b) 1 || list_any (λ v. eqb v.name i && eqb v.bit b) vs)
+    → eqb (bit_at (fold (λ word v. with_bit word v.bit) w (filter (λ v. eqb v.name i) vs)) b) 1
+    ≡ (eqb (bit_at w b) 1 || list_any (λ v. eqb v.name i && eqb v.bit b) vs)
 bits-from [] i b w = sym (or_false (eqb (bit_at w b) 1))
 bits-from (v ∷ vs) i b w = by (eqb v.name i) (λ w. bits-from vs i b w) where
   by : (t : Bool)
-      → ((w : ℕ) → eqb (bit_at (fold (λ word v. with_bit word v.bit) w (filter (λ v. eqb v.name i) vs)) b) 1 ≡ (eqb (bit_at w b) 1 || list_any (λ v. eqb v.name i && eqb v.bit b) vs))
-      → eqb (bit_at (fold (λ word v. with_bit word v.bit) w (cond t (v ∷ filter (λ v. eqb v.name i) vs) (filter (λ v. eqb v.name i) vs))) b) 1
+      → ((w : ℕ)
+      → eqb (bit_at (fold (λ word v. with_bit word v.bit) w (filter (λ v. eqb v.name i) vs)) b) 1
+      ≡ (eqb (bit_at w b) 1 || list_any (λ v. eqb v.name i && eqb v.bit b) vs))
+      → eqb (bit_at (fold (λ word v. with_bit word v.bit) w
+      (cond t (v ∷ filter (λ v. eqb v.name i) vs) (filter (λ v. eqb v.name i) vs))) b) 1
       ≡ (eqb (bit_at w b) 1 || (t && eqb v.bit b || list_any (λ v. eqb v.name i && eqb v.bit b) vs))
   by true later =
-      later (with_bit w v.bit) ∙ ap (λ t. t || list_any (λ v. eqb v.name i && eqb v.bit b) vs) (bit-with_bit w v.bit b)
+      later (with_bit w v.bit)
+      ∙ ap (λ t. t || list_any (λ v. eqb v.name i && eqb v.bit b) vs) (bit-with_bit w v.bit b)
       ∙ or_assoc (eqb (bit_at w b) 1) (eqb v.bit b) (list_any (λ v. eqb v.name i && eqb v.bit b) vs)
   by false later = later w
 
 -- a bit of a word is set where one of these is that variant
-pub bit_at-word_of : (vs : List Variant) (i b : ℕ) → eqb (bit_at (word_of vs i) b) 1 ≡ list_any (λ v. eqb v.name i && eqb v.bit b) vs
-bit_at-word_of vs i b = bits-from vs i b 0 ∙ ap (λ n. eqb n 1 || list_any (λ v. eqb v.name i && eqb v.bit b) vs) (bit_at-zero b)
+pub bit_at-word_of : (vs : List Variant) (i b : ℕ)
+    → eqb (bit_at (word_of vs i) b) 1 ≡ list_any (λ v. eqb v.name i && eqb v.bit b) vs
+bit_at-word_of vs i b =
+    bits-from vs i b 0
+    ∙ ap (λ n. eqb n 1 || list_any (λ v. eqb v.name i && eqb v.bit b) vs) (bit_at-zero b)
 
 words-from : (n a : ℕ) → map (word_of []) (range_with_len a n) ≡ replicate n 0
 words-from zero a = refl

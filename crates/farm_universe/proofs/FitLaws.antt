@@ -30,53 +30,70 @@ lt-less Greater e = absurd cc
 -- neither below nor the same: above
 above : (v w : Package) → is_below v w ≡ false → is_same v w ≡ false → is_below w v ≡ true
 above v w not_below not_same = by (text_cmp v.version w.version) refl not_below not_same where
-  by : (o : Ordering) → text_cmp v.version w.version ≡ o → is_lt o ≡ false → is_eq o ≡ false → is_below w v ≡ true
+  by : (o : Ordering) → text_cmp v.version w.version ≡ o → is_lt o ≡ false → is_eq o ≡ false
+      → is_below w v ≡ true
   by Less is a b = absurd cc
   by Equal is a b = absurd cc
   by Greater is a b = rw (text_cmp_total.antisymm w.version v.version, is) refl
 
 below_trans : (v w x : Package) → is_below v w ≡ true → is_below w x ≡ true → is_below v x ≡ true
-below_trans v w x vw wx = rw (text_cmp_total.trans v.version w.version x.version (lt-less _ vw) (lt-less _ wx)) refl
+below_trans v w x vw wx =
+    rw (text_cmp_total.trans v.version w.version x.version (lt-less _ vw) (lt-less _ wx)) refl
 
-all_below : (v w : Package) (xs : List Package) → is_below v w ≡ true → list_all (is_below w) xs ≡ true → list_all (is_below v) xs ≡ true
+all_below : (v w : Package) (xs : List Package) → is_below v w ≡ true
+    → list_all (is_below w) xs ≡ true → list_all (is_below v) xs ≡ true
 all_below v w [] vw all = refl
 all_below v w (x ∷ xs) vw all =
     let p = and_parts (is_below w x) (list_all (is_below w) xs) all in
     rw (below_trans v w x vw p.0) (all_below v w xs vw p.1)
 
-all-in_order : (p : Package → Bool) (v : Package) (xs : List Package) → p v ≡ true → list_all p xs ≡ true → list_all p (in_order is_below v xs) ≡ true
+all-in_order : (p : Package → Bool) (v : Package) (xs : List Package) → p v ≡ true
+    → list_all p xs ≡ true → list_all p (in_order is_below v xs) ≡ true
 all-in_order p v [] is all = rw is refl
-all-in_order p v (x ∷ xs) is all = let parts = and_parts (p x) (list_all p xs) all in by (is_below v x) parts (all-in_order p v xs is parts.1) where
-  by : (b : Bool) → (p x ≡ true) × (list_all p xs ≡ true) → list_all p (in_order is_below v xs) ≡ true
-      → list_all p (if b then v ∷ x ∷ xs else x ∷ in_order is_below v xs) ≡ true
-  by true parts later = rw (is, parts.0) parts.1
-  by false parts later = rw parts.0 later
+all-in_order p v (x ∷ xs) is all =
+    let parts = and_parts (p x) (list_all p xs) all in
+    by (is_below v x) parts (all-in_order p v xs is parts.1)
+  where
+    by : (b : Bool) → (p x ≡ true) × (list_all p xs ≡ true)
+        → list_all p (in_order is_below v xs) ≡ true
+        → list_all p (if b then v ∷ x ∷ xs else x ∷ in_order is_below v xs) ≡ true
+    by true parts later = rw (is, parts.0) parts.1
+    by false parts later = rw parts.0 later
 
-Rises-in_order : (v : Package) (xs : List Package) → Rises xs → list_any (is_same v) xs ≡ false → Rises (in_order is_below v xs)
+Rises-in_order : (v : Package) (xs : List Package) → Rises xs → list_any (is_same v) xs ≡ false
+    → Rises (in_order is_below v xs)
 Rises-in_order v [] rises none = (refl, tt)
 Rises-in_order v (x ∷ xs) rises none =
     let parts = or_parts (is_same v x) (list_any (is_same v) xs) none in
     by (is_below v x) refl parts.0 (Rises-in_order v xs rises.1 parts.1)
   where
-    by : (b : Bool) → is_below v x ≡ b → is_same v x ≡ false → Rises (in_order is_below v xs) → Rises (if b then v ∷ x ∷ xs else x ∷ in_order is_below v xs)
+    by : (b : Bool) → is_below v x ≡ b → is_same v x ≡ false → Rises (in_order is_below v xs)
+        → Rises (if b then v ∷ x ∷ xs else x ∷ in_order is_below v xs)
     by true e other later = ((rw e (all_below v x xs e rises.0)), rises)
     by false e other later = (all-in_order (is_below x) v xs (above v x e other) rises.0, later)
 
-length-in_order : (v : Package) (xs : List Package) → length (in_order is_below v xs) ≡ suc (length xs)
+length-in_order : (v : Package) (xs : List Package)
+    → length (in_order is_below v xs) ≡ suc (length xs)
 length-in_order v [] = refl
 length-in_order v (x ∷ xs) = by (is_below v x) (length-in_order v xs) where
-  by : (b : Bool) → length (in_order is_below v xs) ≡ suc (length xs) → length (if b then v ∷ x ∷ xs else x ∷ in_order is_below v xs) ≡ suc (suc (length xs))
+  by : (b : Bool) → length (in_order is_below v xs) ≡ suc (length xs)
+      → length (if b then v ∷ x ∷ xs else x ∷ in_order is_below v xs) ≡ suc (suc (length xs))
   by true later = refl
   by false later = ap suc later
 
-All-in_order : (P : Package → Type 0) (v : Package) (xs : List Package) → P v → All P xs → All P (in_order is_below v xs)
+All-in_order : (P : Package → Type 0) (v : Package) (xs : List Package) → P v → All P xs
+    → All P (in_order is_below v xs)
 All-in_order P v [] is all = All-cons P v [] is all
-All-in_order P v (x ∷ xs) is all = by (is_below v x) (All-in_order P v xs is (All-tail P x xs all)) where
-  by : (b : Bool) → All P (in_order is_below v xs) → All P (if b then v ∷ x ∷ xs else x ∷ in_order is_below v xs)
-  by true later = All-cons P v (x ∷ xs) is all
-  by false later = All-cons P x (in_order is_below v xs) (All-head P x xs all) later
+All-in_order P v (x ∷ xs) is all =
+    by (is_below v x) (All-in_order P v xs is (All-tail P x xs all))
+  where
+    by : (b : Bool) → All P (in_order is_below v xs)
+        → All P (if b then v ∷ x ∷ xs else x ∷ in_order is_below v xs)
+    by true later = All-cons P v (x ∷ xs) is all
+    by false later = All-cons P x (in_order is_below v xs) (All-head P x xs all) later
 
-IsOrderly-in_order : (v : Package) (xs : List Package) → IsOrderly xs → list_any (is_same v) xs ≡ false → length xs < MOST_VARIANTS → v.size ≤ MOST_SIZE
+IsOrderly-in_order : (v : Package) (xs : List Package) → IsOrderly xs
+    → list_any (is_same v) xs ≡ false → length xs < MOST_VARIANTS → v.size ≤ MOST_SIZE
     → IsOrderly (in_order is_below v xs)
 IsOrderly-in_order v xs is none room small = record {
   rises = Rises-in_order v xs is.rises none;
@@ -85,7 +102,11 @@ IsOrderly-in_order v xs is none room small = record {
 }
 
 IsOrderly-one : (v : Package) → v.size ≤ MOST_SIZE → IsOrderly (v ∷ [])
-IsOrderly-one v small = record { rises = (refl, tt); few = omega arith; small = All-cons (λ w. w.size ≤ MOST_SIZE) v [] small (All-nil (λ w. w.size ≤ MOST_SIZE)) }
+IsOrderly-one v small = record {
+  rises = (refl, tt);
+  few = omega arith;
+  small = All-cons (λ w. w.size ≤ MOST_SIZE) v [] small (All-nil (λ w. w.size ≤ MOST_SIZE));
+}
 
 -- ---- names stay different
 
@@ -93,17 +114,23 @@ flip : (x y : List ℕ) → bytes_eq x y ≡ false → bytes_eq y x ≡ false
 flip x y none = by (bytes_eq y x) refl where
   by : (b : Bool) → bytes_eq y x ≡ b → b ≡ false
   by false e = refl
-  by true e = absurd (true≢false (sym (subst (λ z. bytes_eq x z ≡ true) (sym (bytes-same y x e)) (bytes-self x)) ∙ none))
+  by true e =
+      absurd (true≢false
+      (sym (subst (λ z. bytes_eq x z ≡ true) (sym (bytes-same y x e)) (bytes-self x)) ∙ none))
 
-AllDistinct-push : (ks : List (List ℕ)) (k : List ℕ) → list_any (bytes_eq k) ks ≡ false → AllDistinct bytes_eq ks → AllDistinct bytes_eq (ks ++ k ∷ [])
+AllDistinct-push : (ks : List (List ℕ)) (k : List ℕ) → list_any (bytes_eq k) ks ≡ false
+    → AllDistinct bytes_eq ks → AllDistinct bytes_eq (ks ++ k ∷ [])
 AllDistinct-push [] k none d = (refl, tt)
 AllDistinct-push (x ∷ xs) k none d =
-    let p = or_parts (bytes_eq k x) (list_any (bytes_eq k) xs) none in
-    (rw (list_any-append (bytes_eq x) xs (k ∷ []), d.0, flip k x p.0) refl, AllDistinct-push xs k p.1 d.1)
+    let p = or_parts (bytes_eq k x) (list_any (bytes_eq k) xs) none in (
+      rw (list_any-append (bytes_eq x) xs (k ∷ []), d.0, flip k x p.0) refl,
+      AllDistinct-push xs k p.1 d.1,
+    )
 
 -- ---- a table with one more package
 
-no_code : (a b c : Bool) (x y z : ℕ) → first_code ((a, x) ∷ (b, y) ∷ (c, z) ∷ []) ≡ None → (a ≡ false) × (b ≡ false) × (c ≡ false)
+no_code : (a b c : Bool) (x y z : ℕ) → first_code ((a, x) ∷ (b, y) ∷ (c, z) ∷ []) ≡ None
+    → (a ≡ false) × (b ≡ false) × (c ≡ false)
 no_code true b c x y z e = absurd cc
 no_code false true c x y z e = absurd cc
 no_code false false true x y z e = absurd cc
@@ -111,20 +138,28 @@ no_code false false false x y z e = (refl, refl, refl)
 
 -- what is known where no rule holds
 rules_fail : (table : Table) (at : Option ℕ) (p : Listed) → code_at table at p ≡ None
-    → (list_any (is_same p.binary) (given_at table at) ≡ false) × (length (given_at table at) < MOST_VARIANTS)
+    → (list_any (is_same p.binary) (given_at table at) ≡ false)
+    × (length (given_at table at) < MOST_VARIANTS)
     × (length (put_at table at p).names ≤ MOST_NAMES) × ((put_at table at p).entries ≤ MOST_ENTRIES)
 unfolding code_at
 rules_fail table at p none =
-    let parts = no_code (list_any (is_same p.binary) (given_at table at)) (nat_le MOST_VARIANTS (length (given_at table at))) (is_over (put_at table at p)) _ _ _ none in
-    let over = or_parts (nat_lt MOST_NAMES (length (put_at table at p).names)) (nat_lt MOST_ENTRIES (put_at table at p).entries) parts.2 in
+    let parts =
+    no_code (list_any (is_same p.binary) (given_at table at))
+    (nat_le MOST_VARIANTS (length (given_at table at)))
+    (is_over (put_at table at p)) _ _ _ none in
+    let over =
+    or_parts (nat_lt MOST_NAMES (length (put_at table at p).names))
+    (nat_lt MOST_ENTRIES (put_at table at p).entries) parts.2 in
     (parts.0, leb-false _ _ parts.1, ltb-false _ _ over.0, ltb-false _ _ over.1)
 
 -- there is room for its entries
-pub room : (table : Table) (at : Option ℕ) (p : Listed) → code_at table at p ≡ None → table.entries + entry_count p.binary ≤ MOST_ENTRIES
+pub room : (table : Table) (at : Option ℕ) (p : Listed) → code_at table at p ≡ None
+    → table.entries + entry_count p.binary ≤ MOST_ENTRIES
 room table None p none = (rules_fail table None p none).3
 room table (Some i) p none = (rules_fail table (Some i) p none).3
 
-IsFit-put_at : (table : Table) (at : Option ℕ) (p : Listed) → at ≡ place_in bytes_eq table.names p.name → IsWithin table at → IsFit table
+IsFit-put_at : (table : Table) (at : Option ℕ) (p : Listed)
+    → at ≡ place_in bytes_eq table.names p.name → IsWithin table at → IsFit table
     → code_at table at p ≡ None → p.binary.size ≤ MOST_SIZE → IsFit (put_at table at p)
 IsFit-put_at table None p is within fit none small =
     let known = rules_fail table None p none in
@@ -132,10 +167,16 @@ IsFit-put_at table None p is within fit none small =
       paired = rw (length-append table.names, length-append table.packages, fit.paired) refl;
       few_names = known.2;
       few_entries = known.3;
-      distinct = AllDistinct-push table.names p.name (not_there (list_any (bytes_eq p.name) table.names) refl is) fit.distinct;
-      orderly = All-push IsOrderly table.packages (p.binary ∷ []) fit.orderly (IsOrderly-one p.binary small);
+      distinct =
+          AllDistinct-push table.names p.name
+          (not_there (list_any (bytes_eq p.name) table.names) refl is) fit.distinct;
+      orderly =
+          All-push IsOrderly table.packages (p.binary ∷ []) fit.orderly
+          (IsOrderly-one p.binary small);
     } where
-      not_there : (b : Bool) → list_any (bytes_eq p.name) table.names ≡ b → None ≡ place_in bytes_eq table.names p.name → list_any (bytes_eq p.name) table.names ≡ false
+      not_there : (b : Bool) → list_any (bytes_eq p.name) table.names ≡ b
+          → None ≡ place_in bytes_eq table.names p.name
+          → list_any (bytes_eq p.name) table.names ≡ false
       not_there false e h = e
       not_there true e h = absurd (let k = rw e at h in cc)
 IsFit-put_at table (Some i) p is within fit none small =
@@ -145,25 +186,36 @@ IsFit-put_at table (Some i) p is within fit none small =
       few_names = known.2;
       few_entries = known.3;
       distinct = fit.distinct;
-      orderly = All-set IsOrderly table.packages i (in_order is_below p.binary (get_or table.packages i []))
-          (IsOrderly-in_order p.binary (get_or table.packages i []) (All-get_or IsOrderly table.packages i [] within fit.orderly) known.0 known.1 small) fit.orderly;
+      orderly =
+          All-set IsOrderly table.packages i
+          (in_order is_below p.binary (get_or table.packages i []))
+          (IsOrderly-in_order p.binary (get_or table.packages i [])
+          (All-get_or IsOrderly table.packages i [] within fit.orderly)
+          known.0 known.1 small) fit.orderly;
     }
 
-position_or_len-within : {X : Type 0} (p : X → Bool) (xs : List X) → list_any p xs ≡ true → position_or_len p xs < length xs
+position_or_len-within : {X : Type 0} (p : X → Bool) (xs : List X) → list_any p xs ≡ true
+    → position_or_len p xs < length xs
 position_or_len-within p [] there = absurd cc
 position_or_len-within p (x ∷ xs) there =
-    let is : position p (x ∷ xs) ≡ Some (position_or_len p (x ∷ xs)) = position-any p (x ∷ xs) ∙ ap (λ b. if b then Some (position_or_len p (x ∷ xs)) else None) there in
+    let is : position p (x ∷ xs) ≡ Some (position_or_len p (x ∷ xs)) =
+    position-any p (x ∷ xs)
+    ∙ ap (λ b. if b then Some (position_or_len p (x ∷ xs)) else None) there in
     (position-Some p (x ∷ xs) (position_or_len p (x ∷ xs)) x is).0
 
 -- the place of a name is a number of the table
-pub within-place_in : (table : Table) (name : List ℕ) → IsFit table → IsWithin table (place_in bytes_eq table.names name)
+pub within-place_in : (table : Table) (name : List ℕ) → IsFit table
+    → IsWithin table (place_in bytes_eq table.names name)
 within-place_in table name fit = by (list_any (bytes_eq name) table.names) refl where
-  by : (b : Bool) → list_any (bytes_eq name) table.names ≡ b → IsWithin table (if b then Some (position_or_len (bytes_eq name) table.names) else None)
+  by : (b : Bool) → list_any (bytes_eq name) table.names ≡ b
+      → IsWithin table (if b then Some (position_or_len (bytes_eq name) table.names) else None)
   by true e = omega (arith, position_or_len-within (bytes_eq name) table.names e, fit.paired)
   by false e = tt
 
 -- a package that no rule refuses keeps it
-pub IsFit-put : (table : Table) (at : Option ℕ) (p : Listed) → at ≡ place_in bytes_eq table.names p.name → IsFit table → code_at table at p ≡ None
+pub IsFit-put : (table : Table) (at : Option ℕ) (p : Listed)
+    → at ≡ place_in bytes_eq table.names p.name → IsFit table → code_at table at p ≡ None
     → p.binary.size ≤ MOST_SIZE → IsFit (put_at table at p)
 IsFit-put table at p is fit none small =
-    IsFit-put_at table at p is (subst (IsWithin table) (sym is) (within-place_in table p.name fit)) fit none small
+    IsFit-put_at table at p is
+    (subst (IsWithin table) (sym is) (within-place_in table p.name fit)) fit none small

@@ -5,26 +5,38 @@ use Rattle.deb_text.proofs.StepLaws.{steps-judged, goods-push}
 use Rattle.deb_stanza.specs.Stanza.{Paragraph}
 use Rattle.farm_universe.specs.Told.{told, fault_told, paragraphs_judged}
 
-told-answer : {X : Type 0} (file : ℕ) (p : Paragraph) (code : Option ℕ) (x : X) → told file p (answer code x) ≡ answer (fault_told file p code) x
+told-answer : {X : Type 0} (file : ℕ) (p : Paragraph) (code : Option ℕ) (x : X)
+    → told file p (answer code x) ≡ answer (fault_told file p code) x
 told-answer file p None x = refl
 told-answer file p (Some code) x = refl
 
 -- steps that keep the meaning of the paragraphs so far, their faults told at the paragraph
-pub steps-told : {S : Type 0} (file : ℕ) (step : S → Paragraph → Result S ℕ) (judge : List Paragraph → Paragraph → Option ℕ) (meaning : List Paragraph → S)
-    → ((before : List Paragraph) (p : Paragraph) → step (meaning before) p ≡ answer (judge before p) (meaning (before ++ p ∷ [])))
-    → (ps : List Paragraph) → steps (λ s p. told file p (step s p)) (meaning []) ps ≡ paragraphs_judged file judge meaning ps
+pub steps-told : {S : Type 0} (file : ℕ) (step : S → Paragraph → Result S ℕ)
+    (judge : List Paragraph → Paragraph → Option ℕ) (meaning : List Paragraph → S)
+    → ((before : List Paragraph) (p : Paragraph)
+    → step (meaning before) p ≡ answer (judge before p) (meaning (before ++ p ∷ [])))
+    → (ps : List Paragraph)
+    → steps (λ s p. told file p (step s p)) (meaning []) ps
+    ≡ paragraphs_judged file judge meaning ps
 unfolding paragraphs_judged
 steps-told file step judge meaning keeps ps =
-    steps-judged (λ s p. told file p (step s p)) (λ before p. fault_told file p (judge before p)) meaning
-    (λ before p. ap (told file p) (keeps before p) ∙ told-answer file p (judge before p) (meaning (before ++ p ∷ []))) ps
+    steps-judged (λ s p. told file p (step s p))
+    (λ before p. fault_told file p (judge before p)) meaning
+    (λ before p. ap (told file p) (keeps before p)
+    ∙ told-answer file p (judge before p) (meaning (before ++ p ∷ []))) ps
 
-module _ {P X S F : Type 0} (read : P → Result X F) (step : S → X → Result S F) (judge : List X → X → Option F) (meaning : List X → S) where
+module _ {P X S F : Type 0} (read : P → Result X F) (step : S → X → Result S F)
+    (judge : List X → X → Option F) (meaning : List X → S) where
   -- a step that goes on by an item's value, where that one keeps the meaning of the values
   pub read_step-keeps : (before : List P) (p : P)
-      → ((x : X) → read p ≡ Ok x → step (meaning (goods read before)) x ≡ answer (judge (goods read before) x) (meaning (goods read before ++ x ∷ [])))
-      → read_step read step (meaning (goods read before)) p ≡ answer (item_fault read judge before p) (meaning (goods read (before ++ p ∷ [])))
+      → ((x : X) → read p ≡ Ok x
+      → step (meaning (goods read before)) x
+      ≡ answer (judge (goods read before) x) (meaning (goods read before ++ x ∷ [])))
+      → read_step read step (meaning (goods read before)) p
+      ≡ answer (item_fault read judge before p) (meaning (goods read (before ++ p ∷ [])))
   read_step-keeps before p keeps = by (read p) refl where
     by : (r : Result X F) → read p ≡ r
-        → (r >>= step (meaning (goods read before))) ≡ answer (own_or r (judge (goods read before))) (meaning (goods read (before ++ p ∷ [])))
+        → (r >>= step (meaning (goods read before)))
+        ≡ answer (own_or r (judge (goods read before))) (meaning (goods read (before ++ p ∷ [])))
     by (Err e) is = refl
     by (Ok x) is = rw (goods-push read before p x is) (keeps x is)

@@ -17,7 +17,9 @@ use Rattle.farm_universe.specs.Told.{told}
 use Rattle.farm_universe.specs.Universe.{Base}
 
 unfoldable pub add_variant : List ℕ → Variant → Result (List ℕ) ℕ
-add_variant words v = if has_bit words v then Err TWICE else Ok (set words v.name (with_bit (get_or words v.name 0) v.bit))
+add_variant words v =
+    if has_bit words v then Err TWICE
+    else Ok (set words v.name (with_bit (get_or words v.name 0) v.bit))
 
 unfoldable pub add_item : Table → List ℕ → Entry → Result (List ℕ) ℕ
 add_item table words entry = read_step (variant_at table) add_variant words entry
@@ -30,4 +32,6 @@ tell_base bases p = told 3 p (add_base bases p)
 
 -- the words of all items of a list
 unfoldable pub words_in : Table → List Entry → Result (List ℕ) ℕ
-words_in table entries = judged (item_fault (variant_at table) twice) (λ items. words_of (length table.names) (goods (variant_at table) items)) entries
+words_in table entries =
+    judged (item_fault (variant_at table) twice)
+    (λ items. words_of (length table.names) (goods (variant_at table) items)) entries

@@ -1,4 +1,5 @@
--- The farm text: its first paragraph describes the archive, each later one a base chroot (the project's own format).
+-- The farm text: its first paragraph describes the archive, each later one a base chroot (the
+-- project's own format).
 --
 --   head_at table p       what the first paragraph says, or its first fault
 --   chroot_at before p    what a later paragraph says, behind the base chroots before it
@@ -61,7 +62,8 @@ chroot_named p name = do
 
 -- a chroot, if there is room for one more
 abbrev pub with_room : List Base → Base → Result Base ℕ
-with_room before base = refused_if (nat_le MOST_BASES (length before)) OVER_LIMIT >>= λ free. Ok base
+with_room before base =
+    refused_if (nat_le MOST_BASES (length before)) OVER_LIMIT >>= λ free. Ok base
 
 abbrev pub chroot_behind : List Base → Paragraph → List ℕ → Result Base ℕ
 chroot_behind before p name = do
@@ -82,7 +84,8 @@ code_in (Err code) = Some code
 
 -- the base chroots of these paragraphs, or the first fault
 unfoldable pub chroots_of : List Paragraph → Result (List Base) Fault
-chroots_of ps = paragraphs_judged 3 (λ before p. code_in (chroot_at (bases_of before) p)) bases_of ps
+chroots_of ps =
+    paragraphs_judged 3 (λ before p. code_in (chroot_at (bases_of before) p)) bases_of ps
 
 -- ---- the whole text
 
@@ -92,9 +95,11 @@ pub record Farm : Type 0 where
   pub bases : List Base
 
 abbrev pub farm_with : Head → List Base → Farm
-farm_with head bases = record { architectures = head.architectures; initial = head.initial; bases = bases }
+farm_with head bases =
+    record { architectures = head.architectures; initial = head.initial; bases = bases }
 
 -- a farm text without a paragraph is refused at line 0
 abbrev pub farm_of : Table → List Paragraph → Result Farm Fault
 farm_of table [] = Err (fault_at 3 0 ABSENT)
-farm_of table (p ∷ ps) = told 3 p (head_at table p) >>= λ head. chroots_of ps >>= λ bases. Ok (farm_with head bases)
+farm_of table (p ∷ ps) =
+    told 3 p (head_at table p) >>= λ head. chroots_of ps >>= λ bases. Ok (farm_with head bases)

@@ -26,10 +26,15 @@ pub record IsPlace (table : Table) (v : Variant) : Type 0 where
 -- a word for each name of the table, with bits of its variants alone
 pub record AreWords (table : Table) (words : List ℕ) : Type 0 where
   pub paired : length words ≡ length table.names
-  pub known : (v : Variant) → has_bit words v ≡ true → v.bit < length (get_or table.packages v.name [])
+  pub known : (v : Variant) → has_bit words v ≡ true
+      → v.bit < length (get_or table.packages v.name [])
 
 abbrev pub farm_view : Farm → text.Farm
-farm_view farm = record { architectures = farm.architectures; initial = farm.initial.items; bases = farm.bases.items }
+farm_view farm = record {
+  architectures = farm.architectures;
+  initial = farm.initial.items;
+  bases = farm.bases.items;
+}
 
 abbrev pub head_view : Head → text.Head
 head_view head = record { architectures = head.architectures; initial = head.initial.items }

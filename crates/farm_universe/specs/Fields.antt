@@ -1,4 +1,5 @@
--- The fields of a paragraph, as the texts of a farm use them. What is read is a value, or the code of a fault.
+-- The fields of a paragraph, as the texts of a farm use them. What is read is a value, or the code
+-- of a fault.
 --
 --   needed_at p name             the value of a field that has to stand
 --   name_at, version_text_at     a name; a version, as it is written

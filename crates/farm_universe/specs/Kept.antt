@@ -11,7 +11,8 @@ use Rattle.farm_universe.specs.Universe.{Universe}
 pub record IsKept (u : Universe) : Type 0 where
   -- what the laws of farms use;
   pub sound : IsUniverse u
-  -- the variants of a name stand in version order, with no version twice, and base chroots are settled;
+  -- the variants of a name stand in version order, with no version twice, and base chroots are
+  -- settled;
   pub in_order : IsInOrder u
   -- no name stands twice, and there are not too many;
   pub distinct : AllDistinct bytes_eq u.names

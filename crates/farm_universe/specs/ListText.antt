@@ -1,9 +1,11 @@
--- A list of variants, as `name (= version), name (= version)`: it is written as a Provides field is (Debian Policy 7.5).
+-- A list of variants, as `name (= version), name (= version)`: it is written as a Provides field is
+-- (Debian Policy 7.5).
 --
 --   find_variant table name version   the variant of a name with this version
 --   variant_at table entry            the variant that an item of a list names
 --   list_of made table text           what is made of the variants of a list, or the first fault
---   words_of n vs                     for each of n names a word, with a bit for each variant of the list
+--   words_of n vs                     for each of n names a word, with a bit for each variant of
+--                                     the list
 use Rattle.std.specs.Prelude.{ℕ, ◌^◌, Bool, ◌==◌, List, [], ◌∷◌, map, filter, fold, get_or, position, ok_or, if◌then◌else◌, Option, Some, None, Result, Err, bit_or}
 use Rattle.std.specs.List.{range_with_len}
 use Rattle.std.specs.Option.{option_map}
@@ -28,7 +30,8 @@ has_version version v = is_eq (text_cmp version v.version)
 -- the variant of the name with this number
 abbrev pub variant_of : Table → List ℕ → Option ℕ → Option Variant
 variant_of table version None = None
-variant_of table version (Some n) = option_map (variant n) (position (has_version version) (get_or table.packages n []))
+variant_of table version (Some n) =
+    option_map (variant n) (position (has_version version) (get_or table.packages n []))
 
 unfoldable pub find_variant : Table → List ℕ → List ℕ → Option Variant
 find_variant table name version = variant_of table version (place_in bytes_eq table.names name)
@@ -42,7 +45,8 @@ named_variant table None name (Some relation) = find_variant table name relation
 -- an item has one alternative, since no list of variants has a bar
 unfoldable pub variant_at : Table → Entry → Result Variant ℕ
 variant_at table [] = Err UNKNOWN_VARIANT
-variant_at table (a ∷ []) = ok_or (named_variant table a.qualifier a.name a.relation) UNKNOWN_VARIANT
+variant_at table (a ∷ []) =
+    ok_or (named_variant table a.qualifier a.name a.relation) UNKNOWN_VARIANT
 variant_at table (a ∷ b ∷ more) = Err UNKNOWN_VARIANT
 
 -- a variant that stands twice, however its version is written
@@ -51,7 +55,10 @@ twice before v = if contains before v then Some TWICE else None
 
 -- the faults of the field first, then item by item
 unfoldable pub list_of : {A : Type 0} → (List Variant → A) → Table → List ℕ → Result A ℕ
-list_of made table text = relations_at Provide text >>= judged (item_fault (variant_at table) twice) (λ items. made (goods (variant_at table) items))
+list_of made table text =
+    relations_at Provide text
+    >>= judged (item_fault (variant_at table) twice)
+    (λ items. made (goods (variant_at table) items))
 
 -- ---- words
 

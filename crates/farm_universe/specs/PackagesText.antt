@@ -1,4 +1,5 @@
--- The packages text: a paragraph for each version of a package (Debian Policy 5.3), and what all of them say.
+-- The packages text: a paragraph for each version of a package (Debian Policy 5.3), and what all of
+-- them say.
 --
 --   package_at p        what a paragraph says, or its first fault
 --   table_of ps         the names by number, and the packages of each by version
@@ -38,11 +39,23 @@ package_at p = do
   conflicts ← unread_at (value_of p (codes "Conflicts"))
   breaks ← unread_at (value_of p (codes "Breaks"))
   provides ← unread_at (value_of p (codes "Provides"))
-  Ok (record { name = name; binary = record { version = version; size = size; pre_depends = []; depends = depends; conflicts = []; breaks = []; provides = [] } })
+  Ok (record {
+    name = name;
+    binary = record {
+      version = version;
+      size = size;
+      pre_depends = [];
+      depends = depends;
+      conflicts = [];
+      breaks = [];
+      provides = [];
+    };
+  })
 
 -- ---- what all of them say
 
--- the names, and for each its packages from the lowest version up, their relations as they were read
+-- the names, and for each its packages from the lowest version up, their relations as they were
+-- read
 pub record Table : Type 0 where
   pub names : List (List ℕ)
   pub packages : List (List Package)
@@ -57,7 +70,9 @@ is_same v w = is_eq (text_cmp v.version w.version)
 
 -- the entries of the five relation fields
 abbrev pub entry_count : Package → ℕ
-entry_count v = length v.pre_depends + length v.depends + length v.conflicts + length v.breaks + length v.provides
+entry_count v =
+    length v.pre_depends + length v.depends + length v.conflicts + length v.breaks
+    + length v.provides
 
 -- the names, in the order in which they first appear
 abbrev pub names_of : List Listed → List (List ℕ)
@@ -65,13 +80,18 @@ names_of ps = distinct bytes_eq (map (λ p. p.name) ps)
 
 -- the packages of a name, in the order of their versions (Policy 5.6.12)
 abbrev pub packages_named : List Listed → List ℕ → List Package
-packages_named ps name = sorted is_below (map (λ p. p.binary) (filter (λ p. bytes_eq name p.name) ps))
+packages_named ps name =
+    sorted is_below (map (λ p. p.binary) (filter (λ p. bytes_eq name p.name) ps))
 
 abbrev pub entries_of : List Listed → ℕ
 entries_of ps = sum (map (λ p. entry_count p.binary) ps)
 
 abbrev pub table_of : List Listed → Table
-table_of ps = record { names = names_of ps; packages = map (packages_named ps) (names_of ps); entries = entries_of ps }
+table_of ps = record {
+  names = names_of ps;
+  packages = map (packages_named ps) (names_of ps);
+  entries = entries_of ps;
+}
 
 -- ---- what is wrong with a package behind those before it
 
@@ -86,11 +106,16 @@ is_over table = nat_lt MOST_NAMES (length table.names) || nat_lt MOST_ENTRIES ta
 -- the packages of its name before it, and the table with it
 abbrev pub rules_of : Package → List Package → Table → List (Bool × ℕ)
 rules_of v given table =
-    (list_any (is_same v) given, TWICE) ∷ (nat_le MOST_VARIANTS (length given), TOO_MANY_VARIANTS) ∷ (is_over table, OVER_LIMIT) ∷ []
+    (list_any (is_same v) given, TWICE)
+    ∷ (nat_le MOST_VARIANTS (length given), TOO_MANY_VARIANTS)
+    ∷ (is_over table, OVER_LIMIT) ∷ []
 
 abbrev pub package_fault : List Listed → Listed → Option ℕ
-package_fault before p = first_code (rules_of p.binary (packages_named before p.name) (table_of (before ++ p ∷ [])))
+package_fault before p =
+    first_code (rules_of p.binary (packages_named before p.name) (table_of (before ++ p ∷ [])))
 
 -- what the paragraphs of the packages text say, or the first fault
 unfoldable pub packages_of : List Paragraph → Result Table Fault
-packages_of ps = paragraphs_judged 1 (item_fault package_at package_fault) (λ qs. table_of (goods package_at qs)) ps
+packages_of ps =
+    paragraphs_judged 1 (item_fault package_at package_fault)
+    (λ qs. table_of (goods package_at qs)) ps

@@ -1,6 +1,8 @@
--- How the reader of the packages text goes on. Only the contracts of private functions cite this file.
+-- How the reader of the packages text goes on. Only the contracts of private functions cite this
+-- file.
 --
---   given_at, put_at      the packages of a name, and the table with one more, where the name's number is known
+--   given_at, put_at      the packages of a name, and the table with one more, where the name's
+--                         number is known
 --   add, add_paragraph    the table after a package, and after a paragraph
 use Rattle.std.specs.Prelude.{ℕ, ◌+◌, List, [], ◌∷◌, ◌++◌, Option, Some, None, Result, set, get_or}
 use Rattle.std.specs.Str.{bytes_eq}
@@ -34,7 +36,9 @@ unfoldable pub code_at : Table → Option ℕ → Listed → Option ℕ
 code_at table at p = first_code (rules_of p.binary (given_at table at) (put_at table at p))
 
 unfoldable pub add : Table → Listed → Result Table ℕ
-add table p = answer (code_at table (place_in bytes_eq table.names p.name) p) (put_at table (place_in bytes_eq table.names p.name) p)
+add table p =
+    answer (code_at table (place_in bytes_eq table.names p.name) p)
+    (put_at table (place_in bytes_eq table.names p.name) p)
 
 unfoldable pub add_paragraph : Table → Paragraph → Result Table ℕ
 add_paragraph table p = read_step package_at add table p

@@ -14,7 +14,11 @@ abbrev pub listed_view : Listed → text.Listed
 listed_view listed = record { name = listed.name.items; binary = listed.binary }
 
 abbrev pub table_view : Table → text.Table
-table_view table = record { names = lists table.names.keys; packages = lists table.packages.items; entries = table.entries }
+table_view table = record {
+  names = lists table.names.keys;
+  packages = lists table.packages.items;
+  entries = table.entries;
+}
 
 -- from a lower to a higher version, with none twice
 abbrev pub Rises : List Package → Type 0

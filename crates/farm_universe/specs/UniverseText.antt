@@ -1,5 +1,5 @@
--- The universe that three texts describe, or their first fault: packages before sources before the farm. Each text is
--- read as a whole, and then paragraph by paragraph.
+-- The universe that three texts describe, or their first fault: packages before sources before the
+-- farm. Each text is read as a whole, and then paragraph by paragraph.
 --
 --   universe_of packages sources farm
 use Rattle.std.specs.Prelude.{ℕ, List, [], ◌∷◌, map, Result, Ok, Err}

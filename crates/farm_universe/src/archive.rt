@@ -92,7 +92,8 @@ fn has_bit(words: &[u64], variant: Variant) -> bool
 fn set_bit(words: &mut Vec<u64>, variant: Variant)
     requires name { variant.name < length words.old.items }
     requires bit { variant.bit < 64 }
-    ensures { words.new.items ≡ set words.old.items variant.name (with_bit (get_or words.old.items variant.name 0) variant.bit) }
+    ensures { words.new.items ≡ set words.old.items variant.name
+        (with_bit (get_or words.old.items variant.name 0) variant.bit) }
 {
     words[variant.name as usize] |= 1 << variant.bit;
 }
@@ -102,7 +103,8 @@ fn set_bit(words: &mut Vec<u64>, variant: Variant)
 fn add_item(table: &Table, words: &mut Vec<u64>, entry: &Entry) -> Result<(), Refusal>
     requires fit { IsFit (table_view table.now) }
     requires words { length words.old.items ≡ length (table_view table.now).names }
-    ensures read { Gives refusal_of (λ _. words.new.items) result (add_item (table_view table.now) words.old.items entry.now) }
+    ensures read { Gives refusal_of (λ _. words.new.items) result
+        (add_item (table_view table.now) words.old.items entry.now) }
     ensures paired { length words.new.items ≡ length words.old.items }
 {
     let variant = read_variant(table, entry)?;
@@ -117,7 +119,8 @@ fn add_item(table: &Table, words: &mut Vec<u64>, entry: &Entry) -> Result<(), Re
 fn add_items(table: &Table, words: &mut Vec<u64>, entries: &[Entry]) -> Result<(), Refusal>
     requires fit { IsFit (table_view table.now) }
     requires words { words.old.items ≡ words_of (length (table_view table.now).names) [] }
-    ensures read { Gives refusal_of (λ _. words.new.items) result (words_in (table_view table.now) entries.now) }
+    ensures read { Gives refusal_of (λ _. words.new.items) result
+        (words_in (table_view table.now) entries.now) }
     ensures words { OnOk result (AreWords (table_view table.now) words.new.items) }
 {
     for entry in entries {
@@ -128,7 +131,8 @@ fn add_items(table: &Table, words: &mut Vec<u64>, entries: &[Entry]) -> Result<(
 
 /// A word without a bit for each name.
 fn empty_words(alloc: Global, table: &Table) -> Result<Vec<u64>, Refusal>
-    ensures empty { IfOk result (λ words. words.items ≡ words_of (length (table_view table.now).names) []) }
+    ensures empty { IfOk result
+        (λ words. words.items ≡ words_of (length (table_view table.now).names) []) }
     ensures memory { IfErr result (λ e. refusal_of e ≡ None) }
 {
     Ok(vec![in alloc; 0u64; table.names.len()]?)
@@ -138,7 +142,8 @@ fn empty_words(alloc: Global, table: &Table) -> Result<Vec<u64>, Refusal>
 #[tactic(auto, unfolding(crate::specs::ListText::list_of, crate::specs::FarmSteps::words_in))]
 fn read_words(alloc: Global, table: &Table, text: &[u8]) -> Result<Vec<u64>, Refusal>
     requires fit { IsFit (table_view table.now) }
-    ensures read { Gives refusal_of (λ words. words.items) result (list_of (words_of (length (table_view table.now).names)) (table_view table.now) text.now) }
+    ensures read { Gives refusal_of (λ words. words.items) result
+        (list_of (words_of (length (table_view table.now).names)) (table_view table.now) text.now) }
     ensures words { IfOk result (λ words. AreWords (table_view table.now) words.items) }
 {
     let list = Relations::parse(alloc, text, Kind::Provide)?;
@@ -150,7 +155,8 @@ fn read_words(alloc: Global, table: &Table, text: &[u8]) -> Result<Vec<u64>, Ref
 /// Reads the initial archive.
 pub fn read_archive(alloc: Global, table: &Table, value: Option<&[u8]>) -> Result<Vec<u64>, Refusal>
     requires fit { IsFit (table_view table.now) }
-    ensures read { Gives refusal_of (λ words. words.items) result (archive_at (table_view table.now) (option_map (λ v. v.now) value.entry)) }
+    ensures read { Gives refusal_of (λ words. words.items) result
+        (archive_at (table_view table.now) (option_map (λ v. v.now) value.entry)) }
     ensures words { IfOk result (λ words. AreWords (table_view table.now) words.items) }
 {
     match value {

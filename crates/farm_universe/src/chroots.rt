@@ -49,7 +49,8 @@ fn read_base(alloc: Global, bases: &[Base], paragraph: &Paragraph) -> Result<Bas
 #[tactic(auto, unfolding(crate::specs::FarmSteps::add_base))]
 fn add_base(alloc: Global, bases: &mut Vec<Base>, paragraph: &Paragraph) -> Result<(), Refusal>
     requires { AreBases bases.old.items }
-    ensures read { Gives refusal_of (λ _. bases.new.items) result (add_base bases.old.items paragraph.now) }
+    ensures read { Gives refusal_of (λ _. bases.new.items) result
+        (add_base bases.old.items paragraph.now) }
     ensures bases { OnOk result (AreBases bases.new.items) }
 {
     let base = read_base(alloc, bases, paragraph)?;
@@ -60,7 +61,8 @@ fn add_base(alloc: Global, bases: &mut Vec<Base>, paragraph: &Paragraph) -> Resu
 /// Goes on by a paragraph, and tells its fault at its line.
 fn tell_base(alloc: Global, bases: &mut Vec<Base>, paragraph: &Paragraph) -> Result<(), Fault>
     requires { AreBases bases.old.items }
-    ensures read { Gives fault_of (λ _. bases.new.items) result (tell_base bases.old.items paragraph.now) }
+    ensures read { Gives fault_of (λ _. bases.new.items) result
+        (tell_base bases.old.items paragraph.now) }
     ensures bases { OnOk result (AreBases bases.new.items) }
 {
     match add_base(alloc, bases, paragraph) {
@@ -71,7 +73,8 @@ fn tell_base(alloc: Global, bases: &mut Vec<Base>, paragraph: &Paragraph) -> Res
 
 /// Reads the paragraphs behind the first.
 pub fn read_chroots(alloc: Global, paragraphs: &Paragraphs) -> Result<Vec<Base>, Fault>
-    ensures read { Gives fault_of (λ bases. bases.items) result (chroots_of (drop 1 paragraphs.now)) }
+    ensures read { Gives fault_of (λ bases. bases.items) result
+        (chroots_of (drop 1 paragraphs.now)) }
     ensures bases { IfOk result (λ bases. AreBases bases.items) }
 {
     let mut bases = Vec::new(alloc);

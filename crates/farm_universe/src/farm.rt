@@ -40,7 +40,8 @@ pub struct Farm {
 #[tactic(auto, unfolding(crate::specs::FarmText::head_at))]
 fn read_head(alloc: Global, table: &Table, paragraph: &Paragraph) -> Result<Head, Refusal>
     requires { IsFit (table_view table.now) }
-    ensures read { Gives refusal_of head_view result (head_at (table_view table.now) paragraph.now) }
+    ensures read { Gives refusal_of head_view result
+        (head_at (table_view table.now) paragraph.now) }
     ensures words { IfOk result (λ head. AreWords (table_view table.now) head.initial.items) }
 {
     let architectures = ArchNames::parse(alloc, paragraph.needed(b"Architecture-Names")?)?;
@@ -54,7 +55,8 @@ fn read_head(alloc: Global, table: &Table, paragraph: &Paragraph) -> Result<Head
 /// Reads the first paragraph, and tells its fault at its line.
 fn tell_head(alloc: Global, table: &Table, paragraph: &Paragraph) -> Result<Head, Fault>
     requires { IsFit (table_view table.now) }
-    ensures read { Gives fault_of head_view result (told 3 paragraph.now (head_at (table_view table.now) paragraph.now)) }
+    ensures read { Gives fault_of head_view result
+        (told 3 paragraph.now (head_at (table_view table.now) paragraph.now)) }
     ensures words { IfOk result (λ head. AreWords (table_view table.now) head.initial.items) }
 {
     match read_head(alloc, table, paragraph) {

@@ -48,7 +48,8 @@ pub fn read_number_up_to(most: u64, text: &[u8]) -> Result<u64, Refusal>
 
 /// Reads Installed-Size, in KiB.
 pub fn read_size(value: Option<&[u8]>) -> Result<u64, Refusal>
-    ensures read { Gives refusal_of (λ n. n) result (size_at (option_map (λ v. v.now) value.entry)) }
+    ensures read { Gives refusal_of (λ n. n) result
+        (size_at (option_map (λ v. v.now) value.entry)) }
     ensures small { IfOk result (λ n. n ≤ MOST_SIZE) }
 {
     match value {
@@ -59,7 +60,8 @@ pub fn read_size(value: Option<&[u8]>) -> Result<u64, Refusal>
 
 /// Reads a relation field.
 pub fn read_relations(alloc: Global, kind: Kind, value: Option<&[u8]>) -> Result<Relations, Refusal>
-    ensures { Gives refusal_of (λ r. r) result (relations_in kind (option_map (λ v. v.now) value.entry)) }
+    ensures { Gives refusal_of (λ r. r) result
+        (relations_in kind (option_map (λ v. v.now) value.entry)) }
 {
     match value {
         Some(text) => Ok(Relations::parse(alloc, text, kind)?),

@@ -44,7 +44,8 @@ fn reduce_packages(
     packages: Vec<Package>,
     architectures: &ArchNames,
 ) -> Result<Vec<Package>, AllocError>
-    ensures { IfOk result (λ left. left.items ≡ map (reduced_package architectures.now) packages.items) }
+    ensures { IfOk result
+        (λ left. left.items ≡ map (reduced_package architectures.now) packages.items) }
 {
     let mut left = Vec::new(alloc);
     for binary in packages {
@@ -63,7 +64,8 @@ pub fn reduce_all(
     packages: Vec<Vec<Package>>,
     architectures: &ArchNames,
 ) -> Result<Vec<Vec<Package>>, AllocError>
-    ensures { IfOk result (λ left. lists left.items ≡ map (map (reduced_package architectures.now)) (lists packages.items)) }
+    ensures { IfOk result (λ left. lists left.items
+        ≡ map (map (reduced_package architectures.now)) (lists packages.items)) }
 {
     let mut left = Vec::new(alloc);
     for named in packages {

@@ -95,7 +95,9 @@ fn code_at(table: &Table, at: Option<usize>, listed: &Listed) -> Option<u16>
 fn put_there(table: &mut Table, at: usize, binary: Package) -> Result<(), Refusal>
     requires { at < length (table_view table.old).packages }
     ensures names { table.new.names ≡ table.old.names }
-    ensures packages { OnOk result (lists table.new.packages.items ≡ set (lists table.old.packages.items) at (in_order is_below binary (get_or (lists table.old.packages.items) at []))) }
+    ensures packages { OnOk result (lists table.new.packages.items
+        ≡ set (lists table.old.packages.items) at
+        (in_order is_below binary (get_or (lists table.old.packages.items) at []))) }
     ensures entries { table.new.entries ≡ table.old.entries }
     ensures memory { IfErr result (λ e. refusal_of e ≡ None) }
 {
@@ -130,7 +132,8 @@ fn put_at(
     requires at { at ≡ place_in bytes_eq (lists table.old.names.keys) listed.name.items }
     requires within { IsWithin (table_view table.old) at }
     requires fits { table.old.entries + entry_count listed.binary ≤ MOST_ENTRIES }
-    ensures put { OnOk result (table_view table.new ≡ put_at (table_view table.old) at (listed_view listed)) }
+    ensures put { OnOk result
+        (table_view table.new ≡ put_at (table_view table.old) at (listed_view listed)) }
     ensures memory { IfErr result (λ e. refusal_of e ≡ None) }
 {
     table.entries += listed.binary.entry_count();
@@ -145,7 +148,8 @@ fn put_at(
 fn add(alloc: Global, table: &mut Table, listed: Listed) -> Result<(), Refusal>
     requires fit { IsFit (table_view table.old) }
     requires small { listed.binary.size ≤ MOST_SIZE }
-    ensures read { Gives refusal_of (λ _. table_view table.new) result (add (table_view table.old) (listed_view listed)) }
+    ensures read { Gives refusal_of (λ _. table_view table.new) result
+        (add (table_view table.old) (listed_view listed)) }
     ensures fit { OnOk result (IsFit (table_view table.new)) }
 {
     let at = place_of(&table.names, &listed.name);
@@ -159,7 +163,8 @@ fn add(alloc: Global, table: &mut Table, listed: Listed) -> Result<(), Refusal>
 #[tactic(auto, unfolding(crate::specs::TableSteps::add_paragraph))]
 fn add_paragraph(alloc: Global, table: &mut Table, paragraph: &Paragraph) -> Result<(), Refusal>
     requires { IsFit (table_view table.old) }
-    ensures read { Gives refusal_of (λ _. table_view table.new) result (add_paragraph (table_view table.old) paragraph.now) }
+    ensures read { Gives refusal_of (λ _. table_view table.new) result
+        (add_paragraph (table_view table.old) paragraph.now) }
     ensures fit { OnOk result (IsFit (table_view table.new)) }
 {
     let listed = read_package(alloc, paragraph)?;
@@ -169,7 +174,8 @@ fn add_paragraph(alloc: Global, table: &mut Table, paragraph: &Paragraph) -> Res
 /// Goes on by a paragraph, and tells its fault at its line.
 fn tell_paragraph(alloc: Global, table: &mut Table, paragraph: &Paragraph) -> Result<(), Fault>
     requires { IsFit (table_view table.old) }
-    ensures read { Gives fault_of (λ _. table_view table.new) result (tell_paragraph (table_view table.old) paragraph.now) }
+    ensures read { Gives fault_of (λ _. table_view table.new) result
+        (tell_paragraph (table_view table.old) paragraph.now) }
     ensures fit { OnOk result (IsFit (table_view table.new)) }
 {
     match add_paragraph(alloc, table, paragraph) {

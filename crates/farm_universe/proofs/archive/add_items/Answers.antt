@@ -12,28 +12,42 @@ use Rattle.farm_universe.proofs.archive.add_items.Goals as goal
 
 pub loop-entry-init : goal.loop-entry-init
 loop-entry-init c = record {
-  so_far = rw (map-id, c.requires.words) (steps-words_in (table_view c.args.table.now) c.args.entries.now c.requires.fit);
-  paired = ap length c.requires.words ∙ length-words_of (length (table_view c.args.table.now).names) [];
+  so_far =
+      rw (map-id, c.requires.words)
+      (steps-words_in (table_view c.args.table.now) c.args.entries.now c.requires.fit);
+  paired =
+      ap length c.requires.words ∙ length-words_of (length (table_view c.args.table.now).names) [];
 }
 
 pub returns-in_err-add_item-clause-read : goal.returns-in_err-add_item-clause-read
 returns-in_err-add_item-clause-read c =
     let p = err_from_is_err_and c.from_residual.result c.from_residual.ensures.1 in
-    rw (p.1, p.2) (owned-stops (add_item (table_view c.args.table.now)) (λ (e : Entry). e) refusal_of c.in_err-add_item.field-0.0 c.args.entries.now c.loop-entry.entry-index _ _ _
-    c.loop-entry-test.true c.entry-item.is c.in_err-add_item.ensures.read c.loop-entry.invariant.so_far)
+    rw (p.1, p.2)
+    (owned-stops (add_item (table_view c.args.table.now)) (λ (e : Entry). e)
+    refusal_of c.in_err-add_item.field-0.0 c.args.entries.now c.loop-entry.entry-index _ _ _
+    c.loop-entry-test.true c.entry-item.is c.in_err-add_item.ensures.read
+    c.loop-entry.invariant.so_far)
 
 pub loop-entry-preserved : goal.loop-entry-preserved
 loop-entry-preserved c = record {
-  so_far = owned-goes (add_item (table_view c.args.table.now)) (λ (e : Entry). e) c.args.entries.now c.loop-entry.entry-index _ _ _ _
-      c.loop-entry-test.true c.entry-item.is c.in_ok-add_item.ensures.read c.loop-entry.invariant.so_far;
+  so_far =
+      owned-goes (add_item (table_view c.args.table.now)) (λ (e : Entry). e) c.args.entries.now
+      c.loop-entry.entry-index _ _ _ _
+      c.loop-entry-test.true c.entry-item.is c.in_ok-add_item.ensures.read
+      c.loop-entry.invariant.so_far;
   paired = c.add_item.ensures.paired ∙ c.loop-entry.invariant.paired;
 }
 
 pub returns-clause-read : goal.returns-clause-read
 returns-clause-read c =
-    slice-ends (add_item (table_view c.args.table.now)) (λ (e : Entry). e) c.args.entries.now c.loop-entry.entry-index _ _ c.loop-entry-test.false c.loop-entry.invariant.so_far
+    slice-ends (add_item (table_view c.args.table.now)) (λ (e : Entry). e) c.args.entries.now
+    c.loop-entry.entry-index _ _ c.loop-entry-test.false c.loop-entry.invariant.so_far
 
 pub returns-clause-words : goal.returns-clause-words
 returns-clause-words c =
-    let read = slice-ends (add_item (table_view c.args.table.now)) (λ (e : Entry). e) c.args.entries.now c.loop-entry.entry-index c.loop-entry.words.items _ c.loop-entry-test.false c.loop-entry.invariant.so_far in
-    AreWords-words_in (table_view c.args.table.now) c.args.entries.now c.loop-entry.words.items c.requires.fit read
+    let read =
+    slice-ends (add_item (table_view c.args.table.now)) (λ (e : Entry). e) c.args.entries.now
+    c.loop-entry.entry-index c.loop-entry.words.items _ c.loop-entry-test.false
+    c.loop-entry.invariant.so_far in
+    AreWords-words_in (table_view c.args.table.now) c.args.entries.now c.loop-entry.words.items
+    c.requires.fit read

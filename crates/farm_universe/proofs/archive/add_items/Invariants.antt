@@ -6,6 +6,8 @@ use Rattle.farm_universe.proofs.archive.add_items.Given as goal
 
 abbrev pub invariant-loop-entry : goal.invariant-loop-entry
 invariant-loop-entry l = record {
-  so_far : steps (add_item (table_view l.table)) l.words.items (map (λ e. e) (drop l.entry-index l.entries)) ≡ words_in (table_view l.table) l.entries;
+  so_far : steps (add_item (table_view l.table)) l.words.items
+      (map (λ e. e) (drop l.entry-index l.entries))
+      ≡ words_in (table_view l.table) l.entries;
   paired : length l.words.items ≡ length (table_view l.table).names;
 }

@@ -8,4 +8,5 @@ pub returns-clause-empty : goal.returns-clause-empty
 returns-clause-empty c =
     let keys = c.args.table.now.names.keys in
     let count : c.len.result ≡ length (lists keys) = rw length-map c.len.ensures.len in
-    c.in_ok-vec.ensures.items_if_clones_equal (λ y e. e) ∙ ap (λ n. replicate n 0) count ∙ sym (words_of-nil (length (lists keys)))
+    c.in_ok-vec.ensures.items_if_clones_equal (λ y e. e) ∙ ap (λ n. replicate n 0) count
+    ∙ sym (words_of-nil (length (lists keys)))

@@ -7,6 +7,7 @@ use Rattle.farm_universe.proofs.chroots.read_chroots.Given as goal
 
 abbrev pub invariant-loop-number : goal.invariant-loop-number
 invariant-loop-number l = record {
-  so_far : steps tell_base l.bases.items (drop l.number l.paragraphs) ≡ chroots_of (drop 1 l.paragraphs);
+  so_far : steps tell_base l.bases.items (drop l.number l.paragraphs)
+      ≡ chroots_of (drop 1 l.paragraphs);
   bases : AreBases l.bases.items;
 }

@@ -4,4 +4,5 @@ use Rattle.farm_universe.specs.UniverseText.{reduced_package}
 use Rattle.farm_universe.proofs.reduction.reduce_all.Given as goal
 
 abbrev pub invariant-loop-named : goal.invariant-loop-named
-invariant-loop-named l = lists l.left.items ≡ map (map (reduced_package l.architectures)) (lists l.yielded)
+invariant-loop-named l =
+    lists l.left.items ≡ map (map (reduced_package l.architectures)) (lists l.yielded)

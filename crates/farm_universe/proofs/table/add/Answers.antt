@@ -9,12 +9,18 @@ use Rattle.farm_universe.proofs.table.add.Goals as goal
 
 pub put_at-requires-clause-fits : goal.put_at-requires-clause-fits
 put_at-requires-clause-fits c =
-    room (table_view c.args.table.now) c.place_of-at.result (listed_view c.args.listed) (sym c.code_at.ensures ∙ c.in_default.is)
+    room (table_view c.args.table.now) c.place_of-at.result (listed_view c.args.listed)
+    (sym c.code_at.ensures ∙ c.in_default.is)
 
 pub returns-clause-fit : goal.returns-clause-fit
 returns-clause-fit c =
     let table = table_view c.args.table.now in
-    let place : c.place_of-at.result ≡ place_in bytes_eq table.names c.args.listed.name.items = rw c.deref.ensures.value at c.place_of-at.ensures.place in
-    let fit : IsFit (put_at table c.place_of-at.result (listed_view c.args.listed))
-    = IsFit-put table c.place_of-at.result (listed_view c.args.listed) place c.requires.fit (sym c.code_at.ensures ∙ c.in_default.is) c.requires.small in
-    on_ok_weaker c.put_at.result (λ (put : table_view c.put_at.new.table ≡ put_at table c.place_of-at.result (listed_view c.args.listed)). subst IsFit (sym put) fit) c.put_at.ensures.put
+    let place : c.place_of-at.result ≡ place_in bytes_eq table.names c.args.listed.name.items =
+    rw c.deref.ensures.value at c.place_of-at.ensures.place in
+    let fit : IsFit (put_at table c.place_of-at.result (listed_view c.args.listed)) =
+    IsFit-put table c.place_of-at.result (listed_view c.args.listed) place c.requires.fit
+    (sym c.code_at.ensures ∙ c.in_default.is) c.requires.small in
+    on_ok_weaker c.put_at.result
+    (λ (put : table_view c.put_at.new.table
+    ≡ put_at table c.place_of-at.result (listed_view c.args.listed)). subst IsFit (sym put) fit)
+    c.put_at.ensures.put

@@ -11,5 +11,7 @@ pub returns-clause-packages : goal.returns-clause-packages
 returns-clause-packages c =
     let vs = c.args.table.now.packages.items in
     let lt : c.args.at < length vs = rw length-map at c.requires in
-    lists-set vs c.args.at c.insert_in_order.new.given (in_order is_below c.args.binary) c.index_mut.result.now lt
-    (c.in_ok-insert_in_order.ensures ∙ ap (λ (v : Vec Package). in_order is_below c.args.binary v.items) c.index_mut.ensures.value)
+    lists-set vs c.args.at c.insert_in_order.new.given (in_order is_below c.args.binary)
+    c.index_mut.result.now lt
+    (c.in_ok-insert_in_order.ensures
+    ∙ ap (λ (v : Vec Package). in_order is_below c.args.binary v.items) c.index_mut.ensures.value)

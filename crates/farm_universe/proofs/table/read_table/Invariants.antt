@@ -7,6 +7,7 @@ use Rattle.farm_universe.proofs.table.read_table.Given as goal
 
 abbrev pub invariant-loop-number : goal.invariant-loop-number
 invariant-loop-number l = record {
-  so_far : steps tell_paragraph (table_view l.table) (drop l.number l.paragraphs) ≡ packages_of l.paragraphs;
+  so_far : steps tell_paragraph (table_view l.table) (drop l.number l.paragraphs)
+      ≡ packages_of l.paragraphs;
   fit : IsFit (table_view l.table);
 }
