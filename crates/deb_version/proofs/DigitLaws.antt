@@ -67,10 +67,12 @@ pub digits_cmp-is : (xs ys : List ℕ) (m n : ℕ) → AreDigits xs → AreDigit
 digits_cmp-is [] [] m n dx dy alike = refl
 digits_cmp-is [] (y ∷ ys) m n dx dy alike =
     let later = grows (n * 10 + (y - 48)) ys in
-    sym (cmp_less m (value_from n (y ∷ ys)) (elim alike [ inl a ↦ omega arith | inr a ↦ omega arith ]))
+    sym (cmp_less m (value_from n (y ∷ ys))
+    (elim alike [ inl a ↦ omega arith | inr a ↦ omega arith ]))
 digits_cmp-is (x ∷ xs) [] m n dx dy alike =
     let later = grows (m * 10 + (x - 48)) xs in
-    sym (cmp_greater (value_from m (x ∷ xs)) n (elim alike [ inl a ↦ omega arith | inr a ↦ omega arith ]))
+    sym (cmp_greater (value_from m (x ∷ xs)) n
+    (elim alike [ inl a ↦ omega arith | inr a ↦ omega arith ]))
 digits_cmp-is (x ∷ xs) (y ∷ ys) m n dx dy alike =
     let next_m = m * 10 + (x - 48) in
     let next_n = n * 10 + (y - 48) in

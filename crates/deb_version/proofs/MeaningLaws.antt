@@ -98,7 +98,8 @@ padded-same [] (s ∷ ss) r_words s_words e =
     absurd (word-not_empty s (and_parts (has_word s) (list_all has_word ss) s_words).0 first.0)
 padded-same (r ∷ rs) [] r_words s_words e =
     let first = run-same r empty_run (equal_parts (run_cmp r empty_run) _ e).0 in
-    absurd (word-not_empty r (and_parts (has_word r) (list_all has_word rs) r_words).0 (sym first.0))
+    absurd (word-not_empty r
+    (and_parts (has_word r) (list_all has_word rs) r_words).0 (sym first.0))
 padded-same (r ∷ rs) (s ∷ ss) r_words s_words e =
     let parts = equal_parts (run_cmp r s) _ e in
     let first = run-same r s parts.0 in
@@ -126,7 +127,8 @@ padded_cmp-same (r ∷ rs) (s ∷ ss) e =
 -- ---- parts
 
 -- a part that is not empty has a first run, and its other runs have words
-runs-same : (a b : List ℕ) (rs ss : List Run) → AreRuns a rs → AreRuns b ss → is_nil a ≡ false → is_nil b ≡ false
+runs-same : (a b : List ℕ) (rs ss : List Run) → AreRuns a rs → AreRuns b ss
+    → is_nil a ≡ false → is_nil b ≡ false
     → padded_cmp empty_run run_cmp rs ss ≡ Equal → map says rs ≡ map says ss
 runs-same a b [] ss of_a of_b some_a some_b e =
     absurd (both_ways (is_nil a) some_a (rw (sym of_a.whole) refl))

@@ -9,11 +9,13 @@ use Rattle.deb_version.specs.Runs.{is_other, is_zero, first_run, after_run}
 use Rattle.deb_text.specs.Bytes.{is_digit}
 use Rattle.deb_version.proofs.DigitLaws.{AreDigits, IsPlain, digits_cmp, digits_cmp-is}
 
-pub runs_of-digit : (b : ℕ) (bs : List ℕ) → is_digit b ≡ true → runs_of (b ∷ bs) ≡ digit_before b (runs_of bs)
+pub runs_of-digit : (b : ℕ) (bs : List ℕ) → is_digit b ≡ true
+    → runs_of (b ∷ bs) ≡ digit_before b (runs_of bs)
 unfolding runs_of
 runs_of-digit b bs is = rw is refl
 
-pub runs_of-other : (b : ℕ) (bs : List ℕ) → is_digit b ≡ false → runs_of (b ∷ bs) ≡ other_before b (runs_of bs)
+pub runs_of-other : (b : ℕ) (bs : List ℕ) → is_digit b ≡ false
+    → runs_of (b ∷ bs) ≡ other_before b (runs_of bs)
 unfolding runs_of
 runs_of-other b bs is = rw is refl
 
@@ -21,7 +23,8 @@ pub runs_of-nil : runs_of [] ≡ []
 unfolding runs_of
 runs_of-nil = refl
 
-runs_of-cons : (b : ℕ) (bs : List ℕ) → runs_of (b ∷ bs) ≡ first_run (b ∷ bs) ∷ runs_of (after_run (b ∷ bs))
+runs_of-cons : (b : ℕ) (bs : List ℕ)
+    → runs_of (b ∷ bs) ≡ first_run (b ∷ bs) ∷ runs_of (after_run (b ∷ bs))
 runs_of-cons b [] =
     elim (cases_Bool (is_digit b)) [
       | inl d ↦ rw (runs_of-digit b [] d) (simp (d, runs_of-nil) refl)
@@ -72,18 +75,25 @@ pub number_plain : (bs : List ℕ)
     → number_of (front is_digit (behind is_zero bs)) ≡ number_of (front is_digit bs)
 number_plain [] = refl
 number_plain (b ∷ bs) =
-    elim (cases_Bool (is_zero b)) [ inl z ↦ rw (eqb-true b 48 z) (number_plain bs) | inr n ↦ rw n refl ]
+    elim (cases_Bool (is_zero b)) [
+      | inl z ↦ rw (eqb-true b 48 z) (number_plain bs)
+      | inr n ↦ rw n refl
+    ]
 
 pub behind_plain : (bs : List ℕ) → behind is_digit (behind is_zero bs) ≡ behind is_digit bs
 behind_plain [] = refl
 behind_plain (b ∷ bs) =
-    elim (cases_Bool (is_zero b)) [ inl z ↦ rw (eqb-true b 48 z) (behind_plain bs) | inr n ↦ rw n refl ]
+    elim (cases_Bool (is_zero b)) [
+      | inl z ↦ rw (eqb-true b 48 z) (behind_plain bs)
+      | inr n ↦ rw n refl
+    ]
 
 -- ---- parts
 
 -- one run more; a part that is used up has the run of no bytes
 pub part_cmp-step : (a b : List ℕ)
-    → part_cmp a b ≡ ordering_then (run_cmp (first_run a) (first_run b)) (part_cmp (after_run a) (after_run b))
+    → part_cmp a b
+    ≡ ordering_then (run_cmp (first_run a) (first_run b)) (part_cmp (after_run a) (after_run b))
 unfolding part_cmp
 part_cmp-step [] [] = rw runs_of-nil refl
 part_cmp-step [] (y ∷ ys) = rw (runs_of-nil, runs_of-cons y ys) refl
@@ -119,7 +129,8 @@ pub after_run-shorter : (xs ys : List ℕ) → (length xs + length ys ≡ 0 → 
     → length (after_run xs) + length (after_run ys) < length xs + length ys
 after_run-shorter [] [] some = absurd (some (omega arith))
 after_run-shorter [] (y ∷ ys) some = omega (arith, after_run-lt (y ∷ ys) (omega arith))
-after_run-shorter (x ∷ xs) ys some = omega (arith, after_run-lt (x ∷ xs) (omega arith), after_run-le ys)
+after_run-shorter (x ∷ xs) ys some =
+    omega (arith, after_run-lt (x ∷ xs) (omega arith), after_run-le ys)
 
 ne-settles : (o p : Ordering) → is_ne o ≡ true → o ≡ ordering_then o p
 ne-settles Less p e = refl
@@ -140,7 +151,8 @@ is-equal Greater e = absurd cc
 turned : (a b : List ℕ) (o : Ordering) → o ≡ run_cmp (first_run a) (first_run b)
     → ordering_then o (part_cmp (after_run a) (after_run b)) ≡ part_cmp a b
 turned a b o is =
-    ap (λ (p : Ordering). ordering_then p (part_cmp (after_run a) (after_run b))) is ∙ sym (part_cmp-step a b)
+    ap (λ (p : Ordering). ordering_then p (part_cmp (after_run a) (after_run b))) is
+    ∙ sym (part_cmp-step a b)
 
 -- runs that differ settle the order
 pub settled : (a b : List ℕ) (o total : Ordering) → o ≡ run_cmp (first_run a) (first_run b)
@@ -150,6 +162,8 @@ settled a b o total is ne so_far =
 
 -- equal ones leave it to what stands behind them
 pub passes : (a b x y : List ℕ) (o total : Ordering) → o ≡ run_cmp (first_run a) (first_run b)
-    → is_ne o ≡ false → x ≡ after_run a → y ≡ after_run b → part_cmp a b ≡ total → part_cmp x y ≡ total
+    → is_ne o ≡ false → x ≡ after_run a → y ≡ after_run b → part_cmp a b ≡ total
+    → part_cmp x y ≡ total
 passes a b x y o total is eq ex ey so_far =
-    rw (ex, ey) (sym (eq-passes o (part_cmp (after_run a) (after_run b)) eq) ∙ turned a b o is ∙ so_far)
+    rw (ex, ey)
+    (sym (eq-passes o (part_cmp (after_run a) (after_run b)) eq) ∙ turned a b o is ∙ so_far)

@@ -37,10 +37,12 @@ digit_before-put : (d : ℕ) (runs : List Run) → list_all has_word runs ≡ tr
     → digit_before d runs ≡ put_digits (d ∷ []) runs
 digit_before-put d [] words = refl
 digit_before-put d (run ∷ runs) words =
-    digit_before_word d run.word run.digits runs (and_parts (has_word run) (list_all has_word runs) words).0
+    digit_before_word d run.word run.digits runs
+    (and_parts (has_word run) (list_all has_word runs) words).0
 
 runs_of-digits : (digits rest : List ℕ) (runs : List Run) → list_all is_digit digits ≡ true
-    → list_all has_word runs ≡ true → runs_of rest ≡ runs → runs_of (digits ++ rest) ≡ put_digits digits runs
+    → list_all has_word runs ≡ true → runs_of rest ≡ runs
+    → runs_of (digits ++ rest) ≡ put_digits digits runs
 runs_of-digits [] rest runs are words e = e
 runs_of-digits (d ∷ []) rest runs are words e =
     runs_of-digit d rest (and_parts (is_digit d) true are).0
@@ -70,7 +72,8 @@ put_word-run : (word after digits : List ℕ) (runs : List Run)
 put_word-run [] after digits runs = refl
 put_word-run (c ∷ cs) after digits runs = ap (other_before c) (put_word-run cs after digits runs)
 
-put_word-nil : (c : ℕ) (cs : List ℕ) → put_word (c ∷ cs) [] ≡ record { word = c ∷ cs; digits = [] } ∷ []
+put_word-nil : (c : ℕ) (cs : List ℕ)
+    → put_word (c ∷ cs) [] ≡ record { word = c ∷ cs; digits = [] } ∷ []
 put_word-nil c [] = refl
 put_word-nil c (d ∷ ds) = ap (other_before c) (put_word-nil d ds)
 
@@ -88,13 +91,15 @@ put_both (c ∷ cs) (d ∷ ds) runs long some =
     put_word-run (c ∷ cs) [] (d ∷ ds) runs
     ∙ ap (λ (word : List ℕ). record { word = word; digits = d ∷ ds } ∷ runs) (append-nil (c ∷ cs))
 
-all_but_first-tail : (runs : List Run) → list_all has_word runs ≡ true → all_but_first has_word runs ≡ true
+all_but_first-tail : (runs : List Run) → list_all has_word runs ≡ true
+    → all_but_first has_word runs ≡ true
 all_but_first-tail [] words = refl
 all_but_first-tail (run ∷ runs) words = (and_parts (has_word run) (list_all has_word runs) words).1
 
 runs_of-whole : (runs : List Run) → list_all (λ run. list_all is_other run.word) runs ≡ true
-    → list_all (λ run. list_all is_digit run.digits) runs ≡ true → all_but_first has_word runs ≡ true
-    → all_but_last has_digits runs ≡ true → list_all has_bytes runs ≡ true
+    → list_all (λ run. list_all is_digit run.digits) runs ≡ true
+    → all_but_first has_word runs ≡ true → all_but_last has_digits runs ≡ true
+    → list_all has_bytes runs ≡ true
     → runs_of (flat_map (λ run. run.word ++ run.digits) runs) ≡ runs
 runs_of-whole [] words digits later long some = runs_of-nil
 runs_of-whole (run ∷ runs) words digits later long some =
@@ -103,7 +108,9 @@ runs_of-whole (run ∷ runs) words digits later long some =
     let digit_parts = and_parts (list_all is_digit run.digits) _ digits in
     let long_parts = and_parts (is_nil runs || has_digits run) _ long in
     let some_parts = and_parts (has_bytes run) _ some in
-    let behind = runs_of-whole runs word_parts.1 digit_parts.1 (all_but_first-tail runs later) long_parts.1 some_parts.1 in
+    let behind =
+    runs_of-whole runs word_parts.1 digit_parts.1 (all_but_first-tail runs later)
+    long_parts.1 some_parts.1 in
     ap runs_of (append_assoc run.word run.digits rest)
     ∙ (runs_of-word run.word (run.digits ++ rest) (put_digits run.digits runs) word_parts.0
     (runs_of-digits run.digits rest runs digit_parts.0 later behind)
@@ -111,6 +118,8 @@ runs_of-whole (run ∷ runs) words digits later long some =
 
 pub cuts_into_runs : CutsIntoRuns
 cuts_into_runs part runs = (
-  λ are. sym (runs_of-whole runs are.words are.digits are.longest_digits are.longest_words are.none_empty) ∙ ap runs_of are.whole,
+  λ are. sym (runs_of-whole runs
+      are.words are.digits are.longest_digits are.longest_words are.none_empty)
+      ∙ ap runs_of are.whole,
   λ e. rw e (are_runs part),
 )

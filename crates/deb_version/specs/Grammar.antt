@@ -60,8 +60,8 @@ has_empty_piece pieces =
 abbrev pub is_revision_byte : ℕ → Bool
 is_revision_byte b = is_ascii_alphanumeric b || b == 43 || b == 46 || b == 126
 
--- "must contain only alphanumerics and the characters . + - ~", and by dpkg also a colon, which stands
--- there only where an epoch is present
+-- "must contain only alphanumerics and the characters . + - ~", and by dpkg also a colon, which
+-- stands there only where an epoch is present
 abbrev pub is_upstream_byte : Bool → ℕ → Bool
 is_upstream_byte has_epoch b = is_revision_byte b || b == 45 || has_epoch && b == 58
 
@@ -87,11 +87,13 @@ parts_of pieces =
     else Ok (parts_with (epoch_number pieces) pieces)))
 
 unfoldable pub version_at : List ℕ → Result Parts ℕ
-version_at text = if nat_lt MAX_LENGTH (length text) then Err TOO_LONG else parts_of (pieces_of text)
+version_at text =
+    if nat_lt MAX_LENGTH (length text) then Err TOO_LONG else parts_of (pieces_of text)
 
 -- the parts of a text that is a version
 abbrev pub parts_at : List ℕ → Parts
-parts_at text = result_unwrap_or (version_at text) (record { epoch = 0; upstream = []; revision = None })
+parts_at text =
+    result_unwrap_or (version_at text) (record { epoch = 0; upstream = []; revision = None })
 
 abbrev pub text_cmp : List ℕ → List ℕ → Ordering
 text_cmp = on parts_at version_cmp

@@ -31,10 +31,12 @@ equal_to text others = list_all (λ other. is_eq (text_cmp text other)) others
 
 pub record WorkedExamples : Type 0 where
   pub tilde : IsTrue (ascending text_cmp
-      (codes "1~~" ∷ codes "1~~a" ∷ codes "1~" ∷ codes "1" ∷ codes "1a" ∷ codes "1+" ∷ codes "1:0" ∷ []))
+      (codes "1~~" ∷ codes "1~~a" ∷ codes "1~" ∷ codes "1"
+      ∷ codes "1a" ∷ codes "1+" ∷ codes "1:0" ∷ []))
   pub candidate : IsTrue (ascending text_cmp
       (codes "1.0~rc1" ∷ codes "1.0" ∷ codes "1.0-1" ∷ codes "1.1" ∷ codes "1.10" ∷ []))
-  pub absent : IsTrue (equal_to (codes "1.0") (codes "1.0-0" ∷ codes "0:1.0" ∷ codes "1.00-00" ∷ []))
+  pub absent : IsTrue (equal_to (codes "1.0")
+      (codes "1.0-0" ∷ codes "0:1.0" ∷ codes "1.00-00" ∷ []))
 
 -- ---- runs
 

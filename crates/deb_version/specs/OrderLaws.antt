@@ -65,7 +65,8 @@ module _ {K : Type 0} (end : K) (cmp : K → K → Ordering) (order : IsTotalOrd
   padded_trans (x ∷ xs) (y ∷ ys) [] a b = first_trans x y end _ _ _ (padded_trans xs ys []) a b
   padded_trans (x ∷ xs) (y ∷ ys) (z ∷ zs) a b = first_trans x y z _ _ _ (padded_trans xs ys zs) a b
 
-  first_congr : (x y z : K) (p q r : Ordering) → (p ≡ Equal → q ≡ r) → ordering_then (cmp x y) p ≡ Equal
+  first_congr : (x y z : K) (p q r : Ordering) → (p ≡ Equal → q ≡ r)
+      → ordering_then (cmp x y) p ≡ Equal
       → ordering_then (cmp x z) q ≡ ordering_then (cmp y z) r
   first_congr x y z p q r rest a =
       let parts = equal_parts (cmp x y) p a in
@@ -86,7 +87,8 @@ module _ {K : Type 0} (end : K) (cmp : K → K → Ordering) (order : IsTotalOrd
   padded_total = record { antisymm = padded_antisymm; trans = padded_trans; congr = padded_congr }
 
 pub word_cmp_total : IsTotalOrder word_cmp
-word_cmp_total = on_total (λ (word : List ℕ). map rank_of word ++ end_rank ∷ []) (lists_total nat_cmp_total)
+word_cmp_total =
+    on_total (λ (word : List ℕ). map rank_of word ++ end_rank ∷ []) (lists_total nat_cmp_total)
 
 pub run_cmp_total : IsTotalOrder run_cmp
 run_cmp_total =

@@ -51,8 +51,8 @@ impl Version {
     ///
     /// In this order: [`TOO_LONG`] over 512 bytes; [`EMPTY_PART`] where the epoch, the upstream or
     /// the revision is there and empty; [`BAD_CHARACTER`] where one has a byte that it may not
-    /// have; [`EPOCH_TOO_LARGE`](crate::EPOCH_TOO_LARGE) over 2147483647. Last, 900 where memory ran
-    /// out. Nothing is kept then.
+    /// have; [`EPOCH_TOO_LARGE`](crate::EPOCH_TOO_LARGE) over 2147483647. Last, 900 where memory
+    /// ran out. Nothing is kept then.
     #[tactic(auto, unfolding(crate::specs::Grammar::version_at))]
     pub fn parse(alloc: Global, text: &[u8]) -> Result<Version, VersionError>
         ensures parts { Gives refusal_of parts_at result (version_at text.now) }
