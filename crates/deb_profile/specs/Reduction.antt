@@ -1,6 +1,8 @@
--- What an architecture and the active build profiles leave of a relation field (Debian Policy 7.1, BuildProfileSpec).
+-- What an architecture and the active build profiles leave of a relation field (Debian Policy 7.1,
+-- BuildProfileSpec).
 --
---   bare names atom                 the alternative without restrictions and without a qualifier that means nothing
+--   bare names atom                 the alternative without restrictions and without a qualifier
+--                                   that means nothing
 --   reduced_entry names active e    the alternatives that stay
 --   reduced names active field      the entries of which some alternative stays
 use Rattle.std.specs.Prelude.{ℕ, Bool, ◌||◌, List, [], ◌∷◌, map, filter, codes, Option, Some, None, if◌then◌else◌}
@@ -9,15 +11,17 @@ use Rattle.std.specs.Str.{bytes_eq}
 use Rattle.deb_relation.specs.Relations.{Atom, Entry, Relations}
 use Rattle.deb_profile.specs.Restriction.{is_among, keeps}
 
--- `any`, `native` and the names of the farm's own architecture: on a native farm of one architecture they change
--- nothing (the project's own rule)
+-- `any`, `native` and the names of the farm's own architecture: on a native farm of one
+-- architecture they change nothing (the project's own rule)
 abbrev pub means_nothing : List (List ℕ) → List ℕ → Bool
 means_nothing names qualifier =
-    bytes_eq qualifier (codes "any") || bytes_eq qualifier (codes "native") || is_among names qualifier
+    bytes_eq qualifier (codes "any") || bytes_eq qualifier (codes "native")
+    || is_among names qualifier
 
 abbrev pub qualifier_left : List (List ℕ) → Option (List ℕ) → Option (List ℕ)
 qualifier_left names None = None
-qualifier_left names (Some qualifier) = if means_nothing names qualifier then None else Some qualifier
+qualifier_left names (Some qualifier) =
+    if means_nothing names qualifier then None else Some qualifier
 
 abbrev pub bare : List (List ℕ) → Atom → Atom
 bare names atom = record {

@@ -1,4 +1,5 @@
--- Lists of words: the names of the farm's architecture, and the active build profiles (the project's own rule).
+-- Lists of words: the names of the farm's architecture, and the active build profiles (the
+-- project's own rule).
 --
 --   words_at text     the words of the text, or 131 where one is no word
 use Rattle.std.specs.Prelude.{ℕ, List, Result, Ok, Err, if◌then◌else◌}

@@ -16,7 +16,8 @@ fn means_nothing(names: &ArchNames, qualifier: &[u8]) -> bool
 }
 
 fn qualifier_left(names: &ArchNames, qualifier: Option<Vec<u8>>) -> Option<Vec<u8>>
-    ensures { option_map (λ q. q.items) result ≡ qualifier_left names.now (option_map (λ q. q.items) qualifier) }
+    ensures { option_map (λ q. q.items) result
+        ≡ qualifier_left names.now (option_map (λ q. q.items) qualifier) }
 {
     match qualifier {
         Some(qualifier) if !means_nothing(names, &qualifier) => Some(qualifier),

@@ -6,13 +6,13 @@ use std::alloc::{AllocError, Global};
 
 const RISCV64: &str =
     "any any-any any-any-any any-any-linux any-any-riscv64 any-gnu-any any-gnu-linux \
-     any-linux-any any-linux-riscv64 any-riscv64 gnu-any-any gnu-any-riscv64 gnu-linux-any linux-any \
-     linux-riscv64 riscv64";
+     any-linux-any any-linux-riscv64 any-riscv64 gnu-any-any gnu-any-riscv64 gnu-linux-any \
+     linux-any linux-riscv64 riscv64";
 
 const AMD64: &str =
     "amd64 any any-amd64 any-any any-any-amd64 any-any-any any-any-linux any-gnu-any \
-     any-gnu-linux any-linux-amd64 any-linux-any gnu-any-amd64 gnu-any-any gnu-linux-any linux-amd64 \
-     linux-any";
+     any-gnu-linux any-linux-amd64 any-linux-any gnu-any-amd64 gnu-any-any gnu-linux-any \
+     linux-amd64 linux-any";
 
 fn operator(op: Op) -> &'static str {
     match op {

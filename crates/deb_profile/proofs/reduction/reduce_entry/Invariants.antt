@@ -4,4 +4,5 @@ use Rattle.deb_profile.proofs.reduction.reduce_entry.Given as goal
 
 abbrev pub invariant-loop-atom : goal.invariant-loop-atom
 invariant-loop-atom l =
-    l.left.items ++ reduced_entry l.names l.active (drop l.atom-index l.atom-items) ≡ reduced_entry l.names l.active l.entry
+    l.left.items ++ reduced_entry l.names l.active (drop l.atom-index l.atom-items)
+    ≡ reduced_entry l.names l.active l.entry
