@@ -15,5 +15,9 @@ use Rattle.plan_asm.specs.Safety.{risk_at}
 
 -- whoever unfolds this word unfolds all of these
 unfoldable pub by_computation : Unit {0}
-unfolding runs_of part_cmp version_cmp version_at same names variants package_of size pre_depends depends recipe base facts satisfies is_wanted conflict breaks has_bit initial used met met_with pre_met unsettled base_chroot first_trap still_needed capacity count newest archive step is_finished possible surely_met surely_met_with surely_pre_met may_use lane_cost candidates surely_met_outside may_meet may_be_needed may_be_unsettled risk_at
+unfolding runs_of part_cmp version_cmp version_at same names variants package_of size pre_depends
+    depends recipe base facts satisfies is_wanted conflict breaks has_bit initial used met met_with
+    pre_met unsettled base_chroot first_trap still_needed capacity count newest archive step
+    is_finished possible surely_met surely_met_with surely_pre_met may_use lane_cost candidates
+    surely_met_outside may_meet may_be_needed may_be_unsettled risk_at
 by_computation = tt

@@ -12,7 +12,14 @@ use Rattle.farm_examples.specs.Notation.{any, entry, plain, frame, lone}
 abbrev pub clashing : Universe
 clashing =
     record (frame (codes "lib" ∷ codes "out" ∷ []) ((plain ∷ []) ∷ (plain ∷ []) ∷ [])) {
-      recipes = record { name = codes "app"; steps = 1; scratch = 0; needs = []; clashes = entry (any (codes "lib")) ∷ []; outputs = variant 1 0 ∷ [] } ∷ [];
+      recipes = record {
+        name = codes "app";
+        steps = 1;
+        scratch = 0;
+        needs = [];
+        clashes = entry (any (codes "lib")) ∷ [];
+        outputs = variant 1 0 ∷ [];
+      } ∷ [];
       initial = 1 ∷ 0 ∷ [];
     }
 

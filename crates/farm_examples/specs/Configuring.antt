@@ -26,12 +26,16 @@ needs_bb = entry (any (codes "bb"))
 abbrev pub cycle : Universe
 cycle =
     frame (codes "aa" ∷ codes "bb" ∷ [])
-    ((record plain { depends = needs_bb ∷ [] } ∷ []) ∷ (record plain { depends = needs_aa ∷ [] } ∷ []) ∷ [])
+    ((record plain { depends = needs_bb ∷ [] } ∷ [])
+    ∷ (record plain { depends = needs_aa ∷ [] } ∷ [])
+    ∷ [])
 
 abbrev pub pre_cycle : Universe
 pre_cycle =
     frame (codes "aa" ∷ codes "bb" ∷ [])
-    ((record plain { pre_depends = needs_bb ∷ [] } ∷ []) ∷ (record plain { pre_depends = needs_aa ∷ [] } ∷ []) ∷ [])
+    ((record plain { pre_depends = needs_bb ∷ [] } ∷ [])
+    ∷ (record plain { pre_depends = needs_aa ∷ [] } ∷ [])
+    ∷ [])
 
 abbrev pub together : Plan
 together = lone (Unpack aa None ∷ Unpack bb None ∷ Configure (aa ∷ bb ∷ []) ∷ [])
@@ -54,7 +58,9 @@ abbrev pub library : List ℕ → Universe
 library lowest =
     frame (codes "lib" ∷ codes "app" ∷ [])
     ((binary (codes "1") 0 ∷ binary (codes "2") 0 ∷ [])
-    ∷ (record plain { pre_depends = entry (in_version (codes "lib") LaterOrEqual lowest) ∷ [] } ∷ [])
+    ∷ (record plain {
+      pre_depends = entry (in_version (codes "lib") LaterOrEqual lowest) ∷ [];
+    } ∷ [])
     ∷ [])
 
 abbrev pub unpack_lib : List ℕ → Instruction
@@ -62,13 +68,17 @@ unpack_lib version = Unpack lib (Some (Equal, version))
 
 -- app is unpacked while lib 2 is unpacked, and lib 1 was configured
 abbrev pub upgraded : List Instruction
-upgraded = unpack_lib (codes "1") ∷ Configure (lib ∷ []) ∷ unpack_lib (codes "2") ∷ Unpack app None ∷ []
+upgraded =
+    unpack_lib (codes "1") ∷ Configure (lib ∷ []) ∷ unpack_lib (codes "2") ∷ Unpack app None ∷ []
 
 abbrev pub before_configured : Plan
 before_configured = lone (unpack_lib (codes "1") ∷ Unpack app None ∷ [])
 
 abbrev pub after_removed : Plan
-after_removed = lone (Unpack lib None ∷ Configure (lib ∷ []) ∷ Remove (lib ∷ []) ∷ Unpack lib None ∷ Unpack app None ∷ [])
+after_removed =
+    lone (Unpack lib None ∷ Configure (lib ∷ []) ∷ Remove (lib ∷ [])
+    ∷ Unpack lib None ∷ Unpack app None ∷ [])
 
 abbrev pub after_configured : Plan
-after_configured = lone (Unpack lib None ∷ Configure (lib ∷ []) ∷ Unpack app None ∷ Configure (app ∷ []) ∷ [])
+after_configured =
+    lone (Unpack lib None ∷ Configure (lib ∷ []) ∷ Unpack app None ∷ Configure (app ∷ []) ∷ [])

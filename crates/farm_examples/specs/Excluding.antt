@@ -3,7 +3,8 @@
 --   declares_one, mail_servers      conflicts that one declares, and that both do
 --   breaking                        aa breaks bb
 --   providers                       two packages, either of which gives what a third needs
---   withdrawn                       an instruction in a chroot with libc6, and libgmp that depends on it
+--   withdrawn                       an instruction in a chroot with libc6, and libgmp that depends
+--                                   on it
 use Rattle.std.specs.Prelude.{ℕ, List, [], ◌∷◌, None, codes}
 use Rattle.farm_universe.specs.Universe.{Package, Universe}
 use Rattle.plan_asm.specs.declared.instructions.Instruction.{Instruction}
@@ -25,10 +26,14 @@ declares_one =
     ((record plain { conflicts = entry (any (codes "yy")) ∷ [] } ∷ []) ∷ (plain ∷ []) ∷ [])
 
 abbrev pub mail_server : Package
-mail_server = record plain { provides = entry (any (codes "mta")) ∷ []; conflicts = entry (any (codes "mta")) ∷ [] }
+mail_server = record plain {
+  provides = entry (any (codes "mta")) ∷ [];
+  conflicts = entry (any (codes "mta")) ∷ [];
+}
 
 abbrev pub mail_servers : Universe
-mail_servers = frame (codes "mta-a" ∷ codes "mta-b" ∷ []) ((mail_server ∷ []) ∷ (mail_server ∷ []) ∷ [])
+mail_servers =
+    frame (codes "mta-a" ∷ codes "mta-b" ∷ []) ((mail_server ∷ []) ∷ (mail_server ∷ []) ∷ [])
 
 abbrev pub only_first : Plan
 only_first = lone (Unpack first None ∷ [])
@@ -51,7 +56,9 @@ abbrev pub beside_configured : Plan
 beside_configured = lone (Unpack second None ∷ Configure (second ∷ []) ∷ Unpack first None ∷ [])
 
 abbrev pub beside_deconfigured : List Instruction
-beside_deconfigured = Unpack second None ∷ Configure (second ∷ []) ∷ Deconfigure (second ∷ []) ∷ Unpack first None ∷ []
+beside_deconfigured =
+    Unpack second None ∷ Configure (second ∷ [])
+    ∷ Deconfigure (second ∷ []) ∷ Unpack first None ∷ []
 
 -- ---- still needed
 
@@ -69,7 +76,9 @@ third = 2
 
 -- all three are configured, and then these instructions follow
 abbrev pub with_all_three : List Instruction → Plan
-with_all_three rest = lone (Unpack first None ∷ Unpack second None ∷ Unpack third None ∷ Configure (first ∷ second ∷ third ∷ []) ∷ rest)
+with_all_three rest =
+    lone (Unpack first None ∷ Unpack second None ∷ Unpack third None
+    ∷ Configure (first ∷ second ∷ third ∷ []) ∷ rest)
 
 abbrev pub withdrawn : Instruction → Plan
 withdrawn instruction = lane_in (codes "a") 1 9 (instruction ∷ []) ∷ []

@@ -1,5 +1,5 @@
--- Plans that would trap if what a lane may hold were taken for less than it is: another lane publishes a newer
--- version, before or after this lane unpacks (the project's own rules).
+-- Plans that would trap if what a lane may hold were taken for less than it is: another lane
+-- publishes a newer version, before or after this lane unpacks (the project's own rules).
 --
 --   growing                    newer versions of lib and aa may be published
 --   beside                     a lane beside one that publishes
@@ -30,23 +30,38 @@ qq = 3
 
 -- a recipe of one step that needs nothing
 abbrev pub recipe_of : List ℕ → List Variant → Recipe
-recipe_of name outputs = record { name = name; steps = 1; scratch = 0; needs = []; clashes = []; outputs = outputs }
+recipe_of name outputs = record {
+  name = name;
+  steps = 1;
+  scratch = 0;
+  needs = [];
+  clashes = [];
+  outputs = outputs;
+}
 
 abbrev pub empty_base : List ℕ → ℕ → Base
 empty_base name capacity = record { name = name; capacity = capacity; packages = [] }
 
--- lib 2 is large, aa 2 breaks bb and depends on lib, qq depends on lib (>= 2). The archive has each version 1; the
--- recipes give lib 2 and aa 2; a second chroot is small
+-- lib 2 is large, aa 2 breaks bb and depends on lib, qq depends on lib (>= 2). The archive has each
+-- version 1; the recipes give lib 2 and aa 2; a second chroot is small
 abbrev pub growing : Universe
 growing = record {
   names = codes "lib" ∷ codes "aa" ∷ codes "bb" ∷ codes "qq" ∷ [];
   packages =
       (plain ∷ binary (codes "2") 3072 ∷ [])
-      ∷ (plain ∷ record (binary (codes "2") 0) { depends = entry (any (codes "lib")) ∷ []; breaks = entry (any (codes "bb")) ∷ [] } ∷ [])
+      ∷ (plain ∷ record (binary (codes "2") 0) {
+        depends = entry (any (codes "lib")) ∷ [];
+        breaks = entry (any (codes "bb")) ∷ [];
+      } ∷ [])
       ∷ (plain ∷ [])
-      ∷ (record plain { depends = entry (in_version (codes "lib") LaterOrEqual (codes "2")) ∷ [] } ∷ [])
+      ∷ (record plain {
+        depends = entry (in_version (codes "lib") LaterOrEqual (codes "2")) ∷ [];
+      } ∷ [])
       ∷ [];
-  recipes = recipe_of (codes "new-lib") (variant lib 1 ∷ []) ∷ recipe_of (codes "new-aa") (variant aa 1 ∷ []) ∷ [];
+  recipes =
+      recipe_of (codes "new-lib") (variant lib 1 ∷ [])
+      ∷ recipe_of (codes "new-aa") (variant aa 1 ∷ [])
+      ∷ [];
   bases = empty_base (codes "main") 4096 ∷ empty_base (codes "small") 2048 ∷ [];
   initial = 1 ∷ 1 ∷ 1 ∷ 1 ∷ [];
   architectures = codes "riscv64" ∷ [];
@@ -54,7 +69,10 @@ growing = record {
 
 -- a lane, and one that publishes what the recipe of this number gives
 abbrev pub beside : ℕ → ℕ → ℕ → List Instruction → Plan
-beside r base budget instructions = lane_in (codes "a") base budget instructions ∷ lane_in (codes "b") 0 100 (Build r ∷ Publish r ∷ []) ∷ []
+beside r base budget instructions =
+    lane_in (codes "a") base budget instructions
+    ∷ lane_in (codes "b") 0 100 (Build r ∷ Publish r ∷ [])
+    ∷ []
 
 abbrev pub beside_known : Variant → Rows
 beside_known output = rows_of growing ([] ∷ ([] ∷ [] ∷ (output ∷ []) ∷ []) ∷ [])
@@ -67,7 +85,9 @@ new_aa = variant aa 1
 
 -- qq needs lib 2, and may meet lib 1
 abbrev pub uses_lib : Plan
-uses_lib = beside 0 0 100 (Unpack lib None ∷ Configure (lib ∷ []) ∷ Unpack qq None ∷ Configure (qq ∷ []) ∷ [])
+uses_lib =
+    beside 0 0 100
+    (Unpack lib None ∷ Configure (lib ∷ []) ∷ Unpack qq None ∷ Configure (qq ∷ []) ∷ [])
 
 -- aa may be aa 2, which breaks bb
 abbrev pub unpacks_beside : Plan
@@ -78,7 +98,10 @@ configures_beside = beside 1 0 100 (Unpack bb None ∷ Unpack aa None ∷ Config
 
 -- aa may be aa 2, which depends on lib
 abbrev pub removes_lib : Plan
-removes_lib = beside 1 0 100 (Unpack lib None ∷ Configure (lib ∷ []) ∷ Unpack aa None ∷ Configure (aa ∷ []) ∷ Remove (lib ∷ []) ∷ [])
+removes_lib =
+    beside 1 0 100
+    (Unpack lib None ∷ Configure (lib ∷ []) ∷ Unpack aa None
+    ∷ Configure (aa ∷ []) ∷ Remove (lib ∷ []) ∷ [])
 
 -- lib may be lib 2, in this chroot and with this budget
 abbrev pub takes_lib : ℕ → ℕ → Plan
@@ -91,7 +114,10 @@ abbrev pub makers : Universe
 makers = record {
   names = codes "tool" ∷ codes "extra" ∷ [];
   packages = (plain ∷ binary (codes "2") 0 ∷ []) ∷ (plain ∷ []) ∷ [];
-  recipes = recipe_of (codes "early") (variant 0 0 ∷ []) ∷ recipe_of (codes "late") (variant 1 0 ∷ variant 0 1 ∷ []) ∷ [];
+  recipes =
+      recipe_of (codes "early") (variant 0 0 ∷ [])
+      ∷ recipe_of (codes "late") (variant 1 0 ∷ variant 0 1 ∷ [])
+      ∷ [];
   bases = empty_base (codes "main") 100 ∷ [];
   initial = 0 ∷ 0 ∷ [];
   architectures = codes "riscv64" ∷ [];
@@ -114,7 +140,11 @@ two_makers awaited =
 -- a knows these once its wait has passed
 abbrev pub two_makers_known : List Variant → Rows
 two_makers_known a_knows =
-    rows_of makers (([] ∷ a_knows ∷ a_knows ∷ []) ∷ ([] ∷ [] ∷ (variant 0 0 ∷ []) ∷ []) ∷ ([] ∷ [] ∷ late ∷ []) ∷ [])
+    rows_of makers
+    (([] ∷ a_knows ∷ a_knows ∷ [])
+    ∷ ([] ∷ [] ∷ (variant 0 0 ∷ []) ∷ [])
+    ∷ ([] ∷ [] ∷ late ∷ [])
+    ∷ [])
   where
     late : List Variant
     late = variant 1 0 ∷ variant 0 1 ∷ []

@@ -2,7 +2,8 @@
 --
 --   any, in_version, entry     alternatives, and an entry of one alternative
 --   binary, plain              a package without relations; the same of version 1 and no size
---   frame, lane_in, lone       a farm of one empty chroot whose archive has each package; a lane; a plan of one lane
+--   frame, lane_in, lone       a farm of one empty chroot whose archive has each package; a lane; a
+--                              plan of one lane
 --   initial_rows, rows_of      known rows: the initial archive alone, and more by a table
 use Rattle.std.specs.Prelude.{ℕ, ◌-◌, ◌^◌, ◌||◌, List, [], ◌∷◌, length, map, Some, None, slice_index_or, codes}
 use Rattle.deb_relation.specs.declared.operator.Op.{Op}
@@ -19,7 +20,13 @@ abbrev pub any : List ℕ → Atom
 any name = record { name = name; qualifier = None; relation = None; archs = None; profiles = [] }
 
 abbrev pub in_version : List ℕ → Op → List ℕ → Atom
-in_version name op version = record { name = name; qualifier = None; relation = Some (op, version); archs = None; profiles = [] }
+in_version name op version = record {
+  name = name;
+  qualifier = None;
+  relation = Some (op, version);
+  archs = None;
+  profiles = [];
+}
 
 -- an entry of one alternative
 abbrev pub entry : Atom → Entry
@@ -27,7 +34,15 @@ entry atom = atom ∷ []
 
 -- a package of this version and size in KiB, without relations
 abbrev pub binary : List ℕ → ℕ → Package
-binary version size = record { version = version; size = size; pre_depends = []; depends = []; conflicts = []; breaks = []; provides = [] }
+binary version size = record {
+  version = version;
+  size = size;
+  pre_depends = [];
+  depends = [];
+  conflicts = [];
+  breaks = [];
+  provides = [];
+}
 
 -- the same of version 1 and no size
 abbrev pub plain : Package
@@ -50,7 +65,12 @@ frame names packages = record {
 
 -- a lane of this name in the chroot of this number, with this budget
 abbrev pub lane_in : List ℕ → ℕ → ℕ → List Instruction → Lane
-lane_in name base budget instructions = record { name = name; base = base; budget = budget; instructions = instructions }
+lane_in name base budget instructions = record {
+  name = name;
+  base = base;
+  budget = budget;
+  instructions = instructions;
+}
 
 -- a plan of one lane in the first chroot, with a budget of 100
 abbrev pub lone : List Instruction → Plan

@@ -25,18 +25,24 @@ abbrev pub provider : Atom → Universe
 provider provided =
     frame (codes "pv" ∷ codes "qq" ∷ [])
     ((record plain { provides = entry provided ∷ [] } ∷ [])
-    ∷ (record plain { depends = entry (in_version (codes "vv") LaterOrEqual (codes "1.0")) ∷ [] } ∷ [])
+    ∷ (record plain {
+      depends = entry (in_version (codes "vv") LaterOrEqual (codes "1.0")) ∷ [];
+    } ∷ [])
     ∷ [])
 
 abbrev pub one_then_the_other : Plan
-one_then_the_other = lone (Unpack 0 None ∷ Unpack 1 None ∷ Configure (0 ∷ []) ∷ Configure (1 ∷ []) ∷ [])
+one_then_the_other =
+    lone (Unpack 0 None ∷ Unpack 1 None ∷ Configure (0 ∷ []) ∷ Configure (1 ∷ []) ∷ [])
 
 -- ---- the pick of an unpack
 
 -- 1.0~rc1 is earlier than 1.0 (Policy 5.6.12)
 abbrev pub versions : Universe
-versions = frame (codes "lib" ∷ []) ((binary (codes "1.0~rc1") 0 ∷ binary (codes "1.0") 0 ∷ binary (codes "1.1") 0 ∷ []) ∷ [])
+versions =
+    frame (codes "lib" ∷ [])
+    ((binary (codes "1.0~rc1") 0 ∷ binary (codes "1.0") 0 ∷ binary (codes "1.1") 0 ∷ []) ∷ [])
 
 -- what the chroot holds after an unpack alone
 abbrev pub taken : Option (Op × List ℕ) → Slot
-taken relation = slot (lane_state (run_alone versions (lone (Unpack 0 relation ∷ []))).state 0).chroot 0
+taken relation =
+    slot (lane_state (run_alone versions (lone (Unpack 0 relation ∷ []))).state 0).chroot 0

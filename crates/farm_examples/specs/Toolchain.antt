@@ -52,13 +52,34 @@ needs_libgmp = entry (any (codes "libgmp"))
 
 -- recipes
 abbrev pub stage1_recipe : Recipe
-stage1_recipe = record { name = codes "gcc-stage1"; steps = 20; scratch = 1000; needs = needs_libc6 ∷ []; clashes = []; outputs = gcc_stage1 ∷ [] }
+stage1_recipe = record {
+  name = codes "gcc-stage1";
+  steps = 20;
+  scratch = 1000;
+  needs = needs_libc6 ∷ [];
+  clashes = [];
+  outputs = gcc_stage1 ∷ [];
+}
 
 abbrev pub gmp_recipe : Recipe
-gmp_recipe = record { name = codes "gmp"; steps = 10; scratch = 0; needs = needs_libc6 ∷ needs_gcc ∷ []; clashes = []; outputs = gmp ∷ [] }
+gmp_recipe = record {
+  name = codes "gmp";
+  steps = 10;
+  scratch = 0;
+  needs = needs_libc6 ∷ needs_gcc ∷ [];
+  clashes = [];
+  outputs = gmp ∷ [];
+}
 
 abbrev pub full_recipe : Recipe
-full_recipe = record { name = codes "gcc-full"; steps = 40; scratch = 0; needs = needs_libc6 ∷ needs_libgmp ∷ []; clashes = []; outputs = gcc_full ∷ [] }
+full_recipe = record {
+  name = codes "gcc-full";
+  steps = 40;
+  scratch = 0;
+  needs = needs_libc6 ∷ needs_libgmp ∷ [];
+  clashes = [];
+  outputs = gcc_full ∷ [];
+}
 
 -- a chroot that holds 8 MiB
 abbrev pub base_of : List ℕ → List Variant → Base
@@ -69,7 +90,9 @@ toolchain = record {
   names = codes "libc6" ∷ codes "gcc" ∷ codes "libgmp" ∷ [];
   packages =
       (binary (codes "2.40-1") 2048 ∷ [])
-      ∷ (record (binary stage1 1024) { depends = needs_later_libc6 ∷ [] } ∷ record (binary (codes "14-1") 3072) { depends = needs_later_libc6 ∷ needs_libgmp ∷ [] } ∷ [])
+      ∷ (record (binary stage1 1024) { depends = needs_later_libc6 ∷ [] }
+      ∷ record (binary (codes "14-1") 3072) { depends = needs_later_libc6 ∷ needs_libgmp ∷ [] }
+      ∷ [])
       ∷ (record (binary (codes "6.3-1") 512) { depends = needs_libc6 ∷ [] } ∷ [])
       ∷ [];
   recipes = stage1_recipe ∷ gmp_recipe ∷ full_recipe ∷ [];
@@ -89,5 +112,12 @@ newer =
 abbrev pub one_recipe : List Variant → Universe
 one_recipe outputs =
     record toolchain {
-      recipes = record { name = codes "both"; steps = 20; scratch = 0; needs = needs_libc6 ∷ []; clashes = []; outputs = outputs } ∷ [];
+      recipes = record {
+        name = codes "both";
+        steps = 20;
+        scratch = 0;
+        needs = needs_libc6 ∷ [];
+        clashes = [];
+        outputs = outputs;
+      } ∷ [];
     }

@@ -14,8 +14,8 @@ use Rattle.plan_asm.specs.MayAt.{lane_cost}
 use Rattle.plan_asm.specs.Safety.{risk_at}
 use Rattle.farm_examples.specs.Notation.{initial_rows}
 
--- each instruction is safe, and the lane spends at most so much; or the first unsafe one, by its number from 1, and
--- the first trap that it may meet
+-- each instruction is safe, and the lane spends at most so much; or the first unsafe one, by its
+-- number from 1, and the first trap that it may meet
 pub data Verdict : Type 0 where
   Costs : (cost : ℕ) → Verdict
   Refused : (instruction : ℕ) (trap : Trap) → Verdict
@@ -30,17 +30,21 @@ verdict_from risk end i [] = end
 verdict_from risk end i (x ∷ xs) = unless_refused i (risk i) (verdict_from risk end (suc i) xs)
 
 abbrev pub verdict_of : Universe → Plan → Rows → ℕ → Verdict
-verdict_of u p rows l = verdict_from (risk_at u p rows l) (Costs (lane_cost u p rows l)) 0 (lane p l).instructions
+verdict_of u p rows l =
+    verdict_from (risk_at u p rows l) (Costs (lane_cost u p rows l)) 0 (lane p l).instructions
 
--- a schedule's event of this number traps, at the instruction of this number of the lane, both from 1
+-- a schedule's event of this number traps, at the instruction of this number of the lane, both from
+-- 1
 abbrev pub trap_at : ℕ → ℕ → ℕ → Trap → Option Stop
-trap_at step lane instruction trap = Some (record { step = step; lane = lane; instruction = instruction; trap = trap })
+trap_at step lane instruction trap =
+    Some (record { step = step; lane = lane; instruction = instruction; trap = trap })
 
 -- what a plan of one lane comes to, where the lane is given a turn for each of its instructions
 abbrev pub run_alone : Universe → Plan → Ending
 run_alone u p = result_of u p (replicate (length (lane p 0).instructions) 0)
 
--- A plan of one lane that waits for nothing is safe at this cost, and runs to its end, spending that:
+-- A plan of one lane that waits for nothing is safe at this cost, and runs to its end, spending
+-- that:
 pub record Passes (u : Universe) (p : Plan) (cost : ℕ) : Type 0 where
   pub verdict : verdict_of u p (initial_rows u) 0 ≡ Costs cost
   pub stop : (run_alone u p).stop ≡ None

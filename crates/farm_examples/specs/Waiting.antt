@@ -1,5 +1,6 @@
--- Several lanes that wait for each other's outputs (the project's own rules; a wait is wanna-build's Dep-Wait). With
--- each plan stands what its lanes know, by the variants that are not in the archive from the start.
+-- Several lanes that wait for each other's outputs (the project's own rules; a wait is
+-- wanna-build's Dep-Wait). With each plan stands what its lanes know, by the variants that are not
+-- in the archive from the start.
 --
 --   handing                    two lanes hand a compiler to each other
 --   newest_or_exact            an unpack of any version, or of one
@@ -26,9 +27,11 @@ only_stage1 = Some (Equal, stage1)
 abbrev pub handing : Plan
 handing =
     lane_in (codes "a") 0 100
-    (Build 0 ∷ Publish 0 ∷ Wait needs_libgmp ∷ Unpack libgmp None ∷ Configure (libgmp ∷ []) ∷ Build 2 ∷ Publish 2 ∷ [])
+    (Build 0 ∷ Publish 0 ∷ Wait needs_libgmp ∷ Unpack libgmp None
+    ∷ Configure (libgmp ∷ []) ∷ Build 2 ∷ Publish 2 ∷ [])
     ∷ lane_in (codes "b") 0 100
-    (Wait (entry (in_version (codes "gcc") Equal stage1)) ∷ Unpack gcc only_stage1 ∷ Configure (gcc ∷ []) ∷ Build 1 ∷ Publish 1 ∷ [])
+    (Wait (entry (in_version (codes "gcc") Equal stage1)) ∷ Unpack gcc only_stage1
+    ∷ Configure (gcc ∷ []) ∷ Build 1 ∷ Publish 1 ∷ [])
     ∷ []
 
 -- b knows these once its wait has passed
@@ -45,8 +48,20 @@ handing_known b_knows =
 abbrev pub handed : State
 handed = record {
   lanes =
-      record { done = 7; made = 0; chroot = Configured 0 ∷ Absent ∷ Configured 0 ∷ []; spent = 64; built = true ∷ false ∷ true ∷ [] }
-      ∷ record { done = 5; made = 0; chroot = Configured 0 ∷ Configured 0 ∷ Absent ∷ []; spent = 14; built = false ∷ true ∷ false ∷ [] }
+      record {
+        done = 7;
+        made = 0;
+        chroot = Configured 0 ∷ Absent ∷ Configured 0 ∷ [];
+        spent = 64;
+        built = true ∷ false ∷ true ∷ [];
+      }
+      ∷ record {
+        done = 5;
+        made = 0;
+        chroot = Configured 0 ∷ Configured 0 ∷ Absent ∷ [];
+        spent = 14;
+        built = false ∷ true ∷ false ∷ [];
+      }
       ∷ [];
   published = publication 0 gcc_stage1 ∷ publication 1 gmp ∷ publication 0 gcc_full ∷ [];
 }
@@ -60,14 +75,19 @@ ended s = record { state = s; stop = None }
 -- b publishes both versions of gcc, and a unpacks one in this relation
 abbrev pub newest_or_exact : Option (Op × List ℕ) → Plan
 newest_or_exact relation =
-    lane_in (codes "a") 0 100 (Wait (entry (in_version (codes "gcc") LaterOrEqual stage1)) ∷ Unpack gcc relation ∷ Configure (gcc ∷ []) ∷ [])
+    lane_in (codes "a") 0 100
+    (Wait (entry (in_version (codes "gcc") LaterOrEqual stage1)) ∷ Unpack gcc relation
+    ∷ Configure (gcc ∷ []) ∷ [])
     ∷ lane_in (codes "b") 1 100 (Build 0 ∷ Publish 0 ∷ Build 1 ∷ Publish 1 ∷ [])
     ∷ []
 
 abbrev pub newest_or_exact_known : Rows
 newest_or_exact_known =
     let first = gcc_stage1 ∷ [] in
-    rows_of newer (([] ∷ first ∷ first ∷ first ∷ []) ∷ ([] ∷ [] ∷ first ∷ first ∷ (gcc_stage1 ∷ gcc_full ∷ []) ∷ []) ∷ [])
+    rows_of newer
+    (([] ∷ first ∷ first ∷ first ∷ [])
+    ∷ ([] ∷ [] ∷ first ∷ first ∷ (gcc_stage1 ∷ gcc_full ∷ []) ∷ [])
+    ∷ [])
 
 -- ---- between two outputs
 
@@ -81,13 +101,18 @@ between budget =
 -- b knows these once its wait has passed
 abbrev pub between_known : List Variant → Rows
 between_known b_knows =
-    rows_of toolchain (([] ∷ [] ∷ (gcc_stage1 ∷ gmp ∷ []) ∷ []) ∷ ([] ∷ b_knows ∷ b_knows ∷ b_knows ∷ []) ∷ [])
+    rows_of toolchain
+    (([] ∷ [] ∷ (gcc_stage1 ∷ gmp ∷ []) ∷ [])
+    ∷ ([] ∷ b_knows ∷ b_knows ∷ b_knows ∷ [])
+    ∷ [])
 
 -- ---- known through another lane
 
 -- waits for gcc, and makes libgmp with it
 abbrev pub makes_libgmp : Lane
-makes_libgmp = lane_in (codes "b") 0 50 (Wait needs_gcc ∷ Unpack gcc None ∷ Configure (gcc ∷ []) ∷ Build 1 ∷ Publish 1 ∷ [])
+makes_libgmp =
+    lane_in (codes "b") 0 50
+    (Wait needs_gcc ∷ Unpack gcc None ∷ Configure (gcc ∷ []) ∷ Build 1 ∷ Publish 1 ∷ [])
 
 abbrev pub through_another : Plan
 through_another =
@@ -100,7 +125,11 @@ abbrev pub through_another_known : Rows
 through_another_known =
     let first = gcc_stage1 ∷ [] in
     let second = gcc_stage1 ∷ gmp ∷ [] in
-    rows_of toolchain (([] ∷ [] ∷ first ∷ []) ∷ ([] ∷ first ∷ first ∷ first ∷ first ∷ second ∷ []) ∷ ([] ∷ second ∷ second ∷ second ∷ []) ∷ [])
+    rows_of toolchain
+    (([] ∷ [] ∷ first ∷ [])
+    ∷ ([] ∷ first ∷ first ∷ first ∷ first ∷ second ∷ [])
+    ∷ ([] ∷ second ∷ second ∷ second ∷ [])
+    ∷ [])
 
 -- ---- waits in a circle
 

@@ -29,8 +29,10 @@ pub fn pre_depends_by_unpacked_once_configured()
     ensures removed { Traps (library (codes "1")) after_removed 5 PreDepends }
 {}
 
-/// To configure a package its Pre-Depends wants a configured one: a member of the set does not count.
+/// To configure a package its Pre-Depends wants a configured one: a member of the set does not
+/// count.
 pub fn pre_depends_by_no_member()
-    ensures member { Traps (library (codes "1")) (lone (upgraded ++ Configure (app ∷ lib ∷ []) ∷ [])) 5 PreDepends }
+    ensures member { Traps (library (codes "1"))
+        (lone (upgraded ++ Configure (app ∷ lib ∷ []) ∷ [])) 5 PreDepends }
     ensures configured { Passes (library (codes "1")) after_configured 4 }
 {}

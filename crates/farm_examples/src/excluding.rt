@@ -21,7 +21,8 @@ pub fn conflict_from_either_side()
 pub fn breaks_configured_alone()
     ensures configured { Traps breaking beside_configured 3 BreaksOther }
     ensures deconfigured { Passes breaking (lone beside_deconfigured) 4 }
-    ensures configured_again { Traps breaking (lone (beside_deconfigured ++ Configure (second ∷ []) ∷ [])) 5 Broken }
+    ensures configured_again { Traps breaking
+        (lone (beside_deconfigured ++ Configure (second ∷ []) ∷ [])) 5 Broken }
 {}
 
 /// What a configured package depends on stays, unless that package goes with it.
@@ -35,6 +36,8 @@ pub fn still_needed_stays()
 /// One of two packages that provide what a third needs may go, and not both.
 pub fn other_provider_suffices()
     ensures one { Passes providers (with_all_three (Remove (first ∷ []) ∷ [])) 7 }
-    ensures both { Traps providers (with_all_three (Remove (first ∷ second ∷ []) ∷ [])) 5 StillNeeded }
-    ensures all { Passes providers (with_all_three (Deconfigure (third ∷ second ∷ first ∷ []) ∷ [])) 9 }
+    ensures both { Traps providers
+        (with_all_three (Remove (first ∷ second ∷ []) ∷ [])) 5 StillNeeded }
+    ensures all { Passes providers
+        (with_all_three (Deconfigure (third ∷ second ∷ first ∷ []) ∷ [])) 9 }
 {}

@@ -16,41 +16,54 @@ pub fn every_held_version_satisfies()
 
 /// An unpack is judged for each version that it may take: one of them breaks what is configured.
 pub fn some_version_breaks()
-    ensures refused { verdict_of growing unpacks_beside (beside_known new_aa) 0 ≡ Refused 3 BreaksOther }
-    ensures late { (result_of growing unpacks_beside (1 ∷ 1 ∷ 0 ∷ 0 ∷ 0 ∷ [])).stop ≡ trap_at 5 0 3 BreaksOther }
+    ensures refused { verdict_of growing unpacks_beside (beside_known new_aa) 0
+        ≡ Refused 3 BreaksOther }
+    ensures late { (result_of growing unpacks_beside (1 ∷ 1 ∷ 0 ∷ 0 ∷ 0 ∷ [])).stop
+        ≡ trap_at 5 0 3 BreaksOther }
     ensures early { (result_of growing unpacks_beside (0 ∷ 0 ∷ 0 ∷ [])).stop ≡ None }
 {}
 
 /// A configure is judged for each version that is beside it: one of them breaks the package.
 pub fn broken_by_some_version()
-    ensures refused { verdict_of growing configures_beside (beside_known new_aa) 0 ≡ Refused 3 Broken }
-    ensures late { (result_of growing configures_beside (1 ∷ 1 ∷ 0 ∷ 0 ∷ 0 ∷ [])).stop ≡ trap_at 5 0 3 Broken }
+    ensures refused { verdict_of growing configures_beside (beside_known new_aa) 0
+        ≡ Refused 3 Broken }
+    ensures late { (result_of growing configures_beside (1 ∷ 1 ∷ 0 ∷ 0 ∷ 0 ∷ [])).stop
+        ≡ trap_at 5 0 3 Broken }
     ensures early { (result_of growing configures_beside (0 ∷ 0 ∷ 0 ∷ [])).stop ≡ None }
 {}
 
 /// A removal is judged for each version that stays: one of them needs what goes.
 pub fn needed_by_some_version()
-    ensures refused { verdict_of growing removes_lib (beside_known new_aa) 0 ≡ Refused 5 StillNeeded }
-    ensures late { (result_of growing removes_lib (1 ∷ 1 ∷ 0 ∷ 0 ∷ 0 ∷ 0 ∷ 0 ∷ [])).stop ≡ trap_at 7 0 5 StillNeeded }
+    ensures refused { verdict_of growing removes_lib (beside_known new_aa) 0
+        ≡ Refused 5 StillNeeded }
+    ensures late { (result_of growing removes_lib (1 ∷ 1 ∷ 0 ∷ 0 ∷ 0 ∷ 0 ∷ 0 ∷ [])).stop
+        ≡ trap_at 7 0 5 StillNeeded }
     ensures early { (result_of growing removes_lib (0 ∷ 0 ∷ 0 ∷ 0 ∷ 0 ∷ [])).stop ≡ None }
 {}
 
 /// The greatest size of what an unpack may take counts, in space and in cost.
 pub fn greatest_size_counts()
     ensures space { verdict_of growing (takes_lib 1 100) (beside_known new_lib) 0 ≡ Refused 1 Full }
-    ensures large { (result_of growing (takes_lib 1 100) (1 ∷ 1 ∷ 0 ∷ [])).stop ≡ trap_at 3 0 1 Full }
+    ensures large { (result_of growing (takes_lib 1 100) (1 ∷ 1 ∷ 0 ∷ [])).stop
+        ≡ trap_at 3 0 1 Full }
     ensures small { (result_of growing (takes_lib 1 100) (0 ∷ [])).stop ≡ None }
 
-    ensures cost { verdict_of growing (takes_lib 0 3) (beside_known new_lib) 0 ≡ Refused 1 OverBudget }
-    ensures dear { (result_of growing (takes_lib 0 3) (1 ∷ 1 ∷ 0 ∷ [])).stop ≡ trap_at 3 0 1 OverBudget }
+    ensures cost { verdict_of growing (takes_lib 0 3) (beside_known new_lib) 0
+        ≡ Refused 1 OverBudget }
+    ensures dear { (result_of growing (takes_lib 0 3) (1 ∷ 1 ∷ 0 ∷ [])).stop
+        ≡ trap_at 3 0 1 OverBudget }
     ensures cheap { (result_of growing (takes_lib 0 3) (0 ∷ [])).stop ≡ None }
     ensures enough { verdict_of growing (takes_lib 0 4) (beside_known new_lib) 0 ≡ Costs 4 }
 {}
 
 /// A wait that one of two versions may pass knows what comes with either, and not with one alone.
 pub fn every_satisfier_counts()
-    ensures refused { verdict_of makers (two_makers any_tool) (two_makers_known []) 0 ≡ Refused 2 Missing }
-    ensures by_first { (result_of makers (two_makers any_tool) (1 ∷ 1 ∷ 0 ∷ 0 ∷ [])).stop ≡ trap_at 4 0 2 Missing }
-    ensures by_second { (result_of makers (two_makers any_tool) (2 ∷ 2 ∷ 2 ∷ 0 ∷ 0 ∷ [])).stop ≡ None }
-    ensures exact { verdict_of makers (two_makers second_tool) (two_makers_known (variant 1 0 ∷ variant 0 1 ∷ [])) 0 ≡ Costs 1 }
+    ensures refused { verdict_of makers (two_makers any_tool) (two_makers_known []) 0
+        ≡ Refused 2 Missing }
+    ensures by_first { (result_of makers (two_makers any_tool) (1 ∷ 1 ∷ 0 ∷ 0 ∷ [])).stop
+        ≡ trap_at 4 0 2 Missing }
+    ensures by_second { (result_of makers (two_makers any_tool) (2 ∷ 2 ∷ 2 ∷ 0 ∷ 0 ∷ [])).stop
+        ≡ None }
+    ensures exact { verdict_of makers (two_makers second_tool)
+        (two_makers_known (variant 1 0 ∷ variant 0 1 ∷ [])) 0 ≡ Costs 1 }
 {}
