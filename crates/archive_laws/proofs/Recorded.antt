@@ -20,9 +20,10 @@ use Rattle.plan_asm.specs.Run.{archive, State, start, lane_state, no_state}
 use Rattle.plan_asm.specs.Known.{gives, publishing, Rows, KeepsRows}
 use Rattle.plan_asm.specs.World.{world_lane}
 use Rattle.farm_laws.proofs.Steps.{run_keeps}
-use Rattle.farm_laws.proofs.Places.{drop_some, StandsAt, InPlace}
+use Rattle.farm_laws.proofs.EventsLeft.{drop_some, StandsAt, InPlace}
 use Rattle.farm_laws.proofs.Archive.{made_before, made_by}
-use Rattle.farm_laws.proofs.KnownRows.{made_in, initial_there, ArchiveHolds, archive_stays, archive_at_start}
+use Rattle.farm_laws.proofs.Possible.{made_in, initial_there}
+use Rattle.farm_laws.proofs.KnownRows.{ArchiveHolds, archive_stays, archive_at_start}
 use Rattle.archive_laws.specs.Shown.{recorded, WordsAreRecorded}
 
 -- what some instruction of a list gives is among the outputs of the list

@@ -6,8 +6,8 @@ use Rattle.plan_asm.specs.Run.{State, start, lane_state, is_finished}
 use Rattle.std.proofs.lemmas.Bool.{leb-false}
 use Rattle.plan_asm.specs.MayAt.{lane_cost}
 use Rattle.farm_laws.specs.Laws.{EveryInterleaving, StatesAreForeseen, LanesAreWithinBudget, SchedulesMeetNoTrap}
-use Rattle.farm_laws.proofs.Places.{runs_end}
-use Rattle.farm_laws.proofs.KnownRows.{nothing_else}
+use Rattle.farm_laws.proofs.EventsLeft.{runs_end}
+use Rattle.farm_laws.proofs.Possible.{nothing_else}
 use Rattle.farm_laws.proofs.Progress.{some_move}
 use Rattle.farm_laws.proofs.Whole.{holds_at_start, holds_after, never_trapped}
 use Rattle.farm_laws.proofs.Budget.{cost_within, spent_within, play_safe}
@@ -30,7 +30,8 @@ every_interleaving u p rows order sound annotation is_order =
       goes_on = λ schedule s r e. let h = holds schedule s r in
           let left = unfinished p s e in
           some_move u p s h.archive_holds.places h.archive_holds.archive_is
-          (never_trapped u p rows sound annotation.keeps annotation.safe s h) order is_order left.0 left.1 left.2;
+          (never_trapped u p rows sound annotation.keeps annotation.safe s h) order is_order
+          left.0 left.1 left.2;
       bounded = λ schedule s r. runs_end u p sound schedule s r;
     }
 

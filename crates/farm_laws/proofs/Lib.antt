@@ -1,10 +1,13 @@
 pub mod Steps
 pub mod Places
+pub mod EventsLeft
 pub mod Archive
+pub mod Possible
 pub mod KnownRows
 pub mod Boards
 pub mod Progress
 pub mod Slots
+pub mod AllowedAfter
 pub mod MayMaps
 pub mod Safe
 pub mod Whole

@@ -1,32 +1,29 @@
--- A chroot that a may map allows: each trap of an instruction is bounded by its risk, and the
--- chroot after the instruction is allowed by the map after it.
-use Rattle.std.proofs.Common.{◌≡◌, ℕ, ◌+◌, ◌<◌, ◌≤◌, Bool, true, false, not, ◌&&◌, ◌==◌, inl, inr, List, [], ◌∷◌, length, Some, None, refl, sym, ap, ◌∙◌, subst, arith, zero-add, le_refl, length-set, get_or-set_same, get_or-set_other, if◌then◌else◌}
+-- A chroot that a may map allows: each trap of an instruction is bounded by its risk.
+use Rattle.std.proofs.Common.{◌≡◌, ℕ, ◌+◌, ◌<◌, ◌≤◌, Bool, true, false, not, ◌&&◌, ◌==◌, inl, inr, List, [], ◌∷◌, length, Some, None, refl, sym, ap, ◌∙◌, arith, le_refl}
 use Rattle.std.specs.Prelude.{nat_lt}
 use Rattle.std.specs.List.{list_any}
 use Rattle.std.proofs.lemmas.Option.{none-some}
-use Rattle.std.proofs.lemmas.Bool.{not-true, both_ways, cond-true, cond-false, and_parts, and_from, cases_eq, cases_lt, cases_Bool, lt-ltb, ltb-true, eq-eqb, ne_eqb, false_from_ne_true}
-use Rattle.std.proofs.lemmas.List.{get_or_past}
-use Rattle.std.proofs.lemmas.List.FromFn.{get_or-map-range_with_len, length-map-range_with_len}
+use Rattle.std.proofs.lemmas.Bool.{not-true, both_ways, cond-true, cond-false, and_parts, and_from, cases_Bool, lt-ltb, ltb-true, false_from_ne_true}
 use Rattle.deb_relation.specs.Relations.{Entry}
 use Rattle.farm_universe.specs.declared.types.Variant.{Variant}
 use Rattle.farm_universe.specs.declared.types.Trap.{Trap}
 use Rattle.farm_universe.specs.declared.types.Trap.TheVariants.{OverBudget}
 use Rattle.farm_universe.specs.Below.{some_below, sum_below}
 use Rattle.farm_universe.specs.Universe.{Universe, Recipe}
-use Rattle.farm_universe.specs.Packages.{variant, same, names, variants, size, pre_depends, depends, satisfies_entry, satisfies_any, conflict, breaks}
+use Rattle.farm_universe.specs.Packages.{variant, names, variants, size, pre_depends, depends, satisfies_entry, satisfies_any, conflict, breaks}
 use Rattle.farm_universe.specs.Chroot.{Chroot, slot}
 use Rattle.farm_universe.specs.Traps.{first_trap}
 use Rattle.farm_universe.proofs.BelowLaws.{some_below-at, some_below-found, sum_below-mono, greatest_below-at}
 use Rattle.plan_asm.specs.Plan.{Lane, capacity, unpack_cost}
 use Rattle.farm_universe.specs.declared.types.Slot.{Slot}
-use Rattle.farm_universe.specs.declared.types.Slot.TheVariants.{Absent, Unpacked}
-use Rattle.farm_universe.specs.Chroot.{Chroot, slot, holds_configured, last_of, size_in, used, member, met, met_with, pre_met, unmet, entries, unsettled}
-use Rattle.farm_universe.specs.Traps.{unpack_traps, unpacked, changed, some_member, configure_traps, still_needed, withdraw_traps, build_traps}
-use Rattle.plan_asm.specs.May.{Bits, MaySlot, MayUnpacked, May, may_hold_configured, surely_configured, surely_met, surely_met_with, surely_pre_met, may_size, may_use}
-use Rattle.plan_asm.specs.Allowed.{Allows, allows_unpacked, AllowsAll}
+use Rattle.farm_universe.specs.declared.types.Slot.TheVariants.{Absent}
+use Rattle.farm_universe.specs.Chroot.{holds_configured, size_in, used, member, met, met_with, pre_met, unmet, entries, unsettled}
+use Rattle.farm_universe.specs.Traps.{unpack_traps, changed, some_member, configure_traps, still_needed, withdraw_traps, build_traps}
+use Rattle.plan_asm.specs.May.{Bits, MaySlot, May, may_hold_configured, surely_configured, surely_met, surely_met_with, surely_pre_met, may_size, may_use}
+use Rattle.plan_asm.specs.Allowed.{Allows, AllowsAll}
 use Rattle.plan_asm.specs.Risk.{greatest_cost, unpack_risks, some_may_member, configure_risks, surely_met_outside, may_meet, may_be_needed, withdraw_risks, may_be_unsettled, build_risks}
-use Rattle.plan_asm.specs.MayAt.{may_be_last}
-use Rattle.farm_laws.proofs.Slots.{list_any-mono, not-mono, and-mono, or-mono, some_of-at, holds-may, holds_configured-may, surely_configured-holds, surely_holds-holds, surely_pre_meets-meets, size_in-may, is_unpacked-may, last_allowed, cond_allowed, holds-mono, holds_configured-mono}
+use Rattle.farm_laws.proofs.Slots.{list_any-mono, not-mono, and-mono, or-mono, some_of-at, holds-may, holds_configured-may, surely_configured-holds, surely_holds-holds, surely_pre_meets-meets, size_in-may, is_unpacked-may, holds-mono, holds_configured-mono}
+use Rattle.farm_laws.proofs.AllowedAfter.{slot-changed, length-changed}
 
 -- each test of the first list is bounded by that of the second
 pub data Covers : List (Bool × Trap) → List (Bool × Trap) → Type 0 where
@@ -56,32 +53,6 @@ unmet-may : (meets surely : Entry → Bool) (es : List Entry)
     → ((e : Entry) → surely e ≡ true → meets e ≡ true) → unmet meets es ≡ true
     → unmet surely es ≡ true
 unmet-may meets surely es h = list_any-mono _ _ es (λ e. not-mono (meets e) (surely e) (h e))
-
--- a member's slot is changed, the others stay
-pub slot-changed : (f : Slot → Slot) → f Absent ≡ Absent → (c : Chroot) (members : List ℕ) (n : ℕ)
-    → slot (changed f c members) n ≡ (if member members n then f (slot c n) else slot c n)
-slot-changed f none c members n =
-    elim (cases_lt n (length c)) [
-      | inl lt ↦ get_or-map-range_with_len
-          (λ k. if member members k then f (slot c k) else slot c k) 0 (length c) n n Absent lt
-          (zero-add n)
-      | inr ge ↦ let off : slot (changed f c members) n ≡ Absent
-          = get_or_past _ n Absent (omega (
-            arith,
-            length-map-range_with_len
-                (λ k. if member members k then f (slot c k) else slot c k) 0 (length c),
-          )) in
-          let was : slot c n ≡ Absent = get_or_past c n Absent ge in
-          off ∙ rw was (stays (member members n))
-    ]
-  where
-    stays : (b : Bool) → Absent ≡ (if b then f Absent else Absent)
-    stays true = sym none
-    stays false = refl
-
-pub length-changed : (f : Slot → Slot) (c : Chroot) (members : List ℕ)
-    → length (changed f c members) ≡ length c
-length-changed f c members = length-map-range_with_len _ 0 (length c)
 
 -- what a name outside the set meets is met after the change too
 met-changed : (u : Universe) (f : Slot → Slot) → f Absent ≡ Absent
@@ -210,56 +181,6 @@ module _ (u : Universe) (m : May) (c : Chroot) (al : AllowsAll u m c) where
       (cons (unmet-may (met u c) (surely_met u m) r.needs met_sound)
       (cons (slots-may _ _ (λ n a. holds-may u n (λ b. satisfies_any u r.clashes (variant n b)) a))
       (cons (over-may (capacity u of) _ _ _ _ use_sound (le_refl _)) nil))))
-
-  -- the chroot after an unpack is allowed by the map after it
-  pub unpack_keeps : (name : ℕ) (set : Bits) (b cost : ℕ) (built : List Bool) → name < names u
-      → b < variants u name → set b ≡ true
-      → AllowsAll u (record {
-        slots =
-            λ n. if n == name then MayUnpacked set (may_be_last (m.slots n)) else m.slots n;
-        cost =
-            cost;
-        built = built;
-      }) (unpacked c (variant name b))
-  unpack_keeps name set b cost built lt in_range has =
-      record {
-        long = length-set c name _ ∙ al.long;
-        each = λ n. elim (cases_eq n name) [
-          | inl here ↦ let new : slot (unpacked c (variant name b)) n
-              ≡ Unpacked b (last_of (slot c name))
-              = ap (slot (unpacked c (variant name b))) here
-              ∙ get_or-set_same c name _ Absent (omega (arith, al.long)) in
-              let may : (if n == name then MayUnpacked set (may_be_last (m.slots n)) else m.slots n)
-              ≡ MayUnpacked set (may_be_last (m.slots name))
-              = rw (eq-eqb n name here) (ap (λ k. MayUnpacked set
-              (may_be_last (m.slots k))) here) in
-              rw (new, may)
-              (subst (λ k. Allows (variants u k) (MayUnpacked set (may_be_last (m.slots name)))
-              (Unpacked b (last_of (slot c name)))) (sym here)
-              (allows_unpacked in_range has (last_allowed (al.each name))))
-          | inr other ↦ let new : slot (unpacked c (variant name b)) n ≡ slot c n =
-              get_or-set_other c name n _ Absent other in
-              rw (new, ne_eqb n name other) (al.each n)
-        ];
-      }
-
-  -- the same change of the members' slots, in the chroot and in the map
-  pub change_keeps : (f : MaySlot → MaySlot) (g : Slot → Slot)
-      → ((count : ℕ) (ms : MaySlot) (s : Slot) → Allows count ms s → Allows count (f ms) (g s))
-      → (members : List ℕ) (cost : ℕ) (built : List Bool)
-      → g Absent ≡ Absent → AllowsAll u
-      (record {
-        slots = λ n. if member members n then f (m.slots n) else m.slots n;
-        cost =
-            cost;
-        built = built;
-      }) (changed g c members)
-  change_keeps f g keeps members cost built none =
-      record {
-        long = length-changed g c members ∙ al.long;
-        each = λ n. rw (slot-changed g none c members n)
-            (cond_allowed (member members n) (keeps _ _ _ (al.each n)) (al.each n));
-      }
 
   -- an entry that is met before and not after is one that a member may meet, and no other surely
   -- does

@@ -20,9 +20,9 @@ use Rattle.plan_asm.specs.Known.{gives, publishing}
 use Rattle.plan_asm.specs.Order.{Item, Pass, Give, items_of, items, start_board, IsOrder}
 use Rattle.farm_laws.proofs.Boards.{gives_item, right-nil, NextIs, Behind, Itself, walk}
 use Rattle.farm_laws.proofs.Steps.{turn_at}
-use Rattle.farm_laws.proofs.Places.{drop_some, StandsAt, InPlace, InPlaces}
+use Rattle.farm_laws.proofs.EventsLeft.{drop_some, StandsAt, InPlace, InPlaces}
 use Rattle.farm_laws.proofs.Archive.{made_before, made_by, list_any-take}
-use Rattle.farm_laws.proofs.KnownRows.{ArchiveIs, initial_there}
+use Rattle.farm_laws.proofs.Possible.{ArchiveIs, initial_there}
 
 -- a turn that is neither a wait nor the end
 abbrev pub NotStuck : Turn → Type 0

@@ -25,7 +25,8 @@ use Rattle.plan_asm.specs.Allowed.{allows_absent, AllowsAll}
 use Rattle.plan_asm.specs.Risk.{candidates, unpack_risk, publish_risks, risk, greatest_cost, unpack_risks, configure_risks, withdraw_risks, build_risks}
 use Rattle.plan_asm.specs.MayAt.{may_unpack, may_after, may_after_some, may_at, may_be_configured, may_be_deconfigured}
 use Rattle.farm_laws.proofs.Slots.{configured_allowed, deconfigured_allowed, is_configured-may, is_present-may}
-use Rattle.farm_laws.proofs.MayMaps.{Covers, nil, cons, over-may, no_trap, unpack_covers, configure_covers, build_covers, unpack_keeps, change_keeps, withdraw_covers}
+use Rattle.farm_laws.proofs.AllowedAfter.{unpack_keeps, change_keeps}
+use Rattle.farm_laws.proofs.MayMaps.{Covers, nil, cons, over-may, no_trap, unpack_covers, configure_covers, build_covers, withdraw_covers}
 
 -- a known variant has a known name
 pub variants_name : (u : Universe) (name b : ℕ) → b < variants u name → name < names u
@@ -179,7 +180,8 @@ module _ (u : Universe) (p : Plan) (rows : Rows) where
     deconfigure_agrees ms e z safe =
         let low = spent_here z in
         unless_agrees l _ (Goes (past st (length ms) (deconfigured st.chroot ms)))
-        (no_trap (withdraw_covers u here st.chroot agrees.allows is_configured is_surely_configured (λ k n t a. is_configured-may a) deconfigured_slot refl (lane p l) st.spent ms low) safe)
+        (no_trap (withdraw_covers u here st.chroot agrees.allows is_configured is_surely_configured
+        (λ k n t a. is_configured-may a) deconfigured_slot refl (lane p l) st.spent ms low) safe)
         (past_agrees (Deconfigure ms) _ _ e
         (change_keeps u here st.chroot agrees.allows may_be_deconfigured deconfigured_slot
         (λ k n t a. deconfigured_allowed a) ms _ _ refl) (omega (arith, low)) refl)

@@ -26,7 +26,7 @@ use Rattle.plan_asm.specs.Risk.{risk}
 use Rattle.plan_asm.specs.MayAt.{may_at, may_base, may_base_slot}
 use Rattle.plan_asm.specs.Safety.{risk_of, risk_at, IsSafeUnder}
 use Rattle.farm_laws.proofs.Steps.{turn_at, After, step_keeps, run_keeps}
-use Rattle.farm_laws.proofs.Places.{put_each, state_at_start}
+use Rattle.farm_laws.proofs.EventsLeft.{put_each, state_at_start}
 use Rattle.farm_laws.proofs.Archive.{publishing-zero}
 use Rattle.farm_laws.proofs.KnownRows.{ArchiveHolds, possible_at_zero, archive_stays, archive_at_start}
 use Rattle.farm_laws.proofs.Safe.{variants_name, Agrees, AgreesAfter, turn_agrees}

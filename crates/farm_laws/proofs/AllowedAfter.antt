@@ -1,0 +1,93 @@
+-- The chroot after an instruction is allowed by the may map after it.
+use Rattle.std.proofs.Common.{◌≡◌, ℕ, ◌<◌, Bool, true, false, ◌==◌, inl, inr, List, length, refl, sym, ap, ◌∙◌, subst, arith, zero-add, length-set, get_or-set_same, get_or-set_other, if◌then◌else◌}
+use Rattle.std.proofs.lemmas.Bool.{cases_eq, cases_lt, eq-eqb, ne_eqb}
+use Rattle.std.proofs.lemmas.List.{get_or_past}
+use Rattle.std.proofs.lemmas.List.FromFn.{get_or-map-range_with_len, length-map-range_with_len}
+use Rattle.farm_universe.specs.Universe.{Universe}
+use Rattle.farm_universe.specs.Packages.{variant, names, variants}
+use Rattle.farm_universe.specs.Chroot.{Chroot, slot}
+use Rattle.farm_universe.specs.declared.types.Slot.{Slot}
+use Rattle.farm_universe.specs.declared.types.Slot.TheVariants.{Absent, Unpacked}
+use Rattle.farm_universe.specs.Chroot.{last_of, member}
+use Rattle.farm_universe.specs.Traps.{unpacked, changed}
+use Rattle.plan_asm.specs.May.{Bits, MaySlot, MayUnpacked, May}
+use Rattle.plan_asm.specs.Allowed.{Allows, allows_unpacked, AllowsAll}
+use Rattle.plan_asm.specs.MayAt.{may_be_last}
+use Rattle.farm_laws.proofs.Slots.{last_allowed, cond_allowed}
+
+-- a member's slot is changed, the others stay
+pub slot-changed : (f : Slot → Slot) → f Absent ≡ Absent → (c : Chroot) (members : List ℕ) (n : ℕ)
+    → slot (changed f c members) n ≡ (if member members n then f (slot c n) else slot c n)
+slot-changed f none c members n =
+    elim (cases_lt n (length c)) [
+      | inl lt ↦ get_or-map-range_with_len
+          (λ k. if member members k then f (slot c k) else slot c k) 0 (length c) n n Absent lt
+          (zero-add n)
+      | inr ge ↦ let off : slot (changed f c members) n ≡ Absent
+          = get_or_past _ n Absent (omega (
+            arith,
+            length-map-range_with_len
+                (λ k. if member members k then f (slot c k) else slot c k) 0 (length c),
+          )) in
+          let was : slot c n ≡ Absent = get_or_past c n Absent ge in
+          off ∙ rw was (stays (member members n))
+    ]
+  where
+    stays : (b : Bool) → Absent ≡ (if b then f Absent else Absent)
+    stays true = sym none
+    stays false = refl
+
+pub length-changed : (f : Slot → Slot) (c : Chroot) (members : List ℕ)
+    → length (changed f c members) ≡ length c
+length-changed f c members = length-map-range_with_len _ 0 (length c)
+
+module _ (u : Universe) (m : May) (c : Chroot) (al : AllowsAll u m c) where
+  -- the chroot after an unpack is allowed by the map after it
+  pub unpack_keeps : (name : ℕ) (set : Bits) (b cost : ℕ) (built : List Bool) → name < names u
+      → b < variants u name → set b ≡ true
+      → AllowsAll u (record {
+        slots =
+            λ n. if n == name then MayUnpacked set (may_be_last (m.slots n)) else m.slots n;
+        cost =
+            cost;
+        built = built;
+      }) (unpacked c (variant name b))
+  unpack_keeps name set b cost built lt in_range has =
+      record {
+        long = length-set c name _ ∙ al.long;
+        each = λ n. elim (cases_eq n name) [
+          | inl here ↦ let new : slot (unpacked c (variant name b)) n
+              ≡ Unpacked b (last_of (slot c name))
+              = ap (slot (unpacked c (variant name b))) here
+              ∙ get_or-set_same c name _ Absent (omega (arith, al.long)) in
+              let may : (if n == name then MayUnpacked set (may_be_last (m.slots n)) else m.slots n)
+              ≡ MayUnpacked set (may_be_last (m.slots name))
+              = rw (eq-eqb n name here) (ap (λ k. MayUnpacked set
+              (may_be_last (m.slots k))) here) in
+              rw (new, may)
+              (subst (λ k. Allows (variants u k) (MayUnpacked set (may_be_last (m.slots name)))
+              (Unpacked b (last_of (slot c name)))) (sym here)
+              (allows_unpacked in_range has (last_allowed (al.each name))))
+          | inr other ↦ let new : slot (unpacked c (variant name b)) n ≡ slot c n =
+              get_or-set_other c name n _ Absent other in
+              rw (new, ne_eqb n name other) (al.each n)
+        ];
+      }
+
+  -- the same change of the members' slots, in the chroot and in the map
+  pub change_keeps : (f : MaySlot → MaySlot) (g : Slot → Slot)
+      → ((count : ℕ) (ms : MaySlot) (s : Slot) → Allows count ms s → Allows count (f ms) (g s))
+      → (members : List ℕ) (cost : ℕ) (built : List Bool)
+      → g Absent ≡ Absent → AllowsAll u
+      (record {
+        slots = λ n. if member members n then f (m.slots n) else m.slots n;
+        cost =
+            cost;
+        built = built;
+      }) (changed g c members)
+  change_keeps f g keeps members cost built none =
+      record {
+        long = length-changed g c members ∙ al.long;
+        each = λ n. rw (slot-changed g none c members n)
+            (cond_allowed (member members n) (keeps _ _ _ (al.each n)) (al.each n));
+      }
