@@ -8,8 +8,9 @@ pub fn start_is_reached()
     ensures { StartIsReached }
 {}
 
-/// From a world that shows a reachable state, one lane's local instructions and then its archive step
-/// lead to a world that shows a reachable state, in which the other lanes' records are unchanged.
+/// From a world that shows a reachable state, one lane's local instructions and then its archive
+/// step lead to a world that shows a reachable state, in which the other lanes' records are
+/// unchanged.
 pub fn one_archive_step()
     ensures { EachLaneSteps }
 {}
@@ -19,21 +20,21 @@ pub fn each_word_decides()
     ensures { EachWordDecides }
 {}
 
-/// The words of a world that shows a reachable state are the initial archive and the outputs that the
-/// lanes' records stand for.
+/// The words of a world that shows a reachable state are the initial archive and the outputs that
+/// the lanes' records stand for.
 pub fn words_are_recorded()
     ensures { WordsAreRecorded }
 {}
 
-/// In a world that shows a reachable state of an annotated plan, the words have what each lane knows
-/// and the facts of what is in them, and nothing but what may be there; each chroot is one that its
-/// may map allows, and no lane has spent more than its cost.
+/// In a world that shows a reachable state of an annotated plan, the words have what each lane
+/// knows and the facts of what is in them, and nothing but what may be there; each chroot is one
+/// that its may map allows, and no lane has spent more than its cost.
 pub fn worlds_are_foreseen()
     ensures { WorldsAreForeseen }
 {}
 
-/// In such a world the local instructions of a lane lead to its next archive step or to its end, and
-/// that step meets no trap.
+/// In such a world the local instructions of a lane lead to its next archive step or to its end,
+/// and that step meets no trap.
 pub fn worlds_are_ready()
     ensures { WorldsAreReady }
 {}
