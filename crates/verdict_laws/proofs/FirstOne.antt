@@ -28,7 +28,8 @@ first_unsafe_is_one u p rows l i k j t t' a b =
       same,
       place,
       same_Some t t'
-          (sym a.here ∙ ap (λ n. risk_at u p rows n i) same ∙ ap (risk_at u p rows k) place ∙ b.here),
+          (sym a.here ∙ ap (λ n. risk_at u p rows n i) same
+          ∙ ap (risk_at u p rows k) place ∙ b.here),
     )
     of_lane same (inr (inl lt)) =
         absurd (none-some t (sym (b.before i lt) ∙ ap (λ n. risk_at u p rows n i) (sym same)
