@@ -26,7 +26,9 @@ twice MayAbsent = refl
 twice (MayUnpacked current last) = refl
 twice (MayConfigured current) = refl
 
-either : (b : Bool) (s : MaySlot) → (if b then may_be_configured (may_be_configured s) else may_be_configured s) ≡ may_be_configured s
+either : (b : Bool) (s : MaySlot)
+    → (if b then may_be_configured (may_be_configured s) else may_be_configured s)
+    ≡ may_be_configured s
 either true s = twice s
 either false s = refl
 
@@ -36,40 +38,62 @@ at items n = slot_of (slice_index_or items n Absent)
 abbrev set_at : List Held → ℕ → List Held
 set_at items m = slice_set items m (held_configured (slice_index_or items m Absent))
 
-here : (items : List Held) (m n : ℕ) → m < length items → n ≡ m → at (set_at items m) n ≡ may_be_configured (at items n)
+here : (items : List Held) (m n : ℕ) → m < length items → n ≡ m
+    → at (set_at items m) n ≡ may_be_configured (at items n)
 here items m n lt same =
     ap (at (set_at items m)) same
-    ∙ (ap slot_of (get_or-set_same items m (held_configured (slice_index_or items m Absent)) Absent lt)
-    ∙ (slot-configured (slice_index_or items m Absent) ∙ ap (λ k. may_be_configured (at items k)) (sym same)))
+    ∙ (ap slot_of
+    (get_or-set_same items m (held_configured (slice_index_or items m Absent)) Absent lt)
+    ∙ (slot-configured (slice_index_or items m Absent)
+    ∙ ap (λ k. may_be_configured (at items k)) (sym same)))
 
 there : (items : List Held) (m n : ℕ) → (n ≡ m → ⊥) → at (set_at items m) n ≡ at items n
-there items m n other = ap slot_of (get_or-set_other items m n (held_configured (slice_index_or items m Absent)) Absent other)
+there items m n other =
+    ap slot_of
+    (get_or-set_other items m n (held_configured (slice_index_or items m Absent)) Absent other)
 
-pub all_configured-at : (members : List ℕ) (items : List Held) (n : ℕ) → All (λ k. k < length items) members
-    → (if member members n then may_be_configured (at items n) else at items n) ≡ at (all_configured items members) n
+pub all_configured-at : (members : List ℕ) (items : List Held) (n : ℕ)
+    → All (λ k. k < length items) members
+    → (if member members n then may_be_configured (at items n) else at items n)
+    ≡ at (all_configured items members) n
 all_configured-at [] items n all = refl
 all_configured-at (m ∷ ms) items n all =
     let first : m < length items = all zero 0 (omega arith) in
-    let rest = all_configured-at ms (set_at items m) n (λ k d lt. rw (length-set items m (held_configured (slice_index_or items m Absent))) (all (suc k) d (omega arith))) in
+    let rest =
+    all_configured-at ms (set_at items m) n
+    (λ k d lt.
+    rw (length-set items m (held_configured (slice_index_or items m Absent)))
+    (all (suc k) d (omega arith))) in
     elim (cases_eq n m) [
       | inl same ↦
           rw (eq-eqb m n (sym same))
-          (sym (ap (λ s. if member ms n then may_be_configured s else s) (here items m n first same) ∙ either (member ms n) (at items n)) ∙ rest)
+          (sym
+          (ap (λ s. if member ms n then may_be_configured s else s) (here items m n first same)
+          ∙ either (member ms n) (at items n))
+          ∙ rest)
       | inr other ↦
           rw (not_same m n (λ e. other (sym e)))
-          (ap (λ s. if member ms n then may_be_configured s else s) (sym (there items m n other)) ∙ rest)
+          (ap (λ s. if member ms n then may_be_configured s else s) (sym (there items m n other))
+          ∙ rest)
     ]
 
-pub then-configure : (u : Universe) (map next : MayMap) (members : List ℕ) → All (λ k. k < length map.slots.items) members
-    → next.slots.items ≡ all_configured map.slots.items members → next.cost ≡ map.cost + length members
+pub then-configure : (u : Universe) (map next : MayMap) (members : List ℕ)
+    → All (λ k. k < length map.slots.items) members
+    → next.slots.items ≡ all_configured map.slots.items members
+    → next.cost ≡ map.cost + length members
     → may_then u (may_of u map) (Configure members) ≡ may_of u next
 then-configure u map next members all slots cost =
     λ i. record {
-      slots = λ n. (all_configured-at members map.slots.items n all ∙ ap (λ items. at items n) (sym slots)) i;
+      slots =
+          λ n. (all_configured-at members map.slots.items n all
+          ∙ ap (λ items. at items n) (sym slots)) i;
       cost = sym cost i;
       built = no_builds u;
     }
 
-pub all_configured-long : (members : List ℕ) (items : List Held) → length (all_configured items members) ≡ length items
+pub all_configured-long : (members : List ℕ) (items : List Held)
+    → length (all_configured items members) ≡ length items
 all_configured-long [] items = refl
-all_configured-long (m ∷ ms) items = all_configured-long ms (set_at items m) ∙ length-set items m (held_configured (slice_index_or items m Absent))
+all_configured-long (m ∷ ms) items =
+    all_configured-long ms (set_at items m)
+    ∙ length-set items m (held_configured (slice_index_or items m Absent))

@@ -31,10 +31,14 @@ same_test true false f g = sym (f refl)
 same_test false true f g = g refl
 same_test false false f g = refl
 
-module _ (u : Universe) (sound : IsUniverse u) (name : ℕ) (wanted : Option (Op × List ℕ)) (h : ℕ) (is : newest u (initial u) name wanted ≡ Some h) where
-  highest : IsHighest (variants u name) (λ b. initial u (variant name b) && is_wanted u wanted (variant name b)) h
+module _ (u : Universe) (sound : IsUniverse u) (name : ℕ) (wanted : Option (Op × List ℕ)) (h : ℕ)
+    (is : newest u (initial u) name wanted ≡ Some h) where
+  highest : IsHighest (variants u name)
+      (λ b. initial u (variant name b) && is_wanted u wanted (variant name b)) h
   unfolding newest
-  highest = highest_below-some (variants u name) (λ b. initial u (variant name b) && is_wanted u wanted (variant name b)) h is
+  highest =
+      highest_below-some (variants u name)
+      (λ b. initial u (variant name b) && is_wanted u wanted (variant name b)) h is
 
   pub highest-small : h < 64
   highest-small = omega (arith, highest.below, sound.few name)
@@ -44,9 +48,13 @@ module _ (u : Universe) (sound : IsUniverse u) (name : ℕ) (wanted : Option (Op
   unfolding candidates
   only b =
       has-single h b
-      ∙ same_test (b == h) ((initial u (variant name b) && is_wanted u wanted (variant name b)) && nat_le h b)
+      ∙ same_test (b == h)
+      ((initial u (variant name b) && is_wanted u wanted (variant name b)) && nat_le h b)
       (λ e. let same = eqb-true b h e in
-      and_from _ _ (subst (λ k. (initial u (variant name k) && is_wanted u wanted (variant name k)) ≡ true) (sym same) highest.passes) (le-leb h b (omega arith)))
+      and_from _ _
+      (subst (λ k. (initial u (variant name k) && is_wanted u wanted (variant name k)) ≡ true)
+      (sym same) highest.passes)
+      (le-leb h b (omega arith)))
       (λ e. let parts = and_parts _ _ e in
       let there = and_parts _ _ parts.0 in
       let known = sound.initial_known (variant name b) there.0 in
@@ -57,8 +65,11 @@ module _ (u : Universe) (sound : IsUniverse u) (name : ℕ) (wanted : Option (Op
   all_of_them : (word : ℕ) → word ≡ 2 ^ h → candidates u (initial u) name wanted h ≡ has word
   all_of_them word e = sym (ap has e ∙ (λ i. λ b. only b i))
 
-  pub risk-unpack : (of : Lane) (m : May) (word : ℕ) → word ≡ 2 ^ h → risk_now u of m (Unpack name wanted) ≡ first_trap (unpack_risks u of m name (has word))
-  risk-unpack of m word e = ap (unpack_risk u (initial u) of m name wanted) is ∙ ap (λ set. first_trap (unpack_risks u of m name set)) (all_of_them word e)
+  pub risk-unpack : (of : Lane) (m : May) (word : ℕ) → word ≡ 2 ^ h
+      → risk_now u of m (Unpack name wanted) ≡ first_trap (unpack_risks u of m name (has word))
+  risk-unpack of m word e =
+      ap (unpack_risk u (initial u) of m name wanted) is
+      ∙ ap (λ set. first_trap (unpack_risks u of m name set)) (all_of_them word e)
 
   none_last : has 0 ≡ may_be_last MayAbsent
   none_last = λ i. λ b. ap (λ n. n == 1) (bit_at-zero b) i
@@ -68,27 +79,54 @@ module _ (u : Universe) (sound : IsUniverse u) (name : ℕ) (wanted : Option (Op
   last-is (Unpacked current last) = refl
   last-is (Configured current) = refl
 
-  module _ (map next : MayMap) (word : ℕ) (single : word ≡ 2 ^ h) (there : name < length map.slots.items)
-      (slots : next.slots.items ≡ slice_set map.slots.items name (Unpacked word (last_word (held_at map name))))
+  module _ (map next : MayMap) (word : ℕ) (single : word ≡ 2 ^ h)
+      (there : name < length map.slots.items)
+      (slots : next.slots.items
+      ≡ slice_set map.slots.items name (Unpacked word (last_word (held_at map name))))
       (cost : next.cost ≡ map.cost + greatest_cost u name (has word)) where
-    slot-is : (n : ℕ) → (if n == name then MayUnpacked (has word) (may_be_last (slot_of (held_at map n))) else slot_of (held_at map n)) ≡ slot_of (held_at next n)
+    slot-is : (n : ℕ)
+        → (if n == name then MayUnpacked (has word) (may_be_last (slot_of (held_at map n)))
+        else slot_of (held_at map n))
+        ≡ slot_of (held_at next n)
     slot-is n =
         elim (cases_eq n name) [
           | inl same ↦ rw (eq-eqb n name same) (sym
               (ap (λ items. slot_of (slice_index_or items n Absent)) slots
-              ∙ (ap (λ k. slot_of (slice_index_or (slice_set map.slots.items name (Unpacked word (last_word (held_at map name)))) k Absent)) same
-              ∙ (ap slot_of (get_or-set_same map.slots.items name (Unpacked word (last_word (held_at map name))) Absent there)
-              ∙ (ap (λ set. MayUnpacked (has word) set) (last-is (held_at map name)) ∙ ap (λ k. MayUnpacked (has word) (may_be_last (slot_of (held_at map k)))) (sym same))))))
+              ∙ (ap
+              (λ k. slot_of (slice_index_or
+              (slice_set map.slots.items name (Unpacked word (last_word (held_at map name))))
+              k Absent))
+              same
+              ∙ (ap slot_of
+              (get_or-set_same map.slots.items name
+              (Unpacked word (last_word (held_at map name))) Absent there)
+              ∙ (ap (λ set. MayUnpacked (has word) set) (last-is (held_at map name))
+              ∙ ap (λ k. MayUnpacked (has word) (may_be_last (slot_of (held_at map k))))
+              (sym same))))))
           | inr other ↦ rw (not_same n name other) (sym
               (ap (λ items. slot_of (slice_index_or items n Absent)) slots
-              ∙ ap slot_of (get_or-set_other map.slots.items name n (Unpacked word (last_word (held_at map name))) Absent other)))
+              ∙ ap slot_of
+              (get_or-set_other map.slots.items name n
+              (Unpacked word (last_word (held_at map name))) Absent other)))
         ]
 
-    unpacked-is : record { slots = λ n. if n == name then MayUnpacked (has word) (may_be_last (slot_of (held_at map n))) else slot_of (held_at map n); cost = map.cost + greatest_cost u name (has word); built = no_builds u } ≡ may_of u next
+    unpacked-is : record {
+      slots =
+          λ n. if n == name then MayUnpacked (has word) (may_be_last (slot_of (held_at map n)))
+          else slot_of (held_at map n);
+      cost = map.cost + greatest_cost u name (has word);
+      built = no_builds u;
+    } ≡ may_of u next
     unpacked-is = λ i. record { slots = λ n. slot-is n i; cost = sym cost i; built = no_builds u }
 
     abbrev with_set : Bits → May
-    with_set set = record { slots = λ n. if n == name then MayUnpacked set (may_be_last (slot_of (held_at map n))) else slot_of (held_at map n); cost = map.cost + greatest_cost u name set; built = no_builds u }
+    with_set set = record {
+      slots =
+          λ n. if n == name then MayUnpacked set (may_be_last (slot_of (held_at map n)))
+          else slot_of (held_at map n);
+      cost = map.cost + greatest_cost u name set;
+      built = no_builds u;
+    }
 
     pub then-unpack : may_then u (may_of u map) (Unpack name wanted) ≡ may_of u next
     then-unpack =

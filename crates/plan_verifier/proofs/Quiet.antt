@@ -1,5 +1,5 @@
--- Plans that neither wait nor publish: what is possible is the initial archive, and each place follows from the one
--- before it.
+-- Plans that neither wait nor publish: what is possible is the initial archive, and each place
+-- follows from the one before it.
 use Rattle.std.proofs.Common.{◌≡◌, ℕ, zero, suc, ◌<◌, ◌≤◌, Bool, true, false, refl, sym, ap, ◌∙◌, inl, inr, List, [], ◌∷◌, length, take, get_or, Option, Some, None, arith, if◌then◌else◌}
 use Rattle.std.specs.Prelude.{◌||◌, ◌==◌, slice_get}
 use Rattle.std.specs.List.{list_any}
@@ -24,9 +24,11 @@ use Rattle.plan_verifier.specs.Walk.{initial_rows, is_read, IsReadable, risk_now
 
 some_below-none : (n : ℕ) (p : ℕ → Bool) → ((k : ℕ) → k < n → p k ≡ false) → some_below n p ≡ false
 some_below-none zero p h = refl
-some_below-none (suc n) p h = rw (h n (omega arith)) (some_below-none n p (λ k lt. h k (omega arith)))
+some_below-none (suc n) p h =
+    rw (h n (omega arith)) (some_below-none n p (λ k lt. h k (omega arith)))
 
-take-none : {X : Type 0} (p : X → Bool) (i : ℕ) (xs : List X) → list_any p xs ≡ false → list_any p (take i xs) ≡ false
+take-none : {X : Type 0} (p : X → Bool) (i : ℕ) (xs : List X) → list_any p xs ≡ false
+    → list_any p (take i xs) ≡ false
 take-none p zero xs h = refl
 take-none p (suc i) [] h = refl
 take-none p (suc i) (x ∷ xs) h =
@@ -35,12 +37,14 @@ take-none p (suc i) (x ∷ xs) h =
       | inr fails ↦ rw fails (take-none p i xs (rw fails at h))
     ]
 
-either-none : {X : Type 0} (p : X → Bool) (b : Bool) (i : ℕ) (xs : List X) → list_any p xs ≡ false → list_any p (if b then take i xs else xs) ≡ false
+either-none : {X : Type 0} (p : X → Bool) (b : Bool) (i : ℕ) (xs : List X) → list_any p xs ≡ false
+    → list_any p (if b then take i xs else xs) ≡ false
 either-none p true i xs h = take-none p i xs h
 either-none p false i xs h = h
 
 -- such an instruction gives nothing
-gives-none : (u w : Universe) (v : Variant) (x : Instruction) → is_read u x ≡ true → gives w v x ≡ false
+gives-none : (u w : Universe) (v : Variant) (x : Instruction) → is_read u x ≡ true
+    → gives w v x ≡ false
 gives-none u w v (Unpack name wanted) e = refl
 gives-none u w v (Configure members) e = refl
 gives-none u w v (Deconfigure members) e = refl
@@ -54,25 +58,33 @@ or_false true c e = refl
 or_false false c e = e
 
 module _ (u : Universe) (p : Plan) (readable : IsReadable u p) where
-  reach-none : (l i j : ℕ) (v : Variant) → j < length p → list_any (gives u v) (within_reach p l i j) ≡ false
+  reach-none : (l i j : ℕ) (v : Variant) → j < length p
+      → list_any (gives u v) (within_reach p l i j) ≡ false
   reach-none l i j v lt =
       either-none (gives u v) (j == l) i (lane p j).instructions
       (list_any_none (gives u v) (lane p j).instructions
       (λ k d there. gives-none u u v (get_or (lane p j).instructions k d)
-      (readable.read j k (get_or (lane p j).instructions k d) lt (slice_get-get_or (lane p j).instructions k d there))))
+      (readable.read j k (get_or (lane p j).instructions k d) lt
+      (slice_get-get_or (lane p j).instructions k d there))))
 
   possible-at : (l i : ℕ) (v : Variant) → possible u p l i v ≡ initial u v
   unfolding possible
-  possible-at l i v = or_false (initial u v) _ (some_below-none (length p) _ (λ j lt. reach-none l i j v lt))
+  possible-at l i v =
+      or_false (initial u v) _ (some_below-none (length p) _ (λ j lt. reach-none l i j v lt))
 
   pub possible-is : (l i : ℕ) → possible u p l i ≡ initial u
   possible-is l i = λ t. λ v. possible-at l i v t
 
-  module _ (l i : ℕ) (x : Instruction) (m : May) (is : instruction_at p l i ≡ Some x) (at : may_at u p (initial_rows u) l i ≡ m) where
+  module _ (l i : ℕ) (x : Instruction) (m : May) (is : instruction_at p l i ≡ Some x)
+      (at : may_at u p (initial_rows u) l i ≡ m) where
     pub may-next : may_at u p (initial_rows u) l (suc i) ≡ may_then u m x
     may-next =
-        ap (λ there. may_after_some u (initial u) there (may_at u p (initial_rows u) l i) (instruction_at p l i)) (possible-is l i)
-        ∙ (ap (λ n. may_after_some u (initial u) (initial u) n (instruction_at p l i)) at ∙ ap (may_after_some u (initial u) (initial u) m) is)
+        ap
+        (λ there. may_after_some u (initial u) there (may_at u p (initial_rows u) l i)
+        (instruction_at p l i))
+        (possible-is l i)
+        ∙ (ap (λ n. may_after_some u (initial u) (initial u) n (instruction_at p l i)) at
+        ∙ ap (may_after_some u (initial u) (initial u) m) is)
 
     abbrev by : (Variant → Bool) → May → Option Trap
     by there n = risk u (lane p l) (initial u) there n x
@@ -81,25 +93,35 @@ module _ (u : Universe) (p : Plan) (readable : IsReadable u p) where
     unfolding risk_at
     risk-is =
         ap (risk_of u p (initial_rows u) l i) is
-        ∙ (ap (λ there. by there (may_at u p (initial_rows u) l i)) (possible-is l i) ∙ ap (by (initial u)) at)
+        ∙ (ap (λ there. by there (may_at u p (initial_rows u) l i)) (possible-is l i)
+        ∙ ap (by (initial u)) at)
 
 -- past the end of a lane nothing may go wrong
-pub risk-past : (u : Universe) (p : Plan) (rows : Rows) (l i : ℕ) → instruction_at p l i ≡ None → risk_at u p rows l i ≡ None
+pub risk-past : (u : Universe) (p : Plan) (rows : Rows) (l i : ℕ) → instruction_at p l i ≡ None
+    → risk_at u p rows l i ≡ None
 unfolding risk_at
 risk-past u p rows l i is = ap (risk_of u p rows l i) is
 
 -- a lane has no more instructions than its plan
-pub lane-short : (p : Plan) (l : ℕ) → l < length p → IsWithinLimits p → length (lane p l).instructions ≤ 65536
+pub lane-short : (p : Plan) (l : ℕ) → l < length p → IsWithinLimits p
+    → length (lane p l).instructions ≤ 65536
 lane-short p l lt limits =
-    omega (arith, length-flat_map-take (λ (of : Lane). of.instructions) p l no_lane lt, limits.instructions)
+    omega (
+      arith,
+      length-flat_map-take (λ (of : Lane). of.instructions) p l no_lane lt,
+      limits.instructions,
+    )
 
 pub lane-is : (p : Plan) (l : ℕ) (of : Lane) → slice_get p l ≡ Some of → lane p l ≡ of
 lane-is p l of is = get_or_from_slice_get p l of no_lane is
 
-pub list-is : (p : Plan) (l : ℕ) (of : Lane) (xs : List Instruction) → slice_get p l ≡ Some of → xs ≡ of.instructions → (lane p l).instructions ≡ xs
+pub list-is : (p : Plan) (l : ℕ) (of : Lane) (xs : List Instruction) → slice_get p l ≡ Some of
+    → xs ≡ of.instructions → (lane p l).instructions ≡ xs
 list-is p l of xs is same = ap (λ (o : Lane). o.instructions) (lane-is p l of is) ∙ sym same
 
-pub instruction-is : (p : Plan) (l i : ℕ) (of : Lane) (xs : List Instruction) (x : Instruction) → slice_get p l ≡ Some of → xs ≡ of.instructions
-    → i < length xs → x ≡ get_or xs i x → instruction_at p l i ≡ Some x
+pub instruction-is : (p : Plan) (l i : ℕ) (of : Lane) (xs : List Instruction) (x : Instruction)
+    → slice_get p l ≡ Some of → xs ≡ of.instructions → i < length xs → x ≡ get_or xs i x
+    → instruction_at p l i ≡ Some x
 instruction-is p l i of xs x is same lt here =
-    ap (λ ys. slice_get ys i) (list-is p l of xs is same) ∙ (slice_get-get_or xs i x lt ∙ ap Some (sym here))
+    ap (λ ys. slice_get ys i) (list-is p l of xs is same)
+    ∙ (slice_get-get_or xs i x lt ∙ ap Some (sym here))

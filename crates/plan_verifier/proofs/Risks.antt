@@ -6,11 +6,13 @@ use Rattle.std.proofs.lemmas.Option.{none-some}
 use Rattle.farm_universe.specs.declared.types.Trap.{Trap}
 use Rattle.farm_universe.specs.Traps.{first_trap}
 
-first-fails : (b : Bool) (t : Trap) (xs : List (Bool × Trap)) → first_trap ((b, t) ∷ xs) ≡ None → b ≡ false
+first-fails : (b : Bool) (t : Trap) (xs : List (Bool × Trap))
+    → first_trap ((b, t) ∷ xs) ≡ None → b ≡ false
 unfolding first_trap
 first-fails true t xs e = absurd (none-some t (sym e))
 first-fails false t xs e = refl
 
 -- it costs no more than the budget
-pub within-budget : (budget cost : ℕ) (t : Trap) (xs : List (Bool × Trap)) → first_trap ((nat_lt budget cost, t) ∷ xs) ≡ None → cost ≤ budget
+pub within-budget : (budget cost : ℕ) (t : Trap) (xs : List (Bool × Trap))
+    → first_trap ((nat_lt budget cost, t) ∷ xs) ≡ None → cost ≤ budget
 within-budget budget cost t xs e = ltb-false budget cost (first-fails (nat_lt budget cost) t xs e)

@@ -19,9 +19,12 @@ both true false c d e = refl
 both false b c d e = e
 
 -- each variant of a set passes where none of it fails
-pub every_of : (n : ℕ) (set p : ℕ → Bool) → not (some_below n (λ b. set b && not (p b))) ≡ every_below n (λ b. not (set b) || p b)
+pub every_of : (n : ℕ) (set p : ℕ → Bool)
+    → not (some_below n (λ b. set b && not (p b))) ≡ every_below n (λ b. not (set b) || p b)
 every_of zero set p = refl
-every_of (suc n) set p = sym (both (set n) (p n) (every_below n (λ b. not (set b) || p b)) (some_below n (λ b. set b && not (p b))) (sym (every_of n set p)))
+every_of (suc n) set p =
+    sym (both (set n) (p n) (every_below n (λ b. not (set b) || p b))
+    (some_below n (λ b. set b && not (p b))) (sym (every_of n set p)))
 
 -- what is no name has no variants
 pub no_variants : (u : Universe) (name : ℕ) → names u ≤ name → variants u name ≡ 0
@@ -29,13 +32,18 @@ unfolding names variants
 no_variants u name past = ap length (get_or_past u.packages name [] past)
 
 pub not_same : (a b : ℕ) → (a ≡ b → ⊥) → (a == b) ≡ false
-not_same a b ne = elim (cases_Bool (a == b)) [ inl same ↦ absurd (ne (eqb-true a b same)) | inr other ↦ other ]
+not_same a b ne =
+    elim (cases_Bool (a == b)) [
+      | inl same ↦ absurd (ne (eqb-true a b same))
+      | inr other ↦ other
+    ]
 
 -- the set of one variant
 pub has-single : (bit b : ℕ) → has (2 ^ bit) b ≡ (b == bit)
 has-single bit b =
     elim (cases_eq b bit) [
-      | inl same ↦ ap (λ k. bit_at (2 ^ bit) k == 1) same ∙ (ap (λ n. n == 1) (bit_at-pow_same bit) ∙ sym (eq-eqb b bit same))
+      | inl same ↦ ap (λ k. bit_at (2 ^ bit) k == 1) same
+          ∙ (ap (λ n. n == 1) (bit_at-pow_same bit) ∙ sym (eq-eqb b bit same))
       | inr other ↦ ap (λ n. n == 1) (bit_at-pow_other bit b other) ∙ sym (not_same b bit other)
     ]
 
@@ -47,22 +55,29 @@ named u name bit lt =
       | inr past ↦ let none = no_variants u name past in absurd (omega arith)
     ]
 
-pub configured-single : (word bit : ℕ) → word ≡ 2 ^ bit → MayConfigured (has word) ≡ MayConfigured (λ b. b == bit)
-configured-single word bit e = ap (λ w. MayConfigured (has w)) e ∙ (λ i. MayConfigured (λ b. has-single bit b i))
+pub configured-single : (word bit : ℕ) → word ≡ 2 ^ bit
+    → MayConfigured (has word) ≡ MayConfigured (λ b. b == bit)
+configured-single word bit e =
+    ap (λ w. MayConfigured (has w)) e ∙ (λ i. MayConfigured (λ b. has-single bit b i))
 
 -- what is found is an element, and passes
-pub find-all : {X : Type 0} (P : X → Type 0) (p : X → Bool) (xs : List X) (v : X) → All P xs → Some v ≡ find p xs → P v
+pub find-all : {X : Type 0} (P : X → Type 0) (p : X → Bool) (xs : List X) (v : X) → All P xs
+    → Some v ≡ find p xs → P v
 find-all P p [] v all e = absurd (none-some v (sym e))
 find-all P p (x ∷ xs) v all e =
     elim (cases_Bool (p x)) [
-      | inl passes ↦ subst P (sym (same_Some v x (e ∙ cond-true (p x) (Some x) (find p xs) passes))) (all zero x (omega arith))
-      | inr fails ↦ find-all P p xs v (λ k d lt. all (suc k) d (omega arith)) (e ∙ cond-false (p x) (Some x) (find p xs) fails)
+      | inl passes ↦ subst P (sym (same_Some v x (e ∙ cond-true (p x) (Some x) (find p xs) passes)))
+          (all zero x (omega arith))
+      | inr fails ↦ find-all P p xs v (λ k d lt. all (suc k) d (omega arith))
+          (e ∙ cond-false (p x) (Some x) (find p xs) fails)
     ]
 
-pub find-passes : {X : Type 0} (p : X → Bool) (xs : List X) (v : X) → Some v ≡ find p xs → p v ≡ true
+pub find-passes : {X : Type 0} (p : X → Bool) (xs : List X) (v : X) → Some v ≡ find p xs
+    → p v ≡ true
 find-passes p [] v e = absurd (none-some v (sym e))
 find-passes p (x ∷ xs) v e =
     elim (cases_Bool (p x)) [
-      | inl passes ↦ subst (λ y. p y ≡ true) (sym (same_Some v x (e ∙ cond-true (p x) (Some x) (find p xs) passes))) passes
+      | inl passes ↦ subst (λ y. p y ≡ true)
+          (sym (same_Some v x (e ∙ cond-true (p x) (Some x) (find p xs) passes))) passes
       | inr fails ↦ find-passes p xs v (e ∙ cond-false (p x) (Some x) (find p xs) fails)
     ]

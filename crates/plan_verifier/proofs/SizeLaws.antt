@@ -6,10 +6,12 @@ use Rattle.farm_universe.specs.Kept.{IsKept}
 use Rattle.farm_universe.specs.Packages.{variant, variants, package_of, no_package, size}
 use Rattle.farm_universe.specs.Universe.{Universe}
 
-pub size_small : (u : Universe) (name bit : ℕ) → IsKept u → bit < variants u name → size u (variant name bit) ≤ 4294967295
+pub size_small : (u : Universe) (name bit : ℕ) → IsKept u → bit < variants u name
+    → size u (variant name bit) ≤ 4294967295
 unfolding variants package_of size
 size_small u name bit kept lt =
     elim (cases_lt name (length u.packages)) [
       | inl named ↦ kept.small name [] named bit no_package lt
-      | inr past ↦ let none = ap length (get_or_past u.packages name [] past) in absurd (omega arith)
+      | inr past ↦
+          let none = ap length (get_or_past u.packages name [] past) in absurd (omega arith)
     ]

@@ -1,4 +1,5 @@
--- Plans of unpacks and configures alone: each can be walked, nothing is news in them, and they need no order.
+-- Plans of unpacks and configures alone: each can be walked, nothing is news in them, and they need
+-- no order.
 use Rattle.std.proofs.Common.{◌≡◌, ℕ, zero, suc, ◌<◌, true, false, refl, List, [], ◌∷◌, map, Some, arith}
 use Rattle.std.specs.Prelude.{nat_lt, slice_get, slice_index_or, All}
 use Rattle.std.specs.List.{list_all}
@@ -17,14 +18,18 @@ use Rattle.plan_verifier.specs.Walk.{initial_rows, is_read, IsReadable}
 
 -- ---- they can be walked
 
-all-known : (u : Universe) (ns : List ℕ) → All (λ n. n < names u) ns → list_all (λ n. nat_lt n (names u)) ns ≡ true
+all-known : (u : Universe) (ns : List ℕ) → All (λ n. n < names u) ns
+    → list_all (λ n. nat_lt n (names u)) ns ≡ true
 all-known u [] known = refl
 all-known u (n ∷ ns) known =
-    and_from _ _ (lt-ltb n (names u) (known 0 0 (omega arith))) (all-known u ns (λ i d lt. known (suc i) d (omega (arith, lt))))
+    and_from _ _ (lt-ltb n (names u) (known 0 0 (omega arith)))
+    (all-known u ns (λ i d lt. known (suc i) d (omega (arith, lt))))
 
-read-is : (u : Universe) (x : Instruction) → IsInstruction u x → unpacks_or_configures x ≡ true → is_read u x ≡ true
+read-is : (u : Universe) (x : Instruction) → IsInstruction u x → unpacks_or_configures x ≡ true
+    → is_read u x ≡ true
 read-is u (Unpack name wanted) known e = lt-ltb name (names u) known
-read-is u (Configure members) set e = and_from _ _ (all-known u members set.known) (rw set.distinct refl)
+read-is u (Configure members) set e =
+    and_from _ _ (all-known u members set.known) (rw set.distinct refl)
 read-is u (Deconfigure members) set e = cc
 read-is u (Remove members) set e = cc
 read-is u (Build r) known e = cc
@@ -56,7 +61,8 @@ initial_greatest u p readable =
 -- ---- they need no order
 
 items-none : (u : Universe) (xs : List Instruction)
-    → ((i : ℕ) (x : Instruction) → slice_get xs i ≡ Some x → unpacks_or_configures x ≡ true) → items u xs ≡ []
+    → ((i : ℕ) (x : Instruction) → slice_get xs i ≡ Some x → unpacks_or_configures x ≡ true)
+    → items u xs ≡ []
 unfolding items
 items-none u [] h = refl
 items-none u (Unpack name wanted ∷ xs) h = items-none u xs (λ i. h (suc i))
@@ -71,7 +77,8 @@ rest-none : (u : Universe) (p : Plan) → UnpacksAndConfigures p → (l : ℕ)
     → slice_index_or (map (λ (of : Lane). items u of.instructions) p) l [] ≡ []
 rest-none u [] h l = refl
 rest-none u (of ∷ p) h zero = items-none u of.instructions (λ i x is. h 0 i x (omega arith) is)
-rest-none u (of ∷ p) h (suc l) = rest-none u p (λ k i x lt is. h (suc k) i x (omega (arith, lt)) is) l
+rest-none u (of ∷ p) h (suc l) =
+    rest-none u p (λ k i x lt is. h (suc k) i x (omega (arith, lt)) is) l
 
 pub no_order : (u : Universe) (p : Plan) → UnpacksAndConfigures p → IsOrder u p []
 no_order u p so_far = record { end = start_board u p; way = refl; all_done = rest-none u p so_far }

@@ -25,7 +25,8 @@ more_costs u p rows n costs cost so_far is = record {
   each = λ l lt. elim (cases_eq l n) [
     | inl same ↦ rw (same, sym so_far.long) (get_or-append_seam costs cost [] 0 ∙ rw so_far.long is)
     | inr other ↦
-        get_or_append_left costs (cost ∷ []) 0 l (omega (arith, so_far.long)) ∙ so_far.each l (omega arith)
+        get_or_append_left costs (cost ∷ []) 0 l (omega (arith, so_far.long))
+        ∙ so_far.each l (omega arith)
   ];
 }
 
@@ -36,22 +37,27 @@ pub refused : (u : Universe) (p : Plan) → IsReadable u p → (l : ℕ) → l <
     → (name : List ℕ) → name ≡ (lane p l).name
     → (refusal : Refusal) → IsToldOf name stop refusal → IsVerdictOn u p (Err refusal)
 refused u p readable l lt before stop walked name is Refusal.Memory told = tt
-refused u p readable l lt before (Stop.Unsafe number trap) walked name is (Refusal.Unsafe as_name as_number as_trap) told = record {
-  rows = initial_rows u;
-  greatest = initial_greatest u p readable;
-  l = l;
-  i = walked.0;
-  first = record {
-    in_plan = lt;
-    here = rw told.2 walked.2;
-    before = walked.3;
-    lanes_before = before;
-  };
-  named = told.0 ∙ is;
-  numbered = told.1 ∙ walked.1;
-}
-refused u p readable l lt before (Stop.Unsafe number trap) walked name is (Refusal.Text fault) told = absurd told
-refused u p readable l lt before (Stop.Unsafe number trap) walked name is (Refusal.Stuck names) told = absurd told
+refused u p readable l lt before (Stop.Unsafe number trap) walked name is
+    (Refusal.Unsafe as_name as_number as_trap) told =
+    record {
+      rows = initial_rows u;
+      greatest = initial_greatest u p readable;
+      l = l;
+      i = walked.0;
+      first = record {
+        in_plan = lt;
+        here = rw told.2 walked.2;
+        before = walked.3;
+        lanes_before = before;
+      };
+      named = told.0 ∙ is;
+      numbered = told.1 ∙ walked.1;
+    }
+refused u p readable l lt before (Stop.Unsafe number trap) walked name is
+    (Refusal.Text fault) told = absurd told
+refused u p readable l lt before (Stop.Unsafe number trap) walked name is
+    (Refusal.Stuck names) told = absurd told
 refused u p readable l lt before Stop.Memory walked name is (Refusal.Text fault) told = absurd told
-refused u p readable l lt before Stop.Memory walked name is (Refusal.Unsafe as_name as_number as_trap) told = absurd told
+refused u p readable l lt before Stop.Memory walked name is
+    (Refusal.Unsafe as_name as_number as_trap) told = absurd told
 refused u p readable l lt before Stop.Memory walked name is (Refusal.Stuck names) told = absurd told

@@ -16,10 +16,12 @@ use Rattle.plan_verifier.specs.Walk.{initial_rows}
 -- the lane's name stands beside the instruction and its trap, unless memory ran out
 abbrev pub IsToldOf : List ℕ → Stop → Refusal → Type 0
 IsToldOf name stop Refusal.Memory = Unit {0}
-IsToldOf name (Stop.Unsafe number trap) (Refusal.Unsafe told n t) = (told.items ≡ name) × (n ≡ number) × (t ≡ trap)
+IsToldOf name (Stop.Unsafe number trap) (Refusal.Unsafe told n t) =
+    (told.items ≡ name) × (n ≡ number) × (t ≡ trap)
 IsToldOf name stop refusal = ⊥
 
 -- each instruction is safe, and these are the costs; or the refusal of the plan
 abbrev pub IsWalked : Universe → Plan → Result (Vec ℕ) Refusal → Type 0
-IsWalked u p (Ok costs) = IsSafeUnder u p (initial_rows u) × AreCosts u p (initial_rows u) (length p) costs.items
+IsWalked u p (Ok costs) =
+    IsSafeUnder u p (initial_rows u) × AreCosts u p (initial_rows u) (length p) costs.items
 IsWalked u p (Err refusal) = IsVerdictOn u p (Err refusal)

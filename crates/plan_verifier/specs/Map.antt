@@ -44,10 +44,12 @@ held_configured (Configured current) = Configured current
 -- each member's slot configured
 abbrev pub all_configured : List Held → List ℕ → List Held
 all_configured hs [] = hs
-all_configured hs (m ∷ ms) = all_configured (slice_set hs m (held_configured (slice_index_or hs m Absent))) ms
+all_configured hs (m ∷ ms) =
+    all_configured (slice_set hs m (held_configured (slice_index_or hs m Absent))) ms
 
 -- the map of a base chroot
 pub record IsBaseMap (u : Universe) (b : ℕ) (map : MayMap) : Type 0 where
   pub long : length map.slots.items ≡ names u
-  pub slots : (n : ℕ) → n < names u → slot_of (held_at map n) ≡ may_base_slot (find (λ v. v.name == n) (base u b).packages)
+  pub slots : (n : ℕ) → n < names u
+      → slot_of (held_at map n) ≡ may_base_slot (find (λ v. v.name == n) (base u b).packages)
   pub free : map.cost ≡ 0

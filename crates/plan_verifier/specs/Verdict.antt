@@ -17,9 +17,11 @@ use Rattle.plan_verifier.specs.declared.refusal.Refusal.TheVariants.{Text, Unsaf
 use Rattle.plan_verifier.specs.declared.texts.Planned.{Planned}
 use Rattle.plan_verifier.specs.Accepted.{AcceptedPlan, IsAccepted}
 
--- Under the greatest known rows, this instruction of the lane of this name, by its number from 1, is the first unsafe
--- one of the first lane that has one, and this is the first trap that it may meet.
-pub record IsRefused (u : Universe) (p : Plan) (name : List ℕ) (number : ℕ) (trap : Trap) : Type 0 where
+-- Under the greatest known rows, this instruction of the lane of this name, by its number from 1,
+-- is the first unsafe one of the first lane that has one, and this is the first trap that it may
+-- meet.
+pub record IsRefused (u : Universe) (p : Plan) (name : List ℕ) (number : ℕ) (trap : Trap)
+    : Type 0 where
   pub rows : Rows
   pub greatest : IsGreatest u p rows
   pub l : ℕ
@@ -28,8 +30,8 @@ pub record IsRefused (u : Universe) (p : Plan) (name : List ℕ) (number : ℕ) 
   pub named : name ≡ (lane p l).name
   pub numbered : number ≡ i + 1
 
--- Under the greatest known rows each instruction is safe, and the lanes of these names, in file order, are those that
--- no list of waits and outputs brings past their last one; there are some.
+-- Under the greatest known rows each instruction is safe, and the lanes of these names, in file
+-- order, are those that no list of waits and outputs brings past their last one; there are some.
 pub record AreStuckLanes (u : Universe) (p : Plan) (names : List (List ℕ)) : Type 0 where
   pub rows : Rows
   pub greatest : IsGreatest u p rows
@@ -46,7 +48,8 @@ IsVerdictOn u p (Err (Unsafe name number trap)) = IsRefused u p name.items numbe
 IsVerdictOn u p (Err (Stuck names)) = AreStuckLanes u p (lists names.items)
 IsVerdictOn u p (Err Memory) = Unit {0}
 
--- the first fault of the texts is told as it is; else the verdict is on what they stand for. Memory may run out
+-- the first fault of the texts is told as it is; else the verdict is on what they stand for. Memory
+-- may run out
 abbrev pub IsVerdict : Result Planned Fault → Result AcceptedPlan Refusal → Type 0
 IsVerdict (Ok of) verdict = IsVerdictOn of.universe of.plan verdict
 IsVerdict (Err fault) (Ok a) = ⊥

@@ -1,5 +1,5 @@
--- A walk over the instructions of a lane. Parameters as in plan_asm: u a universe, p a plan, l a lane, m a may map,
--- x an instruction. The project's own rules.
+-- A walk over the instructions of a lane. Parameters as in plan_asm: u a universe, p a plan, l a
+-- lane, m a may map, x an instruction. The project's own rules.
 --
 --   initial_rows                what is known and may be in the archive while nothing is published
 --   is_read, IsReadable         an instruction, and a plan, that can be walked so far
@@ -31,7 +31,8 @@ initial_rows u l i v = initial u v
 -- an unpack or a configure, of names that there are
 abbrev pub is_read : Universe → Instruction → Bool
 is_read u (Unpack name wanted) = nat_lt name (names u)
-is_read u (Configure members) = list_all (λ n. nat_lt n (names u)) members && not (has_double members)
+is_read u (Configure members) =
+    list_all (λ n. nat_lt n (names u)) members && not (has_double members)
 is_read u (Deconfigure members) = false
 is_read u (Remove members) = false
 is_read u (Build r) = false
@@ -42,7 +43,8 @@ is_read u (Wait e) = false
 pub record IsReadable (u : Universe) (p : Plan) : Type 0 where
   pub sound : IsUniverse u
   pub based : (l : ℕ) → l < length p → (lane p l).base < length u.bases
-  pub read : (l i : ℕ) (x : Instruction) → l < length p → instruction_at p l i ≡ Some x → is_read u x ≡ true
+  pub read : (l i : ℕ) (x : Instruction) → l < length p → instruction_at p l i ≡ Some x
+      → is_read u x ≡ true
 
 abbrev pub risk_now : Universe → Lane → May → Instruction → Option Trap
 risk_now u of m x = risk u of (initial u) (initial u) m x
@@ -63,10 +65,12 @@ abbrev pub Answers : Universe → Lane → May → Instruction → May → Resul
 Answers u of m x next (Ok done) = (risk_now u of m x ≡ None) × (may_then u m x ≡ next)
 Answers u of m x next (Err trap) = risk_now u of m x ≡ Some trap
 
--- each instruction of the lane is safe, and this is its cost; or the number of the first unsafe one, from 1, with the
--- first trap that it may meet
+-- each instruction of the lane is safe, and this is its cost; or the number of the first unsafe
+-- one, from 1, with the first trap that it may meet
 abbrev pub Walked : Universe → Plan → ℕ → Result ℕ Stop → Type 0
-Walked u p l (Ok cost) = ((i : ℕ) → risk_at u p (initial_rows u) l i ≡ None) × (cost ≡ lane_cost u p (initial_rows u) l)
+Walked u p l (Ok cost) =
+    ((i : ℕ) → risk_at u p (initial_rows u) l i ≡ None) × (cost ≡ lane_cost u p (initial_rows u) l)
 Walked u p l (Err (Unsafe number trap)) =
-    (i : ℕ) × (number ≡ i + 1) × (risk_at u p (initial_rows u) l i ≡ Some trap) × ((k : ℕ) → k < i → risk_at u p (initial_rows u) l k ≡ None)
+    (i : ℕ) × (number ≡ i + 1) × (risk_at u p (initial_rows u) l i ≡ Some trap)
+    × ((k : ℕ) → k < i → risk_at u p (initial_rows u) l k ≡ None)
 Walked u p l (Err Memory) = Unit {0}

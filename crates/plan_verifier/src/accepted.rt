@@ -25,7 +25,8 @@ impl Model for Accepted {
 
     ghost view = { λ a. record { universe = a.universe; plan = a.plan; costs = a.costs.items } };
 
-    ghost invariant = { λ a. IsAccepted (record { universe = a.universe; plan = a.plan; costs = a.costs.items }) };
+    ghost invariant = { λ a. IsAccepted
+        (record { universe = a.universe; plan = a.plan; costs = a.costs.items }) };
 }
 
 impl Accepted {
@@ -60,7 +61,8 @@ impl Accepted {
     #[tactic(auto, using(crate::proofs::Promises::cost_within))]
     pub fn lane_cost(&self, number: usize) -> u64
         requires { number < length self.now.plan }
-        ensures cost { result ≡ lane_cost self.now.universe self.now.plan (known_rows self.now) number }
+        ensures cost { result
+            ≡ lane_cost self.now.universe self.now.plan (known_rows self.now) number }
         ensures within { result ≤ (lane self.now.plan number).budget }
     {
         self.keeps();

@@ -26,7 +26,8 @@ struct MissesPreDepends<'a> {
 }
 
 impl VariantTest for MissesPreDepends<'_> {
-    ghost test = { λ u t v. unmet (may.surely_met u (may_of u t.map.now)) (packages.pre_depends u v) };
+    ghost test = { λ u t v.
+        unmet (may.surely_met u (may_of u t.map.now)) (packages.pre_depends u v) };
 
     fn passes(&self, universe: &Universe, variant: Variant) -> bool {
         misses(universe, self.map, &universe.relations(variant).pre_depends)
@@ -41,7 +42,8 @@ struct MissesDepends<'a> {
 }
 
 impl VariantTest for MissesDepends<'_> {
-    ghost test = { λ u t v. unmet (may.surely_met_with u t.members.now (may_of u t.map.now)) (packages.depends u v) };
+    ghost test = { λ u t v.
+        unmet (may.surely_met_with u t.members.now (may_of u t.map.now)) (packages.depends u v) };
 
     fn passes(&self, universe: &Universe, variant: Variant) -> bool {
         let depends = &universe.relations(variant).depends;
@@ -59,7 +61,9 @@ struct HoldsBreaking<'a> {
 impl NameTest for HoldsBreaking<'_> {
     ghost fits = { λ u t. IsKnown u t.variant };
 
-    ghost test = { λ u t n. not (n == t.variant.name) && may.may_hold u n (λ b. packages.breaks u (packages.variant n b) t.variant) (slot_of (held_at t.map.now n)) };
+    ghost test = { λ u t n. not (n == t.variant.name)
+        && may.may_hold u n (λ b. packages.breaks u (packages.variant n b) t.variant)
+        (slot_of (held_at t.map.now n)) };
 
     fn passes(&self, universe: &Universe, name: u32) -> bool {
         let test = BreakersOf {
@@ -76,7 +80,9 @@ struct MayBeBroken<'a> {
 }
 
 impl VariantTest for MayBeBroken<'_> {
-    ghost test = { λ u t v. may.some_name u (may_of u t.map.now) (λ n s. not (n == v.name) && may.may_hold u n (λ b. packages.breaks u (packages.variant n b) v) s) };
+    ghost test = { λ u t v. may.some_name u (may_of u t.map.now)
+        (λ n s. not (n == v.name)
+        && may.may_hold u n (λ b. packages.breaks u (packages.variant n b) v) s) };
 
     fn passes(&self, universe: &Universe, variant: Variant) -> bool {
         some_name(
@@ -97,7 +103,8 @@ fn some_may_member<T: VariantTest>(
     test: &T,
 ) -> bool
     requires { T.fits universe.now test.now }
-    ensures { result ≡ risks.some_may_member universe.now members.now (may_of universe.now map.now) (T.test universe.now test.now) }
+    ensures { result ≡ risks.some_may_member universe.now members.now
+        (may_of universe.now map.now) (T.test universe.now test.now) }
 {
     for member in members {
         if may_hold(universe, *member, map.held(*member), test) {
@@ -109,7 +116,8 @@ fn some_may_member<T: VariantTest>(
 
 /// Tells whether some member may not be unpacked.
 fn some_not_unpacked(members: &[u32], map: &MayMap) -> bool
-    ensures { result ≡ list_any (λ n. not (may.is_surely_unpacked (slot_of (held_at map.now n)))) members.now }
+    ensures { result
+        ≡ list_any (λ n. not (may.is_surely_unpacked (slot_of (held_at map.now n)))) members.now }
 {
     members
         .iter()
@@ -125,7 +133,8 @@ pub fn configure_risk(
     members: &[u32],
 ) -> Option<Trap>
     requires { map.now.cost ≤ lane.now.budget }
-    ensures { result ≡ first_trap (risks.configure_risks universe.now lane.now (may_of universe.now map.now) members.now) }
+    ensures { result ≡ first_trap
+        (risks.configure_risks universe.now lane.now (may_of universe.now map.now) members.now) }
 {
     if may_exceed(lane.budget(), map, members.len() as u64) {
         return Some(Trap::OverBudget);

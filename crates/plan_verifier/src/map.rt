@@ -73,7 +73,8 @@ fn variant_in(base: &Base, name: u32) -> Option<&Variant>
 fn base_held(universe: &Universe, number: u32, name: u32) -> Held
     requires there { number < length universe.now.bases }
     requires kept { IsKept universe.now }
-    ensures { slot_of result ≡ may_base_slot (find (λ v. v.name == name) (base universe.now number).packages) }
+    ensures { slot_of result
+        ≡ may_base_slot (find (λ v. v.name == name) (base universe.now number).packages) }
 {
     match variant_in(universe.base(number), name) {
         Some(variant) => Held::Configured {
@@ -111,7 +112,8 @@ impl MayMap {
     pub fn unpack(&mut self, name: u32, current: u64, cost: u64)
         requires known { name < length self.old.slots.items }
         requires fits { self.old.cost + cost < 2 ^ 64 }
-        ensures slots { self.new.slots.items ≡ slice_set self.old.slots.items name (Held.Unpacked current (last_word (held_at self.old name))) }
+        ensures slots { self.new.slots.items ≡ slice_set self.old.slots.items name
+            (Held.Unpacked current (last_word (held_at self.old name))) }
         ensures cost { self.new.cost ≡ self.old.cost + cost }
     {
         let last = self.held(name).last();

@@ -23,7 +23,8 @@ struct SurelyMeets<'a> {
 }
 
 impl NameTest for SurelyMeets<'_> {
-    ghost test = { λ u t n. may.surely_configured u n (λ b. satisfies_entry u t.entry.now (variant n b)) (slot_of (held_at t.map.now n)) };
+    ghost test = { λ u t n. may.surely_configured u n
+        (λ b. satisfies_entry u t.entry.now (variant n b)) (slot_of (held_at t.map.now n)) };
 
     fn passes(&self, universe: &Universe, name: u32) -> bool {
         surely_configured(
@@ -58,7 +59,10 @@ struct SurelyMeetsWith<'a> {
 }
 
 impl NameTest for SurelyMeetsWith<'_> {
-    ghost test = { λ u t n. may.surely_configured u n (λ b. satisfies_entry u t.entry.now (variant n b)) (slot_of (held_at t.map.now n)) || (member t.members.now n && may.surely_holds u n (λ b. satisfies_entry u t.entry.now (variant n b)) (slot_of (held_at t.map.now n))) };
+    ghost test = { λ u t n. may.surely_configured u n
+        (λ b. satisfies_entry u t.entry.now (variant n b)) (slot_of (held_at t.map.now n))
+        || (member t.members.now n && may.surely_holds u n
+        (λ b. satisfies_entry u t.entry.now (variant n b)) (slot_of (held_at t.map.now n))) };
 
     fn passes(&self, universe: &Universe, name: u32) -> bool {
         let held = self.map.held(name);
@@ -72,7 +76,8 @@ impl NameTest for SurelyMeetsWith<'_> {
 /// together.
 #[tactic(auto, unfolding(plan_asm::specs::May::surely_met_with))]
 pub fn surely_met_with(universe: &Universe, members: &[u32], map: &MayMap, entry: &Entry) -> bool
-    ensures { result ≡ may.surely_met_with universe.now members.now (may_of universe.now map.now) entry.now }
+    ensures { result
+        ≡ may.surely_met_with universe.now members.now (may_of universe.now map.now) entry.now }
 {
     some_name(
         universe,
@@ -86,7 +91,10 @@ pub fn surely_met_with(universe: &Universe, members: &[u32], map: &MayMap, entry
 
 /// Tells whether all variants of both sets satisfy one alternative of the entry.
 fn some_for_both(universe: &Universe, entry: &Entry, name: u32, current: u64, last: u64) -> bool
-    ensures { result ≡ list_any (λ a. may.all_of universe.now name (has current) (λ b. satisfies universe.now a (variant name b)) && may.all_of universe.now name (has last) (λ b. satisfies universe.now a (variant name b))) entry.now }
+    ensures { result ≡ list_any (λ a.
+        may.all_of universe.now name (has current) (λ b. satisfies universe.now a (variant name b))
+        && may.all_of universe.now name (has last) (λ b. satisfies universe.now a (variant name b)))
+        entry.now }
 {
     entry.alternatives().iter().any(|atom| {
         all_of(universe, name, current, &SatisfiesAtom { atom })
@@ -122,7 +130,8 @@ struct SurelyPreMeets<'a> {
 }
 
 impl NameTest for SurelyPreMeets<'_> {
-    ghost test = { λ u t n. not (n == t.name) && may.surely_pre_meets u t.entry.now n (slot_of (held_at t.map.now n)) };
+    ghost test = { λ u t n. not (n == t.name)
+        && may.surely_pre_meets u t.entry.now n (slot_of (held_at t.map.now n)) };
 
     fn passes(&self, universe: &Universe, name: u32) -> bool {
         name != self.name && surely_pre_meets(universe, self.entry, name, self.map.held(name))
@@ -132,14 +141,16 @@ impl NameTest for SurelyPreMeets<'_> {
 /// Tells whether an entry is surely met ahead of the unpack of a name.
 #[tactic(auto, unfolding(plan_asm::specs::May::surely_pre_met))]
 pub fn surely_pre_met(universe: &Universe, name: u32, map: &MayMap, entry: &Entry) -> bool
-    ensures { result ≡ may.surely_pre_met universe.now name (may_of universe.now map.now) entry.now }
+    ensures { result
+        ≡ may.surely_pre_met universe.now name (may_of universe.now map.now) entry.now }
 {
     some_name(universe, &SurelyPreMeets { name, map, entry })
 }
 
 /// Tells whether some entry may not be met.
 pub fn misses(universe: &Universe, map: &MayMap, entries: &Relations) -> bool
-    ensures { result ≡ unmet (may.surely_met universe.now (may_of universe.now map.now)) entries.now }
+    ensures { result
+        ≡ unmet (may.surely_met universe.now (may_of universe.now map.now)) entries.now }
 {
     entries
         .entries()
@@ -149,7 +160,8 @@ pub fn misses(universe: &Universe, map: &MayMap, entries: &Relations) -> bool
 
 /// Tells whether some entry may not be met where members count too.
 pub fn misses_with(universe: &Universe, members: &[u32], map: &MayMap, entries: &Relations) -> bool
-    ensures { result ≡ unmet (may.surely_met_with universe.now members.now (may_of universe.now map.now)) entries.now }
+    ensures { result ≡ unmet
+        (may.surely_met_with universe.now members.now (may_of universe.now map.now)) entries.now }
 {
     entries
         .entries()
@@ -159,7 +171,8 @@ pub fn misses_with(universe: &Universe, members: &[u32], map: &MayMap, entries: 
 
 /// Tells whether some entry may not be met ahead of the unpack of a name.
 pub fn misses_ahead(universe: &Universe, name: u32, map: &MayMap, entries: &Relations) -> bool
-    ensures { result ≡ unmet (may.surely_pre_met universe.now name (may_of universe.now map.now)) entries.now }
+    ensures { result
+        ≡ unmet (may.surely_pre_met universe.now name (may_of universe.now map.now)) entries.now }
 {
     entries
         .entries()

@@ -15,7 +15,8 @@ fn is_there(universe: &Universe, name: u32, relation: &Option<(Op, Version)>, bi
     requires named { name < names universe.now }
     requires known { bit < variants universe.now name }
     requires within { bit < 64 }
-    ensures { result ≡ (initial universe.now (variant name bit) && is_wanted universe.now relation.now (variant name bit)) }
+    ensures { result ≡ (initial universe.now (variant name bit)
+        && is_wanted universe.now relation.now (variant name bit)) }
 {
     has(universe.initial(name), bit) && universe.is_wanted(Variant { name, bit }, relation.as_ref())
 }

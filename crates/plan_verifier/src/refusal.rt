@@ -24,7 +24,8 @@ pub enum Refusal {
     /// A text cannot be read.
     #[error("{0}")]
     Text(Fault),
-    /// The instruction of this number, from 1, of the lane of this name may meet a trap ([`UNSAFE`]).
+    /// The instruction of this number, from 1, of the lane of this name may meet a trap
+    /// ([`UNSAFE`]).
     #[error("instruction {instruction} of a lane may meet {trap}")]
     Unsafe {
         lane: Vec<u8>,
@@ -65,7 +66,8 @@ impl<T: Drop> From<AllocFailed<T>> for Refusal {
 impl From<Fault> for Refusal {
     ghost use Rattle.plan_verifier.specs.declared.refusal.Refusal.{Refusal};
 
-    ghost from_gives = { λ fault refusal. refusal ≡ (if is_memory fault then Refusal.Memory else Refusal.Text fault) };
+    ghost from_gives = { λ fault refusal.
+        refusal ≡ (if is_memory fault then Refusal.Memory else Refusal.Text fault) };
 
     fn from(fault: Fault) -> Refusal {
         if fault == Fault::MEMORY {

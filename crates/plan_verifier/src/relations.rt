@@ -33,7 +33,8 @@ fn meets(facts: &Facts, entry: &Entry) -> bool
 }
 
 fn meets_any(facts: &Facts, entries: &Relations) -> bool
-    ensures { result ≡ list_any (λ e. list_any (package_satisfies (facts_of facts.now)) e) entries.now }
+    ensures { result
+        ≡ list_any (λ e. list_any (package_satisfies (facts_of facts.now)) e) entries.now }
 {
     entries.entries().iter().any(|entry| meets(facts, entry))
 }

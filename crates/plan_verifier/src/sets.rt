@@ -90,7 +90,8 @@ fn has_failing<T: VariantTest>(universe: &Universe, name: u32, set: u64, bit: u3
 /// Tells whether some variant of a set passes.
 pub fn some_of<T: VariantTest>(universe: &Universe, name: u32, set: u64, test: &T) -> bool
     requires { T.fits universe.now test.now }
-    ensures { result ≡ may.some_of universe.now name (has set) (λ b. T.test universe.now test.now (variant name b)) }
+    ensures { result ≡ may.some_of universe.now name (has set)
+        (λ b. T.test universe.now test.now (variant name b)) }
 {
     let count = variant_count(universe, name);
     for bit in 0..count {
@@ -103,7 +104,8 @@ pub fn some_of<T: VariantTest>(universe: &Universe, name: u32, set: u64, test: &
 
 fn some_failing<T: VariantTest>(universe: &Universe, name: u32, set: u64, test: &T) -> bool
     requires { T.fits universe.now test.now }
-    ensures { result ≡ some_below (variants universe.now name) (λ b. has set b && not (T.test universe.now test.now (variant name b))) }
+    ensures { result ≡ some_below (variants universe.now name)
+        (λ b. has set b && not (T.test universe.now test.now (variant name b))) }
 {
     let count = variant_count(universe, name);
     for bit in 0..count {
@@ -117,7 +119,8 @@ fn some_failing<T: VariantTest>(universe: &Universe, name: u32, set: u64, test: 
 /// Tells whether each variant of a set passes.
 pub fn all_of<T: VariantTest>(universe: &Universe, name: u32, set: u64, test: &T) -> bool
     requires { T.fits universe.now test.now }
-    ensures { result ≡ may.all_of universe.now name (has set) (λ b. T.test universe.now test.now (variant name b)) }
+    ensures { result ≡ may.all_of universe.now name (has set)
+        (λ b. T.test universe.now test.now (variant name b)) }
 {
     !some_failing(universe, name, set, test)
 }
@@ -125,7 +128,8 @@ pub fn all_of<T: VariantTest>(universe: &Universe, name: u32, set: u64, test: &T
 /// Tells whether a present variant may pass.
 pub fn may_hold<T: VariantTest>(universe: &Universe, name: u32, held: Held, test: &T) -> bool
     requires { T.fits universe.now test.now }
-    ensures { result ≡ may.may_hold universe.now name (λ b. T.test universe.now test.now (variant name b)) (slot_of held) }
+    ensures { result ≡ may.may_hold universe.now name
+        (λ b. T.test universe.now test.now (variant name b)) (slot_of held) }
 {
     match held {
         Held::Absent => false,
@@ -142,7 +146,8 @@ pub fn may_hold_configured<T: VariantTest>(
     test: &T,
 ) -> bool
     requires { T.fits universe.now test.now }
-    ensures { result ≡ may.may_hold_configured universe.now name (λ b. T.test universe.now test.now (variant name b)) (slot_of held) }
+    ensures { result ≡ may.may_hold_configured universe.now name
+        (λ b. T.test universe.now test.now (variant name b)) (slot_of held) }
 {
     match held {
         Held::Absent => false,
@@ -154,7 +159,8 @@ pub fn may_hold_configured<T: VariantTest>(
 /// Tells whether a variant is present, and passes whichever it is.
 pub fn surely_holds<T: VariantTest>(universe: &Universe, name: u32, held: Held, test: &T) -> bool
     requires { T.fits universe.now test.now }
-    ensures { result ≡ may.surely_holds universe.now name (λ b. T.test universe.now test.now (variant name b)) (slot_of held) }
+    ensures { result ≡ may.surely_holds universe.now name
+        (λ b. T.test universe.now test.now (variant name b)) (slot_of held) }
 {
     match held {
         Held::Absent => false,
@@ -171,7 +177,8 @@ pub fn surely_configured<T: VariantTest>(
     test: &T,
 ) -> bool
     requires { T.fits universe.now test.now }
-    ensures { result ≡ may.surely_configured universe.now name (λ b. T.test universe.now test.now (variant name b)) (slot_of held) }
+    ensures { result ≡ may.surely_configured universe.now name
+        (λ b. T.test universe.now test.now (variant name b)) (slot_of held) }
 {
     match held {
         Held::Absent => false,

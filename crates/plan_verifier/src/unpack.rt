@@ -28,7 +28,8 @@ struct MissesAhead<'a> {
 }
 
 impl VariantTest for MissesAhead<'_> {
-    ghost test = { λ u t v. unmet (may.surely_pre_met u v.name (may_of u t.map.now)) (packages.pre_depends u v) };
+    ghost test = { λ u t v.
+        unmet (may.surely_pre_met u v.name (may_of u t.map.now)) (packages.pre_depends u v) };
 
     fn passes(&self, universe: &Universe, variant: Variant) -> bool {
         misses_ahead(
@@ -50,7 +51,9 @@ struct HoldsConflicting<'a> {
 impl NameTest for HoldsConflicting<'_> {
     ghost fits = { λ u t. IsKnown u t.variant };
 
-    ghost test = { λ u t n. not (n == t.variant.name) && may.may_hold u n (λ d. packages.conflict u t.variant (packages.variant n d)) (slot_of (held_at t.map.now n)) };
+    ghost test = { λ u t n. not (n == t.variant.name)
+        && may.may_hold u n (λ d. packages.conflict u t.variant (packages.variant n d))
+        (slot_of (held_at t.map.now n)) };
 
     fn passes(&self, universe: &Universe, name: u32) -> bool {
         let test = ConflictsWith {
@@ -67,7 +70,9 @@ struct MayConflict<'a> {
 }
 
 impl VariantTest for MayConflict<'_> {
-    ghost test = { λ u t v. may.some_name u (may_of u t.map.now) (λ n s. not (n == v.name) && may.may_hold u n (λ d. packages.conflict u v (packages.variant n d)) s) };
+    ghost test = { λ u t v. may.some_name u (may_of u t.map.now)
+        (λ n s. not (n == v.name)
+        && may.may_hold u n (λ d. packages.conflict u v (packages.variant n d)) s) };
 
     fn passes(&self, universe: &Universe, variant: Variant) -> bool {
         some_name(
@@ -90,7 +95,9 @@ struct HoldsBroken<'a> {
 impl NameTest for HoldsBroken<'_> {
     ghost fits = { λ u t. IsKnown u t.variant };
 
-    ghost test = { λ u t n. not (n == t.variant.name) && may.may_hold_configured u n (λ d. packages.breaks u t.variant (packages.variant n d)) (slot_of (held_at t.map.now n)) };
+    ghost test = { λ u t n. not (n == t.variant.name)
+        && may.may_hold_configured u n (λ d. packages.breaks u t.variant (packages.variant n d))
+        (slot_of (held_at t.map.now n)) };
 
     fn passes(&self, universe: &Universe, name: u32) -> bool {
         let test = IsBrokenBy {
@@ -107,7 +114,9 @@ struct MayBreak<'a> {
 }
 
 impl VariantTest for MayBreak<'_> {
-    ghost test = { λ u t v. may.some_name u (may_of u t.map.now) (λ n s. not (n == v.name) && may.may_hold_configured u n (λ d. packages.breaks u v (packages.variant n d)) s) };
+    ghost test = { λ u t v. may.some_name u (may_of u t.map.now)
+        (λ n s. not (n == v.name)
+        && may.may_hold_configured u n (λ d. packages.breaks u v (packages.variant n d)) s) };
 
     fn passes(&self, universe: &Universe, variant: Variant) -> bool {
         some_name(
@@ -125,7 +134,8 @@ impl VariantTest for MayBreak<'_> {
 fn may_overflow(universe: &Universe, lane: &Lane, map: &MayMap, size: u64) -> bool
     requires based { lane.now.base < length universe.now.bases }
     requires small { size ≤ MOST_SIZE }
-    ensures { result ≡ nat_lt (capacity universe.now lane.now) (may.may_use universe.now (may_of universe.now map.now) + size) }
+    ensures { result ≡ nat_lt (capacity universe.now lane.now)
+        (may.may_use universe.now (may_of universe.now map.now) + size) }
 {
     universe.base(lane.base()).capacity() < may_use(universe, map) + size
 }
@@ -141,7 +151,8 @@ pub fn unpack_risk(
 ) -> Option<Trap>
     requires based { lane.now.base < length universe.now.bases }
     requires within { map.now.cost ≤ lane.now.budget }
-    ensures { result ≡ first_trap (unpack_risks universe.now lane.now (may_of universe.now map.now) name (has set)) }
+    ensures { result ≡ first_trap
+        (unpack_risks universe.now lane.now (may_of universe.now map.now) name (has set)) }
 {
     let size = greatest_size(universe, name, set);
     if may_exceed(lane.budget(), map, 1 + size / 1024) {

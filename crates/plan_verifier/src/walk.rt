@@ -47,7 +47,8 @@ fn take_unpack(
 ) -> Result<(), Trap>
     requires known { name < names universe.now }
     requires of_lane { IsOfLane universe.now lane.now map.old }
-    ensures answer { Answers universe.now lane.now (may_of universe.now map.old) (Instruction.Unpack name relation.now) (may_of universe.now map.new) result }
+    ensures answer { Answers universe.now lane.now (may_of universe.now map.old)
+        (Instruction.Unpack name relation.now) (may_of universe.now map.new) result }
     ensures of_lane { OnOk result (IsOfLane universe.now lane.now map.new) }
 {
     let Some(highest) = newest(universe, name, relation) else {
@@ -69,7 +70,8 @@ fn take_configure(
 ) -> Result<(), Trap>
     requires known { All (λ n. n < names universe.now) members.now }
     requires of_lane { IsOfLane universe.now lane.now map.old }
-    ensures answer { Answers universe.now lane.now (may_of universe.now map.old) (Instruction.Configure members.now) (may_of universe.now map.new) result }
+    ensures answer { Answers universe.now lane.now (may_of universe.now map.old)
+        (Instruction.Configure members.now) (may_of universe.now map.new) result }
     ensures of_lane { OnOk result (IsOfLane universe.now lane.now map.new) }
 {
     if let Some(trap) = configure_risk(universe, lane, map, members) {
@@ -88,7 +90,8 @@ fn take(
 ) -> Result<(), Trap>
     requires read { is_read universe.now instruction.now ≡ true }
     requires of_lane { IsOfLane universe.now lane.now map.old }
-    ensures answer { Answers universe.now lane.now (may_of universe.now map.old) instruction.now (may_of universe.now map.new) result }
+    ensures answer { Answers universe.now lane.now (may_of universe.now map.old) instruction.now
+        (may_of universe.now map.new) result }
     ensures of_lane { OnOk result (IsOfLane universe.now lane.now map.new) }
 {
     match instruction {

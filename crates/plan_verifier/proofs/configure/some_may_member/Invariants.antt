@@ -4,4 +4,7 @@ use Rattle.plan_verifier.specs.Map.{may_of}
 use Rattle.plan_verifier.proofs.configure.some_may_member.Given as goal
 
 abbrev pub invariant-loop-member : goal.invariant-loop-member
-invariant-loop-member g l = some_may_member l.universe (take l.member-index l.members) (may_of l.universe l.map) (g.T.VariantTest.test l.universe l.test) ≡ false
+invariant-loop-member g l =
+    some_may_member l.universe (take l.member-index l.members) (may_of l.universe l.map)
+    (g.T.VariantTest.test l.universe l.test)
+    ≡ false

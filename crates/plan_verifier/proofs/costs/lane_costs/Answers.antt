@@ -20,7 +20,8 @@ returns-in-Err c =
     let l = c.loop-number.number in
     refused c.args.universe.now p c.requires l (omega (arith, c.lanes-number-end.ensures.lanes))
     c.loop-number.invariant.safe c.in-Err.stop c.in-Err.ensures c.name.result.now
-    (c.name.ensures ∙ sym (ap (λ (of : Lane). of.name) (lane-is p l c.lane.result.now c.lane.ensures)))
+    (c.name.ensures
+    ∙ sym (ap (λ (of : Lane). of.name) (lane-is p l c.lane.result.now c.lane.ensures)))
     c.refusal_of.result c.refusal_of.ensures
 
 pub loop-number-preserved : goal.loop-number-preserved
@@ -30,7 +31,8 @@ loop-number-preserved c =
     let l = c.loop-number.number in
     record {
       safe = λ j i lt. elim (cases_eq j l) [
-        | inl same ↦ subst (λ k. risk_at u p (initial_rows u) k i ≡ None) (sym same) (c.in-Ok.ensures.0 i)
+        | inl same ↦
+            subst (λ k. risk_at u p (initial_rows u) k i ≡ None) (sym same) (c.in-Ok.ensures.0 i)
         | inr other ↦ c.loop-number.invariant.safe j i (omega arith)
       ];
       costs = subst (AreCosts u p (initial_rows u) (l + 1)) (sym c.in_ok-push-in-Ok.ensures.items)
@@ -44,5 +46,6 @@ returns c =
     let p = c.args.plan.now in
     let end : c.loop-number.number ≡ length p = omega (arith, c.lanes-number-end.ensures.lanes) in (
       λ l i lt. c.loop-number.invariant.safe l i (omega arith),
-      subst (λ n. AreCosts u p (initial_rows u) n c.loop-number.costs.items) end c.loop-number.invariant.costs,
+      subst (λ n. AreCosts u p (initial_rows u) n c.loop-number.costs.items) end
+          c.loop-number.invariant.costs,
     )

@@ -5,4 +5,8 @@ use Rattle.farm_universe.specs.Packages.{variant, initial, is_wanted}
 use Rattle.plan_verifier.proofs.pick.newest.Given as goal
 
 abbrev pub invariant-loop-bit : goal.invariant-loop-bit
-invariant-loop-bit l = l.newest ≡ highest_below l.bit (λ b. initial l.universe (variant l.name b) && is_wanted l.universe l.relation (variant l.name b))
+invariant-loop-bit l =
+    l.newest
+    ≡ highest_below l.bit
+    (λ b. initial l.universe (variant l.name b)
+    && is_wanted l.universe l.relation (variant l.name b))

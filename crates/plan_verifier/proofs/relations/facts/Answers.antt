@@ -7,4 +7,9 @@ name_text-requires c = named c.args.universe.now c.args.variant.name c.args.vari
 
 pub returns : goal.returns
 unfolding facts
-returns c = λ i. record { name = c.name_text.ensures i; version = c.version.ensures i; provides = c.relations.ensures.provides i }
+returns c =
+    λ i. record {
+      name = c.name_text.ensures i;
+      version = c.version.ensures i;
+      provides = c.relations.ensures.provides i;
+    }

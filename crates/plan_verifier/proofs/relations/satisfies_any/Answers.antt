@@ -6,4 +6,6 @@ use Rattle.plan_verifier.proofs.relations.satisfies_any.Goals as goal
 
 pub returns : goal.returns
 unfolding satisfies
-returns c = c.meets_any.ensures ∙ ap (λ f. list_any (λ e. list_any (package_satisfies f) e) c.args.entries.now) c.facts.ensures
+returns c =
+    c.meets_any.ensures
+    ∙ ap (λ f. list_any (λ e. list_any (package_satisfies f) e) c.args.entries.now) c.facts.ensures

@@ -6,4 +6,5 @@ use Rattle.plan_verifier.proofs.relations.satisfies_entry.Goals as goal
 
 pub returns : goal.returns
 unfolding satisfies
-returns c = c.meets.ensures ∙ ap (λ f. list_any (package_satisfies f) c.args.entry.now) c.facts.ensures
+returns c =
+    c.meets.ensures ∙ ap (λ f. list_any (package_satisfies f) c.args.entry.now) c.facts.ensures

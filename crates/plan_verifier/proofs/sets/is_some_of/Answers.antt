@@ -7,5 +7,6 @@ use Rattle.plan_verifier.proofs.sets.is_some_of.Goals as goal
 pub returns-then-has : goal.returns-then-has
 returns-then-has c =
     sym
-    (some_below-at (variants c.args.universe.now c.args.name) (has c.args.set) c.loop-bit.bit (omega arith)
+    (some_below-at (variants c.args.universe.now c.args.name) (has c.args.set) c.loop-bit.bit
+    (omega arith)
     (sym c.has.ensures ∙ c.if-has.true))

@@ -6,4 +6,7 @@ use Rattle.plan_verifier.specs.Sets.{has}
 use Rattle.plan_verifier.proofs.sets.some_failing.Given as goal
 
 abbrev pub invariant-loop-bit : goal.invariant-loop-bit
-invariant-loop-bit g l = some_below l.bit (λ b. has l.set b && not (g.T.VariantTest.test l.universe l.test (variant l.name b))) ≡ false
+invariant-loop-bit g l =
+    some_below l.bit
+    (λ b. has l.set b && not (g.T.VariantTest.test l.universe l.test (variant l.name b)))
+    ≡ false

@@ -9,5 +9,7 @@ pub returns-then-has_passing : goal.returns-then-has_passing
 returns-then-has_passing g c =
     sym
     (some_below-at (variants c.args.universe.now c.args.name)
-    (λ b. has c.args.set b && g.T.VariantTest.test c.args.universe.now c.args.test.now (variant c.args.name b)) c.loop-bit.bit (omega arith)
+    (λ b. has c.args.set b
+    && g.T.VariantTest.test c.args.universe.now c.args.test.now (variant c.args.name b))
+    c.loop-bit.bit (omega arith)
     (sym c.has_passing.ensures ∙ c.if-has_passing.true))

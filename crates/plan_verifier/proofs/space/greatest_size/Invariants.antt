@@ -6,6 +6,7 @@ use Rattle.plan_verifier.proofs.space.greatest_size.Given as goal
 
 abbrev pub invariant-loop-bit : goal.invariant-loop-bit
 invariant-loop-bit l = record {
-  greatest : l.greatest ≡ greatest_below l.bit (has l.set) (λ b. size l.universe (variant l.name b));
+  greatest : l.greatest
+      ≡ greatest_below l.bit (has l.set) (λ b. size l.universe (variant l.name b));
   small : l.greatest ≤ 4294967295;
 }

@@ -8,32 +8,40 @@ use Rattle.plan_verifier.proofs.walk.take_unpack.Goals as goal
 
 pub single-set-requires : goal.single-set-requires
 single-set-requires c =
-    highest-small c.args.universe.now c.requires.of_lane.sound c.args.name c.args.relation.now c.in-Some.highest (sym c.in-Some.ensures)
+    highest-small c.args.universe.now c.requires.of_lane.sound c.args.name c.args.relation.now
+    c.in-Some.highest (sym c.in-Some.ensures)
 
 pub returns-in-Some-unpack_risk-clause-answer : goal.returns-in-Some-unpack_risk-clause-answer
 returns-in-Some-unpack_risk-clause-answer c =
-    risk-unpack c.args.universe.now c.requires.of_lane.sound c.args.name c.args.relation.now c.in-Some.highest (sym c.in-Some.ensures)
-    c.args.lane.now (may_of c.args.universe.now c.args.map.now) c.single-set.result c.single-set.ensures
+    risk-unpack c.args.universe.now c.requires.of_lane.sound c.args.name c.args.relation.now
+    c.in-Some.highest (sym c.in-Some.ensures) c.args.lane.now
+    (may_of c.args.universe.now c.args.map.now) c.single-set.result c.single-set.ensures
     ∙ sym c.in-Some-unpack_risk.ensures
 
 pub returns-clause-answer : goal.returns-clause-answer
 returns-clause-answer c =
     let u = c.args.universe.now in (
-      risk-unpack u c.requires.of_lane.sound c.args.name c.args.relation.now c.in-Some.highest (sym c.in-Some.ensures)
-          c.args.lane.now (may_of u c.args.map.now) c.single-set.result c.single-set.ensures
+      risk-unpack u c.requires.of_lane.sound c.args.name c.args.relation.now c.in-Some.highest
+          (sym c.in-Some.ensures) c.args.lane.now (may_of u c.args.map.now) c.single-set.result
+          c.single-set.ensures
           ∙ sym c.in_default-unpack_risk.ensures,
-      then-unpack u c.requires.of_lane.sound c.args.name c.args.relation.now c.in-Some.highest (sym c.in-Some.ensures)
-          c.args.map.now c.unpack.new.self c.single-set.result c.single-set.ensures (omega arith) c.unpack.ensures.slots
-          (c.unpack.ensures.cost ∙ ap (λ size. c.args.map.now.cost + (1 + size / 1024)) c.greatest_size.ensures.size),
+      then-unpack u c.requires.of_lane.sound c.args.name c.args.relation.now c.in-Some.highest
+          (sym c.in-Some.ensures) c.args.map.now c.unpack.new.self c.single-set.result
+          c.single-set.ensures (omega arith) c.unpack.ensures.slots
+          (c.unpack.ensures.cost
+          ∙ ap (λ size. c.args.map.now.cost + (1 + size / 1024)) c.greatest_size.ensures.size),
     )
 
 pub returns-clause-of_lane : goal.returns-clause-of_lane
 returns-clause-of_lane c =
     let u = c.args.universe.now in
-    let paid : c.args.map.now.cost + greatest_cost u c.args.name (has c.single-set.result) ≤ c.args.lane.now.budget =
+    let paid : c.args.map.now.cost + greatest_cost u c.args.name (has c.single-set.result)
+    ≤ c.args.lane.now.budget =
     within-budget _ _ _ _ (sym c.in_default-unpack_risk.ensures) in
-    let cost : c.unpack.new.self.cost ≡ c.args.map.now.cost + greatest_cost u c.args.name (has c.single-set.result) =
-    c.unpack.ensures.cost ∙ ap (λ size. c.args.map.now.cost + (1 + size / 1024)) c.greatest_size.ensures.size in
+    let cost : c.unpack.new.self.cost
+    ≡ c.args.map.now.cost + greatest_cost u c.args.name (has c.single-set.result) =
+    c.unpack.ensures.cost
+    ∙ ap (λ size. c.args.map.now.cost + (1 + size / 1024)) c.greatest_size.ensures.size in
     record {
       sound = c.requires.of_lane.sound;
       based = c.requires.of_lane.based;

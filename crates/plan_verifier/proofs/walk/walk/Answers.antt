@@ -22,8 +22,12 @@ loop-place-init c =
       safe = λ k lt. absurd (omega arith);
       of_lane = record {
         sound = c.requires.readable.sound;
-        based = subst (λ (o : Lane). o.base < length u.bases) same (c.requires.readable.based c.args.number c.requires.lane);
-        small = subst (λ (o : Lane). o.budget < 10 ^ 15) same (c.lanes-lanes.ensures.limits.budgets c.args.number no_lane c.requires.lane);
+        based =
+            subst (λ (o : Lane). o.base < length u.bases) same
+            (c.requires.readable.based c.args.number c.requires.lane);
+        small =
+            subst (λ (o : Lane). o.budget < 10 ^ 15) same
+            (c.lanes-lanes.ensures.limits.budgets c.args.number no_lane c.requires.lane);
         long = c.in_ok-map.ensures.long;
         within = omega (arith, c.in_ok-map.ensures.free);
       };
@@ -31,20 +35,32 @@ loop-place-init c =
 
 pub take-requires-clause-read : goal.take-requires-clause-read
 take-requires-clause-read c =
-    c.requires.readable.read c.args.number c.loop-place.place c.index-instructions-place.result c.requires.lane
-    (instruction-is c.args.plan.now c.args.number c.loop-place.place c.lane-lane.result.now c.instructions-instructions.result.now
-    c.index-instructions-place.result c.lane-lane.ensures c.instructions-instructions.ensures (omega arith) c.index-instructions-place.is)
+    c.requires.readable.read c.args.number c.loop-place.place c.index-instructions-place.result
+    c.requires.lane
+    (instruction-is c.args.plan.now c.args.number c.loop-place.place c.lane-lane.result.now
+    c.instructions-instructions.result.now c.index-instructions-place.result c.lane-lane.ensures
+    c.instructions-instructions.ensures (omega arith) c.index-instructions-place.is)
 
 pub overflow_cast-result : goal.overflow_cast-result
 overflow_cast-result c =
-    let short = lane-short c.args.plan.now c.args.number c.requires.lane c.lanes-lanes.ensures.limits in
-    let long = ap length (list-is c.args.plan.now c.args.number c.lane-lane.result.now c.instructions-instructions.result.now c.lane-lane.ensures c.instructions-instructions.ensures) in
+    let short =
+    lane-short c.args.plan.now c.args.number c.requires.lane c.lanes-lanes.ensures.limits in
+    let long =
+    ap length
+    (list-is c.args.plan.now c.args.number c.lane-lane.result.now
+    c.instructions-instructions.result.now c.lane-lane.ensures
+    c.instructions-instructions.ensures) in
     omega (arith, short, long)
 
 pub overflow_add-result : goal.overflow_add-result
 overflow_add-result c =
-    let short = lane-short c.args.plan.now c.args.number c.requires.lane c.lanes-lanes.ensures.limits in
-    let long = ap length (list-is c.args.plan.now c.args.number c.lane-lane.result.now c.instructions-instructions.result.now c.lane-lane.ensures c.instructions-instructions.ensures) in
+    let short =
+    lane-short c.args.plan.now c.args.number c.requires.lane c.lanes-lanes.ensures.limits in
+    let long =
+    ap length
+    (list-is c.args.plan.now c.args.number c.lane-lane.result.now
+    c.instructions-instructions.result.now c.lane-lane.ensures
+    c.instructions-instructions.ensures) in
     omega (arith, short, long)
 
 pub returns-in-Err : goal.returns-in-Err
@@ -53,12 +69,15 @@ returns-in-Err c =
     let p = c.args.plan.now in
     let x = c.index-instructions-place.result in
     let here : instruction_at p c.args.number c.loop-place.place ≡ Some x =
-    instruction-is p c.args.number c.loop-place.place c.lane-lane.result.now c.instructions-instructions.result.now x
-    c.lane-lane.ensures c.instructions-instructions.ensures (omega arith) c.index-instructions-place.is in (
+    instruction-is p c.args.number c.loop-place.place c.lane-lane.result.now
+    c.instructions-instructions.result.now x c.lane-lane.ensures
+    c.instructions-instructions.ensures (omega arith) c.index-instructions-place.is in (
       c.loop-place.place,
       refl,
-      risk-is u p c.requires.readable c.args.number c.loop-place.place x (may_of u c.loop-place.map) here c.loop-place.invariant.at
-          ∙ (ap (λ of. risk_now u of (may_of u c.loop-place.map) x) (lane-is p c.args.number c.lane-lane.result.now c.lane-lane.ensures)
+      risk-is u p c.requires.readable c.args.number c.loop-place.place x
+          (may_of u c.loop-place.map) here c.loop-place.invariant.at
+          ∙ (ap (λ of. risk_now u of (may_of u c.loop-place.map) x)
+          (lane-is p c.args.number c.lane-lane.result.now c.lane-lane.ensures)
           ∙ c.in-Err.ensures.answer),
       c.loop-place.invariant.safe,
     )
@@ -69,16 +88,24 @@ loop-place-preserved c =
     let p = c.args.plan.now in
     let x = c.index-instructions-place.result in
     let here : instruction_at p c.args.number c.loop-place.place ≡ Some x =
-    instruction-is p c.args.number c.loop-place.place c.lane-lane.result.now c.instructions-instructions.result.now x
-    c.lane-lane.ensures c.instructions-instructions.ensures (omega arith) c.index-instructions-place.is in
+    instruction-is p c.args.number c.loop-place.place c.lane-lane.result.now
+    c.instructions-instructions.result.now x c.lane-lane.ensures
+    c.instructions-instructions.ensures (omega arith) c.index-instructions-place.is in
     let safe : risk_at u p (initial_rows u) c.args.number c.loop-place.place ≡ None =
-    risk-is u p c.requires.readable c.args.number c.loop-place.place x (may_of u c.loop-place.map) here c.loop-place.invariant.at
-    ∙ (ap (λ of. risk_now u of (may_of u c.loop-place.map) x) (lane-is p c.args.number c.lane-lane.result.now c.lane-lane.ensures)
+    risk-is u p c.requires.readable c.args.number c.loop-place.place x
+    (may_of u c.loop-place.map) here c.loop-place.invariant.at
+    ∙ (ap (λ of. risk_now u of (may_of u c.loop-place.map) x)
+    (lane-is p c.args.number c.lane-lane.result.now c.lane-lane.ensures)
     ∙ c.in_default.ensures.answer.0) in
     record {
-      at = rw add-one (may-next u p c.requires.readable c.args.number c.loop-place.place x (may_of u c.loop-place.map) here c.loop-place.invariant.at ∙ c.in_default.ensures.answer.1);
+      at =
+          rw add-one
+          (may-next u p c.requires.readable c.args.number c.loop-place.place x
+          (may_of u c.loop-place.map) here c.loop-place.invariant.at
+          ∙ c.in_default.ensures.answer.1);
       safe = λ k lt. elim (cases_eq k c.loop-place.place) [
-        | inl same ↦ subst (λ i. risk_at u p (initial_rows u) c.args.number i ≡ None) (sym same) safe
+        | inl same ↦
+            subst (λ i. risk_at u p (initial_rows u) c.args.number i ≡ None) (sym same) safe
         | inr other ↦ c.loop-place.invariant.safe k (omega arith)
       ];
       of_lane = c.in_default.ensures.of_lane;
@@ -89,12 +116,17 @@ unfolding lane_cost
 returns c =
     let u = c.args.universe.now in
     let p = c.args.plan.now in
-    let long : length (lane p c.args.number).instructions ≡ length c.instructions-instructions.result.now =
-    ap length (list-is p c.args.number c.lane-lane.result.now c.instructions-instructions.result.now c.lane-lane.ensures c.instructions-instructions.ensures) in
+    let long : length (lane p c.args.number).instructions
+    ≡ length c.instructions-instructions.result.now =
+    ap length
+    (list-is p c.args.number c.lane-lane.result.now c.instructions-instructions.result.now
+    c.lane-lane.ensures c.instructions-instructions.ensures) in
     let end : c.loop-place.place ≡ length (lane p c.args.number).instructions = omega arith in (
       λ i. elim (cases_lt i c.loop-place.place) [
         | inl lt ↦ c.loop-place.invariant.safe i lt
-        | inr past ↦ risk-past u p (initial_rows u) c.args.number i (slice_get_past (lane p c.args.number).instructions i (omega arith))
+        | inr past ↦ risk-past u p (initial_rows u) c.args.number i
+            (slice_get_past (lane p c.args.number).instructions i (omega arith))
       ],
-      sym (ap (λ m. m.cost) c.loop-place.invariant.at) ∙ ap (λ k. (may_at u p (initial_rows u) c.args.number k).cost) end,
+      sym (ap (λ m. m.cost) c.loop-place.invariant.at)
+          ∙ ap (λ k. (may_at u p (initial_rows u) c.args.number k).cost) end,
     )

@@ -4,7 +4,8 @@ use Rattle.plan_verifier.proofs.map.MayMap.configure.Given as goal
 
 abbrev pub invariant-loop-member : goal.invariant-loop-member
 invariant-loop-member l = record {
-  rest : all_configured l.self.slots.items (drop l.member-index l.members) ≡ all_configured l.initial.self.slots.items l.members;
+  rest : all_configured l.self.slots.items (drop l.member-index l.members)
+      ≡ all_configured l.initial.self.slots.items l.members;
   long : length l.self.slots.items ≡ length l.initial.self.slots.items;
   cost : l.self.cost ≡ l.initial.self.cost;
 }

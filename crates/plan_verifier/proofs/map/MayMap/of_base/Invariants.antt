@@ -10,5 +10,6 @@ use Rattle.plan_verifier.proofs.map.MayMap.of_base.Given as goal
 abbrev pub invariant-loop-name : goal.invariant-loop-name
 invariant-loop-name l = record {
   long : length l.slots.items ≡ l.name;
-  each : (n : ℕ) → n < l.name → slot_of (slice_index_or l.slots.items n Absent) ≡ may_base_slot (find (λ v. v.name == n) (base l.universe l.number).packages);
+  each : (n : ℕ) → n < l.name → slot_of (slice_index_or l.slots.items n Absent)
+      ≡ may_base_slot (find (λ v. v.name == n) (base l.universe l.number).packages);
 }
