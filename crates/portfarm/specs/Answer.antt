@@ -1,5 +1,5 @@
--- What the program answers to its input: the verdict on the four texts that the input is cut into. The project's own
--- rules.
+-- What the program answers to its input: the verdict on the four texts that the input is cut into.
+-- The project's own rules.
 --
 --   IsAnswer
 use Rattle.std.specs.Prelude.{◌≡◌, ◌≢◌, ℕ, List, Result, Err}
@@ -14,7 +14,8 @@ use Rattle.portfarm.specs.Input.{Texts, texts_in}
 use Rattle.portfarm.specs.VerdictText.{verdict_text}
 
 abbrev pub IsVerdictOnTexts : Texts → Result AcceptedPlan Refusal → Type 0
-IsVerdictOnTexts texts verdict = IsVerdict (planned_of texts.packages texts.sources texts.farm texts.plan) verdict
+IsVerdictOnTexts texts verdict =
+    IsVerdict (planned_of texts.packages texts.sources texts.farm texts.plan) verdict
 
 pub record IsAnswer (input : List ℕ) (answer : Answer) : Type 0 where
   pub verdict : Result AcceptedPlan Refusal

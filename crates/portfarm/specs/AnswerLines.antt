@@ -10,17 +10,20 @@ counted_line word number = concat (word ∷ codes " " ∷ decimal number ∷ cod
 -- `lane NAME cost N budget N`
 abbrev pub lane_line : List ℕ → ℕ → ℕ → List ℕ
 lane_line name cost budget =
-    concat (codes "lane " ∷ name ∷ codes " cost " ∷ decimal cost ∷ codes " budget " ∷ decimal budget ∷ codes "\n" ∷ [])
+    concat (codes "lane " ∷ name ∷ codes " cost " ∷ decimal cost
+    ∷ codes " budget " ∷ decimal budget ∷ codes "\n" ∷ [])
 
 -- `refused CODE FILE line N`
 abbrev pub fault_line : ℕ → List ℕ → ℕ → List ℕ
 fault_line code file line =
-    concat (codes "refused " ∷ decimal code ∷ codes " " ∷ file ∷ codes " line " ∷ decimal line ∷ codes "\n" ∷ [])
+    concat (codes "refused " ∷ decimal code ∷ codes " " ∷ file ∷ codes " line " ∷ decimal line
+    ∷ codes "\n" ∷ [])
 
 -- `refused 401 lane NAME instruction N TRAP`
 abbrev pub unsafe_line : List ℕ → ℕ → List ℕ → List ℕ
 unsafe_line lane instruction trap =
-    concat (codes "refused 401 lane " ∷ lane ∷ codes " instruction " ∷ decimal instruction ∷ codes " " ∷ trap ∷ codes "\n" ∷ [])
+    concat (codes "refused 401 lane " ∷ lane ∷ codes " instruction " ∷ decimal instruction
+    ∷ codes " " ∷ trap ∷ codes "\n" ∷ [])
 
 -- each name behind a space
 abbrev pub spaced : List (List ℕ) → List ℕ

@@ -1,5 +1,5 @@
--- Standard input as four texts. The project's own rules: the first three lines that are exactly `%%` divide it, and a
--- text that is missing is empty.
+-- Standard input as four texts. The project's own rules: the first three lines that are exactly
+-- `%%` divide it, and a text that is missing is empty.
 --
 --   whole_lines text      the lines of a text, each with its newline
 --   texts_in input        the four texts
@@ -12,7 +12,8 @@ use Rattle.deb_text.specs.Cuts.{before, after}
 -- each line with its newline, which the last may lack
 unfoldable pub whole_lines : List ℕ → List (List ℕ)
 whole_lines [] = []
-whole_lines (b ∷ bs) = if is_newline b then (b ∷ []) ∷ whole_lines bs else onto_first b (whole_lines bs)
+whole_lines (b ∷ bs) =
+    if is_newline b then (b ∷ []) ∷ whole_lines bs else onto_first b (whole_lines bs)
 
 -- the text that has these lines
 abbrev pub joined : List (List ℕ) → List ℕ
@@ -28,7 +29,8 @@ pub record Texts : Type 0 where
   pub farm : List ℕ
   pub plan : List ℕ
 
--- the four texts of these lines: what stands before the first divider, before the next, before the third, and the rest
+-- the four texts of these lines: what stands before the first divider, before the next, before the
+-- third, and the rest
 abbrev pub texts_of_lines : List (List ℕ) → Texts
 texts_of_lines lines = record {
   packages = joined (before is_divider lines);

@@ -3,4 +3,9 @@ use Rattle.portfarm.specs.declared.input.Texts.{Texts}
 use Rattle.portfarm.specs.Input as spec
 
 abbrev pub texts_view : Texts → spec.Texts
-texts_view texts = record { packages = texts.packages.now; sources = texts.sources.now; farm = texts.farm.now; plan = texts.plan.now }
+texts_view texts = record {
+  packages = texts.packages.now;
+  sources = texts.sources.now;
+  farm = texts.farm.now;
+  plan = texts.plan.now;
+}

@@ -9,7 +9,8 @@ use std::alloc::{AllocError, Global};
 
 /// Puts pieces of text behind a text.
 fn push_pieces(text: &mut Vec<u8>, pieces: &[&[u8]]) -> Result<(), AllocError>
-    ensures { OnOk result (text.new.items ≡ text.old.items ++ concat (map (λ piece. piece.now) pieces.now)) }
+    ensures { OnOk result
+        (text.new.items ≡ text.old.items ++ concat (map (λ piece. piece.now) pieces.now)) }
 {
     for piece in pieces {
         text.extend_from_slice(piece)?;
@@ -90,7 +91,8 @@ pub fn push_unsafe(
     instruction: u32,
     trap: &[u8],
 ) -> Result<(), AllocError>
-    ensures { OnOk result (text.new.items ≡ text.old.items ++ unsafe_line lane.now instruction trap.now) }
+    ensures { OnOk result
+        (text.new.items ≡ text.old.items ++ unsafe_line lane.now instruction trap.now) }
 {
     let instruction = format!(in alloc; "{instruction}")?;
     push_pieces(

@@ -22,7 +22,8 @@ fn file_name(file: u8) -> &'static str
 }
 
 fn push_lanes(alloc: Global, text: &mut Vec<u8>, accepted: &Accepted) -> Result<(), AllocError>
-    ensures { OnOk result (text.new.items ≡ text.old.items ++ spec.lane_lines accepted.now (length accepted.now.plan)) }
+    ensures { OnOk result (text.new.items
+        ≡ text.old.items ++ spec.lane_lines accepted.now (length accepted.now.plan)) }
 {
     let plan = accepted.plan();
     for number in 0..plan.lanes() {

@@ -4,4 +4,5 @@ use Rattle.portfarm.proofs.lines.push_pieces.Given as goal
 
 abbrev pub invariant-loop-piece : goal.invariant-loop-piece
 invariant-loop-piece l =
-    l.text.items ++ concat (map (λ piece. piece.now) (drop l.piece-index l.pieces)) ≡ l.fn.text.items ++ concat (map (λ piece. piece.now) l.pieces)
+    l.text.items ++ concat (map (λ piece. piece.now) (drop l.piece-index l.pieces))
+    ≡ l.fn.text.items ++ concat (map (λ piece. piece.now) l.pieces)
