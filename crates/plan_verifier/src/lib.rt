@@ -20,3 +20,6 @@ mod walk;
 pub use accepted::Accepted;
 pub use refusal::{MANY_LANES, Refusal, STUCK, UNSAFE};
 pub use verdict::check;
+
+#[cfg(test)]
+mod tests;
