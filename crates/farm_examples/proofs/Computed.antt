@@ -12,6 +12,8 @@ use Rattle.plan_asm.specs.May.{surely_met, surely_met_with, surely_pre_met, may_
 use Rattle.plan_asm.specs.MayAt.{lane_cost}
 use Rattle.plan_asm.specs.Risk.{candidates, surely_met_outside, may_meet, may_be_needed, may_be_unsettled}
 use Rattle.plan_asm.specs.Safety.{risk_at}
+use Rattle.plan_asm.specs.Order.{items}
+use Rattle.verdict_laws.specs.Greatest.{is_fact, is_settled}
 
 -- whoever unfolds this word unfolds all of these
 unfoldable pub by_computation : Unit {0}
@@ -20,4 +22,5 @@ unfolding runs_of part_cmp version_cmp version_at same names variants package_of
     pre_met unsettled base_chroot first_trap still_needed capacity count newest archive step
     is_finished possible surely_met surely_met_with surely_pre_met may_use lane_cost candidates
     surely_met_outside may_meet may_be_needed may_be_unsettled risk_at
+    items is_fact is_settled
 by_computation = tt

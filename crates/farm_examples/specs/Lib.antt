@@ -8,3 +8,5 @@ pub mod Resources
 pub mod Building
 pub mod Waiting
 pub mod Growing
+pub mod Orders
+pub mod KnownMore

@@ -1,12 +1,17 @@
 //! Several lanes that wait for each other's outputs.
 
-ghost use Rattle.std.specs.Prelude.{◌≡◌, ◌∷◌, [], true, false, None};
+ghost use Rattle.std.specs.Prelude.{◌≡◌, ◌∷◌, [], true, false, Some, None};
 ghost use Rattle.farm_universe.specs.declared.types.Trap.TheVariants.{Missing, Depends, OverBudget};
 ghost use Rattle.farm_universe.specs.Chroot.{used};
 ghost use Rattle.plan_asm.specs.Plan.{count};
 ghost use Rattle.plan_asm.specs.Run.{start, lane_state, is_finished, result_of};
+ghost use Rattle.plan_asm.specs.Order.{start_board};
+ghost use Rattle.verdict_laws.specs.Greatest.{is_settled};
+ghost use Rattle.verdict_laws.specs.Stuck.{lanes_left};
 ghost use Rattle.farm_examples.specs.Verdict.{Costs, Refused, verdict_of, trap_at};
 ghost use Rattle.farm_examples.specs.Toolchain.{gcc_stage1, gmp, toolchain, newer, one_recipe};
+ghost use Rattle.farm_examples.specs.KnownMore.{none_more};
+ghost use Rattle.farm_examples.specs.Orders.{lanes_going, left_after};
 ghost use Rattle.farm_examples.specs.Waiting.{only_stage1, handing, handing_known, handed, ended, newest_or_exact, newest_or_exact_known, between, between_known, through_another, through_another_known, circle, self_circle};
 
 /// Two lanes hand a compiler to each other: a builds its first stage, b makes libgmp with that, and
@@ -17,6 +22,10 @@ pub fn two_lanes_hand_a_compiler_to_each_other()
         ≡ Costs 64 }
     ensures cost_of_b { verdict_of toolchain handing (handing_known (gcc_stage1 ∷ [])) 1
         ≡ Costs 14 }
+
+    ensures known_keeps { is_settled toolchain handing (handing_known (gcc_stage1 ∷ [])) ≡ true }
+    ensures no_more { none_more toolchain handing (handing_known (gcc_stage1 ∷ [])) ≡ true }
+    ensures order { left_after toolchain handing (0 ∷ 1 ∷ 1 ∷ 0 ∷ 0 ∷ []) ≡ Some [] }
 
     ensures end { result_of toolchain handing
         (0 ∷ 0 ∷ 1 ∷ 1 ∷ 1 ∷ 1 ∷ 1 ∷ 0 ∷ 0 ∷ 0 ∷ 0 ∷ 0 ∷ []) ≡ ended handed }
@@ -34,6 +43,7 @@ pub fn two_lanes_hand_a_compiler_to_each_other()
 pub fn exact_version_avoids_depends()
     ensures refused { verdict_of newer (newest_or_exact None) newest_or_exact_known 0
         ≡ Refused 3 Depends }
+    ensures known_keeps { is_settled newer (newest_or_exact None) newest_or_exact_known ≡ true }
     ensures newer_first { (result_of newer (newest_or_exact None)
         (1 ∷ 1 ∷ 1 ∷ 1 ∷ 0 ∷ 0 ∷ 0 ∷ [])).stop ≡ trap_at 7 0 3 Depends }
     ensures newer_later { (result_of newer (newest_or_exact None)
@@ -44,6 +54,10 @@ pub fn exact_version_avoids_depends()
         ≡ Costs 3 }
     ensures cost_of_b { verdict_of newer (newest_or_exact only_stage1) newest_or_exact_known 1
         ≡ Costs 62 }
+    ensures exact_known_keeps { is_settled newer (newest_or_exact only_stage1)
+        newest_or_exact_known ≡ true }
+    ensures no_more { none_more newer (newest_or_exact only_stage1) newest_or_exact_known ≡ true }
+    ensures order { left_after newer (newest_or_exact only_stage1) (1 ∷ 0 ∷ 1 ∷ []) ≡ Some [] }
     ensures exact { (result_of newer (newest_or_exact only_stage1)
         (1 ∷ 1 ∷ 1 ∷ 1 ∷ 0 ∷ 0 ∷ 0 ∷ [])).stop ≡ None }
 {}
@@ -53,6 +67,10 @@ pub fn exact_version_avoids_depends()
 pub fn wait_knows_one_output_too_few()
     ensures refused { verdict_of (one_recipe (gcc_stage1 ∷ gmp ∷ [])) (between 50)
         (between_known (gcc_stage1 ∷ [])) 1 ≡ Refused 2 Missing }
+    ensures known_keeps { is_settled (one_recipe (gcc_stage1 ∷ gmp ∷ [])) (between 50)
+        (between_known (gcc_stage1 ∷ [])) ≡ true }
+    ensures no_more { none_more (one_recipe (gcc_stage1 ∷ gmp ∷ [])) (between 50)
+        (between_known (gcc_stage1 ∷ [])) ≡ true }
     ensures between_the_two { (result_of (one_recipe (gcc_stage1 ∷ gmp ∷ [])) (between 50)
         (0 ∷ 0 ∷ 1 ∷ 1 ∷ [])).stop ≡ trap_at 4 1 2 Missing }
     ensures behind_both { (result_of (one_recipe (gcc_stage1 ∷ gmp ∷ [])) (between 50)
@@ -63,6 +81,14 @@ pub fn wait_knows_one_output_too_few()
         (between_known (gmp ∷ gcc_stage1 ∷ [])) 0 ≡ Costs 22 }
     ensures cost_of_b { verdict_of (one_recipe (gmp ∷ gcc_stage1 ∷ [])) (between 50)
         (between_known (gmp ∷ gcc_stage1 ∷ [])) 1 ≡ Costs 2 }
+    ensures both_known_keeps { is_settled (one_recipe (gmp ∷ gcc_stage1 ∷ [])) (between 50)
+        (between_known (gmp ∷ gcc_stage1 ∷ [])) ≡ true }
+    ensures no_more_than_both { none_more (one_recipe (gmp ∷ gcc_stage1 ∷ [])) (between 50)
+        (between_known (gmp ∷ gcc_stage1 ∷ [])) ≡ true }
+    ensures order { left_after (one_recipe (gmp ∷ gcc_stage1 ∷ [])) (between 50)
+        (0 ∷ 0 ∷ 1 ∷ []) ≡ Some [] }
+    ensures too_soon { left_after (one_recipe (gmp ∷ gcc_stage1 ∷ [])) (between 50)
+        (0 ∷ 1 ∷ []) ≡ None }
     ensures other_order { (result_of (one_recipe (gmp ∷ gcc_stage1 ∷ [])) (between 50)
         (0 ∷ 0 ∷ 1 ∷ 0 ∷ 1 ∷ 1 ∷ 1 ∷ [])).stop ≡ None }
 {}
@@ -71,12 +97,16 @@ pub fn wait_knows_one_output_too_few()
 pub fn publish_is_charged_at_once()
     ensures enough { verdict_of (one_recipe (gmp ∷ gcc_stage1 ∷ [])) (between 22)
         (between_known (gmp ∷ gcc_stage1 ∷ [])) 0 ≡ Costs 22 }
+    ensures enough_known_keeps { is_settled (one_recipe (gmp ∷ gcc_stage1 ∷ [])) (between 22)
+        (between_known (gmp ∷ gcc_stage1 ∷ [])) ≡ true }
     ensures spent { (lane_state (result_of (one_recipe (gmp ∷ gcc_stage1 ∷ [])) (between 22)
         (0 ∷ 0 ∷ [])).state 0).spent ≡ 22 }
     ensures made { (lane_state (result_of (one_recipe (gmp ∷ gcc_stage1 ∷ [])) (between 22)
         (0 ∷ 0 ∷ [])).state 0).made ≡ 1 }
     ensures too_small { verdict_of (one_recipe (gmp ∷ gcc_stage1 ∷ [])) (between 21)
         (between_known (gmp ∷ gcc_stage1 ∷ [])) 0 ≡ Refused 2 OverBudget }
+    ensures too_small_known_keeps { is_settled (one_recipe (gmp ∷ gcc_stage1 ∷ [])) (between 21)
+        (between_known (gmp ∷ gcc_stage1 ∷ [])) ≡ true }
     ensures traps { (result_of (one_recipe (gmp ∷ gcc_stage1 ∷ [])) (between 21)
         (0 ∷ 0 ∷ [])).stop ≡ trap_at 2 0 2 OverBudget }
 {}
@@ -87,11 +117,19 @@ pub fn known_through_another_lane()
     ensures cost_of_a { verdict_of toolchain through_another through_another_known 0 ≡ Costs 21 }
     ensures cost_of_b { verdict_of toolchain through_another through_another_known 1 ≡ Costs 14 }
     ensures cost_of_c { verdict_of toolchain through_another through_another_known 2 ≡ Costs 3 }
+    ensures known_keeps { is_settled toolchain through_another through_another_known ≡ true }
+    ensures no_more { none_more toolchain through_another through_another_known ≡ true }
+    ensures order { left_after toolchain through_another (0 ∷ 1 ∷ 1 ∷ 2 ∷ []) ≡ Some [] }
     ensures end { (result_of toolchain through_another
         (0 ∷ 0 ∷ 1 ∷ 1 ∷ 1 ∷ 1 ∷ 1 ∷ 2 ∷ 2 ∷ 2 ∷ [])).stop ≡ None }
 {}
 
-/// Lanes that wait in a circle never step.
+/// Lanes that wait in a circle never step: none of their waits and outputs can be made. So it is
+/// with a lane that waits for what it makes itself.
 pub fn circle_never_steps()
-    ensures { result_of toolchain circle (0 ∷ 1 ∷ 7 ∷ []) ≡ ended (start toolchain circle) }
+    ensures none_goes { lanes_going toolchain (start_board toolchain circle) ≡ [] }
+    ensures both_left { lanes_left (start_board toolchain circle) ≡ 0 ∷ 1 ∷ [] }
+    ensures self_goes_not { lanes_going toolchain (start_board toolchain self_circle) ≡ [] }
+    ensures self_left { lanes_left (start_board toolchain self_circle) ≡ 0 ∷ [] }
+    ensures events { result_of toolchain circle (0 ∷ 1 ∷ 7 ∷ []) ≡ ended (start toolchain circle) }
 {}
