@@ -1,13 +1,15 @@
 //! The program: reads the four texts of a farm from standard input and prints the verdict.
 #![tactic(auto)]
 
+ghost use Rattle.std.specs.Prelude.{◌≡◌, if◌then◌else◌};
+
 mod answer;
 mod input;
 mod lines;
 mod outside;
 mod verdict;
 
-use crate::answer::answer_to;
+use crate::answer::{Answer, answer_to};
 use crate::outside::{OutsideFault, has_words, read_input, write_text};
 use std::env::Env;
 use std::process::ExitCode;
@@ -25,6 +27,13 @@ const WRONG_WORDS: u8 = 2;
 /// What lies outside of the texts failed.
 const OUTSIDE: u8 = 3;
 
+/// The status of an answer.
+fn status_of(answer: &Answer) -> u8
+    ensures { result ≡ if answer.now.accepted then ACCEPTED else REFUSED }
+{
+    if answer.accepted { ACCEPTED } else { REFUSED }
+}
+
 /// Does what the program was called for, and gives its status.
 fn run(
     rt: &(impl Env + Input + Print + Eprint + AllocGlobal + Threads),
@@ -36,7 +45,7 @@ fn run(
     let input = read_input(rt)?;
     let answer = answer_to(rt, rt.alloc(), &input)?;
     write_text(rt, &answer.text)?;
-    Ok(if answer.accepted { ACCEPTED } else { REFUSED })
+    Ok(status_of(&answer))
 }
 
 fn main(rt: HostRuntime) -> ExitCode {

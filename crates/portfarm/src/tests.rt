@@ -1,6 +1,10 @@
 //! How standard input is cut, and how the lines of an answer look.
 
-use super::*;
+mod verdicts;
+
+use crate::input::texts_of;
+use crate::lines::{push_counted, push_fault, push_lane, push_unsafe};
+use crate::outside::OutsideFault;
 use std::alloc::AllocError;
 
 /// By this project's own rules: the first three lines that are exactly `%%` divide.
