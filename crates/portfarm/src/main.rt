@@ -48,15 +48,19 @@ fn run(
     Ok(status_of(&answer))
 }
 
-fn main(rt: HostRuntime) -> ExitCode {
-    let status = match run(&rt) {
+/// Runs, and tells a fault outside of the texts by its line on standard error.
+fn run_or_tell(rt: &(impl Env + Input + Print + Eprint + AllocGlobal + Threads)) -> u8 {
+    match run(rt) {
         Ok(status) => status,
         Err(fault) => {
             let _written = eprintln!(rt; "portfarm: {fault}");
             OUTSIDE
         }
-    };
-    ExitCode::from(status)
+    }
+}
+
+fn main(rt: HostRuntime) -> ExitCode {
+    ExitCode::from(run_or_tell(&rt))
 }
 
 #[cfg(test)]

@@ -1,5 +1,7 @@
 //! How standard input is cut, and how the lines of an answer look.
 
+mod machine;
+mod outcomes;
 mod verdicts;
 
 use crate::input::texts_of;
