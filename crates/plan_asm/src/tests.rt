@@ -1,8 +1,7 @@
 //! Plans as they are written, and the first fault of each.
 
-use crate::{Instruction, assemble};
+use crate::{FILE, Instruction, assemble};
 use deb_relation::Op;
-use deb_text::Fault;
 use farm_universe::Universe;
 use std::alloc::{AllocError, Global};
 use std::test::Fail;
@@ -12,17 +11,12 @@ const PACKAGES: &[u8] = b"Package: libc6\nVersion: 2.40-1\n\nPackage: gcc\nVersi
 const FARM: &[u8] = b"Architecture-Names: riscv64\nArchive: libc6 (= 2.40-1)\n\n\
     Chroot: base\nCapacity: 1\n\nChroot: main\nCapacity: 4096\n";
 
-/// The line and the code of a text's fault, if it has one and that is of the plan.
+/// The line and the code of a text's fault, if it has one: 0 and 0 where that is not of the plan.
 fn fault_of(alloc: Global, universe: &Universe, text: &[u8]) -> Option<(u32, u16)> {
     match assemble(alloc, universe, text) {
-        Err(
-            Fault {
-                file: 4,
-                line,
-                code,
-            },
-        ) => Some((line, code)),
-        _ => None,
+        Ok(_) => None,
+        Err(fault) if fault.file == FILE => Some((fault.line, fault.code)),
+        Err(_) => Some((0, 0)),
     }
 }
 
