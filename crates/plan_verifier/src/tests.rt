@@ -28,14 +28,9 @@ enum Outcome {
     Memory,
 }
 
-fn outcome_of(
-    rt: &impl Threads,
-    alloc: Global,
-    packages: &str,
-    sources: &str,
-    farm: &str,
-    plan: &str,
-) -> Outcome {
+/// The verdict on the texts of packages, sources, farm and plan.
+fn outcome_of(rt: &impl Threads, alloc: Global, texts: [&str; 4]) -> Outcome {
+    let [packages, sources, farm, plan] = texts;
     let verdict = check(
         rt,
         alloc,
@@ -135,7 +130,8 @@ fn names_the_unsafe_lane(rt: HostRuntime) {
             assert_eq!(rt; lane.as_slice(), b"long:name".as_slice());
             assert_eq!(rt; (instruction, trap), (2, Trap::OverBudget));
         }
-        _ => assert!(rt; false, "the lane is unsafe"),
+        Err(refusal) => assert!(rt; false, "{refusal:?}"),
+        Ok(_) => assert!(rt; false, "the lane is unsafe"),
     }
 }
 
@@ -152,7 +148,7 @@ fn accepts_plans_that_do_nothing(rt: HostRuntime) {
             count,
             cost: 0,
         };
-        let found = outcome_of(&rt, rt.alloc(), LIBC6, "", FARM, plan);
+        let found = outcome_of(&rt, rt.alloc(), [LIBC6, "", FARM, plan]);
         assert_eq!(rt; found, want, "{plan}");
     }
 }
@@ -160,98 +156,58 @@ fn accepts_plans_that_do_nothing(rt: HostRuntime) {
 /// Rows of the four texts, and the file, the line and the code of the first fault.
 fn refuse_texts(rt: &(impl Abort + Threads), alloc: Global, rows: &[([&str; 4], u8, u32, u16)]) {
     for (texts, file, line, code) in rows {
-        let [packages, sources, farm, plan] = *texts;
-        let found = outcome_of(rt, alloc, packages, sources, farm, plan);
+        let found = outcome_of(rt, alloc, *texts);
         assert_eq!(rt; found, fault(*file, *line, *code), "{texts:?}");
     }
 }
+
+const DEPENDS_TWICE: &str = "Package: libc6\nVersion: 2.40-1\n\n\
+    Package: gcc\nVersion: 14-1\nDepends: libc6\nDepends: libgmp\n";
+
+const PRE_DEPENDS: &str = "\nPackage: gcc\nVersion: 14-1\nPre-Depends: libc6\n";
+
+const RECIPE: &str = "Architecture-Names: riscv64\n\nRecipe: gcc\nSource: gcc (= 14-1)\n";
+
+const NO_SUCH_CHROOT: &str = "plan 1\nlane a chroot none budget 1\nend\n";
+
+const UNCLOSED: &str = "plan 1\nlane a chroot main budget 4\n";
 
 #[test]
 fn passes_the_faults_of_each_text_through(rt: HostRuntime) {
     let rows = [
         ([" x: y", "", FARM, PLAN], 1, 1, 101),
-        (
-            [
-                "Package: aa\nVersion: 1\n\nPackage: bb\nVersion: 1\nDepends: aa\nDepends: aa\n",
-                "",
-                FARM,
-                PLAN,
-            ],
-            1,
-            7,
-            104,
-        ),
-        (
-            [
-                "\nPackage: libc6\nVersion: 2.40-1\nPre-Depends: aa\n",
-                "",
-                FARM,
-                PLAN,
-            ],
-            1,
-            2,
-            211,
-        ),
+        ([DEPENDS_TWICE, "", FARM, PLAN], 1, 7, 104),
+        ([PRE_DEPENDS, "", FARM, PLAN], 1, 2, 211),
         ([LIBC6, "x", FARM, PLAN], 2, 1, 102),
         ([LIBC6, "# s\nPackage: gcc\n", FARM, PLAN], 2, 2, 211),
         ([LIBC6, "", "", PLAN], 3, 0, 201),
-        (
-            [
-                LIBC6,
-                "",
-                "Architecture-Names: a\n\nRecipe: gcc\nSource: gcc (= 1)\n",
-                PLAN,
-            ],
-            3,
-            3,
-            211,
-        ),
+        ([LIBC6, "", RECIPE, PLAN], 3, 3, 211),
         ([LIBC6, "", FARM, ""], 4, 0, 301),
-        (
-            [
-                LIBC6,
-                "",
-                FARM,
-                "plan 1\nlane a chroot none budget 1\nend\n",
-            ],
-            4,
-            2,
-            303,
-        ),
-        (
-            [LIBC6, "", FARM, "plan 1\nlane a chroot main budget 4\n"],
-            4,
-            2,
-            306,
-        ),
+        ([LIBC6, "", FARM, NO_SUCH_CHROOT], 4, 2, 303),
+        ([LIBC6, "", FARM, UNCLOSED], 4, 2, 306),
     ];
     refuse_texts(&rt, rt.alloc(), &rows);
 }
 
+/// Two lanes; the first instruction is unsafe, since libc6 is absent.
+const TWO_LANES: &str = "plan 1\nlane a chroot main budget 4\nconfigure libc6\nend\n\
+    lane b chroot main budget 4\nend\n";
+
+const TWO_LANES_AND_AN_END: &str = "plan 1\nlane a chroot main budget 4\nend\n\
+    lane b chroot main budget 4\nend\nend\n";
+
+/// The texts in their order, then 310, and only then an unsafe instruction.
 #[test]
 fn tells_the_first_cause_alone(rt: HostRuntime) {
-    let two = "plan 1\nlane a chroot main budget 4\nconfigure libc6\nend\n\
-        lane b chroot main budget 4\nend\n";
     let rows = [
         (["x", "x", "x", "x"], 1, 1, 102),
         ([LIBC6, "x", "x", "x"], 2, 1, 102),
         ([LIBC6, "", "x", "x"], 3, 1, 102),
         ([LIBC6, "", FARM, "x"], 4, 1, 301),
-        // 310 after every fault of a text, and before an unsafe instruction
-        (["", "", FARM, two], 3, 1, 205),
-        (
-            [
-                LIBC6,
-                "",
-                FARM,
-                "plan 1\nlane a chroot main budget 4\nend\n\
-                 lane b chroot main budget 4\nend\nend\n",
-            ],
-            4,
-            6,
-            302,
-        ),
-        ([LIBC6, "", FARM, two], 4, 0, 310),
+        // the archive has a package that the packages text has not
+        (["", "", FARM, TWO_LANES], 3, 1, 205),
+        ([LIBC6, "", FARM, TWO_LANES_AND_AN_END], 4, 6, 302),
+        ([LIBC6, "", FARM, TWO_LANES], 4, 0, 310),
     ];
     refuse_texts(&rt, rt.alloc(), &rows);
 }
@@ -270,7 +226,7 @@ fn judges_one_lane_so_far(rt: HostRuntime) -> Result<(), Fail> {
         for number in 0..lanes {
             write!(plan, "lane a{number} chroot main budget 0\nend\n")?;
         }
-        let found = outcome_of(&rt, rt.alloc(), LIBC6, "", FARM, plan.as_str());
+        let found = outcome_of(&rt, rt.alloc(), [LIBC6, "", FARM, plan.as_str()]);
         assert_eq!(rt; found, want, "{lanes}");
     }
     Ok(())

@@ -36,7 +36,8 @@ impl Frame<'_> {
         let plan = format!(in alloc;
             "plan 1\nlane a chroot main budget {budget}\n{instructions}\nend\n"
         )?;
-        Ok(outcome_of(rt, alloc, self.packages, "", farm.as_str(), plan.as_str()))
+        let texts = [self.packages, "", farm.as_str(), plan.as_str()];
+        Ok(outcome_of(rt, alloc, texts))
     }
 }
 
@@ -93,50 +94,60 @@ fn configures_a_cycle_together(rt: HostRuntime) -> Result<(), Fail> {
     Ok(())
 }
 
-/// By Debian Policy 7.1 and 7.2: which `Depends` a configured `lib` of a version meets.
+/// `Depends` of `app`, and whether a configured `lib` 1 and whether `lib` 2 meets it, by Debian
+/// Policy 7.1 and 7.2.
+const DEPENDS: [(&str, bool, bool); 16] = [
+    ("", true, true),
+    ("lib", true, true),
+    ("none", false, false),
+    ("lib (<< 2)", true, false),
+    ("lib (<= 1)", true, false),
+    ("lib (= 1)", true, false),
+    ("lib (>= 2)", false, true),
+    ("lib (>> 1)", false, true),
+    ("none | lib", true, true),
+    ("lib (>= 2) | none", false, true),
+    ("lib (>= 2) | lib (= 1)", true, true),
+    ("lib, lib (<< 2)", true, false),
+    ("lib, none", false, false),
+    ("lib:riscv64", true, true),
+    ("lib:odd", false, false),
+    ("app", true, true),
+];
+
+/// The verdict on an `app` with this `Depends` beside a `lib` of this version.
+fn configure_app(
+    rt: &impl Threads,
+    alloc: Global,
+    depends: &str,
+    version: u32,
+) -> Result<Outcome, AllocError> {
+    let packages = format!(in alloc;
+        "Package: lib\nVersion: 1\n\nPackage: lib\nVersion: 2\n\n\
+         Package: app\nVersion: 1\nDepends: {depends}\n"
+    )?;
+    let frame = Frame {
+        packages: packages.as_str(),
+        archive: "lib (= 1), lib (= 2), app (= 1)",
+        capacity: 100,
+        budget: 100,
+    };
+    let instructions = format!(in alloc;
+        "unpack lib (= {version})\nconfigure lib\nunpack app (= 1)\nconfigure app"
+    )?;
+    frame.outcome(rt, alloc, instructions.as_str())
+}
+
 #[test]
 fn wants_depends_met(rt: HostRuntime) -> Result<(), Fail> {
-    let alloc = rt.alloc();
-    // `Depends` of `app`, and whether `lib` 1 and whether `lib` 2 meets it
-    let rows = [
-        ("", true, true),
-        ("lib", true, true),
-        ("none", false, false),
-        ("lib (<< 2)", true, false),
-        ("lib (<= 1)", true, false),
-        ("lib (= 1)", true, false),
-        ("lib (>= 2)", false, true),
-        ("lib (>> 1)", false, true),
-        ("none | lib", true, true),
-        ("lib (>= 2) | none", false, true),
-        ("lib (>= 2) | lib (= 1)", true, true),
-        ("lib, lib (<< 2)", true, false),
-        ("lib, none", false, false),
-        ("lib:riscv64", true, true),
-        ("lib:odd", false, false),
-        ("app", true, true),
-    ];
-    for (depends, with_1, with_2) in rows {
-        let packages = format!(in alloc;
-            "Package: lib\nVersion: 1\n\nPackage: lib\nVersion: 2\n\n\
-             Package: app\nVersion: 1\nDepends: {depends}\n"
-        )?;
-        let frame = Frame {
-            packages: packages.as_str(),
-            archive: "lib (= 1), lib (= 2), app (= 1)",
-            capacity: 100,
-            budget: 100,
-        };
+    for (depends, with_1, with_2) in DEPENDS {
         for (version, met) in [(1, with_1), (2, with_2)] {
-            let instructions = format!(in alloc;
-                "unpack lib (= {version})\nconfigure lib\nunpack app (= 1)\nconfigure app"
-            )?;
             let want = if met {
                 accepted(4, 4)
             } else {
                 Outcome::Unsafe(4, Trap::Depends)
             };
-            let found = frame.outcome(&rt, alloc, instructions.as_str())?;
+            let found = configure_app(&rt, rt.alloc(), depends, version)?;
             assert_eq!(rt; found, want, "{depends} with {version}");
         }
     }
@@ -208,47 +219,35 @@ fn unpacks_from_the_archive(rt: HostRuntime) -> Result<(), Fail> {
     Ok(())
 }
 
-/// An unpack over an earlier variant needs space for both, and the earlier one is gone then.
+/// Instructions, the KiB that suffice for them, how many they are, and which of them has no space
+/// in one KiB less. An unpack over an earlier variant needs space for both, and then the earlier
+/// one is gone. Each costs 1.
+const SPACES: [(&str, u64, usize, u32); 6] = [
+    ("unpack lib (= 2)", 20, 1, 1),
+    ("unpack lib (= 1)\nunpack other (= 1)", 25, 2, 2),
+    ("unpack lib (= 1)\nunpack lib (= 2)", 30, 2, 2),
+    ("unpack lib (= 1)\nunpack lib (= 1)", 20, 2, 2),
+    (
+        "unpack lib (= 1)\nconfigure lib\nunpack lib (= 2)",
+        30,
+        3,
+        3,
+    ),
+    (
+        "unpack lib (= 2)\nunpack lib (= 1)\nunpack other (= 1)",
+        30,
+        3,
+        2,
+    ),
+];
+
 #[test]
 fn wants_space_for_old_and_new(rt: HostRuntime) -> Result<(), Fail> {
     let other = "Package: other\nVersion: 1\nInstalled-Size: 15\n\n";
     let packages = format!(in rt.alloc(); "{other}{}", VERSIONS.packages)?;
-    let full = |number| Outcome::Unsafe(number, Trap::Full);
-    // instructions, the capacity that suffices, what comes then, and what comes with one KiB less
-    let rows = [
-        ("unpack lib (= 2)", 20, accepted(1, 1), full(1)),
-        (
-            "unpack lib (= 1)\nunpack other (= 1)",
-            25,
-            accepted(2, 2),
-            full(2),
-        ),
-        (
-            "unpack lib (= 1)\nunpack lib (= 2)",
-            30,
-            accepted(2, 2),
-            full(2),
-        ),
-        (
-            "unpack lib (= 1)\nunpack lib (= 1)",
-            20,
-            accepted(2, 2),
-            full(2),
-        ),
-        (
-            "unpack lib (= 1)\nconfigure lib\nunpack lib (= 2)",
-            30,
-            accepted(3, 3),
-            full(3),
-        ),
-        (
-            "unpack lib (= 2)\nunpack lib (= 1)\nunpack other (= 1)",
-            30,
-            accepted(3, 3),
-            full(2),
-        ),
-    ];
-    for (instructions, capacity, enough, less) in rows {
+    for (instructions, capacity, count, full) in SPACES {
+        let enough = accepted(count, count as u64);
+        let less = Outcome::Unsafe(full, Trap::Full);
         for (capacity, want) in [(capacity, enough), (capacity - 1, less)] {
             let frame = Frame {
                 packages: packages.as_str(),
