@@ -1,4 +1,5 @@
-//! The proved kernels, as the static library exports them. A row goes over as a pointer and a length.
+//! The proved kernels, as the static library exports them. A row goes over as a pointer and a
+//! length.
 
 mod exported {
     unsafe extern "C" {
@@ -16,7 +17,7 @@ macro_rules! test {
     ($name:ident, $exported:ident) => {
         pub fn $name(a: &[u64], b: &[u64]) -> bool {
             assert_eq!(a.len(), b.len());
-            // SAFETY: both rows are whole slices of one length, which is all that the kernel requires.
+            // SAFETY: both rows are whole slices of one length, as the kernel requires.
             unsafe { exported::$exported(a.as_ptr(), a.len(), b.as_ptr(), b.len()) }
         }
     };
@@ -26,7 +27,7 @@ macro_rules! change {
     ($name:ident, $exported:ident) => {
         pub fn $name(a: &mut [u64], b: &[u64]) {
             assert_eq!(a.len(), b.len());
-            // SAFETY: both rows are whole slices of one length, which is all that the kernel requires.
+            // SAFETY: both rows are whole slices of one length, as the kernel requires.
             unsafe { exported::$exported(a.as_mut_ptr(), a.len(), b.as_ptr(), b.len()) }
         }
     };
