@@ -1,4 +1,5 @@
-//! The kernels as C functions, for the benchmark. A row is passed as a pointer and a length.
+//! The kernels as C functions, for the benchmark. A row is passed as a pointer and a length. The
+//! rows of one call have one length; nothing checks that a caller in C sees to it.
 #![tactic(auto)]
 
 ghost use Rattle.std.specs.Prelude.{◌≡◌, length};
@@ -66,3 +67,6 @@ pub extern "C" fn clause_kernel_take_out(a: &mut [u64], b: &[u64])
 {
     clause_kernel::take_out(a, b)
 }
+
+#[cfg(test)]
+mod tests;
