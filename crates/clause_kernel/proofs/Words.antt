@@ -149,11 +149,9 @@ pub is_met_by-bits : (x y : ℕ) → (is_met_by x y ≡ true)
     ↔ (((k : ℕ) × (word_has x k ≡ true)) × ((k : ℕ) → word_has x k ≡ true → word_has y k ≡ true))
 is_met_by-bits x y = (
   (λ e.
-      let p = and_parts (not (x == 0)) (lies_in x y) e in (
-        some_bit x (λ z. both_ways (x == 0) (not-true _ p.0) (eq-eqb x 0 z)),
-        (lies_in-bits x y).0
-            p.1,
-      )),
+      let p = and_parts (not (x == 0)) (lies_in x y) e in
+      let some = some_bit x (λ z. both_ways (x == 0) (not-true _ p.0) (eq-eqb x 0 z)) in
+      (some, (lies_in-bits x y).0 p.1)),
   (λ h. and_from _ _
       (not_from_false _
       (ne_eqb x 0 (λ z. both_ways _ (ap (λ n. word_has n h.0.0) z ∙ word_has_zero h.0.0) h.0.1)))

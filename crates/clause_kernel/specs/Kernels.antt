@@ -31,23 +31,30 @@ is_met_by x y = not (x == 0) && lies_in x y
 abbrev pub bits_left : ℕ → ℕ → ℕ
 bits_left x y = bit_xor x (bit_and x y)
 
+-- some position has a bit set in both
 abbrev pub hits : List ℕ → List ℕ → Bool
 hits = some_pair shares_bit
 
+-- some position of a has a bit, and each of its bits is one of b
 abbrev pub met : List ℕ → List ℕ → Bool
 met = some_pair is_met_by
 
+-- each bit of a is one of b
 abbrev pub within : List ℕ → List ℕ → Bool
 within = every_pair lies_in
 
+-- the rows are equal
 abbrev pub same : List ℕ → List ℕ → Bool
 same = every_pair ◌==◌
 
+-- the bits of a or b
 abbrev pub joined : List ℕ → List ℕ → List ℕ
 joined = zip2 bit_or
 
+-- the bits of both
 abbrev pub common : List ℕ → List ℕ → List ℕ
 common = zip2 bit_and
 
+-- the bits of a that b lacks
 abbrev pub remaining : List ℕ → List ℕ → List ℕ
 remaining = zip2 bits_left

@@ -18,7 +18,7 @@ fn nine(alloc: Global, last: u64) -> Result<Vec<u64>, AllocError>
     Ok(row)
 }
 
-// A row of words of which each has bits of the mask.
+// A row whose words have bits of the mask alone.
 fn patterned(alloc: Global, n: usize, mask: u64) -> Result<Vec<u64>, AllocError>
     ensures { IfOk result (λ row. length row.items ≡ n) }
 {
