@@ -1,7 +1,7 @@
 -- The tests and changes of rows as tests and changes of their sets.
 use Rattle.std.specs.Prelude.{◌≡◌, ◌↔◌, ℕ, IsTrue, List, length}
 use Rattle.clause_kernel.specs.Kernels.{hits, met, within, same, joined, common, remaining}
-use Rattle.bit_rows.specs.Sets.{variants_of, IsSubset, HaveCommon, HasNameInside, IsUnion, IsIntersection, IsDifference}
+use Rattle.bit_rows.specs.Sets.{variants_of, IsSubset, HaveSame, HaveCommon, HasNameInside, IsUnion, IsIntersection, IsDifference}
 
 -- For all rows a and b of one length:
 pub record RowsAreSets : Type 0 where
@@ -14,8 +14,11 @@ pub record RowsAreSets : Type 0 where
   -- `within` is inclusion;
   pub subset : (a b : List ℕ) → length a ≡ length b
       → IsTrue (within a b) ↔ IsSubset (variants_of a) (variants_of b)
-  -- `same` is equality;
+  -- `same` is equality of the rows,
   pub equal : (a b : List ℕ) → length a ≡ length b → IsTrue (same a b) ↔ (a ≡ b)
+  -- and of their sets;
+  pub same_variants : (a b : List ℕ) → length a ≡ length b
+      → IsTrue (same a b) ↔ HaveSame (variants_of a) (variants_of b)
   -- joined rows are the union,
   pub union : (a b : List ℕ) → length a ≡ length b
       → IsUnion (variants_of a) (variants_of b) (variants_of (joined a b))
@@ -27,4 +30,4 @@ pub record RowsAreSets : Type 0 where
       → IsDifference (variants_of a) (variants_of b) (variants_of (remaining a b))
   -- and rows with the same variants are equal.
   pub told_by_set : (a b : List ℕ) → length a ≡ length b
-      → ((name bit : ℕ) → variants_of a name bit ≡ variants_of b name bit) → a ≡ b
+      → HaveSame (variants_of a) (variants_of b) → a ≡ b

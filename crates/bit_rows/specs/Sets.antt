@@ -2,7 +2,10 @@
 -- two numbers. A row stands for the set of the variants whose bit is set.
 --
 --   variants_of row                            the set of a row
---   IsSubset, HaveCommon, HasNameInside        tests of two sets
+--   HasNone                                    the set without variants
+--   IsWordOf                                   one name of a set as a word
+--   IsSubset, HaveSame, HaveCommon,
+--   HasNameInside                              tests of two sets
 --   IsUnion, IsIntersection, IsDifference,
 --   ReplacesName                               sets made of others
 use Rattle.std.specs.Prelude.{◌≡◌, ◌==◌, not, ◌&&◌, ◌||◌, ℕ, Bool, false, IsTrue, List, if◌then◌else◌}
@@ -20,9 +23,17 @@ variants_of row name bit = is_set row name bit
 abbrev pub HasNone : Variants → Type 0
 HasNone s = (name bit : ℕ) → s name bit ≡ false
 
+-- the bits of the word are the variants of this name in s
+abbrev pub IsWordOf : Variants → ℕ → ℕ → Type 0
+IsWordOf s this word = (bit : ℕ) → s this bit ≡ word_has word bit
+
 -- each variant of s is in t
 abbrev pub IsSubset : Variants → Variants → Type 0
 IsSubset s t = (name bit : ℕ) → IsTrue (s name bit) → IsTrue (t name bit)
+
+-- the same variants are in both
+abbrev pub HaveSame : Variants → Variants → Type 0
+HaveSame s t = (name bit : ℕ) → s name bit ≡ t name bit
 
 -- some variant is in both
 abbrev pub HaveCommon : Variants → Variants → Type 0

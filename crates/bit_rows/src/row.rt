@@ -2,7 +2,7 @@
 
 ghost use Rattle.std.specs.Prelude.{◌≡◌, ◌<◌, ◌↔◌, IsTrue, IfOk, OnOk, OnErr, length, replicate, slice_index, slice_set};
 ghost use Rattle.clause_kernel.specs.Kernels.{hits, met, within, same, joined, common, remaining};
-ghost use Rattle.bit_rows.specs.Sets.{variants_of, HasNone, IsSubset, HaveCommon, HasNameInside, IsUnion, IsIntersection, IsDifference, ReplacesName};
+ghost use Rattle.bit_rows.specs.Sets.{variants_of, HasNone, IsWordOf, IsSubset, HaveSame, HaveCommon, HasNameInside, IsUnion, IsIntersection, IsDifference, ReplacesName};
 
 use std::alloc::{AllocError, Allocator, Global};
 use std::marker::Model;
@@ -50,7 +50,8 @@ impl<A: Allocator> Row<A> {
     /// Gives the word of name `i`.
     pub fn word(&self, i: usize) -> u64
         requires { i < length self.now }
-        ensures { result ≡ slice_index self.now i }
+        ensures word { result ≡ slice_index self.now i }
+        ensures set { IsWordOf (variants_of self.now) i result }
     {
         self.words[i]
     }
@@ -143,6 +144,7 @@ impl<A: Allocator> Row<A> {
         requires { length self.now ≡ length other.now }
         ensures test { result ≡ same self.now other.now }
         ensures equal { IsTrue result ↔ (self.now ≡ other.now) }
+        ensures set { IsTrue result ↔ HaveSame (variants_of self.now) (variants_of other.now) }
     {
         clause_kernel::same(&self.words, &other.words)
     }
