@@ -4,11 +4,11 @@ ghost use Rattle.std.specs.Prelude.{◌≡◌, IfOk, length};
 
 use super::*;
 use linked_list_allocator::LocalHeap;
-use std::alloc::{AllocError, Global};
+use std::alloc::{AllocError, Allocator};
 use std::test::Fail;
 
 // A row of nine words, all 0 but the last.
-fn nine(alloc: Global, last: u64) -> Result<Row, AllocError>
+fn nine<A: Allocator>(alloc: A, last: u64) -> Result<Row<A>, AllocError>
     ensures { IfOk result (λ row. length row ≡ 9) }
 {
     let mut row = Row::new(alloc, 9)?;
@@ -19,17 +19,17 @@ fn nine(alloc: Global, last: u64) -> Result<Row, AllocError>
 #[test]
 fn tests_of_rows(rt: HostRuntime) -> Result<(), Fail> {
     // the last words, and what `met`, `hits`, `within` and `same` answer
-    for (x, y, is_met, is_hit, is_within) in [
-        (2, 3, true, true, true),
-        (4, 3, false, false, false),
-        (6, 3, false, true, false),
-        (0, 3, false, false, true),
+    for (x, y, is_met, is_hit, is_within, is_same) in [
+        (2, 3, true, true, true, false),
+        (3, 3, true, true, true, true),
+        (4, 3, false, false, false, false),
+        (6, 3, false, true, false, false),
+        (0, 3, false, false, true, false),
     ] {
         let a = nine(rt.alloc(), x)?;
         let b = nine(rt.alloc(), y)?;
-        let found = (a.met(&b), a.hits(&b), a.within(&b));
-        assert_eq!(rt; found, (is_met, is_hit, is_within), "{x} and {y}");
-        assert!(rt; !a.same(&b) && a.same(&a), "{x} and {y}");
+        let found = (a.met(&b), a.hits(&b), a.within(&b), a.same(&b));
+        assert_eq!(rt; found, (is_met, is_hit, is_within, is_same), "{x} and {y}");
     }
     Ok(())
 }
@@ -58,6 +58,21 @@ fn refused_rows(rt: HostRuntime) -> Result<(), Fail> {
         assert_eq!(rt; row.is_ok(), is_given, "{size} bytes");
         drop(row);
         assert_eq!(rt; heap.used(), used, "{size} bytes");
+    }
+    Ok(())
+}
+
+// A heap with room for one row alone refuses a copy, keeps nothing of it, and the row stays.
+#[test]
+fn refused_copies(rt: HostRuntime) -> Result<(), Fail> {
+    for (size, is_given) in [(128, false), (1024, true)] {
+        let heap = LocalHeap::new(rt.alloc(), size)?;
+        let row = nine(&heap, 6)?;
+        let used = heap.used();
+        let copy: Result<_, _> = row.clone();
+        assert_eq!(rt; copy.is_ok(), is_given, "{size} bytes");
+        drop(copy);
+        assert_eq!(rt; (heap.used(), row.word(8)), (used, 6), "{size} bytes");
     }
     Ok(())
 }
