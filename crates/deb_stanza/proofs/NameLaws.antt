@@ -16,6 +16,7 @@ use Rattle.deb_text.specs.Cuts.{is_nil}
 use Rattle.deb_stanza.specs.Cut.{onto_last}
 use Rattle.deb_stanza.specs.Draft.{State, last_texts, open_texts, longer, larger, with_head, lowered, IsKnown, IsFit, draft_state}
 use Rattle.deb_stanza.specs.declared.draft.Draft.{Draft}
+use Rattle.deb_stanza.specs.declared.error.TheConstants.{FIELD_TWICE}
 use Rattle.deb_stanza.specs.declared.table.Start.{Start}
 use Rattle.deb_text.specs.Lines.{Line}
 use Rattle.deb_text.specs.Steps.{answer}
@@ -176,9 +177,9 @@ pub told-ok : {X : Type 0} (line : ℕ) (code : Option ℕ) (x y : X)
 told-ok line None x y is = (refl, (cc))
 told-ok line (Some code) x y is = absurd (ok≢err is)
 
--- 104, or none
+-- a second field of its name, or the first
 pub head-twice : (given : List (List ℕ)) (line : List ℕ) → name_fault line ≡ None
-    → list_any (same_name (name_of line)) given ≡ true → head_fault given line ≡ Some 104
+    → list_any (same_name (name_of line)) given ≡ true → head_fault given line ≡ Some FIELD_TWICE
 head-twice given line none is = rw (none, is) refl
 
 pub head-fine : (given : List (List ℕ)) (line : List ℕ) → name_fault line ≡ None

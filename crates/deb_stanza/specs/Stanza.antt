@@ -15,6 +15,7 @@ use Rattle.deb_text.specs.Bytes.{is_byte, is_space}
 use Rattle.deb_text.specs.Cuts.{is_nil, first_is, before, after, trimmed}
 use Rattle.deb_text.specs.Lines.{Line, is_blank_line, control_lines}
 use Rattle.deb_text.specs.Steps.{judged, or_else}
+use Rattle.deb_stanza.specs.declared.error.TheConstants.{CONTINUES_NO_FIELD, NO_COLON, BAD_FIELD_NAME, FIELD_TWICE, TEXT_TOO_LONG, MOST_BYTES}
 
 pub record Field : Type 0 where
   pub name : List ℕ
@@ -107,24 +108,26 @@ paragraphs_of ls = map paragraph_of (filter (λ part. not (is_nil part)) (parts 
 
 -- ---- faults
 
--- 102 it has no colon, 103 what stands before the colon is no name
+-- it has no colon, or what stands before the first one is no name
 abbrev pub name_fault : List ℕ → Option ℕ
 name_fault line =
-    if not (list_any is_colon line) then Some 102
-    else (if not (is_field_name (name_of line)) then Some 103 else None)
+    if not (list_any is_colon line) then Some NO_COLON
+    else (if not (is_field_name (name_of line)) then Some BAD_FIELD_NAME else None)
 
--- why a line begins no field, where its paragraph has fields of these names: 104 one of that name
--- is there
+-- why a line begins no field, where its paragraph has fields of these names: one of that name is
+-- there
 abbrev pub head_fault : List (List ℕ) → List ℕ → Option ℕ
 head_fault given line =
-    or_else (name_fault line) (if list_any (same_name (name_of line)) given then Some 104 else None)
+    or_else (name_fault line)
+    (if list_any (same_name (name_of line)) given then Some FIELD_TWICE else None)
 
--- why a line is refused, where the fields of its paragraph have these names: 101 it continues no
--- field
+-- why a line is refused, where the fields of its paragraph have these names: it continues no field,
+-- or begins none
 abbrev pub code_of : Bool → List (List ℕ) → Line → Option ℕ
 code_of is_open given l =
     if separates l then None
-    else (if continues l then (if is_open then None else Some 101) else head_fault given l.1)
+    else (if continues l then (if is_open then None else Some CONTINUES_NO_FIELD)
+    else head_fault given l.1)
 
 -- a code told at a line; the file is known to the caller alone
 abbrev pub told_at : ℕ → Option ℕ → Option Fault
@@ -136,12 +139,8 @@ fault_of before l =
     told_at l.0
     (code_of (not (is_nil (open_part before))) (map name_of (texts_of (open_part before))) l)
 
--- the most bytes that a text has
-abbrev pub MOST_BYTES : ℕ
-MOST_BYTES = 67108864
-
--- the paragraphs of a text, or its first fault; 105 is told at line 0
+-- the paragraphs of a text, or its first fault; that it is too long is told at line 0
 unfoldable pub paragraphs_at : List ℕ → Result (List Paragraph) Fault
 paragraphs_at text =
-    if nat_lt MOST_BYTES (length text) then Err (fault_at 0 0 105)
+    if nat_lt MOST_BYTES (length text) then Err (fault_at 0 0 TEXT_TOO_LONG)
     else judged fault_of paragraphs_of (control_lines 1 text)

@@ -10,6 +10,7 @@ ghost use Rattle.deb_stanza.specs.Draft.{draft_state, IsFit, HasRoom, longer, op
 ghost use Rattle.deb_stanza.specs.Stanza.{fault_of, head_fault, paragraphs_of, told_at};
 ghost use Rattle.deb_stanza.specs.View.{IsSound, line_of, table_paragraphs};
 
+use crate::error::{CONTINUES_NO_FIELD, FIELD_TWICE, MOST_BYTES};
 use crate::fields::{fault, head_name, lowered_name};
 use crate::table::{Table, empty_table};
 use deb_text::{Class, Fault, Line, begins_with, is_blank_line, is_comment, next_line};
@@ -58,13 +59,13 @@ impl Draft {
             then Ok (record (draft_state self.old) {
               raws = onto_last (longer line.entry.bytes.now) (draft_state self.old).raws;
             })
-            else Err (fault_at 0 line.entry.number 101)) }
+            else Err (fault_at 0 line.entry.number CONTINUES_NO_FIELD)) }
         ensures fit { OnOk result (IsFit self.new) }
         ensures grown { OnOk result (length self.new.table.bytes.items
             ≤ length self.old.table.bytes.items + length line.entry.bytes.now + 1) }
     {
         if !self.is_open {
-            return Err(fault(line.number, 101));
+            return Err(fault(line.number, CONTINUES_NO_FIELD));
         }
         self.table.go_on(line.bytes)?;
         Ok(())
@@ -109,7 +110,7 @@ impl Draft {
         let name = head_name(line)?;
         let key = lowered_name(alloc, name)?;
         if !self.names.insert(key)? {
-            return Err(fault(line.number, 104));
+            return Err(fault(line.number, FIELD_TWICE));
         }
         self.add_head(line)?;
         Ok(())
@@ -138,7 +139,7 @@ impl Draft {
 
 /// The paragraphs of a text, which is no longer than texts may be.
 pub fn read_lines(alloc: Global, text: &[u8]) -> Result<Table, Fault>
-    requires { length text.now ≤ 67108864 }
+    requires { length text.now ≤ MOST_BYTES }
     ensures read { Gives refusal_of table_paragraphs result
         (judged fault_of paragraphs_of (control_lines 1 text.now)) }
     ensures sound { IfOk result IsSound }

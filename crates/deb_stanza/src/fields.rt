@@ -9,11 +9,9 @@ ghost use Rattle.deb_text.specs.Steps.{answer};
 ghost use Rattle.deb_stanza.specs.Draft.{lowered};
 ghost use Rattle.deb_stanza.specs.Stanza.{is_colon, is_field_name, name_of, name_fault, told_at, same_name};
 
+use crate::error::{BAD_FIELD_NAME, NO_COLON};
 use deb_text::{Fault, Line, cut_at_first};
 use std::alloc::{AllocError, Global};
-
-/// The most bytes that a text has.
-pub const MOST_BYTES: usize = 67_108_864;
 
 /// A code told at a line.
 pub fn fault(line: u32, code: u16) -> Fault
@@ -52,10 +50,10 @@ pub fn head_name(line: Line<'_>) -> Result<&[u8], Fault>
     ensures colon { IfOk result (λ _. list_any is_colon line.entry.bytes.now ≡ true) }
 {
     let Some((name, _)) = cut_at_first(b':', line.bytes) else {
-        return Err(fault(line.number, 102));
+        return Err(fault(line.number, NO_COLON));
     };
     if !is_field_name(name) {
-        return Err(fault(line.number, 103));
+        return Err(fault(line.number, BAD_FIELD_NAME));
     }
     Ok(name)
 }

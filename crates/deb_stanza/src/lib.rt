@@ -2,12 +2,16 @@
 #![tactic(auto)]
 
 mod draft;
+mod error;
 mod fields;
 mod paragraphs;
 mod plain;
 mod table;
 
 pub use deb_text::Fault;
+pub use error::{
+    BAD_FIELD_NAME, CONTINUES_NO_FIELD, FIELD_TWICE, MOST_BYTES, NO_COLON, TEXT_TOO_LONG,
+};
 pub use paragraphs::Paragraphs;
 pub use plain::{Lines, plain_lines};
 

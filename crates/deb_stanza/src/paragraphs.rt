@@ -6,7 +6,8 @@ ghost use Rattle.deb_text.specs.Answers.{Gives, refusal_of};
 ghost use Rattle.deb_stanza.specs.Stanza.{paragraph_at, paragraphs_at, value_of};
 
 use crate::draft::read_lines;
-use crate::fields::{MOST_BYTES, fault};
+use crate::error::{MOST_BYTES, TEXT_TOO_LONG};
+use crate::fields::fault;
 use crate::table::Table;
 use deb_text::Fault;
 use std::alloc::Global;
@@ -38,17 +39,17 @@ impl Paragraphs {
     ///
     /// # Errors
     ///
-    /// The fault has file 0. First 105 at line 0, where the text has more than 67,108,864 bytes.
-    /// Then the first line with a fault, told with its number: 101 it begins with a blank and
-    /// continues no field, 102 it has no colon, 103 what stands before its first colon is no
-    /// field name, 104 its paragraph has a field of that name, but for the case of ASCII letters.
-    /// [`Fault::MEMORY`] where memory ran out.
+    /// The fault has file 0. First [`TEXT_TOO_LONG`] at line 0, where the text has more than
+    /// [`MOST_BYTES`] bytes. Then the first line with a fault, told with its number, of one line in
+    /// this order: [`CONTINUES_NO_FIELD`](crate::CONTINUES_NO_FIELD),
+    /// [`NO_COLON`](crate::NO_COLON), [`BAD_FIELD_NAME`](crate::BAD_FIELD_NAME),
+    /// [`FIELD_TWICE`](crate::FIELD_TWICE). [`Fault::MEMORY`] where memory ran out.
     #[tactic(auto, unfolding(crate::specs::Stanza::paragraphs_at))]
     pub fn read(alloc: Global, text: &[u8]) -> Result<Paragraphs, Fault>
         ensures { Gives refusal_of (λ paragraphs. paragraphs) result (paragraphs_at text.now) }
     {
         if text.len() > MOST_BYTES {
-            return Err(fault(0, 105));
+            return Err(fault(0, TEXT_TOO_LONG));
         }
         let table = read_lines(alloc, text)?;
         Ok(Paragraphs { table })

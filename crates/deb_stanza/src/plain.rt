@@ -6,7 +6,8 @@ ghost use Rattle.deb_text.specs.Lines.{is_skipped, plain_lines};
 ghost use Rattle.deb_stanza.specs.Plain.{line_at, plain_lines_at};
 ghost use Rattle.deb_stanza.specs.View.{LinesAreCut, line_of, lines_in};
 
-use crate::fields::{MOST_BYTES, fault};
+use crate::error::{MOST_BYTES, TEXT_TOO_LONG};
+use crate::fields::fault;
 use crate::table::{Start, part, start_end};
 use deb_text::{Fault, Line, is_blank_line, is_comment, next_line};
 use std::alloc::{AllocError, Global};
@@ -66,13 +67,13 @@ impl Lines {
 ///
 /// # Errors
 ///
-/// The fault has file 0: 105 at line 0, where the text has more than 67,108,864 bytes.
-/// [`Fault::MEMORY`] where memory ran out.
+/// The fault has file 0: [`TEXT_TOO_LONG`] at line 0, where the text has more than [`MOST_BYTES`]
+/// bytes. [`Fault::MEMORY`] where memory ran out.
 pub fn plain_lines(alloc: Global, text: &[u8]) -> Result<Lines, Fault>
     ensures { Gives refusal_of (λ lines. lines) result (plain_lines_at text.now) }
 {
     if text.len() > MOST_BYTES {
-        return Err(fault(0, 105));
+        return Err(fault(0, TEXT_TOO_LONG));
     }
     let (bytes, starts) = kept_lines(alloc, text)?;
     Ok(Lines { bytes, starts })
@@ -102,7 +103,7 @@ fn push_line(bytes: &mut Vec<u8>, starts: &mut Vec<Start>, line: Line) -> Result
 }
 
 fn kept_lines(alloc: Global, text: &[u8]) -> Result<(Vec<u8>, Vec<Start>), AllocError>
-    requires { length text.now ≤ 67108864 }
+    requires { length text.now ≤ MOST_BYTES }
     ensures lines { IfOk result (λ l. lines_in l.0.items l.1.items ≡ plain_lines 1 text.now) }
     ensures cut { IfOk result (λ l. LinesAreCut l.0.items l.1.items) }
 {

@@ -13,9 +13,25 @@ fn refusal(alloc: Global, text: &[u8]) -> Option<(u8, u32, u16)> {
 }
 
 #[test]
+fn numbers_its_refusals(rt: HostRuntime) {
+    // the numbers of the output format
+    let codes = [
+        (CONTINUES_NO_FIELD, 101),
+        (NO_COLON, 102),
+        (BAD_FIELD_NAME, 103),
+        (FIELD_TWICE, 104),
+        (TEXT_TOO_LONG, 105),
+    ];
+    for (code, want) in codes {
+        assert_eq!(rt; code, want);
+    }
+    assert_eq!(rt; MOST_BYTES, 67_108_864);
+}
+
+#[test]
 fn reads_paragraphs(rt: HostRuntime) -> Result<(), Fail> {
-    let text =
-        b"# note\nPackage: gcc\nDepends: libc6,\n# inside\n libgmp \n #x\nEmpty:\n\n \t\n\npackage:x\r\n\ty";
+    let text = b"# note\nPackage: gcc\nDepends: libc6,\n# inside\n libgmp \n #x\nEmpty:\n\n \t\n\n\
+        package:x\r\n\ty";
     let paragraphs = Paragraphs::read(rt.alloc(), text)?;
     assert_eq!(rt; paragraphs.count(), 2);
     assert_eq!(rt; paragraphs.line_of(0), 2);
@@ -48,19 +64,22 @@ fn refuses_at_the_first_fault(rt: HostRuntime) {
         (b"", None),
         (b"\n\n", None),
         (b"# c", None),
-        (b" x: y", Some((0, 1, 101))),
-        (b"a: b\n\n\tx", Some((0, 3, 101))),
-        (b"# c\n x", Some((0, 2, 101))),
-        (b"a: b\nc", Some((0, 2, 102))),
-        (b"a: b\n\r\n", Some((0, 2, 102))),
-        (b": b", Some((0, 1, 103))),
-        (b"-a: b", Some((0, 1, 103))),
-        (b"a b: c", Some((0, 1, 103))),
-        (b"\x7f: c", Some((0, 1, 103))),
+        (b" x: y", Some((0, 1, CONTINUES_NO_FIELD))),
+        (b"a: b\n\n\tx", Some((0, 3, CONTINUES_NO_FIELD))),
+        (b"# c\n x", Some((0, 2, CONTINUES_NO_FIELD))),
+        (b"a: b\nc", Some((0, 2, NO_COLON))),
+        (b"a: b\n\r\n", Some((0, 2, NO_COLON))),
+        (b": b", Some((0, 1, BAD_FIELD_NAME))),
+        (b"-a: b", Some((0, 1, BAD_FIELD_NAME))),
+        (b"a b: c", Some((0, 1, BAD_FIELD_NAME))),
+        (b"\x7f: c", Some((0, 1, BAD_FIELD_NAME))),
         (b"a-#: c", None),
-        (b"Aa: b\nB: x\n# no\naA: c\nd", Some((0, 4, 104))),
+        (b"Aa: b\nB: x\n# no\naA: c\nd", Some((0, 4, FIELD_TWICE))),
         (b"Aa: b\n\naA: c\n", None),
-        (b"a: b\n c:\n d\nc: x\n x\nC :", Some((0, 6, 103))),
+        (
+            b"a: b\n c:\n d\nc: x\n x\nC :",
+            Some((0, 6, BAD_FIELD_NAME)),
+        ),
     ];
     for (text, want) in cases {
         assert_eq!(rt; refusal(rt.alloc(), text), want, "{text:?}");
@@ -70,15 +89,15 @@ fn refuses_at_the_first_fault(rt: HostRuntime) {
 #[test]
 fn bounds_the_length_first(rt: HostRuntime) -> Result<(), Fail> {
     // one byte too many, and then a comment of the greatest length
-    let mut text = vec![in rt.alloc(); b'#'; 67_108_865]?;
-    assert_eq!(rt; refusal(rt.alloc(), &text), Some((0, 0, 105)));
+    let mut text = vec![in rt.alloc(); b'#'; MOST_BYTES + 1]?;
+    assert_eq!(rt; refusal(rt.alloc(), &text), Some((0, 0, TEXT_TOO_LONG)));
     let refused = plain_lines(rt.alloc(), &text).err();
     assert_eq!(rt;
         refused,
         Some(Fault {
             file: 0,
             line: 0,
-            code: 105
+            code: TEXT_TOO_LONG
         })
     );
     let _ = text.pop();
@@ -98,7 +117,7 @@ fn reads_many_fields_quickly(rt: HostRuntime) -> Result<(), Fail> {
     assert_eq!(rt; paragraphs.count(), 1);
     assert!(rt; paragraphs.field(0, b"A100000") == Some(b"100000".as_slice()));
     text.extend_from_slice(b"A77: x")?;
-    assert_eq!(rt; refusal(rt.alloc(), &text), Some((0, 100_001, 104)));
+    assert_eq!(rt; refusal(rt.alloc(), &text), Some((0, 100_001, FIELD_TWICE)));
     Ok(())
 }
 
