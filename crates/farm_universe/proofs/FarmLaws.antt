@@ -15,6 +15,7 @@ use Rattle.deb_stanza.specs.Stanza.{Paragraph}
 use Rattle.deb_relation.specs.declared.operator.Op.{Op}
 use Rattle.deb_relation.specs.Relations.{Entry}
 use Rattle.farm_universe.specs.declared.error.TheConstants.{TWICE, UNKNOWN_VARIANT}
+use Rattle.farm_universe.specs.declared.files.TheConstants.{FARM}
 use Rattle.farm_universe.specs.declared.types.Variant.{Variant}
 use Rattle.farm_universe.specs.FarmSteps.{add_variant, add_item, words_in, add_base, tell_base}
 use Rattle.farm_universe.specs.FarmView.{AreWords}
@@ -160,7 +161,7 @@ add_base-keeps before p = by (chroot_at (bases_of before) p) refl where
 pub steps-chroots_of : (ps : List Paragraph) → steps tell_base [] ps ≡ chroots_of ps
 unfolding chroots_of
 steps-chroots_of ps =
-    steps-told 3 add_base (λ before p. code_in (chroot_at (bases_of before) p))
+    steps-told FARM add_base (λ before p. code_in (chroot_at (bases_of before) p))
     bases_of add_base-keeps ps
 
 -- ---- the words of a list have bits of the table's variants alone

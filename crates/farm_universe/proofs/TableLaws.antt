@@ -10,6 +10,7 @@ use Rattle.deb_text.specs.Steps.{answer, steps, goods, item_fault}
 use Rattle.deb_text.proofs.GroupLaws.{AllDistinct-distinct, any-distinct, none-of, map-outside, map-at_place, get-at_place}
 use Rattle.deb_text.proofs.ListLaws.{bytes-same, bytes-self}
 use Rattle.deb_stanza.specs.Stanza.{Paragraph}
+use Rattle.farm_universe.specs.declared.files.TheConstants.{PACKAGES}
 use Rattle.farm_universe.specs.PackagesText.{Listed, Table, package_at, is_below, entry_count, names_of, packages_named, entries_of, table_of, package_fault, packages_of}
 use Rattle.farm_universe.specs.TableSteps.{given_at, put_at, code_at, add, add_paragraph, tell_paragraph}
 use Rattle.farm_universe.specs.Universe.{Package}
@@ -126,7 +127,7 @@ pub steps-packages_of : (ps : List Paragraph)
     → steps tell_paragraph (table_of []) ps ≡ packages_of ps
 unfolding packages_of add_paragraph
 steps-packages_of ps =
-    steps-told 1 add_paragraph (item_fault package_at package_fault)
+    steps-told PACKAGES add_paragraph (item_fault package_at package_fault)
     (λ qs. table_of (goods package_at qs))
     (λ before p. read_step-keeps package_at add package_fault table_of before p
     (λ x is. add-keeps (goods package_at before) x)) ps

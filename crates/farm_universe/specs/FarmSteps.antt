@@ -8,6 +8,7 @@ use Rattle.deb_text.specs.Steps.{◌>>=◌, judged, goods, item_fault, read_step
 use Rattle.deb_stanza.specs.Stanza.{Paragraph}
 use Rattle.deb_relation.specs.Relations.{Entry}
 use Rattle.farm_universe.specs.declared.error.TheConstants.{TWICE}
+use Rattle.farm_universe.specs.declared.files.TheConstants.{FARM}
 use Rattle.farm_universe.specs.declared.types.Variant.{Variant}
 use Rattle.farm_universe.specs.FarmText.{chroot_at}
 use Rattle.farm_universe.specs.ListText.{variant_at, twice, with_bit, words_of}
@@ -28,7 +29,7 @@ unfoldable pub add_base : List Base → Paragraph → Result (List Base) ℕ
 add_base bases p = chroot_at bases p >>= λ base. Ok (bases ++ base ∷ [])
 
 abbrev pub tell_base : List Base → Paragraph → Result (List Base) Fault
-tell_base bases p = told 3 p (add_base bases p)
+tell_base bases p = told FARM p (add_base bases p)
 
 -- the words of all items of a list
 unfoldable pub words_in : Table → List Entry → Result (List ℕ) ℕ

@@ -13,6 +13,7 @@ use Rattle.deb_text.specs.Steps.{◌>>=◌, goods}
 use Rattle.deb_stanza.specs.Stanza.{Paragraph, value_of}
 use Rattle.deb_profile.specs.WordList.{words_at}
 use Rattle.farm_universe.specs.declared.error.TheConstants.{ABSENT, TWICE, OVER_LIMIT}
+use Rattle.farm_universe.specs.declared.files.TheConstants.{FARM}
 use Rattle.farm_universe.specs.declared.limits.TheConstants.{MOST_BASES, MOST_CAPACITY}
 use Rattle.farm_universe.specs.Fields.{needed_at, name_at, number_up_to, unread_at}
 use Rattle.farm_universe.specs.ListText.{list_of, words_of}
@@ -85,7 +86,7 @@ code_in (Err code) = Some code
 -- the base chroots of these paragraphs, or the first fault
 unfoldable pub chroots_of : List Paragraph → Result (List Base) Fault
 chroots_of ps =
-    paragraphs_judged 3 (λ before p. code_in (chroot_at (bases_of before) p)) bases_of ps
+    paragraphs_judged FARM (λ before p. code_in (chroot_at (bases_of before) p)) bases_of ps
 
 -- ---- the whole text
 
@@ -100,6 +101,6 @@ farm_with head bases =
 
 -- a farm text without a paragraph is refused at line 0
 abbrev pub farm_of : Table → List Paragraph → Result Farm Fault
-farm_of table [] = Err (fault_at 3 0 ABSENT)
+farm_of table [] = Err (fault_at FARM 0 ABSENT)
 farm_of table (p ∷ ps) =
-    told 3 p (head_at table p) >>= λ head. chroots_of ps >>= λ bases. Ok (farm_with head bases)
+    told FARM p (head_at table p) >>= λ head. chroots_of ps >>= λ bases. Ok (farm_with head bases)

@@ -16,6 +16,7 @@ use Rattle.deb_stanza.specs.Stanza.{Paragraph, value_of}
 use Rattle.deb_version.specs.Grammar.{text_cmp}
 use Rattle.deb_relation.specs.declared.kind.Kind.TheVariants.{Need}
 use Rattle.farm_universe.specs.declared.error.TheConstants.{TWICE, TOO_MANY_VARIANTS, OVER_LIMIT}
+use Rattle.farm_universe.specs.declared.files.TheConstants.{PACKAGES}
 use Rattle.farm_universe.specs.declared.limits.TheConstants.{MOST_NAMES, MOST_ENTRIES, MOST_VARIANTS}
 use Rattle.farm_universe.specs.Fields.{needed_at, name_at, version_text_at, size_at, relations_in, unread_at}
 use Rattle.farm_universe.specs.Told.{paragraphs_judged}
@@ -117,5 +118,5 @@ package_fault before p =
 -- what the paragraphs of the packages text say, or the first fault
 unfoldable pub packages_of : List Paragraph → Result Table Fault
 packages_of ps =
-    paragraphs_judged 1 (item_fault package_at package_fault)
+    paragraphs_judged PACKAGES (item_fault package_at package_fault)
     (λ qs. table_of (goods package_at qs)) ps

@@ -10,6 +10,7 @@ use Rattle.deb_text.specs.declared.fault.Fault.{Fault}
 use Rattle.deb_text.specs.Groups.{in_order, place_in}
 use Rattle.deb_text.specs.Steps.{answer, read_step}
 use Rattle.deb_stanza.specs.Stanza.{Paragraph}
+use Rattle.farm_universe.specs.declared.files.TheConstants.{PACKAGES}
 use Rattle.farm_universe.specs.PackagesText.{Listed, Table, package_at, entry_count, is_below, first_code, rules_of}
 use Rattle.farm_universe.specs.Told.{told}
 use Rattle.farm_universe.specs.Universe.{Package}
@@ -44,4 +45,4 @@ unfoldable pub add_paragraph : Table → Paragraph → Result Table ℕ
 add_paragraph table p = read_step package_at add table p
 
 abbrev pub tell_paragraph : Table → Paragraph → Result Table Fault
-tell_paragraph table p = told 1 p (add_paragraph table p)
+tell_paragraph table p = told PACKAGES p (add_paragraph table p)

@@ -10,6 +10,7 @@ use Rattle.deb_stanza.specs.Stanza.{Paragraph, paragraphs_at}
 use Rattle.deb_profile.specs.Reduction.{reduced}
 use Rattle.deb_relation.specs.Relations.{Relations}
 use Rattle.farm_universe.specs.declared.error.TheConstants.{UNREAD}
+use Rattle.farm_universe.specs.declared.files.TheConstants.{PACKAGES, SOURCES, FARM}
 use Rattle.farm_universe.specs.FarmText.{Farm, farm_of}
 use Rattle.farm_universe.specs.PackagesText.{Table, packages_of}
 use Rattle.farm_universe.specs.Told.{in_file}
@@ -22,7 +23,7 @@ paragraphs_in file text = in_file file (paragraphs_at text)
 -- sources are not read yet
 abbrev pub sources_of : List Paragraph → Result (Unit {0}) Fault
 sources_of [] = Ok tt
-sources_of (p ∷ ps) = Err (fault_at 2 p.line UNREAD)
+sources_of (p ∷ ps) = Err (fault_at SOURCES p.line UNREAD)
 
 -- a relation field, reduced by the names of the architecture and by no profile (Debian Policy 7.1)
 unfoldable pub reduced_field : List (List ℕ) → Relations → Relations
@@ -51,13 +52,13 @@ universe_with table farm = record {
 
 -- what each text says
 unfoldable pub table_at : List ℕ → Result Table Fault
-table_at packages = paragraphs_in 1 packages >>= packages_of
+table_at packages = paragraphs_in PACKAGES packages >>= packages_of
 
 unfoldable pub sources_at : List ℕ → Result (Unit {0}) Fault
-sources_at sources = paragraphs_in 2 sources >>= sources_of
+sources_at sources = paragraphs_in SOURCES sources >>= sources_of
 
 unfoldable pub farm_at : Table → List ℕ → Result Farm Fault
-farm_at table farm = paragraphs_in 3 farm >>= farm_of table
+farm_at table farm = paragraphs_in FARM farm >>= farm_of table
 
 unfoldable pub universe_of : List ℕ → List ℕ → List ℕ → Result Universe Fault
 universe_of packages sources farm = do

@@ -56,7 +56,7 @@ fn read_head(alloc: Global, table: &Table, paragraph: &Paragraph) -> Result<Head
 fn tell_head(alloc: Global, table: &Table, paragraph: &Paragraph) -> Result<Head, Fault>
     requires { IsFit (table_view table.now) }
     ensures read { Gives fault_of head_view result
-        (told 3 paragraph.now (head_at (table_view table.now) paragraph.now)) }
+        (told FARM paragraph.now (head_at (table_view table.now) paragraph.now)) }
     ensures words { IfOk result (λ head. AreWords (table_view table.now) head.initial.items) }
 {
     match read_head(alloc, table, paragraph) {
