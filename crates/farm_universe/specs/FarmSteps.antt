@@ -17,17 +17,21 @@ use Rattle.farm_universe.specs.PackagesText.{Table}
 use Rattle.farm_universe.specs.Told.{told}
 use Rattle.farm_universe.specs.Universe.{Base}
 
+-- the words with the bit of one more variant
 unfoldable pub add_variant : List ℕ → Variant → Result (List ℕ) ℕ
 add_variant words v =
     if has_bit words v then Err TWICE
     else Ok (set words v.name (with_bit (get_or words v.name 0) v.bit))
 
+-- the words after an item of a list, or the code of its fault
 unfoldable pub add_item : Table → List ℕ → Entry → Result (List ℕ) ℕ
 add_item table words entry = read_step (variant_at table) add_variant words entry
 
+-- the base chroots after a paragraph, or the code of its fault
 unfoldable pub add_base : List Base → Paragraph → Result (List Base) ℕ
 add_base bases p = chroot_at bases p >>= λ base. Ok (bases ++ base ∷ [])
 
+-- the base chroots after a paragraph, or its fault
 abbrev pub tell_base : List Base → Paragraph → Result (List Base) Fault
 tell_base bases p = told FARM p (add_base bases p)
 

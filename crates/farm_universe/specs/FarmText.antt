@@ -28,11 +28,12 @@ pub record Head : Type 0 where
   pub architectures : List (List ℕ)
   pub initial : List ℕ
 
--- absent: an empty archive
+-- the initial archive; absent: an empty one
 abbrev pub archive_at : Table → Option (List ℕ) → Result (List ℕ) ℕ
 archive_at table None = Ok (words_of (length table.names) [])
 archive_at table (Some text) = list_of (words_of (length table.names)) table text
 
+-- the fields in the order in which they are looked at
 unfoldable pub head_at : Table → Paragraph → Result Head ℕ
 head_at table p = do
   spelled ← needed_at p (codes "Architecture-Names")
@@ -42,18 +43,19 @@ head_at table p = do
 
 -- ---- base chroots
 
+-- a code, where the condition holds
 abbrev pub refused_if : Bool → ℕ → Result (Unit {0}) ℕ
 refused_if true code = Err code
 refused_if false code = Ok tt
 
--- recipes are not read yet
+-- the name of a base chroot; recipes are not read yet
 abbrev pub chroot_name : Paragraph → Result (List ℕ) ℕ
 chroot_name p = do
   recipe ← unread_at (value_of p (codes "Recipe"))
   given ← needed_at p (codes "Chroot")
   name_at given
 
--- the packages of a base chroot are not read yet
+-- a base chroot of this name; its packages are not read yet
 abbrev pub chroot_named : Paragraph → List ℕ → Result Base ℕ
 chroot_named p name = do
   spelled ← needed_at p (codes "Capacity")
@@ -66,12 +68,14 @@ abbrev pub with_room : List Base → Base → Result Base ℕ
 with_room before base =
     refused_if (nat_le MOST_BASES (length before)) OVER_LIMIT >>= λ free. Ok base
 
+-- a base chroot behind those before it, which have other names
 abbrev pub chroot_behind : List Base → Paragraph → List ℕ → Result Base ℕ
 chroot_behind before p name = do
   free ← refused_if (list_any (λ base. bytes_eq name base.name) before) TWICE
   base ← chroot_named p name
   with_room before base
 
+-- what a later paragraph says, behind the base chroots before it
 unfoldable pub chroot_at : List Base → Paragraph → Result Base ℕ
 chroot_at before p = chroot_name p >>= chroot_behind before p
 
@@ -79,6 +83,7 @@ chroot_at before p = chroot_name p >>= chroot_behind before p
 abbrev pub bases_of : List Paragraph → List Base
 bases_of ps = goods (chroot_at []) ps
 
+-- the code of what is refused
 abbrev pub code_in : {X : Type 0} → Result X ℕ → Option ℕ
 code_in (Ok x) = None
 code_in (Err code) = Some code
@@ -90,11 +95,13 @@ chroots_of ps =
 
 -- ---- the whole text
 
+-- what the farm text says
 pub record Farm : Type 0 where
   pub architectures : List (List ℕ)
   pub initial : List ℕ
   pub bases : List Base
 
+-- what the first paragraph and the later ones say
 abbrev pub farm_with : Head → List Base → Farm
 farm_with head bases =
     record { architectures = head.architectures; initial = head.initial; bases = bases }

@@ -14,6 +14,7 @@ pub record IsEmptyBase (base : Base) : Type 0 where
   pub empty : base.packages ≡ []
   pub small : base.capacity ≤ MOST_CAPACITY
 
+-- no more base chroots than the limit allows, each without packages
 pub record AreBases (bases : List Base) : Type 0 where
   pub few : length bases ≤ MOST_BASES
   pub empty : All IsEmptyBase bases
@@ -29,6 +30,7 @@ pub record AreWords (table : Table) (words : List ℕ) : Type 0 where
   pub known : (v : Variant) → has_bit words v ≡ true
       → v.bit < length (get_or table.packages v.name [])
 
+-- what the farm text says
 abbrev pub farm_view : Farm → text.Farm
 farm_view farm = record {
   architectures = farm.architectures;
@@ -36,5 +38,6 @@ farm_view farm = record {
   bases = farm.bases.items;
 }
 
+-- what the first paragraph says
 abbrev pub head_view : Head → text.Head
 head_view head = record { architectures = head.architectures; initial = head.initial.items }

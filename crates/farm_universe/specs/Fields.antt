@@ -19,14 +19,15 @@ use Rattle.deb_relation.specs.Relations.{Relations}
 use Rattle.farm_universe.specs.declared.error.TheConstants.{ABSENT, BAD_NUMBER, UNREAD}
 use Rattle.farm_universe.specs.declared.limits.TheConstants.{MOST_SIZE}
 
+-- the value of a field that has to stand
 abbrev pub needed_at : Paragraph → List ℕ → Result (List ℕ) ℕ
 needed_at p name = ok_or (value_of p name) ABSENT
 
--- Debian Policy 5.6.7
+-- the name of a package (Debian Policy 5.6.7)
 abbrev pub name_at : List ℕ → Result (List ℕ) ℕ
 name_at text = if is_name text then Ok text else Err BAD_NAME
 
--- Policy 5.6.12
+-- a version, as it is written (Policy 5.6.12)
 abbrev pub version_text_at : List ℕ → Result (List ℕ) ℕ
 version_text_at text = version_at text >>= λ parts. Ok text
 
@@ -35,6 +36,7 @@ abbrev pub up_to : ℕ → Option ℕ → Result ℕ ℕ
 up_to most None = Err BAD_NUMBER
 up_to most (Some n) = if nat_lt most n then Err BAD_NUMBER else Ok n
 
+-- a number of at most this much
 abbrev pub number_up_to : ℕ → List ℕ → Result ℕ ℕ
 number_up_to most text = up_to most (number_at text)
 

@@ -24,6 +24,7 @@ use Rattle.farm_universe.specs.Packages.{variant, contains}
 use Rattle.farm_universe.specs.PackagesText.{Table}
 use Rattle.farm_universe.specs.Universe.{Package}
 
+-- the package has this version, however it is written (Policy 5.6.12)
 abbrev pub has_version : List ℕ → Package → Bool
 has_version version v = is_eq (text_cmp version v.version)
 
@@ -33,6 +34,7 @@ variant_of table version None = None
 variant_of table version (Some n) =
     option_map (variant n) (position (has_version version) (get_or table.packages n []))
 
+-- the variant of a name with this version
 unfoldable pub find_variant : Table → List ℕ → List ℕ → Option Variant
 find_variant table name version = variant_of table version (place_in bytes_eq table.names name)
 
@@ -62,6 +64,7 @@ list_of made table text =
 
 -- ---- words
 
+-- a word with one more bit
 abbrev pub with_bit : ℕ → ℕ → ℕ
 with_bit word bit = bit_or word (2 ^ bit)
 
@@ -69,5 +72,6 @@ with_bit word bit = bit_or word (2 ^ bit)
 abbrev pub word_of : List Variant → ℕ → ℕ
 word_of vs n = fold (λ word v. with_bit word v.bit) 0 (filter (λ v. v.name == n) vs)
 
+-- the words of this many names
 abbrev pub words_of : ℕ → List Variant → List ℕ
 words_of n vs = map (word_of vs) (range_with_len 0 n)

@@ -63,9 +63,11 @@ pub record Table : Type 0 where
   -- the relation entries of all packages
   pub entries : ℕ
 
+-- a lower version (Policy 5.6.12)
 abbrev pub is_below : Package → Package → Bool
 is_below v w = is_lt (text_cmp v.version w.version)
 
+-- the same version, however it is written (Policy 5.6.12)
 abbrev pub is_same : Package → Package → Bool
 is_same v w = is_eq (text_cmp v.version w.version)
 
@@ -84,9 +86,11 @@ abbrev pub packages_named : List Listed → List ℕ → List Package
 packages_named ps name =
     sorted is_below (map (λ p. p.binary) (filter (λ p. bytes_eq name p.name) ps))
 
+-- the relation entries of all of them
 abbrev pub entries_of : List Listed → ℕ
 entries_of ps = sum (map (λ p. entry_count p.binary) ps)
 
+-- the names by number, and the packages of each by version
 abbrev pub table_of : List Listed → Table
 table_of ps = record {
   names = names_of ps;
@@ -101,6 +105,7 @@ abbrev pub first_code : List (Bool × ℕ) → Option ℕ
 first_code [] = None
 first_code (rule ∷ rules) = if rule.0 then Some rule.1 else first_code rules
 
+-- more names or relation entries than the limits allow
 abbrev pub is_over : Table → Bool
 is_over table = nat_lt MOST_NAMES (length table.names) || nat_lt MOST_ENTRIES table.entries
 
@@ -111,6 +116,7 @@ rules_of v given table =
     ∷ (nat_le MOST_VARIANTS (length given), TOO_MANY_VARIANTS)
     ∷ (is_over table, OVER_LIMIT) ∷ []
 
+-- the code of what is wrong with a package behind those before it
 abbrev pub package_fault : List Listed → Listed → Option ℕ
 package_fault before p =
     first_code (rules_of p.binary (packages_named before p.name) (table_of (before ++ p ∷ [])))

@@ -33,16 +33,20 @@ put_at table (Some i) p = record {
   entries = table.entries + entry_count p.binary;
 }
 
+-- what is wrong with a package of the name with this number, or of a new name
 unfoldable pub code_at : Table → Option ℕ → Listed → Option ℕ
 code_at table at p = first_code (rules_of p.binary (given_at table at) (put_at table at p))
 
+-- the table with one more package, or the code of its fault
 unfoldable pub add : Table → Listed → Result Table ℕ
 add table p =
     answer (code_at table (place_in bytes_eq table.names p.name) p)
     (put_at table (place_in bytes_eq table.names p.name) p)
 
+-- the table after a paragraph, or the code of its fault
 unfoldable pub add_paragraph : Table → Paragraph → Result Table ℕ
 add_paragraph table p = read_step package_at add table p
 
+-- the table after a paragraph, or its fault
 abbrev pub tell_paragraph : Table → Paragraph → Result Table Fault
 tell_paragraph table p = told PACKAGES p (add_paragraph table p)

@@ -10,9 +10,11 @@ use Rattle.farm_universe.specs.declared.table.Table.{Table}
 use Rattle.farm_universe.specs.PackagesText as text
 use Rattle.farm_universe.specs.Universe.{Package}
 
+-- what a paragraph says
 abbrev pub listed_view : Listed → text.Listed
 listed_view listed = record { name = listed.name.items; binary = listed.binary }
 
+-- what the table says
 abbrev pub table_view : Table → text.Table
 table_view table = record {
   names = lists table.names.keys;

@@ -11,12 +11,15 @@ use Rattle.deb_text.specs.Answers.{fault_at, placed}
 use Rattle.deb_text.specs.Steps.{judged}
 use Rattle.deb_stanza.specs.Stanza.{Paragraph}
 
+-- what is read of a paragraph, its code told at the paragraph's first line
 abbrev pub told : {X : Type 0} → ℕ → Paragraph → Result X ℕ → Result X Fault
 told file p read = placed file p.line read
 
+-- a code told at the first line of a paragraph
 abbrev pub fault_told : ℕ → Paragraph → Option ℕ → Option Fault
 fault_told file p code = option_map (fault_at file p.line) code
 
+-- what paragraphs mean, or the first fault that is found in them
 unfoldable pub paragraphs_judged : {A : Type 0} → ℕ → (List Paragraph → Paragraph → Option ℕ)
     → (List Paragraph → A) → List Paragraph → Result A Fault
 paragraphs_judged file judge meaning ps =

@@ -16,7 +16,7 @@ use Rattle.farm_universe.specs.PackagesText.{Table, packages_of}
 use Rattle.farm_universe.specs.Told.{in_file}
 use Rattle.farm_universe.specs.Universe.{Package, Universe}
 
--- the paragraphs of a text
+-- the paragraphs of a text, or its first fault
 unfoldable pub paragraphs_in : ℕ → List ℕ → Result (List Paragraph) Fault
 paragraphs_in file text = in_file file (paragraphs_at text)
 
@@ -29,6 +29,7 @@ sources_of (p ∷ ps) = Err (fault_at SOURCES p.line UNREAD)
 unfoldable pub reduced_field : List (List ℕ) → Relations → Relations
 reduced_field architectures field = reduced architectures [] field
 
+-- a package with its relation fields reduced
 unfoldable pub reduced_package : List (List ℕ) → Package → Package
 reduced_package architectures v = record {
   version = v.version;
@@ -40,6 +41,7 @@ reduced_package architectures v = record {
   provides = reduced_field architectures v.provides;
 }
 
+-- the universe of a table and a farm; recipes are not read yet
 abbrev pub universe_with : Table → Farm → Universe
 universe_with table farm = record {
   names = table.names;
@@ -50,16 +52,19 @@ universe_with table farm = record {
   architectures = farm.architectures;
 }
 
--- what each text says
+-- what the packages text says
 unfoldable pub table_at : List ℕ → Result Table Fault
 table_at packages = paragraphs_in PACKAGES packages >>= packages_of
 
+-- what the sources text says
 unfoldable pub sources_at : List ℕ → Result (Unit {0}) Fault
 sources_at sources = paragraphs_in SOURCES sources >>= sources_of
 
+-- what the farm text says
 unfoldable pub farm_at : Table → List ℕ → Result Farm Fault
 farm_at table farm = paragraphs_in FARM farm >>= farm_of table
 
+-- what the three texts say together, or the first fault of the first that has one
 unfoldable pub universe_of : List ℕ → List ℕ → List ℕ → Result Universe Fault
 universe_of packages sources farm = do
   table ← table_at packages
