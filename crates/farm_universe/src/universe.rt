@@ -92,16 +92,17 @@ impl Universe {
     /// # Errors
     ///
     /// The first fault, packages (file 1) before sources (2) before the farm (3), told at the
-    /// first line of its paragraph. Of a text: 105 at line 0, 101 to 104. Of a packages paragraph:
-    /// 201, 121 of `Package`; 201, 111 to 114 of `Version`; 202 of `Installed-Size`; 211 where
-    /// `Pre-Depends` stands; 121 to 130 of `Depends`; 211 where `Conflicts`, `Breaks` or `Provides`
-    /// stands; then 203 for a version that the name has, 204 for too many of them, 210 for too many
-    /// names or relation entries. Of a sources paragraph: 211. Of the farm: 201 at line 0 where it
-    /// has no paragraph; in the first 201, 131 of `Architecture-Names`, then of `Archive` the
-    /// faults of a Provides field, and item by item 205 for one that names no variant and 203 for
-    /// one that stands twice; in each later one 211 where `Recipe` stands, 201, 121, 203 of
-    /// `Chroot`, 201, 202 of `Capacity`, 211 where `Packages` stands, 210 for too many chroots.
-    /// Last, 900 (file 0, line 0) where memory ran out. Nothing is left behind.
+    /// first line of its paragraph. Of a text: 105 at line 0, 101 to 104 at the faulty line. Of a
+    /// packages paragraph: 201, 121 of `Package`; 201, 111 to 114 of `Version`; 202 of
+    /// `Installed-Size`; 211 where `Pre-Depends` stands; 121, 122, 123, 125, 127 or 129 of
+    /// `Depends`; 211 where `Conflicts`, `Breaks` or `Provides` stands; then 203 for a version that
+    /// the name has, 204 for too many of them, 210 for too many names or relation entries. Of a
+    /// sources paragraph: 211. Of the farm: 201 at line 0 where it has no paragraph; in the first
+    /// 201, 131 of `Architecture-Names`, then of `Archive` 121, 122, 123, 125, 126, 127 or 128, and
+    /// item by item 205 for one that names no variant and 203 for one that stands twice; in each
+    /// later one 211 where `Recipe` stands, 201, 121, 203 of `Chroot`, 201, 202 of `Capacity`, 211
+    /// where `Packages` stands, 210 for too many chroots. 900 (file 0, line 0) as soon as memory is
+    /// refused, ahead of every fault that would be found later. Nothing is left behind.
     #[tactic(auto, unfolding(crate::specs::UniverseText::universe_of))]
     pub fn read(
         alloc: Global,
