@@ -34,13 +34,6 @@ impl Members {
     {
         self.names.as_slice()
     }
-
-    /// Gives the names back, with their memory.
-    pub fn into_vec(self) -> Vec<u32>
-        ensures { result.items ≡ self }
-    {
-        self.names
-    }
 }
 
 /// One instruction of a lane. Names and recipes go by their numbers in the universe.
