@@ -25,9 +25,11 @@ pub record Draft : Type 0 where
   pub lanes : List Lane
   pub current : Open
 
+-- before the first line
 abbrev pub empty : Draft
 empty = record { lanes = []; current = Nothing }
 
+-- whether something is left open
 abbrev pub is_open : Open → Bool
 is_open Nothing = false
 is_open (InLane line lane) = true
@@ -37,11 +39,13 @@ abbrev pub all_lanes : List Lane → Open → List Lane
 all_lanes ls Nothing = ls
 all_lanes ls (InLane line lane) = ls ++ lane ∷ []
 
+-- the instructions of these lanes, lane by lane
 abbrev pub instructions_of : List Lane → List Instruction
 instructions_of ls = flat_map (λ (l : Lane). l.instructions) ls
 
 -- ---- names
 
+-- a number, or that its name is not known
 abbrev pub or_unknown : Option ℕ → Result ℕ ℕ
 or_unknown (Some n) = Ok n
 or_unknown None = Err UNKNOWN_NAME
@@ -50,6 +54,7 @@ or_unknown None = Err UNKNOWN_NAME
 unfoldable pub known_name : Universe → List ℕ → Result ℕ ℕ
 known_name u word = or_unknown (place_in bytes_eq u.names word)
 
+-- the names of the base chroots, by number
 abbrev pub base_names : Universe → List (List ℕ)
 base_names u = map (λ (b : Base). b.name) u.bases
 
@@ -57,15 +62,17 @@ base_names u = map (λ (b : Base). b.name) u.bases
 unfoldable pub known_base : Universe → List ℕ → Result ℕ ℕ
 known_base u word = or_unknown (place_in bytes_eq (base_names u) word)
 
--- the numbers of these names: all of them known, and then none twice
+-- the members of a set, none of them twice
 abbrev pub distinct_set : List ℕ → Result (List ℕ) ℕ
 distinct_set members = if has_double members then Err NAME_TWICE else Ok members
 
+-- the numbers of these names: all of them known, and then none twice
 unfoldable pub set_of : Universe → List (List ℕ) → Result (List ℕ) ℕ
 set_of u ws = traverse (known_name u) ws >>= distinct_set
 
 -- ---- lines
 
+-- a lane without instructions
 abbrev pub fresh_lane : List ℕ → ℕ → ℕ → Lane
 fresh_lane name base budget = record {
   name = name;
@@ -89,6 +96,7 @@ abbrev pub end_lane : List Lane → Open → Result Draft ℕ
 end_lane ls Nothing = Err BAD_LINE
 end_lane ls (InLane line lane) = Ok (record { lanes = ls ++ lane ∷ []; current = Nothing })
 
+-- a lane with one more instruction behind the others
 abbrev pub with_instruction : Lane → Instruction → Lane
 with_instruction l x = record {
   name = l.name;

@@ -20,11 +20,13 @@ abbrev pub finished : List Lane → Open → Result Plan Fault
 finished ls Nothing = Ok ls
 finished ls (InLane line lane) = Err (fault_at FILE line UNCLOSED)
 
+-- the limits of a plan
 pub record IsWithinLimits (p : Plan) : Type 0 where
   pub lanes : length p ≤ MOST_LANES
   pub instructions : length (instructions_of p) ≤ MOST_INSTRUCTIONS
   pub budgets : All (λ (l : Lane). l.budget < 10 ^ 15) p
 
+-- a number that is the plan's count of events, whatever the universe
 abbrev pub IsCounted : Plan → ℕ → Type 0
 IsCounted p n = (u : Universe) → n ≡ count u p
 
@@ -32,6 +34,7 @@ IsCounted p n = (u : Universe) → n ≡ count u p
 abbrev pub AreSingle : List Instruction → Type 0
 AreSingle xs = All (λ (x : Instruction). (u : Universe) → events_of u x ≡ 1) xs
 
+-- what lines that were read without a fault come to
 pub record IsRead (d : Draft) : Type 0 where
   pub limits : IsWithinLimits (all_lanes d.lanes d.current)
   pub single : All (λ (l : Lane). AreSingle l.instructions) (all_lanes d.lanes d.current)

@@ -19,6 +19,7 @@ use Rattle.deb_relation.specs.Field.{alternative_at}
 use Rattle.deb_relation.specs.Relations.{Atom}
 use Rattle.plan_asm.specs.declared.error.TheConstants.{BAD_LINE}
 
+-- what a line says
 pub data Form : Type 0 where
   -- lane NAME chroot CHROOT budget NUMBER
   LaneForm : (name chroot : List ℕ) (budget : ℕ) → Form
@@ -29,18 +30,20 @@ pub data Form : Type 0 where
   -- configure NAME ..
   ConfigureForm : (names : List (List ℕ)) → Form
 
--- the first word, and what stands behind it
+-- the first word
 abbrev pub first_word : List ℕ → List ℕ
 first_word line = front is_solid (behind is_blank line)
 
+-- what stands behind the first word
 abbrev pub behind_word : List ℕ → List ℕ
 behind_word line = behind is_solid (behind is_blank line)
 
--- behind `lane`: words, and a number of 1 to 15 digits
+-- a lane, where its budget is a number of 1 to 15 digits
 abbrev pub lane_with : List ℕ → List ℕ → Option ℕ → Result Form ℕ
 lane_with name chroot (Some budget) = Ok (LaneForm name chroot budget)
 lane_with name chroot None = Err BAD_LINE
 
+-- behind `lane`: NAME chroot CHROOT budget NUMBER
 abbrev pub lane_form : List (List ℕ) → Result Form ℕ
 lane_form (name ∷ first ∷ chroot ∷ second ∷ budget ∷ []) =
     if is_word name && bytes_eq first (codes "chroot")
@@ -52,7 +55,7 @@ lane_form _ = Err BAD_LINE
 abbrev pub end_form : List (List ℕ) → Result Form ℕ
 end_form ws = if is_nil ws then Ok EndForm else Err BAD_LINE
 
--- so far with `=` alone
+-- whether a relation stands there and is `=`; so far it has to be
 abbrev pub is_exact : Option (Op × List ℕ) → Bool
 is_exact None = false
 is_exact (Some (Earlier, version)) = false
@@ -72,6 +75,7 @@ abbrev pub unpack_in : Result Atom ℕ → Result Form ℕ
 unpack_in (Ok atom) = unpack_of atom
 unpack_in (Err code) = Err BAD_LINE
 
+-- behind `unpack`: what stands there, read as an alternative
 abbrev pub unpack_form : List ℕ → Result Form ℕ
 unpack_form text = unpack_in (alternative_at Need text)
 
@@ -88,12 +92,15 @@ form_by word rest =
     else (if bytes_eq word (codes "configure") then set_form (words rest)
     else Err BAD_LINE)))
 
+-- the form of a line, or BAD_LINE
 unfoldable pub form_at : List ℕ → Result Form ℕ
 form_at line = form_by (first_word line) (behind_word line)
 
+-- the words `plan` and `1`, and no others
 abbrev pub head_words : List (List ℕ) → Bool
 head_words (word ∷ version ∷ []) = bytes_eq word (codes "plan") && bytes_eq version (codes "1")
 head_words _ = false
 
+-- whether a line is `plan 1`
 unfoldable pub is_head : List ℕ → Bool
 is_head line = head_words (words line)

@@ -16,9 +16,11 @@ use Rattle.plan_asm.specs.Ends.{finished}
 use Rattle.plan_asm.specs.Forms.{form_at, is_head}
 use Rattle.plan_asm.specs.Plan.{Plan}
 
+-- the draft with one more line, or the code of the line's fault
 unfoldable pub take_text : Universe → ℕ → Draft → List ℕ → Result Draft ℕ
 take_text u number d line = form_at line >>= take_form u number d
 
+-- the draft with one more line, or the line's fault
 abbrev pub take_line : Universe → Draft → Line → Result Draft Fault
 take_line u d (number, line) = placed FILE number (take_text u number d line)
 
@@ -38,5 +40,6 @@ abbrev pub of_file : {X : Type 0} → ℕ → Result X Fault → Result X Fault
 of_file file (Ok x) = Ok x
 of_file file (Err fault) = Err (fault_at file fault.line fault.code)
 
+-- the plan of a text, or its first fault
 unfoldable pub plan_of : Universe → List ℕ → Result Plan Fault
 plan_of u text = of_file FILE (plain_lines_at text) >>= plan_in u
