@@ -9,6 +9,7 @@ use Rattle.deb_text.specs.Answers.{Gives, refusal_of}
 use Rattle.deb_text.specs.Lines.{Line}
 use Rattle.farm_universe.specs.Packages.{names}
 use Rattle.farm_universe.specs.Sound.{IsUniverse}
+use Rattle.farm_universe.specs.Told.{in_file}
 use Rattle.farm_universe.specs.Universe.{Universe}
 use Rattle.plan_asm.specs.declared.draft.Open.{Open}
 use Rattle.plan_asm.specs.declared.draft.Open.TheVariants.{Nothing, InLane}
@@ -19,7 +20,7 @@ use Rattle.plan_asm.specs.Drafts.{Draft, empty, all_lanes}
 use Rattle.plan_asm.specs.Ends.{finished, AreSingle, IsRead}
 use Rattle.plan_asm.specs.Forms.{form_at, is_head}
 use Rattle.plan_asm.specs.Plan.{Lane, Plan, lane, no_lane, events_of}
-use Rattle.plan_asm.specs.PlanText.{take_text, take_line, draft_of, plan_in, of_file, plan_of}
+use Rattle.plan_asm.specs.PlanText.{take_text, take_line, draft_of, plan_in, plan_of}
 use Rattle.plan_asm.specs.Sound.{IsInstruction, IsPlan, unpacks_or_configures, UnpacksAndConfigures}
 use Rattle.plan_asm.proofs.Carried.{if-has, then-has, steps-keep, placed-has, always, has-ok}
 use Rattle.plan_asm.proofs.DraftLaws.{IsGood, IsGoodLane, IsGoodDraft, take_form-has}
@@ -112,8 +113,8 @@ module _ (u : Universe) where
   text-has : (text : List ℕ) → IfOk (plan_of u text) (All (IsGoodLane u))
   unfolding plan_of
   text-has text =
-      then-has (λ _. Unit {0}) (All (IsGoodLane u)) (of_file FILE (plain_lines_at text)) _
-      (always (of_file FILE (plain_lines_at text))) (λ ls _. lines-has ls)
+      then-has (λ _. Unit {0}) (All (IsGoodLane u)) (in_file FILE (plain_lines_at text)) _
+      (always (in_file FILE (plain_lines_at text))) (λ ls _. lines-has ls)
 
   -- ---- a plan
 

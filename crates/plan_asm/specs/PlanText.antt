@@ -3,12 +3,13 @@
 --
 --   take_line u d line     the draft with one more line, or the line's fault
 --   plan_of u text         the plan of a text, or its first fault
-use Rattle.std.specs.Prelude.{ℕ, List, [], ◌∷◌, Result, Ok, Err, if◌then◌else◌}
+use Rattle.std.specs.Prelude.{ℕ, List, [], ◌∷◌, Result, Err, if◌then◌else◌}
 use Rattle.deb_stanza.specs.Plain.{plain_lines_at}
 use Rattle.deb_text.specs.declared.fault.Fault.{Fault}
 use Rattle.deb_text.specs.Answers.{fault_at, placed}
 use Rattle.deb_text.specs.Lines.{Line}
 use Rattle.deb_text.specs.Steps.{◌>>=◌, steps}
+use Rattle.farm_universe.specs.Told.{in_file}
 use Rattle.farm_universe.specs.Universe.{Universe}
 use Rattle.plan_asm.specs.declared.error.TheConstants.{FILE, NO_PLAN}
 use Rattle.plan_asm.specs.Drafts.{Draft, empty, take_form}
@@ -35,11 +36,6 @@ plan_in u ((number, line) ∷ ls) =
     if is_head line then (draft_of u ls >>= λ d. finished d.lanes d.current)
     else Err (fault_at FILE number NO_PLAN)
 
--- the fault of a text, told of this file
-abbrev pub of_file : {X : Type 0} → ℕ → Result X Fault → Result X Fault
-of_file file (Ok x) = Ok x
-of_file file (Err fault) = Err (fault_at file fault.line fault.code)
-
 -- the plan of a text, or its first fault
 unfoldable pub plan_of : Universe → List ℕ → Result Plan Fault
-plan_of u text = of_file FILE (plain_lines_at text) >>= plan_in u
+plan_of u text = in_file FILE (plain_lines_at text) >>= plan_in u

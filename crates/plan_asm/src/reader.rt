@@ -5,9 +5,10 @@ ghost use Rattle.std.specs.Option.{option_map};
 ghost use Rattle.deb_stanza.specs.Plain.{plain_lines_at};
 ghost use Rattle.deb_text.specs.Answers.{Gives, fault_at, refusal_of};
 ghost use Rattle.farm_universe.specs.Sound.{IsUniverse};
+ghost use Rattle.farm_universe.specs.Told.{in_file};
 ghost use Rattle.plan_asm.specs.Drafts.{take_form};
 ghost use Rattle.plan_asm.specs.PlanText.{take_text, take_line, draft_of};
-ghost use Rattle.plan_asm.specs.PlanText.{of_file, plan_in, plan_of};
+ghost use Rattle.plan_asm.specs.PlanText.{plan_in, plan_of};
 ghost use Rattle.plan_asm.specs.Sound.{IsPlan, UnpacksAndConfigures};
 ghost use Rattle.plan_asm.specs.View.{refusal_of_line, form_of};
 
@@ -121,7 +122,7 @@ fn in_plan(fault: Fault) -> Fault
 }
 
 fn read_lines(alloc: Global, text: &[u8]) -> Result<Lines, Fault>
-    ensures { Gives refusal_of (λ lines. lines) result (of_file FILE (plain_lines_at text.now)) }
+    ensures { Gives refusal_of (λ lines. lines) result (in_file FILE (plain_lines_at text.now)) }
 {
     plain_lines(alloc, text).map_err(in_plan)
 }
