@@ -4,7 +4,7 @@ use Rattle.std.specs.declared.cmp.Ordering.TheVariants.{Less, Equal, Greater}
 use Rattle.std.specs.Ordering.{ordering_then, nat_cmp}
 use Rattle.std.proofs.lemmas.List.{take-append-drop}
 use Rattle.std.proofs.lemmas.List.Sums.{fold-append, fold_more}
-use Rattle.deb_version.specs.Order.{number_of}
+use Rattle.deb_text.specs.Numbers.{number}
 use Rattle.std.proofs.lemmas.Bool.{cases_order, lt-ltb, le-ltb, eq-eqb, ne_eqb}
 
 -- what is answered of the digits that are left, where so_far is the order of those before
@@ -82,13 +82,13 @@ digits_cmp-is (x ∷ xs) (y ∷ ys) m n dx dy alike =
     ∙ digits_cmp-is xs ys next_m next_n dx.2 dy.2 (inl next)
 
 -- a number has at least the value of its first digits
-pub number_of-take : (ds : List ℕ) (i : ℕ) → i < length ds
-    → number_of (take i ds) * 10 + (get_or ds i 0 - 48) ≤ number_of ds
-number_of-take ds i lt =
+pub number-take : (ds : List ℕ) (i : ℕ) → i < length ds
+    → number (take i ds) * 10 + (get_or ds i 0 - 48) ≤ number ds
+number-take ds i lt =
     let digit_behind = λ (n d : ℕ). n * 10 + (d - 48) in
     let front = take (i + 1) ds in
     let rest = drop (i + 1) ds in
     let next = fold_more digit_behind 0 ds i 0 lt in
-    let whole : number_of ds ≡ value_from (number_of front) rest =
-    ap number_of (sym (take-append-drop (i + 1) ds)) ∙ fold-append digit_behind 0 front rest in
-    omega (arith, grows (number_of front) rest)
+    let whole : number ds ≡ value_from (number front) rest =
+    ap number (sym (take-append-drop (i + 1) ds)) ∙ fold-append digit_behind 0 front rest in
+    omega (arith, grows (number front) rest)

@@ -10,8 +10,9 @@ use Rattle.std.proofs.lemmas.Bool.{cases_Bool, and_parts, or_cases, eqb-true, le
 use Rattle.std.proofs.lemmas.Cmp.{tied_itself, nat_cmp_total}
 use Rattle.std.proofs.lemmas.Map.Lookups.{exact_unsigned}
 use Rattle.deb_text.specs.Cuts.{is_nil}
+use Rattle.deb_text.specs.Numbers.{number}
 use Rattle.deb_version.specs.Laws.{AreRuns, meaning_of}
-use Rattle.deb_version.specs.Order.{Run, rank_of, end_rank, word_cmp, number_of, runs_of, run_cmp, empty_run, part_cmp}
+use Rattle.deb_version.specs.Order.{Run, rank_of, end_rank, word_cmp, runs_of, run_cmp, empty_run, part_cmp}
 use Rattle.deb_version.specs.OrderLaws.{equal_parts, word_cmp_total}
 use Rattle.deb_version.specs.Padded.{padded_cmp}
 use Rattle.deb_version.proofs.RunCuts.{are_runs}
@@ -68,13 +69,13 @@ words-same (x ∷ xs) (y ∷ ys) e =
 -- ---- runs
 
 abbrev says : Run → List ℕ × ℕ
-says run = (run.word, number_of run.digits)
+says run = (run.word, number run.digits)
 
 abbrev has_word : Run → Bool
 has_word run = not (is_nil run.word)
 
 run-same : (r s : Run) → run_cmp r s ≡ Equal
-    → (r.word ≡ s.word) × (number_of r.digits ≡ number_of s.digits)
+    → (r.word ≡ s.word) × (number r.digits ≡ number s.digits)
 run-same r s e =
     let parts = equal_parts (word_cmp r.word s.word) _ e in
     (words-same r.word s.word parts.0, exact_unsigned _ _ parts.1)
@@ -82,9 +83,9 @@ run-same r s e =
 run_cmp-same : (r s : Run) → says r ≡ says s → run_cmp r s ≡ Equal
 run_cmp-same r s e =
     let word = ap (λ (m : List ℕ × ℕ). m.0) e in
-    let number = ap (λ (m : List ℕ × ℕ). m.1) e in
-    rw (word, number)
-    (rw (tied_itself word_cmp_total s.word) (tied_itself nat_cmp_total (number_of s.digits)))
+    let value = ap (λ (m : List ℕ × ℕ). m.1) e in
+    rw (word, value)
+    (rw (tied_itself word_cmp_total s.word) (tied_itself nat_cmp_total (number s.digits)))
 
 -- a run with a word is not equal to the empty run
 word-not_empty : (run : Run) → has_word run ≡ true → [] ≡ run.word → ⊥

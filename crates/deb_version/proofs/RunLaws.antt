@@ -3,10 +3,11 @@ use Rattle.std.proofs.Common.{◌≡◌, ℕ, ◌+◌, ◌<◌, ◌≤◌, Bool,
 use Rattle.std.specs.declared.cmp.Ordering.TheVariants.{Less, Equal, Greater}
 use Rattle.std.specs.Ordering.{ordering_then, nat_cmp, is_ne}
 use Rattle.std.proofs.lemmas.Bool.{eqb-true, cases_Bool, and_parts, leb-true, eq-eqb, both_ways, cases_eq}
-use Rattle.deb_version.specs.Order.{runs_of, number_of, run_cmp, part_cmp, digit_before, other_before}
+use Rattle.deb_version.specs.Order.{runs_of, run_cmp, part_cmp, digit_before, other_before}
 use Rattle.deb_text.specs.Cuts.{first_is, front, behind}
 use Rattle.deb_version.specs.Runs.{is_other, is_zero, first_run, after_run}
 use Rattle.deb_text.specs.Bytes.{is_digit}
+use Rattle.deb_text.specs.Numbers.{number}
 use Rattle.deb_version.proofs.DigitLaws.{AreDigits, IsPlain, digits_cmp, digits_cmp-is}
 
 pub runs_of-digit : (b : ℕ) (bs : List ℕ) → is_digit b ≡ true
@@ -65,14 +66,14 @@ is_plain (b ∷ bs) plain =
 
 pub digits_start : (a b : List ℕ) → first_is is_zero a ≡ false → first_is is_zero b ≡ false
     → digits_cmp Equal (front is_digit a) (front is_digit b)
-    ≡ nat_cmp (number_of (front is_digit a)) (number_of (front is_digit b))
+    ≡ nat_cmp (number (front is_digit a)) (number (front is_digit b))
 digits_start a b a_plain b_plain =
     digits_cmp-is (front is_digit a) (front is_digit b) 0 0 (are_digits a) (are_digits b)
     (inr (refl, refl, is_plain a a_plain, is_plain b b_plain))
 
 -- zeros in front change no number
 pub number_plain : (bs : List ℕ)
-    → number_of (front is_digit (behind is_zero bs)) ≡ number_of (front is_digit bs)
+    → number (front is_digit (behind is_zero bs)) ≡ number (front is_digit bs)
 number_plain [] = refl
 number_plain (b ∷ bs) =
     elim (cases_Bool (is_zero b)) [

@@ -14,9 +14,10 @@ use Rattle.std.specs.declared.cmp.Ordering.{Ordering}
 use Rattle.std.specs.Ordering.{on}
 use Rattle.deb_text.specs.Bytes.{is_byte, is_digit}
 use Rattle.deb_text.specs.Cuts.{is_nil, before, after, before_last, after_last}
+use Rattle.deb_text.specs.Numbers.{number}
 use Rattle.deb_version.specs.declared.grammar.TheConstants.{MAX_LENGTH, MAX_EPOCH}
 use Rattle.deb_version.specs.declared.error.TheConstants.{EMPTY_PART, BAD_CHARACTER, EPOCH_TOO_LARGE, TOO_LONG}
-use Rattle.deb_version.specs.Order.{Parts, number_of, version_cmp}
+use Rattle.deb_version.specs.Order.{Parts, version_cmp}
 
 pub record Pieces : Type 0 where
   pub epoch : Option (List ℕ)
@@ -72,7 +73,7 @@ has_bad_byte pieces =
     || option_map_or (λ revision. not (list_all is_revision_byte revision)) pieces.revision false
 
 abbrev pub epoch_number : Pieces → ℕ
-epoch_number pieces = option_map_or number_of pieces.epoch 0
+epoch_number pieces = option_map_or number pieces.epoch 0
 
 abbrev pub parts_with : ℕ → Pieces → Parts
 parts_with epoch pieces =

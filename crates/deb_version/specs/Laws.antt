@@ -11,7 +11,8 @@ use Rattle.std.specs.declared.cmp.Ordering.TheVariants.{Equal}
 use Rattle.std.specs.Ordering.{is_lt, is_eq}
 use Rattle.deb_text.specs.Bytes.{is_digit}
 use Rattle.deb_text.specs.Cuts.{is_nil}
-use Rattle.deb_version.specs.Order.{Run, Parts, number_of, runs_of, part_cmp, revision_of}
+use Rattle.deb_text.specs.Numbers.{number}
+use Rattle.deb_version.specs.Order.{Run, Parts, runs_of, part_cmp, revision_of}
 use Rattle.deb_version.specs.Runs.{is_other}
 use Rattle.deb_version.specs.Grammar.{version_at, parts_at, text_cmp}
 
@@ -68,7 +69,7 @@ CutsIntoRuns = (part : List ℕ) (runs : List Run) → AreRuns part runs ↔ (ru
 
 -- what a part says: its words and its numbers, in turn
 abbrev pub meaning_of : List ℕ → List (List ℕ × ℕ)
-meaning_of part = map (λ run. (run.word, number_of run.digits)) (runs_of part)
+meaning_of part = map (λ run. (run.word, number run.digits)) (runs_of part)
 
 pub record MeanSame (v w : Parts) : Type 0 where
   pub epoch : v.epoch ≡ w.epoch

@@ -5,17 +5,17 @@
 --
 --   rank_of b          the weight of a byte in a word
 --   word_cmp           two words, byte by byte, by weight
---   number_of digits   the value of digits
 --   runs_of part       the runs of a part
 --   run_cmp            two runs: their words, then their numbers
 --   part_cmp           two parts
 --   version_cmp        two versions
-use Rattle.std.specs.Prelude.{ℕ, ◌+◌, ◌-◌, ◌*◌, ◌==◌, List, [], ◌∷◌, ◌++◌, map, fold, if◌then◌else◌, Option, unwrap_or, codes}
+use Rattle.std.specs.Prelude.{ℕ, ◌+◌, ◌==◌, List, [], ◌∷◌, ◌++◌, map, if◌then◌else◌, Option, unwrap_or, codes}
 use Rattle.std.specs.Char.{is_ascii_alphabetic}
 use Rattle.std.specs.Cmp.Lexicographic.{slice_cmp}
 use Rattle.std.specs.declared.cmp.Ordering.{Ordering}
 use Rattle.std.specs.Ordering.{nat_cmp, on, then_cmp}
 use Rattle.deb_text.specs.Bytes.{is_digit}
+use Rattle.deb_text.specs.Numbers.{number}
 use Rattle.deb_version.specs.Padded.{padded_cmp}
 
 -- "all the letters sort earlier than all the non-letters and .. a tilde sorts before anything, even
@@ -29,10 +29,6 @@ end_rank = 1
 
 abbrev pub word_cmp : List ℕ → List ℕ → Ordering
 word_cmp = on (λ word. map rank_of word ++ end_rank ∷ []) (slice_cmp nat_cmp)
-
--- "an empty string .. counts as zero"
-abbrev pub number_of : List ℕ → ℕ
-number_of digits = fold (λ n digit. n * 10 + (digit - 48)) 0 digits
 
 -- "the initial part .. consisting entirely of non-digit characters", and "the initial part of the
 -- remainder .. which consists entirely of digit characters"
@@ -57,8 +53,9 @@ unfoldable pub runs_of : List ℕ → List Run
 runs_of [] = []
 runs_of (b ∷ bs) = if is_digit b then digit_before b (runs_of bs) else other_before b (runs_of bs)
 
+-- "an empty string .. counts as zero", as it does in `number`
 abbrev pub run_cmp : Run → Run → Ordering
-run_cmp = then_cmp (on (λ run. run.word) word_cmp) (on (λ run. number_of run.digits) nat_cmp)
+run_cmp = then_cmp (on (λ run. run.word) word_cmp) (on (λ run. number run.digits) nat_cmp)
 
 -- what is left of a part that is used up
 abbrev pub empty_run : Run

@@ -4,9 +4,10 @@ use Rattle.std.specs.declared.cmp.Ordering.TheVariants.{Less, Equal, Greater}
 use Rattle.std.specs.Ordering.{ordering_then, ordering_reverse, eq_by_cmp}
 use Rattle.std.specs.Cmp.{IsTotalOrder, IsEquivalence}
 use Rattle.std.proofs.lemmas.Cmp.{nat_cmp_total, on_total, then_total, lists_total, tied_itself, alike_right, eq_by_cmp_equiv}
+use Rattle.deb_text.specs.Numbers.{number}
 use Rattle.deb_version.specs.Grammar.{parts_at, text_cmp}
 use Rattle.deb_version.specs.Padded.{padded_cmp}
-use Rattle.deb_version.specs.Order.{Parts, Run, end_rank, rank_of, word_cmp, number_of, run_cmp, empty_run, runs_of, part_cmp, revision_of, version_cmp}
+use Rattle.deb_version.specs.Order.{Parts, Run, end_rank, rank_of, word_cmp, run_cmp, empty_run, runs_of, part_cmp, revision_of, version_cmp}
 
 reverse_then : (o p : Ordering)
     → ordering_reverse (ordering_then o p) ≡ ordering_then (ordering_reverse o) (ordering_reverse p)
@@ -93,7 +94,7 @@ word_cmp_total =
 pub run_cmp_total : IsTotalOrder run_cmp
 run_cmp_total =
     then_total (on_total (λ (run : Run). run.word) word_cmp_total)
-    (on_total (λ (run : Run). number_of run.digits) nat_cmp_total)
+    (on_total (λ (run : Run). number run.digits) nat_cmp_total)
 
 pub part_cmp_total : IsTotalOrder part_cmp
 unfolding part_cmp

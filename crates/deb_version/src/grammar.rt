@@ -4,7 +4,7 @@ ghost use Rattle.std.specs.Prelude.{◌≡◌, nat_lt, unwrap_or, codes, true, f
 ghost use Rattle.std.specs.List.{list_all};
 ghost use Rattle.deb_text.specs.Answers.{Gives};
 ghost use Rattle.deb_text.specs.Bytes.{is_digit};
-ghost use Rattle.deb_version.specs.Order.{number_of};
+ghost use Rattle.deb_text.specs.Numbers.{number};
 ghost use Rattle.deb_version.specs.Grammar.{is_revision_byte, is_upstream_byte, pieces_of, has_empty_piece, has_bad_byte, epoch_number};
 ghost use Rattle.deb_version.specs.View.{refusal_of, pieces_view};
 
@@ -113,8 +113,8 @@ fn is_upstream(piece: &[u8], has_epoch: bool) -> bool
 /// The number of these digits, where it is an epoch's.
 fn number_of(digits: &[u8]) -> Option<u32>
     requires { list_all is_digit digits.now ≡ true }
-    ensures { MatchOption result (nat_lt MAX_EPOCH (number_of digits.now) ≡ true)
-        (λ n. (nat_lt MAX_EPOCH (number_of digits.now) ≡ false) × (n ≡ number_of digits.now)) }
+    ensures { MatchOption result (nat_lt MAX_EPOCH (number digits.now) ≡ true)
+        (λ n. (nat_lt MAX_EPOCH (number digits.now) ≡ false) × (n ≡ number digits.now)) }
 {
     let mut number = 0;
     for digit in digits {

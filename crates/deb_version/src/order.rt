@@ -2,8 +2,9 @@
 
 ghost use Rattle.std.specs.Prelude.{◌≡◌, ◌+◌, ◌==◌, ◌<◌, false, [], ◌∷◌, length, IfSome, IfNone};
 ghost use Rattle.deb_text.specs.Bytes.{is_digit};
+ghost use Rattle.deb_text.specs.Numbers.{number};
 ghost use Rattle.std.specs.Ordering.{nat_cmp};
-ghost use Rattle.deb_version.specs.Order.{rank_of, word_cmp, number_of, run_cmp, part_cmp};
+ghost use Rattle.deb_version.specs.Order.{rank_of, word_cmp, run_cmp, part_cmp};
 ghost use Rattle.deb_text.specs.Cuts.{first_is, front, behind};
 ghost use Rattle.deb_version.specs.Runs.{is_other, is_zero, front_rank, first_run, after_run};
 
@@ -112,7 +113,7 @@ fn compare_digits<'a, 'b>(a: &'a [u8], b: &'b [u8]) -> (Ordering, &'a [u8], &'b 
     requires a_plain { first_is is_zero a.now ≡ false }
     requires b_plain { first_is is_zero b.now ≡ false }
     ensures order { result.0
-        ≡ nat_cmp (number_of (front is_digit a.now)) (number_of (front is_digit b.now)) }
+        ≡ nat_cmp (number (front is_digit a.now)) (number (front is_digit b.now)) }
     ensures rest { result.0 ≡ Ordering.Equal
         → (result.1.now ≡ behind is_digit a.now) × (result.2.now ≡ behind is_digit b.now) }
 {
