@@ -2,6 +2,7 @@
 
 ghost use Rattle.std.specs.Prelude.{◌≡◌};
 
+use deb_text::MEMORY;
 use std::alloc::{AllocError, AllocFailed};
 use thiserror::Error;
 
@@ -38,10 +39,8 @@ pub const BAD_PROFILES: u16 = 130;
 /// A word with a byte that it may not have, in a list of words alone.
 pub const BAD_WORD: u16 = 131;
 
-/// Memory ran out; the text may be a relation field.
-pub const OUT_OF_MEMORY: u16 = 900;
-
-/// Why a text was not read. The numbers are part of the output format.
+/// Why a text was not read. The numbers are part of the output format. Under [`MEMORY`] the text
+/// may be a relation field.
 #[derive(Clone, Copy, Debug, PartialEq, Eq, Error)]
 #[error("{code} {}", reason(.code))]
 pub struct RelationError {
@@ -52,9 +51,7 @@ impl From<AllocError> for RelationError {
     ghost from_gives = { λ _ error. error ≡ record { code = 900 } };
 
     fn from(_error: AllocError) -> RelationError {
-        RelationError {
-            code: OUT_OF_MEMORY,
-        }
+        RelationError { code: MEMORY }
     }
 }
 
@@ -62,9 +59,7 @@ impl<T: Drop> From<AllocFailed<T>> for RelationError {
     ghost from_gives = { λ _ error. error ≡ record { code = 900 } };
 
     fn from(_error: AllocFailed<T>) -> RelationError {
-        RelationError {
-            code: OUT_OF_MEMORY,
-        }
+        RelationError { code: MEMORY }
     }
 }
 
@@ -82,5 +77,48 @@ fn reason(code: &u16) -> &'static str {
         BAD_PROFILES => "expected names of profiles",
         BAD_WORD => "a byte that a word may not have",
         _ => "out of memory",
+    }
+}
+
+#[cfg(test)]
+mod tests {
+    use super::*;
+    use std::test::Fail;
+
+    const TEXTS: [(u16, &str); 12] = [
+        (
+            BAD_NAME,
+            "121 no name, an empty qualifier, or a byte that begins no part",
+        ),
+        (
+            BAD_OPERATOR,
+            "122 expected one of the operators << <= = >= >>",
+        ),
+        (BAD_VERSION, "123 expected a version"),
+        (
+            BAD_ARCHITECTURES,
+            "124 expected names of architectures, all with `!` or none",
+        ),
+        (NOT_CLOSED, "125 a bracket is not closed"),
+        (ALTERNATIVES, "126 alternatives in a field that has none"),
+        (RESTRICTION, "127 a restriction in a field that has none"),
+        (
+            NOT_EQUAL,
+            "128 another operator than `=` in a Provides field",
+        ),
+        (NO_ALTERNATIVE, "129 an empty alternative"),
+        (BAD_PROFILES, "130 expected names of profiles"),
+        (BAD_WORD, "131 a byte that a word may not have"),
+        (MEMORY, "900 out of memory"),
+    ];
+
+    #[test]
+    fn prints_the_code_and_the_reason(rt: HostRuntime) -> Result<(), Fail> {
+        for (code, want) in TEXTS {
+            let error = RelationError { code };
+            let text = format!(in rt.alloc(); "{error}")?;
+            assert_eq!(rt; text.as_str(), want);
+        }
+        Ok(())
     }
 }

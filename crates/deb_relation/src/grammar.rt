@@ -6,12 +6,10 @@ ghost use Rattle.deb_text.specs.Answers.{Gives};
 ghost use Rattle.deb_relation.specs.Grammar.{name_at, qualifier_at, operator_of, is_equal, operator_at, version_in, closed_at, relation_in, relation_at};
 ghost use Rattle.deb_relation.specs.View.{refusal_of};
 
-use crate::error::{
-    BAD_NAME, BAD_OPERATOR, BAD_VERSION, NOT_CLOSED, NOT_EQUAL, OUT_OF_MEMORY, RelationError,
-};
+use crate::error::{BAD_NAME, BAD_OPERATOR, BAD_VERSION, NOT_CLOSED, NOT_EQUAL, RelationError};
 use crate::kind::Kind;
 use crate::operator::Op;
-use deb_text::{Class, is_name, skip_front, split_front};
+use deb_text::{Class, MEMORY, is_name, skip_front, split_front};
 use deb_version::Version;
 use std::alloc::Global;
 
@@ -84,10 +82,8 @@ fn read_version(alloc: Global, text: &[u8]) -> Result<(Version, &[u8]), Relation
     match Version::parse(alloc, version) {
         Ok(version) => Ok((version, rest)),
         Err(error) => {
-            if error.code == OUT_OF_MEMORY {
-                Err(RelationError {
-                    code: OUT_OF_MEMORY,
-                })
+            if error.code == MEMORY {
+                Err(RelationError { code: MEMORY })
             } else {
                 Err(RelationError { code: BAD_VERSION })
             }

@@ -16,7 +16,7 @@ mod satisfaction;
 pub use atom::Atom;
 pub use error::{
     ALTERNATIVES, BAD_ARCHITECTURES, BAD_NAME, BAD_OPERATOR, BAD_PROFILES, BAD_VERSION, BAD_WORD,
-    NO_ALTERNATIVE, NOT_CLOSED, NOT_EQUAL, OUT_OF_MEMORY, RESTRICTION, RelationError,
+    NO_ALTERNATIVE, NOT_CLOSED, NOT_EQUAL, RESTRICTION, RelationError,
 };
 pub use kind::Kind;
 pub use operator::Op;
