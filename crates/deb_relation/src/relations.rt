@@ -56,14 +56,6 @@ impl Entry {
     {
         &self.alternatives
     }
-
-    /// Takes the alternatives out of the entry.
-    pub fn into_alternatives(self) -> Vec<Atom>
-        ensures { result.items ≡ self }
-    {
-        let Entry { alternatives } = self;
-        alternatives
-    }
 }
 
 impl Clone for Entry {
@@ -125,14 +117,6 @@ impl Relations {
         ensures { result.now ≡ self.now }
     {
         &self.entries
-    }
-
-    /// Takes the entries out of the field.
-    pub fn into_entries(self) -> Vec<Entry>
-        ensures { result.items ≡ self }
-    {
-        let Relations { entries } = self;
-        entries
     }
 }
 
