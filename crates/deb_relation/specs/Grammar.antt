@@ -86,7 +86,7 @@ relation_in kind text = do
   rest ← closed_at (behind is_blank version.1)
   Ok (Some (op.0, version.0), rest)
 
--- "a relational operator and a version number" in brackets, or nothing
+-- "a relation from the list below followed by a version number" in brackets, or nothing
 unfoldable pub relation_at : Kind → List ℕ → Part (Option (Op × List ℕ))
 relation_at kind [] = Ok (None, [])
 relation_at kind (b ∷ bs) = if b == open_round then relation_in kind bs else Ok (None, b ∷ bs)

@@ -10,7 +10,7 @@ is_provide Provide = true
 is_provide BuildNeed = false
 is_provide BuildClash = false
 
--- "the only fields in which alternatives may appear" are those that state needs
+-- alternatives stand in the fields that state needs alone
 abbrev pub has_alternatives : Kind → Bool
 has_alternatives Need = true
 has_alternatives Clash = false

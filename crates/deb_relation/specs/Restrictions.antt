@@ -24,7 +24,8 @@ arch_at negated [] = Err BAD_ARCHITECTURES
 arch_at true (b ∷ bs) = if b == bang && is_word bs then Ok bs else Err BAD_ARCHITECTURES
 arch_at false (b ∷ bs) = if is_word (b ∷ bs) then Ok (b ∷ bs) else Err BAD_ARCHITECTURES
 
--- "either all or none": the first name tells whether the list has `!`
+-- "It is not permitted for some names to be prepended with exclamation marks while others aren't":
+-- the first name tells whether the list has `!`
 abbrev pub arch_list_of : List (List ℕ) → Result ArchList ℕ
 arch_list_of [] = Err BAD_ARCHITECTURES
 arch_list_of (name ∷ names) = do
