@@ -20,35 +20,37 @@ use crate::relations::{Entry, Relations};
 use deb_text::{Class, all_in, cut_at_first, next_part, skip_front};
 use std::alloc::{AllocError, Global};
 
-#[cfg(test)]
-mod tests;
-
-fn copy_qualifier(alloc: Global, text: Option<&[u8]>) -> Result<Option<Vec<u8>>, AllocError>
-    ensures { IfOk result
-        (λ copy. option_map (λ q. q.items) copy ≡ option_map (λ q. q.now) text.entry) }
-{
-    match text {
-        Some(text) => Ok(Some(Vec::from_slice(alloc, text)?)),
-        None => Ok(None),
+impl Relations {
+    /// Reads a relation field of a kind, which is cut at each `,` (Debian Policy 7.1). An entry of
+    /// blanks alone is skipped.
+    ///
+    /// # Errors
+    ///
+    /// The first fault of [`Entry::parse`] from left to right. 900 where memory is refused.
+    /// Nothing is left behind.
+    pub fn parse(alloc: Global, text: &[u8], kind: Kind) -> Result<Relations, RelationError>
+        ensures { Gives refusal_of (λ relations. relations) result (relations_at kind text.now) }
+    {
+        Ok(Relations::from_entries(read_entries(alloc, kind, text)?))
     }
 }
 
-#[tactic(auto, unfolding(crate::specs::Field::atom_at))]
-fn read_atom(alloc: Global, kind: Kind, text: &[u8]) -> Result<Atom, RelationError>
-    ensures { Gives refusal_of (λ atom. atom) result (atom_at kind text.now) }
-{
-    let (name, rest) = read_name(skip_front(Class::Blank, text))?;
-    let (qualifier, rest) = read_qualifier(rest)?;
-    let (relation, rest) = read_relation(alloc, kind, skip_front(Class::Blank, rest))?;
-    let (archs, rest) = read_archs(alloc, kind, skip_front(Class::Blank, rest))?;
-    let profiles = read_profiles(alloc, kind, rest)?;
-    Ok(Atom {
-        name: Vec::from_slice(alloc, name)?,
-        qualifier: copy_qualifier(alloc, qualifier)?,
-        relation,
-        archs,
-        profiles,
-    })
+impl Entry {
+    /// Reads one entry of a field of a kind, which is cut at each `|` (Debian Policy 7.1).
+    ///
+    /// # Errors
+    ///
+    /// [`ALTERNATIVES`] for a `|` in a kind that has no alternatives; else the first fault of
+    /// [`Atom::parse`] from left to right. 900 where memory is refused. Nothing is left behind.
+    #[tactic(auto, unfolding(crate::specs::Field::entry_at))]
+    pub fn parse(alloc: Global, text: &[u8], kind: Kind) -> Result<Entry, RelationError>
+        ensures { Gives refusal_of (λ entry. entry) result (entry_at kind text.now) }
+    {
+        if !kind.has_alternatives() && cut_at_first(b'|', text).is_some() {
+            return Err(RelationError { code: ALTERNATIVES });
+        }
+        Ok(Entry::from_alternatives(read_alternatives(alloc, kind, text)?))
+    }
 }
 
 impl Atom {
@@ -79,36 +81,16 @@ impl Atom {
     }
 }
 
-fn read_alternatives(alloc: Global, kind: Kind, text: &[u8]) -> Result<Vec<Atom>, RelationError>
-    ensures { Gives refusal_of (λ atoms. atoms.items) result
-        (traverse (alternative_at kind) (slice_split (is_byte bar) text.now)) }
+fn read_entries(alloc: Global, kind: Kind, text: &[u8]) -> Result<Vec<Entry>, RelationError>
+    ensures { Gives refusal_of (λ entries. entries.items) result (relations_at kind text.now) }
 {
-    let mut alternatives = Vec::new(alloc);
+    let mut entries = Vec::new(alloc);
     let mut left = Some(text);
-    while let Some(rest) = left {
-        let (piece, after) = next_part(b'|', rest);
-        alternatives.push(Atom::parse(alloc, piece, kind)?)?;
+    while let Some((entry, after)) = next_entry(left) {
+        entries.push(Entry::parse(alloc, entry, kind)?)?;
         left = after;
     }
-    Ok(alternatives)
-}
-
-impl Entry {
-    /// Reads one entry of a field of a kind, which is cut at each `|` (Debian Policy 7.1).
-    ///
-    /// # Errors
-    ///
-    /// [`ALTERNATIVES`] for a `|` in a kind that has no alternatives; else the first fault of
-    /// [`Atom::parse`] from left to right. 900 where memory is refused. Nothing is left behind.
-    #[tactic(auto, unfolding(crate::specs::Field::entry_at))]
-    pub fn parse(alloc: Global, text: &[u8], kind: Kind) -> Result<Entry, RelationError>
-        ensures { Gives refusal_of (λ entry. entry) result (entry_at kind text.now) }
-    {
-        if !kind.has_alternatives() && cut_at_first(b'|', text).is_some() {
-            return Err(RelationError { code: ALTERNATIVES });
-        }
-        Ok(Entry::from_alternatives(read_alternatives(alloc, kind, text)?))
-    }
+    Ok(entries)
 }
 
 /// The first entry that is not of blanks alone, and what is left behind it.
@@ -130,29 +112,47 @@ fn next_entry(text: Option<&[u8]>) -> Option<(&[u8], Option<&[u8]>)>
     None
 }
 
-fn read_entries(alloc: Global, kind: Kind, text: &[u8]) -> Result<Vec<Entry>, RelationError>
-    ensures { Gives refusal_of (λ entries. entries.items) result (relations_at kind text.now) }
+fn read_alternatives(alloc: Global, kind: Kind, text: &[u8]) -> Result<Vec<Atom>, RelationError>
+    ensures { Gives refusal_of (λ atoms. atoms.items) result
+        (traverse (alternative_at kind) (slice_split (is_byte bar) text.now)) }
 {
-    let mut entries = Vec::new(alloc);
+    let mut alternatives = Vec::new(alloc);
     let mut left = Some(text);
-    while let Some((entry, after)) = next_entry(left) {
-        entries.push(Entry::parse(alloc, entry, kind)?)?;
+    while let Some(rest) = left {
+        let (piece, after) = next_part(b'|', rest);
+        alternatives.push(Atom::parse(alloc, piece, kind)?)?;
         left = after;
     }
-    Ok(entries)
+    Ok(alternatives)
 }
 
-impl Relations {
-    /// Reads a relation field of a kind, which is cut at each `,` (Debian Policy 7.1). An entry of
-    /// blanks alone is skipped.
-    ///
-    /// # Errors
-    ///
-    /// The first fault of [`Entry::parse`] from left to right. 900 where memory is refused.
-    /// Nothing is left behind.
-    pub fn parse(alloc: Global, text: &[u8], kind: Kind) -> Result<Relations, RelationError>
-        ensures { Gives refusal_of (λ relations. relations) result (relations_at kind text.now) }
-    {
-        Ok(Relations::from_entries(read_entries(alloc, kind, text)?))
+#[tactic(auto, unfolding(crate::specs::Field::atom_at))]
+fn read_atom(alloc: Global, kind: Kind, text: &[u8]) -> Result<Atom, RelationError>
+    ensures { Gives refusal_of (λ atom. atom) result (atom_at kind text.now) }
+{
+    let (name, rest) = read_name(skip_front(Class::Blank, text))?;
+    let (qualifier, rest) = read_qualifier(rest)?;
+    let (relation, rest) = read_relation(alloc, kind, skip_front(Class::Blank, rest))?;
+    let (archs, rest) = read_archs(alloc, kind, skip_front(Class::Blank, rest))?;
+    let profiles = read_profiles(alloc, kind, rest)?;
+    Ok(Atom {
+        name: Vec::from_slice(alloc, name)?,
+        qualifier: copy_qualifier(alloc, qualifier)?,
+        relation,
+        archs,
+        profiles,
+    })
+}
+
+fn copy_qualifier(alloc: Global, text: Option<&[u8]>) -> Result<Option<Vec<u8>>, AllocError>
+    ensures { IfOk result
+        (λ copy. option_map (λ q. q.items) copy ≡ option_map (λ q. q.now) text.entry) }
+{
+    match text {
+        Some(text) => Ok(Some(Vec::from_slice(alloc, text)?)),
+        None => Ok(None),
     }
 }
+
+#[cfg(test)]
+mod tests;

@@ -24,7 +24,7 @@ impl Word {
     ///
     /// # Errors
     ///
-    /// Where memory is refused.
+    /// Where memory is refused. Nothing is left behind.
     pub fn from_slice(alloc: Global, text: &[u8]) -> Result<Word, AllocError>
         ensures { IfOk result (λ word. word ≡ text.now) }
     {

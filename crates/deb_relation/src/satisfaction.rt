@@ -12,9 +12,6 @@ use crate::relations::{Entry, Relations};
 use deb_version::Version;
 use std::cmp::Ordering;
 
-#[cfg(test)]
-mod tests;
-
 /// What is known of one package.
 #[derive(Clone, Copy, Debug)]
 pub struct Facts<'a> {
@@ -23,17 +20,15 @@ pub struct Facts<'a> {
     pub provides: &'a Relations,
 }
 
-/// Tells whether an operator admits a version that stands so to the one in the relation.
-fn admits(op: Op, order: Ordering) -> bool
-    ensures { result ≡ admits op order }
+/// Tells whether a package satisfies an alternative (Debian Policy 7.1 and 7.5).
+///
+/// An alternative with a qualifier is satisfied by none. A Provides entry with one provides
+/// nothing, and one without a version satisfies no relation. The call
+/// takes no memory.
+pub fn satisfies(facts: &Facts, atom: &Atom) -> bool
+    ensures { result ≡ satisfies (facts_of facts.now) atom.now }
 {
-    match op {
-        Op::Earlier => order.is_lt(),
-        Op::EarlierOrEqual => order.is_le(),
-        Op::Equal => order.is_eq(),
-        Op::LaterOrEqual => order.is_ge(),
-        Op::Later => order.is_gt(),
-    }
+    atom.qualifier.is_none() && (is_its_own(facts, atom) || is_provided(facts.provides, atom))
 }
 
 /// Tells whether a version stands in a relation (Debian Policy 7.1). In none, each does.
@@ -52,21 +47,13 @@ fn is_its_own(facts: &Facts, atom: &Atom) -> bool
     facts.name == atom.name.as_slice() && in_relation(atom.relation.as_ref(), facts.version)
 }
 
-fn provides_in(wanted: &Option<(Op, Version)>, provided: &Option<(Op, Version)>) -> bool
-    ensures { result ≡ provides_in wanted.now provided.now }
+fn is_provided(provides: &Relations, atom: &Atom) -> bool
+    ensures { result ≡ is_provided provides.now atom.now }
 {
-    match provided {
-        Some((_, version)) => in_relation(wanted.as_ref(), version),
-        None => wanted.is_none(),
-    }
-}
-
-fn provides_it(atom: &Atom, provided: &Atom) -> bool
-    ensures { result ≡ provides_it atom.now provided.now }
-{
-    provided.qualifier.is_none()
-        && provided.name == atom.name
-        && provides_in(&atom.relation, &provided.relation)
+    provides
+        .entries()
+        .iter()
+        .any(|entry| entry_provides(entry, atom))
 }
 
 fn entry_provides(entry: &Entry, atom: &Atom) -> bool
@@ -78,21 +65,35 @@ fn entry_provides(entry: &Entry, atom: &Atom) -> bool
         .any(|provided| provides_it(atom, provided))
 }
 
-fn is_provided(provides: &Relations, atom: &Atom) -> bool
-    ensures { result ≡ is_provided provides.now atom.now }
+fn provides_it(atom: &Atom, provided: &Atom) -> bool
+    ensures { result ≡ provides_it atom.now provided.now }
 {
-    provides
-        .entries()
-        .iter()
-        .any(|entry| entry_provides(entry, atom))
+    provided.qualifier.is_none()
+        && provided.name == atom.name
+        && provides_in(&atom.relation, &provided.relation)
 }
 
-/// Tells whether a package satisfies an alternative (Debian Policy 7.1 and 7.5).
-///
-/// An alternative with a qualifier is satisfied by none. A Provides entry with one provides
-/// nothing, and one without a version satisfies no relation.
-pub fn satisfies(facts: &Facts, atom: &Atom) -> bool
-    ensures { result ≡ satisfies (facts_of facts.now) atom.now }
+fn provides_in(wanted: &Option<(Op, Version)>, provided: &Option<(Op, Version)>) -> bool
+    ensures { result ≡ provides_in wanted.now provided.now }
 {
-    atom.qualifier.is_none() && (is_its_own(facts, atom) || is_provided(facts.provides, atom))
+    match provided {
+        Some((_, version)) => in_relation(wanted.as_ref(), version),
+        None => wanted.is_none(),
+    }
 }
+
+/// Tells whether an operator admits a version that stands so to the one in the relation.
+fn admits(op: Op, order: Ordering) -> bool
+    ensures { result ≡ admits op order }
+{
+    match op {
+        Op::Earlier => order.is_lt(),
+        Op::EarlierOrEqual => order.is_le(),
+        Op::Equal => order.is_eq(),
+        Op::LaterOrEqual => order.is_ge(),
+        Op::Later => order.is_gt(),
+    }
+}
+
+#[cfg(test)]
+mod tests;
