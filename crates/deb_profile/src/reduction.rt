@@ -9,67 +9,6 @@ use crate::word_list::{ArchNames, ProfileSet};
 use deb_relation::{Atom, Entry, Relations};
 use std::alloc::{AllocError, Global};
 
-fn means_nothing(names: &ArchNames, qualifier: &[u8]) -> bool
-    ensures { result ≡ means_nothing names.now qualifier.now }
-{
-    qualifier == b"any".as_slice() || qualifier == b"native".as_slice() || names.matches(qualifier)
-}
-
-fn qualifier_left(names: &ArchNames, qualifier: Option<Vec<u8>>) -> Option<Vec<u8>>
-    ensures { option_map (λ q. q.items) result
-        ≡ qualifier_left names.now (option_map (λ q. q.items) qualifier) }
-{
-    match qualifier {
-        Some(qualifier) if !means_nothing(names, &qualifier) => Some(qualifier),
-        _ => None,
-    }
-}
-
-fn bare(alloc: Global, names: &ArchNames, atom: &Atom) -> Result<Atom, AllocError>
-    ensures { IfOk result (λ left. left ≡ bare names.now atom.now) }
-{
-    let Atom {
-        name,
-        qualifier,
-        relation,
-        ..
-    } = atom.clone()?;
-    Ok(Atom {
-        name,
-        qualifier: qualifier_left(names, qualifier),
-        relation,
-        archs: None,
-        profiles: Vec::new(alloc),
-    })
-}
-
-fn reduce_entry(
-    alloc: Global,
-    names: &ArchNames,
-    active: &ProfileSet,
-    entry: &Entry,
-) -> Result<Vec<Atom>, AllocError>
-    ensures { IfOk result (λ left. left.items ≡ reduced_entry names.now active.now entry.now) }
-{
-    let mut left = Vec::new(alloc);
-    for atom in entry.alternatives() {
-        if keeps(atom, names, active) {
-            left.push(bare(alloc, names, atom)?)?;
-        }
-    }
-    Ok(left)
-}
-
-/// Puts an entry behind the others where some alternative is left of it.
-fn push_left(entries: &mut Vec<Entry>, left: Vec<Atom>) -> Result<(), AllocError>
-    ensures { OnOk result (entries.new.items ≡ entries.old.items ++ entry_left left.items) }
-{
-    if !left.is_empty() {
-        entries.push(Entry::from_alternatives(left))?;
-    }
-    Ok(())
-}
-
 /// What an architecture and the active build profiles leave of a field: the alternatives that
 /// stay, without restrictions and without the qualifiers that mean nothing on a native farm (`any`,
 /// `native`, the architecture's own names). An entry with no alternative left goes
@@ -77,7 +16,7 @@ fn push_left(entries: &mut Vec<Entry>, left: Vec<Atom>) -> Result<(), AllocError
 ///
 /// # Errors
 ///
-/// Where memory is refused.
+/// Where memory is refused. Nothing is left behind.
 pub fn reduce(
     alloc: Global,
     relations: &Relations,
@@ -91,4 +30,66 @@ pub fn reduce(
         push_left(&mut entries, reduce_entry(alloc, names, active, entry)?)?;
     }
     Ok(Relations::from_entries(entries))
+}
+
+fn reduce_entry(
+    alloc: Global,
+    names: &ArchNames,
+    active: &ProfileSet,
+    entry: &Entry,
+) -> Result<Vec<Atom>, AllocError>
+    ensures { IfOk result (λ left. left.items ≡ reduced_entry names.now active.now entry.now) }
+{
+    let mut left = Vec::new(alloc);
+    for atom in entry.alternatives() {
+        if keeps(atom, names, active) {
+            left.push(bare(names, atom)?)?;
+        }
+    }
+    Ok(left)
+}
+
+fn bare(names: &ArchNames, atom: &Atom) -> Result<Atom, AllocError>
+    ensures { IfOk result (λ left. left ≡ bare names.now atom.now) }
+{
+    let Atom {
+        name,
+        qualifier,
+        relation,
+        archs,
+        profiles,
+    } = atom.clone_unrestricted()?;
+    Ok(Atom {
+        name,
+        qualifier: qualifier_left(names, qualifier),
+        relation,
+        archs,
+        profiles,
+    })
+}
+
+fn qualifier_left(names: &ArchNames, qualifier: Option<Vec<u8>>) -> Option<Vec<u8>>
+    ensures { option_map (λ q. q.items) result
+        ≡ qualifier_left names.now (option_map (λ q. q.items) qualifier) }
+{
+    match qualifier {
+        Some(qualifier) if !means_nothing(names, &qualifier) => Some(qualifier),
+        _ => None,
+    }
+}
+
+fn means_nothing(names: &ArchNames, qualifier: &[u8]) -> bool
+    ensures { result ≡ means_nothing names.now qualifier.now }
+{
+    qualifier == b"any".as_slice() || qualifier == b"native".as_slice() || names.matches(qualifier)
+}
+
+/// Puts an entry behind the others where some alternative is left of it.
+fn push_left(entries: &mut Vec<Entry>, left: Vec<Atom>) -> Result<(), AllocError>
+    ensures { OnOk result (entries.new.items ≡ entries.old.items ++ entry_left left.items) }
+{
+    if !left.is_empty() {
+        entries.push(Entry::from_alternatives(left))?;
+    }
+    Ok(())
 }

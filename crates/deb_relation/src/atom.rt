@@ -1,6 +1,6 @@
 //! One alternative of a relation.
 
-ghost use Rattle.std.specs.Prelude.{◌≡◌, IfOk};
+ghost use Rattle.std.specs.Prelude.{◌≡◌, [], IfOk, None};
 ghost use Rattle.std.specs.Option.{option_map};
 
 use crate::operator::Op;
@@ -33,6 +33,46 @@ impl Model for Atom {
       archs = atom.archs;
       profiles = atom.profiles.items;
     } };
+}
+
+impl Atom {
+    /// Copies the name, the qualifier and the relation, and no restriction.
+    ///
+    /// # Errors
+    ///
+    /// Where memory is refused. Nothing is left behind.
+    pub fn clone_unrestricted(&self) -> Result<Atom, AllocError>
+        ensures { IfOk result (λ copy. copy ≡ record {
+          name = self.now.name;
+          qualifier = self.now.qualifier;
+          relation = self.now.relation;
+          archs = None;
+          profiles = [];
+        }) }
+    {
+        let alloc = *self.name.allocator();
+        Ok(Atom {
+            name: self.name.clone()?,
+            qualifier: clone_qualifier(&self.qualifier)?,
+            relation: clone_relation(alloc, &self.relation)?,
+            archs: None,
+            profiles: Vec::new(alloc),
+        })
+    }
+}
+
+impl Clone for Atom {
+    ghost is_clone = { λ atom copy. copy ≡ atom };
+
+    fn clone(&self) -> Result<Atom, AllocError> {
+        Ok(Atom {
+            name: self.name.clone()?,
+            qualifier: clone_qualifier(&self.qualifier)?,
+            relation: clone_relation(*self.name.allocator(), &self.relation)?,
+            archs: clone_archs(&self.archs)?,
+            profiles: self.profiles.clone()?,
+        })
+    }
 }
 
 fn clone_qualifier(qualifier: &Option<Vec<u8>>) -> Result<Option<Vec<u8>>, AllocError>
@@ -70,19 +110,5 @@ fn clone_archs(archs: &Option<ArchList>) -> Result<Option<ArchList>, AllocError>
     match archs {
         Some(archs) => Ok(Some(archs.clone()?)),
         None => Ok(None),
-    }
-}
-
-impl Clone for Atom {
-    ghost is_clone = { λ atom copy. copy ≡ atom };
-
-    fn clone(&self) -> Result<Atom, AllocError> {
-        Ok(Atom {
-            name: self.name.clone()?,
-            qualifier: clone_qualifier(&self.qualifier)?,
-            relation: clone_relation(*self.name.allocator(), &self.relation)?,
-            archs: clone_archs(&self.archs)?,
-            profiles: self.profiles.clone()?,
-        })
     }
 }
