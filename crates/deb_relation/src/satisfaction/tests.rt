@@ -355,8 +355,9 @@ const BOTH_OR_NEITHER: [Row; 9] = [
     (b"pv", b"1", b"pv", b"vv (>= 1.0)", false),
 ];
 
-// Here this project's own rules differ from dpkg: an alternative with a qualifier is satisfied by
-// no package, and what is provided under a qualifier by none.
+// An alternative with a qualifier is satisfied by no package, and what is provided under one
+// satisfies none. In the first two rows this project's own rule differs from dpkg, which answers
+// yes. In the others the qualifier is one that means nothing, and nothing has taken it off yet.
 const QUALIFIERS: [Row; 5] = [
     (b"pv", b"1", b"vv:amd64", b"vv", false),
     (b"pv", b"1", b"vv:amd64", b"vv:riscv64", false),
@@ -414,6 +415,33 @@ fn satisfies_by_both_or_neither(rt: HostRuntime) -> Result<(), Fail> {
 fn qualifiers_satisfy_nothing(rt: HostRuntime) -> Result<(), Fail> {
     for (number, row) in QUALIFIERS.iter().enumerate() {
         assert_eq!(rt; is_satisfied(rt.alloc(), row)?, row.4, "row {number}");
+    }
+    Ok(())
+}
+
+// An alternative, a version, and whether it stands in the alternative's relation, as dpkg 1.21.22
+// answers with `--compare-versions`.
+const RELATIONS: [(&[u8], &[u8], bool); 11] = [
+    (b"aa", b"1.0", true),
+    (b"aa (<< 1.0)", b"1.0~rc1", true),
+    (b"aa (<< 1.0)", b"0:1.0-0", false),
+    (b"aa (<= 1.0)", b"0:1.0-0", true),
+    (b"aa (<= 1.0)", b"1.0+b1", false),
+    (b"aa (= 1.0)", b"1.0-0", true),
+    (b"aa (= 1.0)", b"1.0-1", false),
+    (b"aa (>= 1.0)", b"1.00", true),
+    (b"aa (>= 1.0)", b"1.0~", false),
+    (b"aa (>> 1.0)", b"1.0-1", true),
+    (b"aa (>> 1.0)", b"01.0", false),
+];
+
+#[test]
+fn stands_in_a_relation(rt: HostRuntime) -> Result<(), Fail> {
+    for (atom, version, want) in RELATIONS {
+        let atom = Atom::parse(rt.alloc(), atom, Kind::Need)?;
+        let version = Version::parse(rt.alloc(), version)?;
+        let answer = in_relation(atom.relation.as_ref(), &version);
+        assert_eq!(rt; answer, want, "{atom:?} {version:?}");
     }
     Ok(())
 }
