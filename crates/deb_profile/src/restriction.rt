@@ -7,10 +7,12 @@ ghost use Rattle.deb_profile.specs.Restriction.{is_among, arch_holds, item_holds
 use crate::word_list::{ArchNames, ProfileSet};
 use deb_relation::{ArchList, Atom, Item, ProfileList, Word};
 
-fn some_matches(names: &ArchNames, list: &[Word]) -> bool
-    ensures { result ≡ list_any (is_among names.now) list.now }
+/// Tells whether an alternative stays: its architecture list and its profile lists hold
+/// (Debian Policy 7.1, BuildProfileSpec). The call takes no memory.
+pub fn keeps(atom: &Atom, names: &ArchNames, active: &ProfileSet) -> bool
+    ensures { result ≡ keeps names.now active.now atom.now }
 {
-    list.iter().any(|name| names.matches(name.text()))
+    arch_holds(names, &atom.archs) && profiles_hold(active, &atom.profiles)
 }
 
 fn arch_holds(names: &ArchNames, archs: &Option<ArchList>) -> bool
@@ -22,22 +24,10 @@ fn arch_holds(names: &ArchNames, archs: &Option<ArchList>) -> bool
     }
 }
 
-fn item_holds(active: &ProfileSet, item: &Item) -> bool
-    ensures { result ≡ item_holds active.now item.now }
+fn some_matches(names: &ArchNames, list: &[Word]) -> bool
+    ensures { result ≡ list_any (is_among names.now) list.now }
 {
-    item.negated != active.is_active(item.word.text())
-}
-
-fn list_holds(active: &ProfileSet, list: &ProfileList) -> bool
-    ensures { result ≡ list_all (item_holds active.now) list.now }
-{
-    list.items().iter().all(|item| item_holds(active, item))
-}
-
-fn some_list_holds(active: &ProfileSet, lists: &[ProfileList]) -> bool
-    ensures { result ≡ list_any (list_all (item_holds active.now)) lists.now }
-{
-    lists.iter().any(|list| list_holds(active, list))
+    list.iter().any(|name| names.matches(name.text()))
 }
 
 fn profiles_hold(active: &ProfileSet, lists: &[ProfileList]) -> bool
@@ -46,10 +36,20 @@ fn profiles_hold(active: &ProfileSet, lists: &[ProfileList]) -> bool
     lists.is_empty() || some_list_holds(active, lists)
 }
 
-/// Tells whether an alternative stays: its architecture list and its profile lists hold
-/// (Debian Policy 7.1, BuildProfileSpec).
-pub fn keeps(atom: &Atom, names: &ArchNames, active: &ProfileSet) -> bool
-    ensures { result ≡ keeps names.now active.now atom.now }
+fn some_list_holds(active: &ProfileSet, lists: &[ProfileList]) -> bool
+    ensures { result ≡ list_any (list_all (item_holds active.now)) lists.now }
 {
-    arch_holds(names, &atom.archs) && profiles_hold(active, &atom.profiles)
+    lists.iter().any(|list| list_holds(active, list))
+}
+
+fn list_holds(active: &ProfileSet, list: &ProfileList) -> bool
+    ensures { result ≡ list_all (item_holds active.now) list.now }
+{
+    list.items().iter().all(|item| item_holds(active, item))
+}
+
+fn item_holds(active: &ProfileSet, item: &Item) -> bool
+    ensures { result ≡ item_holds active.now item.now }
+{
+    item.negated != active.is_active(item.word.text())
 }

@@ -13,33 +13,6 @@ use deb_text::{is_word, next_word};
 use std::alloc::Global;
 use std::marker::Model;
 
-fn read_word(alloc: Global, run: &[u8]) -> Result<Word, RelationError>
-    ensures { Gives refusal_of (λ word. word) result (word_at run.now) }
-{
-    if !is_word(run) {
-        return Err(RelationError { code: BAD_WORD });
-    }
-    Ok(Word::from_slice(alloc, run)?)
-}
-
-fn read_words(alloc: Global, text: &[u8]) -> Result<Vec<Word>, RelationError>
-    ensures { Gives refusal_of (λ list. list.items) result (words_at text.now) }
-{
-    let mut list = Vec::new(alloc);
-    let mut rest = text;
-    while let Some((run, after)) = next_word(rest) {
-        list.push(read_word(alloc, run)?)?;
-        rest = after;
-    }
-    Ok(list)
-}
-
-fn is_among(list: &[Word], word: &[u8]) -> bool
-    ensures { result ≡ is_among list.now word.now }
-{
-    list.iter().any(|other| word == other.text())
-}
-
 /// The names of an architecture, the wildcards that match it among them, as
 /// `riscv64 any linux-any`. A contract sees their list.
 #[derive(Debug, Drop)]
@@ -60,7 +33,8 @@ impl ArchNames {
     ///
     /// # Errors
     ///
-    /// 131 where one of them is no word, and 900 where memory is refused.
+    /// [`BAD_WORD`] where one of them is no word, and 900 where memory is refused. Nothing is left
+    /// behind.
     pub fn parse(alloc: Global, text: &[u8]) -> Result<ArchNames, RelationError>
         ensures { Gives refusal_of (λ names. names) result (words_at text.now) }
     {
@@ -103,7 +77,8 @@ impl ProfileSet {
     ///
     /// # Errors
     ///
-    /// 131 where one of them is no word, and 900 where memory is refused.
+    /// [`BAD_WORD`] where one of them is no word, and 900 where memory is refused. Nothing is left
+    /// behind.
     pub fn parse(alloc: Global, text: &[u8]) -> Result<ProfileSet, RelationError>
         ensures { Gives refusal_of (λ profiles. profiles) result (words_at text.now) }
     {
@@ -127,4 +102,31 @@ impl ProfileSet {
     {
         is_among(&self.list, profile)
     }
+}
+
+fn read_words(alloc: Global, text: &[u8]) -> Result<Vec<Word>, RelationError>
+    ensures { Gives refusal_of (λ list. list.items) result (words_at text.now) }
+{
+    let mut list = Vec::new(alloc);
+    let mut rest = text;
+    while let Some((run, after)) = next_word(rest) {
+        list.push(read_word(alloc, run)?)?;
+        rest = after;
+    }
+    Ok(list)
+}
+
+fn read_word(alloc: Global, run: &[u8]) -> Result<Word, RelationError>
+    ensures { Gives refusal_of (λ word. word) result (word_at run.now) }
+{
+    if !is_word(run) {
+        return Err(RelationError { code: BAD_WORD });
+    }
+    Ok(Word::from_slice(alloc, run)?)
+}
+
+fn is_among(list: &[Word], word: &[u8]) -> bool
+    ensures { result ≡ is_among list.now word.now }
+{
+    list.iter().any(|other| word == other.text())
 }
