@@ -1,8 +1,12 @@
-//! What is left of relation fields, beside what dpkg leaves of them.
+//! What stays of relation fields, and which package satisfies what stays.
 
 use super::*;
-use deb_relation::{Atom, Entry, Kind, Op, RelationError, Relations};
+use deb_relation::{Atom, BAD_WORD, Entry, Facts, Kind, Op, RelationError, Relations, satisfies};
+use deb_text::MEMORY;
 use std::alloc::{AllocError, Global};
+use std::test::Fail;
+
+mod fields;
 
 const RISCV64: &str =
     "any any-any any-any-any any-any-linux any-any-riscv64 any-gnu-any any-gnu-linux \
@@ -78,301 +82,6 @@ fn reduced(
     Ok(spelling(alloc, &left)?)
 }
 
-/// Fields of real sources and made ones, with what dpkg's own Dpkg::Deps leaves of them for the
-/// architecture and the profiles; the qualifiers that mean nothing on a native farm are taken off.
-/// In one row dpkg differs: it matches `[RISCV64]`, and here names are compared byte for byte.
-#[test]
-fn leaves_what_dpkg_leaves(rt: HostRuntime) -> Result<(), RelationError> {
-    let alloc = rt.alloc();
-    // names of the architecture, active profiles, the field, what is left
-    let rows = [
-        (RISCV64, "stage1", ",foo", "foo"),
-        (AMD64, "", "foo [all]", ""),
-        (RISCV64, "stage1", "foo <!a !b>", "foo"),
-        (RISCV64, "", "foo <!a !b>", "foo"),
-        (RISCV64, "stage1", "foo <a> <!a>", "foo"),
-        (RISCV64, "", "foo <a> <!a>", "foo"),
-        (RISCV64, "stage1", "foo ( >= 1 )", "foo (>= 1)"),
-        (RISCV64, "stage1", "foo [riscv64]", "foo"),
-        (RISCV64, "", "foo <!a> <!b>", "foo"),
-        (RISCV64, "nocheck a", "foo<!nocheck>", ""),
-        (AMD64, "", "foo [any-any]", "foo"),
-        (RISCV64, "", "foo <!NOCHECK>", "foo"),
-        (RISCV64, "stage1", "foo [any-riscv64]", "foo"),
-        (RISCV64, "stage1", "foo [musl-any-any]", ""),
-        (AMD64, "", "foo [musl-any-any]", ""),
-        (AMD64, "", "foo [linux-riscv64]", ""),
-        (RISCV64, "stage1", "foo [hurd-any kfreebsd-any]", ""),
-        (AMD64, "", "foo [hurd-any kfreebsd-any]", ""),
-        (RISCV64, "stage1", "foo [!hurd-any !kfreebsd-any]", "foo"),
-        (
-            AMD64,
-            "",
-            "gcc <stage1 !nodoc> <cross>, foo [!riscv64] | bar",
-            "foo | bar",
-        ),
-        (RISCV64, "stage1", "foo [RISCV64]", ""),
-        (
-            AMD64,
-            "nopython noruby noperl",
-            "gdb-minimal <!nocheck>",
-            "gdb-minimal",
-        ),
-        (
-            RISCV64,
-            "nojava noudeb nogolang",
-            "ncurses-term <pkg.ncurses.terminfocheck>",
-            "",
-        ),
-        (
-            RISCV64,
-            "stage1",
-            "debhelper-compat (= 13), libsystemd-dev [linux-any], meson, pkgconf, scdoc (>= \
-             1.9.7)",
-            "debhelper-compat (= 13), libsystemd-dev, meson, pkgconf, scdoc (>= 1.9.7)",
-        ),
-        (
-            RISCV64,
-            "stage1",
-            "debhelper-compat (= 13), libgcrypt20-dev, libgnutls28-dev, pkgconf, \
-             vpnc:native <cross>",
-            "debhelper-compat (= 13), libgcrypt20-dev, libgnutls28-dev, pkgconf",
-        ),
-        (
-            RISCV64,
-            "stage1 cross nocheck",
-            "debhelper-compat (= 13), libgcrypt20-dev, libgnutls28-dev, pkgconf, \
-             vpnc:native <cross>",
-            "debhelper-compat (= 13), libgcrypt20-dev, libgnutls28-dev, pkgconf, vpnc",
-        ),
-        (
-            AMD64,
-            "nopython noruby noperl",
-            "debhelper-compat (= 13), libgpm-dev [linux-any], pkgconf, autoconf-dickey (>= \
-             2.52+20210509)",
-            "debhelper-compat (= 13), libgpm-dev, pkgconf, autoconf-dickey (>= \
-             2.52+20210509)",
-        ),
-        (
-            AMD64,
-            "nocheck nodoc cross nobiarch",
-            "debhelper-compat (= 13), pkgconf, meson, udev [linux-any], python3 <!nocheck>, \
-             python3-pytest <!nocheck>",
-            "debhelper-compat (= 13), pkgconf, meson, udev",
-        ),
-        (
-            AMD64,
-            "stage1",
-            "debhelper-compat (= 14), libasound2-dev | libasound-dev [linux-any], \
-             libpulse-dev, libsndio-dev, libxmp-dev",
-            "debhelper-compat (= 14), libasound2-dev | libasound-dev, libpulse-dev, \
-             libsndio-dev, libxmp-dev",
-        ),
-        (
-            RISCV64,
-            "",
-            "debhelper (>= 11.0.0), tk-dev (>= 8.5), libmpg123-dev, libogg-dev, \
-             libvorbis-dev, libasound2-dev [linux-any]",
-            "debhelper (>= 11.0.0), tk-dev (>= 8.5), libmpg123-dev, libogg-dev, \
-             libvorbis-dev, libasound2-dev",
-        ),
-        (
-            AMD64,
-            "",
-            "debhelper-compat (= 12), autoconf, procps, libgmp3-dev, libext2fs-dev, \
-             libauparse-dev [linux-any], autotools-dev, dh-exec",
-            "debhelper-compat (= 12), autoconf, procps, libgmp3-dev, libext2fs-dev, \
-             libauparse-dev, autotools-dev, dh-exec",
-        ),
-        (
-            RISCV64,
-            "nodoc nocheck",
-            "debhelper-compat (= 13), libavformat-dev (>= 6:9) <!stage1>, libffms2-dev \
-             <!stage1>, nasm (>= 2.13) [any-i386 any-amd64], pkg-config",
-            "debhelper-compat (= 13), libavformat-dev (>= 6:9), libffms2-dev, pkg-config",
-        ),
-        (
-            AMD64,
-            "",
-            "debhelper-compat (= 13), dh-sequence-nodejs, node-babel7, node-pako (>= \
-             2.0.2+ds~) <!nocheck>, node-tap (>= 21) <!nocheck>, node-tape <!nocheck>",
-            "debhelper-compat (= 13), dh-sequence-nodejs, node-babel7, node-pako (>= \
-             2.0.2+ds~), node-tap (>= 21), node-tape",
-        ),
-        (
-            AMD64,
-            "",
-            "debhelper-compat (= 13), libcanary-stability-perl, libcommon-sense-perl \
-             <!nocheck>, libtypes-serialiser-perl <!nocheck>, perl-xs-dev, perl:native",
-            "debhelper-compat (= 13), libcanary-stability-perl, libcommon-sense-perl, \
-             libtypes-serialiser-perl, perl-xs-dev, perl",
-        ),
-        (
-            RISCV64,
-            "stage2",
-            "autoconf-archive, debhelper (>= 13), debhelper-compat (= 13), gnulib, \
-             libcap-dev [linux-any], meson, pkg-config, python3-pyelftools, python3:any, \
-             xmlto",
-            "autoconf-archive, debhelper (>= 13), debhelper-compat (= 13), gnulib, \
-             libcap-dev, meson, pkg-config, python3-pyelftools, python3, xmlto",
-        ),
-        (
-            AMD64,
-            "nocheck nodoc cross nobiarch",
-            "autoconf-archive, debhelper (>= 13), debhelper-compat (= 13), gnulib, \
-             libcap-dev [linux-any], meson, pkg-config, python3-pyelftools, python3:any, \
-             xmlto",
-            "autoconf-archive, debhelper (>= 13), debhelper-compat (= 13), gnulib, \
-             libcap-dev, meson, pkg-config, python3-pyelftools, python3, xmlto",
-        ),
-        (
-            RISCV64,
-            "",
-            "dh-sequence-python3, mkdocs, pybuild-plugin-pyproject, python3-pdm-pep517, \
-             python3-pytest <!nocheck>, python3-pytest-cov <!nocheck>, python3-pytest-xdist \
-             <!nocheck>",
-            "dh-sequence-python3, mkdocs, pybuild-plugin-pyproject, python3-pdm-pep517, \
-             python3-pytest, python3-pytest-cov, python3-pytest-xdist",
-        ),
-        (
-            RISCV64,
-            "cross",
-            "debhelper-compat (= 13), file, gfortran | fortran95-compiler, automake (>= \
-             1:1.14.1-3), autoconf (>= 2.69-7), help2man, texinfo, zlib1g-dev, gnulib, \
-             libltdl-dev <!nocheck>",
-            "debhelper-compat (= 13), file, gfortran | fortran95-compiler, automake (>= \
-             1:1.14.1-3), autoconf (>= 2.69-7), help2man, texinfo, zlib1g-dev, gnulib, \
-             libltdl-dev",
-        ),
-        (
-            AMD64,
-            "",
-            "debhelper-compat (= 14), file, gfortran-for-host | fortran95-compiler, \
-             automake (>= 1:1.19-1~), autoconf (>= 2.69-7), help2man <!nodoc>, texinfo \
-             <!nodoc>, zlib1g-dev, gnulib",
-            "debhelper-compat (= 14), file, gfortran-for-host | fortran95-compiler, \
-             automake (>= 1:1.19-1~), autoconf (>= 2.69-7), help2man, texinfo, zlib1g-dev, \
-             gnulib",
-        ),
-        (
-            RISCV64,
-            "nojava noudeb nogolang",
-            "debhelper-compat (= 14), file, gfortran-for-host | fortran95-compiler, \
-             automake (>= 1:1.19-1~), autoconf (>= 2.69-7), help2man <!nodoc>, texinfo \
-             <!nodoc>, zlib1g-dev, gnulib",
-            "debhelper-compat (= 14), file, gfortran-for-host | fortran95-compiler, \
-             automake (>= 1:1.19-1~), autoconf (>= 2.69-7), help2man, texinfo, zlib1g-dev, \
-             gnulib",
-        ),
-        (
-            RISCV64,
-            "nopython noruby noperl",
-            "debhelper-compat (= 12), dh-exec, python3:any, python3-jinja2, quilt, cpio \
-             <!stage1>, xz-utils <!stage1>, dh-python <!stage1>, bison <!stage1>, flex (>= \
-             2.6.1-1.1~) <!stage1>",
-            "debhelper-compat (= 12), dh-exec, python3, python3-jinja2, quilt, cpio, \
-             xz-utils, dh-python, bison, flex (>= 2.6.1-1.1~)",
-        ),
-        (
-            RISCV64,
-            "nodoc nocheck",
-            "autoconf-archive, debhelper-compat (= 13), dssi-dev, intltool, libasound2-dev \
-             [linux-any], libgtk2.0-dev, libjack-jackd2-dev | libjack-dev, liblo-dev, \
-             liboscpack-dev, libsndfile1-dev",
-            "autoconf-archive, debhelper-compat (= 13), dssi-dev, intltool, libasound2-dev, \
-             libgtk2.0-dev, libjack-jackd2-dev | libjack-dev, liblo-dev, liboscpack-dev, \
-             libsndfile1-dev",
-        ),
-        (
-            RISCV64,
-            "stage2",
-            "automake, cvs, debhelper-compat (= 13), default-mta | mail-transport-agent, \
-             expect, inetutils-ping [!linux-any], iputils-ping [linux-any], openssh-client, \
-             perl:native, po-debconf, telnet",
-            "automake, cvs, debhelper-compat (= 13), default-mta | mail-transport-agent, \
-             expect, iputils-ping, openssh-client, perl, po-debconf, telnet",
-        ),
-        (
-            AMD64,
-            "stage2",
-            "debhelper-compat (= 13), dh-exec, flex, libcrypt-dev, libdb-dev, \
-             libselinux1-dev [linux-any], libsystemd-dev [linux-any] <!stage1>, po-debconf, \
-             meson, libaudit-dev [linux-any] <!stage1>, pkgconf, libfl-dev, \
-             libfl-dev:native",
-            "debhelper-compat (= 13), dh-exec, flex, libcrypt-dev, libdb-dev, \
-             libselinux1-dev, libsystemd-dev, po-debconf, meson, libaudit-dev, pkgconf, \
-             libfl-dev, libfl-dev",
-        ),
-        (
-            RISCV64,
-            "",
-            "debhelper (>= 13), gcc-multilib [amd64 i386 kfreebsd-amd64 mips mipsel powerpc \
-             ppc64 s390 sparc s390x mipsn32 mipsn32el mipsr6 mipsr6el mipsn32r6 mipsn32r6el \
-             mips64 mips64el mips64r6 mips64r6el x32] <!nobiarch>, dpkg-dev (>= 1.16.1)",
-            "debhelper (>= 13), dpkg-dev (>= 1.16.1)",
-        ),
-        (
-            AMD64,
-            "",
-            "debhelper (>= 11), libncurses-dev, lib32ncurses-dev [amd64 ppc64] <!nobiarch>, \
-             lib64ncurses-dev [i386 powerpc sparc s390] <!nobiarch>, mawk | awk, texinfo, \
-             gcc-multilib [amd64 i386 kfreebsd-amd64 powerpc ppc64 s390 sparc] <!nobiarch>",
-            "debhelper (>= 11), libncurses-dev, lib32ncurses-dev, mawk | awk, texinfo, \
-             gcc-multilib",
-        ),
-        (
-            RISCV64,
-            "nopython noruby noperl",
-            "byacc | bison, comerr-dev, debhelper-compat (= 13), docbook-to-man, dpkg-dev \
-             (>= 1.22.5), libkeyutils-dev [linux-any], libldap2-dev <!stage1>, liblmdb-dev, \
-             libnss-myhostname, libsasl2-dev <!stage1>, libssl-dev, libverto-dev, pkgconf, \
-             ss-dev",
-            "byacc | bison, comerr-dev, debhelper-compat (= 13), docbook-to-man, dpkg-dev \
-             (>= 1.22.5), libkeyutils-dev, libldap2-dev, liblmdb-dev, libnss-myhostname, \
-             libsasl2-dev, libssl-dev, libverto-dev, pkgconf, ss-dev",
-        ),
-        (
-            RISCV64,
-            "nopython noruby noperl",
-            "dpkg-dev (>= 1.22.5), debhelper-compat (= 13), dh-python <!nopython>, \
-             libcap-ng-dev, libkrb5-dev, libldap2-dev <!pkg.audit.noldap>, libwrap0-dev, \
-             linux-libc-dev (>= 5.9~), python3-all-dev:any <!nopython>, libpython3-all-dev \
-             <!nopython>, swig",
-            "dpkg-dev (>= 1.22.5), debhelper-compat (= 13), libcap-ng-dev, libkrb5-dev, \
-             libldap2-dev, libwrap0-dev, linux-libc-dev (>= 5.9~), swig",
-        ),
-        (
-            AMD64,
-            "cross",
-            "file, cpio, libdb-dev, libgdbm-dev (>= 1.18-3), libgdbm-compat-dev, netbase \
-             <!nocheck>, procps [!hurd-any] <!nocheck>, debhelper-compat (= 13), zlib1g-dev \
-             | libz-dev, libbz2-dev, dpkg-dev (>= 1.17.14), dist (>= 3.5-236), libc6-dev \
-             (>= 2.19-9) [s390x]",
-            "file, cpio, libdb-dev, libgdbm-dev (>= 1.18-3), libgdbm-compat-dev, netbase, \
-             procps, debhelper-compat (= 13), zlib1g-dev | libz-dev, libbz2-dev, dpkg-dev \
-             (>= 1.17.14), dist (>= 3.5-236)",
-        ),
-        (
-            AMD64,
-            "stage1",
-            "autoconf (>= 2.64), dpkg-dev (>= 1.19.0.5), bison, flex, gettext, texinfo, \
-             dejagnu, quilt, chrpath, dwz, debugedit (>= 4.16), python3:any, file, \
-             xz-utils, lsb-release, zlib1g-dev, procps, help2man, libjansson-dev, pkgconf, \
-             libzstd-dev, default-jdk-headless [amd64 arm64 i386 riscv64 x32] \
-             <!pkg.binutils.nojava>",
-            "autoconf (>= 2.64), dpkg-dev (>= 1.19.0.5), bison, flex, gettext, texinfo, \
-             dejagnu, quilt, chrpath, dwz, debugedit (>= 4.16), python3, file, xz-utils, \
-             lsb-release, zlib1g-dev, procps, help2man, libjansson-dev, pkgconf, \
-             libzstd-dev, default-jdk-headless",
-        ),
-    ];
-    for (names, profiles, field, want) in rows {
-        let left = reduced(alloc, names, profiles, field)?;
-        assert_eq!(rt; left.as_slice(), want.as_bytes(), "{field}");
-    }
-    Ok(())
-}
-
 /// By this project's own rules: `any`, `native` and the farm's own names are taken off.
 #[test]
 fn takes_off_what_means_nothing(rt: HostRuntime) -> Result<(), RelationError> {
@@ -428,9 +137,163 @@ fn reads_words(rt: HostRuntime) -> Result<(), RelationError> {
     // the brackets, `!`, `,` and `|` stand in no word
     for text in ["a,b", "!a", "a <b", "[a]", "x (", "a|b"] {
         let names = ArchNames::parse(alloc, text.as_bytes());
-        assert!(rt; matches!(names, Err(error) if error.code == 131), "{text}");
+        assert!(rt;
+            matches!(names, Err(error) if error.code == BAD_WORD),
+            "{text}"
+        );
         let active = ProfileSet::parse(alloc, text.as_bytes());
-        assert!(rt; matches!(active, Err(error) if error.code == 131), "{text}");
+        assert!(rt;
+            matches!(active, Err(error) if error.code == BAD_WORD),
+            "{text}"
+        );
     }
     Ok(())
+}
+
+// Active profiles, an alternative, and whether it stays for riscv64, as dpkg's own Dpkg::Deps
+// answers.
+const KEPT: [(&str, &str, bool); 15] = [
+    ("", "foo", true),
+    ("", "foo [riscv64]", true),
+    ("", "foo [linux-any]", true),
+    ("", "foo [amd64 arm64]", false),
+    ("", "foo [!riscv64]", false),
+    ("", "foo [!amd64 !linux-any]", false),
+    ("", "foo [!amd64]", true),
+    ("", "foo <stage1>", false),
+    ("stage1", "foo <stage1>", true),
+    ("stage1", "foo <!stage1>", false),
+    ("stage1 nodoc", "foo <stage1 !nodoc>", false),
+    ("cross nodoc", "foo <stage1 !nodoc> <cross>", true),
+    ("stage1", "foo [!riscv64] <stage1>", false),
+    ("", "foo [riscv64] <stage1>", false),
+    ("stage1", "foo [riscv64] <stage1>", true),
+];
+
+#[test]
+fn keeps_what_holds(rt: HostRuntime) -> Result<(), RelationError> {
+    let names = ArchNames::parse(rt.alloc(), RISCV64.as_bytes())?;
+    for (profiles, atom, want) in KEPT {
+        let active = ProfileSet::parse(rt.alloc(), profiles.as_bytes())?;
+        let read = Atom::parse(rt.alloc(), atom.as_bytes(), Kind::BuildNeed)?;
+        assert_eq!(rt;
+            keeps(&read, &names, &active),
+            want,
+            "{atom} under {profiles}"
+        );
+    }
+    Ok(())
+}
+
+// What the package `pv` of version 1 provides, an alternative, and whether the package satisfies
+// it once both are reduced for riscv64. So answers dpkg's own Dpkg::Deps::KnownFacts, in some rows
+// of a package that is marked `Multi-Arch: allowed`.
+const SATISFIED: [(&str, &str, bool); 22] = [
+    ("vv:any (= 1.0)", "vv", true),
+    ("vv:riscv64 (= 1.0)", "vv", true),
+    ("vv:riscv64 (= 1.0)", "vv (= 1.0)", true),
+    ("vv:amd64", "vv (= 1.0)", false),
+    ("vv:any (= 1.0)", "vv (>= 1.0)", true),
+    ("vv:riscv64 (= 1.0)", "vv (>> 1.0)", false),
+    ("vv:any (= 1.0)", "vv (<< 2)", true),
+    ("vv:amd64", "vv (<< 2)", false),
+    ("", "vv:any", false),
+    ("vv", "vv:any", true),
+    ("vv:riscv64 (= 1.0)", "vv:any", true),
+    ("", "pv:any", true),
+    ("pv", "pv:any", true),
+    ("", "pv:native", true),
+    ("vv:amd64", "pv:native", true),
+    ("vv (= 1.0)", "pv:riscv64", true),
+    ("pv (= 9)", "pv:riscv64", true),
+    ("", "pv:amd64", false),
+    ("vv:any (= 1.0)", "pv:amd64", false),
+    ("vv", "vv:riscv64", true),
+    ("vv:riscv64 (= 1.0)", "vv:riscv64", true),
+    ("vv:amd64", "zz", false),
+];
+
+// Here this project's own rules differ from dpkg, which answers the contrary: `any` means nothing,
+// whatever the package is marked with, and under another qualifier nothing is provided and nothing
+// satisfied.
+const SATISFIED_HERE: [(&str, &str, bool); 4] = [
+    ("vv", "pv:any", true),
+    ("vv:any (= 1.0)", "pv:any", true),
+    ("vv:amd64", "vv", false),
+    ("vv:amd64", "vv:riscv64", false),
+];
+
+fn is_satisfied(alloc: Global, provides: &str, atom: &str) -> Result<bool, Fail> {
+    let names = ArchNames::parse(alloc, RISCV64.as_bytes())?;
+    let active = ProfileSet::none(alloc);
+    let provides = Relations::parse(alloc, provides.as_bytes(), Kind::Provide)?;
+    let wanted = Relations::parse(alloc, atom.as_bytes(), Kind::Need)?;
+    let own = Atom::parse(alloc, b"pv (= 1)", Kind::Provide)?;
+    let (_, version) = own.relation.as_ref().ok_or("a version")?;
+    let provides = reduce(alloc, &provides, &names, &active)?;
+    let facts = Facts {
+        name: &own.name,
+        version,
+        provides: &provides,
+    };
+    let left = reduce(alloc, &wanted, &names, &active)?;
+    let entry = left.entries().first().ok_or("an entry")?;
+    let atom = entry.alternatives().first().ok_or("an alternative")?;
+    Ok(satisfies(&facts, atom))
+}
+
+#[test]
+fn satisfies_what_is_left(rt: HostRuntime) -> Result<(), Fail> {
+    for (provides, atom, want) in SATISFIED {
+        assert_eq!(rt;
+            is_satisfied(rt.alloc(), provides, atom)?,
+            want,
+            "{provides}, {atom}"
+        );
+    }
+    for (provides, atom, want) in SATISFIED_HERE {
+        assert_eq!(rt;
+            is_satisfied(rt.alloc(), provides, atom)?,
+            want,
+            "{provides}, {atom}"
+        );
+    }
+    Ok(())
+}
+
+/// Whether what is left of a field was told, or the first fault; or memory was refused.
+fn is_told(
+    alloc: Global,
+    names: &str,
+    profiles: &str,
+    field: &str,
+    want: Result<&str, u16>,
+) -> bool {
+    match (reduced(alloc, names, profiles, field), want) {
+        (Ok(left), Ok(text)) => left.as_slice() == text.as_bytes(),
+        (Ok(_), Err(_)) => false,
+        (Err(error), Ok(_)) => error.code == MEMORY,
+        (Err(error), Err(code)) => error.code == code || error.code == MEMORY,
+    }
+}
+
+#[test]
+fn refused_memory_is_told(rt: HostRuntime) {
+    // names of the architecture, active profiles, a field, and what is left of it or the fault
+    let cases = [
+        (
+            "riscv64 linux-any",
+            "stage1 nodoc",
+            "aa:any (>= 1:2-3) [!amd64] <stage1> <cross> | bb:odd, cc [amd64], dd",
+            Ok("aa (>= 1:2-3) | bb:odd, dd"),
+        ),
+        ("riscv64 a|b", "stage1", "aa", Err(BAD_WORD)),
+        ("riscv64", "stage1 a,b", "aa", Err(BAD_WORD)),
+    ];
+    for (names, profiles, field, want) in cases {
+        assert!(rt;
+            is_told(rt.alloc(), names, profiles, field, want),
+            "{field}"
+        );
+    }
 }
