@@ -84,7 +84,8 @@ impl Version {
         &self.text
     }
 
-    /// Compares two versions: their epochs, then their upstreams, then their revisions.
+    /// Compares two versions: their epochs, then their upstreams, then their revisions. The call
+    /// takes no memory.
     #[tactic(auto, unfolding(crate::specs::Order::version_cmp))]
     pub fn compare(&self, other: &Version) -> Ordering
         ensures order { result ≡ text_cmp self.now other.now }
