@@ -1,5 +1,6 @@
--- A chroot: what it holds of each name, and when an entry is met in it. Parameters: u a universe, c
--- a chroot, n a name, b a variant's bit, e an entry, s a slot.
+-- A chroot: what it holds of each name, and when an entry is met in it. The project's own rules,
+-- unless said. Parameters: u a universe, c a chroot, n a name, b a variant's bit, e an entry, s a
+-- slot.
 --
 --   Chroot, slot, used          the slots by name; the disk space taken
 --   met, met_with, pre_met      an entry is met; with the members of a set; ahead of an unpack
@@ -111,7 +112,7 @@ pre_met u name c e = some_slot c (λ n s. not (n == name) && pre_meets u e n s)
 abbrev pub unmet : (Entry → Bool) → Relations → Bool
 unmet meets es = list_any (λ e. not (meets e)) es
 
--- Depends and Pre-Depends
+-- Depends and Pre-Depends (Policy 7.2)
 abbrev pub entries : Universe → Variant → Relations
 entries u v = depends u v ++ pre_depends u v
 

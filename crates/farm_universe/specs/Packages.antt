@@ -1,9 +1,9 @@
--- What the packages of a universe say of each other. Laws never open the words of this file, so
--- they hold however versions and relations are written.
+-- What the packages of a universe say of each other. The project's own rules, unless said. Laws
+-- never open the words of this file, so they hold however versions and relations are written.
 --
---   names, variants, package, size, recipe, base      look-ups by number
--- satisfies, satisfies_entry, satisfies_any a variant satisfies an alternative, an entry, some
--- entry
+--   names, variants, package_of, size, recipe, base   look-ups by number
+--   satisfies, satisfies_entry, satisfies_any         a variant satisfies an alternative, an
+--                                                     entry, some entry of a list
 --   is_wanted                                         a variant is in the relation of an unpack
 --   conflict, breaks                                  how two variants exclude each other
 --   initial, has_bit                                  the initial archive

@@ -1,4 +1,5 @@
--- The universe of a farm: what its three texts say once they are read.
+-- The universe of a farm: what its three texts say once they are read. The project's own rules,
+-- unless said.
 --
 --   Package      what is known of one variant of a name
 --   Recipe       a build, with what it needs and gives
