@@ -5,7 +5,7 @@ use Rattle.std.proofs.lemmas.Bool.{eqb-true, eqb-false, or_parts, eq-eqb, ne_eqb
 use Rattle.std.proofs.lemmas.List.{take_more, get_or-set_same, get_or-set_other, take-append-drop}
 use Rattle.std.proofs.lemmas.List.Folds.{list_any-append}
 use Rattle.farm_universe.specs.Chroot.{member}
-use Rattle.plan_asm.specs.Seen.{Shows}
+use Rattle.plan_asm.specs.Seen.{Marks}
 use Rattle.plan_asm.specs.Sound.{has_double}
 
 or-true : (a : Bool) → (a || true) ≡ true
@@ -51,7 +51,7 @@ double-front (x ∷ xs) ys e =
     rw (any-front (λ y. y == x) xs ys q.0, double-front xs ys q.1) refl
 
 module _ (ns : List ℕ) (seen : List Bool) (i d : ℕ) (lt : i < length ns)
-    (shown : Shows seen (take i ns)) where
+    (shown : Marks seen (take i ns)) where
   -- a number that was seen stands twice
   pub found : get_or ns i d < length seen → get_or seen (get_or ns i d) false ≡ true
       → true ≡ has_double ns

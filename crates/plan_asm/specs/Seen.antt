@@ -3,5 +3,5 @@ use Rattle.std.specs.Prelude.{◌≡◌, ℕ, ◌<◌, Bool, false, List, length
 use Rattle.farm_universe.specs.Chroot.{member}
 
 -- the place of each number tells whether the number is among these
-abbrev pub Shows : List Bool → List ℕ → Type 0
-Shows seen numbers = (n : ℕ) → n < length seen → slice_index_or seen n false ≡ member numbers n
+abbrev pub Marks : List Bool → List ℕ → Type 0
+Marks seen numbers = (n : ℕ) → n < length seen → slice_index_or seen n false ≡ member numbers n

@@ -7,7 +7,7 @@ ghost use Rattle.deb_text.specs.Words.{words};
 ghost use Rattle.farm_universe.specs.Packages.{names};
 ghost use Rattle.plan_asm.specs.Drafts.{known_name, known_base, set_of};
 ghost use Rattle.plan_asm.specs.Sound.{has_double};
-ghost use Rattle.plan_asm.specs.Seen.{Shows};
+ghost use Rattle.plan_asm.specs.Seen.{Marks};
 ghost use Rattle.plan_asm.specs.View.{refusal_of_line};
 
 use crate::error::{LineError, NAME_TWICE, UNKNOWN_NAME};
@@ -65,7 +65,7 @@ fn known_names(alloc: Global, universe: &Universe, text: &[u8]) -> Result<Vec<u3
 /// Tells whether a number stands twice, where `seen` is clear and has a place for each number.
 fn finds_double(numbers: &[u32], seen: &mut [bool]) -> bool
     requires known { All (λ n. n < length seen.old) numbers.now }
-    requires clear { Shows seen.old [] }
+    requires clear { Marks seen.old [] }
     ensures { result ≡ has_double numbers.now }
 {
     for i in 0..numbers.len() {

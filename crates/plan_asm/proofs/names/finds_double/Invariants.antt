@@ -1,11 +1,11 @@
 use Rattle.std.proofs.Common.{◌≡◌, ◌<◌, take, false, length, All}
-use Rattle.plan_asm.specs.Seen.{Shows}
+use Rattle.plan_asm.specs.Seen.{Marks}
 use Rattle.plan_asm.specs.Sound.{has_double}
 use Rattle.plan_asm.proofs.names.finds_double.Given as goal
 
 abbrev pub invariant-loop-i : goal.invariant-loop-i
 invariant-loop-i l = record {
-  shown : Shows l.seen (take l.i l.numbers);
+  shown : Marks l.seen (take l.i l.numbers);
   once : has_double (take l.i l.numbers) ≡ false;
   known : All (λ n. n < length l.seen) l.numbers;
 }
