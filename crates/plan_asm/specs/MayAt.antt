@@ -8,11 +8,11 @@ use Rattle.std.specs.List.{find}
 use Rattle.deb_relation.specs.declared.operator.Op.{Op}
 use Rattle.farm_universe.specs.declared.types.Variant.{Variant}
 use Rattle.farm_universe.specs.Universe.{Universe}
-use Rattle.farm_universe.specs.Packages.{recipe, outputs, base}
+use Rattle.farm_universe.specs.Packages.{recipe, base}
 use Rattle.farm_universe.specs.Chroot.{member}
 use Rattle.plan_asm.specs.declared.instructions.Instruction.{Instruction}
 use Rattle.plan_asm.specs.declared.instructions.Instruction.TheVariants.{Unpack, Configure, Deconfigure, Remove, Build, Publish, Wait}
-use Rattle.plan_asm.specs.Plan.{Lane, Plan, lane, instruction_at}
+use Rattle.plan_asm.specs.Plan.{Lane, Plan, lane, instruction_at, set_cost, build_cost, publish_cost}
 use Rattle.plan_asm.specs.Turn.{no_builds, with_built, newest}
 use Rattle.plan_asm.specs.Known.{Rows, possible}
 use Rattle.plan_asm.specs.May.{Bits, MaySlot, MayAbsent, MayUnpacked, MayConfigured, May}
@@ -54,7 +54,7 @@ may_change f m members = record {
   slots =
       λ n. if member members n then f (m.slots n) else m.slots n;
   cost =
-      m.cost + length members;
+      m.cost + set_cost members;
   built = m.built;
 }
 
@@ -66,9 +66,13 @@ may_after u known there m (Configure members) = may_change may_be_configured m m
 may_after u known there m (Deconfigure members) = may_change may_be_deconfigured m members
 may_after u known there m (Remove members) = may_change (λ s. MayAbsent) m members
 may_after u known there m (Build r) =
-    record { slots = m.slots; cost = m.cost + (recipe u r).steps; built = with_built m.built r }
+    record {
+      slots = m.slots;
+      cost = m.cost + build_cost (recipe u r);
+      built = with_built m.built r;
+    }
 may_after u known there m (Publish r) =
-    record { slots = m.slots; cost = m.cost + length (outputs u r); built = m.built }
+    record { slots = m.slots; cost = m.cost + publish_cost u r; built = m.built }
 may_after u known there m (Wait e) = m
 
 -- the map after the instruction that is there, if any

@@ -5,15 +5,15 @@
 --   Lane, Plan                        what a plan's text says
 --   lane, instruction_at              a lane, and the instruction at a place, by number
 --   outputs_of, events_of, count      what an instruction publishes; its events; the plan's events
---   unpack_cost, cost_of              what an instruction costs
+--   unpack_cost, set_cost, ..         what an instruction costs
 use Rattle.std.specs.Prelude.{ℕ, ◌+◌, ◌/◌, List, [], length, take, Option, slice_get, slice_index_or}
 use Rattle.std.specs.List.{sum_by, flat_map}
 use Rattle.farm_universe.specs.declared.types.Variant.{Variant}
 use Rattle.farm_universe.specs.Below.{sum_below}
-use Rattle.farm_universe.specs.Universe.{Universe}
-use Rattle.farm_universe.specs.Packages.{size, recipe, outputs, base}
+use Rattle.farm_universe.specs.Universe.{Universe, Recipe}
+use Rattle.farm_universe.specs.Packages.{size, outputs, base}
 use Rattle.plan_asm.specs.declared.instructions.Instruction.{Instruction}
-use Rattle.plan_asm.specs.declared.instructions.Instruction.TheVariants.{Unpack, Configure, Deconfigure, Remove, Build, Publish, Wait}
+use Rattle.plan_asm.specs.declared.instructions.Instruction.TheVariants.{Publish}
 
 -- a lane: the number of its base chroot, how much it may spend, and its instructions with all
 -- blocks expanded
@@ -57,28 +57,33 @@ events_of u _ = 1
 unfoldable pub count : Universe → Plan → ℕ
 count u p = sum_below (length p) (λ l. sum_by (events_of u) (lane p l).instructions)
 
--- an unpack of a variant costs 1 and one more for each whole MiB of its size
-abbrev pub unpack_cost : Universe → Variant → ℕ
-unpack_cost u v = 1 + size u v / 1024
+-- an unpack of so many KiB costs 1 and one more for each whole MiB
+abbrev pub size_cost : ℕ → ℕ
+size_cost kib = 1 + kib / 1024
 
--- the other costs: one for each member of a set, a recipe's steps, one for each output; a wait
--- costs nothing
-abbrev pub cost_of : Universe → Instruction → ℕ
-cost_of u (Unpack name wanted) = 0
-cost_of u (Configure members) = length members
-cost_of u (Deconfigure members) = length members
-cost_of u (Remove members) = length members
-cost_of u (Build r) = (recipe u r).steps
-cost_of u (Publish r) = length (outputs u r)
-cost_of u (Wait e) = 0
+-- an unpack of a variant
+abbrev pub unpack_cost : Universe → Variant → ℕ
+unpack_cost u v = size_cost (size u v)
+
+-- a configure, deconfigure or remove of a set costs 1 for each member
+abbrev pub set_cost : List ℕ → ℕ
+set_cost members = length members
+
+-- a build costs its recipe's steps
+abbrev pub build_cost : Recipe → ℕ
+build_cost r = r.steps
+
+-- a publish costs 1 for each output of the recipe
+abbrev pub publish_cost : Universe → ℕ → ℕ
+publish_cost u r = length (outputs u r)
+
+-- a wait costs nothing
+abbrev pub wait_cost : ℕ
+wait_cost = 0
 
 -- what a lane publishes, in its order
 abbrev pub lane_outputs : Universe → Lane → List Variant
 lane_outputs u of = flat_map (outputs_of u) of.instructions
-
--- the output of number k of a lane, from 0
-abbrev pub output_at : Universe → Lane → ℕ → Option Variant
-output_at u of k = slice_get (lane_outputs u of) k
 
 -- how many outputs a lane has published where so many instructions are done, and so many outputs of
 -- the next

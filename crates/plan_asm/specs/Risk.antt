@@ -4,7 +4,7 @@
 --
 --   candidates                  the variants that an unpack may take
 --   unpack_risks, .., risk      the tests of each instruction; the first trap that it may meet
-use Rattle.std.specs.Prelude.{ℕ, ◌+◌, ◌/◌, Bool, not, ◌&&◌, ◌||◌, ◌==◌, nat_lt, nat_le, List, [], ◌∷◌, length, Option, Some, None}
+use Rattle.std.specs.Prelude.{ℕ, ◌+◌, Bool, not, ◌&&◌, ◌||◌, ◌==◌, nat_lt, nat_le, List, [], ◌∷◌, Option, Some, None}
 use Rattle.std.specs.List.{list_any}
 use Rattle.deb_relation.specs.declared.operator.Op.{Op}
 use Rattle.deb_relation.specs.Relations.{Entry}
@@ -12,12 +12,12 @@ use Rattle.farm_universe.specs.declared.types.Variant.{Variant}
 use Rattle.farm_universe.specs.declared.types.Trap.{Trap}
 use Rattle.farm_universe.specs.declared.types.Trap.TheVariants.{Missing, PreDepends, Conflict, BreaksOther, Full, WrongState, Depends, Broken, StillNeeded, Unsettled, BuildDepends, BuildConflict, NotBuilt, OverBudget}
 use Rattle.farm_universe.specs.Universe.{Universe, Recipe}
-use Rattle.farm_universe.specs.Packages.{variant, pre_depends, depends, recipe, outputs, is_wanted, satisfies_entry, satisfies_any, breaks, conflict}
+use Rattle.farm_universe.specs.Packages.{variant, pre_depends, depends, recipe, is_wanted, satisfies_entry, satisfies_any, breaks, conflict}
 use Rattle.farm_universe.specs.Chroot.{member, unmet, entries}
 use Rattle.farm_universe.specs.Traps.{first_trap}
 use Rattle.plan_asm.specs.declared.instructions.Instruction.{Instruction}
 use Rattle.plan_asm.specs.declared.instructions.Instruction.TheVariants.{Unpack, Configure, Deconfigure, Remove, Build, Publish, Wait}
-use Rattle.plan_asm.specs.Plan.{Lane, capacity}
+use Rattle.plan_asm.specs.Plan.{Lane, capacity, size_cost, set_cost, build_cost, publish_cost}
 use Rattle.plan_asm.specs.Turn.{was_built, newest}
 use Rattle.plan_asm.specs.May.{Bits, MaySlot, May, some_of, some_name, may_hold, may_hold_configured, surely_configured, surely_met, surely_met_with, surely_pre_met, greatest_size, may_use, is_surely_unpacked, is_surely_configured, is_surely_present}
 
@@ -29,7 +29,7 @@ candidates u there name wanted highest b =
 
 -- what an unpack of one of these costs at most
 abbrev pub greatest_cost : Universe → ℕ → Bits → ℕ
-greatest_cost u name set = 1 + greatest_size u name set / 1024
+greatest_cost u name set = size_cost (greatest_size u name set)
 
 -- a cost that may be over the budget
 abbrev pub may_exceed : Lane → May → ℕ → Bool
@@ -73,7 +73,7 @@ some_may_member u members m p =
 -- configure: each test of its traps, for every variant that a member may hold
 abbrev pub configure_risks : Universe → Lane → May → List ℕ → List (Bool × Trap)
 configure_risks u of m members =
-    (may_exceed of m (length members), OverBudget)
+    (may_exceed of m (set_cost members), OverBudget)
     ∷ (list_any (λ k. not (is_surely_unpacked (m.slots k))) members, WrongState)
     ∷ (some_may_member u members m (λ v. unmet (surely_met u m) (pre_depends u v)), PreDepends)
     ∷ (
@@ -112,7 +112,7 @@ may_be_needed u members m =
 -- deconfigure and remove
 abbrev pub withdraw_risks : Universe → (MaySlot → Bool) → Lane → May → List ℕ → List (Bool × Trap)
 withdraw_risks u right of m members =
-    (may_exceed of m (length members), OverBudget)
+    (may_exceed of m (set_cost members), OverBudget)
     ∷ (list_any (λ k. not (right (m.slots k))) members, WrongState)
     ∷ (may_be_needed u members m, StillNeeded)
     ∷ []
@@ -126,7 +126,7 @@ may_be_unsettled u m = some_name u m
 -- build: each test of its traps
 abbrev pub build_risks : Universe → Lane → May → Recipe → List (Bool × Trap)
 build_risks u of m r =
-    (may_exceed of m r.steps, OverBudget)
+    (may_exceed of m (build_cost r), OverBudget)
     ∷ (may_be_unsettled u m, Unsettled)
     ∷ (unmet (surely_met u m) r.needs, BuildDepends)
     ∷ (
@@ -138,7 +138,7 @@ build_risks u of m r =
 
 -- publish: the cost may be over the budget; the recipe was not surely built
 abbrev pub publish_risks : Universe → Lane → May → ℕ → List (Bool × Trap)
-publish_risks u of m r = (may_exceed of m (length (outputs u r)), OverBudget) ∷
+publish_risks u of m r = (may_exceed of m (publish_cost u r), OverBudget) ∷
     (not (was_built m.built r), NotBuilt) ∷ []
 
 -- the first trap that an instruction may meet, where `known` is surely in the archive and `there`

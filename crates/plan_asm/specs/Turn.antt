@@ -17,7 +17,7 @@ use Rattle.farm_universe.specs.Chroot.{Chroot, base_chroot}
 use Rattle.farm_universe.specs.Traps.{first_trap, unpack_traps, unpacked, configure_traps, configured, deconfigure_traps, deconfigured, remove_traps, removed, build_traps}
 use Rattle.plan_asm.specs.declared.instructions.Instruction.{Instruction}
 use Rattle.plan_asm.specs.declared.instructions.Instruction.TheVariants.{Unpack, Configure, Deconfigure, Remove, Build, Publish, Wait}
-use Rattle.plan_asm.specs.Plan.{Lane, capacity, unpack_cost}
+use Rattle.plan_asm.specs.Plan.{Lane, capacity, unpack_cost, set_cost, build_cost, publish_cost, wait_cost}
 
 -- a lane: the instructions that are done, the outputs that are made of the publish it stands at,
 -- its chroot, what it has spent, and for each recipe, by number, whether it has built it
@@ -99,13 +99,18 @@ unless (Some trap) turn = Fails trap
 abbrev pub over_budget : Lane → LaneState → ℕ → Bool
 over_budget of st cost = nat_lt of.budget (st.spent + cost)
 
+-- goes on, unless this cost is over the budget or one of these traps is met
+abbrev pub unless_trapped : Lane → LaneState → ℕ → List (Bool × Trap) → Turn → Turn
+unless_trapped of st cost traps turn =
+    unless (first_trap ((over_budget of st cost, OverBudget) ∷ traps)) turn
+
 -- an unpack of what the archive gives, or of nothing
 abbrev pub unpacks : Universe → Lane → LaneState → ℕ → Option ℕ → Turn
 unpacks u of st name None = Fails Missing
 unpacks u of st name (Some b) =
     let v = variant name b in
-    unless (first_trap ((over_budget of st (unpack_cost u v), OverBudget) ∷ unpack_traps u
-    (capacity u of) st.chroot v)) (Goes (past st (unpack_cost u v) (unpacked st.chroot v)))
+    unless_trapped of st (unpack_cost u v) (unpack_traps u (capacity u of) st.chroot v)
+    (Goes (past st (unpack_cost u v) (unpacked st.chroot v)))
 
 -- the lane behind one more of so many outputs: the last one ends the publish
 abbrev pub given : ℕ → LaneState → ℕ → LaneState
@@ -129,7 +134,7 @@ first_only (suc made) cost = 0
 -- publish: over the budget; the recipe was not built. Tried with the first output alone
 abbrev pub publish_traps : Universe → Lane → LaneState → ℕ → List (Bool × Trap)
 publish_traps u of st r =
-    ((st.made == 0) && over_budget of st (length (outputs u r)), OverBudget) ∷
+    ((st.made == 0) && over_budget of st (publish_cost u r), OverBudget) ∷
     ((st.made == 0) && not (was_built st.built r), NotBuilt) ∷ []
 
 -- the next output of a publish, or none
@@ -137,7 +142,7 @@ abbrev pub publishes : Universe → Lane → LaneState → ℕ → Option Varian
 publishes u of st r None = Waits
 publishes u of st r (Some v) =
     unless (first_trap (publish_traps u of st r))
-    (Gives (given (length (outputs u r)) st (first_only st.made (length (outputs u r)))) v)
+    (Gives (given (length (outputs u r)) st (first_only st.made (publish_cost u r))) v)
 
 -- a lane's turn, at the instruction it stands at, over the archive that is there
 abbrev pub turn_of : Universe → (Variant → Bool) → Lane → LaneState → Option Instruction → Turn
@@ -145,27 +150,18 @@ turn_of u there of st None = Ends
 turn_of u there of st (Some (Unpack name wanted)) =
     unpacks u of st name (newest u there name wanted)
 turn_of u there of st (Some (Configure members)) =
-    unless (first_trap ((
-      over_budget of st (length members),
-      OverBudget,
-    ) ∷ configure_traps u st.chroot members))
-    (Goes (past st (length members) (configured st.chroot members)))
+    unless_trapped of st (set_cost members) (configure_traps u st.chroot members)
+    (Goes (past st (set_cost members) (configured st.chroot members)))
 turn_of u there of st (Some (Deconfigure members)) =
-    unless (first_trap ((
-      over_budget of st (length members),
-      OverBudget,
-    ) ∷ deconfigure_traps u st.chroot members))
-    (Goes (past st (length members) (deconfigured st.chroot members)))
+    unless_trapped of st (set_cost members) (deconfigure_traps u st.chroot members)
+    (Goes (past st (set_cost members) (deconfigured st.chroot members)))
 turn_of u there of st (Some (Remove members)) =
-    unless (first_trap ((
-      over_budget of st (length members),
-      OverBudget,
-    ) ∷ remove_traps u st.chroot members))
-    (Goes (past st (length members) (removed st.chroot members)))
+    unless_trapped of st (set_cost members) (remove_traps u st.chroot members)
+    (Goes (past st (set_cost members) (removed st.chroot members)))
 turn_of u there of st (Some (Build r)) =
-    unless (first_trap ((over_budget of st (recipe u r).steps, OverBudget) ∷ build_traps u
-    (capacity u of) st.chroot (recipe u r)))
-    (Goes (past_build st (recipe u r).steps r))
+    unless_trapped of st (build_cost (recipe u r))
+    (build_traps u (capacity u of) st.chroot (recipe u r))
+    (Goes (past_build st (build_cost (recipe u r)) r))
 turn_of u there of st (Some (Publish r)) = publishes u of st r (slice_get (outputs u r) st.made)
 turn_of u there of st (Some (Wait e)) =
-    if passes u there e then Goes (past st 0 st.chroot) else Waits
+    if passes u there e then Goes (past st wait_cost st.chroot) else Waits
