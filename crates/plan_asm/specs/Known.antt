@@ -1,7 +1,7 @@
 -- What a lane can know of the archive at each of its places. The project's own rules; rows never
 -- mention a run. Places count the instructions done, from 0.
 --
--- possible, publishing what may be in the archive; what a lane is in the middle of publishing
+--   possible, publishing      what may be in the archive; the first outputs of a publish
 --   Rows, KeepsRows           a set for each lane and place; the inclusions that it keeps
 --   IsFact                    what is in the archive whenever a given variant is
 --   IsGreatest                the greatest such family
