@@ -16,7 +16,7 @@ use Rattle.plan_asm.specs.MayAt.{may_at, lane_cost}
 use Rattle.plan_asm.specs.Safety.{IsAnnotation}
 use Rattle.plan_asm.specs.Sound.{IsSound}
 use Rattle.plan_asm.specs.World.{World, world_lane, Shows, nothing, goes_on, settled}
-use Rattle.plan_asm.specs.Promise.{IsForeseen, IsWithinBudget}
+use Rattle.plan_asm.specs.Foreseen.{IsForeseen, IsWithinBudget}
 use Rattle.farm_laws.proofs.LawsOfPlans.{states_are_foreseen, lanes_are_within_budget}
 use Rattle.farm_laws.proofs.Whole.{holds_after, never_trapped}
 use Rattle.archive_laws.specs.Shown.{IsReached, with_lane, ready_lane, WorldsAreForeseen, is_archive_step, WorldsAreReady}

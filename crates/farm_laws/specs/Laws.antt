@@ -8,7 +8,8 @@ use Rattle.plan_asm.specs.Known.{Rows}
 use Rattle.plan_asm.specs.Safety.{IsAnnotation}
 use Rattle.plan_asm.specs.Order.{IsOrder}
 use Rattle.plan_asm.specs.Sound.{IsSound}
-use Rattle.plan_asm.specs.Promise.{IsSafe, IsForeseen, IsWithinBudget, PlaysSafely}
+use Rattle.plan_asm.specs.Promise.{IsSafe}
+use Rattle.plan_asm.specs.Foreseen.{IsForeseen, IsWithinBudget, PlaysSafely}
 
 -- every interleaving: no run ends in a trap, some lane can step until all are finished, no run is
 -- longer than the count

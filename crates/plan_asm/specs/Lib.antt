@@ -11,6 +11,7 @@ pub mod Order
 pub mod World
 pub mod Sound
 pub mod Promise
+pub mod Foreseen
 pub mod Forms
 pub mod Drafts
 pub mod Ends
