@@ -7,11 +7,12 @@
 --   between                    a wait for the first of two outputs
 --   through_another            a lane knows of an output through another lane's wait
 --   circle, self_circle        waits in a circle
-use Rattle.std.specs.Prelude.{ℕ, true, false, List, [], ◌∷◌, Option, Some, None, codes}
+use Rattle.std.specs.Prelude.{ℕ, true, false, List, [], ◌∷◌, ◌++◌, Option, Some, None, codes}
 use Rattle.deb_relation.specs.declared.operator.Op.{Op}
 use Rattle.deb_relation.specs.declared.operator.Op.TheVariants.{Equal, LaterOrEqual}
 use Rattle.farm_universe.specs.declared.types.Variant.{Variant}
 use Rattle.farm_universe.specs.declared.types.Slot.TheVariants.{Absent, Configured}
+use Rattle.plan_asm.specs.declared.instructions.Instruction.{Instruction}
 use Rattle.plan_asm.specs.declared.instructions.Instruction.TheVariants.{Unpack, Configure, Build, Publish, Wait}
 use Rattle.plan_asm.specs.Plan.{Lane, Plan}
 use Rattle.plan_asm.specs.Run.{State, Ending, publication}
@@ -24,15 +25,19 @@ only_stage1 = Some (Equal, stage1)
 
 -- ---- two lanes that need each other
 
-abbrev pub handing : Plan
-handing =
+-- a, which does this ahead of its unpack of libgmp, and b
+abbrev pub handing_after : List Instruction → Plan
+handing_after awaits =
     lane_in (codes "a") 0 100
-    (Build 0 ∷ Publish 0 ∷ Wait needs_libgmp ∷ Unpack libgmp None
+    (Build 0 ∷ Publish 0 ∷ awaits ++ Unpack libgmp None
     ∷ Configure (libgmp ∷ []) ∷ Build 2 ∷ Publish 2 ∷ [])
     ∷ lane_in (codes "b") 0 100
     (Wait (entry (in_version (codes "gcc") Equal stage1)) ∷ Unpack gcc only_stage1
     ∷ Configure (gcc ∷ []) ∷ Build 1 ∷ Publish 1 ∷ [])
     ∷ []
+
+abbrev pub handing : Plan
+handing = handing_after (Wait needs_libgmp ∷ [])
 
 -- b knows these once its wait has passed
 abbrev pub handing_known : List Variant → Rows
@@ -114,12 +119,16 @@ makes_libgmp =
     lane_in (codes "b") 0 50
     (Wait needs_gcc ∷ Unpack gcc None ∷ Configure (gcc ∷ []) ∷ Build 1 ∷ Publish 1 ∷ [])
 
-abbrev pub through_another : Plan
-through_another =
+-- a and b, and c, which does this ahead of its unpack of gcc
+abbrev pub through_another_after : List Instruction → Plan
+through_another_after awaits =
     lane_in (codes "a") 0 50 (Build 0 ∷ Publish 0 ∷ [])
     ∷ makes_libgmp
-    ∷ lane_in (codes "c") 0 50 (Wait needs_libgmp ∷ Unpack gcc None ∷ Configure (gcc ∷ []) ∷ [])
+    ∷ lane_in (codes "c") 0 50 (awaits ++ Unpack gcc None ∷ Configure (gcc ∷ []) ∷ [])
     ∷ []
+
+abbrev pub through_another : Plan
+through_another = through_another_after (Wait needs_libgmp ∷ [])
 
 abbrev pub through_another_known : Rows
 through_another_known =

@@ -12,7 +12,7 @@ ghost use Rattle.farm_examples.specs.Verdict.{Costs, Refused, verdict_of, trap_a
 ghost use Rattle.farm_examples.specs.Toolchain.{gcc_stage1, gmp, toolchain, newer, one_recipe};
 ghost use Rattle.farm_examples.specs.KnownMore.{none_more};
 ghost use Rattle.farm_examples.specs.Orders.{lanes_going, left_after};
-ghost use Rattle.farm_examples.specs.Waiting.{only_stage1, handing, handing_known, handed, ended, newest_or_exact, newest_or_exact_known, between, between_known, through_another, through_another_known, circle, self_circle};
+ghost use Rattle.farm_examples.specs.Waiting.{only_stage1, handing_after, handing, handing_known, handed, ended, newest_or_exact, newest_or_exact_known, between, between_known, through_another_after, through_another, through_another_known, circle, self_circle};
 
 /// Two lanes hand a compiler to each other: a builds its first stage, b makes libgmp with that, and
 /// a builds the rest with libgmp.
@@ -32,6 +32,9 @@ pub fn two_lanes_hand_a_compiler_to_each_other()
     ensures finished { is_finished handing handed ≡ true }
     ensures used_by_a { used toolchain (lane_state handed 0).chroot ≡ 2560 }
     ensures used_by_b { used toolchain (lane_state handed 1).chroot ≡ 3072 }
+
+    ensures without_the_wait { (result_of toolchain (handing_after []) (0 ∷ 0 ∷ 0 ∷ [])).stop
+        ≡ trap_at 3 0 3 Missing }
 
     // Events of lanes that are blocked, have ended or are unknown change nothing.
     ensures blocked_between { result_of toolchain handing
@@ -122,6 +125,8 @@ pub fn known_through_another_lane()
     ensures order { left_after toolchain through_another (0 ∷ 1 ∷ 1 ∷ 2 ∷ []) ≡ Some [] }
     ensures end { (result_of toolchain through_another
         (0 ∷ 0 ∷ 1 ∷ 1 ∷ 1 ∷ 1 ∷ 1 ∷ 2 ∷ 2 ∷ 2 ∷ [])).stop ≡ None }
+    ensures without_the_wait { (result_of toolchain (through_another_after []) (2 ∷ [])).stop
+        ≡ trap_at 1 2 1 Missing }
 {}
 
 /// Lanes that wait in a circle never step: none of their waits and outputs can be made. So it is
