@@ -8,5 +8,6 @@ pub mod Resources
 pub mod Building
 pub mod Waiting
 pub mod Growing
+pub mod Holding
 pub mod Orders
 pub mod KnownMore

@@ -5,6 +5,7 @@ pub mod building;
 pub mod configuring;
 pub mod excluding;
 pub mod growing;
+pub mod holding;
 pub mod providing;
 pub mod resources;
 pub mod waiting;
