@@ -15,11 +15,11 @@ use Rattle.plan_asm.specs.Allowed.{AllowsAll}
 use Rattle.plan_asm.specs.MayAt.{may_at, lane_cost}
 use Rattle.plan_asm.specs.Safety.{IsAnnotation}
 use Rattle.plan_asm.specs.Sound.{IsSound}
-use Rattle.plan_asm.specs.World.{World, world_lane, Shows, nothing, goes_on, settled}
+use Rattle.plan_asm.specs.World.{World, world_lane, Shows, nothing, goes_on, settled, is_archive_step}
 use Rattle.plan_asm.specs.Foreseen.{IsForeseen, IsWithinBudget}
 use Rattle.farm_laws.proofs.LawsOfPlans.{states_are_foreseen, lanes_are_within_budget}
 use Rattle.farm_laws.proofs.Whole.{holds_after, never_trapped}
-use Rattle.archive_laws.specs.Shown.{IsReached, with_lane, ready_lane, WorldsAreForeseen, is_archive_step, WorldsAreReady}
+use Rattle.archive_laws.specs.Shown.{IsReached, with_lane, ready_lane, WorldsAreForeseen, WorldsAreReady}
 use Rattle.archive_laws.proofs.Turns.{turn_in, step_is, turn_shown}
 use Rattle.archive_laws.proofs.Settles.{next_of, IsBlind, blind_turn, local_step, ready_reached}
 
@@ -55,21 +55,21 @@ worlds_are_foreseen u p rows sound annotation w r =
     lane_is : (l : ℕ) → lane_state r.shown.0 l ≡ world_lane w l
     lane_is l = ap (λ (xs : List LaneState). slice_index_or xs l no_state) sh.lanes
 
-none_left : {X : Type 0} (xs : List X) (i : ℕ) → drop i xs ≡ [] → slice_get xs i ≡ None
+pub none_left : {X : Type 0} (xs : List X) (i : ℕ) → drop i xs ≡ [] → slice_get xs i ≡ None
 none_left [] zero e = refl
 none_left [] (suc i) e = refl
 none_left (x ∷ xs) zero e = cc
 none_left (x ∷ xs) (suc i) e = none_left xs i e
 
 -- a turn that goes on or meets a trap
-abbrev OnlyGoes : Turn → Type 0
+abbrev pub OnlyGoes : Turn → Type 0
 OnlyGoes (Goes next) = Unit {0}
 OnlyGoes (Gives next v) = ⊥
 OnlyGoes Waits = ⊥
 OnlyGoes Ends = ⊥
 OnlyGoes (Fails trap) = Unit {0}
 
-unless_goes : (o : Option Trap) (next : LaneState) → OnlyGoes (unless o (Goes next))
+pub unless_goes : (o : Option Trap) (next : LaneState) → OnlyGoes (unless o (Goes next))
 unless_goes None next = tt
 unless_goes (Some trap) next = tt
 

@@ -4,3 +4,4 @@ pub mod Settles
 pub mod Recorded
 pub mod Foreseen
 pub mod OneWord
+pub mod AfterSteps

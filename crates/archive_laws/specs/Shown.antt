@@ -3,16 +3,16 @@
 --
 --   IsReached                      a world with a word for each name, which shows a reachable state
 --   OneLaneSteps                   the law of one archive step
+--   StandsAfterSteps               where lanes stand at the start and after archive steps
 --   recorded, WordsAreRecorded     the outputs that a lane's record stands for; the words are these
 --   IsForeseenWorld, IsReadyWorld  the facts of a world of an annotated plan
-use Rattle.std.specs.Prelude.{◌≡◌, ◌≢◌, ◌⊎◌, ℕ, ◌<◌, ◌≤◌, Bool, true, false, ◌||◌, List, length, take, Some, slice_set}
+use Rattle.std.specs.Prelude.{◌≡◌, ◌≢◌, ◌⊎◌, ℕ, ◌<◌, ◌≤◌, true, ◌||◌, List, length, take, Some, slice_set}
 use Rattle.farm_universe.specs.declared.types.Variant.{Variant}
 use Rattle.farm_universe.specs.declared.types.Trap.{Trap}
 use Rattle.farm_universe.specs.Below.{some_below}
 use Rattle.farm_universe.specs.Universe.{Universe}
 use Rattle.farm_universe.specs.Packages.{names, contains, initial, has_bit}
 use Rattle.plan_asm.specs.declared.instructions.Instruction.{Instruction}
-use Rattle.plan_asm.specs.declared.instructions.Instruction.TheVariants.{Unpack, Publish, Wait}
 use Rattle.plan_asm.specs.Plan.{Lane, Plan, lane, instruction_at, lane_outputs, outputs_before}
 use Rattle.plan_asm.specs.Turn.{LaneState, Fails, turn_of}
 use Rattle.plan_asm.specs.Known.{Rows, possible, publishing, IsFact}
@@ -20,7 +20,7 @@ use Rattle.plan_asm.specs.MayAt.{may_at, lane_cost}
 use Rattle.plan_asm.specs.Allowed.{AllowsAll}
 use Rattle.plan_asm.specs.Safety.{IsAnnotation}
 use Rattle.plan_asm.specs.Sound.{IsSound}
-use Rattle.plan_asm.specs.World.{World, start_world, world_lane, IsShown, ready, archive_step}
+use Rattle.plan_asm.specs.World.{World, start_world, world_lane, IsShown, ready, archive_step, is_archive_step, IsAfterSteps}
 
 -- a world that is reached: it has a word for each name, and shows a reachable state
 pub record IsReached (u : Universe) (p : Plan) (w : World) : Type 0 where
@@ -58,6 +58,17 @@ EachLaneSteps =
     (u : Universe) (p : Plan) → IsSound u p → (w : World) → IsReached u p w → (l : ℕ) → l < length p
     → OneLaneSteps u p w l
 
+-- Each lane stands at its beginning, just after its last archive step, or inside a publish:
+pub record StandsAfterSteps (u : Universe) (p : Plan) : Type 0 where
+  -- so it is at the start;
+  pub start : IsAfterSteps p (start_world u p)
+  -- and archive steps keep it, for every lane.
+  pub kept : (w next : World) (l : ℕ) → IsAfterSteps p w → archive_step u p w l ≡ Some next
+      → IsAfterSteps p next
+
+abbrev pub LanesStandAfterSteps : Type 0
+LanesStandAfterSteps = (u : Universe) (p : Plan) → StandsAfterSteps u p
+
 -- what a lane has published by its record
 abbrev pub recorded : Universe → Lane → LaneState → List Variant
 recorded u of st = take (outputs_before u of st.done st.made) (lane_outputs u of)
@@ -92,13 +103,6 @@ abbrev pub WorldsAreForeseen : Type 0
 WorldsAreForeseen =
     (u : Universe) (p : Plan) (rows : Rows) → IsSound u p → IsAnnotation u p rows → (w : World)
     → IsReached u p w → IsForeseenWorld u p rows w
-
--- the instruction looks at the archive or adds to it
-abbrev pub is_archive_step : Instruction → Bool
-is_archive_step (Unpack name wanted) = true
-is_archive_step (Publish r) = true
-is_archive_step (Wait e) = true
-is_archive_step _ = false
 
 -- Of an annotated plan, in a world that is reached:
 pub record IsReadyWorld (u : Universe) (p : Plan) (w : World) (l : ℕ) : Type 0 where

@@ -1,7 +1,7 @@
 //! Laws of the worlds that are reached.
 
 ghost use Rattle.archive_laws.specs.Loads.{EachWordDecides};
-ghost use Rattle.archive_laws.specs.Shown.{StartIsReached, EachLaneSteps, WordsAreRecorded, WorldsAreForeseen, WorldsAreReady};
+ghost use Rattle.archive_laws.specs.Shown.{StartIsReached, EachLaneSteps, LanesStandAfterSteps, WordsAreRecorded, WorldsAreForeseen, WorldsAreReady};
 
 /// The initial archive and the lanes at their beginnings show the start.
 pub fn start_is_reached()
@@ -13,6 +13,12 @@ pub fn start_is_reached()
 /// unchanged.
 pub fn one_archive_step()
     ensures { EachLaneSteps }
+{}
+
+/// At the start each lane stands at its beginning, and archive steps leave each lane there, just
+/// after its last archive step, or inside a publish.
+pub fn lanes_stand_after_steps()
+    ensures { LanesStandAfterSteps }
 {}
 
 /// An unpack looks at the word of its name alone, and a wait passes on any one word.

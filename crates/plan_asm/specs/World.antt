@@ -1,11 +1,11 @@
--- A farm as the words of its archive and the lanes' records show it: each lane stands just after
--- its last archive step (an unpack, a passed wait or an output), or at its beginning. The project's
--- own rules.
+-- A farm as the words of its archive and the lanes' records show it. An archive step of a lane is
+-- an unpack, a passed wait or an output. The project's own rules.
 --
 --   World, start_world, Shows      words and records, and the state that they show
 --   settled, ready                 a lane's local instructions, up to its next archive step
 --   archive_step                   a lane's local instructions and then its archive step
-use Rattle.std.specs.Prelude.{◌≡◌, ℕ, ◌^◌, Bool, false, List, [], ◌∷◌, map, drop, Option, Some, None, slice_index, slice_index_or, slice_set, bit_or}
+--   is_after_step, IsAfterSteps    lanes that stand just after their last archive step
+use Rattle.std.specs.Prelude.{◌≡◌, ℕ, zero, suc, ◌^◌, Bool, true, false, ◌||◌, nat_lt, List, [], ◌∷◌, map, drop, Option, Some, None, slice_get, slice_index, slice_index_or, slice_set, bit_or}
 use Rattle.farm_universe.specs.declared.types.Variant.{Variant}
 use Rattle.farm_universe.specs.Universe.{Universe}
 use Rattle.farm_universe.specs.Packages.{has_bit}
@@ -81,3 +81,28 @@ unfoldable pub archive_step : Universe → Plan → World → ℕ → Option Wor
 archive_step u p w l =
     let st = ready u (lane p l) (world_lane w l) in
     world_after w l (turn_of u (has_bit w.words) (lane p l) st (instruction_at p l st.done))
+
+-- the instruction looks at the archive or adds to it
+abbrev pub is_archive_step : Instruction → Bool
+is_archive_step (Unpack name wanted) = true
+is_archive_step (Publish r) = true
+is_archive_step (Wait e) = true
+is_archive_step _ = false
+
+-- an instruction that is there is such a one
+abbrev pub is_some_archive_step : Option Instruction → Bool
+is_some_archive_step None = false
+is_some_archive_step (Some x) = is_archive_step x
+
+-- the place is the beginning of the lane, or stands just after an unpack, a wait or a publish
+abbrev pub is_place_after_step : Lane → ℕ → Bool
+is_place_after_step of zero = true
+is_place_after_step of (suc i) = is_some_archive_step (slice_get of.instructions i)
+
+-- the lane stands at its beginning, just after its last archive step, or inside a publish
+abbrev pub is_after_step : Lane → LaneState → Bool
+is_after_step of st = nat_lt 0 st.made || is_place_after_step of st.done
+
+-- so each lane of the world stands
+abbrev pub IsAfterSteps : Plan → World → Type 0
+IsAfterSteps p w = (l : ℕ) → is_after_step (lane p l) (world_lane w l) ≡ true
