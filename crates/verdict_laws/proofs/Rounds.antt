@@ -6,12 +6,12 @@ use Rattle.farm_universe.specs.declared.types.Variant.{Variant}
 use Rattle.farm_universe.specs.Below.{every_below, sum_below}
 use Rattle.farm_universe.specs.Universe.{Universe}
 use Rattle.farm_universe.specs.Packages.{variant, names, variants}
-use Rattle.farm_universe.specs.Sound.{IsKnown, IsUniverse}
+use Rattle.farm_universe.specs.Sound.{IsUniverse}
 use Rattle.farm_universe.proofs.BelowLaws.{every_below-at, every_below-fails, sum_below-mono}
 use Rattle.plan_asm.specs.Plan.{Plan, lane}
 use Rattle.plan_asm.specs.Known.{Rows, possible, KeepsRows}
 use Rattle.verdict_laws.specs.Families.{IsWithin}
-use Rattle.verdict_laws.specs.Greatest.{every_variant, adds_some, allowed, is_settled, without_excess, one_if, rows_size, settled_after, greatest_rows, GreatestRowsAreGreatest}
+use Rattle.verdict_laws.specs.Greatest.{every_variant, adds_some, allowed, is_settled, without_excess, one_if, rows_size, settled_after, greatest_rows, AreKnown, SettledRowsKeep, GreatestRowsAreGreatest}
 use Rattle.verdict_laws.proofs.Inclusions.{every_variant-at, possible-known, adds-sound, adds-complete}
 use Rattle.verdict_laws.proofs.Unions.{there, Adds-mono, known_are_possible}
 
@@ -123,13 +123,9 @@ module _ (u : Universe) (p : Plan) (rows : Rows) where
       (λ b lt. each x.lane_number x.place x.name b) x.bit x.in_variants
       (one_if-less _ _ x.is_there x.not_allowed))))
 
--- rows of known variants alone
-abbrev AllKnown : Universe → Rows → Type 0
-AllKnown u rows = (l i : ℕ) (v : Variant) → rows l i v ≡ true → IsKnown u v
-
 module _ (u : Universe) (p : Plan) (is : IsUniverse u) where
   -- where nothing is left to take away, the rows keep to the inclusions
-  settled_keeps : (rows : Rows) → AllKnown u rows → is_settled u p rows ≡ true → KeepsRows u p rows
+  settled_keeps : (rows : Rows) → AreKnown u rows → is_settled u p rows ≡ true → KeepsRows u p rows
   unfolding is_settled
   settled_keeps rows known e =
       record {
@@ -158,7 +154,7 @@ module _ (u : Universe) (p : Plan) (is : IsUniverse u) where
             | inr fine ↦ fine
           ]
 
-  rounds_keep : (n : ℕ) (rows : Rows) → AllKnown u rows → rows_size u p rows ≤ n
+  rounds_keep : (n : ℕ) (rows : Rows) → AreKnown u rows → rows_size u p rows ≤ n
       → KeepsRows u p (settled_after u p n rows)
   rounds_keep zero rows known few =
       elim (cases_Bool (is_settled u p rows)) [
@@ -204,6 +200,9 @@ module _ (u : Universe) (p : Plan) (is : IsUniverse u) where
             rw not_yet (rounds_stay n other (without_excess u p rows) keeps
             (stays other rows keeps within))
       ]
+
+pub settled_rows_keep : SettledRowsKeep
+settled_rows_keep u p rows sound known e = settled_keeps u p sound.universe rows known e
 
 pub greatest_rows_are_greatest : GreatestRowsAreGreatest
 unfolding greatest_rows

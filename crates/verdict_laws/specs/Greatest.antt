@@ -5,15 +5,17 @@
 --   is_fact, adds, allowed          the inclusions as tests
 --   is_settled, without_excess      nothing is left to take away; one round of taking away
 --   greatest_rows                   the rows after all rounds
-use Rattle.std.specs.Prelude.{ℕ, zero, suc, Bool, true, false, not, ◌&&◌, ◌||◌, length, take, Option, Some, None, slice_get, if◌then◌else◌}
+--   SettledRowsKeep                 rows that pass the test keep to the inclusions
+use Rattle.std.specs.Prelude.{◌≡◌, ℕ, zero, suc, Bool, true, false, not, ◌&&◌, ◌||◌, length, take, Option, Some, None, slice_get, if◌then◌else◌}
 use Rattle.farm_universe.specs.declared.types.Variant.{Variant}
 use Rattle.farm_universe.specs.Below.{every_below, sum_below}
 use Rattle.farm_universe.specs.Universe.{Universe}
 use Rattle.farm_universe.specs.Packages.{variant, names, variants, same, contains, satisfies_entry, initial, outputs}
+use Rattle.farm_universe.specs.Sound.{IsKnown}
 use Rattle.plan_asm.specs.declared.instructions.Instruction.{Instruction}
 use Rattle.plan_asm.specs.declared.instructions.Instruction.TheVariants.{Publish, Wait}
 use Rattle.plan_asm.specs.Plan.{Plan, lane, instruction_at, outputs_of}
-use Rattle.plan_asm.specs.Known.{Rows, possible, IsGreatest}
+use Rattle.plan_asm.specs.Known.{Rows, possible, KeepsRows, IsGreatest}
 use Rattle.plan_asm.specs.Sound.{IsSound}
 
 -- each variant of the universe passes
@@ -87,6 +89,16 @@ settled_after u p (suc n) rows =
 -- than variants are needed
 unfoldable pub greatest_rows : Universe → Plan → Rows
 greatest_rows u p = settled_after u p (rows_size u p (possible u p)) (possible u p)
+
+-- rows of variants of the universe alone
+abbrev pub AreKnown : Universe → Rows → Type 0
+AreKnown u rows = (l i : ℕ) (v : Variant) → rows l i v ≡ true → IsKnown u v
+
+-- such rows keep to the inclusions where nothing is left to take away
+abbrev pub SettledRowsKeep : Type 0
+SettledRowsKeep =
+    (u : Universe) (p : Plan) (rows : Rows) → IsSound u p → AreKnown u rows
+    → is_settled u p rows ≡ true → KeepsRows u p rows
 
 -- there is a greatest family
 abbrev pub GreatestRowsAreGreatest : Type 0

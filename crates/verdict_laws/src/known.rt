@@ -1,7 +1,7 @@
 //! Laws of known rows.
 
 ghost use Rattle.verdict_laws.specs.Families.{KnownArePossible, UnionsKeep, UnionOfTwoKeeps, GreatestIsOne, InitialRowsAreGreatest};
-ghost use Rattle.verdict_laws.specs.Greatest.{GreatestRowsAreGreatest};
+ghost use Rattle.verdict_laws.specs.Greatest.{GreatestRowsAreGreatest, SettledRowsKeep};
 
 /// Rows that keep to the inclusions have only what may be in the archive at each place.
 pub fn known_are_possible()
@@ -16,6 +16,11 @@ pub fn unions_keep()
 /// The union of two families that keep to the inclusions keeps to them.
 pub fn union_of_two_keeps()
     ensures { UnionOfTwoKeeps }
+{}
+
+/// Rows of variants of the universe keep to the inclusions where a test of each of them passes.
+pub fn settled_rows_keep()
+    ensures { SettledRowsKeep }
 {}
 
 /// There is a greatest family: it is left where all that the inclusions do not allow is taken away
