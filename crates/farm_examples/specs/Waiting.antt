@@ -145,6 +145,20 @@ through_another_known =
 abbrev pub circle : Plan
 circle = lane_in (codes "a") 0 50 (Wait needs_libgmp ∷ Build 0 ∷ Publish 0 ∷ []) ∷ makes_libgmp ∷ []
 
+-- each lane would know what the other publishes, if its wait ever passed
+abbrev pub circle_known : Rows
+circle_known =
+    let first = gcc_stage1 ∷ [] in
+    let second = gmp ∷ [] in
+    let both = gcc_stage1 ∷ gmp ∷ [] in
+    rows_of toolchain
+    (([] ∷ second ∷ second ∷ both ∷ [])
+    ∷ ([] ∷ first ∷ first ∷ first ∷ first ∷ both ∷ [])
+    ∷ [])
+
 -- a lane that waits for what it makes itself
 abbrev pub self_circle : Plan
 self_circle = lane_in (codes "a") 0 50 (Wait needs_gcc ∷ Build 0 ∷ Publish 0 ∷ []) ∷ []
+
+abbrev pub self_circle_known : Rows
+self_circle_known = rows_of toolchain (([] ∷ [] ∷ [] ∷ (gcc_stage1 ∷ []) ∷ []) ∷ [])

@@ -12,7 +12,7 @@ ghost use Rattle.farm_examples.specs.Verdict.{Costs, Refused, verdict_of, trap_a
 ghost use Rattle.farm_examples.specs.Toolchain.{gcc_stage1, gmp, toolchain, newer, one_recipe};
 ghost use Rattle.farm_examples.specs.KnownMore.{none_more};
 ghost use Rattle.farm_examples.specs.Orders.{lanes_going, left_after};
-ghost use Rattle.farm_examples.specs.Waiting.{only_stage1, handing_after, handing, handing_known, handed, ended, newest_or_exact, newest_or_exact_known, between, between_known, through_another_after, through_another, through_another_known, circle, self_circle};
+ghost use Rattle.farm_examples.specs.Waiting.{only_stage1, handing_after, handing, handing_known, handed, ended, newest_or_exact, newest_or_exact_known, between, between_known, through_another_after, through_another, through_another_known, circle, circle_known, self_circle, self_circle_known};
 
 /// Two lanes hand a compiler to each other: a builds its first stage, b makes libgmp with that, and
 /// a builds the rest with libgmp.
@@ -130,8 +130,16 @@ pub fn known_through_another_lane()
 {}
 
 /// Lanes that wait in a circle never step: none of their waits and outputs can be made. So it is
-/// with a lane that waits for what it makes itself.
+/// with a lane that waits for what it makes itself. Each instruction by itself is safe.
 pub fn circle_never_steps()
+    ensures cost_of_a { verdict_of toolchain circle circle_known 0 ≡ Costs 21 }
+    ensures cost_of_b { verdict_of toolchain circle circle_known 1 ≡ Costs 14 }
+    ensures known_keeps { is_settled toolchain circle circle_known ≡ true }
+    ensures no_more { none_more toolchain circle circle_known ≡ true }
+    ensures self_cost { verdict_of toolchain self_circle self_circle_known 0 ≡ Costs 21 }
+    ensures self_known_keeps { is_settled toolchain self_circle self_circle_known ≡ true }
+    ensures self_no_more { none_more toolchain self_circle self_circle_known ≡ true }
+
     ensures none_goes { lanes_going toolchain (start_board toolchain circle) ≡ [] }
     ensures both_left { lanes_left (start_board toolchain circle) ≡ 0 ∷ 1 ∷ [] }
     ensures self_goes_not { lanes_going toolchain (start_board toolchain self_circle) ≡ [] }
