@@ -10,7 +10,7 @@ ghost use Rattle.deb_text.specs.Cuts.{before, after, before_last, after_last, fr
 use crate::classes::{Class, has};
 use memchr::{memchr, memrchr};
 
-/// What stands before the first such byte, and what stands after it.
+/// Cuts a text at the first such byte: gives what stands before it and what stands after it.
 pub fn cut_at_first(byte: u8, text: &[u8]) -> Option<(&[u8], &[u8])>
     ensures none { IfNone result (list_any (is_byte byte) text.now ≡ false) }
     ensures found { IfSome result (λ cut. list_any (is_byte byte) text.now ≡ true) }
@@ -22,7 +22,7 @@ pub fn cut_at_first(byte: u8, text: &[u8]) -> Option<(&[u8], &[u8])>
     Some((&text[..at], &text[at + 1..]))
 }
 
-/// What stands before the last such byte, and what stands after it.
+/// Cuts a text at the last such byte: gives what stands before it and what stands after it.
 pub fn cut_at_last(byte: u8, text: &[u8]) -> Option<(&[u8], &[u8])>
     ensures none { IfNone result (list_any (is_byte byte) text.now ≡ false) }
     ensures found { IfSome result (λ cut. list_any (is_byte byte) text.now ≡ true) }
@@ -49,14 +49,14 @@ pub fn split_front(class: Class, text: &[u8]) -> (&[u8], &[u8])
     text.split_at(front_len(class, text))
 }
 
-/// What stands behind the longest front of a class.
+/// Gives what stands behind the longest front of a class.
 pub fn skip_front(class: Class, text: &[u8]) -> &[u8]
     ensures { result.now ≡ behind (in_class class) text.now }
 {
     split_front(class, text).1
 }
 
-/// A text without the spaces, tabs and newlines at its ends.
+/// Takes the spaces, tabs and newlines off both ends of a text.
 pub fn trim(text: &[u8]) -> &[u8]
     ensures { result.now ≡ trimmed text.now }
 {
@@ -76,7 +76,8 @@ fn skip_end(class: Class, text: &[u8]) -> &[u8]
     rest
 }
 
-/// The first part of a text that is cut at each such byte, and what is left, if anything is.
+/// Takes the first part of a text that is cut at each such byte, and gives what is left, if
+/// anything is.
 pub fn next_part(byte: u8, text: &[u8]) -> (&[u8], Option<&[u8]>)
     ensures parts { slice_split (is_byte byte) text.now
         ≡ result.0.now ∷ parts_left (is_byte byte) (option_map (λ rest. rest.now) result.1) }

@@ -13,7 +13,7 @@ pub struct Line<'a> {
     pub bytes: &'a [u8],
 }
 
-/// The first line of a text, and the text behind its newline.
+/// Takes the first line of a text, and gives the text behind its newline too.
 pub fn next_line(text: &[u8]) -> Option<(&[u8], &[u8])>
     ensures none { IfNone result (lines_of text.now ≡ []) }
     ensures line { IfSome result (λ cut. lines_of text.now ≡ cut.0.now ∷ lines_of cut.1.now) }

@@ -19,7 +19,7 @@ pub fn is_number(text: &[u8]) -> bool
     !text.is_empty() && text.len() <= MOST_DIGITS && all_in(Class::Digit, text)
 }
 
-/// The number that at most 15 digits spell. No digits spell 0.
+/// Gives the number that at most 15 digits spell. No digits spell 0.
 pub fn number_of(digits: &[u8]) -> u64
     requires short { length digits.now ≤ 15 }
     requires digits { list_all is_digit digits.now ≡ true }
@@ -33,7 +33,7 @@ pub fn number_of(digits: &[u8]) -> u64
     number
 }
 
-/// The number that a text spells, if it is 1 to 15 digits.
+/// Reads the number that a text spells, if it is 1 to 15 digits.
 pub fn read_number(text: &[u8]) -> Option<u64>
     ensures number { result ≡ number_at text.now }
     ensures small { IfSome result (λ n. n < 10 ^ 15) }

@@ -6,7 +6,7 @@ ghost use Rattle.deb_text.specs.Words.{words, is_word, is_name};
 use crate::classes::{Class, all_in, begins_with};
 use crate::cuts::{skip_front, split_front};
 
-/// The first word of a text that is cut at blanks, and what stands behind it.
+/// Takes the first word of a text that is cut at blanks, and gives what stands behind it too.
 pub fn next_word(text: &[u8]) -> Option<(&[u8], &[u8])>
     ensures none { IfNone result (words text.now ≡ []) }
     ensures word { IfSome result (λ cut. words text.now ≡ cut.0.now ∷ words cut.1.now) }
