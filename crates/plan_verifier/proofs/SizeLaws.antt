@@ -5,9 +5,10 @@ use Rattle.std.proofs.lemmas.List.{get_or_past}
 use Rattle.farm_universe.specs.Kept.{IsKept}
 use Rattle.farm_universe.specs.Packages.{variant, variants, package_of, no_package, size}
 use Rattle.farm_universe.specs.Universe.{Universe}
+use Rattle.farm_universe.specs.declared.limits.TheConstants.{MOST_SIZE}
 
 pub size_small : (u : Universe) (name bit : ℕ) → IsKept u → bit < variants u name
-    → size u (variant name bit) ≤ 4294967295
+    → size u (variant name bit) ≤ MOST_SIZE
 unfolding variants package_of size
 size_small u name bit kept lt =
     elim (cases_lt name (length u.packages)) [

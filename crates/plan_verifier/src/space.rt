@@ -57,7 +57,7 @@ fn may_size(universe: &Universe, name: u32, held: Held) -> u64
 #[tactic(auto, unfolding(plan_asm::specs::May::may_use))]
 pub fn may_use(universe: &Universe, map: &MayMap) -> u64
     ensures space { result ≡ may.may_use universe.now (may_of universe.now map.now) }
-    ensures small { result ≤ 4_294_967_295 * 4_294_967_295 }
+    ensures small { result ≤ 4_294_967_295 * MOST_SIZE }
 {
     let count = universe.names();
     let mut used = 0;
