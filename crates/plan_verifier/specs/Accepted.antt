@@ -13,6 +13,7 @@ use Rattle.plan_asm.specs.Safety.{IsSafeUnder}
 use Rattle.plan_asm.specs.Sound.{IsSound}
 use Rattle.plan_verifier.specs.Walk.{initial_rows}
 
+-- a plan over a universe, and the cost of each lane in file order
 pub record AcceptedPlan : Type 0 where
   pub universe : Universe
   pub plan : Plan
@@ -27,6 +28,7 @@ pub record AreCosts (u : Universe) (p : Plan) (rows : Rows) (n : ℕ) (costs : L
   pub long : length costs ≡ n
   pub each : (l : ℕ) → l < n → slice_index costs l ≡ lane_cost u p rows l
 
+-- Of an accepted plan is kept:
 pub record IsAccepted (a : AcceptedPlan) : Type 0 where
   -- the universe and the plan are what the readers make;
   pub sound : IsSound a.universe a.plan
