@@ -21,3 +21,14 @@ four_behind old t1 t2 t3 new a b c d one two three four =
     (four ∙ (ap (λ t. t ++ d) (rw (append-nil c) at so_far)
     ∙ (append_assoc old (a ++ (b ++ c)) d
     ∙ ap (λ t. old ++ t) (append_assoc a (b ++ c) d ∙ ap (λ t. a ++ t) (append_assoc b c d)))))
+
+-- and five, of which the first three are put there together
+pub five_behind : (old t1 t2 new a b c d e : List ℕ)
+    → t1 ≡ old ++ concat (a ∷ b ∷ c ∷ []) → t2 ≡ t1 ++ d → new ≡ t2 ++ e
+    → new ≡ old ++ concat (a ∷ b ∷ c ∷ d ∷ e ∷ [])
+five_behind old t1 t2 new a b c d e one two three =
+    let rest = d ++ (e ++ []) in
+    three_behind old t1 t2 new (concat (a ∷ b ∷ c ∷ [])) d e one two three
+    ∙ ap (λ t. old ++ t)
+    (append_assoc a (b ++ (c ++ [])) rest
+    ∙ ap (λ t. a ++ t) (append_assoc b (c ++ []) rest ∙ ap (λ t. b ++ t) (append_assoc c [] rest)))

@@ -2,6 +2,7 @@
 use Rattle.std.specs.Prelude.{ℕ, List, [], ◌∷◌, ◌++◌, codes}
 use Rattle.std.specs.List.{concat, flat_map}
 use Rattle.std.specs.Fmt.{decimal}
+use Rattle.plan_verifier.specs.declared.refusal.TheConstants.{UNSAFE, STUCK}
 
 -- `WORD N`
 abbrev pub counted_line : List ℕ → ℕ → List ℕ
@@ -19,16 +20,17 @@ fault_line code file line =
     concat (codes "refused " ∷ decimal code ∷ codes " " ∷ file ∷ codes " line " ∷ decimal line
     ∷ codes "\n" ∷ [])
 
--- `refused 401 lane NAME instruction N TRAP`
+-- `refused 401 lane NAME instruction N TRAP`, by the code `UNSAFE`
 abbrev pub unsafe_line : List ℕ → ℕ → List ℕ → List ℕ
 unsafe_line lane instruction trap =
-    concat (codes "refused 401 lane " ∷ lane ∷ codes " instruction " ∷ decimal instruction
-    ∷ codes " " ∷ trap ∷ codes "\n" ∷ [])
+    concat (codes "refused " ∷ decimal UNSAFE ∷ codes " lane " ∷ lane ∷ codes " instruction "
+    ∷ decimal instruction ∷ codes " " ∷ trap ∷ codes "\n" ∷ [])
 
 -- each name behind a space
 abbrev pub spaced : List (List ℕ) → List ℕ
 spaced names = flat_map (λ name. codes " " ++ name) names
 
--- `refused 402 lanes NAME NAME ..`
+-- `refused 402 lanes NAME NAME ..`, by the code `STUCK`
 abbrev pub stuck_line : List (List ℕ) → List ℕ
-stuck_line names = concat (codes "refused 402 lanes" ∷ spaced names ∷ codes "\n" ∷ [])
+stuck_line names =
+    concat (codes "refused " ∷ decimal STUCK ∷ codes " lanes" ∷ spaced names ∷ codes "\n" ∷ [])

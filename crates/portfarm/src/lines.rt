@@ -1,10 +1,12 @@
-//! The lines of an answer.
+//! The lines of an answer, each put behind a text. Where memory is refused, some of a line may
+//! stand there.
 
 ghost use Rattle.std.specs.Prelude.{◌≡◌, ◌++◌, OnOk, map};
 ghost use Rattle.std.specs.List.{concat};
 ghost use Rattle.deb_text.specs.Lists.{lists};
 ghost use Rattle.portfarm.specs.AnswerLines.{counted_line, lane_line, fault_line, unsafe_line, spaced, stuck_line};
 
+use plan_verifier::{STUCK, UNSAFE};
 use std::alloc::{AllocError, Global};
 
 /// Puts pieces of text behind a text.
@@ -19,6 +21,10 @@ fn push_pieces(text: &mut Vec<u8>, pieces: &[&[u8]]) -> Result<(), AllocError>
 }
 
 /// A line of a word and a number, as `lanes 2`.
+///
+/// # Errors
+///
+/// [`AllocError`] where memory is refused.
 pub fn push_counted(
     alloc: Global,
     text: &mut Vec<u8>,
@@ -32,6 +38,10 @@ pub fn push_counted(
 }
 
 /// The line of a lane in an acceptance, as `lane a cost 4 budget 4`.
+///
+/// # Errors
+///
+/// [`AllocError`] where memory is refused.
 pub fn push_lane(
     alloc: Global,
     text: &mut Vec<u8>,
@@ -58,6 +68,10 @@ pub fn push_lane(
 }
 
 /// The line of a text's fault, as `refused 303 plan line 2`.
+///
+/// # Errors
+///
+/// [`AllocError`] where memory is refused.
 pub fn push_fault(
     alloc: Global,
     text: &mut Vec<u8>,
@@ -84,6 +98,10 @@ pub fn push_fault(
 }
 
 /// The line of an unsafe instruction, as `refused 401 lane a instruction 3 X7 Depends`.
+///
+/// # Errors
+///
+/// [`AllocError`] where memory is refused.
 pub fn push_unsafe(
     alloc: Global,
     text: &mut Vec<u8>,
@@ -94,11 +112,14 @@ pub fn push_unsafe(
     ensures { OnOk result
         (text.new.items ≡ text.old.items ++ unsafe_line lane.now instruction trap.now) }
 {
+    let code = format!(in alloc; "{UNSAFE}")?;
     let instruction = format!(in alloc; "{instruction}")?;
     push_pieces(
         text,
         &[
-            b"refused 401 lane ",
+            b"refused ",
+            code.as_bytes(),
+            b" lane ",
             lane,
             b" instruction ",
             instruction.as_bytes(),
@@ -120,10 +141,15 @@ fn push_names(text: &mut Vec<u8>, names: &[Vec<u8>]) -> Result<(), AllocError>
 }
 
 /// The line of stuck lanes, as `refused 402 lanes a b`.
-pub fn push_stuck(text: &mut Vec<u8>, lanes: &[Vec<u8>]) -> Result<(), AllocError>
+///
+/// # Errors
+///
+/// [`AllocError`] where memory is refused.
+pub fn push_stuck(alloc: Global, text: &mut Vec<u8>, lanes: &[Vec<u8>]) -> Result<(), AllocError>
     ensures { OnOk result (text.new.items ≡ text.old.items ++ stuck_line (lists lanes.now)) }
 {
-    text.extend_from_slice(b"refused 402 lanes")?;
+    let code = format!(in alloc; "{STUCK}")?;
+    push_pieces(text, &[b"refused ", code.as_bytes(), b" lanes"])?;
     push_names(text, lanes)?;
     push_pieces(text, &[b"\n"])
 }

@@ -5,7 +5,7 @@ mod outcomes;
 mod verdicts;
 
 use crate::input::texts_of;
-use crate::lines::{push_counted, push_fault, push_lane, push_unsafe};
+use crate::lines::{push_counted, push_fault, push_lane, push_stuck, push_unsafe};
 use crate::outside::OutsideFault;
 use std::alloc::AllocError;
 
@@ -49,8 +49,13 @@ fn writes_the_lines_of_answers(rt: HostRuntime) -> Result<(), AllocError> {
     push_lane(alloc, &mut text, b"a", 4, 999_999_999_999_999)?;
     push_fault(alloc, &mut text, 303, b"plan", 2)?;
     push_unsafe(alloc, &mut text, b"a", 3, b"X7 Depends")?;
+    let mut lanes = Vec::new(alloc);
+    for name in [b"a", b"b"] {
+        lanes.push(Vec::from_slice(alloc, name)?)?;
+    }
+    push_stuck(alloc, &mut text, &lanes)?;
     let want = "lanes 1\ncount 0\nlane a cost 4 budget 999999999999999\nrefused 303 plan line 2\n\
-        refused 401 lane a instruction 3 X7 Depends\n";
+        refused 401 lane a instruction 3 X7 Depends\nrefused 402 lanes a b\n";
     assert_eq!(rt; text.as_slice(), want.as_bytes());
     Ok(())
 }

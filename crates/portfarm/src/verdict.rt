@@ -62,12 +62,16 @@ fn push_refusal(alloc: Global, text: &mut Vec<u8>, refusal: &Refusal) -> Result<
             instruction,
             trap,
         } => push_unsafe(alloc, text, lane, *instruction, trap.text().as_bytes()),
-        Refusal::Stuck { lanes } => push_stuck(text, lanes),
+        Refusal::Stuck { lanes } => push_stuck(alloc, text, lanes),
         Refusal::Memory => text.extend_from_slice(b"refused 900\n"),
     }
 }
 
-/// The lines of a verdict.
+/// Gives the lines of a verdict.
+///
+/// # Errors
+///
+/// [`AllocError`] where memory is refused.
 pub fn verdict_text(
     alloc: Global,
     verdict: &Result<Accepted, Refusal>,
