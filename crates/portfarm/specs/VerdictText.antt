@@ -26,17 +26,20 @@ lane_lines a (suc n) =
     lane_lines a n ++ lane_line (lane a.plan n).name (lane_cost a.universe a.plan (known_rows a) n)
     (lane a.plan n).budget
 
+-- an acceptance: how many lanes and events there are, and the lanes in file order
 abbrev pub accepted_text : AcceptedPlan → List ℕ
 accepted_text a =
     concat (codes "accepted\n" ∷ counted_line (codes "lanes") (length a.plan)
     ∷ counted_line (codes "count") (count a.universe a.plan) ∷ lane_lines a (length a.plan) ∷ [])
 
+-- the one line of a refusal; the program never prints that of want of memory
 abbrev pub refusal_text : Refusal → List ℕ
 refusal_text (Text fault) = fault_line fault.code (file_name fault.file) fault.line
 refusal_text (Unsafe name number trap) = unsafe_line name.items number (trap_text trap)
 refusal_text (Stuck names) = stuck_line (lists names.items)
 refusal_text Memory = codes "refused 900\n"
 
+-- the lines of either
 abbrev pub verdict_text : Result AcceptedPlan Refusal → List ℕ
 verdict_text (Ok a) = accepted_text a
 verdict_text (Err refusal) = refusal_text refusal
