@@ -3,3 +3,4 @@ pub mod CutText
 pub mod TextLaws
 pub mod PieceLaws
 pub mod LaneLines
+pub mod ReadLaws

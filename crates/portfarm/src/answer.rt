@@ -4,10 +4,9 @@ ghost use Rattle.std.specs.Prelude.{IfOk};
 ghost use Rattle.portfarm.specs.Answer.{IsAnswer};
 
 use crate::input::texts_of;
-use crate::outside::OutsideFault;
 use crate::verdict::verdict_text;
 use plan_verifier::{Refusal, check};
-use std::alloc::Global;
+use std::alloc::{AllocError, Global};
 use std::thread::Threads;
 
 /// What is printed, and whether the plan was accepted.
@@ -21,8 +20,8 @@ pub struct Answer {
 ///
 /// # Errors
 ///
-/// [`OutsideFault::OutOfMemory`] where memory is refused.
-pub fn answer_to(rt: &impl Threads, alloc: Global, input: &[u8]) -> Result<Answer, OutsideFault>
+/// [`AllocError`] where memory is refused.
+pub fn answer_to(rt: &impl Threads, alloc: Global, input: &[u8]) -> Result<Answer, AllocError>
     ensures { IfOk result (IsAnswer input.now) }
 {
     let texts = texts_of(input);
@@ -35,7 +34,7 @@ pub fn answer_to(rt: &impl Threads, alloc: Global, input: &[u8]) -> Result<Answe
         texts.plan,
     );
     if matches!(&verdict, Err(Refusal::Memory)) {
-        return Err(OutsideFault::OutOfMemory);
+        return Err(AllocError);
     }
     let text = verdict_text(alloc, &verdict)?;
     Ok(Answer {

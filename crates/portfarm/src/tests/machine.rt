@@ -17,8 +17,8 @@ pub enum Behind {
 /// Standard input.
 #[derive(Clone, Copy)]
 pub struct Source<'a> {
-    bytes: &'a [u8],
-    behind: Behind,
+    pub bytes: &'a [u8],
+    pub behind: Behind,
 }
 
 impl Read for Source<'_> {
@@ -43,8 +43,8 @@ impl BufRead for Source<'_> {
     }
 }
 
-/// A machine on which the program is called with at most one word, and whose standard output may
-/// fail.
+/// A machine on which the program is called with at most one word behind its name, which is no
+/// text, and whose standard output may fail.
 #[derive(Drop)]
 pub struct Machine<'a, R> {
     pub rt: R,
@@ -97,7 +97,7 @@ impl<R: AllocGlobal> Alloc for Machine<'_, R> {
 impl<R> Env for Machine<'_, R> {
     fn arg(&self, i: usize, buf: &mut [u8]) -> Result<usize, FillError> {
         let word = match (i, self.word) {
-            (0, _) => b"portfarm".as_slice(),
+            (0, _) => b"portfarm\xff".as_slice(),
             (1, Some(word)) => word,
             _ => return Err(FillError::NotPresent),
         };

@@ -1,6 +1,7 @@
 //! What the program writes and with which status it ends, on machines where something fails too.
 
-use super::machine::{Behind, Machine};
+use super::machine::{Behind, Machine, Source};
+use crate::outside::{OutsideFault, read_input};
 use crate::run_or_tell;
 use std::process::Abort;
 use std::thread::Threads;
@@ -37,21 +38,39 @@ fn prints_the_verdict(rt: HostRuntime) {
     }
 }
 
-/// One that is no text is a word too.
+/// One that is empty is a word too, and one that is no text.
 #[test]
 fn takes_no_word(rt: HostRuntime) {
+    let line = "portfarm: takes no words; the texts come by standard input\n";
     for word in [b"check".as_slice(), b"", b"\xff"] {
         let mut machine = Machine::new(rt, TEXTS, Behind::Nothing);
         machine.word = Some(word);
-        assert_eq!(rt; run_or_tell(&machine), 2, "{word:?}");
-        assert!(rt;
-            matches!(machine.output.try_borrow(), Ok(it) if it.is_empty()),
-            "{word:?}"
-        );
-        assert!(rt;
-            matches!(machine.errors.try_borrow(), Ok(it) if it.starts_with(b"portfarm: ")),
-            "{word:?}"
-        );
+        assert_outcome(&machine, "", line, 2);
+    }
+}
+
+#[test]
+fn reads_up_to_its_limit(rt: HostRuntime) {
+    // the limit, the bytes, and whether they are read
+    let too_many = Err(OutsideFault::CannotRead);
+    let rows = [
+        (0, "", Ok(true)),
+        (0, "a", too_many),
+        (3, "ab", Ok(true)),
+        (3, "abc", Ok(true)),
+        (3, "abcd", too_many),
+        (3, "abcdefgh", too_many),
+    ];
+    for (most, bytes, want) in rows {
+        let source = Source {
+            bytes: bytes.as_bytes(),
+            behind: Behind::Nothing,
+        };
+        let found = match read_input(rt.alloc(), source, most) {
+            Ok(input) => Ok(input.as_slice() == bytes.as_bytes()),
+            Err(fault) => Err(fault),
+        };
+        assert_eq!(rt; found, want, "{bytes:?} by {most}");
     }
 }
 
