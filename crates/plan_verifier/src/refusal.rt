@@ -6,6 +6,7 @@ ghost use Rattle.deb_text.specs.Answers.{is_memory};
 use deb_text::Fault;
 use farm_universe::Trap;
 use std::alloc::{AllocError, AllocFailed};
+use std::fmt::{self, Display, Formatter};
 use thiserror::Error;
 
 /// A plan has more lanes than can be judged so far, told of the plan at line 0.
@@ -26,7 +27,7 @@ pub enum Refusal {
     Text(Fault),
     /// The instruction of this number, from 1, of the lane of this name may meet a trap
     /// ([`UNSAFE`]).
-    #[error("instruction {instruction} of a lane may meet {trap}")]
+    #[error("instruction {instruction} of lane {} may meet {trap}", .lane.escape_ascii())]
     Unsafe {
         lane: Vec<u8>,
         instruction: u32,
@@ -34,13 +35,26 @@ pub enum Refusal {
     },
     /// The lanes of these names wait, and no order of the lanes brings them past their last wait
     /// ([`STUCK`]).
-    #[error("some lanes are stuck")]
+    #[error("stuck lanes:{}", Spaced(.lanes))]
     Stuck {
         lanes: Vec<Vec<u8>>,
     },
     /// Memory ran out.
     #[error("out of memory")]
     Memory,
+}
+
+/// Names, each behind a space.
+#[derive(Drop)]
+struct Spaced<'a>(&'a [Vec<u8>]);
+
+impl Display for Spaced<'_> {
+    fn fmt<W: fmt::Write>(&self, f: &mut Formatter<W>) -> fmt::Result {
+        for name in self.0 {
+            write!(f, " {}", name.escape_ascii())?;
+        }
+        Ok(())
+    }
 }
 
 impl From<AllocError> for Refusal {
