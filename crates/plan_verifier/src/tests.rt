@@ -236,3 +236,37 @@ fn judges_one_lane_so_far(rt: HostRuntime) -> Result<(), Fail> {
 fn numbers_its_refusals(rt: HostRuntime) {
     assert_eq!(rt; (MANY_LANES, UNSAFE, STUCK), (310, 401, 402));
 }
+
+#[test]
+fn names_what_is_at_fault(rt: HostRuntime) -> Result<(), Fail> {
+    let alloc = rt.alloc();
+    let mut lanes = Vec::new(alloc);
+    for name in [b"a", b"b"] {
+        lanes.push(Vec::from_slice(alloc, name)?)?;
+    }
+    let rows = [
+        (
+            Refusal::Text(Fault {
+                file: 4,
+                line: 2,
+                code: 303,
+            }),
+            "code 303 at line 2 of file 4",
+        ),
+        (
+            Refusal::Unsafe {
+                lane: Vec::from_slice(alloc, b"a")?,
+                instruction: 3,
+                trap: Trap::Depends,
+            },
+            "instruction 3 of lane a may meet X7 Depends",
+        ),
+        (Refusal::Stuck { lanes }, "stuck lanes: a b"),
+        (Refusal::Memory, "out of memory"),
+    ];
+    for (refusal, want) in rows {
+        let text = refusal.to_string(alloc)?;
+        assert_eq!(rt; text.as_str(), want);
+    }
+    Ok(())
+}
