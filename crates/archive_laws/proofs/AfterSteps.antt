@@ -4,15 +4,15 @@ use Rattle.std.specs.Prelude.{nat_lt, slice_index_or}
 use Rattle.std.proofs.lemmas.Bool.{cases_eq, cases_lt, lt-ltb, or_left, or_right}
 use Rattle.std.proofs.lemmas.List.{set_past}
 use Rattle.std.proofs.lemmas.Option.{none-some, same_Some}
-use Rattle.farm_universe.specs.declared.types.Variant.{Variant}
-use Rattle.farm_universe.specs.Universe.{Universe}
-use Rattle.farm_universe.specs.Packages.{has_bit}
-use Rattle.plan_asm.specs.declared.instructions.Instruction.{Instruction}
-use Rattle.plan_asm.specs.declared.instructions.Instruction.TheVariants.{Unpack, Configure, Deconfigure, Remove, Build, Publish, Wait}
-use Rattle.plan_asm.specs.Plan.{Lane, Plan, lane}
-use Rattle.plan_asm.specs.Turn.{LaneState, start_lane, Turn, Goes, Gives, Waits, Ends, Fails, turn_of}
-use Rattle.plan_asm.specs.Run.{no_state}
-use Rattle.plan_asm.specs.World.{World, world_lane, goes_on, nothing, settled, ready, with_bit, world_after, archive_step, is_some_archive_step, is_place_after_step, is_after_step, IsAfterSteps}
+use Rattle.farm_model.specs.declared.types.Variant.{Variant}
+use Rattle.farm_model.specs.Universe.{Universe}
+use Rattle.farm_model.specs.Packages.{has_bit}
+use Rattle.plan_model.specs.declared.instructions.Instruction.{Instruction}
+use Rattle.plan_model.specs.declared.instructions.Instruction.TheVariants.{Unpack, Configure, Deconfigure, Remove, Build, Publish, Wait}
+use Rattle.plan_model.specs.Plan.{Lane, Plan, lane}
+use Rattle.plan_model.specs.Turn.{LaneState, start_lane, Turn, Goes, Gives, Waits, Ends, Fails, turn_of}
+use Rattle.plan_model.specs.Run.{no_state}
+use Rattle.plan_model.specs.World.{World, world_lane, goes_on, nothing, settled, ready, with_bit, world_after, archive_step, is_some_archive_step, is_place_after_step, is_after_step, IsAfterSteps}
 use Rattle.farm_laws.proofs.Places.{GoesOn, GivesOne, PlaceMove, turn_place}
 use Rattle.archive_laws.specs.Shown.{LanesStandAfterSteps}
 use Rattle.archive_laws.proofs.Settles.{next_of}

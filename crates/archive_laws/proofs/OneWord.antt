@@ -3,13 +3,13 @@ use Rattle.std.proofs.Common.{◌≡◌, ℕ, Bool, true, ◌&&◌, List, Option
 use Rattle.std.proofs.lemmas.Bool.{and_from, cond-true}
 use Rattle.deb_relation.specs.declared.operator.Op.{Op}
 use Rattle.deb_relation.specs.Relations.{Entry}
-use Rattle.farm_universe.specs.declared.types.Variant.{Variant}
-use Rattle.farm_universe.specs.Below.{some_below, highest_below}
-use Rattle.farm_universe.specs.Universe.{Universe}
-use Rattle.farm_universe.specs.Packages.{variant, names, variants, is_wanted, satisfies_entry}
-use Rattle.farm_universe.specs.Sound.{IsKnown}
-use Rattle.farm_universe.proofs.BelowLaws.{some_below-at}
-use Rattle.plan_asm.specs.Turn.{newest, passes, Goes, Waits, past, unpacks}
+use Rattle.farm_model.specs.declared.types.Variant.{Variant}
+use Rattle.farm_model.specs.Below.{some_below, highest_below}
+use Rattle.farm_model.specs.Universe.{Universe}
+use Rattle.farm_model.specs.Packages.{variant, names, variants, is_wanted, satisfies_entry}
+use Rattle.farm_model.specs.Sound.{IsKnown}
+use Rattle.farm_model.proofs.BelowLaws.{some_below-at}
+use Rattle.plan_model.specs.Turn.{newest, passes, Goes, Waits, past, unpacks}
 use Rattle.farm_laws.proofs.Safe.{variants_name}
 use Rattle.archive_laws.specs.Loads.{EachWordDecides}
 

@@ -7,18 +7,18 @@ use Rattle.std.proofs.lemmas.Bool.{or_cases, or_left, or_right, false≢true}
 use Rattle.std.proofs.lemmas.Grind.{flat_map-append}
 use Rattle.std.proofs.lemmas.List.{take-append-le}
 use Rattle.std.proofs.lemmas.List.Folds.{list_any-append}
-use Rattle.farm_universe.specs.declared.types.Variant.{Variant}
-use Rattle.farm_universe.specs.Below.{some_below}
-use Rattle.farm_universe.specs.Universe.{Universe}
-use Rattle.farm_universe.specs.Packages.{same, contains, initial, outputs}
-use Rattle.farm_universe.proofs.BelowLaws.{some_below-at, some_below-found}
-use Rattle.plan_asm.specs.declared.instructions.Instruction.{Instruction}
-use Rattle.plan_asm.specs.declared.instructions.Instruction.TheVariants.{Unpack, Configure, Deconfigure, Remove, Build, Publish, Wait}
-use Rattle.plan_asm.specs.Plan.{Lane, Plan, lane, outputs_of, events_of, lane_outputs}
-use Rattle.plan_asm.specs.Turn.{LaneState}
-use Rattle.plan_asm.specs.Run.{archive, State, start, lane_state, no_state}
-use Rattle.plan_asm.specs.Known.{gives, publishing, Rows, KeepsRows}
-use Rattle.plan_asm.specs.World.{world_lane}
+use Rattle.farm_model.specs.declared.types.Variant.{Variant}
+use Rattle.farm_model.specs.Below.{some_below}
+use Rattle.farm_model.specs.Universe.{Universe}
+use Rattle.farm_model.specs.Packages.{same, contains, initial, outputs}
+use Rattle.farm_model.proofs.BelowLaws.{some_below-at, some_below-found}
+use Rattle.plan_model.specs.declared.instructions.Instruction.{Instruction}
+use Rattle.plan_model.specs.declared.instructions.Instruction.TheVariants.{Unpack, Configure, Deconfigure, Remove, Build, Publish, Wait}
+use Rattle.plan_model.specs.Plan.{Lane, Plan, lane, outputs_of, events_of, lane_outputs}
+use Rattle.plan_model.specs.Turn.{LaneState}
+use Rattle.plan_model.specs.Run.{archive, State, start, lane_state, no_state}
+use Rattle.plan_model.specs.Known.{gives, publishing, Rows, KeepsRows}
+use Rattle.plan_model.specs.World.{world_lane}
 use Rattle.farm_laws.proofs.Steps.{run_keeps}
 use Rattle.farm_laws.proofs.EventsLeft.{drop_some, StandsAt, InPlace}
 use Rattle.farm_laws.proofs.Archive.{made_before, made_by}

@@ -2,16 +2,16 @@
 use Rattle.std.proofs.Common.{◌≡◌, ◌≢◌, ℕ, zero, suc, ◌<◌, Bool, true, List, [], ◌∷◌, length, drop, Some, slice_get, slice_set, refl, sym, ap, ◌∙◌, subst, arith, get_or-set_same, get_or-set_other}
 use Rattle.std.proofs.lemmas.List.{set-set, set-get_or}
 use Rattle.std.proofs.lemmas.Option.{none-some, same_Some}
-use Rattle.farm_universe.specs.declared.types.Variant.{Variant}
-use Rattle.farm_universe.specs.Universe.{Universe}
-use Rattle.farm_universe.specs.Packages.{has_bit}
-use Rattle.plan_asm.specs.declared.instructions.Instruction.{Instruction}
-use Rattle.plan_asm.specs.declared.instructions.Instruction.TheVariants.{Unpack, Configure, Deconfigure, Remove, Build, Publish, Wait}
-use Rattle.plan_asm.specs.Plan.{Plan, lane, instruction_at}
-use Rattle.plan_asm.specs.Turn.{LaneState, Turn, Goes, Gives, Waits, Ends, Fails, turn_of}
-use Rattle.plan_asm.specs.Run.{no_state}
-use Rattle.plan_asm.specs.Sound.{IsSound}
-use Rattle.plan_asm.specs.World.{World, world_lane, goes_on, nothing, settled, with_bit, world_after, archive_step}
+use Rattle.farm_model.specs.declared.types.Variant.{Variant}
+use Rattle.farm_model.specs.Universe.{Universe}
+use Rattle.farm_model.specs.Packages.{has_bit}
+use Rattle.plan_model.specs.declared.instructions.Instruction.{Instruction}
+use Rattle.plan_model.specs.declared.instructions.Instruction.TheVariants.{Unpack, Configure, Deconfigure, Remove, Build, Publish, Wait}
+use Rattle.plan_model.specs.Plan.{Plan, lane, instruction_at}
+use Rattle.plan_model.specs.Turn.{LaneState, Turn, Goes, Gives, Waits, Ends, Fails, turn_of}
+use Rattle.plan_model.specs.Run.{no_state}
+use Rattle.plan_model.specs.Sound.{IsSound}
+use Rattle.plan_model.specs.World.{World, world_lane, goes_on, nothing, settled, with_bit, world_after, archive_step}
 use Rattle.farm_laws.proofs.Places.{GoesOn}
 use Rattle.archive_laws.specs.Shown.{IsReached, with_lane, ready_lane, EachLaneSteps}
 use Rattle.archive_laws.proofs.Words.{with_bit-keeps}

@@ -3,13 +3,13 @@
 use Rattle.std.specs.Prelude.{◌≡◌, ℕ, Bool, true, List, Option, Some}
 use Rattle.deb_relation.specs.declared.operator.Op.{Op}
 use Rattle.deb_relation.specs.Relations.{Entry}
-use Rattle.farm_universe.specs.declared.types.Variant.{Variant}
-use Rattle.farm_universe.specs.Universe.{Universe}
-use Rattle.farm_universe.specs.Packages.{variant, satisfies_entry}
-use Rattle.farm_universe.specs.Sound.{IsKnown}
-use Rattle.plan_asm.specs.declared.instructions.Instruction.TheVariants.{Unpack, Wait}
-use Rattle.plan_asm.specs.Plan.{Lane}
-use Rattle.plan_asm.specs.Turn.{LaneState, Goes, past, turn_of}
+use Rattle.farm_model.specs.declared.types.Variant.{Variant}
+use Rattle.farm_model.specs.Universe.{Universe}
+use Rattle.farm_model.specs.Packages.{variant, satisfies_entry}
+use Rattle.farm_model.specs.Sound.{IsKnown}
+use Rattle.plan_model.specs.declared.instructions.Instruction.TheVariants.{Unpack, Wait}
+use Rattle.plan_model.specs.Plan.{Lane}
+use Rattle.plan_model.specs.Turn.{LaneState, Goes, past, turn_of}
 
 -- An instruction that looks at the archive, `there`:
 pub record OneWordDecides (u : Universe) (of : Lane) (st : LaneState)

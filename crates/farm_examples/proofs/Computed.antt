@@ -1,18 +1,18 @@
 -- The words that a row opens to compute.
 use Rattle.deb_version.specs.Order.{runs_of, part_cmp, version_cmp}
 use Rattle.deb_version.specs.Grammar.{version_at}
-use Rattle.farm_universe.specs.Packages.{same, names, variants, package_of, size, pre_depends, depends, recipe, base, facts, satisfies, is_wanted, conflict, breaks, has_bit, initial}
-use Rattle.farm_universe.specs.Chroot.{used, met, met_with, pre_met, unsettled, base_chroot}
-use Rattle.farm_universe.specs.Traps.{first_trap, still_needed}
-use Rattle.plan_asm.specs.Plan.{capacity, count}
-use Rattle.plan_asm.specs.Turn.{newest}
-use Rattle.plan_asm.specs.Run.{archive, step, is_finished}
-use Rattle.plan_asm.specs.Known.{possible}
-use Rattle.plan_asm.specs.May.{surely_met, surely_met_with, surely_pre_met, may_use}
-use Rattle.plan_asm.specs.MayAt.{lane_cost}
-use Rattle.plan_asm.specs.Risk.{candidates, surely_met_outside, may_meet, may_be_needed, may_be_unsettled}
-use Rattle.plan_asm.specs.Safety.{risk_at}
-use Rattle.plan_asm.specs.Order.{items}
+use Rattle.farm_model.specs.Packages.{same, names, variants, package_of, size, pre_depends, depends, recipe, base, facts, satisfies, is_wanted, conflict, breaks, has_bit, initial}
+use Rattle.farm_model.specs.Chroot.{used, met, met_with, pre_met, unsettled, base_chroot}
+use Rattle.farm_model.specs.Traps.{first_trap, still_needed}
+use Rattle.plan_model.specs.Plan.{capacity, count}
+use Rattle.plan_model.specs.Turn.{newest}
+use Rattle.plan_model.specs.Run.{archive, step, is_finished}
+use Rattle.plan_model.specs.Known.{possible}
+use Rattle.plan_model.specs.May.{surely_met, surely_met_with, surely_pre_met, may_use}
+use Rattle.plan_model.specs.MayAt.{lane_cost}
+use Rattle.plan_model.specs.Risk.{candidates, surely_met_outside, may_meet, may_be_needed, may_be_unsettled}
+use Rattle.plan_model.specs.Safety.{risk_at}
+use Rattle.plan_model.specs.Order.{items}
 use Rattle.verdict_laws.specs.Greatest.{is_fact, is_settled}
 
 -- whoever unfolds this word unfolds all of these

@@ -5,10 +5,10 @@
 use Rattle.std.specs.Prelude.{ℕ, List, [], ◌∷◌, Some, None, codes}
 use Rattle.deb_relation.specs.declared.operator.Op.TheVariants.{Equal, LaterOrEqual}
 use Rattle.deb_relation.specs.Relations.{Entry}
-use Rattle.farm_universe.specs.Universe.{Universe}
-use Rattle.plan_asm.specs.declared.instructions.Instruction.{Instruction}
-use Rattle.plan_asm.specs.declared.instructions.Instruction.TheVariants.{Unpack, Configure, Remove}
-use Rattle.plan_asm.specs.Plan.{Plan}
+use Rattle.farm_model.specs.Universe.{Universe}
+use Rattle.plan_model.specs.declared.instructions.Instruction.{Instruction}
+use Rattle.plan_model.specs.declared.instructions.Instruction.TheVariants.{Unpack, Configure, Remove}
+use Rattle.plan_model.specs.Plan.{Plan}
 use Rattle.farm_examples.specs.Notation.{any, in_version, entry, binary, plain, frame, lone}
 
 abbrev pub aa : ℕ

@@ -6,10 +6,10 @@
 --   withdrawn                       an instruction in a chroot with libc6, and libgmp that depends
 --                                   on it
 use Rattle.std.specs.Prelude.{ℕ, List, [], ◌∷◌, None, codes}
-use Rattle.farm_universe.specs.Universe.{Package, Universe}
-use Rattle.plan_asm.specs.declared.instructions.Instruction.{Instruction}
-use Rattle.plan_asm.specs.declared.instructions.Instruction.TheVariants.{Unpack, Configure, Deconfigure}
-use Rattle.plan_asm.specs.Plan.{Plan}
+use Rattle.farm_model.specs.Universe.{Package, Universe}
+use Rattle.plan_model.specs.declared.instructions.Instruction.{Instruction}
+use Rattle.plan_model.specs.declared.instructions.Instruction.TheVariants.{Unpack, Configure, Deconfigure}
+use Rattle.plan_model.specs.Plan.{Plan}
 use Rattle.farm_examples.specs.Notation.{any, entry, plain, frame, lane_in, lone}
 
 -- the two names of each farm

@@ -7,13 +7,13 @@
 use Rattle.std.specs.Prelude.{ℕ, List, [], ◌∷◌, None, codes}
 use Rattle.deb_relation.specs.declared.operator.Op.TheVariants.{Equal, LaterOrEqual}
 use Rattle.deb_relation.specs.Relations.{Entry}
-use Rattle.farm_universe.specs.declared.types.Variant.{Variant}
-use Rattle.farm_universe.specs.Universe.{Recipe, Base, Universe}
-use Rattle.farm_universe.specs.Packages.{variant}
-use Rattle.plan_asm.specs.declared.instructions.Instruction.{Instruction}
-use Rattle.plan_asm.specs.declared.instructions.Instruction.TheVariants.{Unpack, Configure, Remove, Build, Publish, Wait}
-use Rattle.plan_asm.specs.Plan.{Plan}
-use Rattle.plan_asm.specs.Known.{Rows}
+use Rattle.farm_model.specs.declared.types.Variant.{Variant}
+use Rattle.farm_model.specs.Universe.{Recipe, Base, Universe}
+use Rattle.farm_model.specs.Packages.{variant}
+use Rattle.plan_model.specs.declared.instructions.Instruction.{Instruction}
+use Rattle.plan_model.specs.declared.instructions.Instruction.TheVariants.{Unpack, Configure, Remove, Build, Publish, Wait}
+use Rattle.plan_model.specs.Plan.{Plan}
+use Rattle.plan_model.specs.Known.{Rows}
 use Rattle.farm_examples.specs.Notation.{any, in_version, entry, binary, plain, lane_in, rows_of}
 
 abbrev pub lib : ℕ

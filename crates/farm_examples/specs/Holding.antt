@@ -9,10 +9,10 @@ use Rattle.std.specs.Prelude.{ℕ, List, [], ◌∷◌, Option, Some, None, code
 use Rattle.deb_relation.specs.declared.operator.Op.{Op}
 use Rattle.deb_relation.specs.declared.operator.Op.TheVariants.{Equal}
 use Rattle.deb_relation.specs.Relations.{Entry}
-use Rattle.farm_universe.specs.Universe.{Universe}
-use Rattle.plan_asm.specs.declared.instructions.Instruction.TheVariants.{Unpack, Configure, Remove}
-use Rattle.plan_asm.specs.Plan.{Plan}
-use Rattle.plan_asm.specs.Known.{Rows}
+use Rattle.farm_model.specs.Universe.{Universe}
+use Rattle.plan_model.specs.declared.instructions.Instruction.TheVariants.{Unpack, Configure, Remove}
+use Rattle.plan_model.specs.Plan.{Plan}
+use Rattle.plan_model.specs.Known.{Rows}
 use Rattle.farm_examples.specs.Notation.{in_version, entry, binary, plain, rows_of}
 use Rattle.farm_examples.specs.Growing.{lib, new_lib, recipe_of, empty_base, beside}
 

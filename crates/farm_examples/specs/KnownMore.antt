@@ -4,12 +4,12 @@
 --   one_more               rows with one more variant at one place
 --   none_more              no such rows have only what the inclusions allow
 use Rattle.std.specs.Prelude.{ℕ, suc, Bool, not, ◌&&◌, ◌||◌, ◌==◌, length}
-use Rattle.farm_universe.specs.declared.types.Variant.{Variant}
-use Rattle.farm_universe.specs.Below.{every_below}
-use Rattle.farm_universe.specs.Universe.{Universe}
-use Rattle.farm_universe.specs.Packages.{same}
-use Rattle.plan_asm.specs.Plan.{Plan, lane}
-use Rattle.plan_asm.specs.Known.{Rows}
+use Rattle.farm_model.specs.declared.types.Variant.{Variant}
+use Rattle.farm_model.specs.Below.{every_below}
+use Rattle.farm_model.specs.Universe.{Universe}
+use Rattle.farm_model.specs.Packages.{same}
+use Rattle.plan_model.specs.Plan.{Plan, lane}
+use Rattle.plan_model.specs.Known.{Rows}
 use Rattle.verdict_laws.specs.Greatest.{every_variant, is_settled}
 
 abbrev pub one_more : Rows → ℕ → ℕ → Variant → Rows

@@ -8,12 +8,12 @@
 use Rattle.std.specs.Prelude.{ℕ, ◌-◌, ◌^◌, ◌||◌, List, [], ◌∷◌, length, map, Some, None, slice_index_or, codes}
 use Rattle.deb_relation.specs.declared.operator.Op.{Op}
 use Rattle.deb_relation.specs.Relations.{Atom, Entry}
-use Rattle.farm_universe.specs.declared.types.Variant.{Variant}
-use Rattle.farm_universe.specs.Universe.{Package, Universe}
-use Rattle.farm_universe.specs.Packages.{contains, initial}
-use Rattle.plan_asm.specs.declared.instructions.Instruction.{Instruction}
-use Rattle.plan_asm.specs.Plan.{Lane, Plan}
-use Rattle.plan_asm.specs.Known.{Rows}
+use Rattle.farm_model.specs.declared.types.Variant.{Variant}
+use Rattle.farm_model.specs.Universe.{Package, Universe}
+use Rattle.farm_model.specs.Packages.{contains, initial}
+use Rattle.plan_model.specs.declared.instructions.Instruction.{Instruction}
+use Rattle.plan_model.specs.Plan.{Lane, Plan}
+use Rattle.plan_model.specs.Known.{Rows}
 
 -- an alternative that takes any version of the name, and one that takes those in the relation
 abbrev pub any : List ℕ → Atom

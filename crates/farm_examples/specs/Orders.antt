@@ -6,9 +6,9 @@
 --   left_after             the lanes that have something left behind such a list
 use Rattle.std.specs.Prelude.{ℕ, Bool, true, false, List, [], ◌∷◌, length, Option, Some, None}
 use Rattle.std.specs.List.{filter, range_with_len}
-use Rattle.farm_universe.specs.Universe.{Universe}
-use Rattle.plan_asm.specs.Plan.{Plan}
-use Rattle.plan_asm.specs.Order.{Board, start_board, rest_of, board_after}
+use Rattle.farm_model.specs.Universe.{Universe}
+use Rattle.plan_model.specs.Plan.{Plan}
+use Rattle.plan_model.specs.Order.{Board, start_board, rest_of, board_after}
 use Rattle.verdict_laws.specs.Stuck.{lanes_left}
 
 -- goes on with the board, if there is one

@@ -6,12 +6,12 @@ use Rattle.std.specs.Prelude.{ℕ, List, [], ◌∷◌, Option, None, codes}
 use Rattle.deb_relation.specs.declared.operator.Op.{Op}
 use Rattle.deb_relation.specs.declared.operator.Op.TheVariants.{Equal, LaterOrEqual}
 use Rattle.deb_relation.specs.Relations.{Atom}
-use Rattle.farm_universe.specs.declared.types.Slot.{Slot}
-use Rattle.farm_universe.specs.Universe.{Universe}
-use Rattle.farm_universe.specs.Chroot.{slot}
-use Rattle.plan_asm.specs.declared.instructions.Instruction.TheVariants.{Unpack, Configure}
-use Rattle.plan_asm.specs.Plan.{Plan}
-use Rattle.plan_asm.specs.Run.{lane_state}
+use Rattle.farm_model.specs.declared.types.Slot.{Slot}
+use Rattle.farm_model.specs.Universe.{Universe}
+use Rattle.farm_model.specs.Chroot.{slot}
+use Rattle.plan_model.specs.declared.instructions.Instruction.TheVariants.{Unpack, Configure}
+use Rattle.plan_model.specs.Plan.{Plan}
+use Rattle.plan_model.specs.Run.{lane_state}
 use Rattle.farm_examples.specs.Notation.{any, in_version, entry, binary, plain, frame, lone}
 use Rattle.farm_examples.specs.Verdict.{run_alone}
 

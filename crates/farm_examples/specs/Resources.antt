@@ -8,12 +8,12 @@
 --                              capacity
 use Rattle.std.specs.Prelude.{ℕ, [], ◌∷◌, Some, None, codes}
 use Rattle.deb_relation.specs.declared.operator.Op.TheVariants.{Equal}
-use Rattle.farm_universe.specs.Universe.{Universe}
-use Rattle.farm_universe.specs.Packages.{variant}
-use Rattle.farm_universe.specs.Chroot.{used}
-use Rattle.plan_asm.specs.declared.instructions.Instruction.TheVariants.{Unpack, Configure, Build}
-use Rattle.plan_asm.specs.Plan.{Plan}
-use Rattle.plan_asm.specs.Run.{lane_state}
+use Rattle.farm_model.specs.Universe.{Universe}
+use Rattle.farm_model.specs.Packages.{variant}
+use Rattle.farm_model.specs.Chroot.{used}
+use Rattle.plan_model.specs.declared.instructions.Instruction.TheVariants.{Unpack, Configure, Build}
+use Rattle.plan_model.specs.Plan.{Plan}
+use Rattle.plan_model.specs.Run.{lane_state}
 use Rattle.farm_examples.specs.Notation.{binary, frame, lane_in, lone}
 use Rattle.farm_examples.specs.Toolchain.{libc6, gcc, libgmp, toolchain}
 use Rattle.farm_examples.specs.Verdict.{run_alone}

@@ -6,9 +6,9 @@
 use Rattle.std.specs.Prelude.{ℕ, List, [], ◌∷◌, codes}
 use Rattle.deb_relation.specs.declared.operator.Op.TheVariants.{LaterOrEqual}
 use Rattle.deb_relation.specs.Relations.{Entry}
-use Rattle.farm_universe.specs.declared.types.Variant.{Variant}
-use Rattle.farm_universe.specs.Universe.{Recipe, Base, Universe}
-use Rattle.farm_universe.specs.Packages.{variant}
+use Rattle.farm_model.specs.declared.types.Variant.{Variant}
+use Rattle.farm_model.specs.Universe.{Recipe, Base, Universe}
+use Rattle.farm_model.specs.Packages.{variant}
 use Rattle.farm_examples.specs.Notation.{any, in_version, entry, binary}
 
 -- names, by number

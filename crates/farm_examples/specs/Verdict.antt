@@ -4,14 +4,14 @@
 --   trap_at                    the trap that a schedule stops at
 --   Passes, Traps              a plan of one lane is safe and runs to its end; is not, and traps
 use Rattle.std.specs.Prelude.{◌≡◌, ℕ, suc, List, [], ◌∷◌, length, replicate, Option, Some, None}
-use Rattle.farm_universe.specs.declared.types.Trap.{Trap}
-use Rattle.farm_universe.specs.Universe.{Universe}
-use Rattle.plan_asm.specs.declared.instructions.Instruction.{Instruction}
-use Rattle.plan_asm.specs.Plan.{Plan, lane}
-use Rattle.plan_asm.specs.Run.{Stop, Ending, lane_state, result_of}
-use Rattle.plan_asm.specs.Known.{Rows}
-use Rattle.plan_asm.specs.MayAt.{lane_cost}
-use Rattle.plan_asm.specs.Safety.{risk_at}
+use Rattle.farm_model.specs.declared.types.Trap.{Trap}
+use Rattle.farm_model.specs.Universe.{Universe}
+use Rattle.plan_model.specs.declared.instructions.Instruction.{Instruction}
+use Rattle.plan_model.specs.Plan.{Plan, lane}
+use Rattle.plan_model.specs.Run.{Stop, Ending, lane_state, result_of}
+use Rattle.plan_model.specs.Known.{Rows}
+use Rattle.plan_model.specs.MayAt.{lane_cost}
+use Rattle.plan_model.specs.Safety.{risk_at}
 use Rattle.farm_examples.specs.Notation.{initial_rows}
 
 -- each instruction is safe, and the lane spends at most so much; or the first unsafe one, by its

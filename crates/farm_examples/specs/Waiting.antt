@@ -10,13 +10,13 @@
 use Rattle.std.specs.Prelude.{ℕ, true, false, List, [], ◌∷◌, ◌++◌, Option, Some, None, codes}
 use Rattle.deb_relation.specs.declared.operator.Op.{Op}
 use Rattle.deb_relation.specs.declared.operator.Op.TheVariants.{Equal, LaterOrEqual}
-use Rattle.farm_universe.specs.declared.types.Variant.{Variant}
-use Rattle.farm_universe.specs.declared.types.Slot.TheVariants.{Absent, Configured}
-use Rattle.plan_asm.specs.declared.instructions.Instruction.{Instruction}
-use Rattle.plan_asm.specs.declared.instructions.Instruction.TheVariants.{Unpack, Configure, Build, Publish, Wait}
-use Rattle.plan_asm.specs.Plan.{Lane, Plan}
-use Rattle.plan_asm.specs.Run.{State, Ending, publication}
-use Rattle.plan_asm.specs.Known.{Rows}
+use Rattle.farm_model.specs.declared.types.Variant.{Variant}
+use Rattle.farm_model.specs.declared.types.Slot.TheVariants.{Absent, Configured}
+use Rattle.plan_model.specs.declared.instructions.Instruction.{Instruction}
+use Rattle.plan_model.specs.declared.instructions.Instruction.TheVariants.{Unpack, Configure, Build, Publish, Wait}
+use Rattle.plan_model.specs.Plan.{Lane, Plan}
+use Rattle.plan_model.specs.Run.{State, Ending, publication}
+use Rattle.plan_model.specs.Known.{Rows}
 use Rattle.farm_examples.specs.Notation.{in_version, entry, lane_in, rows_of}
 use Rattle.farm_examples.specs.Toolchain.{gcc, libgmp, stage1, gcc_stage1, gcc_full, gmp, needs_gcc, needs_libgmp, toolchain, newer}
 

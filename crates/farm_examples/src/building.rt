@@ -1,6 +1,6 @@
 //! Builds and what they need of a chroot.
 
-ghost use Rattle.farm_universe.specs.declared.types.Trap.TheVariants.{WrongState, Unsettled, BuildDepends, BuildConflict, NotBuilt};
+ghost use Rattle.farm_model.specs.declared.types.Trap.TheVariants.{WrongState, Unsettled, BuildDepends, BuildConflict, NotBuilt};
 ghost use Rattle.farm_examples.specs.Verdict.{Passes, Traps};
 ghost use Rattle.farm_examples.specs.Toolchain.{toolchain};
 ghost use Rattle.farm_examples.specs.Building.{clashing, build_in_empty, build_beside_configured, build_beside_unpacked, configure_absent, build_gmp, publish_gmp};

@@ -1,8 +1,8 @@
 //! Packages that need each other.
 
 ghost use Rattle.std.specs.Prelude.{◌∷◌, [], ◌++◌, codes};
-ghost use Rattle.farm_universe.specs.declared.types.Trap.TheVariants.{Depends, PreDepends};
-ghost use Rattle.plan_asm.specs.declared.instructions.Instruction.TheVariants.{Configure};
+ghost use Rattle.farm_model.specs.declared.types.Trap.TheVariants.{Depends, PreDepends};
+ghost use Rattle.plan_model.specs.declared.instructions.Instruction.TheVariants.{Configure};
 ghost use Rattle.farm_examples.specs.Notation.{lone};
 ghost use Rattle.farm_examples.specs.Verdict.{Passes, Traps};
 ghost use Rattle.farm_examples.specs.Configuring.{cycle, pre_cycle, together, bb_first, one_by_one, lib, app, library, upgraded, before_configured, after_configured, after_removed};

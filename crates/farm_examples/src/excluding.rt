@@ -1,8 +1,8 @@
 //! Packages that exclude each other, and packages that are still needed.
 
 ghost use Rattle.std.specs.Prelude.{◌∷◌, [], ◌++◌};
-ghost use Rattle.farm_universe.specs.declared.types.Trap.TheVariants.{Conflict, BreaksOther, Broken, StillNeeded};
-ghost use Rattle.plan_asm.specs.declared.instructions.Instruction.TheVariants.{Configure, Deconfigure, Remove};
+ghost use Rattle.farm_model.specs.declared.types.Trap.TheVariants.{Conflict, BreaksOther, Broken, StillNeeded};
+ghost use Rattle.plan_model.specs.declared.instructions.Instruction.TheVariants.{Configure, Deconfigure, Remove};
 ghost use Rattle.farm_examples.specs.Notation.{lone};
 ghost use Rattle.farm_examples.specs.Verdict.{Passes, Traps};
 ghost use Rattle.farm_examples.specs.Toolchain.{libc6, libgmp, newer};

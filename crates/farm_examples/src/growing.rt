@@ -1,9 +1,9 @@
 //! Plans that would trap if what a lane may hold were taken for less than it is.
 
 ghost use Rattle.std.specs.Prelude.{◌≡◌, ◌∷◌, [], true, Some, None};
-ghost use Rattle.farm_universe.specs.declared.types.Trap.TheVariants.{Missing, BreaksOther, Full, Depends, Broken, StillNeeded, OverBudget};
-ghost use Rattle.farm_universe.specs.Packages.{variant};
-ghost use Rattle.plan_asm.specs.Run.{result_of};
+ghost use Rattle.farm_model.specs.declared.types.Trap.TheVariants.{Missing, BreaksOther, Full, Depends, Broken, StillNeeded, OverBudget};
+ghost use Rattle.farm_model.specs.Packages.{variant};
+ghost use Rattle.plan_model.specs.Run.{result_of};
 ghost use Rattle.verdict_laws.specs.Greatest.{is_settled};
 ghost use Rattle.farm_examples.specs.KnownMore.{none_more};
 ghost use Rattle.farm_examples.specs.Orders.{left_after};

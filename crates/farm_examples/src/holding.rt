@@ -1,8 +1,8 @@
 //! Plans that would trap if what a present name may hold were taken for less than it is.
 
 ghost use Rattle.std.specs.Prelude.{◌≡◌, ◌∷◌, [], true, None};
-ghost use Rattle.farm_universe.specs.declared.types.Trap.TheVariants.{Conflict, BreaksOther, StillNeeded};
-ghost use Rattle.plan_asm.specs.Run.{result_of};
+ghost use Rattle.farm_model.specs.declared.types.Trap.TheVariants.{Conflict, BreaksOther, StillNeeded};
+ghost use Rattle.plan_model.specs.Run.{result_of};
 ghost use Rattle.verdict_laws.specs.Greatest.{is_settled};
 ghost use Rattle.farm_examples.specs.KnownMore.{none_more};
 ghost use Rattle.farm_examples.specs.Verdict.{Refused, verdict_of, trap_at};

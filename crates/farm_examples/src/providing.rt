@@ -2,8 +2,8 @@
 
 ghost use Rattle.std.specs.Prelude.{◌≡◌, Some, None, codes};
 ghost use Rattle.deb_relation.specs.declared.operator.Op.TheVariants.{Earlier, EarlierOrEqual, Equal, LaterOrEqual};
-ghost use Rattle.farm_universe.specs.declared.types.Trap.TheVariants.{Depends};
-ghost use Rattle.farm_universe.specs.declared.types.Slot.TheVariants.{Absent, Unpacked};
+ghost use Rattle.farm_model.specs.declared.types.Trap.TheVariants.{Depends};
+ghost use Rattle.farm_model.specs.declared.types.Slot.TheVariants.{Absent, Unpacked};
 ghost use Rattle.farm_examples.specs.Verdict.{Passes, Traps};
 ghost use Rattle.farm_examples.specs.Providing.{bare, versioned, provider, one_then_the_other, taken};
 

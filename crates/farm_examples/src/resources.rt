@@ -1,7 +1,7 @@
 //! Disk space and budgets.
 
 ghost use Rattle.std.specs.Prelude.{◌≡◌};
-ghost use Rattle.farm_universe.specs.declared.types.Trap.TheVariants.{Full, OverBudget};
+ghost use Rattle.farm_model.specs.declared.types.Trap.TheVariants.{Full, OverBudget};
 ghost use Rattle.farm_examples.specs.Verdict.{Passes, Traps};
 ghost use Rattle.farm_examples.specs.Resources.{small_farm, unpack_and_configure, upgrading, upgrade, used_after, scratching, build_stage1};
 

@@ -3,16 +3,16 @@ use Rattle.std.proofs.Common.{◌≡◌, ℕ, ◌<◌, Bool, true, false, ◌==�
 use Rattle.std.proofs.lemmas.Bool.{cases_eq, cases_lt, eq-eqb, ne_eqb}
 use Rattle.std.proofs.lemmas.List.{get_or_past}
 use Rattle.std.proofs.lemmas.List.FromFn.{get_or-map-range_with_len, length-map-range_with_len}
-use Rattle.farm_universe.specs.Universe.{Universe}
-use Rattle.farm_universe.specs.Packages.{variant, names, variants}
-use Rattle.farm_universe.specs.Chroot.{Chroot, slot}
-use Rattle.farm_universe.specs.declared.types.Slot.{Slot}
-use Rattle.farm_universe.specs.declared.types.Slot.TheVariants.{Absent, Unpacked}
-use Rattle.farm_universe.specs.Chroot.{last_of, member}
-use Rattle.farm_universe.specs.Traps.{unpacked, changed}
-use Rattle.plan_asm.specs.May.{Bits, MaySlot, MayUnpacked, May}
-use Rattle.plan_asm.specs.Allowed.{Allows, allows_unpacked, AllowsAll}
-use Rattle.plan_asm.specs.MayAt.{may_be_last}
+use Rattle.farm_model.specs.Universe.{Universe}
+use Rattle.farm_model.specs.Packages.{variant, names, variants}
+use Rattle.farm_model.specs.Chroot.{Chroot, slot}
+use Rattle.farm_model.specs.declared.types.Slot.{Slot}
+use Rattle.farm_model.specs.declared.types.Slot.TheVariants.{Absent, Unpacked}
+use Rattle.farm_model.specs.Chroot.{last_of, member}
+use Rattle.farm_model.specs.Traps.{unpacked, changed}
+use Rattle.plan_model.specs.May.{Bits, MaySlot, MayUnpacked, May}
+use Rattle.plan_model.specs.Allowed.{Allows, allows_unpacked, AllowsAll}
+use Rattle.plan_model.specs.MayAt.{may_be_last}
 use Rattle.farm_laws.proofs.Slots.{last_allowed, cond_allowed}
 
 -- a member's slot is changed, the others stay

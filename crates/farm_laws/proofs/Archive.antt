@@ -3,15 +3,15 @@ use Rattle.std.proofs.Common.{◌≡◌, ℕ, zero, suc, Bool, true, false, ◌|
 use Rattle.std.specs.List.{list_any}
 use Rattle.std.proofs.lemmas.Bool.{false≢true, or_cases, or_left, or_right, and_parts, and_from, eqb-true, eq-eqb}
 use Rattle.std.proofs.lemmas.List.Folds.{list_any-append}
-use Rattle.farm_universe.specs.declared.types.Variant.{Variant}
-use Rattle.farm_universe.specs.Universe.{Universe}
-use Rattle.farm_universe.specs.Packages.{variant, same, contains, outputs, initial}
-use Rattle.plan_asm.specs.declared.instructions.Instruction.{Instruction}
-use Rattle.plan_asm.specs.declared.instructions.Instruction.TheVariants.{Publish}
-use Rattle.plan_asm.specs.Plan.{outputs_of}
-use Rattle.plan_asm.specs.Turn.{LaneState}
-use Rattle.plan_asm.specs.Run.{Publication, publication, archive}
-use Rattle.plan_asm.specs.Known.{gives, publishing}
+use Rattle.farm_model.specs.declared.types.Variant.{Variant}
+use Rattle.farm_model.specs.Universe.{Universe}
+use Rattle.farm_model.specs.Packages.{variant, same, contains, outputs, initial}
+use Rattle.plan_model.specs.declared.instructions.Instruction.{Instruction}
+use Rattle.plan_model.specs.declared.instructions.Instruction.TheVariants.{Publish}
+use Rattle.plan_model.specs.Plan.{outputs_of}
+use Rattle.plan_model.specs.Turn.{LaneState}
+use Rattle.plan_model.specs.Run.{Publication, publication, archive}
+use Rattle.plan_model.specs.Known.{gives, publishing}
 use Rattle.farm_laws.proofs.Places.{IsQuiet, GoesOn, GivesOne}
 
 pub or-false : (b : Bool) → (b || false) ≡ b

@@ -6,13 +6,13 @@ use Rattle.std.proofs.lemmas.Option.{none-some, same_Some, cond_some}
 use Rattle.std.proofs.lemmas.Bool.{cond-true, false≢true, or_cases, or_left, or_right, and_parts, and_from, cases_eq, cases_lt}
 use Rattle.std.proofs.lemmas.List.{get_or_past}
 use Rattle.deb_relation.specs.Relations.{Entry}
-use Rattle.farm_universe.specs.declared.types.Variant.{Variant}
-use Rattle.farm_universe.specs.Universe.{Universe}
-use Rattle.farm_universe.specs.Packages.{variant, same, contains, names, variants, satisfies_entry, initial}
-use Rattle.farm_universe.proofs.BelowLaws.{some_below-mono}
-use Rattle.plan_asm.specs.Turn.{passes}
-use Rattle.plan_asm.specs.Run.{start}
-use Rattle.plan_asm.specs.Order.{Item, Pass, Give, Board, on_board, rest_of, board_after, Reaches}
+use Rattle.farm_model.specs.declared.types.Variant.{Variant}
+use Rattle.farm_model.specs.Universe.{Universe}
+use Rattle.farm_model.specs.Packages.{variant, same, contains, names, variants, satisfies_entry, initial}
+use Rattle.farm_model.proofs.BelowLaws.{some_below-mono}
+use Rattle.plan_model.specs.Turn.{passes}
+use Rattle.plan_model.specs.Run.{start}
+use Rattle.plan_model.specs.Order.{Item, Pass, Give, Board, on_board, rest_of, board_after, Reaches}
 
 unfoldable pub gives_item : Variant → Item → Bool
 gives_item v (Pass e) = false

@@ -4,21 +4,21 @@ use Rattle.std.specs.Prelude.{nat_lt}
 use Rattle.std.proofs.lemmas.Option.{none-some, slice_get_past}
 use Rattle.std.proofs.lemmas.Bool.{cond-true, cases_lt, ltb-false, false_from_ne_true}
 use Rattle.deb_relation.specs.declared.operator.Op.{Op}
-use Rattle.farm_universe.specs.declared.types.Variant.{Variant}
-use Rattle.farm_universe.specs.declared.types.Trap.{Trap}
-use Rattle.farm_universe.specs.Universe.{Universe}
-use Rattle.farm_universe.specs.Traps.{first_trap}
-use Rattle.plan_asm.specs.declared.instructions.Instruction.{Instruction}
-use Rattle.plan_asm.specs.declared.instructions.Instruction.TheVariants.{Unpack, Configure, Deconfigure, Remove, Build, Publish, Wait}
-use Rattle.plan_asm.specs.Plan.{Lane, Plan, lane, instruction_at}
-use Rattle.plan_asm.specs.Turn.{LaneState, newest}
-use Rattle.plan_asm.specs.Run.{State, Outcome, Moved, Blocked, Finished, Unknown, Trapped, step, play_on, play}
-use Rattle.plan_asm.specs.Known.{possible, Rows, KeepsRows}
-use Rattle.plan_asm.specs.Sound.{IsSound}
-use Rattle.plan_asm.specs.May.{May}
-use Rattle.plan_asm.specs.Risk.{unpack_risk, risk}
-use Rattle.plan_asm.specs.MayAt.{may_unpack, may_after, may_after_some, may_at}
-use Rattle.plan_asm.specs.Safety.{IsSafeUnder}
+use Rattle.farm_model.specs.declared.types.Variant.{Variant}
+use Rattle.farm_model.specs.declared.types.Trap.{Trap}
+use Rattle.farm_model.specs.Universe.{Universe}
+use Rattle.farm_model.specs.Traps.{first_trap}
+use Rattle.plan_model.specs.declared.instructions.Instruction.{Instruction}
+use Rattle.plan_model.specs.declared.instructions.Instruction.TheVariants.{Unpack, Configure, Deconfigure, Remove, Build, Publish, Wait}
+use Rattle.plan_model.specs.Plan.{Lane, Plan, lane, instruction_at}
+use Rattle.plan_model.specs.Turn.{LaneState, newest}
+use Rattle.plan_model.specs.Run.{State, Outcome, Moved, Blocked, Finished, Unknown, Trapped, step, play_on, play}
+use Rattle.plan_model.specs.Known.{possible, Rows, KeepsRows}
+use Rattle.plan_model.specs.Sound.{IsSound}
+use Rattle.plan_model.specs.May.{May}
+use Rattle.plan_model.specs.Risk.{unpack_risk, risk}
+use Rattle.plan_model.specs.MayAt.{may_unpack, may_after, may_after_some, may_at}
+use Rattle.plan_model.specs.Safety.{IsSafeUnder}
 use Rattle.farm_laws.proofs.Safe.{Agrees, place_paid}
 use Rattle.farm_laws.proofs.Whole.{safe_at, Holds, holds_step, never_trapped}
 

@@ -3,16 +3,16 @@ use Rattle.std.proofs.Common.{◌≡◌, ℕ, zero, suc, ◌+◌, ◌-◌, ◌<�
 use Rattle.std.proofs.lemmas.Bool.{cases_eq}
 use Rattle.std.proofs.lemmas.List.{length-map, get_or-map}
 use Rattle.std.proofs.lemmas.List.Sums.{sum_by-cons}
-use Rattle.farm_universe.specs.declared.types.Variant.{Variant}
-use Rattle.farm_universe.specs.Below.{sum_below}
-use Rattle.farm_universe.specs.Universe.{Universe}
-use Rattle.farm_universe.proofs.BelowLaws.{sum_below-same, sum_below-change}
-use Rattle.plan_asm.specs.declared.instructions.Instruction.{Instruction}
-use Rattle.plan_asm.specs.declared.instructions.Instruction.TheVariants.{Publish}
-use Rattle.plan_asm.specs.Plan.{Plan, lane, instruction_at, events_of, count}
-use Rattle.plan_asm.specs.Turn.{LaneState, start_lane, Turn, Goes, Gives, Waits, Ends, Fails}
-use Rattle.plan_asm.specs.Run.{archive, State, start, lane_state, Moved, step, Run}
-use Rattle.plan_asm.specs.Sound.{IsSound}
+use Rattle.farm_model.specs.declared.types.Variant.{Variant}
+use Rattle.farm_model.specs.Below.{sum_below}
+use Rattle.farm_model.specs.Universe.{Universe}
+use Rattle.farm_model.proofs.BelowLaws.{sum_below-same, sum_below-change}
+use Rattle.plan_model.specs.declared.instructions.Instruction.{Instruction}
+use Rattle.plan_model.specs.declared.instructions.Instruction.TheVariants.{Publish}
+use Rattle.plan_model.specs.Plan.{Plan, lane, instruction_at, events_of, count}
+use Rattle.plan_model.specs.Turn.{LaneState, start_lane, Turn, Goes, Gives, Waits, Ends, Fails}
+use Rattle.plan_model.specs.Run.{archive, State, start, lane_state, Moved, step, Run}
+use Rattle.plan_model.specs.Sound.{IsSound}
 use Rattle.farm_laws.proofs.Steps.{put, turn_at, After, step_keeps}
 use Rattle.farm_laws.proofs.Places.{IsQuiet, GoesOn, GivesOne, PlaceMove, turn_place}
 

@@ -1,18 +1,18 @@
 -- The archive has what a lane knows.
 use Rattle.std.proofs.Common.{◌≡◌, ℕ, suc, ◌<◌, Bool, true, false, ◌&&◌, ◌||◌, inl, inr, [], ◌∷◌, ◌++◌, length, take, Some, slice_get, refl, sym, ap, ◌∙◌, take_all}
 use Rattle.std.proofs.lemmas.Bool.{both_ways, false≢true, or_cases, or_left, or_right, and_parts}
-use Rattle.farm_universe.specs.declared.types.Variant.{Variant}
-use Rattle.farm_universe.specs.Below.{some_below}
-use Rattle.farm_universe.specs.Universe.{Universe}
-use Rattle.farm_universe.specs.Packages.{variant, same, contains, names, variants, outputs, satisfies_entry, initial, some_variant}
-use Rattle.farm_universe.proofs.BelowLaws.{some_below-found}
-use Rattle.plan_asm.specs.declared.instructions.Instruction.{Instruction}
-use Rattle.plan_asm.specs.declared.instructions.Instruction.TheVariants.{Publish, Wait}
-use Rattle.plan_asm.specs.Plan.{Plan, lane, instruction_at}
-use Rattle.plan_asm.specs.Turn.{LaneState, Turn, Goes, Gives, Waits, Ends, Fails}
-use Rattle.plan_asm.specs.Run.{publication, archive, State, start, lane_state, Moved, step}
-use Rattle.plan_asm.specs.Known.{possible, publishing, Rows, IsFact, Adds, KeepsRows}
-use Rattle.plan_asm.specs.Sound.{IsSound}
+use Rattle.farm_model.specs.declared.types.Variant.{Variant}
+use Rattle.farm_model.specs.Below.{some_below}
+use Rattle.farm_model.specs.Universe.{Universe}
+use Rattle.farm_model.specs.Packages.{variant, same, contains, names, variants, outputs, satisfies_entry, initial, some_variant}
+use Rattle.farm_model.proofs.BelowLaws.{some_below-found}
+use Rattle.plan_model.specs.declared.instructions.Instruction.{Instruction}
+use Rattle.plan_model.specs.declared.instructions.Instruction.TheVariants.{Publish, Wait}
+use Rattle.plan_model.specs.Plan.{Plan, lane, instruction_at}
+use Rattle.plan_model.specs.Turn.{LaneState, Turn, Goes, Gives, Waits, Ends, Fails}
+use Rattle.plan_model.specs.Run.{publication, archive, State, start, lane_state, Moved, step}
+use Rattle.plan_model.specs.Known.{possible, publishing, Rows, IsFact, Adds, KeepsRows}
+use Rattle.plan_model.specs.Sound.{IsSound}
 use Rattle.farm_laws.proofs.Steps.{put, put_output, turn_at, After, step_keeps}
 use Rattle.farm_laws.proofs.Places.{IsQuiet, GoesOn, GivesOne, PlaceMove, turn_place}
 use Rattle.farm_laws.proofs.EventsLeft.{InPlaces, put_each, step_places, places_at_start, state_at_start}

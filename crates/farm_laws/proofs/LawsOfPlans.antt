@@ -1,10 +1,10 @@
 -- The laws of an annotated plan, from what holds of each state that is reached.
 use Rattle.std.proofs.Common.{◌≡◌, ℕ, ◌<◌, false, length}
-use Rattle.farm_universe.proofs.BelowLaws.{every_below-fails}
-use Rattle.plan_asm.specs.Plan.{Plan, lane}
-use Rattle.plan_asm.specs.Run.{State, start, lane_state, is_finished}
+use Rattle.farm_model.proofs.BelowLaws.{every_below-fails}
+use Rattle.plan_model.specs.Plan.{Plan, lane}
+use Rattle.plan_model.specs.Run.{State, start, lane_state, is_finished}
 use Rattle.std.proofs.lemmas.Bool.{leb-false}
-use Rattle.plan_asm.specs.MayAt.{lane_cost}
+use Rattle.plan_model.specs.MayAt.{lane_cost}
 use Rattle.farm_laws.specs.Laws.{EveryInterleaving, StatesAreForeseen, LanesAreWithinBudget, SchedulesMeetNoTrap}
 use Rattle.farm_laws.proofs.EventsLeft.{runs_end}
 use Rattle.farm_laws.proofs.Possible.{nothing_else}

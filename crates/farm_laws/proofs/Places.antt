@@ -2,14 +2,14 @@
 use Rattle.std.proofs.Common.{◌≡◌, ℕ, suc, ◌<◌, ◌≤◌, Bool, true, ◌⊎◌, inl, inr, List, length, Option, Some, None, slice_get, refl}
 use Rattle.std.proofs.lemmas.Bool.{cases_lt, cases_Bool, lt-ltb, le-ltb}
 use Rattle.deb_relation.specs.declared.operator.Op.{Op}
-use Rattle.farm_universe.specs.declared.types.Variant.{Variant}
-use Rattle.farm_universe.specs.declared.types.Trap.{Trap}
-use Rattle.farm_universe.specs.Universe.{Universe}
-use Rattle.farm_universe.specs.Packages.{outputs}
-use Rattle.plan_asm.specs.declared.instructions.Instruction.{Instruction}
-use Rattle.plan_asm.specs.declared.instructions.Instruction.TheVariants.{Unpack, Configure, Deconfigure, Remove, Build, Publish, Wait}
-use Rattle.plan_asm.specs.Plan.{Lane}
-use Rattle.plan_asm.specs.Turn.{LaneState, newest, passes, Turn, Goes, Gives, Waits, Ends, Fails, unless, unpacks, given, publishes, turn_of}
+use Rattle.farm_model.specs.declared.types.Variant.{Variant}
+use Rattle.farm_model.specs.declared.types.Trap.{Trap}
+use Rattle.farm_model.specs.Universe.{Universe}
+use Rattle.farm_model.specs.Packages.{outputs}
+use Rattle.plan_model.specs.declared.instructions.Instruction.{Instruction}
+use Rattle.plan_model.specs.declared.instructions.Instruction.TheVariants.{Unpack, Configure, Deconfigure, Remove, Build, Publish, Wait}
+use Rattle.plan_model.specs.Plan.{Lane}
+use Rattle.plan_model.specs.Turn.{LaneState, newest, passes, Turn, Goes, Gives, Waits, Ends, Fails, unless, unpacks, given, publishes, turn_of}
 
 pub unless_keeps : (P : Turn → Type 0) (o : Option Trap) (m : Turn) → ((t : Trap) → P (Fails t))
     → P m → P (unless o m)

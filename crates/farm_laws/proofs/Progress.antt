@@ -7,17 +7,17 @@ use Rattle.std.proofs.lemmas.Bool.{cond-true, false≢true, or_cases, or_left, o
 use Rattle.std.proofs.lemmas.List.{length-map, get_or-map, take-map, take-append-le, drop-append-le}
 use Rattle.std.proofs.lemmas.List.Folds.{list_any-append}
 use Rattle.std.proofs.lemmas.Grind.{flat_map-append}
-use Rattle.farm_universe.specs.declared.types.Variant.{Variant}
-use Rattle.farm_universe.specs.declared.types.Trap.{Trap}
-use Rattle.farm_universe.specs.Universe.{Universe}
-use Rattle.farm_universe.specs.Packages.{variant, recipe, outputs, initial}
-use Rattle.plan_asm.specs.declared.instructions.Instruction.{Instruction}
-use Rattle.plan_asm.specs.declared.instructions.Instruction.TheVariants.{Unpack, Configure, Deconfigure, Remove, Build, Publish, Wait}
-use Rattle.plan_asm.specs.Plan.{Lane, Plan, no_lane, lane, instruction_at, events_of}
-use Rattle.plan_asm.specs.Turn.{LaneState, newest, passes, Turn, Goes, Gives, Waits, Ends, Fails, unless, unpacks, publishes, turn_of}
-use Rattle.plan_asm.specs.Run.{archive, State, lane_state, Moved, Unknown, Trapped, outcome, step}
-use Rattle.plan_asm.specs.Known.{gives, publishing}
-use Rattle.plan_asm.specs.Order.{Item, Pass, Give, items_of, items, start_board, IsOrder}
+use Rattle.farm_model.specs.declared.types.Variant.{Variant}
+use Rattle.farm_model.specs.declared.types.Trap.{Trap}
+use Rattle.farm_model.specs.Universe.{Universe}
+use Rattle.farm_model.specs.Packages.{variant, recipe, outputs, initial}
+use Rattle.plan_model.specs.declared.instructions.Instruction.{Instruction}
+use Rattle.plan_model.specs.declared.instructions.Instruction.TheVariants.{Unpack, Configure, Deconfigure, Remove, Build, Publish, Wait}
+use Rattle.plan_model.specs.Plan.{Lane, Plan, no_lane, lane, instruction_at, events_of}
+use Rattle.plan_model.specs.Turn.{LaneState, newest, passes, Turn, Goes, Gives, Waits, Ends, Fails, unless, unpacks, publishes, turn_of}
+use Rattle.plan_model.specs.Run.{archive, State, lane_state, Moved, Unknown, Trapped, outcome, step}
+use Rattle.plan_model.specs.Known.{gives, publishing}
+use Rattle.plan_model.specs.Order.{Item, Pass, Give, items_of, items, start_board, IsOrder}
 use Rattle.farm_laws.proofs.Boards.{gives_item, right-nil, NextIs, Behind, Itself, walk}
 use Rattle.farm_laws.proofs.Steps.{turn_at}
 use Rattle.farm_laws.proofs.EventsLeft.{drop_some, StandsAt, InPlace, InPlaces}

@@ -5,25 +5,25 @@ use Rattle.std.proofs.lemmas.Bool.{and_parts, and_from, cases_lt, cases_Bool, lt
 use Rattle.std.proofs.lemmas.List.{get_or_past}
 use Rattle.deb_relation.specs.declared.operator.Op.{Op}
 use Rattle.deb_relation.specs.Relations.{Entry}
-use Rattle.farm_universe.specs.declared.types.Variant.{Variant}
-use Rattle.farm_universe.specs.declared.types.Trap.{Trap}
-use Rattle.farm_universe.specs.Universe.{Universe}
-use Rattle.farm_universe.specs.Packages.{variant, same, names, variants, size, recipe, outputs, is_wanted}
-use Rattle.farm_universe.specs.Chroot.{Chroot}
-use Rattle.farm_universe.specs.Traps.{first_trap}
-use Rattle.farm_universe.proofs.BelowLaws.{greatest_below-at, highest_below-some, highest_below-there}
-use Rattle.plan_asm.specs.declared.instructions.Instruction.{Instruction}
-use Rattle.plan_asm.specs.declared.instructions.Instruction.TheVariants.{Unpack, Configure, Deconfigure, Remove, Build, Publish, Wait}
-use Rattle.plan_asm.specs.Plan.{Plan, lane, instruction_at, events_of, unpack_cost}
-use Rattle.plan_asm.specs.Turn.{LaneState, newest, passes, Turn, Goes, Gives, Waits, Ends, Fails, past, past_build, unless, unpacks, given, first_only, publish_traps, publishes, turn_of, was_built, with_built}
-use Rattle.plan_asm.specs.Known.{possible, Rows}
-use Rattle.farm_universe.specs.declared.types.Slot.TheVariants.{Absent}
-use Rattle.farm_universe.specs.Chroot.{Chroot, is_present, is_configured}
-use Rattle.farm_universe.specs.Traps.{configured, deconfigured, removed, unpacked, configured_slot, deconfigured_slot}
-use Rattle.plan_asm.specs.May.{MayAbsent, May, is_surely_configured, is_surely_present}
-use Rattle.plan_asm.specs.Allowed.{allows_absent, AllowsAll}
-use Rattle.plan_asm.specs.Risk.{candidates, unpack_risk, publish_risks, risk, greatest_cost, unpack_risks, configure_risks, withdraw_risks, build_risks}
-use Rattle.plan_asm.specs.MayAt.{may_unpack, may_after, may_after_some, may_at, may_be_configured, may_be_deconfigured}
+use Rattle.farm_model.specs.declared.types.Variant.{Variant}
+use Rattle.farm_model.specs.declared.types.Trap.{Trap}
+use Rattle.farm_model.specs.Universe.{Universe}
+use Rattle.farm_model.specs.Packages.{variant, same, names, variants, size, recipe, outputs, is_wanted}
+use Rattle.farm_model.specs.Chroot.{Chroot}
+use Rattle.farm_model.specs.Traps.{first_trap}
+use Rattle.farm_model.proofs.BelowLaws.{greatest_below-at, highest_below-some, highest_below-there}
+use Rattle.plan_model.specs.declared.instructions.Instruction.{Instruction}
+use Rattle.plan_model.specs.declared.instructions.Instruction.TheVariants.{Unpack, Configure, Deconfigure, Remove, Build, Publish, Wait}
+use Rattle.plan_model.specs.Plan.{Plan, lane, instruction_at, events_of, unpack_cost}
+use Rattle.plan_model.specs.Turn.{LaneState, newest, passes, Turn, Goes, Gives, Waits, Ends, Fails, past, past_build, unless, unpacks, given, first_only, publish_traps, publishes, turn_of, was_built, with_built}
+use Rattle.plan_model.specs.Known.{possible, Rows}
+use Rattle.farm_model.specs.declared.types.Slot.TheVariants.{Absent}
+use Rattle.farm_model.specs.Chroot.{Chroot, is_present, is_configured}
+use Rattle.farm_model.specs.Traps.{configured, deconfigured, removed, unpacked, configured_slot, deconfigured_slot}
+use Rattle.plan_model.specs.May.{MayAbsent, May, is_surely_configured, is_surely_present}
+use Rattle.plan_model.specs.Allowed.{allows_absent, AllowsAll}
+use Rattle.plan_model.specs.Risk.{candidates, unpack_risk, publish_risks, risk, greatest_cost, unpack_risks, configure_risks, withdraw_risks, build_risks}
+use Rattle.plan_model.specs.MayAt.{may_unpack, may_after, may_after_some, may_at, may_be_configured, may_be_deconfigured}
 use Rattle.farm_laws.proofs.Slots.{configured_allowed, deconfigured_allowed, is_configured-may, is_present-may}
 use Rattle.farm_laws.proofs.AllowedAfter.{unpack_keeps, change_keeps}
 use Rattle.farm_laws.proofs.MayMaps.{Covers, nil, cons, over-may, no_trap, unpack_covers, configure_covers, build_covers, withdraw_covers}

@@ -7,24 +7,24 @@ use Rattle.std.proofs.lemmas.Bool.{cond-true, cond-false, cases_lt, cases_Bool, 
 use Rattle.std.proofs.lemmas.List.{get_or_past}
 use Rattle.std.proofs.lemmas.List.Elements.{All-head, All-tail}
 use Rattle.std.proofs.lemmas.List.FromFn.{get_or-map-range_with_len, length-map-range_with_len}
-use Rattle.farm_universe.specs.declared.types.Variant.{Variant}
-use Rattle.farm_universe.specs.declared.types.Trap.{Trap}
-use Rattle.farm_universe.specs.Universe.{Universe}
-use Rattle.farm_universe.specs.Packages.{names, variants, base}
-use Rattle.farm_universe.specs.Chroot.{slot}
-use Rattle.plan_asm.specs.declared.instructions.Instruction.{Instruction}
-use Rattle.plan_asm.specs.Plan.{Plan, lane, instruction_at}
-use Rattle.plan_asm.specs.Turn.{Turn, Goes, Gives, Waits, Ends, Fails, turn_of}
-use Rattle.plan_asm.specs.Run.{archive, State, start, lane_state, Moved, Unknown, Trapped, outcome, step, Run}
-use Rattle.plan_asm.specs.Known.{possible, Rows, KeepsRows}
-use Rattle.plan_asm.specs.Sound.{IsSound}
-use Rattle.farm_universe.specs.declared.types.Slot.{Slot}
-use Rattle.farm_universe.specs.declared.types.Slot.TheVariants.{Absent}
-use Rattle.farm_universe.specs.Chroot.{base_slot, base_chroot, slot}
-use Rattle.plan_asm.specs.Allowed.{Allows, allows_absent, allows_configured, AllowsAll}
-use Rattle.plan_asm.specs.Risk.{risk}
-use Rattle.plan_asm.specs.MayAt.{may_at, may_base, may_base_slot}
-use Rattle.plan_asm.specs.Safety.{risk_of, risk_at, IsSafeUnder}
+use Rattle.farm_model.specs.declared.types.Variant.{Variant}
+use Rattle.farm_model.specs.declared.types.Trap.{Trap}
+use Rattle.farm_model.specs.Universe.{Universe}
+use Rattle.farm_model.specs.Packages.{names, variants, base}
+use Rattle.farm_model.specs.Chroot.{slot}
+use Rattle.plan_model.specs.declared.instructions.Instruction.{Instruction}
+use Rattle.plan_model.specs.Plan.{Plan, lane, instruction_at}
+use Rattle.plan_model.specs.Turn.{Turn, Goes, Gives, Waits, Ends, Fails, turn_of}
+use Rattle.plan_model.specs.Run.{archive, State, start, lane_state, Moved, Unknown, Trapped, outcome, step, Run}
+use Rattle.plan_model.specs.Known.{possible, Rows, KeepsRows}
+use Rattle.plan_model.specs.Sound.{IsSound}
+use Rattle.farm_model.specs.declared.types.Slot.{Slot}
+use Rattle.farm_model.specs.declared.types.Slot.TheVariants.{Absent}
+use Rattle.farm_model.specs.Chroot.{base_slot, base_chroot, slot}
+use Rattle.plan_model.specs.Allowed.{Allows, allows_absent, allows_configured, AllowsAll}
+use Rattle.plan_model.specs.Risk.{risk}
+use Rattle.plan_model.specs.MayAt.{may_at, may_base, may_base_slot}
+use Rattle.plan_model.specs.Safety.{risk_of, risk_at, IsSafeUnder}
 use Rattle.farm_laws.proofs.Steps.{turn_at, After, step_keeps, run_keeps}
 use Rattle.farm_laws.proofs.EventsLeft.{put_each, state_at_start}
 use Rattle.farm_laws.proofs.Archive.{publishing-zero}

@@ -1,15 +1,15 @@
 -- The laws of an annotated plan, for every universe and plan that the readers make, every family of
 -- rows that keeps to the inclusions and under which each instruction is safe, and every order.
 use Rattle.std.specs.Prelude.{ℕ, List}
-use Rattle.farm_universe.specs.Universe.{Universe}
-use Rattle.plan_asm.specs.Plan.{Plan}
-use Rattle.plan_asm.specs.Run.{State, Reachable}
-use Rattle.plan_asm.specs.Known.{Rows}
-use Rattle.plan_asm.specs.Safety.{IsAnnotation}
-use Rattle.plan_asm.specs.Order.{IsOrder}
-use Rattle.plan_asm.specs.Sound.{IsSound}
-use Rattle.plan_asm.specs.Promise.{IsSafe}
-use Rattle.plan_asm.specs.Foreseen.{IsForeseen, IsWithinBudget, PlaysSafely}
+use Rattle.farm_model.specs.Universe.{Universe}
+use Rattle.plan_model.specs.Plan.{Plan}
+use Rattle.plan_model.specs.Run.{State, Reachable}
+use Rattle.plan_model.specs.Known.{Rows}
+use Rattle.plan_model.specs.Safety.{IsAnnotation}
+use Rattle.plan_model.specs.Order.{IsOrder}
+use Rattle.plan_model.specs.Sound.{IsSound}
+use Rattle.plan_model.specs.Promise.{IsSafe}
+use Rattle.plan_model.specs.Foreseen.{IsForeseen, IsWithinBudget, PlaysSafely}
 
 -- every interleaving: no run ends in a trap, some lane can step until all are finished, no run is
 -- longer than the count

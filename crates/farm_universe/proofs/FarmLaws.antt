@@ -16,15 +16,15 @@ use Rattle.deb_relation.specs.declared.operator.Op.{Op}
 use Rattle.deb_relation.specs.Relations.{Entry}
 use Rattle.farm_universe.specs.declared.error.TheConstants.{TWICE, UNKNOWN_VARIANT}
 use Rattle.farm_universe.specs.declared.files.TheConstants.{FARM}
-use Rattle.farm_universe.specs.declared.types.Variant.{Variant}
+use Rattle.farm_model.specs.declared.types.Variant.{Variant}
 use Rattle.farm_universe.specs.FarmSteps.{add_variant, add_item, words_in, add_base, tell_base}
 use Rattle.farm_universe.specs.FarmView.{AreWords}
 use Rattle.farm_universe.specs.FarmText.{refused_if, chroot_name, chroot_named, with_room, chroot_behind, chroot_at, bases_of, code_in, chroots_of}
 use Rattle.farm_universe.specs.ListText.{has_version, variant_of, find_variant, named_variant, variant_at, twice, with_bit, words_of}
-use Rattle.farm_universe.specs.Packages.{variant, same, contains, has_bit}
+use Rattle.farm_model.specs.Packages.{variant, same, contains, has_bit}
 use Rattle.farm_universe.specs.PackagesText.{Table}
 use Rattle.farm_universe.specs.TableView.{IsFit, IsWithin}
-use Rattle.farm_universe.specs.Universe.{Package, Base}
+use Rattle.farm_model.specs.Universe.{Package, Base}
 use Rattle.farm_universe.proofs.ArchiveLaws.{length-words_of, words_of-push, get_or-words_of, bit_at-word_of}
 use Rattle.farm_universe.proofs.FitLaws.{within-place_in}
 use Rattle.farm_universe.proofs.ToldLaws.{steps-told, read_step-keeps}

@@ -18,7 +18,7 @@ use Rattle.farm_universe.specs.declared.limits.TheConstants.{MOST_NAMES, MOST_EN
 use Rattle.farm_universe.specs.PackagesText.{Listed, Table, is_below, is_same, is_over, entry_count, first_code}
 use Rattle.farm_universe.specs.TableSteps.{given_at, put_at, code_at}
 use Rattle.farm_universe.specs.TableView.{Rises, IsOrderly, IsFit, IsWithin}
-use Rattle.farm_universe.specs.Universe.{Package}
+use Rattle.farm_model.specs.Universe.{Package}
 
 -- ---- the packages of a name rise
 

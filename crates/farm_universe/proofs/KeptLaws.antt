@@ -9,19 +9,19 @@ use Rattle.std.proofs.lemmas.List.{length-map, get_or_past}
 use Rattle.std.proofs.lemmas.List.Elements.{All-nil, All-map, All-weaker, All-get_or}
 use Rattle.deb_version.specs.Grammar.{text_cmp}
 use Rattle.farm_universe.specs.declared.limits.TheConstants.{MOST_SIZE, MOST_CAPACITY}
-use Rattle.farm_universe.specs.declared.types.Variant.{Variant}
-use Rattle.farm_universe.specs.declared.types.Slot.{Slot}
-use Rattle.farm_universe.specs.declared.types.Slot.TheVariants.{Absent}
-use Rattle.farm_universe.specs.Below.{some_below, sum_below}
-use Rattle.farm_universe.specs.Chroot.{slot, some_slot, holds, is_unpacked, size_in, used, base_chroot, unsettled, met, unmet, entries}
+use Rattle.farm_model.specs.declared.types.Variant.{Variant}
+use Rattle.farm_model.specs.declared.types.Slot.{Slot}
+use Rattle.farm_model.specs.declared.types.Slot.TheVariants.{Absent}
+use Rattle.farm_model.specs.Below.{some_below, sum_below}
+use Rattle.farm_model.specs.Chroot.{slot, some_slot, holds, is_unpacked, size_in, used, base_chroot, unsettled, met, unmet, entries}
 use Rattle.farm_universe.specs.FarmText.{Farm}
 use Rattle.farm_universe.specs.FarmView.{IsEmptyBase, AreBases, AreWords}
 use Rattle.farm_universe.specs.Kept.{IsKept}
-use Rattle.farm_universe.specs.Packages.{variant, names, variants, no_package, package_of, recipe, outputs, base, no_base, initial, conflict, breaks}
+use Rattle.farm_model.specs.Packages.{variant, names, variants, no_package, package_of, recipe, outputs, base, no_base, initial, conflict, breaks}
 use Rattle.farm_universe.specs.PackagesText.{Table, is_below}
-use Rattle.farm_universe.specs.Sound.{IsKnown, some_two, IsSettledBase}
+use Rattle.farm_model.specs.Sound.{IsKnown, some_two, IsSettledBase}
 use Rattle.farm_universe.specs.TableView.{Rises, IsOrderly, IsFit}
-use Rattle.farm_universe.specs.Universe.{Package, Base, Universe}
+use Rattle.farm_model.specs.Universe.{Package, Base, Universe}
 use Rattle.farm_universe.specs.UniverseText.{reduced_package, universe_with}
 
 -- ---- reduced packages

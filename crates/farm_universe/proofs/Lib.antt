@@ -1,4 +1,3 @@
-pub mod BelowLaws
 pub mod ToldLaws
 pub mod TableLaws
 pub mod FitLaws

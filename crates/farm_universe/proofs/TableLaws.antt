@@ -13,7 +13,7 @@ use Rattle.deb_stanza.specs.Stanza.{Paragraph}
 use Rattle.farm_universe.specs.declared.files.TheConstants.{PACKAGES}
 use Rattle.farm_universe.specs.PackagesText.{Listed, Table, package_at, is_below, entry_count, names_of, packages_named, entries_of, table_of, package_fault, packages_of}
 use Rattle.farm_universe.specs.TableSteps.{given_at, put_at, code_at, add, add_paragraph, tell_paragraph}
-use Rattle.farm_universe.specs.Universe.{Package}
+use Rattle.farm_model.specs.Universe.{Package}
 use Rattle.farm_universe.proofs.ToldLaws.{steps-told, read_step-keeps}
 
 names_of-push : (ps : List Listed) (p : Listed)

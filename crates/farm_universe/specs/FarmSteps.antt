@@ -9,13 +9,13 @@ use Rattle.deb_stanza.specs.Stanza.{Paragraph}
 use Rattle.deb_relation.specs.Relations.{Entry}
 use Rattle.farm_universe.specs.declared.error.TheConstants.{TWICE}
 use Rattle.farm_universe.specs.declared.files.TheConstants.{FARM}
-use Rattle.farm_universe.specs.declared.types.Variant.{Variant}
+use Rattle.farm_model.specs.declared.types.Variant.{Variant}
 use Rattle.farm_universe.specs.FarmText.{chroot_at}
 use Rattle.farm_universe.specs.ListText.{variant_at, twice, with_bit, words_of}
-use Rattle.farm_universe.specs.Packages.{has_bit}
+use Rattle.farm_model.specs.Packages.{has_bit}
 use Rattle.farm_universe.specs.PackagesText.{Table}
 use Rattle.farm_universe.specs.Told.{told}
-use Rattle.farm_universe.specs.Universe.{Base}
+use Rattle.farm_model.specs.Universe.{Base}
 
 -- the words with the bit of one more variant
 unfoldable pub add_variant : List ℕ → Variant → Result (List ℕ) ℕ

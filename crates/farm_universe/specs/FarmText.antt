@@ -19,7 +19,7 @@ use Rattle.farm_universe.specs.Fields.{needed_at, name_at, number_up_to, unread_
 use Rattle.farm_universe.specs.ListText.{list_of, words_of}
 use Rattle.farm_universe.specs.PackagesText.{Table}
 use Rattle.farm_universe.specs.Told.{told, paragraphs_judged}
-use Rattle.farm_universe.specs.Universe.{Base}
+use Rattle.farm_model.specs.Universe.{Base}
 
 -- ---- the first paragraph
 

@@ -1,13 +1,13 @@
 -- What is true of what the farm text says.
 use Rattle.std.specs.Prelude.{◌≡◌, ℕ, ◌<◌, ◌≤◌, List, [], length, All, true, get_or}
 use Rattle.farm_universe.specs.declared.limits.TheConstants.{MOST_BASES, MOST_CAPACITY}
-use Rattle.farm_universe.specs.declared.types.Variant.{Variant}
+use Rattle.farm_model.specs.declared.types.Variant.{Variant}
 use Rattle.farm_universe.specs.declared.farm.Farm.{Farm}
 use Rattle.farm_universe.specs.declared.farm.Head.{Head}
 use Rattle.farm_universe.specs.FarmText as text
-use Rattle.farm_universe.specs.Packages.{has_bit}
+use Rattle.farm_model.specs.Packages.{has_bit}
 use Rattle.farm_universe.specs.PackagesText.{Table}
-use Rattle.farm_universe.specs.Universe.{Base}
+use Rattle.farm_model.specs.Universe.{Base}
 
 -- a base chroot without packages
 pub record IsEmptyBase (base : Base) : Type 0 where

@@ -1,10 +1,3 @@
-pub mod Below
-pub mod Universe
-pub mod Packages
-pub mod Chroot
-pub mod Traps
-pub mod TrapText
-pub mod Sound
 pub mod Fields
 pub mod Told
 pub mod PackagesText

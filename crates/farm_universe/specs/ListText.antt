@@ -19,10 +19,10 @@ use Rattle.deb_relation.specs.declared.operator.Op.{Op}
 use Rattle.deb_relation.specs.Field.{relations_at}
 use Rattle.deb_relation.specs.Relations.{Entry}
 use Rattle.farm_universe.specs.declared.error.TheConstants.{TWICE, UNKNOWN_VARIANT}
-use Rattle.farm_universe.specs.declared.types.Variant.{Variant}
-use Rattle.farm_universe.specs.Packages.{variant, contains}
+use Rattle.farm_model.specs.declared.types.Variant.{Variant}
+use Rattle.farm_model.specs.Packages.{variant, contains}
 use Rattle.farm_universe.specs.PackagesText.{Table}
-use Rattle.farm_universe.specs.Universe.{Package}
+use Rattle.farm_model.specs.Universe.{Package}
 
 -- the package has this version, however it is written (Policy 5.6.12)
 abbrev pub has_version : List ℕ → Package → Bool

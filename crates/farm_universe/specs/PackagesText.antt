@@ -20,7 +20,7 @@ use Rattle.farm_universe.specs.declared.files.TheConstants.{PACKAGES}
 use Rattle.farm_universe.specs.declared.limits.TheConstants.{MOST_NAMES, MOST_ENTRIES, MOST_VARIANTS}
 use Rattle.farm_universe.specs.Fields.{needed_at, name_at, version_text_at, size_at, relations_in, unread_at}
 use Rattle.farm_universe.specs.Told.{paragraphs_judged}
-use Rattle.farm_universe.specs.Universe.{Package}
+use Rattle.farm_model.specs.Universe.{Package}
 
 -- what a paragraph says
 pub record Listed : Type 0 where

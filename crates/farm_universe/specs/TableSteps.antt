@@ -13,7 +13,7 @@ use Rattle.deb_stanza.specs.Stanza.{Paragraph}
 use Rattle.farm_universe.specs.declared.files.TheConstants.{PACKAGES}
 use Rattle.farm_universe.specs.PackagesText.{Listed, Table, package_at, entry_count, is_below, first_code, rules_of}
 use Rattle.farm_universe.specs.Told.{told}
-use Rattle.farm_universe.specs.Universe.{Package}
+use Rattle.farm_model.specs.Universe.{Package}
 
 -- the packages of the name with this number
 abbrev pub given_at : Table → Option ℕ → List Package

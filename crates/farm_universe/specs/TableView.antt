@@ -8,7 +8,7 @@ use Rattle.farm_universe.specs.declared.limits.TheConstants.{MOST_NAMES, MOST_EN
 use Rattle.farm_universe.specs.declared.packages.Listed.{Listed}
 use Rattle.farm_universe.specs.declared.table.Table.{Table}
 use Rattle.farm_universe.specs.PackagesText as text
-use Rattle.farm_universe.specs.Universe.{Package}
+use Rattle.farm_model.specs.Universe.{Package}
 
 -- what a paragraph says
 abbrev pub listed_view : Listed → text.Listed

@@ -14,7 +14,7 @@ use Rattle.farm_universe.specs.declared.files.TheConstants.{PACKAGES, SOURCES, F
 use Rattle.farm_universe.specs.FarmText.{Farm, farm_of}
 use Rattle.farm_universe.specs.PackagesText.{Table, packages_of}
 use Rattle.farm_universe.specs.Told.{in_file}
-use Rattle.farm_universe.specs.Universe.{Package, Universe}
+use Rattle.farm_model.specs.Universe.{Package, Universe}
 
 -- the paragraphs of a text, or its first fault
 unfoldable pub paragraphs_in : ℕ → List ℕ → Result (List Paragraph) Fault

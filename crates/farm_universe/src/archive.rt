@@ -7,14 +7,14 @@ ghost use Rattle.farm_universe.specs.FarmSteps.{add_item, words_in};
 ghost use Rattle.farm_universe.specs.FarmText.{archive_at};
 ghost use Rattle.farm_universe.specs.ListText.{has_version, find_variant, list_of, variant_at, with_bit, words_of};
 ghost use Rattle.farm_universe.specs.FarmView.{AreWords, IsPlace};
-ghost use Rattle.farm_universe.specs.Packages.{has_bit};
+ghost use Rattle.farm_model.specs.Packages.{has_bit};
 ghost use Rattle.farm_universe.specs.TableView.{table_view, IsFit};
 ghost use Rattle.farm_universe.specs.View.{refusal_of};
 
 use crate::binary::Package;
 use crate::error::{Refusal, TWICE, UNKNOWN_VARIANT};
 use crate::table::{Table, packages_at, place_of};
-use crate::types::Variant;
+use farm_model::Variant;
 use deb_relation::{Entry, Kind, Relations};
 use deb_version::Version;
 use std::alloc::Global;
@@ -80,7 +80,7 @@ fn read_variant(table: &Table, entry: &Entry) -> Result<Variant, Refusal>
     }
 }
 
-#[tactic(auto, unfolding(crate::specs::Packages::has_bit))]
+#[tactic(auto, unfolding(farm_model::specs::Packages::has_bit))]
 fn has_bit(words: &[u64], variant: Variant) -> bool
     requires name { variant.name < length words.now }
     requires bit { variant.bit < 64 }

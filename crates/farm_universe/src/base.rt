@@ -2,7 +2,7 @@
 
 ghost use Rattle.std.specs.Prelude.{◌≡◌};
 
-use crate::types::Variant;
+use farm_model::Variant;
 use std::marker::Model;
 
 /// A base chroot, as it is when a lane begins.
@@ -14,7 +14,7 @@ pub struct Base {
 }
 
 impl Model for Base {
-    ghost use Rattle.farm_universe.specs.Universe as universe;
+    ghost use Rattle.farm_model.specs.Universe as universe;
 
     ghost Value = { universe.Base };
 

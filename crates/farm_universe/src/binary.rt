@@ -30,7 +30,7 @@ pub struct Package {
 }
 
 impl Model for Package {
-    ghost use Rattle.farm_universe.specs.Universe as universe;
+    ghost use Rattle.farm_model.specs.Universe as universe;
 
     ghost Value = { universe.Package };
 

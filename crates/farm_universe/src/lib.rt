@@ -17,7 +17,6 @@ mod table;
 #[cfg(test)]
 mod tests;
 mod texts;
-pub mod types;
 mod universe;
 
 pub use base::Base;
@@ -25,6 +24,6 @@ pub use binary::PackageRelations;
 pub use error::{
     ABSENT, BAD_NUMBER, OVER_LIMIT, TOO_MANY_VARIANTS, TWICE, UNKNOWN_VARIANT, UNREAD,
 };
+pub use farm_model::{Slot, Trap, Variant};
 pub use files::{FARM, PACKAGES, SOURCES};
-pub use types::{Slot, Trap, Variant};
 pub use universe::Universe;

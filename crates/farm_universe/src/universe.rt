@@ -7,8 +7,8 @@ ghost use Rattle.deb_text.specs.Answers.{Gives, refusal_of as fault_of};
 ghost use Rattle.deb_text.specs.Groups.{place_in};
 ghost use Rattle.farm_universe.specs.FarmView.{AreBases, AreWords, farm_view};
 ghost use Rattle.farm_universe.specs.Kept.{IsKept};
-ghost use Rattle.farm_universe.specs.Packages.{names, variants, package_of, size, pre_depends, depends, satisfies, is_wanted, base};
-ghost use Rattle.farm_universe.specs.Sound.{IsKnown};
+ghost use Rattle.farm_model.specs.Packages.{names, variants, package_of, size, pre_depends, depends, satisfies, is_wanted, base};
+ghost use Rattle.farm_model.specs.Sound.{IsKnown};
 ghost use Rattle.farm_universe.specs.TableView.{IsFit, table_view};
 ghost use Rattle.farm_universe.specs.UniverseText.{universe_of, universe_with};
 
@@ -19,7 +19,7 @@ use crate::limits::MOST_VARIANTS;
 use crate::reduction::reduce_all;
 use crate::table::{Table, place_of};
 use crate::texts::{read_farm_text, read_packages_text, read_sources_text};
-use crate::types::Variant;
+use farm_model::Variant;
 use deb_profile::ArchNames;
 use deb_relation::{Atom, Facts, Op, in_relation, satisfies};
 use deb_text::Fault;
@@ -42,7 +42,7 @@ pub struct Universe {
 impl Model for Universe {
     ghost use Rattle.std.specs.Prelude.{[]};
     ghost use Rattle.deb_text.specs.Lists.{lists};
-    ghost use Rattle.farm_universe.specs.Universe as universe;
+    ghost use Rattle.farm_model.specs.Universe as universe;
     ghost use Rattle.farm_universe.specs.Kept.{IsKept};
 
     ghost Value = { universe.Universe };
@@ -119,7 +119,7 @@ impl Universe {
     }
 
     /// How many names of packages there are.
-    #[tactic(auto, unfolding(crate::specs::Packages::names))]
+    #[tactic(auto, unfolding(farm_model::specs::Packages::names))]
     pub fn names(&self) -> u32
         ensures number { result ≡ names self.now }
         ensures kept { IsKept self.now }
@@ -128,7 +128,7 @@ impl Universe {
     }
 
     /// The name with this number.
-    #[tactic(auto, unfolding(crate::specs::Packages::names))]
+    #[tactic(auto, unfolding(farm_model::specs::Packages::names))]
     pub fn name_text(&self, name: u32) -> &[u8]
         requires { name < names self.now }
         ensures { result.now ≡ slice_index_or self.now.names name [] }
@@ -137,7 +137,7 @@ impl Universe {
     }
 
     /// The number of a name.
-    #[tactic(auto, unfolding(crate::specs::Packages::names))]
+    #[tactic(auto, unfolding(farm_model::specs::Packages::names))]
     pub fn find(&self, text: &[u8]) -> Option<u32>
         ensures number { result ≡ place_in bytes_eq self.now.names text.now }
         ensures within { IfSome result (λ name. name < names self.now) }
@@ -149,7 +149,7 @@ impl Universe {
     }
 
     /// The packages of a name, from the lowest version up.
-    #[tactic(auto, unfolding(crate::specs::Packages::names))]
+    #[tactic(auto, unfolding(farm_model::specs::Packages::names))]
     fn packages_named(&self, name: u32) -> &[Package]
         requires { name < names self.now }
         ensures packages { result.now ≡ slice_index_or self.now.packages name [] }
@@ -159,7 +159,7 @@ impl Universe {
     }
 
     /// How many variants a name has.
-    #[tactic(auto, unfolding(crate::specs::Packages::variants))]
+    #[tactic(auto, unfolding(farm_model::specs::Packages::variants))]
     pub fn variants(&self, name: u32) -> u32
         requires { name < names self.now }
         ensures { result ≡ variants self.now name }
@@ -167,7 +167,7 @@ impl Universe {
         self.packages_named(name).len() as u32
     }
 
-    #[tactic(auto, unfolding(crate::specs::Packages::variants, crate::specs::Packages::package_of))]
+    #[tactic(auto, unfolding(farm_model::specs::Packages::variants, farm_model::specs::Packages::package_of))]
     fn package_of(&self, variant: Variant) -> &Package
         requires { IsKnown self.now variant }
         ensures { result.now ≡ package_of self.now variant }
@@ -184,7 +184,7 @@ impl Universe {
     }
 
     /// The Installed-Size of a variant, in KiB.
-    #[tactic(auto, unfolding(crate::specs::Packages::size))]
+    #[tactic(auto, unfolding(farm_model::specs::Packages::size))]
     pub fn size(&self, variant: Variant) -> u64
         requires { IsKnown self.now variant }
         ensures { result ≡ size self.now variant }
@@ -193,7 +193,7 @@ impl Universe {
     }
 
     /// The relation fields of a variant, reduced to the farm's architecture.
-    #[tactic(auto, unfolding(crate::specs::Packages::depends, crate::specs::Packages::pre_depends))]
+    #[tactic(auto, unfolding(farm_model::specs::Packages::depends, farm_model::specs::Packages::pre_depends))]
     pub fn relations(&self, variant: Variant) -> &PackageRelations
         requires { IsKnown self.now variant }
         ensures pre_depends { result.now.pre_depends ≡ pre_depends self.now variant }
@@ -206,7 +206,7 @@ impl Universe {
     }
 
     /// Tells whether a variant satisfies an alternative (Debian Policy 7.1 and 7.5).
-    #[tactic(auto, unfolding(crate::specs::Packages::satisfies, crate::specs::Packages::facts))]
+    #[tactic(auto, unfolding(farm_model::specs::Packages::satisfies, farm_model::specs::Packages::facts))]
     pub fn satisfies(&self, variant: Variant, atom: &Atom) -> bool
         requires { IsKnown self.now variant }
         ensures { result ≡ satisfies self.now atom.now variant }
@@ -221,7 +221,7 @@ impl Universe {
     }
 
     /// Tells whether the version of a variant stands in a relation (Debian Policy 7.1).
-    #[tactic(auto, unfolding(crate::specs::Packages::is_wanted))]
+    #[tactic(auto, unfolding(farm_model::specs::Packages::is_wanted))]
     pub fn is_wanted(&self, variant: Variant, relation: Option<&(Op, Version)>) -> bool
         requires { IsKnown self.now variant }
         ensures { result ≡ is_wanted self.now (option_copied relation.entry) variant }
@@ -237,7 +237,7 @@ impl Universe {
     }
 
     /// The base chroot with this number.
-    #[tactic(auto, unfolding(crate::specs::Packages::base))]
+    #[tactic(auto, unfolding(farm_model::specs::Packages::base))]
     pub fn base(&self, number: u32) -> &Base
         requires { number < length self.now.bases }
         ensures { result.now ≡ base self.now number }
@@ -246,7 +246,7 @@ impl Universe {
     }
 
     /// The word of a name in the initial archive: bit b is set where variant b is in it.
-    #[tactic(auto, unfolding(crate::specs::Packages::names))]
+    #[tactic(auto, unfolding(farm_model::specs::Packages::names))]
     pub fn initial(&self, name: u32) -> u64
         requires { name < names self.now }
         ensures { result ≡ slice_index self.now.initial name }

@@ -3,12 +3,12 @@ use Rattle.std.proofs.Common.{◌≡◌, ℕ, zero, suc, ◌+◌, List, [], ◌�
 use Rattle.std.specs.List.{sum_by}
 use Rattle.std.proofs.lemmas.List.Elements.{All-head, All-tail}
 use Rattle.std.proofs.lemmas.List.Sums.{sum_by-cons}
-use Rattle.farm_universe.specs.Below.{sum_below}
-use Rattle.farm_universe.specs.Universe.{Universe}
-use Rattle.plan_asm.specs.declared.instructions.Instruction.{Instruction}
+use Rattle.farm_model.specs.Below.{sum_below}
+use Rattle.farm_model.specs.Universe.{Universe}
+use Rattle.plan_model.specs.declared.instructions.Instruction.{Instruction}
 use Rattle.plan_asm.specs.Drafts.{instructions_of}
 use Rattle.plan_asm.specs.Ends.{AreSingle}
-use Rattle.plan_asm.specs.Plan.{Lane, Plan, lane, events_of, count}
+use Rattle.plan_model.specs.Plan.{Lane, Plan, lane, events_of, count}
 
 -- a sum from its first number on
 sum_below-first : (n : ℕ) (f : ℕ → ℕ) → sum_below (suc n) f ≡ f 0 + sum_below n (λ k. f (suc k))

@@ -4,9 +4,9 @@ use Rattle.std.specs.List.{list_any}
 use Rattle.std.proofs.lemmas.Bool.{eqb-true, eqb-false, or_parts, eq-eqb, ne_eqb, cases_eq}
 use Rattle.std.proofs.lemmas.List.{take_more, get_or-set_same, get_or-set_other, take-append-drop}
 use Rattle.std.proofs.lemmas.List.Folds.{list_any-append}
-use Rattle.farm_universe.specs.Chroot.{member}
+use Rattle.farm_model.specs.Chroot.{member}
 use Rattle.plan_asm.specs.Seen.{Marks}
-use Rattle.plan_asm.specs.Sound.{has_double}
+use Rattle.plan_model.specs.Sound.{has_double}
 
 or-true : (a : Bool) → (a || true) ≡ true
 or-true true = refl

@@ -8,16 +8,16 @@ use Rattle.std.proofs.lemmas.List.{append-nil, length-map}
 use Rattle.std.proofs.lemmas.List.Concat.{flat_map-append}
 use Rattle.std.proofs.lemmas.List.Elements.{All-nil, All-push, All-pop}
 use Rattle.deb_text.specs.Steps.{traverse}
-use Rattle.farm_universe.specs.Universe.{Base, Universe}
+use Rattle.farm_model.specs.Universe.{Base, Universe}
 use Rattle.plan_asm.specs.declared.draft.Open.{Open}
 use Rattle.plan_asm.specs.declared.draft.Open.TheVariants.{Nothing, InLane}
 use Rattle.plan_asm.specs.declared.error.TheConstants.{MOST_LANES, MOST_INSTRUCTIONS}
-use Rattle.plan_asm.specs.declared.instructions.Instruction.{Instruction}
-use Rattle.plan_asm.specs.declared.instructions.Instruction.TheVariants.{Unpack, Configure, Deconfigure, Remove, Build, Publish, Wait}
+use Rattle.plan_model.specs.declared.instructions.Instruction.{Instruction}
+use Rattle.plan_model.specs.declared.instructions.Instruction.TheVariants.{Unpack, Configure, Deconfigure, Remove, Build, Publish, Wait}
 use Rattle.plan_asm.specs.Drafts.{Draft, is_open, all_lanes, instructions_of, or_unknown, known_name, base_names, known_base, set_of, fresh_lane, open_lane, end_lane, with_instruction, add, take_form}
 use Rattle.plan_asm.specs.Forms.{Form, LaneForm, EndForm, UnpackForm, ConfigureForm}
-use Rattle.plan_asm.specs.Plan.{Lane}
-use Rattle.plan_asm.specs.Sound.{has_double}
+use Rattle.plan_model.specs.Plan.{Lane}
+use Rattle.plan_model.specs.Sound.{has_double}
 use Rattle.plan_asm.proofs.Carried.{if-has, then-has, traverse-has}
 use Rattle.plan_asm.proofs.FormLaws.{IsForm}
 use Rattle.plan_asm.proofs.Places.{place-within}

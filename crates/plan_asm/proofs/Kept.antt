@@ -7,21 +7,21 @@ use Rattle.deb_stanza.specs.Plain.{plain_lines_at}
 use Rattle.deb_text.specs.declared.fault.Fault.{Fault}
 use Rattle.deb_text.specs.Answers.{Gives, refusal_of}
 use Rattle.deb_text.specs.Lines.{Line}
-use Rattle.farm_universe.specs.Packages.{names}
-use Rattle.farm_universe.specs.Sound.{IsUniverse}
+use Rattle.farm_model.specs.Packages.{names}
+use Rattle.farm_model.specs.Sound.{IsUniverse}
 use Rattle.farm_universe.specs.Told.{in_file}
-use Rattle.farm_universe.specs.Universe.{Universe}
+use Rattle.farm_model.specs.Universe.{Universe}
 use Rattle.plan_asm.specs.declared.draft.Open.{Open}
 use Rattle.plan_asm.specs.declared.draft.Open.TheVariants.{Nothing, InLane}
 use Rattle.plan_asm.specs.declared.error.TheConstants.{FILE}
-use Rattle.plan_asm.specs.declared.instructions.Instruction.{Instruction}
-use Rattle.plan_asm.specs.declared.instructions.Instruction.TheVariants.{Unpack, Configure, Deconfigure, Remove, Build, Publish, Wait}
+use Rattle.plan_model.specs.declared.instructions.Instruction.{Instruction}
+use Rattle.plan_model.specs.declared.instructions.Instruction.TheVariants.{Unpack, Configure, Deconfigure, Remove, Build, Publish, Wait}
 use Rattle.plan_asm.specs.Drafts.{Draft, empty, all_lanes}
 use Rattle.plan_asm.specs.Ends.{finished, AreSingle, IsRead}
 use Rattle.plan_asm.specs.Forms.{form_at, is_head}
-use Rattle.plan_asm.specs.Plan.{Lane, Plan, lane, no_lane, events_of}
+use Rattle.plan_model.specs.Plan.{Lane, Plan, lane, no_lane, events_of}
 use Rattle.plan_asm.specs.PlanText.{take_text, take_line, draft_of, plan_in, plan_of}
-use Rattle.plan_asm.specs.Sound.{IsInstruction, IsPlan, unpacks_or_configures, UnpacksAndConfigures}
+use Rattle.plan_model.specs.Sound.{IsInstruction, IsPlan, unpacks_or_configures, UnpacksAndConfigures}
 use Rattle.plan_asm.proofs.Carried.{if-has, then-has, steps-keep, placed-has, always, has-ok}
 use Rattle.plan_asm.proofs.DraftLaws.{IsGood, IsGoodLane, IsGoodDraft, take_form-has}
 use Rattle.plan_asm.proofs.FormLaws.{IsForm, form-has}

@@ -7,8 +7,8 @@ use Rattle.std.proofs.lemmas.List.Sums.{position_or_len_is}
 use Rattle.std.proofs.Math.ListN.{get_or-map}
 use Rattle.deb_text.proofs.PlaceLaws.{place_in-position}
 use Rattle.deb_text.specs.Groups.{place_in}
-use Rattle.farm_universe.specs.Packages.{no_base, base}
-use Rattle.farm_universe.specs.Universe.{Base, Universe}
+use Rattle.farm_model.specs.Packages.{no_base, base}
+use Rattle.farm_model.specs.Universe.{Base, Universe}
 use Rattle.plan_asm.specs.Drafts.{base_names}
 
 module _ (ks : List (List ℕ)) (k : List ℕ) where

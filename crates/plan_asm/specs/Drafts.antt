@@ -10,15 +10,15 @@ use Rattle.std.specs.List.{list_any, flat_map}
 use Rattle.std.specs.Str.{bytes_eq}
 use Rattle.deb_text.specs.Groups.{place_in}
 use Rattle.deb_text.specs.Steps.{◌>>=◌, traverse}
-use Rattle.farm_universe.specs.Universe.{Base, Universe}
+use Rattle.farm_model.specs.Universe.{Base, Universe}
 use Rattle.plan_asm.specs.declared.draft.Open.{Open}
 use Rattle.plan_asm.specs.declared.draft.Open.TheVariants.{Nothing, InLane}
 use Rattle.plan_asm.specs.declared.error.TheConstants.{BAD_LINE, UNKNOWN_NAME, NAME_TWICE, LANE_TWICE, OVER_LIMIT, MOST_LANES, MOST_INSTRUCTIONS}
-use Rattle.plan_asm.specs.declared.instructions.Instruction.{Instruction}
-use Rattle.plan_asm.specs.declared.instructions.Instruction.TheVariants.{Unpack, Configure}
+use Rattle.plan_model.specs.declared.instructions.Instruction.{Instruction}
+use Rattle.plan_model.specs.declared.instructions.Instruction.TheVariants.{Unpack, Configure}
 use Rattle.plan_asm.specs.Forms.{Form, LaneForm, EndForm, UnpackForm, ConfigureForm}
-use Rattle.plan_asm.specs.Plan.{Lane}
-use Rattle.plan_asm.specs.Sound.{has_double}
+use Rattle.plan_model.specs.Plan.{Lane}
+use Rattle.plan_model.specs.Sound.{has_double}
 
 -- the lanes that have ended, and what is left open
 pub record Draft : Type 0 where

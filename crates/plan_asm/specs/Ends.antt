@@ -7,13 +7,13 @@
 use Rattle.std.specs.Prelude.{◌≡◌, ℕ, ◌<◌, ◌≤◌, ◌^◌, List, length, All, Result, Ok, Err}
 use Rattle.deb_text.specs.declared.fault.Fault.{Fault}
 use Rattle.deb_text.specs.Answers.{fault_at}
-use Rattle.farm_universe.specs.Universe.{Universe}
+use Rattle.farm_model.specs.Universe.{Universe}
 use Rattle.plan_asm.specs.declared.draft.Open.{Open}
 use Rattle.plan_asm.specs.declared.draft.Open.TheVariants.{Nothing, InLane}
 use Rattle.plan_asm.specs.declared.error.TheConstants.{FILE, MOST_LANES, MOST_INSTRUCTIONS, UNCLOSED}
-use Rattle.plan_asm.specs.declared.instructions.Instruction.{Instruction}
+use Rattle.plan_model.specs.declared.instructions.Instruction.{Instruction}
 use Rattle.plan_asm.specs.Drafts.{Draft, all_lanes, instructions_of}
-use Rattle.plan_asm.specs.Plan.{Lane, Plan, events_of, count}
+use Rattle.plan_model.specs.Plan.{Lane, Plan, events_of, count}
 
 -- what is left open is told at its first line
 abbrev pub finished : List Lane → Open → Result Plan Fault

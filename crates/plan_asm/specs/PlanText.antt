@@ -10,12 +10,12 @@ use Rattle.deb_text.specs.Answers.{fault_at, placed}
 use Rattle.deb_text.specs.Lines.{Line}
 use Rattle.deb_text.specs.Steps.{◌>>=◌, steps}
 use Rattle.farm_universe.specs.Told.{in_file}
-use Rattle.farm_universe.specs.Universe.{Universe}
+use Rattle.farm_model.specs.Universe.{Universe}
 use Rattle.plan_asm.specs.declared.error.TheConstants.{FILE, NO_PLAN}
 use Rattle.plan_asm.specs.Drafts.{Draft, empty, take_form}
 use Rattle.plan_asm.specs.Ends.{finished}
 use Rattle.plan_asm.specs.Forms.{form_at, is_head}
-use Rattle.plan_asm.specs.Plan.{Plan}
+use Rattle.plan_model.specs.Plan.{Plan}
 
 -- the draft with one more line, or the code of the line's fault
 unfoldable pub take_text : Universe → ℕ → Draft → List ℕ → Result Draft ℕ

@@ -1,6 +1,6 @@
 -- A table that tells which numbers were seen.
 use Rattle.std.specs.Prelude.{◌≡◌, ℕ, ◌<◌, Bool, false, List, length, slice_index_or}
-use Rattle.farm_universe.specs.Chroot.{member}
+use Rattle.farm_model.specs.Chroot.{member}
 
 -- the place of each number tells whether the number is among these
 abbrev pub Marks : List Bool → List ℕ → Type 0

@@ -11,7 +11,7 @@ ghost use Rattle.plan_asm.specs.View.{refusal_of_line};
 use crate::error::{
     BAD_LINE, FILE, LANE_TWICE, LineError, MOST_INSTRUCTIONS, MOST_LANES, OVER_LIMIT, UNCLOSED,
 };
-use crate::instructions::Instruction;
+use plan_model::Instruction;
 use crate::lane::Lane;
 use crate::plan::Plan;
 use deb_text::Fault;

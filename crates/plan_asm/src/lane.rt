@@ -3,7 +3,7 @@
 ghost use Rattle.std.specs.Prelude.{◌≡◌, OnOk};
 ghost use Rattle.plan_asm.specs.Drafts.{fresh_lane, with_instruction};
 
-use crate::instructions::Instruction;
+use plan_model::Instruction;
 use std::alloc::{AllocError, Global};
 use std::marker::Model;
 
@@ -18,7 +18,7 @@ pub struct Lane {
 }
 
 impl Model for Lane {
-    ghost use Rattle.plan_asm.specs.Plan as spec;
+    ghost use Rattle.plan_model.specs.Plan as spec;
 
     ghost Value = { spec.Lane };
 

@@ -4,7 +4,6 @@
 mod draft;
 mod error;
 mod form;
-pub mod instructions;
 mod lane;
 mod names;
 mod plan;
@@ -14,9 +13,9 @@ pub use error::{
     BAD_LINE, FILE, LANE_TWICE, MOST_INSTRUCTIONS, MOST_LANES, NAME_TWICE, NO_PLAN, OVER_LIMIT,
     UNCLOSED, UNKNOWN_NAME,
 };
-pub use instructions::{Instruction, Members};
 pub use lane::Lane;
 pub use plan::Plan;
+pub use plan_model::{Instruction, Members};
 pub use reader::assemble;
 
 #[cfg(test)]

@@ -4,14 +4,14 @@ ghost use Rattle.std.specs.Prelude.{◌≡◌, ◌<◌, [], length, All, IfOk};
 ghost use Rattle.deb_text.specs.Answers.{Gives};
 ghost use Rattle.deb_text.specs.Steps.{traverse};
 ghost use Rattle.deb_text.specs.Words.{words};
-ghost use Rattle.farm_universe.specs.Packages.{names};
+ghost use Rattle.farm_model.specs.Packages.{names};
 ghost use Rattle.plan_asm.specs.Drafts.{known_name, known_base, set_of};
-ghost use Rattle.plan_asm.specs.Sound.{has_double};
+ghost use Rattle.plan_model.specs.Sound.{has_double};
 ghost use Rattle.plan_asm.specs.Seen.{Marks};
 ghost use Rattle.plan_asm.specs.View.{refusal_of_line};
 
 use crate::error::{LineError, NAME_TWICE, UNKNOWN_NAME};
-use crate::instructions::Members;
+use plan_model::Members;
 use deb_text::next_word;
 use farm_universe::Universe;
 use std::alloc::{AllocError, Global};

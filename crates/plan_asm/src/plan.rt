@@ -1,9 +1,9 @@
 //! A plan that was read.
 
 ghost use Rattle.std.specs.Prelude.{◌≡◌, ◌<◌, length, slice_get, Some};
-ghost use Rattle.farm_universe.specs.Universe.{Universe};
+ghost use Rattle.farm_model.specs.Universe.{Universe};
 ghost use Rattle.plan_asm.specs.Ends.{IsWithinLimits, IsCounted};
-ghost use Rattle.plan_asm.specs.Plan.{count};
+ghost use Rattle.plan_model.specs.Plan.{count};
 
 use crate::lane::Lane;
 use std::marker::Model;
@@ -16,7 +16,7 @@ pub struct Plan {
 }
 
 impl Model for Plan {
-    ghost use Rattle.plan_asm.specs.Plan as spec;
+    ghost use Rattle.plan_model.specs.Plan as spec;
 
     ghost Value = { spec.Plan };
 

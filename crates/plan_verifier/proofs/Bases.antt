@@ -4,14 +4,14 @@ use Rattle.std.specs.Prelude.{◌==◌}
 use Rattle.std.specs.List.{find}
 use Rattle.std.proofs.lemmas.Bool.{cases_lt, eqb-true}
 use Rattle.std.proofs.lemmas.List.{get_or_past}
-use Rattle.farm_universe.specs.declared.types.Variant.{Variant}
-use Rattle.farm_universe.specs.Universe.{Universe}
-use Rattle.farm_universe.specs.Packages.{names, base}
-use Rattle.farm_universe.specs.Sound.{IsKnown, IsUniverse}
-use Rattle.plan_asm.specs.Plan.{Lane}
-use Rattle.plan_asm.specs.Turn.{no_builds}
-use Rattle.plan_asm.specs.May.{May}
-use Rattle.plan_asm.specs.MayAt.{may_base_slot, may_base}
+use Rattle.farm_model.specs.declared.types.Variant.{Variant}
+use Rattle.farm_model.specs.Universe.{Universe}
+use Rattle.farm_model.specs.Packages.{names, base}
+use Rattle.farm_model.specs.Sound.{IsKnown, IsUniverse}
+use Rattle.plan_model.specs.Plan.{Lane}
+use Rattle.plan_model.specs.Turn.{no_builds}
+use Rattle.plan_model.specs.May.{May}
+use Rattle.plan_model.specs.MayAt.{may_base_slot, may_base}
 use Rattle.plan_verifier.specs.declared.map.Held.TheVariants.{Absent}
 use Rattle.plan_verifier.specs.declared.map.MayMap.{MayMap}
 use Rattle.plan_verifier.specs.Map.{slot_of, held_at, may_of, IsBaseMap}

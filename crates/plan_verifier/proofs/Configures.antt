@@ -3,12 +3,12 @@ use Rattle.std.proofs.Common.{◌≡◌, ℕ, zero, suc, ◌+◌, ◌<◌, Bool,
 use Rattle.std.specs.Prelude.{slice_set, slice_index_or}
 use Rattle.std.proofs.lemmas.Bool.{cases_eq, eq-eqb}
 use Rattle.std.proofs.lemmas.List.{get_or-set_same, get_or-set_other}
-use Rattle.farm_universe.specs.Chroot.{member}
-use Rattle.farm_universe.specs.Universe.{Universe}
-use Rattle.plan_asm.specs.declared.instructions.Instruction.TheVariants.{Configure}
-use Rattle.plan_asm.specs.Turn.{no_builds}
-use Rattle.plan_asm.specs.May.{MaySlot, MayAbsent, MayUnpacked, MayConfigured}
-use Rattle.plan_asm.specs.MayAt.{may_be_configured}
+use Rattle.farm_model.specs.Chroot.{member}
+use Rattle.farm_model.specs.Universe.{Universe}
+use Rattle.plan_model.specs.declared.instructions.Instruction.TheVariants.{Configure}
+use Rattle.plan_model.specs.Turn.{no_builds}
+use Rattle.plan_model.specs.May.{MaySlot, MayAbsent, MayUnpacked, MayConfigured}
+use Rattle.plan_model.specs.MayAt.{may_be_configured}
 use Rattle.plan_verifier.specs.declared.map.Held.{Held}
 use Rattle.plan_verifier.specs.declared.map.Held.TheVariants.{Absent, Unpacked, Configured}
 use Rattle.plan_verifier.specs.declared.map.MayMap.{MayMap}

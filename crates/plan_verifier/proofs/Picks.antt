@@ -5,17 +5,17 @@ use Rattle.std.proofs.lemmas.Bool.{cases_eq, and_parts, and_from, eq-eqb, eqb-tr
 use Rattle.std.proofs.lemmas.List.{get_or-set_same, get_or-set_other}
 use Rattle.std.proofs.lemmas.Nat.Bits.{bit_at-zero}
 use Rattle.deb_relation.specs.declared.operator.Op.{Op}
-use Rattle.farm_universe.specs.Universe.{Universe}
-use Rattle.farm_universe.specs.Packages.{variant, variants, initial, is_wanted}
-use Rattle.farm_universe.specs.Sound.{IsUniverse}
-use Rattle.farm_universe.specs.Traps.{first_trap}
-use Rattle.farm_universe.proofs.BelowLaws.{IsHighest, highest_below-some}
-use Rattle.plan_asm.specs.declared.instructions.Instruction.TheVariants.{Unpack}
-use Rattle.plan_asm.specs.Plan.{Lane}
-use Rattle.plan_asm.specs.Turn.{newest, no_builds}
-use Rattle.plan_asm.specs.May.{Bits, MayAbsent, MayUnpacked, May}
-use Rattle.plan_asm.specs.MayAt.{may_be_last, may_unpack}
-use Rattle.plan_asm.specs.Risk.{candidates, greatest_cost, unpack_risk, unpack_risks}
+use Rattle.farm_model.specs.Universe.{Universe}
+use Rattle.farm_model.specs.Packages.{variant, variants, initial, is_wanted}
+use Rattle.farm_model.specs.Sound.{IsUniverse}
+use Rattle.farm_model.specs.Traps.{first_trap}
+use Rattle.farm_model.proofs.BelowLaws.{IsHighest, highest_below-some}
+use Rattle.plan_model.specs.declared.instructions.Instruction.TheVariants.{Unpack}
+use Rattle.plan_model.specs.Plan.{Lane}
+use Rattle.plan_model.specs.Turn.{newest, no_builds}
+use Rattle.plan_model.specs.May.{Bits, MayAbsent, MayUnpacked, May}
+use Rattle.plan_model.specs.MayAt.{may_be_last, may_unpack}
+use Rattle.plan_model.specs.Risk.{candidates, greatest_cost, unpack_risk, unpack_risks}
 use Rattle.plan_verifier.specs.declared.map.Held.{Held}
 use Rattle.plan_verifier.specs.declared.map.Held.TheVariants.{Absent, Unpacked, Configured}
 use Rattle.plan_verifier.specs.declared.map.MayMap.{MayMap}

@@ -1,11 +1,11 @@
 -- What an accepted plan promises, by the laws of annotated plans.
 use Rattle.std.proofs.Common.{ℕ, ◌<◌, ◌≤◌, [], length, refl}
 use Rattle.farm_laws.proofs.LawsOfPlans.{every_interleaving, lanes_are_within_budget}
-use Rattle.plan_asm.specs.MayAt.{lane_cost}
-use Rattle.plan_asm.specs.Plan.{lane}
-use Rattle.plan_asm.specs.Promise.{IsSafe}
-use Rattle.plan_asm.specs.Run.{start}
-use Rattle.plan_asm.specs.Safety.{IsAnnotation}
+use Rattle.plan_model.specs.MayAt.{lane_cost}
+use Rattle.plan_model.specs.Plan.{lane}
+use Rattle.plan_model.specs.Promise.{IsSafe}
+use Rattle.plan_model.specs.Run.{start}
+use Rattle.plan_model.specs.Safety.{IsAnnotation}
 use Rattle.plan_verifier.specs.Accepted.{AcceptedPlan, known_rows, IsAccepted}
 
 module _ (a : AcceptedPlan) (is : IsAccepted a) where

@@ -6,20 +6,20 @@ use Rattle.std.specs.List.{list_any}
 use Rattle.std.proofs.lemmas.Bool.{cases_Bool, true≢false}
 use Rattle.std.proofs.lemmas.List.Folds.{list_any_none, length-flat_map-take}
 use Rattle.std.proofs.lemmas.Option.{slice_get-get_or, get_or_from_slice_get}
-use Rattle.farm_universe.specs.declared.types.Variant.{Variant}
-use Rattle.farm_universe.specs.declared.types.Trap.{Trap}
-use Rattle.farm_universe.specs.Below.{some_below}
-use Rattle.farm_universe.specs.Universe.{Universe}
-use Rattle.farm_universe.specs.Packages.{initial}
-use Rattle.plan_asm.specs.declared.instructions.Instruction.{Instruction}
-use Rattle.plan_asm.specs.declared.instructions.Instruction.TheVariants.{Unpack, Configure, Deconfigure, Remove, Build, Publish, Wait}
+use Rattle.farm_model.specs.declared.types.Variant.{Variant}
+use Rattle.farm_model.specs.declared.types.Trap.{Trap}
+use Rattle.farm_model.specs.Below.{some_below}
+use Rattle.farm_model.specs.Universe.{Universe}
+use Rattle.farm_model.specs.Packages.{initial}
+use Rattle.plan_model.specs.declared.instructions.Instruction.{Instruction}
+use Rattle.plan_model.specs.declared.instructions.Instruction.TheVariants.{Unpack, Configure, Deconfigure, Remove, Build, Publish, Wait}
 use Rattle.plan_asm.specs.Ends.{IsWithinLimits}
-use Rattle.plan_asm.specs.Plan.{Lane, Plan, lane, no_lane, instruction_at}
-use Rattle.plan_asm.specs.Known.{Rows, possible, gives, within_reach}
-use Rattle.plan_asm.specs.May.{May}
-use Rattle.plan_asm.specs.MayAt.{may_after_some, may_at}
-use Rattle.plan_asm.specs.Risk.{risk}
-use Rattle.plan_asm.specs.Safety.{risk_of, risk_at}
+use Rattle.plan_model.specs.Plan.{Lane, Plan, lane, no_lane, instruction_at}
+use Rattle.plan_model.specs.Known.{Rows, possible, gives, within_reach}
+use Rattle.plan_model.specs.May.{May}
+use Rattle.plan_model.specs.MayAt.{may_after_some, may_at}
+use Rattle.plan_model.specs.Risk.{risk}
+use Rattle.plan_model.specs.Safety.{risk_of, risk_at}
 use Rattle.plan_verifier.specs.Walk.{initial_rows, is_read, IsReadable, risk_now, may_then}
 
 some_below-none : (n : ℕ) (p : ℕ → Bool) → ((k : ℕ) → k < n → p k ≡ false) → some_below n p ≡ false

@@ -7,10 +7,10 @@ use Rattle.std.proofs.lemmas.Option.{none-some, same_Some}
 use Rattle.std.proofs.lemmas.Bool.{cases_eq, cases_lt, cases_Bool, cond-true, cond-false, eq-eqb, eqb-true}
 use Rattle.std.proofs.lemmas.List.{get_or_past}
 use Rattle.std.proofs.lemmas.Nat.Bits.{bit_at-pow_same, bit_at-pow_other}
-use Rattle.farm_universe.specs.Below.{some_below, every_below}
-use Rattle.farm_universe.specs.Packages.{names, variants}
-use Rattle.farm_universe.specs.Universe.{Universe}
-use Rattle.plan_asm.specs.May.{MayConfigured}
+use Rattle.farm_model.specs.Below.{some_below, every_below}
+use Rattle.farm_model.specs.Packages.{names, variants}
+use Rattle.farm_model.specs.Universe.{Universe}
+use Rattle.plan_model.specs.May.{MayConfigured}
 use Rattle.plan_verifier.specs.Sets.{has}
 
 both : (a b c d : Bool) → c ≡ not d → (not a || b) && c ≡ not ((a && not b) || d)

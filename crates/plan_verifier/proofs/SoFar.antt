@@ -4,14 +4,14 @@ use Rattle.std.proofs.Common.{◌≡◌, ℕ, zero, suc, ◌<◌, true, false, r
 use Rattle.std.specs.Prelude.{nat_lt, slice_get, slice_index_or, All}
 use Rattle.std.specs.List.{list_all}
 use Rattle.std.proofs.lemmas.Bool.{and_from, lt-ltb}
-use Rattle.farm_universe.specs.Universe.{Universe}
-use Rattle.farm_universe.specs.Packages.{names}
-use Rattle.plan_asm.specs.declared.instructions.Instruction.{Instruction}
-use Rattle.plan_asm.specs.declared.instructions.Instruction.TheVariants.{Unpack, Configure, Deconfigure, Remove, Build, Publish, Wait}
-use Rattle.plan_asm.specs.Order.{items, start_board, IsOrder}
-use Rattle.plan_asm.specs.Plan.{Lane, Plan}
-use Rattle.plan_asm.specs.Sound.{IsInstruction, IsSound, unpacks_or_configures, UnpacksAndConfigures}
-use Rattle.plan_asm.specs.Known.{IsGreatest}
+use Rattle.farm_model.specs.Universe.{Universe}
+use Rattle.farm_model.specs.Packages.{names}
+use Rattle.plan_model.specs.declared.instructions.Instruction.{Instruction}
+use Rattle.plan_model.specs.declared.instructions.Instruction.TheVariants.{Unpack, Configure, Deconfigure, Remove, Build, Publish, Wait}
+use Rattle.plan_model.specs.Order.{items, start_board, IsOrder}
+use Rattle.plan_model.specs.Plan.{Lane, Plan}
+use Rattle.plan_model.specs.Sound.{IsInstruction, IsSound, unpacks_or_configures, UnpacksAndConfigures}
+use Rattle.plan_model.specs.Known.{IsGreatest}
 use Rattle.verdict_laws.specs.Families.{waits_or_publishes}
 use Rattle.verdict_laws.proofs.Quiet.{initial_rows_are_greatest}
 use Rattle.plan_verifier.specs.Walk.{initial_rows, is_read, IsReadable}

@@ -4,9 +4,9 @@
 --   IsWalked       what the walks over all lanes come to
 use Rattle.std.specs.Prelude.{◌≡◌, ℕ, List, length, Result, Ok, Err}
 use Rattle.std.specs.Global.{Vec}
-use Rattle.farm_universe.specs.Universe.{Universe}
-use Rattle.plan_asm.specs.Plan.{Plan}
-use Rattle.plan_asm.specs.Safety.{IsSafeUnder}
+use Rattle.farm_model.specs.Universe.{Universe}
+use Rattle.plan_model.specs.Plan.{Plan}
+use Rattle.plan_model.specs.Safety.{IsSafeUnder}
 use Rattle.plan_verifier.specs.declared.refusal.Refusal.{Refusal}
 use Rattle.plan_verifier.specs.declared.walk.Stop.{Stop}
 use Rattle.plan_verifier.specs.Accepted.{AreCosts}

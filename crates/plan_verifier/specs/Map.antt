@@ -4,11 +4,11 @@
 --   may_of      the may map
 use Rattle.std.specs.Prelude.{◌≡◌, ℕ, ◌<◌, ◌==◌, List, [], ◌∷◌, length, slice_index_or, slice_set}
 use Rattle.std.specs.List.{find}
-use Rattle.farm_universe.specs.Universe.{Universe}
-use Rattle.farm_universe.specs.Packages.{names, base}
-use Rattle.plan_asm.specs.May.{MaySlot, MayAbsent, MayUnpacked, MayConfigured, May}
-use Rattle.plan_asm.specs.MayAt.{may_base_slot}
-use Rattle.plan_asm.specs.Turn.{no_builds}
+use Rattle.farm_model.specs.Universe.{Universe}
+use Rattle.farm_model.specs.Packages.{names, base}
+use Rattle.plan_model.specs.May.{MaySlot, MayAbsent, MayUnpacked, MayConfigured, May}
+use Rattle.plan_model.specs.MayAt.{may_base_slot}
+use Rattle.plan_model.specs.Turn.{no_builds}
 use Rattle.plan_verifier.specs.declared.map.Held.{Held}
 use Rattle.plan_verifier.specs.declared.map.Held.TheVariants.{Absent, Unpacked, Configured}
 use Rattle.plan_verifier.specs.declared.map.MayMap.{MayMap}

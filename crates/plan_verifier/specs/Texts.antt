@@ -7,10 +7,10 @@ use Rattle.std.specs.Prelude.{ℕ, nat_lt, List, length, Result, Ok, Err, if◌t
 use Rattle.deb_text.specs.declared.fault.Fault.{Fault}
 use Rattle.deb_text.specs.Answers.{fault_at}
 use Rattle.deb_text.specs.Steps.{◌>>=◌}
-use Rattle.farm_universe.specs.Universe.{Universe}
+use Rattle.farm_model.specs.Universe.{Universe}
 use Rattle.farm_universe.specs.UniverseText.{universe_of}
 use Rattle.plan_asm.specs.declared.error.TheConstants.{FILE}
-use Rattle.plan_asm.specs.Plan.{Plan}
+use Rattle.plan_model.specs.Plan.{Plan}
 use Rattle.plan_asm.specs.PlanText.{plan_of}
 use Rattle.plan_verifier.specs.declared.refusal.TheConstants.{MANY_LANES}
 use Rattle.plan_verifier.specs.declared.texts.Planned.{Planned}

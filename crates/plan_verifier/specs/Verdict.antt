@@ -6,12 +6,12 @@
 use Rattle.std.specs.Prelude.{◌≡◌, ◌≢◌, ℕ, ◌+◌, List, [], map, Result, Ok, Err}
 use Rattle.deb_text.specs.declared.fault.Fault.{Fault}
 use Rattle.deb_text.specs.Lists.{lists}
-use Rattle.farm_universe.specs.declared.types.Trap.{Trap}
-use Rattle.farm_universe.specs.Universe.{Universe}
-use Rattle.plan_asm.specs.Known.{Rows, IsGreatest}
-use Rattle.plan_asm.specs.Order.{AreStuck}
-use Rattle.plan_asm.specs.Plan.{Plan, lane}
-use Rattle.plan_asm.specs.Safety.{IsSafeUnder, IsFirstUnsafe}
+use Rattle.farm_model.specs.declared.types.Trap.{Trap}
+use Rattle.farm_model.specs.Universe.{Universe}
+use Rattle.plan_model.specs.Known.{Rows, IsGreatest}
+use Rattle.plan_model.specs.Order.{AreStuck}
+use Rattle.plan_model.specs.Plan.{Plan, lane}
+use Rattle.plan_model.specs.Safety.{IsSafeUnder, IsFirstUnsafe}
 use Rattle.plan_verifier.specs.declared.refusal.Refusal.{Refusal}
 use Rattle.plan_verifier.specs.declared.refusal.Refusal.TheVariants.{Text, Unsafe, Stuck, Memory}
 use Rattle.plan_verifier.specs.declared.texts.Planned.{Planned}

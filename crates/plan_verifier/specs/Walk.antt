@@ -7,19 +7,19 @@
 --   Answers, Walked             what is answered to an instruction, and to a lane
 use Rattle.std.specs.Prelude.{◌≡◌, ℕ, ◌+◌, ◌<◌, ◌≤◌, ◌^◌, Bool, true, false, not, ◌&&◌, nat_lt, length, Option, Some, None, Result, Ok, Err}
 use Rattle.std.specs.List.{list_all}
-use Rattle.farm_universe.specs.declared.types.Trap.{Trap}
-use Rattle.farm_universe.specs.Universe.{Universe}
-use Rattle.farm_universe.specs.Packages.{names, initial}
-use Rattle.farm_universe.specs.Sound.{IsUniverse}
-use Rattle.plan_asm.specs.declared.instructions.Instruction.{Instruction}
-use Rattle.plan_asm.specs.declared.instructions.Instruction.TheVariants.{Unpack, Configure, Deconfigure, Remove, Build, Publish, Wait}
-use Rattle.plan_asm.specs.Plan.{Lane, Plan, lane, instruction_at}
-use Rattle.plan_asm.specs.Known.{Rows}
-use Rattle.plan_asm.specs.May.{May}
-use Rattle.plan_asm.specs.MayAt.{may_after, lane_cost}
-use Rattle.plan_asm.specs.Risk.{risk}
-use Rattle.plan_asm.specs.Safety.{risk_at}
-use Rattle.plan_asm.specs.Sound.{has_double}
+use Rattle.farm_model.specs.declared.types.Trap.{Trap}
+use Rattle.farm_model.specs.Universe.{Universe}
+use Rattle.farm_model.specs.Packages.{names, initial}
+use Rattle.farm_model.specs.Sound.{IsUniverse}
+use Rattle.plan_model.specs.declared.instructions.Instruction.{Instruction}
+use Rattle.plan_model.specs.declared.instructions.Instruction.TheVariants.{Unpack, Configure, Deconfigure, Remove, Build, Publish, Wait}
+use Rattle.plan_model.specs.Plan.{Lane, Plan, lane, instruction_at}
+use Rattle.plan_model.specs.Known.{Rows}
+use Rattle.plan_model.specs.May.{May}
+use Rattle.plan_model.specs.MayAt.{may_after, lane_cost}
+use Rattle.plan_model.specs.Risk.{risk}
+use Rattle.plan_model.specs.Safety.{risk_at}
+use Rattle.plan_model.specs.Sound.{has_double}
 use Rattle.plan_verifier.specs.declared.map.MayMap.{MayMap}
 use Rattle.plan_verifier.specs.declared.walk.Stop.{Stop}
 use Rattle.plan_verifier.specs.declared.walk.Stop.TheVariants.{Unsafe, Memory}

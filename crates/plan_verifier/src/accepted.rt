@@ -1,9 +1,9 @@
 //! An accepted plan, which keeps its promise in its type.
 
 ghost use Rattle.std.specs.Prelude.{◌≡◌, ◌<◌, ◌≤◌, length};
-ghost use Rattle.plan_asm.specs.MayAt.{lane_cost};
-ghost use Rattle.plan_asm.specs.Plan.{lane};
-ghost use Rattle.plan_asm.specs.Promise.{IsSafe};
+ghost use Rattle.plan_model.specs.MayAt.{lane_cost};
+ghost use Rattle.plan_model.specs.Plan.{lane};
+ghost use Rattle.plan_model.specs.Promise.{IsSafe};
 ghost use Rattle.plan_verifier.specs.Accepted.{IsAccepted, known_rows};
 
 use farm_universe::Universe;

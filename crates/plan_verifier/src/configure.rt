@@ -2,12 +2,12 @@
 
 ghost use Rattle.std.specs.Prelude.{◌≡◌, ◌≤◌, ◌&&◌, ◌==◌, not};
 ghost use Rattle.std.specs.List.{list_any};
-ghost use Rattle.farm_universe.specs.Chroot.{unmet};
-ghost use Rattle.farm_universe.specs.Packages as packages;
-ghost use Rattle.farm_universe.specs.Sound.{IsKnown};
-ghost use Rattle.farm_universe.specs.Traps.{first_trap};
-ghost use Rattle.plan_asm.specs.May as may;
-ghost use Rattle.plan_asm.specs.Risk as risks;
+ghost use Rattle.farm_model.specs.Chroot.{unmet};
+ghost use Rattle.farm_model.specs.Packages as packages;
+ghost use Rattle.farm_model.specs.Sound.{IsKnown};
+ghost use Rattle.farm_model.specs.Traps.{first_trap};
+ghost use Rattle.plan_model.specs.May as may;
+ghost use Rattle.plan_model.specs.Risk as risks;
 ghost use Rattle.plan_verifier.specs.Map.{slot_of, held_at, may_of};
 
 use crate::map::MayMap;
@@ -125,7 +125,7 @@ fn some_not_unpacked(members: &[u32], map: &MayMap) -> bool
 }
 
 /// The first trap that a configure of members may meet.
-#[tactic(auto, unfolding(farm_universe::specs::Traps::first_trap))]
+#[tactic(auto, unfolding(farm_model::specs::Traps::first_trap))]
 pub fn configure_risk(
     universe: &Universe,
     lane: &Lane,

@@ -1,7 +1,7 @@
 //! The walk over each lane of a plan.
 
 ghost use Rattle.std.specs.Prelude.{◌≡◌, ◌<◌, length};
-ghost use Rattle.plan_asm.specs.Plan.{lane};
+ghost use Rattle.plan_model.specs.Plan.{lane};
 ghost use Rattle.plan_verifier.specs.Costs.{IsWalked, IsToldOf};
 ghost use Rattle.plan_verifier.specs.Walk.{IsReadable};
 

@@ -4,9 +4,9 @@ ghost use Rattle.std.specs.Prelude.{◌≡◌, ◌+◌, ◌<◌, ◌≤◌, ◌^
 ghost use Rattle.std.specs.List.{find};
 ghost use Rattle.std.specs.Option.{option_map};
 ghost use Rattle.farm_universe.specs.Kept.{IsKept};
-ghost use Rattle.farm_universe.specs.Packages.{base};
-ghost use Rattle.plan_asm.specs.May.{is_surely_unpacked};
-ghost use Rattle.plan_asm.specs.MayAt.{may_base_slot};
+ghost use Rattle.farm_model.specs.Packages.{base};
+ghost use Rattle.plan_model.specs.May.{is_surely_unpacked};
+ghost use Rattle.plan_model.specs.MayAt.{may_base_slot};
 ghost use Rattle.plan_verifier.specs.Map.{slot_of, held_at, last_word, held_configured, all_configured, IsBaseMap};
 
 use crate::sets::single;

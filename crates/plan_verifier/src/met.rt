@@ -2,9 +2,9 @@
 
 ghost use Rattle.std.specs.Prelude.{◌≡◌, ◌&&◌, ◌||◌, ◌==◌, not};
 ghost use Rattle.std.specs.List.{list_any};
-ghost use Rattle.farm_universe.specs.Chroot.{member, unmet};
-ghost use Rattle.farm_universe.specs.Packages.{variant, satisfies, satisfies_entry};
-ghost use Rattle.plan_asm.specs.May as may;
+ghost use Rattle.farm_model.specs.Chroot.{member, unmet};
+ghost use Rattle.farm_model.specs.Packages.{variant, satisfies, satisfies_entry};
+ghost use Rattle.plan_model.specs.May as may;
 ghost use Rattle.plan_verifier.specs.Map.{slot_of, held_at, may_of};
 ghost use Rattle.plan_verifier.specs.Sets.{has};
 
@@ -37,7 +37,7 @@ impl NameTest for SurelyMeets<'_> {
 }
 
 /// Tells whether an entry is surely met (Debian Policy 7.2).
-#[tactic(auto, unfolding(plan_asm::specs::May::surely_met))]
+#[tactic(auto, unfolding(plan_model::specs::May::surely_met))]
 pub fn surely_met(universe: &Universe, map: &MayMap, entry: &Entry) -> bool
     ensures { result ≡ may.surely_met universe.now (may_of universe.now map.now) entry.now }
 {
@@ -74,7 +74,7 @@ impl NameTest for SurelyMeetsWith<'_> {
 
 /// Tells whether an entry is surely met where members count too, since they are configured
 /// together.
-#[tactic(auto, unfolding(plan_asm::specs::May::surely_met_with))]
+#[tactic(auto, unfolding(plan_model::specs::May::surely_met_with))]
 pub fn surely_met_with(universe: &Universe, members: &[u32], map: &MayMap, entry: &Entry) -> bool
     ensures { result
         ≡ may.surely_met_with universe.now members.now (may_of universe.now map.now) entry.now }
@@ -139,7 +139,7 @@ impl NameTest for SurelyPreMeets<'_> {
 }
 
 /// Tells whether an entry is surely met ahead of the unpack of a name.
-#[tactic(auto, unfolding(plan_asm::specs::May::surely_pre_met))]
+#[tactic(auto, unfolding(plan_model::specs::May::surely_pre_met))]
 pub fn surely_pre_met(universe: &Universe, name: u32, map: &MayMap, entry: &Entry) -> bool
     ensures { result
         ≡ may.surely_pre_met universe.now name (may_of universe.now map.now) entry.now }

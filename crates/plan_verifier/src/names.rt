@@ -1,9 +1,9 @@
 //! Tests of the names of a universe.
 
 ghost use Rattle.std.specs.Prelude.{◌≡◌, ◌<◌, ℕ, Bool};
-ghost use Rattle.farm_universe.specs.Below.{some_below};
-ghost use Rattle.farm_universe.specs.Packages.{names};
-ghost use Rattle.farm_universe.specs.Universe.{Universe};
+ghost use Rattle.farm_model.specs.Below.{some_below};
+ghost use Rattle.farm_model.specs.Packages.{names};
+ghost use Rattle.farm_model.specs.Universe.{Universe};
 
 use farm_universe::Universe;
 

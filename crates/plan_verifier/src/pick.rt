@@ -1,8 +1,8 @@
 //! Which variant an unpack takes.
 
 ghost use Rattle.std.specs.Prelude.{◌≡◌, ◌&&◌, ◌<◌, IfSome};
-ghost use Rattle.farm_universe.specs.Packages.{variant, variants, names, initial, is_wanted};
-ghost use Rattle.plan_asm.specs.Turn as turn;
+ghost use Rattle.farm_model.specs.Packages.{variant, variants, names, initial, is_wanted};
+ghost use Rattle.plan_model.specs.Turn as turn;
 
 use crate::sets::{has, variant_count};
 use deb_relation::Op;
@@ -10,7 +10,7 @@ use deb_version::Version;
 use farm_universe::{Universe, Variant};
 
 /// Tells whether a variant is in the initial archive and in the relation of an unpack.
-#[tactic(auto, unfolding(farm_universe::specs::Packages::initial, farm_universe::specs::Packages::has_bit))]
+#[tactic(auto, unfolding(farm_model::specs::Packages::initial, farm_model::specs::Packages::has_bit))]
 fn is_there(universe: &Universe, name: u32, relation: &Option<(Op, Version)>, bit: u32) -> bool
     requires named { name < names universe.now }
     requires known { bit < variants universe.now name }
@@ -22,7 +22,7 @@ fn is_there(universe: &Universe, name: u32, relation: &Option<(Op, Version)>, bi
 }
 
 /// The highest variant of a name that is in the initial archive and in the relation.
-#[tactic(auto, unfolding(plan_asm::specs::Turn::newest))]
+#[tactic(auto, unfolding(plan_model::specs::Turn::newest))]
 pub fn newest(universe: &Universe, name: u32, relation: &Option<(Op, Version)>) -> Option<u32>
     requires { name < names universe.now }
     ensures { result ≡ turn.newest universe.now (initial universe.now) name relation.now }

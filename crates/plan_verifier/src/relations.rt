@@ -4,8 +4,8 @@ ghost use Rattle.std.specs.Prelude.{◌≡◌};
 ghost use Rattle.std.specs.List.{list_any};
 ghost use Rattle.deb_relation.specs.Satisfaction.{satisfies as package_satisfies};
 ghost use Rattle.deb_relation.specs.View.{facts_of};
-ghost use Rattle.farm_universe.specs.Packages as packages;
-ghost use Rattle.farm_universe.specs.Sound.{IsKnown};
+ghost use Rattle.farm_model.specs.Packages as packages;
+ghost use Rattle.farm_model.specs.Sound.{IsKnown};
 
 use crate::sets::VariantTest;
 use deb_relation::{Atom, Entry, Facts, Relations, satisfies};
@@ -56,7 +56,7 @@ pub fn satisfies_any(universe: &Universe, entries: &Relations, variant: Variant)
 }
 
 /// Tells whether one of two variants declares a conflict with the other (Debian Policy 7.4).
-#[tactic(auto, unfolding(farm_universe::specs::Packages::conflict))]
+#[tactic(auto, unfolding(farm_model::specs::Packages::conflict))]
 pub fn conflict(universe: &Universe, variant: Variant, other: Variant) -> bool
     requires known { IsKnown universe.now variant }
     requires known_other { IsKnown universe.now other }
@@ -67,7 +67,7 @@ pub fn conflict(universe: &Universe, variant: Variant, other: Variant) -> bool
 }
 
 /// Tells whether the first variant breaks the second (Debian Policy 7.3).
-#[tactic(auto, unfolding(farm_universe::specs::Packages::breaks))]
+#[tactic(auto, unfolding(farm_model::specs::Packages::breaks))]
 pub fn breaks(universe: &Universe, variant: Variant, other: Variant) -> bool
     requires known { IsKnown universe.now variant }
     requires known_other { IsKnown universe.now other }

@@ -1,13 +1,13 @@
 //! Tests of the variants in a set, and of what a slot may hold.
 
 ghost use Rattle.std.specs.Prelude.{◌≡◌, ◌<◌, ◌≤◌, ◌^◌, ◌&&◌, not, Bool};
-ghost use Rattle.farm_universe.specs.declared.types.Variant.{Variant};
-ghost use Rattle.farm_universe.specs.Below.{some_below, every_below};
+ghost use Rattle.farm_model.specs.declared.types.Variant.{Variant};
+ghost use Rattle.farm_model.specs.Below.{some_below, every_below};
 ghost use Rattle.farm_universe.specs.Kept.{IsKept};
-ghost use Rattle.farm_universe.specs.Packages.{variant, variants};
-ghost use Rattle.farm_universe.specs.Sound.{IsKnown};
-ghost use Rattle.farm_universe.specs.Universe.{Universe};
-ghost use Rattle.plan_asm.specs.May as may;
+ghost use Rattle.farm_model.specs.Packages.{variant, variants};
+ghost use Rattle.farm_model.specs.Sound.{IsKnown};
+ghost use Rattle.farm_model.specs.Universe.{Universe};
+ghost use Rattle.plan_model.specs.May as may;
 ghost use Rattle.plan_verifier.specs.Map.{slot_of};
 ghost use Rattle.plan_verifier.specs.Sets.{has};
 

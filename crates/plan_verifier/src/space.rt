@@ -1,9 +1,9 @@
 //! The disk space that a chroot may take, in KiB, and the budget of a lane.
 
 ghost use Rattle.std.specs.Prelude.{◌≡◌, ◌+◌, ◌*◌, ◌<◌, ◌≤◌, nat_lt, if◌then◌else◌};
-ghost use Rattle.farm_universe.specs.Packages.{variant, variants, size};
+ghost use Rattle.farm_model.specs.Packages.{variant, variants, size};
 ghost use Rattle.farm_universe.specs.Kept.{IsKept};
-ghost use Rattle.plan_asm.specs.May as may;
+ghost use Rattle.plan_model.specs.May as may;
 ghost use Rattle.plan_verifier.specs.Map.{slot_of, may_of};
 ghost use Rattle.plan_verifier.specs.Sets.{has};
 
@@ -54,7 +54,7 @@ fn may_size(universe: &Universe, name: u32, held: Held) -> u64
 }
 
 /// The most disk space that may be taken.
-#[tactic(auto, unfolding(plan_asm::specs::May::may_use))]
+#[tactic(auto, unfolding(plan_model::specs::May::may_use))]
 pub fn may_use(universe: &Universe, map: &MayMap) -> u64
     ensures space { result ≡ may.may_use universe.now (may_of universe.now map.now) }
     ensures small { result ≤ 4_294_967_295 * MOST_SIZE }

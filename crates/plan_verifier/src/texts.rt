@@ -2,7 +2,7 @@
 
 ghost use Rattle.std.specs.Prelude.{IfOk};
 ghost use Rattle.deb_text.specs.Answers.{Gives, refusal_of};
-ghost use Rattle.plan_asm.specs.Sound.{IsSound, UnpacksAndConfigures};
+ghost use Rattle.plan_model.specs.Sound.{IsSound, UnpacksAndConfigures};
 ghost use Rattle.plan_verifier.specs.Texts.{planned_of};
 
 use crate::refusal::MANY_LANES;

@@ -1,13 +1,13 @@
 //! The traps that an unpack may meet.
 
 ghost use Rattle.std.specs.Prelude.{◌≡◌, ◌<◌, ◌≤◌, ◌+◌, ◌&&◌, ◌==◌, nat_lt, not, length};
-ghost use Rattle.farm_universe.specs.Chroot.{unmet};
-ghost use Rattle.farm_universe.specs.Packages as packages;
-ghost use Rattle.farm_universe.specs.Sound.{IsKnown};
-ghost use Rattle.farm_universe.specs.Traps.{first_trap};
-ghost use Rattle.plan_asm.specs.May as may;
-ghost use Rattle.plan_asm.specs.Plan.{capacity};
-ghost use Rattle.plan_asm.specs.Risk.{unpack_risks};
+ghost use Rattle.farm_model.specs.Chroot.{unmet};
+ghost use Rattle.farm_model.specs.Packages as packages;
+ghost use Rattle.farm_model.specs.Sound.{IsKnown};
+ghost use Rattle.farm_model.specs.Traps.{first_trap};
+ghost use Rattle.plan_model.specs.May as may;
+ghost use Rattle.plan_model.specs.Plan.{capacity};
+ghost use Rattle.plan_model.specs.Risk.{unpack_risks};
 ghost use Rattle.plan_verifier.specs.Map.{slot_of, held_at, may_of};
 ghost use Rattle.plan_verifier.specs.Sets.{has};
 
@@ -130,7 +130,7 @@ impl VariantTest for MayBreak<'_> {
 }
 
 /// Tells whether the space of a lane's chroot may not suffice for a further size.
-#[tactic(auto, unfolding(plan_asm::specs::Plan::capacity))]
+#[tactic(auto, unfolding(plan_model::specs::Plan::capacity))]
 fn may_overflow(universe: &Universe, lane: &Lane, map: &MayMap, size: u64) -> bool
     requires based { lane.now.base < length universe.now.bases }
     requires small { size ≤ MOST_SIZE }
@@ -141,7 +141,7 @@ fn may_overflow(universe: &Universe, lane: &Lane, map: &MayMap, size: u64) -> bo
 }
 
 /// The first trap that an unpack of a variant of a set may meet.
-#[tactic(auto, unfolding(farm_universe::specs::Traps::first_trap))]
+#[tactic(auto, unfolding(farm_model::specs::Traps::first_trap))]
 pub fn unpack_risk(
     universe: &Universe,
     lane: &Lane,

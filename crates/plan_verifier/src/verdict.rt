@@ -1,8 +1,8 @@
 //! The verdict on four texts.
 
 ghost use Rattle.std.specs.Prelude.{IfOk};
-ghost use Rattle.plan_asm.specs.Promise.{IsSafe};
-ghost use Rattle.plan_asm.specs.Sound.{IsSound, UnpacksAndConfigures};
+ghost use Rattle.plan_model.specs.Promise.{IsSafe};
+ghost use Rattle.plan_model.specs.Sound.{IsSound, UnpacksAndConfigures};
 ghost use Rattle.plan_verifier.specs.Texts.{planned_of};
 ghost use Rattle.plan_verifier.specs.Verdict.{IsVerdict, IsVerdictOn};
 

@@ -1,7 +1,7 @@
 //! The walk over the instructions of a lane, up to the first unsafe one.
 
 ghost use Rattle.std.specs.Prelude.{◌≡◌, ◌<◌, ◌≤◌, true, length, All, OnOk};
-ghost use Rattle.farm_universe.specs.Packages.{names};
+ghost use Rattle.farm_model.specs.Packages.{names};
 ghost use Rattle.plan_verifier.specs.Map.{may_of};
 ghost use Rattle.plan_verifier.specs.Walk.{is_read, IsReadable, IsOfLane, Answers, Walked};
 

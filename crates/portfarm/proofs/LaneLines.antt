@@ -3,8 +3,8 @@ use Rattle.std.proofs.Common.{◌≡◌, ℕ, suc, List, ◌++◌, refl, ap, ◌
 use Rattle.std.specs.Prelude.{slice_get}
 use Rattle.std.proofs.lemmas.List.{append_assoc}
 use Rattle.std.proofs.lemmas.Option.{get_or_from_slice_get}
-use Rattle.plan_asm.specs.MayAt.{lane_cost}
-use Rattle.plan_asm.specs.Plan.{Lane, lane, no_lane}
+use Rattle.plan_model.specs.MayAt.{lane_cost}
+use Rattle.plan_model.specs.Plan.{Lane, lane, no_lane}
 use Rattle.plan_verifier.specs.Accepted.{AcceptedPlan, known_rows}
 use Rattle.portfarm.specs.AnswerLines.{lane_line}
 use Rattle.portfarm.specs.VerdictText.{lane_lines}

@@ -5,9 +5,9 @@
 use Rattle.std.specs.Prelude.{ℕ, zero, suc, ◌==◌, if◌then◌else◌, List, [], ◌∷◌, ◌++◌, length, codes, Result, Ok, Err}
 use Rattle.std.specs.List.{concat}
 use Rattle.deb_text.specs.Lists.{lists}
-use Rattle.farm_universe.specs.TrapText.{trap_text}
-use Rattle.plan_asm.specs.MayAt.{lane_cost}
-use Rattle.plan_asm.specs.Plan.{lane, count}
+use Rattle.farm_model.specs.TrapText.{trap_text}
+use Rattle.plan_model.specs.MayAt.{lane_cost}
+use Rattle.plan_model.specs.Plan.{lane, count}
 use Rattle.plan_verifier.specs.Accepted.{AcceptedPlan, known_rows}
 use Rattle.plan_verifier.specs.declared.refusal.Refusal.{Refusal}
 use Rattle.plan_verifier.specs.declared.refusal.Refusal.TheVariants.{Text, Unsafe, Stuck, Memory}

@@ -9,9 +9,9 @@ use Rattle.std.proofs.lemmas.List.Elements.{filter_passes}
 use Rattle.std.proofs.lemmas.List.FromFn.{length-range_with_len, get_or-range_with_len}
 use Rattle.std.proofs.lemmas.List.Kept.{IsStrictlyIncreasing-filter}
 use Rattle.std.proofs.lemmas.Option.{none-some, same_Some, cond_some}
-use Rattle.farm_universe.specs.Universe.{Universe}
-use Rattle.plan_asm.specs.Plan.{Lane}
-use Rattle.plan_asm.specs.Order.{Item, Pass, Give, items, Board, start_board, rest_of, board_after, Reaches, CannotEnd}
+use Rattle.farm_model.specs.Universe.{Universe}
+use Rattle.plan_model.specs.Plan.{Lane}
+use Rattle.plan_model.specs.Order.{Item, Pass, Give, items, Board, start_board, rest_of, board_after, Reaches, CannotEnd}
 use Rattle.farm_laws.proofs.Boards.{stuck_exact}
 use Rattle.verdict_laws.specs.Stuck.{is_left, lanes_left, EachRestIsExact, LanesLeftAreLeft}
 

@@ -2,11 +2,11 @@
 use Rattle.std.proofs.Common.{◌≡◌, ◌⊎◌, inl, inr, ℕ, zero, suc, ◌<◌, ◌≤◌, length, Option, Some, None, refl, sym, ap, ◌∙◌, arith}
 use Rattle.std.proofs.lemmas.Bool.{cases_lt, cases_eq, cases_order}
 use Rattle.std.proofs.lemmas.Option.{none-some, same_Some, slice_get_past}
-use Rattle.farm_universe.specs.declared.types.Trap.{Trap}
-use Rattle.farm_universe.specs.Universe.{Universe}
-use Rattle.plan_asm.specs.Plan.{Plan, lane}
-use Rattle.plan_asm.specs.Known.{Rows}
-use Rattle.plan_asm.specs.Safety.{risk_of, risk_at}
+use Rattle.farm_model.specs.declared.types.Trap.{Trap}
+use Rattle.farm_model.specs.Universe.{Universe}
+use Rattle.plan_model.specs.Plan.{Plan, lane}
+use Rattle.plan_model.specs.Known.{Rows}
+use Rattle.plan_model.specs.Safety.{risk_of, risk_at}
 use Rattle.verdict_laws.specs.FirstUnsafe.{FirstUnsafeIsOne, SafeOrFirstUnsafe}
 
 -- there is one such instruction

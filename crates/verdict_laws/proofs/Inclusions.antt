@@ -5,16 +5,16 @@ use Rattle.std.proofs.lemmas.Bool.{or_cases, or_left, or_right, and_parts, and_f
 use Rattle.std.proofs.lemmas.List.{get_or_past}
 use Rattle.std.proofs.lemmas.List.Elements.{All-head, All-tail}
 use Rattle.std.proofs.lemmas.Option.{slice_get_within}
-use Rattle.farm_universe.specs.declared.types.Variant.{Variant}
-use Rattle.farm_universe.specs.Below.{every_below}
-use Rattle.farm_universe.specs.Universe.{Universe}
-use Rattle.farm_universe.specs.Packages.{variant, names, variants, same, contains, satisfies_entry, initial, outputs}
-use Rattle.farm_universe.specs.Sound.{IsKnown, IsUniverse}
-use Rattle.farm_universe.proofs.BelowLaws.{some_below-found, every_below-at, every_below-all}
-use Rattle.plan_asm.specs.declared.instructions.Instruction.{Instruction}
-use Rattle.plan_asm.specs.declared.instructions.Instruction.TheVariants.{Unpack, Configure, Deconfigure, Remove, Build, Publish, Wait}
-use Rattle.plan_asm.specs.Plan.{Plan, lane, instruction_at}
-use Rattle.plan_asm.specs.Known.{Rows, gives, within_reach, possible, IsFact, Adds}
+use Rattle.farm_model.specs.declared.types.Variant.{Variant}
+use Rattle.farm_model.specs.Below.{every_below}
+use Rattle.farm_model.specs.Universe.{Universe}
+use Rattle.farm_model.specs.Packages.{variant, names, variants, same, contains, satisfies_entry, initial, outputs}
+use Rattle.farm_model.specs.Sound.{IsKnown, IsUniverse}
+use Rattle.farm_model.proofs.BelowLaws.{some_below-found, every_below-at, every_below-all}
+use Rattle.plan_model.specs.declared.instructions.Instruction.{Instruction}
+use Rattle.plan_model.specs.declared.instructions.Instruction.TheVariants.{Unpack, Configure, Deconfigure, Remove, Build, Publish, Wait}
+use Rattle.plan_model.specs.Plan.{Plan, lane, instruction_at}
+use Rattle.plan_model.specs.Known.{Rows, gives, within_reach, possible, IsFact, Adds}
 use Rattle.farm_laws.proofs.Archive.{same-true, same-refl, list_any-take}
 use Rattle.verdict_laws.specs.Greatest.{every_variant, is_that, follows_at, is_fact, adds}
 

@@ -3,19 +3,19 @@ use Rattle.std.proofs.Common.{◌≡◌, inl, inr, ℕ, zero, suc, ◌<◌, ◌�
 use Rattle.std.proofs.lemmas.Bool.{cases_eq, ne_eqb}
 use Rattle.std.proofs.lemmas.Option.{none-some, slice_get_within}
 use Rattle.deb_relation.specs.declared.operator.Op.{Op}
-use Rattle.farm_universe.specs.declared.types.Variant.{Variant}
-use Rattle.farm_universe.specs.Universe.{Universe}
-use Rattle.farm_universe.specs.Packages.{variant, variants, recipe}
-use Rattle.farm_universe.specs.Chroot.{member}
-use Rattle.plan_asm.specs.declared.instructions.Instruction.{Instruction}
-use Rattle.plan_asm.specs.declared.instructions.Instruction.TheVariants.{Unpack, Configure, Deconfigure, Remove, Build, Publish, Wait}
-use Rattle.plan_asm.specs.Plan.{Lane, Plan, lane, instruction_at}
-use Rattle.plan_asm.specs.Turn.{newest, with_built}
-use Rattle.plan_asm.specs.Known.{Rows, possible, KeepsRows}
-use Rattle.plan_asm.specs.May.{MaySlot, MayAbsent, May, is_surely_configured, is_surely_present}
-use Rattle.plan_asm.specs.Risk.{candidates, unpack_risk, risk}
-use Rattle.plan_asm.specs.MayAt.{may_unpack, may_be_configured, may_be_deconfigured, may_change, may_after, may_base, may_at}
-use Rattle.plan_asm.specs.Safety.{risk_of, risk_at, IsSafeUnder}
+use Rattle.farm_model.specs.declared.types.Variant.{Variant}
+use Rattle.farm_model.specs.Universe.{Universe}
+use Rattle.farm_model.specs.Packages.{variant, variants, recipe}
+use Rattle.farm_model.specs.Chroot.{member}
+use Rattle.plan_model.specs.declared.instructions.Instruction.{Instruction}
+use Rattle.plan_model.specs.declared.instructions.Instruction.TheVariants.{Unpack, Configure, Deconfigure, Remove, Build, Publish, Wait}
+use Rattle.plan_model.specs.Plan.{Lane, Plan, lane, instruction_at}
+use Rattle.plan_model.specs.Turn.{newest, with_built}
+use Rattle.plan_model.specs.Known.{Rows, possible, KeepsRows}
+use Rattle.plan_model.specs.May.{MaySlot, MayAbsent, May, is_surely_configured, is_surely_present}
+use Rattle.plan_model.specs.Risk.{candidates, unpack_risk, risk}
+use Rattle.plan_model.specs.MayAt.{may_unpack, may_be_configured, may_be_deconfigured, may_change, may_after, may_base, may_at}
+use Rattle.plan_model.specs.Safety.{risk_of, risk_at, IsSafeUnder}
 use Rattle.farm_laws.proofs.MayMaps.{no_trap}
 use Rattle.verdict_laws.specs.Families.{IsWithin}
 use Rattle.verdict_laws.specs.MoreKnown.{SafeUnderMore, GreatestIsAnnotation, GreatestRowsAnnotate}

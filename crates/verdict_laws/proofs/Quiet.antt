@@ -1,13 +1,13 @@
 -- Lanes that neither wait nor publish.
 use Rattle.std.proofs.Common.{◌≡◌, inl, inr, ℕ, zero, suc, ◌<◌, ◌≤◌, true, false, length, get_or, Some, [], arith}
 use Rattle.std.proofs.lemmas.Option.{slice_get-get_or}
-use Rattle.farm_universe.specs.declared.types.Variant.{Variant}
-use Rattle.farm_universe.specs.Universe.{Universe}
-use Rattle.farm_universe.specs.Packages.{initial}
-use Rattle.plan_asm.specs.declared.instructions.Instruction.{Instruction}
-use Rattle.plan_asm.specs.declared.instructions.Instruction.TheVariants.{Unpack, Configure, Deconfigure, Remove, Build, Publish, Wait}
-use Rattle.plan_asm.specs.Plan.{Plan, lane, instruction_at}
-use Rattle.plan_asm.specs.Known.{Rows, Adds, KeepsRows}
+use Rattle.farm_model.specs.declared.types.Variant.{Variant}
+use Rattle.farm_model.specs.Universe.{Universe}
+use Rattle.farm_model.specs.Packages.{initial}
+use Rattle.plan_model.specs.declared.instructions.Instruction.{Instruction}
+use Rattle.plan_model.specs.declared.instructions.Instruction.TheVariants.{Unpack, Configure, Deconfigure, Remove, Build, Publish, Wait}
+use Rattle.plan_model.specs.Plan.{Plan, lane, instruction_at}
+use Rattle.plan_model.specs.Known.{Rows, Adds, KeepsRows}
 use Rattle.verdict_laws.specs.Families.{waits_or_publishes, HasNoNews, InitialRowsAreGreatest}
 
 -- such an instruction adds nothing

@@ -2,14 +2,14 @@
 use Rattle.std.proofs.Common.{◌≡◌, inl, inr, ℕ, zero, suc, ◌<◌, ◌≤◌, Bool, true, false, not, ◌&&◌, ◌||◌, length, sym, ap, ◌∙◌, arith}
 use Rattle.std.proofs.lemmas.Bool.{or_cases, or_left, or_right, and_parts, and_from, or_parts, cases_eq, cases_Bool, both_ways, not-true, not-false}
 use Rattle.std.proofs.lemmas.Option.{slice_get_within}
-use Rattle.farm_universe.specs.declared.types.Variant.{Variant}
-use Rattle.farm_universe.specs.Below.{every_below, sum_below}
-use Rattle.farm_universe.specs.Universe.{Universe}
-use Rattle.farm_universe.specs.Packages.{variant, names, variants}
-use Rattle.farm_universe.specs.Sound.{IsUniverse}
-use Rattle.farm_universe.proofs.BelowLaws.{every_below-at, every_below-fails, sum_below-mono}
-use Rattle.plan_asm.specs.Plan.{Plan, lane}
-use Rattle.plan_asm.specs.Known.{Rows, possible, KeepsRows}
+use Rattle.farm_model.specs.declared.types.Variant.{Variant}
+use Rattle.farm_model.specs.Below.{every_below, sum_below}
+use Rattle.farm_model.specs.Universe.{Universe}
+use Rattle.farm_model.specs.Packages.{variant, names, variants}
+use Rattle.farm_model.specs.Sound.{IsUniverse}
+use Rattle.farm_model.proofs.BelowLaws.{every_below-at, every_below-fails, sum_below-mono}
+use Rattle.plan_model.specs.Plan.{Plan, lane}
+use Rattle.plan_model.specs.Known.{Rows, possible, KeepsRows}
 use Rattle.verdict_laws.specs.Families.{IsWithin}
 use Rattle.verdict_laws.specs.Greatest.{every_variant, adds_some, allowed, is_settled, without_excess, one_if, rows_size, settled_after, greatest_rows, AreKnown, SettledRowsKeep, GreatestRowsAreGreatest}
 use Rattle.verdict_laws.proofs.Inclusions.{every_variant-at, possible-known, adds-sound, adds-complete}

@@ -4,14 +4,14 @@ use Rattle.std.specs.List.{list_any}
 use Rattle.std.proofs.lemmas.Bool.{or_cases, or_left, or_right, cases_eq, eq-eqb, ne_eqb}
 use Rattle.std.proofs.lemmas.List.Folds.{list_any-append, list_any_kept}
 use Rattle.std.proofs.lemmas.Option.{slice_get-get_or, slice_get_within}
-use Rattle.farm_universe.specs.declared.types.Variant.{Variant}
-use Rattle.farm_universe.specs.Universe.{Universe}
-use Rattle.farm_universe.specs.Packages.{contains, initial, outputs}
-use Rattle.farm_universe.proofs.BelowLaws.{some_below-at, some_below-mono}
-use Rattle.plan_asm.specs.declared.instructions.Instruction.{Instruction}
-use Rattle.plan_asm.specs.declared.instructions.Instruction.TheVariants.{Unpack, Configure, Deconfigure, Remove, Build, Publish, Wait}
-use Rattle.plan_asm.specs.Plan.{Plan, lane, instruction_at}
-use Rattle.plan_asm.specs.Known.{Rows, gives, within_reach, possible, IsFact, Adds}
+use Rattle.farm_model.specs.declared.types.Variant.{Variant}
+use Rattle.farm_model.specs.Universe.{Universe}
+use Rattle.farm_model.specs.Packages.{contains, initial, outputs}
+use Rattle.farm_model.proofs.BelowLaws.{some_below-at, some_below-mono}
+use Rattle.plan_model.specs.declared.instructions.Instruction.{Instruction}
+use Rattle.plan_model.specs.declared.instructions.Instruction.TheVariants.{Unpack, Configure, Deconfigure, Remove, Build, Publish, Wait}
+use Rattle.plan_model.specs.Plan.{Plan, lane, instruction_at}
+use Rattle.plan_model.specs.Known.{Rows, gives, within_reach, possible, IsFact, Adds}
 use Rattle.farm_laws.proofs.Archive.{take_some}
 use Rattle.verdict_laws.specs.Families.{IsWithin, KnownArePossible, UnionsKeep, UnionOfTwoKeeps, GreatestIsOne}
 

@@ -1,11 +1,11 @@
 -- The place at which a plan is refused is one, and there is one where the plan is not safe. The
 -- project's own rules.
 use Rattle.std.specs.Prelude.{◌≡◌, ◌⊎◌, ℕ}
-use Rattle.farm_universe.specs.declared.types.Trap.{Trap}
-use Rattle.farm_universe.specs.Universe.{Universe}
-use Rattle.plan_asm.specs.Plan.{Plan}
-use Rattle.plan_asm.specs.Known.{Rows}
-use Rattle.plan_asm.specs.Safety.{IsSafeUnder, IsFirstUnsafe}
+use Rattle.farm_model.specs.declared.types.Trap.{Trap}
+use Rattle.farm_model.specs.Universe.{Universe}
+use Rattle.plan_model.specs.Plan.{Plan}
+use Rattle.plan_model.specs.Known.{Rows}
+use Rattle.plan_model.specs.Safety.{IsSafeUnder, IsFirstUnsafe}
 
 -- two instructions that are the first unsafe one are the same lane, place and trap
 abbrev pub FirstUnsafeIsOne : Type 0

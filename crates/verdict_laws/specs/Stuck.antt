@@ -7,9 +7,9 @@
 use Rattle.std.specs.Prelude.{◌≡◌, ◌≢◌, ℕ, Bool, true, false, List, [], ◌∷◌, length, None, All, Contains}
 use Rattle.std.specs.List.{filter, range_with_len}
 use Rattle.std.specs.List.Sorted.{IsStrictlyIncreasing}
-use Rattle.farm_universe.specs.Universe.{Universe}
-use Rattle.plan_asm.specs.Plan.{Plan}
-use Rattle.plan_asm.specs.Order.{Item, Board, start_board, rest_of, board_after, Reaches, IsOrder, CannotEnd, AreStuck}
+use Rattle.farm_model.specs.Universe.{Universe}
+use Rattle.plan_model.specs.Plan.{Plan}
+use Rattle.plan_model.specs.Order.{Item, Board, start_board, rest_of, board_after, Reaches, IsOrder, CannotEnd, AreStuck}
 
 -- no lane's next item can be made
 abbrev pub IsAtRest : Universe → Board → Type 0

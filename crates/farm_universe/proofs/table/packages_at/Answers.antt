@@ -3,7 +3,7 @@ use Rattle.std.specs.Global.{Vec}
 use Rattle.std.proofs.lemmas.List.{length-map, get_or-map}
 use Rattle.std.proofs.lemmas.List.Elements.{All-get_or}
 use Rattle.farm_universe.specs.TableView.{table_view, IsOrderly}
-use Rattle.farm_universe.specs.Universe.{Package}
+use Rattle.farm_model.specs.Universe.{Package}
 use Rattle.farm_universe.proofs.table.packages_at.Goals as goal
 
 pub returns-clause-few : goal.returns-clause-few

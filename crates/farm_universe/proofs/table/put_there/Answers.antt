@@ -4,7 +4,7 @@ use Rattle.std.specs.Global.{Vec}
 use Rattle.deb_text.specs.Groups.{in_order}
 use Rattle.deb_text.proofs.ListLaws.{lists-set}
 use Rattle.farm_universe.specs.PackagesText.{is_below}
-use Rattle.farm_universe.specs.Universe.{Package}
+use Rattle.farm_model.specs.Universe.{Package}
 use Rattle.farm_universe.proofs.table.put_there.Goals as goal
 
 pub returns-clause-packages : goal.returns-clause-packages

@@ -1,6 +1,6 @@
 use Rattle.std.proofs.Common.{◌≡◌, ◌<◌, take, false, length, All}
 use Rattle.plan_asm.specs.Seen.{Marks}
-use Rattle.plan_asm.specs.Sound.{has_double}
+use Rattle.plan_model.specs.Sound.{has_double}
 use Rattle.plan_asm.proofs.names.finds_double.Given as goal
 
 abbrev pub invariant-loop-i : goal.invariant-loop-i

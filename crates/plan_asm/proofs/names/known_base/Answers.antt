@@ -2,7 +2,7 @@ use Rattle.std.proofs.Common.{◌≡◌, ◌<◌, false, get_or, [], length, sym
 use borrow.Author.Count.{below_more}
 use Rattle.std.specs.Str.{bytes_eq}
 use Rattle.std.proofs.lemmas.List.{length-map}
-use Rattle.farm_universe.specs.Universe.{Base}
+use Rattle.farm_model.specs.Universe.{Base}
 use Rattle.plan_asm.specs.Drafts.{base_names, or_unknown, known_base}
 use Rattle.plan_asm.proofs.Places.{base-name, place-first, place-none}
 use Rattle.plan_asm.proofs.names.known_base.Goals as goal

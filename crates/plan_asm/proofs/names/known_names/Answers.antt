@@ -2,7 +2,7 @@ use Rattle.std.proofs.Common.{◌<◌}
 use Rattle.std.proofs.lemmas.List.Elements.{All-push}
 use Rattle.std.proofs.lemmas.Result.{err_from_is_err_and}
 use Rattle.deb_text.proofs.StepLaws.{traverse-goes, traverse-stops, traverse-ends}
-use Rattle.farm_universe.specs.Packages.{names}
+use Rattle.farm_model.specs.Packages.{names}
 use Rattle.plan_asm.specs.Drafts.{known_name}
 use Rattle.plan_asm.specs.View.{refusal_of_line}
 use Rattle.plan_asm.proofs.names.known_names.Goals as goal

@@ -1,7 +1,7 @@
 use Rattle.std.proofs.Common.{◌≡◌, ◌<◌, length, All}
 use Rattle.deb_text.specs.Steps.{traverse, with_front}
 use Rattle.deb_text.specs.Words.{words}
-use Rattle.farm_universe.specs.Packages.{names}
+use Rattle.farm_model.specs.Packages.{names}
 use Rattle.plan_asm.specs.Drafts.{known_name}
 use Rattle.plan_asm.proofs.names.known_names.Given as goal
 

@@ -1,5 +1,5 @@
 use Rattle.std.proofs.Common.{◌≡◌, false, take}
-use Rattle.plan_asm.specs.Risk.{some_may_member}
+use Rattle.plan_model.specs.Risk.{some_may_member}
 use Rattle.plan_verifier.specs.Map.{may_of}
 use Rattle.plan_verifier.proofs.configure.some_may_member.Given as goal
 

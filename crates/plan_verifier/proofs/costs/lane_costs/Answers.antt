@@ -1,7 +1,7 @@
 use Rattle.std.proofs.Common.{◌≡◌, ◌+◌, inl, inr, None, ap, sym, subst, ◌∙◌, length, arith}
 use Rattle.std.proofs.lemmas.Bool.{cases_eq}
-use Rattle.plan_asm.specs.Plan.{Lane}
-use Rattle.plan_asm.specs.Safety.{risk_at}
+use Rattle.plan_model.specs.Plan.{Lane}
+use Rattle.plan_model.specs.Safety.{risk_at}
 use Rattle.plan_verifier.specs.Accepted.{AreCosts}
 use Rattle.plan_verifier.specs.Walk.{initial_rows}
 use Rattle.plan_verifier.proofs.Quiet.{lane-is}

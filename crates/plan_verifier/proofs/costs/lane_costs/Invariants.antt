@@ -1,5 +1,5 @@
 use Rattle.std.proofs.Common.{◌≡◌, ℕ, ◌<◌, None}
-use Rattle.plan_asm.specs.Safety.{risk_at}
+use Rattle.plan_model.specs.Safety.{risk_at}
 use Rattle.plan_verifier.specs.Accepted.{AreCosts}
 use Rattle.plan_verifier.specs.Walk.{initial_rows}
 use Rattle.plan_verifier.proofs.costs.lane_costs.Given as goal

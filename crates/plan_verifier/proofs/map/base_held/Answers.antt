@@ -1,9 +1,9 @@
 use Rattle.std.proofs.Common.{ap, ◌∙◌, arith}
 use Rattle.std.specs.Prelude.{◌==◌}
 use Rattle.std.specs.List.{find}
-use Rattle.farm_universe.specs.Packages.{base}
-use Rattle.farm_universe.specs.Sound.{IsKnown}
-use Rattle.plan_asm.specs.MayAt.{may_base_slot}
+use Rattle.farm_model.specs.Packages.{base}
+use Rattle.farm_model.specs.Sound.{IsKnown}
+use Rattle.plan_model.specs.MayAt.{may_base_slot}
 use Rattle.plan_verifier.proofs.SetLaws.{configured-single, find-all}
 use Rattle.plan_verifier.proofs.map.base_held.Goals as goal
 

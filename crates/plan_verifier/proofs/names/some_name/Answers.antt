@@ -1,6 +1,6 @@
 use Rattle.std.proofs.Common.{sym, ◌∙◌, arith}
-use Rattle.farm_universe.specs.Packages.{names}
-use Rattle.farm_universe.proofs.BelowLaws.{some_below-at}
+use Rattle.farm_model.specs.Packages.{names}
+use Rattle.farm_model.proofs.BelowLaws.{some_below-at}
 use Rattle.plan_verifier.proofs.names.some_name.Goals as goal
 
 pub returns-then-passes : goal.returns-then-passes

@@ -1,7 +1,7 @@
 use Rattle.std.proofs.Common.{◌≡◌}
 use Rattle.std.specs.Prelude.{◌&&◌}
-use Rattle.farm_universe.specs.Below.{highest_below}
-use Rattle.farm_universe.specs.Packages.{variant, initial, is_wanted}
+use Rattle.farm_model.specs.Below.{highest_below}
+use Rattle.farm_model.specs.Packages.{variant, initial, is_wanted}
 use Rattle.plan_verifier.proofs.pick.newest.Given as goal
 
 abbrev pub invariant-loop-bit : goal.invariant-loop-bit

@@ -1,4 +1,4 @@
-use Rattle.farm_universe.specs.Packages.{facts}
+use Rattle.farm_model.specs.Packages.{facts}
 use Rattle.plan_verifier.proofs.SetLaws.{named}
 use Rattle.plan_verifier.proofs.relations.facts.Goals as goal
 

@@ -1,7 +1,7 @@
 use Rattle.std.proofs.Common.{ap, ◌∙◌}
 use Rattle.std.specs.List.{list_any}
 use Rattle.deb_relation.specs.Satisfaction.{satisfies as package_satisfies}
-use Rattle.farm_universe.specs.Packages.{satisfies}
+use Rattle.farm_model.specs.Packages.{satisfies}
 use Rattle.plan_verifier.proofs.relations.satisfies_any.Goals as goal
 
 pub returns : goal.returns

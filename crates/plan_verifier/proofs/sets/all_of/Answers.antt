@@ -1,5 +1,5 @@
 use Rattle.std.proofs.Common.{not, ap, ◌∙◌}
-use Rattle.farm_universe.specs.Packages.{variant, variants}
+use Rattle.farm_model.specs.Packages.{variant, variants}
 use Rattle.plan_verifier.specs.Sets.{has}
 use Rattle.plan_verifier.proofs.SetLaws.{every_of}
 use Rattle.plan_verifier.proofs.sets.all_of.Goals as goal

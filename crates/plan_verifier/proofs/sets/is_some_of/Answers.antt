@@ -1,6 +1,6 @@
 use Rattle.std.proofs.Common.{sym, ◌∙◌, arith}
-use Rattle.farm_universe.specs.Packages.{variants}
-use Rattle.farm_universe.proofs.BelowLaws.{some_below-at}
+use Rattle.farm_model.specs.Packages.{variants}
+use Rattle.farm_model.proofs.BelowLaws.{some_below-at}
 use Rattle.plan_verifier.specs.Sets.{has}
 use Rattle.plan_verifier.proofs.sets.is_some_of.Goals as goal
 

@@ -1,5 +1,5 @@
 use Rattle.std.proofs.Common.{◌≡◌, false}
-use Rattle.farm_universe.specs.Below.{some_below}
+use Rattle.farm_model.specs.Below.{some_below}
 use Rattle.plan_verifier.specs.Sets.{has}
 use Rattle.plan_verifier.proofs.sets.is_some_of.Given as goal
 

@@ -1,7 +1,7 @@
 use Rattle.std.proofs.Common.{sym, ◌∙◌, arith}
 use Rattle.std.specs.Prelude.{◌&&◌}
-use Rattle.farm_universe.specs.Packages.{variant, variants}
-use Rattle.farm_universe.proofs.BelowLaws.{some_below-at}
+use Rattle.farm_model.specs.Packages.{variant, variants}
+use Rattle.farm_model.proofs.BelowLaws.{some_below-at}
 use Rattle.plan_verifier.specs.Sets.{has}
 use Rattle.plan_verifier.proofs.sets.some_of.Goals as goal
 

@@ -1,7 +1,7 @@
 use Rattle.std.proofs.Common.{◌≡◌, false}
 use Rattle.std.specs.Prelude.{◌&&◌}
-use Rattle.farm_universe.specs.Below.{some_below}
-use Rattle.farm_universe.specs.Packages.{variant}
+use Rattle.farm_model.specs.Below.{some_below}
+use Rattle.farm_model.specs.Packages.{variant}
 use Rattle.plan_verifier.specs.Sets.{has}
 use Rattle.plan_verifier.proofs.sets.some_of.Given as goal
 

@@ -1,6 +1,6 @@
 use Rattle.std.proofs.Common.{◌≡◌, ◌≤◌}
-use Rattle.farm_universe.specs.Below.{greatest_below}
-use Rattle.farm_universe.specs.Packages.{variant, size}
+use Rattle.farm_model.specs.Below.{greatest_below}
+use Rattle.farm_model.specs.Packages.{variant, size}
 use Rattle.farm_universe.specs.declared.limits.TheConstants.{MOST_SIZE}
 use Rattle.plan_verifier.specs.Sets.{has}
 use Rattle.plan_verifier.proofs.space.greatest_size.Given as goal

@@ -1,7 +1,7 @@
 use Rattle.std.proofs.Common.{◌≡◌, ◌≤◌, ◌*◌}
-use Rattle.farm_universe.specs.Below.{sum_below}
+use Rattle.farm_model.specs.Below.{sum_below}
 use Rattle.farm_universe.specs.declared.limits.TheConstants.{MOST_SIZE}
-use Rattle.plan_asm.specs.May.{may_size}
+use Rattle.plan_model.specs.May.{may_size}
 use Rattle.plan_verifier.specs.Map.{slot_of, held_at}
 use Rattle.plan_verifier.proofs.space.may_use.Given as goal
 

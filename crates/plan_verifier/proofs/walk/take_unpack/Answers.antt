@@ -1,5 +1,5 @@
 use Rattle.std.proofs.Common.{◌≡◌, ◌+◌, ◌/◌, ◌≤◌, sym, ap, ◌∙◌, arith, length, length-set}
-use Rattle.plan_asm.specs.Risk.{greatest_cost}
+use Rattle.plan_model.specs.Risk.{greatest_cost}
 use Rattle.plan_verifier.specs.Map.{may_of}
 use Rattle.plan_verifier.specs.Sets.{has}
 use Rattle.plan_verifier.proofs.Picks.{highest-small, risk-unpack, then-unpack}

@@ -1,9 +1,9 @@
 use Rattle.std.proofs.Common.{◌≡◌, ◌<◌, ◌^◌, None, Some, length, inl, inr, refl, sym, ap, subst, ◌∙◌, add-one, arith}
 use Rattle.std.proofs.lemmas.Bool.{cases_eq, cases_lt}
 use Rattle.std.proofs.lemmas.Option.{slice_get_past}
-use Rattle.plan_asm.specs.Plan.{Lane, lane, no_lane, instruction_at}
-use Rattle.plan_asm.specs.MayAt.{may_at, lane_cost}
-use Rattle.plan_asm.specs.Safety.{risk_at}
+use Rattle.plan_model.specs.Plan.{Lane, lane, no_lane, instruction_at}
+use Rattle.plan_model.specs.MayAt.{may_at, lane_cost}
+use Rattle.plan_model.specs.Safety.{risk_at}
 use Rattle.plan_verifier.specs.Map.{may_of}
 use Rattle.plan_verifier.specs.Walk.{initial_rows, risk_now}
 use Rattle.plan_verifier.proofs.Bases.{base-is}

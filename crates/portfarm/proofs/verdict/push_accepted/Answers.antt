@@ -1,7 +1,7 @@
 use Rattle.std.proofs.Common.{length, ap, ◌∙◌, ◌++◌}
 use Rattle.std.specs.Prelude.{codes}
 use Rattle.std.proofs.lemmas.Result.{on_ok_weaker}
-use Rattle.plan_asm.specs.Plan.{count}
+use Rattle.plan_model.specs.Plan.{count}
 use Rattle.portfarm.specs.AnswerLines.{counted_line}
 use Rattle.portfarm.specs.VerdictText.{lane_lines}
 use Rattle.portfarm.proofs.PieceLaws.{four_behind}

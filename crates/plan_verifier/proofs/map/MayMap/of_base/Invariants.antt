@@ -1,8 +1,8 @@
 use Rattle.std.proofs.Common.{◌≡◌, ℕ, ◌<◌, length}
 use Rattle.std.specs.Prelude.{◌==◌, slice_index_or}
 use Rattle.std.specs.List.{find}
-use Rattle.farm_universe.specs.Packages.{base}
-use Rattle.plan_asm.specs.MayAt.{may_base_slot}
+use Rattle.farm_model.specs.Packages.{base}
+use Rattle.plan_model.specs.MayAt.{may_base_slot}
 use Rattle.plan_verifier.specs.declared.map.Held.TheVariants.{Absent}
 use Rattle.plan_verifier.specs.Map.{slot_of}
 use Rattle.plan_verifier.proofs.map.MayMap.of_base.Given as goal

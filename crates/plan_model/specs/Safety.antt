@@ -4,13 +4,13 @@
 --   IsFirstUnsafe             the instruction at which a plan is refused
 --   IsAnnotation              rows under which the plan is safe
 use Rattle.std.specs.Prelude.{◌≡◌, ℕ, ◌<◌, length, Option, Some, None}
-use Rattle.farm_universe.specs.declared.types.Trap.{Trap}
-use Rattle.farm_universe.specs.Universe.{Universe}
-use Rattle.plan_asm.specs.declared.instructions.Instruction.{Instruction}
-use Rattle.plan_asm.specs.Plan.{Plan, lane, instruction_at}
-use Rattle.plan_asm.specs.Known.{Rows, possible, KeepsRows}
-use Rattle.plan_asm.specs.Risk.{risk}
-use Rattle.plan_asm.specs.MayAt.{may_at}
+use Rattle.farm_model.specs.declared.types.Trap.{Trap}
+use Rattle.farm_model.specs.Universe.{Universe}
+use Rattle.plan_model.specs.declared.instructions.Instruction.{Instruction}
+use Rattle.plan_model.specs.Plan.{Plan, lane, instruction_at}
+use Rattle.plan_model.specs.Known.{Rows, possible, KeepsRows}
+use Rattle.plan_model.specs.Risk.{risk}
+use Rattle.plan_model.specs.MayAt.{may_at}
 
 -- the first trap that the instruction there may meet, if there is one
 abbrev pub risk_of : Universe → Plan → Rows → ℕ → ℕ → Option Instruction → Option Trap

@@ -6,14 +6,14 @@
 --   archive_step                   a lane's local instructions and then its archive step
 --   is_after_step, IsAfterSteps    lanes that stand just after their last archive step
 use Rattle.std.specs.Prelude.{◌≡◌, ℕ, zero, suc, ◌^◌, Bool, true, false, ◌||◌, nat_lt, List, [], ◌∷◌, map, drop, Option, Some, None, slice_get, slice_index, slice_index_or, slice_set, bit_or}
-use Rattle.farm_universe.specs.declared.types.Variant.{Variant}
-use Rattle.farm_universe.specs.Universe.{Universe}
-use Rattle.farm_universe.specs.Packages.{has_bit}
-use Rattle.plan_asm.specs.declared.instructions.Instruction.{Instruction}
-use Rattle.plan_asm.specs.declared.instructions.Instruction.TheVariants.{Unpack, Configure, Deconfigure, Remove, Build, Publish, Wait}
-use Rattle.plan_asm.specs.Plan.{Lane, Plan, lane, instruction_at}
-use Rattle.plan_asm.specs.Turn.{LaneState, start_lane, Turn, Goes, Gives, turn_of}
-use Rattle.plan_asm.specs.Run.{State, no_state, archive, Reachable}
+use Rattle.farm_model.specs.declared.types.Variant.{Variant}
+use Rattle.farm_model.specs.Universe.{Universe}
+use Rattle.farm_model.specs.Packages.{has_bit}
+use Rattle.plan_model.specs.declared.instructions.Instruction.{Instruction}
+use Rattle.plan_model.specs.declared.instructions.Instruction.TheVariants.{Unpack, Configure, Deconfigure, Remove, Build, Publish, Wait}
+use Rattle.plan_model.specs.Plan.{Lane, Plan, lane, instruction_at}
+use Rattle.plan_model.specs.Turn.{LaneState, start_lane, Turn, Goes, Gives, turn_of}
+use Rattle.plan_model.specs.Run.{State, no_state, archive, Reachable}
 
 -- the words, by name, whose bits are the archive, and the lanes
 pub record World : Type 0 where

@@ -2,7 +2,7 @@
 use Rattle.std.proofs.Common.{◌≡◌, ℕ, zero, suc, ◌+◌, ◌<◌, ◌≤◌, Bool, true, false, cond, inl, inr, Some, refl, sym, ap, ◌∙◌, subst, arith, add-one}
 use Rattle.std.proofs.lemmas.Option.{none-some, same_Some}
 use Rattle.std.proofs.lemmas.Bool.{both_ways, cond-true, cond-false, false≢true, or_cases, or_left, or_right, and_parts, and_from, cases_eq, cases_Bool}
-use Rattle.farm_universe.specs.Below.{some_below, every_below, sum_below, greatest_below, highest_below}
+use Rattle.farm_model.specs.Below.{some_below, every_below, sum_below, greatest_below, highest_below}
 
 pub some_below-at : (n : ℕ) (p : ℕ → Bool) (k : ℕ) → k < n → p k ≡ true → some_below n p ≡ true
 some_below-at zero p k h e = absurd (omega arith)

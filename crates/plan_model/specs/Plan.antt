@@ -8,12 +8,12 @@
 --   unpack_cost, set_cost, ..         what an instruction costs
 use Rattle.std.specs.Prelude.{ℕ, ◌+◌, ◌/◌, List, [], length, take, Option, slice_get, slice_index_or}
 use Rattle.std.specs.List.{sum_by, flat_map}
-use Rattle.farm_universe.specs.declared.types.Variant.{Variant}
-use Rattle.farm_universe.specs.Below.{sum_below}
-use Rattle.farm_universe.specs.Universe.{Universe, Recipe}
-use Rattle.farm_universe.specs.Packages.{size, outputs, base}
-use Rattle.plan_asm.specs.declared.instructions.Instruction.{Instruction}
-use Rattle.plan_asm.specs.declared.instructions.Instruction.TheVariants.{Publish}
+use Rattle.farm_model.specs.declared.types.Variant.{Variant}
+use Rattle.farm_model.specs.Below.{sum_below}
+use Rattle.farm_model.specs.Universe.{Universe, Recipe}
+use Rattle.farm_model.specs.Packages.{size, outputs, base}
+use Rattle.plan_model.specs.declared.instructions.Instruction.{Instruction}
+use Rattle.plan_model.specs.declared.instructions.Instruction.TheVariants.{Publish}
 
 -- a lane: the number of its base chroot, how much it may spend, and its instructions with all
 -- blocks expanded

@@ -4,13 +4,13 @@
 --   IsForeseen, IsWithinBudget     the facts of a state; what its lanes have spent
 --   PlaysSafely                    what every schedule comes to
 use Rattle.std.specs.Prelude.{◌≡◌, ◌⊎◌, ℕ, ◌<◌, ◌≤◌, true, List, length, None}
-use Rattle.farm_universe.specs.declared.types.Variant.{Variant}
-use Rattle.farm_universe.specs.Universe.{Universe}
-use Rattle.plan_asm.specs.Plan.{Plan, lane, instruction_at}
-use Rattle.plan_asm.specs.Run.{State, lane_state, archive, result_of}
-use Rattle.plan_asm.specs.Known.{Rows, possible, publishing, IsFact}
-use Rattle.plan_asm.specs.Allowed.{AllowsAll}
-use Rattle.plan_asm.specs.MayAt.{may_at, lane_cost}
+use Rattle.farm_model.specs.declared.types.Variant.{Variant}
+use Rattle.farm_model.specs.Universe.{Universe}
+use Rattle.plan_model.specs.Plan.{Plan, lane, instruction_at}
+use Rattle.plan_model.specs.Run.{State, lane_state, archive, result_of}
+use Rattle.plan_model.specs.Known.{Rows, possible, publishing, IsFact}
+use Rattle.plan_model.specs.Allowed.{AllowsAll}
+use Rattle.plan_model.specs.MayAt.{may_at, lane_cost}
 
 -- The four facts of a state that is reached:
 pub record IsForeseen (u : Universe) (p : Plan) (rows : Rows) (s : State) : Type 0 where

@@ -8,18 +8,18 @@ use Rattle.std.specs.Prelude.{ℕ, ◌+◌, Bool, not, ◌&&◌, ◌||◌, ◌==
 use Rattle.std.specs.List.{list_any}
 use Rattle.deb_relation.specs.declared.operator.Op.{Op}
 use Rattle.deb_relation.specs.Relations.{Entry}
-use Rattle.farm_universe.specs.declared.types.Variant.{Variant}
-use Rattle.farm_universe.specs.declared.types.Trap.{Trap}
-use Rattle.farm_universe.specs.declared.types.Trap.TheVariants.{Missing, PreDepends, Conflict, BreaksOther, Full, WrongState, Depends, Broken, StillNeeded, Unsettled, BuildDepends, BuildConflict, NotBuilt, OverBudget}
-use Rattle.farm_universe.specs.Universe.{Universe, Recipe}
-use Rattle.farm_universe.specs.Packages.{variant, pre_depends, depends, recipe, is_wanted, satisfies_entry, satisfies_any, breaks, conflict}
-use Rattle.farm_universe.specs.Chroot.{member, unmet, entries}
-use Rattle.farm_universe.specs.Traps.{first_trap}
-use Rattle.plan_asm.specs.declared.instructions.Instruction.{Instruction}
-use Rattle.plan_asm.specs.declared.instructions.Instruction.TheVariants.{Unpack, Configure, Deconfigure, Remove, Build, Publish, Wait}
-use Rattle.plan_asm.specs.Plan.{Lane, capacity, size_cost, set_cost, build_cost, publish_cost}
-use Rattle.plan_asm.specs.Turn.{was_built, newest}
-use Rattle.plan_asm.specs.May.{Bits, MaySlot, May, some_of, some_name, may_hold, may_hold_configured, surely_configured, surely_met, surely_met_with, surely_pre_met, greatest_size, may_use, is_surely_unpacked, is_surely_configured, is_surely_present}
+use Rattle.farm_model.specs.declared.types.Variant.{Variant}
+use Rattle.farm_model.specs.declared.types.Trap.{Trap}
+use Rattle.farm_model.specs.declared.types.Trap.TheVariants.{Missing, PreDepends, Conflict, BreaksOther, Full, WrongState, Depends, Broken, StillNeeded, Unsettled, BuildDepends, BuildConflict, NotBuilt, OverBudget}
+use Rattle.farm_model.specs.Universe.{Universe, Recipe}
+use Rattle.farm_model.specs.Packages.{variant, pre_depends, depends, recipe, is_wanted, satisfies_entry, satisfies_any, breaks, conflict}
+use Rattle.farm_model.specs.Chroot.{member, unmet, entries}
+use Rattle.farm_model.specs.Traps.{first_trap}
+use Rattle.plan_model.specs.declared.instructions.Instruction.{Instruction}
+use Rattle.plan_model.specs.declared.instructions.Instruction.TheVariants.{Unpack, Configure, Deconfigure, Remove, Build, Publish, Wait}
+use Rattle.plan_model.specs.Plan.{Lane, capacity, size_cost, set_cost, build_cost, publish_cost}
+use Rattle.plan_model.specs.Turn.{was_built, newest}
+use Rattle.plan_model.specs.May.{Bits, MaySlot, May, some_of, some_name, may_hold, may_hold_configured, surely_configured, surely_met, surely_met_with, surely_pre_met, greatest_size, may_use, is_surely_unpacked, is_surely_configured, is_surely_present}
 
 -- the variants that an unpack may take: those that may be there and are wanted, from the highest
 -- known one up

@@ -6,17 +6,17 @@
 use Rattle.std.specs.Prelude.{ℕ, zero, suc, ◌+◌, Bool, false, ◌==◌, List, length, Option, Some, None, if◌then◌else◌}
 use Rattle.std.specs.List.{find}
 use Rattle.deb_relation.specs.declared.operator.Op.{Op}
-use Rattle.farm_universe.specs.declared.types.Variant.{Variant}
-use Rattle.farm_universe.specs.Universe.{Universe}
-use Rattle.farm_universe.specs.Packages.{recipe, base}
-use Rattle.farm_universe.specs.Chroot.{member}
-use Rattle.plan_asm.specs.declared.instructions.Instruction.{Instruction}
-use Rattle.plan_asm.specs.declared.instructions.Instruction.TheVariants.{Unpack, Configure, Deconfigure, Remove, Build, Publish, Wait}
-use Rattle.plan_asm.specs.Plan.{Lane, Plan, lane, instruction_at, set_cost, build_cost, publish_cost}
-use Rattle.plan_asm.specs.Turn.{no_builds, with_built, newest}
-use Rattle.plan_asm.specs.Known.{Rows, possible}
-use Rattle.plan_asm.specs.May.{Bits, MaySlot, MayAbsent, MayUnpacked, MayConfigured, May}
-use Rattle.plan_asm.specs.Risk.{candidates, greatest_cost}
+use Rattle.farm_model.specs.declared.types.Variant.{Variant}
+use Rattle.farm_model.specs.Universe.{Universe}
+use Rattle.farm_model.specs.Packages.{recipe, base}
+use Rattle.farm_model.specs.Chroot.{member}
+use Rattle.plan_model.specs.declared.instructions.Instruction.{Instruction}
+use Rattle.plan_model.specs.declared.instructions.Instruction.TheVariants.{Unpack, Configure, Deconfigure, Remove, Build, Publish, Wait}
+use Rattle.plan_model.specs.Plan.{Lane, Plan, lane, instruction_at, set_cost, build_cost, publish_cost}
+use Rattle.plan_model.specs.Turn.{no_builds, with_built, newest}
+use Rattle.plan_model.specs.Known.{Rows, possible}
+use Rattle.plan_model.specs.May.{Bits, MaySlot, MayAbsent, MayUnpacked, MayConfigured, May}
+use Rattle.plan_model.specs.Risk.{candidates, greatest_cost}
 
 -- the variants that may be the last configured one
 abbrev pub may_be_last : MaySlot → Bits

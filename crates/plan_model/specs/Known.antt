@@ -7,13 +7,13 @@
 --   IsGreatest                the greatest such family
 use Rattle.std.specs.Prelude.{◌≡◌, ◌⊎◌, ℕ, suc, ◌<◌, ◌≤◌, Bool, true, false, ◌||◌, ◌==◌, List, length, take, Option, Some, None, slice_get, if◌then◌else◌}
 use Rattle.std.specs.List.{list_any}
-use Rattle.farm_universe.specs.declared.types.Variant.{Variant}
-use Rattle.farm_universe.specs.Below.{some_below}
-use Rattle.farm_universe.specs.Universe.{Universe}
-use Rattle.farm_universe.specs.Packages.{contains, satisfies_entry, initial, outputs}
-use Rattle.plan_asm.specs.declared.instructions.Instruction.{Instruction}
-use Rattle.plan_asm.specs.declared.instructions.Instruction.TheVariants.{Publish, Wait}
-use Rattle.plan_asm.specs.Plan.{Plan, lane, instruction_at, outputs_of}
+use Rattle.farm_model.specs.declared.types.Variant.{Variant}
+use Rattle.farm_model.specs.Below.{some_below}
+use Rattle.farm_model.specs.Universe.{Universe}
+use Rattle.farm_model.specs.Packages.{contains, satisfies_entry, initial, outputs}
+use Rattle.plan_model.specs.declared.instructions.Instruction.{Instruction}
+use Rattle.plan_model.specs.declared.instructions.Instruction.TheVariants.{Publish, Wait}
+use Rattle.plan_model.specs.Plan.{Plan, lane, instruction_at, outputs_of}
 
 -- the variant is an output of the instruction
 abbrev pub gives : Universe → Variant → Instruction → Bool

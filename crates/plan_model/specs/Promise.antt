@@ -1,10 +1,10 @@
 -- What an accepted plan promises, over every list of lane numbers as the order in which its lanes
 -- take turns.
 use Rattle.std.specs.Prelude.{◌≡◌, ◌≢◌, ℕ, ◌≤◌, false, List, length}
-use Rattle.farm_universe.specs.declared.types.Trap.{Trap}
-use Rattle.farm_universe.specs.Universe.{Universe}
-use Rattle.plan_asm.specs.Plan.{Plan, count}
-use Rattle.plan_asm.specs.Run.{State, Moved, Trapped, start, step, Run, is_finished}
+use Rattle.farm_model.specs.declared.types.Trap.{Trap}
+use Rattle.farm_model.specs.Universe.{Universe}
+use Rattle.plan_model.specs.Plan.{Plan, count}
+use Rattle.plan_model.specs.Run.{State, Moved, Trapped, start, step, Run, is_finished}
 
 -- Every interleaving:
 pub record IsSafe (u : Universe) (p : Plan) : Type 0 where

@@ -8,14 +8,14 @@
 --   unpacked, configured, deconfigured, removed                  the chroot after it
 use Rattle.std.specs.Prelude.{ℕ, ◌+◌, Bool, not, ◌&&◌, ◌==◌, nat_lt, List, [], ◌∷◌, length, map, Option, Some, None, slice_set, if◌then◌else◌}
 use Rattle.std.specs.List.{list_any, range_with_len}
-use Rattle.farm_universe.specs.declared.types.Variant.{Variant}
-use Rattle.farm_universe.specs.declared.types.Slot.{Slot}
-use Rattle.farm_universe.specs.declared.types.Slot.TheVariants.{Absent, Unpacked, Configured}
-use Rattle.farm_universe.specs.declared.types.Trap.{Trap}
-use Rattle.farm_universe.specs.declared.types.Trap.TheVariants.{PreDepends, Conflict, BreaksOther, Full, WrongState, Depends, Broken, StillNeeded, Unsettled, BuildDepends, BuildConflict}
-use Rattle.farm_universe.specs.Universe.{Universe, Recipe}
-use Rattle.farm_universe.specs.Packages.{variant, size, pre_depends, depends, satisfies_any, conflict, breaks}
-use Rattle.farm_universe.specs.Chroot.{Chroot, slot, some_slot, holds, holds_configured, is_present, is_unpacked, is_configured, last_of, used, member, met, met_with, pre_met, unmet, entries, unsettled}
+use Rattle.farm_model.specs.declared.types.Variant.{Variant}
+use Rattle.farm_model.specs.declared.types.Slot.{Slot}
+use Rattle.farm_model.specs.declared.types.Slot.TheVariants.{Absent, Unpacked, Configured}
+use Rattle.farm_model.specs.declared.types.Trap.{Trap}
+use Rattle.farm_model.specs.declared.types.Trap.TheVariants.{PreDepends, Conflict, BreaksOther, Full, WrongState, Depends, Broken, StillNeeded, Unsettled, BuildDepends, BuildConflict}
+use Rattle.farm_model.specs.Universe.{Universe, Recipe}
+use Rattle.farm_model.specs.Packages.{variant, size, pre_depends, depends, satisfies_any, conflict, breaks}
+use Rattle.farm_model.specs.Chroot.{Chroot, slot, some_slot, holds, holds_configured, is_present, is_unpacked, is_configured, last_of, used, member, met, met_with, pre_met, unmet, entries, unsettled}
 
 -- the first trap whose test holds
 unfoldable pub first_trap : List (Bool × Trap) → Option Trap

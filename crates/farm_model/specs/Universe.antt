@@ -10,7 +10,7 @@
 -- name (`Variant`: the name's number and the place among the name's versions, lowest first).
 use Rattle.std.specs.Prelude.{ℕ, List}
 use Rattle.deb_relation.specs.Relations.{Relations}
-use Rattle.farm_universe.specs.declared.types.Variant.{Variant}
+use Rattle.farm_model.specs.declared.types.Variant.{Variant}
 
 -- a binary package of an index (Debian Policy 5.3 and 7); relations are reduced to the farm's
 -- architecture. The version is its text, the size is Installed-Size in KiB (Policy 5.6.20)

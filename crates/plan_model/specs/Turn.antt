@@ -7,17 +7,17 @@
 use Rattle.std.specs.Prelude.{ℕ, suc, ◌+◌, zero, Bool, true, false, not, ◌&&◌, ◌==◌, nat_lt, List, [], ◌∷◌, length, replicate, Option, Some, None, slice_get, slice_index_or, slice_set, if◌then◌else◌}
 use Rattle.deb_relation.specs.declared.operator.Op.{Op}
 use Rattle.deb_relation.specs.Relations.{Entry}
-use Rattle.farm_universe.specs.declared.types.Variant.{Variant}
-use Rattle.farm_universe.specs.declared.types.Trap.{Trap}
-use Rattle.farm_universe.specs.declared.types.Trap.TheVariants.{Missing, NotBuilt, OverBudget}
-use Rattle.farm_universe.specs.Below.{highest_below}
-use Rattle.farm_universe.specs.Universe.{Universe}
-use Rattle.farm_universe.specs.Packages.{variant, variants, recipe, outputs, is_wanted, satisfies_entry, some_variant}
-use Rattle.farm_universe.specs.Chroot.{Chroot, base_chroot}
-use Rattle.farm_universe.specs.Traps.{first_trap, unpack_traps, unpacked, configure_traps, configured, deconfigure_traps, deconfigured, remove_traps, removed, build_traps}
-use Rattle.plan_asm.specs.declared.instructions.Instruction.{Instruction}
-use Rattle.plan_asm.specs.declared.instructions.Instruction.TheVariants.{Unpack, Configure, Deconfigure, Remove, Build, Publish, Wait}
-use Rattle.plan_asm.specs.Plan.{Lane, capacity, unpack_cost, set_cost, build_cost, publish_cost, wait_cost}
+use Rattle.farm_model.specs.declared.types.Variant.{Variant}
+use Rattle.farm_model.specs.declared.types.Trap.{Trap}
+use Rattle.farm_model.specs.declared.types.Trap.TheVariants.{Missing, NotBuilt, OverBudget}
+use Rattle.farm_model.specs.Below.{highest_below}
+use Rattle.farm_model.specs.Universe.{Universe}
+use Rattle.farm_model.specs.Packages.{variant, variants, recipe, outputs, is_wanted, satisfies_entry, some_variant}
+use Rattle.farm_model.specs.Chroot.{Chroot, base_chroot}
+use Rattle.farm_model.specs.Traps.{first_trap, unpack_traps, unpacked, configure_traps, configured, deconfigure_traps, deconfigured, remove_traps, removed, build_traps}
+use Rattle.plan_model.specs.declared.instructions.Instruction.{Instruction}
+use Rattle.plan_model.specs.declared.instructions.Instruction.TheVariants.{Unpack, Configure, Deconfigure, Remove, Build, Publish, Wait}
+use Rattle.plan_model.specs.Plan.{Lane, capacity, unpack_cost, set_cost, build_cost, publish_cost, wait_cost}
 
 -- a lane: the instructions that are done, the outputs that are made of the publish it stands at,
 -- its chroot, what it has spent, and for each recipe, by number, whether it has built it

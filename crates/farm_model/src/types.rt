@@ -1,7 +1,7 @@
 //! The small types that definitions and code share.
 
 ghost use Rattle.std.specs.Prelude.{◌≡◌};
-ghost use Rattle.farm_universe.specs.TrapText.{trap_text};
+ghost use Rattle.farm_model.specs.TrapText.{trap_text};
 
 use std::error::Error;
 use std::fmt;
@@ -93,33 +93,3 @@ impl fmt::Display for Trap {
 }
 
 impl Error for Trap {}
-
-#[cfg(test)]
-mod tests {
-    use super::Trap;
-    use std::test::Fail;
-
-    #[test]
-    fn traps_by_their_numbers(rt: HostRuntime) -> Result<(), Fail> {
-        let texts = [
-            (Trap::Missing, "X1 Missing"),
-            (Trap::PreDepends, "X2 PreDepends"),
-            (Trap::Conflict, "X3 Conflict"),
-            (Trap::BreaksOther, "X4 BreaksOther"),
-            (Trap::Full, "X5 Full"),
-            (Trap::WrongState, "X6 WrongState"),
-            (Trap::Depends, "X7 Depends"),
-            (Trap::Broken, "X8 Broken"),
-            (Trap::StillNeeded, "X9 StillNeeded"),
-            (Trap::Unsettled, "X10 Unsettled"),
-            (Trap::BuildDepends, "X11 BuildDepends"),
-            (Trap::BuildConflict, "X12 BuildConflict"),
-            (Trap::NotBuilt, "X13 NotBuilt"),
-            (Trap::OverBudget, "X14 OverBudget"),
-        ];
-        for (trap, text) in texts {
-            assert_eq!(rt; trap.to_string(rt.alloc())?.as_str(), text);
-        }
-        Ok(())
-    }
-}

@@ -9,12 +9,12 @@
 use Rattle.std.specs.Prelude.{ℕ, Bool, true, false, not, ◌&&◌, ◌||◌, ◌==◌, List, ◌++◌, length, map, Option, Some, None, slice_index_or}
 use Rattle.std.specs.List.{list_any, find, range_with_len}
 use Rattle.deb_relation.specs.Relations.{Entry, Relations}
-use Rattle.farm_universe.specs.declared.types.Variant.{Variant}
-use Rattle.farm_universe.specs.declared.types.Slot.{Slot}
-use Rattle.farm_universe.specs.declared.types.Slot.TheVariants.{Absent, Unpacked, Configured}
-use Rattle.farm_universe.specs.Below.{some_below, sum_below}
-use Rattle.farm_universe.specs.Universe.{Universe}
-use Rattle.farm_universe.specs.Packages.{variant, names, size, depends, pre_depends, base, satisfies, satisfies_entry}
+use Rattle.farm_model.specs.declared.types.Variant.{Variant}
+use Rattle.farm_model.specs.declared.types.Slot.{Slot}
+use Rattle.farm_model.specs.declared.types.Slot.TheVariants.{Absent, Unpacked, Configured}
+use Rattle.farm_model.specs.Below.{some_below, sum_below}
+use Rattle.farm_model.specs.Universe.{Universe}
+use Rattle.farm_model.specs.Packages.{variant, names, size, depends, pre_depends, base, satisfies, satisfies_entry}
 
 -- the slots, by the number of the name
 abbrev pub Chroot : Type 0

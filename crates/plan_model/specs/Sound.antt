@@ -3,13 +3,13 @@
 --   IsPlan, IsSound        what every plan keeps; what every universe and plan keep
 --   UnpacksAndConfigures   what plans can say so far
 use Rattle.std.specs.Prelude.{◌≡◌, ℕ, ◌<◌, Bool, true, false, ◌||◌, List, [], ◌∷◌, length, Some, All}
-use Rattle.farm_universe.specs.Universe.{Universe}
-use Rattle.farm_universe.specs.Packages.{names}
-use Rattle.farm_universe.specs.Chroot.{member}
-use Rattle.farm_universe.specs.Sound.{IsUniverse}
-use Rattle.plan_asm.specs.declared.instructions.Instruction.{Instruction}
-use Rattle.plan_asm.specs.declared.instructions.Instruction.TheVariants.{Unpack, Configure, Deconfigure, Remove, Build, Publish, Wait}
-use Rattle.plan_asm.specs.Plan.{Plan, lane, instruction_at}
+use Rattle.farm_model.specs.Universe.{Universe}
+use Rattle.farm_model.specs.Packages.{names}
+use Rattle.farm_model.specs.Chroot.{member}
+use Rattle.farm_model.specs.Sound.{IsUniverse}
+use Rattle.plan_model.specs.declared.instructions.Instruction.{Instruction}
+use Rattle.plan_model.specs.declared.instructions.Instruction.TheVariants.{Unpack, Configure, Deconfigure, Remove, Build, Publish, Wait}
+use Rattle.plan_model.specs.Plan.{Plan, lane, instruction_at}
 
 -- some number stands twice
 abbrev pub has_double : List ℕ → Bool

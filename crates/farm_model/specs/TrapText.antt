@@ -1,7 +1,7 @@
 -- The traps as answers name them. The project's own format.
 use Rattle.std.specs.Prelude.{ℕ, List, codes}
-use Rattle.farm_universe.specs.declared.types.Trap.{Trap}
-use Rattle.farm_universe.specs.declared.types.Trap.TheVariants.{Missing, PreDepends, Conflict, BreaksOther, Full, WrongState, Depends, Broken, StillNeeded, Unsettled, BuildDepends, BuildConflict, NotBuilt, OverBudget}
+use Rattle.farm_model.specs.declared.types.Trap.{Trap}
+use Rattle.farm_model.specs.declared.types.Trap.TheVariants.{Missing, PreDepends, Conflict, BreaksOther, Full, WrongState, Depends, Broken, StillNeeded, Unsettled, BuildDepends, BuildConflict, NotBuilt, OverBudget}
 
 abbrev pub trap_text : Trap → List ℕ
 trap_text Missing = codes "X1 Missing"

@@ -6,10 +6,10 @@
 use Rattle.std.specs.Prelude.{◌≡◌, ℕ, suc, ◌<◌, ◌≤◌, Bool, true, false, not, ◌&&◌, ◌==◌, length, Some, slice_get, All}
 use Rattle.std.specs.declared.cmp.Ordering.TheVariants.{Less}
 use Rattle.deb_version.specs.Grammar.{text_cmp}
-use Rattle.farm_universe.specs.declared.types.Variant.{Variant}
-use Rattle.farm_universe.specs.Universe.{Universe}
-use Rattle.farm_universe.specs.Packages.{variant, variants, package_of, base, outputs, initial, conflict, breaks}
-use Rattle.farm_universe.specs.Chroot.{Chroot, some_slot, holds, used, unsettled, base_chroot}
+use Rattle.farm_model.specs.declared.types.Variant.{Variant}
+use Rattle.farm_model.specs.Universe.{Universe}
+use Rattle.farm_model.specs.Packages.{variant, variants, package_of, base, outputs, initial, conflict, breaks}
+use Rattle.farm_model.specs.Chroot.{Chroot, some_slot, holds, used, unsettled, base_chroot}
 
 -- a variant of the universe
 abbrev pub IsKnown : Universe → Variant → Type 0

@@ -1,0 +1,7 @@
+pub mod Below
+pub mod Universe
+pub mod Packages
+pub mod Chroot
+pub mod Traps
+pub mod TrapText
+pub mod Sound

@@ -1,0 +1,7 @@
+//! The model of a farm: its packages, recipes and base chroots, what a chroot holds, and the traps
+//! and effects of instructions on one chroot.
+#![tactic(auto)]
+
+pub mod types;
+
+pub use types::{Slot, Trap, Variant};

@@ -1,0 +1,14 @@
+pub mod Plan
+pub mod Turn
+pub mod Run
+pub mod Known
+pub mod May
+pub mod Allowed
+pub mod Risk
+pub mod MayAt
+pub mod Safety
+pub mod Order
+pub mod World
+pub mod Sound
+pub mod Promise
+pub mod Foreseen
