@@ -14,9 +14,9 @@ ghost use Rattle.farm_universe.specs.View.{refusal_of};
 use crate::binary::Package;
 use crate::error::{Refusal, TWICE, UNKNOWN_VARIANT};
 use crate::table::{Table, packages_at, place_of};
-use farm_model::Variant;
 use deb_relation::{Entry, Kind, Relations};
 use deb_version::Version;
+use farm_model::Variant;
 use std::alloc::Global;
 
 fn has_version(version: &Version, binary: &Package) -> bool

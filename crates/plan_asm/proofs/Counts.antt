@@ -7,7 +7,6 @@ use Rattle.farm_model.specs.Below.{sum_below}
 use Rattle.farm_model.specs.Universe.{Universe}
 use Rattle.plan_model.specs.declared.instructions.Instruction.{Instruction}
 use Rattle.plan_asm.specs.Drafts.{instructions_of}
-use Rattle.plan_asm.specs.Ends.{AreSingle}
 use Rattle.plan_model.specs.Plan.{Lane, Plan, lane, events_of, count}
 
 -- a sum from its first number on
@@ -24,12 +23,16 @@ sum_below-lanes g (l ∷ ls) =
     ∙ ap (λ n. g l + n) (sum_below-lanes g ls) ∙ sym (sum_by-cons g l ls)
 
 module _ (u : Universe) where
+  -- one event each
+  abbrev pub AreSingle : List Instruction → Type 0
+  AreSingle xs = All (λ (x : Instruction). events_of u x ≡ 1) xs
+
   events-single : (xs : List Instruction) → AreSingle xs → sum_by (events_of u) xs ≡ length xs
   events-single [] single = refl
   events-single (x ∷ xs) single =
-      let first = All-head (λ (x : Instruction). (v : Universe) → events_of v x ≡ 1) x xs single in
-      let rest = All-tail (λ (x : Instruction). (v : Universe) → events_of v x ≡ 1) x xs single in
-      sum_by-cons (events_of u) x xs ∙ rw (first u, events-single xs rest) (one-add (length xs))
+      let first = All-head (λ (x : Instruction). events_of u x ≡ 1) x xs single in
+      let rest = All-tail (λ (x : Instruction). events_of u x ≡ 1) x xs single in
+      sum_by-cons (events_of u) x xs ∙ rw (first, events-single xs rest) (one-add (length xs))
 
   -- the events of a lane
   events : Lane → ℕ

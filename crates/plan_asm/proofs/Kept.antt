@@ -1,5 +1,5 @@
 -- What is read without a fault keeps to the limits and is a plan of its universe.
-use Rattle.std.proofs.Common.{◌≡◌, ℕ, ◌<◌, ◌^◌, true, List, [], ◌∷◌, length, refl, subst, arith, Some, Result, Ok, Err, IfOk, All}
+use Rattle.std.proofs.Common.{◌≡◌, ℕ, ◌<◌, ◌^◌, true, List, [], ◌∷◌, length, refl, sym, ◌∙◌, subst, arith, Some, Result, Ok, Err, IfOk, All}
 use Rattle.std.specs.Prelude.{slice_get}
 use Rattle.std.proofs.lemmas.List.Elements.{All-nil, All-weaker}
 use Rattle.std.proofs.lemmas.Option.{get_or_from_slice_get, slice_get_within}
@@ -16,25 +16,27 @@ use Rattle.plan_asm.specs.declared.draft.Open.TheVariants.{Nothing, InLane}
 use Rattle.plan_asm.specs.declared.error.TheConstants.{FILE}
 use Rattle.plan_model.specs.declared.instructions.Instruction.{Instruction}
 use Rattle.plan_model.specs.declared.instructions.Instruction.TheVariants.{Unpack, Configure, Deconfigure, Remove, Build, Publish, Wait}
-use Rattle.plan_asm.specs.Drafts.{Draft, empty, all_lanes}
-use Rattle.plan_asm.specs.Ends.{finished, AreSingle, IsRead}
+use Rattle.plan_asm.specs.Drafts.{Draft, empty, all_lanes, instructions_of}
+use Rattle.plan_asm.specs.CountedPlan.{CountedPlan}
+use Rattle.plan_asm.specs.Ends.{finished, IsWithinLimits}
 use Rattle.plan_asm.specs.Forms.{form_at, is_head}
-use Rattle.plan_model.specs.Plan.{Lane, Plan, lane, no_lane, events_of}
+use Rattle.plan_model.specs.Plan.{Lane, Plan, lane, no_lane, events_of, count}
 use Rattle.plan_asm.specs.PlanText.{take_text, take_line, draft_of, plan_in, plan_of}
-use Rattle.plan_model.specs.Sound.{IsInstruction, IsPlan, unpacks_or_configures, UnpacksAndConfigures}
+use Rattle.plan_model.specs.Sound.{IsInstruction, IsPlan}
 use Rattle.plan_asm.proofs.Carried.{if-has, then-has, steps-keep, placed-has, always, has-ok}
+use Rattle.plan_asm.proofs.Counts.{AreSingle, count-single}
 use Rattle.plan_asm.proofs.DraftLaws.{IsGood, IsGoodLane, IsGoodDraft, take_form-has}
 use Rattle.plan_asm.proofs.FormLaws.{IsForm, form-has}
 
 -- an instruction that lines can give so far is one event
-good-single : (u : Universe) (x : Instruction) → IsGood u x → (v : Universe) → events_of v x ≡ 1
-good-single u (Unpack name wanted) good v = refl
-good-single u (Configure members) good v = refl
-good-single u (Deconfigure members) good v = absurd good
-good-single u (Remove members) good v = absurd good
-good-single u (Build r) good v = absurd good
-good-single u (Publish r) good v = absurd good
-good-single u (Wait e) good v = absurd good
+good-single : (u : Universe) (x : Instruction) → IsGood u x → events_of u x ≡ 1
+good-single u (Unpack name wanted) good = refl
+good-single u (Configure members) good = refl
+good-single u (Deconfigure members) good = absurd good
+good-single u (Remove members) good = absurd good
+good-single u (Build r) good = absurd good
+good-single u (Publish r) good = absurd good
+good-single u (Wait e) good = absurd good
 
 -- and speaks of what there is
 good-instruction : (u : Universe) → length u.names ≡ names u → (x : Instruction) → IsGood u x
@@ -47,16 +49,6 @@ good-instruction u listed (Remove members) good = absurd good
 good-instruction u listed (Build r) good = absurd good
 good-instruction u listed (Publish r) good = absurd good
 good-instruction u listed (Wait e) good = absurd good
-
--- and an unpack or a configure
-good-so-far : (u : Universe) (x : Instruction) → IsGood u x → unpacks_or_configures x ≡ true
-good-so-far u (Unpack name wanted) good = refl
-good-so-far u (Configure members) good = refl
-good-so-far u (Deconfigure members) good = absurd good
-good-so-far u (Remove members) good = absurd good
-good-so-far u (Build r) good = absurd good
-good-so-far u (Publish r) good = absurd good
-good-so-far u (Wait e) good = absurd good
 
 module _ (u : Universe) where
   -- ---- lines
@@ -74,25 +66,17 @@ module _ (u : Universe) where
       steps-keep (take_line u) (IsGoodDraft u) line-has ls empty
       (record { lanes = All-nil (IsGoodLane u); few = omega arith; small = omega arith })
 
-  good-read : (d : Draft) → IsGoodDraft u d → IsRead d
-  good-read d good =
-      let lanes = all_lanes d.lanes d.current in
-      record {
-        limits = record {
-          lanes = good.few;
-          instructions = good.small;
-          budgets = All-weaker (IsGoodLane u) (λ (l : Lane). l.budget < 10 ^ 15) (λ l h. h.budget)
-              lanes good.lanes;
-        };
-        single = All-weaker (IsGoodLane u) (λ (l : Lane). AreSingle l.instructions)
-            (λ l h. All-weaker (IsGood u)
-            (λ (x : Instruction). (v : Universe) → events_of v x ≡ 1) (good-single u)
-            l.instructions h.instructions)
-            lanes good.lanes;
-      }
+  good-read : (d : Draft) → IsGoodDraft u d → IsWithinLimits (all_lanes d.lanes d.current)
+  good-read d good = record {
+    lanes = good.few;
+    instructions = good.small;
+    budgets = All-weaker (IsGoodLane u) (λ (l : Lane). l.budget < 10 ^ 15) (λ l h. h.budget)
+        (all_lanes d.lanes d.current) good.lanes;
+  }
 
   -- lines that were read without a fault
-  pub draft-read : (ls : List Line) (d : Draft) → draft_of u ls ≡ Ok d → IsRead d
+  pub draft-read : (ls : List Line) (d : Draft) → draft_of u ls ≡ Ok d
+      → IsWithinLimits (all_lanes d.lanes d.current)
   draft-read ls d is = good-read d (has-ok (IsGoodDraft u) (draft_of u ls) d (draft-has ls) is)
 
   -- ---- a text
@@ -138,15 +122,21 @@ module _ (u : Universe) where
       good-plan p sound.listed (has-ok (All (IsGoodLane u)) (plan_of u text) p (text-has text) is)
 
   -- a plan that was read over a sound universe
-  pub gives-sound : (text : List ℕ) (r : Result Plan Fault)
-      → Gives refusal_of (λ p. p) r (plan_of u text) → IfOk r (λ p. IsUniverse u → IsPlan u p)
-  gives-sound text (Ok p) gives = plan-sound text p gives
+  pub gives-sound : (text : List ℕ) (r : Result CountedPlan Fault)
+      → Gives refusal_of (λ p. p.lanes) r (plan_of u text)
+      → IfOk r (λ p. IsUniverse u → IsPlan u p.lanes)
+  gives-sound text (Ok p) gives = plan-sound text p.lanes gives
   gives-sound text (Err e) gives = tt
 
-  -- its instructions
-  pub gives-so-far : (text : List ℕ) (r : Result Plan Fault)
-      → Gives refusal_of (λ p. p) r (plan_of u text) → IfOk r UnpacksAndConfigures
-  gives-so-far text (Ok p) gives =
-      let good = has-ok (All (IsGoodLane u)) (plan_of u text) p (text-has text) gives in
-      λ l i x lt is. good-so-far u x (good-at p good l i x lt is)
-  gives-so-far text (Err e) gives = tt
+  -- has as many events as instructions
+  pub gives-counted : (text : List ℕ) (r : Result CountedPlan Fault)
+      → Gives refusal_of (λ p. p.lanes) r (plan_of u text)
+      → IfOk r (λ p. p.count ≡ length (instructions_of p.lanes))
+      → IfOk r (λ p. p.count ≡ count u p.lanes)
+  gives-counted text (Ok p) gives counted =
+      let good = has-ok (All (IsGoodLane u)) (plan_of u text) p.lanes (text-has text) gives in
+      counted ∙ sym (count-single u p.lanes (All-weaker (IsGoodLane u)
+      (λ (l : Lane). AreSingle u l.instructions)
+      (λ l h. All-weaker (IsGood u) (λ (x : Instruction). events_of u x ≡ 1) (good-single u)
+      l.instructions h.instructions) p.lanes good))
+  gives-counted text (Err e) gives counted = tt

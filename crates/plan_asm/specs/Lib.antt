@@ -1,3 +1,4 @@
+pub mod CountedPlan
 pub mod Forms
 pub mod Drafts
 pub mod Ends

@@ -1,20 +1,20 @@
 //! What the lines of a plan say so far.
 
-ghost use Rattle.std.specs.Prelude.{◌≡◌, false};
+ghost use Rattle.std.specs.Prelude.{◌≡◌, false, length, IfOk};
 ghost use Rattle.std.specs.List.{list_any};
 ghost use Rattle.std.specs.Str.{bytes_eq};
 ghost use Rattle.deb_text.specs.Answers.{Gives, refusal_of};
-ghost use Rattle.plan_asm.specs.Drafts.{empty, is_open, open_lane, end_lane, add};
-ghost use Rattle.plan_asm.specs.Ends.{finished, IsRead};
+ghost use Rattle.plan_asm.specs.Drafts.{empty, is_open, open_lane, end_lane, add, all_lanes, instructions_of};
+ghost use Rattle.plan_asm.specs.Ends.{finished, IsWithinLimits};
 ghost use Rattle.plan_asm.specs.View.{refusal_of_line};
 
 use crate::error::{
     BAD_LINE, FILE, LANE_TWICE, LineError, MOST_INSTRUCTIONS, MOST_LANES, OVER_LIMIT, UNCLOSED,
 };
-use plan_model::Instruction;
 use crate::lane::Lane;
 use crate::plan::Plan;
 use deb_text::Fault;
+use plan_model::Instruction;
 use std::alloc::Global;
 use std::marker::Model;
 
@@ -166,8 +166,11 @@ impl Draft {
     ///
     /// [`UNCLOSED`], at the first line of what is left open.
     pub fn finish(self) -> Result<Plan, Fault>
-        requires { IsRead self }
-        ensures { Gives refusal_of (λ plan. plan) result (finished self.lanes self.current) }
+        requires { IsWithinLimits (all_lanes self.lanes self.current) }
+        ensures lanes { Gives refusal_of (λ plan. plan.lanes) result
+            (finished self.lanes self.current) }
+        ensures instructions { IfOk result
+            (λ plan. plan.count ≡ length (instructions_of plan.lanes)) }
     {
         let Draft {
             lanes,

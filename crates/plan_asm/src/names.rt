@@ -11,9 +11,9 @@ ghost use Rattle.plan_asm.specs.Seen.{Marks};
 ghost use Rattle.plan_asm.specs.View.{refusal_of_line};
 
 use crate::error::{LineError, NAME_TWICE, UNKNOWN_NAME};
-use plan_model::Members;
 use deb_text::next_word;
 use farm_universe::Universe;
+use plan_model::Members;
 use std::alloc::{AllocError, Global};
 
 /// The number of a package's name.

@@ -1,14 +1,13 @@
 //! A plan that was read.
 
-ghost use Rattle.std.specs.Prelude.{◌≡◌, ◌<◌, length, slice_get, Some};
-ghost use Rattle.farm_model.specs.Universe.{Universe};
-ghost use Rattle.plan_asm.specs.Ends.{IsWithinLimits, IsCounted};
-ghost use Rattle.plan_model.specs.Plan.{count};
+ghost use Rattle.std.specs.Prelude.{◌≡◌, ◌<◌, length};
+ghost use Rattle.plan_asm.specs.Ends.{IsWithinLimits};
+ghost use Rattle.plan_model.specs.Plan.{lane};
 
 use crate::lane::Lane;
 use std::marker::Model;
 
-/// A plan: its lanes in file order. A contract sees their list.
+/// A plan: its lanes in file order, and how many events it has.
 #[derive(Debug, Drop)]
 pub struct Plan {
     lanes: Vec<Lane>,
@@ -16,47 +15,44 @@ pub struct Plan {
 }
 
 impl Model for Plan {
-    ghost use Rattle.plan_model.specs.Plan as spec;
+    ghost use Rattle.plan_asm.specs.CountedPlan.{CountedPlan};
+    ghost use Rattle.plan_asm.specs.Ends.{IsWithinLimits};
 
-    ghost Value = { spec.Plan };
+    ghost Value = { CountedPlan };
 
-    ghost use Rattle.plan_asm.specs.Ends.{IsWithinLimits, IsCounted};
+    ghost view = { λ plan. record { lanes = plan.lanes.items; count = plan.count } };
 
-    ghost view = { λ plan. plan.lanes.items };
-
-    ghost invariant = { λ plan.
-        IsWithinLimits plan.lanes.items × IsCounted plan.lanes.items plan.count };
+    ghost invariant = { λ plan. IsWithinLimits plan.lanes.items };
 }
 
 impl Plan {
     /// Makes a plan of its lanes, whose events are so many.
     pub(crate) fn new(lanes: Vec<Lane>, count: usize) -> Plan
-        requires limits { IsWithinLimits lanes.items }
-        requires counted { IsCounted lanes.items count }
-        ensures { result ≡ lanes.items }
+        requires { IsWithinLimits lanes.items }
+        ensures { result ≡ record { lanes = lanes.items; count = count } }
     {
         Plan { lanes, count }
     }
 
     /// How many lanes the plan has, at most [`MOST_LANES`](crate::MOST_LANES).
     pub fn lanes(&self) -> usize
-        ensures lanes { result ≡ length self.now }
-        ensures limits { IsWithinLimits self.now }
+        ensures lanes { result ≡ length self.now.lanes }
+        ensures limits { IsWithinLimits self.now.lanes }
     {
         self.lanes.len()
     }
 
     /// The lane of a number below `lanes`, in file order.
     pub fn lane(&self, number: usize) -> &Lane
-        requires { number < length self.now }
-        ensures { slice_get self.now number ≡ Some result.now }
+        requires { number < length self.now.lanes }
+        ensures { result.now ≡ lane self.now.lanes number }
     {
         &self.lanes[number]
     }
 
     /// How many events the plan has.
     pub fn count(&self) -> usize
-        ensures { (u : Universe) → result ≡ count u self.now }
+        ensures { result ≡ self.now.count }
     {
         self.count
     }

@@ -6,21 +6,22 @@ ghost use Rattle.deb_stanza.specs.Plain.{plain_lines_at};
 ghost use Rattle.deb_text.specs.Answers.{Gives, fault_at, refusal_of};
 ghost use Rattle.farm_model.specs.Sound.{IsUniverse};
 ghost use Rattle.farm_universe.specs.Told.{in_file};
-ghost use Rattle.plan_asm.specs.Drafts.{take_form};
+ghost use Rattle.plan_asm.specs.Drafts.{instructions_of, take_form};
 ghost use Rattle.plan_asm.specs.PlanText.{take_text, take_line, draft_of};
 ghost use Rattle.plan_asm.specs.PlanText.{plan_in, plan_of};
-ghost use Rattle.plan_model.specs.Sound.{IsPlan, UnpacksAndConfigures};
+ghost use Rattle.plan_model.specs.Plan.{count};
+ghost use Rattle.plan_model.specs.Sound.{IsPlan};
 ghost use Rattle.plan_asm.specs.View.{refusal_of_line, form_of};
 
 use crate::draft::Draft;
 use crate::error::{BAD_LINE, FILE, LineError, NO_PLAN};
 use crate::form::{Form, is_head, read_form};
-use plan_model::Instruction;
 use crate::names::{known_base, known_name, read_set};
 use crate::plan::Plan;
 use deb_stanza::{Lines, plain_lines};
 use deb_text::Fault;
 use farm_universe::Universe;
+use plan_model::Instruction;
 use std::alloc::Global;
 
 #[tactic(auto, unfolding(crate::specs::Drafts::take_form))]
@@ -138,7 +139,8 @@ const fn no_plan(line: u32) -> Fault
 }
 
 fn read_plan(alloc: Global, universe: &Universe, lines: &Lines) -> Result<Plan, Fault>
-    ensures { Gives refusal_of (λ plan. plan) result (plan_in universe.now lines.now) }
+    ensures lanes { Gives refusal_of (λ plan. plan.lanes) result (plan_in universe.now lines.now) }
+    ensures instructions { IfOk result (λ plan. plan.count ≡ length (instructions_of plan.lanes)) }
 {
     if lines.count() == 0 {
         return Err(no_plan(0));
@@ -152,7 +154,8 @@ fn read_plan(alloc: Global, universe: &Universe, lines: &Lines) -> Result<Plan, 
 
 #[tactic(auto, unfolding(crate::specs::PlanText::plan_of))]
 fn read_text(alloc: Global, universe: &Universe, text: &[u8]) -> Result<Plan, Fault>
-    ensures { Gives refusal_of (λ plan. plan) result (plan_of universe.now text.now) }
+    ensures lanes { Gives refusal_of (λ plan. plan.lanes) result (plan_of universe.now text.now) }
+    ensures instructions { IfOk result (λ plan. plan.count ≡ length (instructions_of plan.lanes)) }
 {
     let lines = read_lines(alloc, text)?;
     read_plan(alloc, universe, &lines)
@@ -174,9 +177,9 @@ fn read_text(alloc: Global, universe: &Universe, text: &[u8]) -> Result<Plan, Fa
 /// [`UNCLOSED`](crate::UNCLOSED), at the line of a lane without `end`. 900 of file 0 and line 0
 /// where memory ran out. Nothing is left behind.
 pub fn assemble(alloc: Global, universe: &Universe, text: &[u8]) -> Result<Plan, Fault>
-    ensures plan { Gives refusal_of (λ plan. plan) result (plan_of universe.now text.now) }
-    ensures sound { IfOk result (λ plan. IsUniverse universe.now → IsPlan universe.now plan) }
-    ensures so_far { IfOk result UnpacksAndConfigures }
+    ensures plan { Gives refusal_of (λ plan. plan.lanes) result (plan_of universe.now text.now) }
+    ensures counted { IfOk result (λ plan. plan.count ≡ count universe.now plan.lanes) }
+    ensures sound { IfOk result (λ plan. IsUniverse universe.now → IsPlan universe.now plan.lanes) }
 {
     read_text(alloc, universe, text)
 }

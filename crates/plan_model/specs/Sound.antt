@@ -1,8 +1,7 @@
 -- What the readers make sure of in every plan (the project's own rules).
 --
 --   IsPlan, IsSound        what every plan keeps; what every universe and plan keep
---   UnpacksAndConfigures   what plans can say so far
-use Rattle.std.specs.Prelude.{◌≡◌, ℕ, ◌<◌, Bool, true, false, ◌||◌, List, [], ◌∷◌, length, Some, All}
+use Rattle.std.specs.Prelude.{◌≡◌, ℕ, ◌<◌, Bool, false, ◌||◌, List, [], ◌∷◌, length, Some, All}
 use Rattle.farm_model.specs.Universe.{Universe}
 use Rattle.farm_model.specs.Packages.{names}
 use Rattle.farm_model.specs.Chroot.{member}
@@ -47,15 +46,3 @@ pub record IsPlan (u : Universe) (p : Plan) : Type 0 where
 pub record IsSound (u : Universe) (p : Plan) : Type 0 where
   pub universe : IsUniverse u
   pub plan : IsPlan u p
-
--- an unpack or a configure
-abbrev pub unpacks_or_configures : Instruction → Bool
-unpacks_or_configures (Unpack name wanted) = true
-unpacks_or_configures (Configure members) = true
-unpacks_or_configures _ = false
-
--- the plan has no other instructions: no text says another one so far
-abbrev pub UnpacksAndConfigures : Plan → Type 0
-UnpacksAndConfigures p =
-    (l i : ℕ) (x : Instruction) → l < length p → instruction_at p l i ≡ Some x
-    → unpacks_or_configures x ≡ true

@@ -4,7 +4,7 @@ pub mod Picks
 pub mod Configures
 pub mod Risks
 pub mod Bases
-pub mod Quiet
 pub mod SoFar
+pub mod Quiet
 pub mod Walks
 pub mod Promises

@@ -20,7 +20,9 @@ use Rattle.plan_model.specs.May.{May}
 use Rattle.plan_model.specs.MayAt.{may_after_some, may_at}
 use Rattle.plan_model.specs.Risk.{risk}
 use Rattle.plan_model.specs.Safety.{risk_of, risk_at}
-use Rattle.plan_verifier.specs.Walk.{initial_rows, is_read, IsReadable, risk_now, may_then}
+use Rattle.plan_verifier.specs.Judged.{unpacks_or_configures, is_judged}
+use Rattle.plan_verifier.specs.Walk.{initial_rows, risk_now, may_then}
+use Rattle.plan_verifier.proofs.SoFar.{judged-at}
 
 some_below-none : (n : ℕ) (p : ℕ → Bool) → ((k : ℕ) → k < n → p k ≡ false) → some_below n p ≡ false
 some_below-none zero p h = refl
@@ -43,28 +45,28 @@ either-none p true i xs h = take-none p i xs h
 either-none p false i xs h = h
 
 -- such an instruction gives nothing
-gives-none : (u w : Universe) (v : Variant) (x : Instruction) → is_read u x ≡ true
+gives-none : (w : Universe) (v : Variant) (x : Instruction) → unpacks_or_configures x ≡ true
     → gives w v x ≡ false
-gives-none u w v (Unpack name wanted) e = refl
-gives-none u w v (Configure members) e = refl
-gives-none u w v (Deconfigure members) e = refl
-gives-none u w v (Remove members) e = refl
-gives-none u w v (Build r) e = refl
-gives-none u w v (Publish r) e = cc
-gives-none u w v (Wait entry) e = refl
+gives-none w v (Unpack name wanted) e = refl
+gives-none w v (Configure members) e = refl
+gives-none w v (Deconfigure members) e = refl
+gives-none w v (Remove members) e = refl
+gives-none w v (Build r) e = refl
+gives-none w v (Publish r) e = cc
+gives-none w v (Wait entry) e = refl
 
 or_false : (b c : Bool) → c ≡ false → (b || c) ≡ b
 or_false true c e = refl
 or_false false c e = e
 
-module _ (u : Universe) (p : Plan) (readable : IsReadable u p) where
+module _ (u : Universe) (p : Plan) (judged : is_judged p ≡ true) where
   reach-none : (l i j : ℕ) (v : Variant) → j < length p
       → list_any (gives u v) (within_reach p l i j) ≡ false
   reach-none l i j v lt =
       either-none (gives u v) (j == l) i (lane p j).instructions
       (list_any_none (gives u v) (lane p j).instructions
-      (λ k d there. gives-none u u v (get_or (lane p j).instructions k d)
-      (readable.read j k (get_or (lane p j).instructions k d) lt
+      (λ k d there. gives-none u v (get_or (lane p j).instructions k d)
+      (judged-at p judged j k (get_or (lane p j).instructions k d) lt
       (slice_get-get_or (lane p j).instructions k d there))))
 
   possible-at : (l i : ℕ) (v : Variant) → possible u p l i v ≡ initial u v
@@ -112,16 +114,9 @@ lane-short p l lt limits =
       limits.instructions,
     )
 
-pub lane-is : (p : Plan) (l : ℕ) (of : Lane) → slice_get p l ≡ Some of → lane p l ≡ of
-lane-is p l of is = get_or_from_slice_get p l of no_lane is
-
-pub list-is : (p : Plan) (l : ℕ) (of : Lane) (xs : List Instruction) → slice_get p l ≡ Some of
-    → xs ≡ of.instructions → (lane p l).instructions ≡ xs
-list-is p l of xs is same = ap (λ (o : Lane). o.instructions) (lane-is p l of is) ∙ sym same
-
 pub instruction-is : (p : Plan) (l i : ℕ) (of : Lane) (xs : List Instruction) (x : Instruction)
-    → slice_get p l ≡ Some of → xs ≡ of.instructions → i < length xs → x ≡ get_or xs i x
+    → of ≡ lane p l → xs ≡ of.instructions → i < length xs → x ≡ get_or xs i x
     → instruction_at p l i ≡ Some x
 instruction-is p l i of xs x is same lt here =
-    ap (λ ys. slice_get ys i) (list-is p l of xs is same)
+    ap (λ ys. slice_get ys i) (sym (same ∙ ap (λ (o : Lane). o.instructions) is))
     ∙ (slice_get-get_or xs i x lt ∙ ap Some (sym here))

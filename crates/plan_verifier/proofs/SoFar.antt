@@ -1,62 +1,54 @@
--- Plans of unpacks and configures alone: each can be walked, nothing is news in them, and they need
--- no order.
-use Rattle.std.proofs.Common.{◌≡◌, ℕ, zero, suc, ◌<◌, true, false, refl, List, [], ◌∷◌, map, Some, arith}
-use Rattle.std.specs.Prelude.{nat_lt, slice_get, slice_index_or, All}
+-- Plans of unpacks and configures alone: nothing is news in them, and they need no order.
+use Rattle.std.proofs.Common.{◌≡◌, ℕ, zero, suc, ◌<◌, Bool, true, false, refl, subst, List, [], ◌∷◌, map, length, get_or, Some, arith}
+use Rattle.std.specs.Prelude.{nat_le, slice_get, slice_index_or}
 use Rattle.std.specs.List.{list_all}
-use Rattle.std.proofs.lemmas.Bool.{and_from, lt-ltb}
+use Rattle.std.proofs.lemmas.Bool.{and_parts}
+use Rattle.std.proofs.lemmas.List.Sums.{AllPass-from_list_all}
+use Rattle.std.proofs.lemmas.Option.{get_or_from_slice_get, slice_get_within}
 use Rattle.farm_model.specs.Universe.{Universe}
-use Rattle.farm_model.specs.Packages.{names}
 use Rattle.plan_model.specs.declared.instructions.Instruction.{Instruction}
 use Rattle.plan_model.specs.declared.instructions.Instruction.TheVariants.{Unpack, Configure, Deconfigure, Remove, Build, Publish, Wait}
 use Rattle.plan_model.specs.Order.{items, start_board, IsOrder}
-use Rattle.plan_model.specs.Plan.{Lane, Plan}
-use Rattle.plan_model.specs.Sound.{IsInstruction, IsSound, unpacks_or_configures, UnpacksAndConfigures}
+use Rattle.plan_model.specs.Plan.{Lane, Plan, lane, no_lane, instruction_at}
 use Rattle.plan_model.specs.Known.{IsGreatest}
 use Rattle.verdict_laws.specs.Families.{waits_or_publishes}
 use Rattle.verdict_laws.proofs.Quiet.{initial_rows_are_greatest}
-use Rattle.plan_verifier.specs.Walk.{initial_rows, is_read, IsReadable}
+use Rattle.plan_verifier.specs.declared.judged.TheConstants.{MOST_JUDGED}
+use Rattle.plan_verifier.specs.Judged.{unpacks_or_configures, is_judged}
+use Rattle.plan_verifier.specs.Walk.{initial_rows}
 
--- ---- they can be walked
+-- ---- each instruction
 
-all-known : (u : Universe) (ns : List ℕ) → All (λ n. n < names u) ns
-    → list_all (λ n. nat_lt n (names u)) ns ≡ true
-all-known u [] known = refl
-all-known u (n ∷ ns) known =
-    and_from _ _ (lt-ltb n (names u) (known 0 0 (omega arith)))
-    (all-known u ns (λ i d lt. known (suc i) d (omega (arith, lt))))
+all-at : {X : Type 0} (p : X → Bool) (xs : List X) (i : ℕ) (d : X) → list_all p xs ≡ true
+    → i < length xs → p (get_or xs i d) ≡ true
+all-at p xs i d all lt = AllPass-from_list_all p xs all i d lt
 
-read-is : (u : Universe) (x : Instruction) → IsInstruction u x → unpacks_or_configures x ≡ true
-    → is_read u x ≡ true
-read-is u (Unpack name wanted) known e = lt-ltb name (names u) known
-read-is u (Configure members) set e =
-    and_from _ _ (all-known u members set.known) (rw set.distinct refl)
-read-is u (Deconfigure members) set e = cc
-read-is u (Remove members) set e = cc
-read-is u (Build r) known e = cc
-read-is u (Publish r) known e = cc
-read-is u (Wait entry) known e = cc
-
-pub readable : (u : Universe) (p : Plan) → IsSound u p → UnpacksAndConfigures p → IsReadable u p
-readable u p sound so_far = record {
-  sound = sound.universe;
-  based = sound.plan.bases;
-  read = λ l i x lt is. read-is u x (sound.plan.instructions l i x lt is) (so_far l i x lt is);
-}
+pub judged-at : (p : Plan) → is_judged p ≡ true → (l i : ℕ) (x : Instruction) → l < length p
+    → instruction_at p l i ≡ Some x → unpacks_or_configures x ≡ true
+unfolding is_judged
+judged-at p judged l i x lt is =
+    let lanes = (and_parts (nat_le (length p) MOST_JUDGED) _ judged).1 in
+    let mine =
+    all-at (λ (of : Lane). list_all unpacks_or_configures of.instructions) p l no_lane lanes lt in
+    let xs = (lane p l).instructions in
+    subst (λ y. unpacks_or_configures y ≡ true) (get_or_from_slice_get xs i x x is)
+    (all-at unpacks_or_configures xs i x mine (slice_get_within xs i x is))
 
 -- ---- nothing is news
 
-quiet : (u : Universe) (x : Instruction) → is_read u x ≡ true → waits_or_publishes x ≡ false
-quiet u (Unpack name wanted) e = refl
-quiet u (Configure members) e = refl
-quiet u (Deconfigure members) e = refl
-quiet u (Remove members) e = refl
-quiet u (Build r) e = refl
-quiet u (Publish r) e = cc
-quiet u (Wait entry) e = cc
+quiet : (x : Instruction) → unpacks_or_configures x ≡ true → waits_or_publishes x ≡ false
+quiet (Unpack name wanted) e = refl
+quiet (Configure members) e = refl
+quiet (Deconfigure members) e = refl
+quiet (Remove members) e = refl
+quiet (Build r) e = refl
+quiet (Publish r) e = cc
+quiet (Wait entry) e = cc
 
-pub initial_greatest : (u : Universe) (p : Plan) → IsReadable u p → IsGreatest u p (initial_rows u)
-initial_greatest u p readable =
-    initial_rows_are_greatest u p (λ l i x lt is. quiet u x (readable.read l i x lt is))
+pub initial_greatest : (u : Universe) (p : Plan) → is_judged p ≡ true
+    → IsGreatest u p (initial_rows u)
+initial_greatest u p judged =
+    initial_rows_are_greatest u p (λ l i x lt is. quiet x (judged-at p judged l i x lt is))
 
 -- ---- they need no order
 
@@ -73,12 +65,18 @@ items-none u (Build r ∷ xs) h = items-none u xs (λ i. h (suc i))
 items-none u (Publish r ∷ xs) h = let e = h 0 (Publish r) refl in cc
 items-none u (Wait entry ∷ xs) h = let e = h 0 (Wait entry) refl in cc
 
-rest-none : (u : Universe) (p : Plan) → UnpacksAndConfigures p → (l : ℕ)
-    → slice_index_or (map (λ (of : Lane). items u of.instructions) p) l [] ≡ []
+rest-none : (u : Universe) (p : Plan)
+    → ((l i : ℕ) (x : Instruction) → l < length p → instruction_at p l i ≡ Some x
+    → unpacks_or_configures x ≡ true)
+    → (l : ℕ) → slice_index_or (map (λ (of : Lane). items u of.instructions) p) l [] ≡ []
 rest-none u [] h l = refl
 rest-none u (of ∷ p) h zero = items-none u of.instructions (λ i x is. h 0 i x (omega arith) is)
 rest-none u (of ∷ p) h (suc l) =
     rest-none u p (λ k i x lt is. h (suc k) i x (omega (arith, lt)) is) l
 
-pub no_order : (u : Universe) (p : Plan) → UnpacksAndConfigures p → IsOrder u p []
-no_order u p so_far = record { end = start_board u p; way = refl; all_done = rest-none u p so_far }
+pub no_order : (u : Universe) (p : Plan) → is_judged p ≡ true → IsOrder u p []
+no_order u p judged = record {
+  end = start_board u p;
+  way = refl;
+  all_done = rest-none u p (judged-at p judged);
+}

@@ -1,5 +1,5 @@
 -- What the walks over the lanes come to.
-use Rattle.std.proofs.Common.{◌≡◌, ℕ, ◌+◌, ◌<◌, sym, ◌∙◌, List, [], ◌∷◌, ◌++◌, length, length-append, inl, inr, None, Err, arith}
+use Rattle.std.proofs.Common.{◌≡◌, ℕ, ◌+◌, ◌<◌, sym, ◌∙◌, List, [], ◌∷◌, ◌++◌, length, length-append, true, inl, inr, None, Err, arith}
 use Rattle.std.proofs.lemmas.Bool.{cases_eq}
 use Rattle.std.proofs.lemmas.List.{get_or_append_left}
 use Rattle.std.proofs.Math.Seq.{get_or-append_seam}
@@ -13,7 +13,8 @@ use Rattle.plan_verifier.specs.declared.walk.Stop.{Stop}
 use Rattle.plan_verifier.specs.Accepted.{AreCosts}
 use Rattle.plan_verifier.specs.Costs.{IsToldOf}
 use Rattle.plan_verifier.specs.Verdict.{IsVerdictOn}
-use Rattle.plan_verifier.specs.Walk.{initial_rows, IsReadable, Walked}
+use Rattle.plan_verifier.specs.Judged.{is_judged}
+use Rattle.plan_verifier.specs.Walk.{initial_rows, Walked}
 use Rattle.plan_verifier.proofs.SoFar.{initial_greatest}
 
 -- the cost of one more lane
@@ -31,17 +32,17 @@ more_costs u p rows n costs cost so_far is = record {
 }
 
 -- the lane at whose first unsafe instruction the plan is refused
-pub refused : (u : Universe) (p : Plan) → IsReadable u p → (l : ℕ) → l < length p
+pub refused : (u : Universe) (p : Plan) → is_judged p ≡ true → (l : ℕ) → l < length p
     → ((j i : ℕ) → j < l → risk_at u p (initial_rows u) j i ≡ None)
     → (stop : Stop) → Walked u p l (Err stop)
     → (name : List ℕ) → name ≡ (lane p l).name
     → (refusal : Refusal) → IsToldOf name stop refusal → IsVerdictOn u p (Err refusal)
-refused u p readable l lt before stop walked name is Refusal.Memory told = tt
-refused u p readable l lt before (Stop.Unsafe number trap) walked name is
+refused u p judged l lt before stop walked name is Refusal.Memory told = tt
+refused u p judged l lt before (Stop.Unsafe number trap) walked name is
     (Refusal.Unsafe as_name as_number as_trap) told =
     record {
       rows = initial_rows u;
-      greatest = initial_greatest u p readable;
+      greatest = initial_greatest u p judged;
       l = l;
       i = walked.0;
       first = record {
@@ -53,11 +54,11 @@ refused u p readable l lt before (Stop.Unsafe number trap) walked name is
       named = told.0 ∙ is;
       numbered = told.1 ∙ walked.1;
     }
-refused u p readable l lt before (Stop.Unsafe number trap) walked name is
+refused u p judged l lt before (Stop.Unsafe number trap) walked name is
     (Refusal.Text fault) told = absurd told
-refused u p readable l lt before (Stop.Unsafe number trap) walked name is
+refused u p judged l lt before (Stop.Unsafe number trap) walked name is
     (Refusal.Stuck names) told = absurd told
-refused u p readable l lt before Stop.Memory walked name is (Refusal.Text fault) told = absurd told
-refused u p readable l lt before Stop.Memory walked name is
+refused u p judged l lt before Stop.Memory walked name is (Refusal.Text fault) told = absurd told
+refused u p judged l lt before Stop.Memory walked name is
     (Refusal.Unsafe as_name as_number as_trap) told = absurd told
-refused u p readable l lt before Stop.Memory walked name is (Refusal.Stuck names) told = absurd told
+refused u p judged l lt before Stop.Memory walked name is (Refusal.Stuck names) told = absurd told

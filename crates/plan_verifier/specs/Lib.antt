@@ -1,4 +1,5 @@
 pub mod Sets
+pub mod Judged
 pub mod Map
 pub mod Walk
 pub mod Texts

@@ -14,8 +14,8 @@ use Rattle.plan_model.specs.Plan.{Plan, lane}
 use Rattle.plan_model.specs.Safety.{IsSafeUnder, IsFirstUnsafe}
 use Rattle.plan_verifier.specs.declared.refusal.Refusal.{Refusal}
 use Rattle.plan_verifier.specs.declared.refusal.Refusal.TheVariants.{Text, Unsafe, Stuck, Memory}
-use Rattle.plan_verifier.specs.declared.texts.Planned.{Planned}
 use Rattle.plan_verifier.specs.Accepted.{AcceptedPlan, IsAccepted}
+use Rattle.plan_verifier.specs.Texts.{FarmPlan}
 
 -- Under the greatest known rows, this instruction of the lane of this name, by its number from 1,
 -- is the first unsafe one of the first lane that has one, and this is the first trap that it may
@@ -50,7 +50,7 @@ IsVerdictOn u p (Err Memory) = Unit {0}
 
 -- the first fault of the texts is told as it is; else the verdict is on what they stand for. Memory
 -- may run out
-abbrev pub IsVerdict : Result Planned Fault → Result AcceptedPlan Refusal → Type 0
+abbrev pub IsVerdict : Result FarmPlan Fault → Result AcceptedPlan Refusal → Type 0
 IsVerdict (Ok of) verdict = IsVerdictOn of.universe of.plan verdict
 IsVerdict (Err fault) (Ok a) = ⊥
 IsVerdict (Err fault) (Err (Text told)) = told ≡ fault

@@ -1,25 +1,21 @@
--- A walk over the instructions of a lane. Parameters as in plan_asm: u a universe, p a plan, l a
+-- A walk over the instructions of a lane. Parameters as in plan_model: u a universe, p a plan, l a
 -- lane, m a may map, x an instruction. The project's own rules.
 --
 --   initial_rows                what is known and may be in the archive while nothing is published
---   is_read, IsReadable         an instruction, and a plan, that can be walked so far
 --   risk_now, may_then          the first trap that an instruction may meet, and the map after it
 --   Answers, Walked             what is answered to an instruction, and to a lane
-use Rattle.std.specs.Prelude.{◌≡◌, ℕ, ◌+◌, ◌<◌, ◌≤◌, ◌^◌, Bool, true, false, not, ◌&&◌, nat_lt, length, Option, Some, None, Result, Ok, Err}
-use Rattle.std.specs.List.{list_all}
+use Rattle.std.specs.Prelude.{◌≡◌, ℕ, ◌+◌, ◌<◌, ◌≤◌, ◌^◌, length, Option, Some, None, Result, Ok, Err}
 use Rattle.farm_model.specs.declared.types.Trap.{Trap}
 use Rattle.farm_model.specs.Universe.{Universe}
 use Rattle.farm_model.specs.Packages.{names, initial}
 use Rattle.farm_model.specs.Sound.{IsUniverse}
 use Rattle.plan_model.specs.declared.instructions.Instruction.{Instruction}
-use Rattle.plan_model.specs.declared.instructions.Instruction.TheVariants.{Unpack, Configure, Deconfigure, Remove, Build, Publish, Wait}
-use Rattle.plan_model.specs.Plan.{Lane, Plan, lane, instruction_at}
+use Rattle.plan_model.specs.Plan.{Lane, Plan}
 use Rattle.plan_model.specs.Known.{Rows}
 use Rattle.plan_model.specs.May.{May}
 use Rattle.plan_model.specs.MayAt.{may_after, lane_cost}
 use Rattle.plan_model.specs.Risk.{risk}
 use Rattle.plan_model.specs.Safety.{risk_at}
-use Rattle.plan_model.specs.Sound.{has_double}
 use Rattle.plan_verifier.specs.declared.map.MayMap.{MayMap}
 use Rattle.plan_verifier.specs.declared.walk.Stop.{Stop}
 use Rattle.plan_verifier.specs.declared.walk.Stop.TheVariants.{Unsafe, Memory}
@@ -27,24 +23,6 @@ use Rattle.plan_verifier.specs.declared.walk.Stop.TheVariants.{Unsafe, Memory}
 -- the initial archive at each place of each lane
 abbrev pub initial_rows : Universe → Rows
 initial_rows u l i v = initial u v
-
--- an unpack or a configure, of names that there are
-abbrev pub is_read : Universe → Instruction → Bool
-is_read u (Unpack name wanted) = nat_lt name (names u)
-is_read u (Configure members) =
-    list_all (λ n. nat_lt n (names u)) members && not (has_double members)
-is_read u (Deconfigure members) = false
-is_read u (Remove members) = false
-is_read u (Build r) = false
-is_read u (Publish r) = false
-is_read u (Wait e) = false
-
--- a universe, and a plan of such instructions, each of whose lanes has a base chroot
-pub record IsReadable (u : Universe) (p : Plan) : Type 0 where
-  pub sound : IsUniverse u
-  pub based : (l : ℕ) → l < length p → (lane p l).base < length u.bases
-  pub read : (l i : ℕ) (x : Instruction) → l < length p → instruction_at p l i ≡ Some x
-      → is_read u x ≡ true
 
 abbrev pub risk_now : Universe → Lane → May → Instruction → Option Trap
 risk_now u of m x = risk u of (initial u) (initial u) m x

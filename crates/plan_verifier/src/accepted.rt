@@ -2,7 +2,7 @@
 
 ghost use Rattle.std.specs.Prelude.{◌≡◌, ◌<◌, ◌≤◌, length};
 ghost use Rattle.plan_model.specs.MayAt.{lane_cost};
-ghost use Rattle.plan_model.specs.Plan.{lane};
+ghost use Rattle.plan_model.specs.Plan.{lane, count};
 ghost use Rattle.plan_model.specs.Promise.{IsSafe};
 ghost use Rattle.plan_verifier.specs.Accepted.{IsAccepted, known_rows};
 
@@ -23,17 +23,24 @@ impl Model for Accepted {
 
     ghost Value = { AcceptedPlan };
 
-    ghost view = { λ a. record { universe = a.universe; plan = a.plan; costs = a.costs.items } };
+    ghost use Rattle.std.specs.Prelude.{◌≡◌};
+    ghost use Rattle.plan_model.specs.Plan.{count};
+
+    ghost view = { λ a.
+        record { universe = a.universe; plan = a.plan.lanes; costs = a.costs.items } };
 
     ghost invariant = { λ a. IsAccepted
-        (record { universe = a.universe; plan = a.plan; costs = a.costs.items }) };
+        (record { universe = a.universe; plan = a.plan.lanes; costs = a.costs.items })
+        × (a.plan.count ≡ count a.universe a.plan.lanes) };
 }
 
 impl Accepted {
     /// Accepts a plan of these costs.
     pub(crate) fn new(universe: Universe, plan: Plan, costs: Vec<u64>) -> Accepted
-        requires { IsAccepted (record { universe = universe; plan = plan; costs = costs.items }) }
-        ensures { result ≡ record { universe = universe; plan = plan; costs = costs.items } }
+        requires accepted { IsAccepted
+            (record { universe = universe; plan = plan.lanes; costs = costs.items }) }
+        requires counted { plan.count ≡ count universe plan.lanes }
+        ensures { result ≡ record { universe = universe; plan = plan.lanes; costs = costs.items } }
     {
         Accepted {
             universe,
@@ -51,7 +58,8 @@ impl Accepted {
 
     /// The plan.
     pub fn plan(&self) -> &Plan
-        ensures { result.now ≡ self.now.plan }
+        ensures lanes { result.now.lanes ≡ self.now.plan }
+        ensures counted { result.now.count ≡ count self.now.universe self.now.plan }
     {
         &self.plan
     }

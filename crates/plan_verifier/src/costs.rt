@@ -1,9 +1,10 @@
 //! The walk over each lane of a plan.
 
-ghost use Rattle.std.specs.Prelude.{◌≡◌, ◌<◌, length};
+ghost use Rattle.std.specs.Prelude.{◌≡◌, ◌<◌, true, length};
 ghost use Rattle.plan_model.specs.Plan.{lane};
+ghost use Rattle.plan_model.specs.Sound.{IsSound};
 ghost use Rattle.plan_verifier.specs.Costs.{IsWalked, IsToldOf};
-ghost use Rattle.plan_verifier.specs.Walk.{IsReadable};
+ghost use Rattle.plan_verifier.specs.Judged.{is_judged};
 
 use crate::refusal::Refusal;
 use crate::walk::{Stop, walk};
@@ -30,8 +31,9 @@ fn refusal_of(alloc: Global, name: &[u8], stop: Stop) -> Refusal
 
 /// What each lane costs, or the first unsafe instruction of the first lane that has one.
 pub fn lane_costs(alloc: Global, universe: &Universe, plan: &Plan) -> Result<Vec<u64>, Refusal>
-    requires { IsReadable universe.now plan.now }
-    ensures { IsWalked universe.now plan.now result }
+    requires sound { IsSound universe.now plan.now.lanes }
+    requires judged { is_judged plan.now.lanes ≡ true }
+    ensures { IsWalked universe.now plan.now.lanes result }
 {
     let mut costs = Vec::new(alloc);
     for number in 0..plan.lanes() {

@@ -4,6 +4,7 @@
 mod accepted;
 mod configure;
 mod costs;
+mod judged;
 mod map;
 mod met;
 mod names;
@@ -18,7 +19,7 @@ mod verdict;
 mod walk;
 
 pub use accepted::Accepted;
-pub use refusal::{MANY_LANES, Refusal, STUCK, UNSAFE};
+pub use refusal::{NOT_JUDGED, Refusal, STUCK, UNSAFE};
 pub use verdict::check;
 
 #[cfg(test)]

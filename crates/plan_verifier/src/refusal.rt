@@ -9,8 +9,9 @@ use std::alloc::{AllocError, AllocFailed};
 use std::fmt::{self, Display, Formatter};
 use thiserror::Error;
 
-/// A plan has more lanes than can be judged so far, told of the plan at line 0.
-pub const MANY_LANES: u16 = 310;
+/// A plan is not judged so far, told of the plan at line 0: it has more than one lane, or an
+/// instruction other than an unpack or a configure.
+pub const NOT_JUDGED: u16 = 310;
 
 /// The code of [`Refusal::Unsafe`].
 pub const UNSAFE: u16 = 401;

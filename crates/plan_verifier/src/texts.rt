@@ -1,18 +1,18 @@
 //! Four texts read as the universe and the plan of a farm.
 
-ghost use Rattle.std.specs.Prelude.{IfOk};
+ghost use Rattle.std.specs.Prelude.{◌≡◌, true, IfOk};
 ghost use Rattle.deb_text.specs.Answers.{Gives, refusal_of};
-ghost use Rattle.plan_model.specs.Sound.{IsSound, UnpacksAndConfigures};
+ghost use Rattle.plan_model.specs.Plan.{count};
+ghost use Rattle.plan_model.specs.Sound.{IsSound};
+ghost use Rattle.plan_verifier.specs.Judged.{is_judged};
 ghost use Rattle.plan_verifier.specs.Texts.{planned_of};
 
-use crate::refusal::MANY_LANES;
+use crate::judged::is_judged;
+use crate::refusal::NOT_JUDGED;
 use deb_text::Fault;
 use farm_universe::Universe;
 use plan_asm::{FILE, Plan, assemble};
 use std::alloc::Global;
-
-/// So many lanes are judged so far.
-pub const MOST_JUDGED: usize = 1;
 
 /// What four texts stand for.
 #[derive(Drop)]
@@ -30,19 +30,22 @@ pub fn read_texts(
     farm: &[u8],
     plan: &[u8],
 ) -> Result<Planned, Fault>
-    ensures read { Gives refusal_of (λ planned. planned) result
+    ensures read { Gives refusal_of
+        (λ planned. record { universe = planned.universe; plan = planned.plan.lanes }) result
         (planned_of packages.now sources.now farm.now plan.now) }
-    ensures sound { IfOk result (λ planned. IsSound planned.universe planned.plan) }
-    ensures so_far { IfOk result (λ planned. UnpacksAndConfigures planned.plan) }
+    ensures counted { IfOk result
+        (λ planned. planned.plan.count ≡ count planned.universe planned.plan.lanes) }
+    ensures sound { IfOk result (λ planned. IsSound planned.universe planned.plan.lanes) }
+    ensures judged { IfOk result (λ planned. is_judged planned.plan.lanes ≡ true) }
 {
     let universe = Universe::read(alloc, packages, sources, farm)?;
     let _names = universe.names();
     let plan = assemble(alloc, &universe, plan)?;
-    if plan.lanes() > MOST_JUDGED {
+    if !is_judged(&plan) {
         return Err(Fault {
             file: FILE,
             line: 0,
-            code: MANY_LANES,
+            code: NOT_JUDGED,
         });
     }
     Ok(Planned { universe, plan })

@@ -1,8 +1,10 @@
 //! The verdict on four texts.
 
-ghost use Rattle.std.specs.Prelude.{IfOk};
+ghost use Rattle.std.specs.Prelude.{◌≡◌, true, IfOk};
 ghost use Rattle.plan_model.specs.Promise.{IsSafe};
-ghost use Rattle.plan_model.specs.Sound.{IsSound, UnpacksAndConfigures};
+ghost use Rattle.plan_model.specs.Plan.{count};
+ghost use Rattle.plan_model.specs.Sound.{IsSound};
+ghost use Rattle.plan_verifier.specs.Judged.{is_judged};
 ghost use Rattle.plan_verifier.specs.Texts.{planned_of};
 ghost use Rattle.plan_verifier.specs.Verdict.{IsVerdict, IsVerdictOn};
 
@@ -14,9 +16,10 @@ use std::alloc::Global;
 use std::thread::Threads;
 
 fn judge(alloc: Global, planned: Planned) -> Result<Accepted, Refusal>
-    requires sound { IsSound planned.universe planned.plan }
-    requires so_far { UnpacksAndConfigures planned.plan }
-    ensures { IsVerdictOn planned.universe planned.plan result }
+    requires counted { planned.plan.count ≡ count planned.universe planned.plan.lanes }
+    requires sound { IsSound planned.universe planned.plan.lanes }
+    requires judged { is_judged planned.plan.lanes ≡ true }
+    ensures { IsVerdictOn planned.universe planned.plan.lanes result }
 {
     let costs = lane_costs(alloc, &planned.universe, &planned.plan)?;
     Ok(Accepted::new(planned.universe, planned.plan, costs))
@@ -31,8 +34,9 @@ fn judge(alloc: Global, planned: Planned) -> Result<Accepted, Refusal>
 /// # Errors
 ///
 /// The first cause of these, and nothing is left behind. [`Refusal::Text`] with the first fault of
-/// the packages, the sources, the farm or the plan, and then [`MANY_LANES`](crate::MANY_LANES) of
-/// the plan at line 0, where it has more than one lane. [`Refusal::Unsafe`] with the first
+/// the packages, the sources, the farm or the plan, and then [`NOT_JUDGED`](crate::NOT_JUDGED) of
+/// the plan at line 0, where it has more than one lane or another instruction than `unpack` and
+/// `configure`. [`Refusal::Unsafe`] with the first
 /// instruction, of the first lane that has one, that may meet a trap, and with the first such trap.
 /// [`Refusal::Stuck`] does not come so far, since no plan waits. [`Refusal::Memory`] where memory
 /// ran out.

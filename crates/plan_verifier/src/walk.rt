@@ -2,8 +2,10 @@
 
 ghost use Rattle.std.specs.Prelude.{◌≡◌, ◌<◌, ◌≤◌, true, length, All, OnOk};
 ghost use Rattle.farm_model.specs.Packages.{names};
+ghost use Rattle.plan_model.specs.Sound.{IsSound, IsInstruction};
 ghost use Rattle.plan_verifier.specs.Map.{may_of};
-ghost use Rattle.plan_verifier.specs.Walk.{is_read, IsReadable, IsOfLane, Answers, Walked};
+ghost use Rattle.plan_verifier.specs.Judged.{unpacks_or_configures, is_judged};
+ghost use Rattle.plan_verifier.specs.Walk.{IsOfLane, Answers, Walked};
 
 use crate::configure::configure_risk;
 use crate::map::MayMap;
@@ -88,7 +90,8 @@ fn take(
     map: &mut MayMap,
     instruction: &Instruction,
 ) -> Result<(), Trap>
-    requires read { is_read universe.now instruction.now ≡ true }
+    requires known { IsInstruction universe.now instruction.now }
+    requires judged { unpacks_or_configures instruction.now ≡ true }
     requires of_lane { IsOfLane universe.now lane.now map.old }
     ensures answer { Answers universe.now lane.now (may_of universe.now map.old) instruction.now
         (may_of universe.now map.new) result }
@@ -105,15 +108,16 @@ fn take(
         | Instruction::Remove(_)
         | Instruction::Build(_)
         | Instruction::Publish(_)
-        | Instruction::Wait(_) => unreachable!("the reader gives none"),
+        | Instruction::Wait(_) => unreachable!("such a plan is not judged"),
     }
 }
 
 /// Walks over a lane: gives its cost, or its first unsafe instruction.
 pub fn walk(alloc: Global, universe: &Universe, plan: &Plan, number: usize) -> Result<u64, Stop>
-    requires lane { number < length plan.now }
-    requires readable { IsReadable universe.now plan.now }
-    ensures { Walked universe.now plan.now number result }
+    requires lane { number < length plan.now.lanes }
+    requires sound { IsSound universe.now plan.now.lanes }
+    requires judged { is_judged plan.now.lanes ≡ true }
+    ensures { Walked universe.now plan.now.lanes number result }
 {
     let _lanes = plan.lanes();
     let lane = plan.lane(number);

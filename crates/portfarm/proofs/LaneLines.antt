@@ -1,24 +1,19 @@
 -- The lines of the lanes of an accepted plan, one after the other.
-use Rattle.std.proofs.Common.{◌≡◌, ℕ, suc, List, ◌++◌, refl, ap, ◌∙◌, Some}
-use Rattle.std.specs.Prelude.{slice_get}
+use Rattle.std.proofs.Common.{◌≡◌, ℕ, suc, List, ◌++◌, refl, ap, ◌∙◌}
 use Rattle.std.proofs.lemmas.List.{append_assoc}
-use Rattle.std.proofs.lemmas.Option.{get_or_from_slice_get}
 use Rattle.plan_model.specs.MayAt.{lane_cost}
-use Rattle.plan_model.specs.Plan.{Lane, lane, no_lane}
+use Rattle.plan_model.specs.Plan.{Lane, lane}
 use Rattle.plan_verifier.specs.Accepted.{AcceptedPlan, known_rows}
 use Rattle.portfarm.specs.AnswerLines.{lane_line}
 use Rattle.portfarm.specs.VerdictText.{lane_lines}
 
-module _ (a : AcceptedPlan) (l : ℕ) (of : Lane) (is : slice_get a.plan l ≡ Some of) where
-  same : lane a.plan l ≡ of
-  same = get_or_from_slice_get a.plan l of no_lane is
-
+module _ (a : AcceptedPlan) (l : ℕ) (of : Lane) (is : of ≡ lane a.plan l) where
   line-is : (name : List ℕ) (cost budget : ℕ) → name ≡ of.name
       → cost ≡ lane_cost a.universe a.plan (known_rows a) l → budget ≡ of.budget
       → lane_line name cost budget
       ≡ lane_line (lane a.plan l).name (lane_cost a.universe a.plan (known_rows a) l)
       (lane a.plan l).budget
-  line-is name cost budget n c b = rw (n, c, b, same) refl
+  line-is name cost budget n c b = rw (n, c, b, is) refl
 
   pub one_more : (old text new name : List ℕ) (cost budget : ℕ) → name ≡ of.name
       → cost ≡ lane_cost a.universe a.plan (known_rows a) l → budget ≡ of.budget

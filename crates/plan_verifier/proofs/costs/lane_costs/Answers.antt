@@ -4,7 +4,6 @@ use Rattle.plan_model.specs.Plan.{Lane}
 use Rattle.plan_model.specs.Safety.{risk_at}
 use Rattle.plan_verifier.specs.Accepted.{AreCosts}
 use Rattle.plan_verifier.specs.Walk.{initial_rows}
-use Rattle.plan_verifier.proofs.Quiet.{lane-is}
 use Rattle.plan_verifier.proofs.Walks.{more_costs, refused}
 use Rattle.plan_verifier.proofs.costs.lane_costs.Goals as goal
 
@@ -16,18 +15,17 @@ loop-number-init c = record {
 
 pub returns-in-Err : goal.returns-in-Err
 returns-in-Err c =
-    let p = c.args.plan.now in
+    let p = c.args.plan.now.lanes in
     let l = c.loop-number.number in
-    refused c.args.universe.now p c.requires l (omega (arith, c.lanes-number-end.ensures.lanes))
+    refused c.args.universe.now p c.requires.judged l (omega (arith, c.lanes-number-end.ensures.lanes))
     c.loop-number.invariant.safe c.in-Err.stop c.in-Err.ensures c.name.result.now
-    (c.name.ensures
-    ∙ sym (ap (λ (of : Lane). of.name) (lane-is p l c.lane.result.now c.lane.ensures)))
+    (c.name.ensures ∙ ap (λ (of : Lane). of.name) c.lane.ensures)
     c.refusal_of.result c.refusal_of.ensures
 
 pub loop-number-preserved : goal.loop-number-preserved
 loop-number-preserved c =
     let u = c.args.universe.now in
-    let p = c.args.plan.now in
+    let p = c.args.plan.now.lanes in
     let l = c.loop-number.number in
     record {
       safe = λ j i lt. elim (cases_eq j l) [
@@ -43,7 +41,7 @@ loop-number-preserved c =
 pub returns : goal.returns
 returns c =
     let u = c.args.universe.now in
-    let p = c.args.plan.now in
+    let p = c.args.plan.now.lanes in
     let end : c.loop-number.number ≡ length p = omega (arith, c.lanes-number-end.ensures.lanes) in (
       λ l i lt. c.loop-number.invariant.safe l i (omega arith),
       subst (λ n. AreCosts u p (initial_rows u) n c.loop-number.costs.items) end

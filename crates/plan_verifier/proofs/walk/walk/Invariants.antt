@@ -7,9 +7,9 @@ use Rattle.plan_verifier.proofs.walk.walk.Given as goal
 
 abbrev pub invariant-loop-place : goal.invariant-loop-place
 invariant-loop-place l = record {
-  at : may_at l.universe l.plan (initial_rows l.universe) l.number l.place
+  at : may_at l.universe l.plan.lanes (initial_rows l.universe) l.number l.place
       ≡ may_of l.universe l.map;
   safe : (k : ℕ) → k < l.place
-      → risk_at l.universe l.plan (initial_rows l.universe) l.number k ≡ None;
+      → risk_at l.universe l.plan.lanes (initial_rows l.universe) l.number k ≡ None;
   of_lane : IsOfLane l.universe l.lane l.map;
 }

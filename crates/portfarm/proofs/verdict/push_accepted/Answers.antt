@@ -18,8 +18,8 @@ returns c =
     c.in_ok-extend_from_slice.ensures.items
     (c.in_ok-push_counted.ensures ∙ ap
     (λ n. c.extend_from_slice.new.self.items ++ counted_line (codes "lanes") n)
-    (c.lanes.ensures.lanes ∙ ap length c.plan-plan.ensures))
+    (c.lanes.ensures.lanes ∙ ap length c.plan-plan.ensures.lanes))
     (c.in_ok-push_counted-2.ensures ∙ ap
     (λ n. c.push_counted.new.text.items ++ counted_line (codes "count") n)
-    (c.count.ensures a.universe ∙ ap (count a.universe) c.plan-plan.ensures)))
+    (c.count.ensures ∙ c.plan-plan.ensures.counted)))
     c.push_lanes.ensures

@@ -1,5 +1,5 @@
-use Rattle.std.proofs.Common.{◌≡◌, Some, subst, add-one}
-use Rattle.std.specs.Prelude.{slice_get}
+use Rattle.std.proofs.Common.{ap, ◌∙◌, add-one}
+use Rattle.plan_model.specs.Plan.{lane}
 use Rattle.portfarm.proofs.LaneLines.{one_more}
 use Rattle.portfarm.proofs.verdict.push_lanes.Goals as goal
 
@@ -7,8 +7,8 @@ pub loop-number-preserved : goal.loop-number-preserved
 loop-number-preserved c =
     rw add-one
     (one_more c.args.accepted.now c.loop-number.number c.lane-lane.result.now
-    (subst (λ p. slice_get p c.loop-number.number ≡ Some c.lane-lane.result.now) c.plan-plan.ensures
-    c.lane-lane.ensures)
+    (c.lane-lane.ensures
+    ∙ ap (λ p. lane p c.loop-number.number) c.plan-plan.ensures.lanes)
     c.args.text.now.items c.loop-number.text.items c.push_lane.new.text.items c.name.result.now
     c.lane_cost-cost.result c.budget.result c.name.ensures c.lane_cost-cost.ensures.cost
     c.budget.ensures c.loop-number.invariant c.in_ok-push_lane.ensures)

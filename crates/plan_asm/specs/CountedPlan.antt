@@ -1,0 +1,7 @@
+-- A plan as a value of the program: its lanes, and how many events it has.
+use Rattle.std.specs.Prelude.{ℕ}
+use Rattle.plan_model.specs.Plan.{Plan}
+
+pub record CountedPlan : Type 0 where
+  pub lanes : Plan
+  pub count : ℕ
