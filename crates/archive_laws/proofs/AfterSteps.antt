@@ -1,7 +1,7 @@
 -- Lanes stand at their beginning, just after an archive step, or inside a publish.
 use Rattle.std.proofs.Common.{◌≡◌, ℕ, zero, suc, Bool, true, inl, inr, List, [], ◌∷◌, length, map, drop, Option, Some, None, slice_get, slice_set, refl, sym, ap, ◌∙◌, subst, arith, get_or-set_same, get_or-set_other}
 use Rattle.std.specs.Prelude.{nat_lt, slice_index_or}
-use Rattle.std.proofs.lemmas.Bool.{cases_eq, cases_lt, lt-ltb, or_left, or_right}
+use Rattle.std.proofs.lemmas.Bool.{cases_eq, cases_lt, lt-ltb, and_from, or_left, or_right}
 use Rattle.std.proofs.lemmas.List.{set_past}
 use Rattle.std.proofs.lemmas.Option.{none-some, same_Some}
 use Rattle.farm_model.specs.declared.types.Variant.{Variant}
@@ -12,7 +12,7 @@ use Rattle.plan_model.specs.declared.instructions.Instruction.TheVariants.{Unpac
 use Rattle.plan_model.specs.Plan.{Lane, Plan, lane}
 use Rattle.plan_model.specs.Turn.{LaneState, start_lane, Turn, Goes, Gives, Waits, Ends, Fails, turn_of}
 use Rattle.plan_model.specs.Run.{no_state}
-use Rattle.plan_model.specs.World.{World, world_lane, goes_on, nothing, settled, ready, with_bit, world_after, archive_step, is_some_archive_step, is_place_after_step, is_after_step, IsAfterSteps}
+use Rattle.plan_model.specs.World.{World, world_lane, goes_on, nothing, settled, ready, with_bit, world_after, archive_step, is_some_archive_step, is_place_after_step, is_publish, is_after_step, IsAfterSteps}
 use Rattle.farm_laws.proofs.Places.{GoesOn, GivesOne, PlaceMove, turn_place}
 use Rattle.archive_laws.specs.Shown.{LanesStandAfterSteps}
 use Rattle.archive_laws.proofs.Settles.{next_of}
@@ -121,7 +121,9 @@ module _ (u : Universe) (of : Lane) where
       (turn_place u there of st (slice_get of.instructions st.done)) in
       elim gives.place [
         | inl inside ↦ or_left _ _
-            (ap (nat_lt 0) inside.2 ∙ lt-ltb 0 (suc st.made) (omega arith))
+            (and_from _ _ (ap (nat_lt 0) inside.2 ∙ lt-ltb 0 (suc st.made) (omega arith))
+            (ap (λ k. is_publish (slice_get of.instructions k)) inside.1
+            ∙ ap is_publish gives.is))
         | inr last ↦ or_right _ _
             (ap (is_place_after_step of) last.1 ∙ ap is_some_archive_step gives.is)
       ]

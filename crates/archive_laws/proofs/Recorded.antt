@@ -7,6 +7,7 @@ use Rattle.std.proofs.lemmas.Bool.{or_cases, or_left, or_right, false≢true}
 use Rattle.std.proofs.lemmas.Grind.{flat_map-append}
 use Rattle.std.proofs.lemmas.List.{take-append-le}
 use Rattle.std.proofs.lemmas.List.Folds.{list_any-append}
+use Rattle.farm_model.proofs.TestLaws.{same_tests}
 use Rattle.farm_model.specs.declared.types.Variant.{Variant}
 use Rattle.farm_model.specs.Below.{some_below}
 use Rattle.farm_model.specs.Universe.{Universe}
@@ -77,11 +78,6 @@ made_by-recorded u v of st place =
     (sym (now_made u v of.instructions st.done st.made
     (slice_get of.instructions st.done) refl place))
     ∙ sym all
-
-same_tests : (a b : Bool) → (a ≡ true → b ≡ true) → (b ≡ true → a ≡ true) → a ≡ b
-same_tests true b to from = sym (to refl)
-same_tests false true to from = from refl
-same_tests false false to from = refl
 
 -- rows that know nothing keep to the inclusions
 abbrev no_rows : Rows

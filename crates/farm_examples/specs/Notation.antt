@@ -4,7 +4,7 @@
 --   binary, plain              a package without relations; the same of version 1 and no size
 --   frame, lane_in, lone       a farm of one empty chroot whose archive has each package; a lane; a
 --                              plan of one lane
---   initial_rows, rows_of      known rows: the initial archive alone, and more by a table
+--   rows_of                    known rows: the initial archive, and more by a table
 use Rattle.std.specs.Prelude.{ℕ, ◌-◌, ◌^◌, ◌||◌, List, [], ◌∷◌, length, map, Some, None, slice_index_or, codes}
 use Rattle.deb_relation.specs.declared.operator.Op.{Op}
 use Rattle.deb_relation.specs.Relations.{Atom, Entry}
@@ -75,10 +75,6 @@ lane_in name base budget instructions = record {
 -- a plan of one lane in the first chroot, with a budget of 100
 abbrev pub lone : List Instruction → Plan
 lone instructions = lane_in (codes "a") 0 100 instructions ∷ []
-
--- known rows: the initial archive at each place
-abbrev pub initial_rows : Universe → Rows
-initial_rows u l i v = initial u v
 
 -- known rows by lane and place: the initial archive and what the table lists
 abbrev pub rows_of : Universe → List (List (List Variant)) → Rows

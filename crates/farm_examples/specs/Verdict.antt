@@ -9,10 +9,9 @@ use Rattle.farm_model.specs.Universe.{Universe}
 use Rattle.plan_model.specs.declared.instructions.Instruction.{Instruction}
 use Rattle.plan_model.specs.Plan.{Plan, lane}
 use Rattle.plan_model.specs.Run.{Stop, Ending, lane_state, result_of}
-use Rattle.plan_model.specs.Known.{Rows}
+use Rattle.plan_model.specs.Known.{Rows, initial_rows}
 use Rattle.plan_model.specs.MayAt.{lane_cost}
 use Rattle.plan_model.specs.Safety.{risk_at}
-use Rattle.farm_examples.specs.Notation.{initial_rows}
 
 -- each instruction is safe, and the lane spends at most so much; or the first unsafe one, by its
 -- number from 1, and the first trap that it may meet

@@ -12,7 +12,7 @@ use Rattle.farm_model.specs.Packages.{variant, same, contains, names, variants, 
 use Rattle.farm_model.proofs.BelowLaws.{some_below-mono}
 use Rattle.plan_model.specs.Turn.{passes}
 use Rattle.plan_model.specs.Run.{start}
-use Rattle.plan_model.specs.Order.{Item, Pass, Give, Board, on_board, rest_of, board_after, Reaches}
+use Rattle.plan_model.specs.Order.{Item, Pass, Give, Board, on_board, rest_of, board_after, Reaches, IsAtRest}
 
 unfoldable pub gives_item : Variant → Item → Bool
 gives_item v (Pass e) = false
@@ -27,10 +27,6 @@ abbrev pub NextIs : Universe → (Variant → Bool) → List Item → Type 0
 NextIs u there [] = Unit {0}
 NextIs u there (Pass e ∷ is) = passes u there e ≡ true
 NextIs u there (Give v ∷ is) = Unit {0}
-
--- nothing more goes
-abbrev pub IsStuck : Universe → Board → Type 0
-IsStuck u b = (l : ℕ) → board_after u b l (rest_of b l) ≡ None
 
 -- a wait that passes goes on passing where more is in the archive
 pub passes-mono : (u : Universe) (p q : Variant → Bool) (e : Entry)
@@ -223,7 +219,7 @@ behind_itself u b = record {
 
 -- where nothing more goes, a lane that some list brings to its end is at its end
 pub stuck_exact : (u : Universe) (start end other : Board) (way order : List ℕ)
-    → Reaches u start way end → IsStuck u end → Reaches u start order other
+    → Reaches u start way end → IsAtRest u end → Reaches u start order other
     → (l : ℕ) → l < length end.rest → rest_of other l ≡ [] → rest_of end l ≡ []
 stuck_exact u start end other way order w stuck r l lt e =
     elim (walk u (length end.rest) (rest_of end) (on_board u end) order start other r

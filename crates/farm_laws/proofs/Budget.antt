@@ -7,7 +7,7 @@ use Rattle.deb_relation.specs.declared.operator.Op.{Op}
 use Rattle.farm_model.specs.declared.types.Variant.{Variant}
 use Rattle.farm_model.specs.declared.types.Trap.{Trap}
 use Rattle.farm_model.specs.Universe.{Universe}
-use Rattle.farm_model.specs.Traps.{first_trap}
+use Rattle.farm_model.proofs.TrapLaws.{within-limit}
 use Rattle.plan_model.specs.declared.instructions.Instruction.{Instruction}
 use Rattle.plan_model.specs.declared.instructions.Instruction.TheVariants.{Unpack, Configure, Deconfigure, Remove, Build, Publish, Wait}
 use Rattle.plan_model.specs.Plan.{Lane, Plan, lane, instruction_at}
@@ -22,19 +22,12 @@ use Rattle.plan_model.specs.Safety.{IsSafeUnder}
 use Rattle.farm_laws.proofs.Safe.{Agrees, place_paid}
 use Rattle.farm_laws.proofs.Whole.{safe_at, Holds, holds_step, never_trapped}
 
-within_first : (limit n : ℕ) (x : Trap) (rest : List (Bool × Trap))
-    → first_trap ((nat_lt limit n, x) ∷ rest) ≡ None → n ≤ limit
-unfolding first_trap
-within_first limit n x rest e =
-    ltb-false limit n (false_from_ne_true (nat_lt limit n)
-    (λ over. none-some x (sym e ∙ cond-true (nat_lt limit n) (Some x) (first_trap rest) over)))
-
 cost_unpack : (u : Universe) (there : Variant → Bool) (of : Lane) (m : May) (name : ℕ)
     (wanted : Option (Op × List ℕ)) (o : Option ℕ) → m.cost ≤ of.budget
     → unpack_risk u there of m name wanted o ≡ None
     → (may_unpack u there m name wanted o).cost ≤ of.budget
 cost_unpack u there of m name wanted None low e = low
-cost_unpack u there of m name wanted (Some h) low e = within_first _ _ _ _ e
+cost_unpack u there of m name wanted (Some h) low e = within-limit _ _ _ _ e
 
 -- safe rows: what a lane may spend is within its budget
 cost_after : (u : Universe) (p : Plan) (rows : Rows) (l i : ℕ) (x : Instruction)
@@ -45,11 +38,11 @@ cost_after : (u : Universe) (p : Plan) (rows : Rows) (l i : ℕ) (x : Instructio
 cost_after u p rows l i (Unpack name wanted) low safe =
     cost_unpack u (possible u p l i) (lane p l) (may_at u p rows l i) name wanted
     (newest u (rows l i) name wanted) low safe
-cost_after u p rows l i (Configure members) low safe = within_first _ _ _ _ safe
-cost_after u p rows l i (Deconfigure members) low safe = within_first _ _ _ _ safe
-cost_after u p rows l i (Remove members) low safe = within_first _ _ _ _ safe
-cost_after u p rows l i (Build r) low safe = within_first _ _ _ _ safe
-cost_after u p rows l i (Publish r) low safe = within_first _ _ _ _ safe
+cost_after u p rows l i (Configure members) low safe = within-limit _ _ _ _ safe
+cost_after u p rows l i (Deconfigure members) low safe = within-limit _ _ _ _ safe
+cost_after u p rows l i (Remove members) low safe = within-limit _ _ _ _ safe
+cost_after u p rows l i (Build r) low safe = within-limit _ _ _ _ safe
+cost_after u p rows l i (Publish r) low safe = within-limit _ _ _ _ safe
 cost_after u p rows l i (Wait entry) low safe = low
 
 pub cost_within : (u : Universe) (p : Plan) (rows : Rows) → IsSafeUnder u p rows → (l i : ℕ)

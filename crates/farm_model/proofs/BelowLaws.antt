@@ -32,6 +32,12 @@ some_below-same zero p q h = refl
 some_below-same (suc n) p q h = let now = h n (omega arith) in
     let rest = some_below-same n p q (λ k l. h k (omega arith)) in cc
 
+pub some_below-none : (n : ℕ) (p : ℕ → Bool) → ((k : ℕ) → k < n → p k ≡ false)
+    → some_below n p ≡ false
+some_below-none zero p h = refl
+some_below-none (suc n) p h =
+    rw (h n (omega arith)) (some_below-none n p (λ k lt. h k (omega arith)))
+
 -- for a loop that counts up
 pub some_below-more : (n : ℕ) (p : ℕ → Bool) → some_below n p ≡ false → p n ≡ false
     → some_below (n + 1) p ≡ false

@@ -1,1 +1,3 @@
 pub mod BelowLaws
+pub mod TestLaws
+pub mod TrapLaws

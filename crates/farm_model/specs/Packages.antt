@@ -6,7 +6,7 @@
 --                                                     entry, some entry of a list
 --   is_wanted                                         a variant is in the relation of an unpack
 --   conflict, breaks                                  how two variants exclude each other
---   initial, has_bit                                  the initial archive
+--   word_has, has_bit, initial                        bits that are set; the initial archive
 use Rattle.std.specs.Prelude.{ℕ, Bool, ◌&&◌, ◌||◌, ◌==◌, List, [], length, Option, slice_index, slice_index_or}
 use Rattle.std.specs.List.{list_any}
 use Rattle.std.specs.Int.{bit_at}
@@ -120,9 +120,13 @@ conflict u v w = satisfies_any u (package_of u v).conflicts w
 unfoldable pub breaks : Universe → Variant → Variant → Bool
 breaks u v w = satisfies_any u (package_of u v).breaks w
 
+-- the bit of the word is set
+abbrev pub word_has : ℕ → ℕ → Bool
+word_has word bit = bit_at word bit == 1
+
 -- the bit of the variant is set in the word of its name
 unfoldable pub has_bit : List ℕ → Variant → Bool
-has_bit words v = bit_at (slice_index words v.name) v.bit == 1
+has_bit words v = word_has (slice_index words v.name) v.bit
 
 -- the variant is in the archive from the start (the project's own rule)
 unfoldable pub initial : Universe → Variant → Bool

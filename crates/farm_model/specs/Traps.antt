@@ -1,6 +1,6 @@
 -- What an instruction does to one chroot: the traps that it may meet, in the order in which they
 -- are tried, and the chroot after it. The project's own rules, unless said. Whether the archive has
--- a variant (X1), what was built (X13) and the budget (X14) are the farm's matter (plan_asm).
+-- a variant (X1), what was built (X13) and the budget (X14) are the farm's matter (plan_model).
 --
 --   first_trap                                                   the first trap whose test holds
 --   unpack_traps, configure_traps, deconfigure_traps,

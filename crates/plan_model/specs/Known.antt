@@ -38,6 +38,10 @@ publishing u (Some x) made v = contains (take made (outputs_of u x)) v
 abbrev pub Rows : Type 0
 Rows = ℕ → ℕ → Variant → Bool
 
+-- the initial archive at each place of each lane
+abbrev pub initial_rows : Universe → Rows
+initial_rows u l i v = initial u v
+
 -- v is in the archive whenever c is: with an initial c the initial archive; with an output, what is
 -- known ahead of its publish and the outputs of that publish up to it
 pub record IsFact (u : Universe) (p : Plan) (rows : Rows) (c v : Variant) : Type 0 where

@@ -3,6 +3,7 @@
 --
 --   Item, items                 a wait or an output; those of a lane, in turn
 --   Board, board_after          what each lane has left, and what was published; one item made
+--   IsAtRest                    nothing more goes on the board
 --   Reaches, IsOrder            lists of lanes; one that brings each lane past its last item
 --   CannotEnd, AreStuck         a lane that no list brings there; all such lanes
 use Rattle.std.specs.Prelude.{◌≡◌, ◌≢◌, ℕ, ◌<◌, Bool, ◌||◌, List, [], ◌∷◌, length, map, Option, Some, None, slice_index_or, slice_set, if◌then◌else◌, All, Contains}
@@ -62,6 +63,10 @@ board_after u b l (Give v ∷ is) =
 abbrev pub Reaches : Universe → Board → List ℕ → Board → Type 0
 Reaches u b [] t = b ≡ t
 Reaches u b (l ∷ ls) t = (m : Board) × (board_after u b l (rest_of b l) ≡ Some m) × Reaches u m ls t
+
+-- nobody can make an item
+abbrev pub IsAtRest : Universe → Board → Type 0
+IsAtRest u b = (l : ℕ) → board_after u b l (rest_of b l) ≡ None
 
 -- an order: this list of lanes brings each lane past its last wait or output
 pub record IsOrder (u : Universe) (p : Plan) (order : List ℕ) : Type 0 where

@@ -5,7 +5,7 @@
 --   settled, ready                 a lane's local instructions, up to its next archive step
 --   archive_step                   a lane's local instructions and then its archive step
 --   is_after_step, IsAfterSteps    lanes that stand just after their last archive step
-use Rattle.std.specs.Prelude.{◌≡◌, ℕ, zero, suc, ◌^◌, Bool, true, false, ◌||◌, nat_lt, List, [], ◌∷◌, map, drop, Option, Some, None, slice_get, slice_index, slice_index_or, slice_set, bit_or}
+use Rattle.std.specs.Prelude.{◌≡◌, ℕ, zero, suc, ◌^◌, Bool, true, false, ◌&&◌, ◌||◌, nat_lt, List, [], ◌∷◌, map, drop, Option, Some, None, slice_get, slice_index, slice_index_or, slice_set, bit_or}
 use Rattle.farm_model.specs.declared.types.Variant.{Variant}
 use Rattle.farm_model.specs.Universe.{Universe}
 use Rattle.farm_model.specs.Packages.{has_bit}
@@ -99,9 +99,18 @@ abbrev pub is_place_after_step : Lane → ℕ → Bool
 is_place_after_step of zero = true
 is_place_after_step of (suc i) = is_some_archive_step (slice_get of.instructions i)
 
+-- the instruction is a publish
+abbrev pub is_publish : Option Instruction → Bool
+is_publish (Some (Publish r)) = true
+is_publish _ = false
+
+-- the lane stands inside a publish: it has made some of its outputs
+abbrev pub is_inside_publish : Lane → LaneState → Bool
+is_inside_publish of st = nat_lt 0 st.made && is_publish (slice_get of.instructions st.done)
+
 -- the lane stands at its beginning, just after its last archive step, or inside a publish
 abbrev pub is_after_step : Lane → LaneState → Bool
-is_after_step of st = nat_lt 0 st.made || is_place_after_step of st.done
+is_after_step of st = is_inside_publish of st || is_place_after_step of st.done
 
 -- so each lane of the world stands
 abbrev pub IsAfterSteps : Plan → World → Type 0

@@ -9,6 +9,7 @@ use Rattle.farm_model.specs.Universe.{Universe}
 use Rattle.farm_model.specs.Packages.{variant, variants, initial, is_wanted}
 use Rattle.farm_model.specs.Sound.{IsUniverse}
 use Rattle.farm_model.specs.Traps.{first_trap}
+use Rattle.farm_model.proofs.TestLaws.{same_tests}
 use Rattle.farm_model.proofs.BelowLaws.{IsHighest, highest_below-some}
 use Rattle.plan_model.specs.declared.instructions.Instruction.TheVariants.{Unpack}
 use Rattle.plan_model.specs.Plan.{Lane}
@@ -20,16 +21,9 @@ use Rattle.plan_verifier.specs.declared.map.Held.{Held}
 use Rattle.plan_verifier.specs.declared.map.Held.TheVariants.{Absent, Unpacked, Configured}
 use Rattle.plan_verifier.specs.declared.map.MayMap.{MayMap}
 use Rattle.plan_verifier.specs.Map.{slot_of, held_at, may_of, last_word}
-use Rattle.plan_verifier.specs.Sets.{has}
+use Rattle.farm_model.specs.Packages.{word_has}
 use Rattle.plan_verifier.specs.Walk.{risk_now, may_then}
 use Rattle.plan_verifier.proofs.SetLaws.{has-single, not_same}
-
--- two tests that hold of the same
-same_test : (a b : Bool) → (a ≡ true → b ≡ true) → (b ≡ true → a ≡ true) → a ≡ b
-same_test true true f g = refl
-same_test true false f g = sym (f refl)
-same_test false true f g = g refl
-same_test false false f g = refl
 
 module _ (u : Universe) (sound : IsUniverse u) (name : ℕ) (wanted : Option (Op × List ℕ)) (h : ℕ)
     (is : newest u (initial u) name wanted ≡ Some h) where
@@ -44,11 +38,11 @@ module _ (u : Universe) (sound : IsUniverse u) (name : ℕ) (wanted : Option (Op
   highest-small = omega (arith, highest.below, sound.few name)
 
   -- the candidates are that one
-  only : (b : ℕ) → has (2 ^ h) b ≡ candidates u (initial u) name wanted h b
+  only : (b : ℕ) → word_has (2 ^ h) b ≡ candidates u (initial u) name wanted h b
   unfolding candidates
   only b =
       has-single h b
-      ∙ same_test (b == h)
+      ∙ same_tests (b == h)
       ((initial u (variant name b) && is_wanted u wanted (variant name b)) && nat_le h b)
       (λ e. let same = eqb-true b h e in
       and_from _ _
@@ -62,19 +56,19 @@ module _ (u : Universe) (sound : IsUniverse u) (name : ℕ) (wanted : Option (Op
       let up = leb-true h b parts.1 in
       eq-eqb b h (omega (arith, top, up)))
 
-  all_of_them : (word : ℕ) → word ≡ 2 ^ h → candidates u (initial u) name wanted h ≡ has word
-  all_of_them word e = sym (ap has e ∙ (λ i. λ b. only b i))
+  all_of_them : (word : ℕ) → word ≡ 2 ^ h → candidates u (initial u) name wanted h ≡ word_has word
+  all_of_them word e = sym (ap word_has e ∙ (λ i. λ b. only b i))
 
   pub risk-unpack : (of : Lane) (m : May) (word : ℕ) → word ≡ 2 ^ h
-      → risk_now u of m (Unpack name wanted) ≡ first_trap (unpack_risks u of m name (has word))
+      → risk_now u of m (Unpack name wanted) ≡ first_trap (unpack_risks u of m name (word_has word))
   risk-unpack of m word e =
       ap (unpack_risk u (initial u) of m name wanted) is
       ∙ ap (λ set. first_trap (unpack_risks u of m name set)) (all_of_them word e)
 
-  none_last : has 0 ≡ may_be_last MayAbsent
+  none_last : word_has 0 ≡ may_be_last MayAbsent
   none_last = λ i. λ b. ap (λ n. n == 1) (bit_at-zero b) i
 
-  last-is : (held : Held) → has (last_word held) ≡ may_be_last (slot_of held)
+  last-is : (held : Held) → word_has (last_word held) ≡ may_be_last (slot_of held)
   last-is Absent = none_last
   last-is (Unpacked current last) = refl
   last-is (Configured current) = refl
@@ -83,9 +77,9 @@ module _ (u : Universe) (sound : IsUniverse u) (name : ℕ) (wanted : Option (Op
       (there : name < length map.slots.items)
       (slots : next.slots.items
       ≡ slice_set map.slots.items name (Unpacked word (last_word (held_at map name))))
-      (cost : next.cost ≡ map.cost + greatest_cost u name (has word)) where
+      (cost : next.cost ≡ map.cost + greatest_cost u name (word_has word)) where
     slot-is : (n : ℕ)
-        → (if n == name then MayUnpacked (has word) (may_be_last (slot_of (held_at map n)))
+        → (if n == name then MayUnpacked (word_has word) (may_be_last (slot_of (held_at map n)))
         else slot_of (held_at map n))
         ≡ slot_of (held_at next n)
     slot-is n =
@@ -100,8 +94,8 @@ module _ (u : Universe) (sound : IsUniverse u) (name : ℕ) (wanted : Option (Op
               ∙ (ap slot_of
               (get_or-set_same map.slots.items name
               (Unpacked word (last_word (held_at map name))) Absent there)
-              ∙ (ap (λ set. MayUnpacked (has word) set) (last-is (held_at map name))
-              ∙ ap (λ k. MayUnpacked (has word) (may_be_last (slot_of (held_at map k))))
+              ∙ (ap (λ set. MayUnpacked (word_has word) set) (last-is (held_at map name))
+              ∙ ap (λ k. MayUnpacked (word_has word) (may_be_last (slot_of (held_at map k))))
               (sym same))))))
           | inr other ↦ rw (not_same n name other) (sym
               (ap (λ items. slot_of (slice_index_or items n Absent)) slots
@@ -112,9 +106,9 @@ module _ (u : Universe) (sound : IsUniverse u) (name : ℕ) (wanted : Option (Op
 
     unpacked-is : record {
       slots =
-          λ n. if n == name then MayUnpacked (has word) (may_be_last (slot_of (held_at map n)))
+          λ n. if n == name then MayUnpacked (word_has word) (may_be_last (slot_of (held_at map n)))
           else slot_of (held_at map n);
-      cost = map.cost + greatest_cost u name (has word);
+      cost = map.cost + greatest_cost u name (word_has word);
       built = no_builds u;
     } ≡ may_of u next
     unpacked-is = λ i. record { slots = λ n. slot-is n i; cost = sym cost i; built = no_builds u }

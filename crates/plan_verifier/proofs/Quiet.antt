@@ -3,31 +3,27 @@
 use Rattle.std.proofs.Common.{◌≡◌, ℕ, zero, suc, ◌<◌, ◌≤◌, Bool, true, false, refl, sym, ap, ◌∙◌, inl, inr, List, [], ◌∷◌, length, take, get_or, Option, Some, None, arith, if◌then◌else◌}
 use Rattle.std.specs.Prelude.{◌||◌, ◌==◌, slice_get}
 use Rattle.std.specs.List.{list_any}
+use Rattle.std.proofs.Math.Bool.{or-false}
 use Rattle.std.proofs.lemmas.Bool.{cases_Bool, true≢false}
 use Rattle.std.proofs.lemmas.List.Folds.{list_any_none, length-flat_map-take}
 use Rattle.std.proofs.lemmas.Option.{slice_get-get_or, get_or_from_slice_get}
 use Rattle.farm_model.specs.declared.types.Variant.{Variant}
 use Rattle.farm_model.specs.declared.types.Trap.{Trap}
-use Rattle.farm_model.specs.Below.{some_below}
+use Rattle.farm_model.proofs.BelowLaws.{some_below-none}
 use Rattle.farm_model.specs.Universe.{Universe}
 use Rattle.farm_model.specs.Packages.{initial}
 use Rattle.plan_model.specs.declared.instructions.Instruction.{Instruction}
 use Rattle.plan_model.specs.declared.instructions.Instruction.TheVariants.{Unpack, Configure, Deconfigure, Remove, Build, Publish, Wait}
 use Rattle.plan_asm.specs.Ends.{IsWithinLimits}
 use Rattle.plan_model.specs.Plan.{Lane, Plan, lane, no_lane, instruction_at}
-use Rattle.plan_model.specs.Known.{Rows, possible, gives, within_reach}
+use Rattle.plan_model.specs.Known.{Rows, possible, gives, within_reach, initial_rows}
 use Rattle.plan_model.specs.May.{May}
 use Rattle.plan_model.specs.MayAt.{may_after_some, may_at}
 use Rattle.plan_model.specs.Risk.{risk}
 use Rattle.plan_model.specs.Safety.{risk_of, risk_at}
 use Rattle.plan_verifier.specs.Judged.{unpacks_or_configures, is_judged}
-use Rattle.plan_verifier.specs.Walk.{initial_rows, risk_now, may_then}
+use Rattle.plan_verifier.specs.Walk.{risk_now, may_then}
 use Rattle.plan_verifier.proofs.SoFar.{judged-at}
-
-some_below-none : (n : ℕ) (p : ℕ → Bool) → ((k : ℕ) → k < n → p k ≡ false) → some_below n p ≡ false
-some_below-none zero p h = refl
-some_below-none (suc n) p h =
-    rw (h n (omega arith)) (some_below-none n p (λ k lt. h k (omega arith)))
 
 take-none : {X : Type 0} (p : X → Bool) (i : ℕ) (xs : List X) → list_any p xs ≡ false
     → list_any p (take i xs) ≡ false
@@ -55,10 +51,6 @@ gives-none w v (Build r) e = refl
 gives-none w v (Publish r) e = cc
 gives-none w v (Wait entry) e = refl
 
-or_false : (b c : Bool) → c ≡ false → (b || c) ≡ b
-or_false true c e = refl
-or_false false c e = e
-
 module _ (u : Universe) (p : Plan) (judged : is_judged p ≡ true) where
   reach-none : (l i j : ℕ) (v : Variant) → j < length p
       → list_any (gives u v) (within_reach p l i j) ≡ false
@@ -72,7 +64,7 @@ module _ (u : Universe) (p : Plan) (judged : is_judged p ≡ true) where
   possible-at : (l i : ℕ) (v : Variant) → possible u p l i v ≡ initial u v
   unfolding possible
   possible-at l i v =
-      or_false (initial u v) _ (some_below-none (length p) _ (λ j lt. reach-none l i j v lt))
+      rw (some_below-none (length p) _ (λ j lt. reach-none l i j v lt)) (or-false (initial u v))
 
   pub possible-is : (l i : ℕ) → possible u p l i ≡ initial u
   possible-is l i = λ t. λ v. possible-at l i v t

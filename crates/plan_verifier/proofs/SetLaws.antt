@@ -11,7 +11,7 @@ use Rattle.farm_model.specs.Below.{some_below, every_below}
 use Rattle.farm_model.specs.Packages.{names, variants}
 use Rattle.farm_model.specs.Universe.{Universe}
 use Rattle.plan_model.specs.May.{MayConfigured}
-use Rattle.plan_verifier.specs.Sets.{has}
+use Rattle.farm_model.specs.Packages.{word_has}
 
 both : (a b c d : Bool) → c ≡ not d → (not a || b) && c ≡ not ((a && not b) || d)
 both true true c d e = e
@@ -39,7 +39,7 @@ not_same a b ne =
     ]
 
 -- the set of one variant
-pub has-single : (bit b : ℕ) → has (2 ^ bit) b ≡ (b == bit)
+pub has-single : (bit b : ℕ) → word_has (2 ^ bit) b ≡ (b == bit)
 has-single bit b =
     elim (cases_eq b bit) [
       | inl same ↦ ap (λ k. bit_at (2 ^ bit) k == 1) same
@@ -56,9 +56,9 @@ named u name bit lt =
     ]
 
 pub configured-single : (word bit : ℕ) → word ≡ 2 ^ bit
-    → MayConfigured (has word) ≡ MayConfigured (λ b. b == bit)
+    → MayConfigured (word_has word) ≡ MayConfigured (λ b. b == bit)
 configured-single word bit e =
-    ap (λ w. MayConfigured (has w)) e ∙ (λ i. MayConfigured (λ b. has-single bit b i))
+    ap (λ w. MayConfigured (word_has w)) e ∙ (λ i. MayConfigured (λ b. has-single bit b i))
 
 -- what is found is an element, and passes
 pub find-all : {X : Type 0} (P : X → Type 0) (p : X → Bool) (xs : List X) (v : X) → All P xs

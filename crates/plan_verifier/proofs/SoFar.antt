@@ -10,12 +10,11 @@ use Rattle.plan_model.specs.declared.instructions.Instruction.{Instruction}
 use Rattle.plan_model.specs.declared.instructions.Instruction.TheVariants.{Unpack, Configure, Deconfigure, Remove, Build, Publish, Wait}
 use Rattle.plan_model.specs.Order.{items, start_board, IsOrder}
 use Rattle.plan_model.specs.Plan.{Lane, Plan, lane, no_lane, instruction_at}
-use Rattle.plan_model.specs.Known.{IsGreatest}
+use Rattle.plan_model.specs.Known.{IsGreatest, initial_rows}
 use Rattle.verdict_laws.specs.Families.{waits_or_publishes}
 use Rattle.verdict_laws.proofs.Quiet.{initial_rows_are_greatest}
 use Rattle.plan_verifier.specs.declared.judged.TheConstants.{MOST_JUDGED}
 use Rattle.plan_verifier.specs.Judged.{unpacks_or_configures, is_judged}
-use Rattle.plan_verifier.specs.Walk.{initial_rows}
 
 -- ---- each instruction
 

@@ -4,7 +4,7 @@ use Rattle.std.proofs.lemmas.Bool.{cases_eq}
 use Rattle.std.proofs.lemmas.List.{get_or_append_left}
 use Rattle.std.proofs.Math.Seq.{get_or-append_seam}
 use Rattle.farm_model.specs.Universe.{Universe}
-use Rattle.plan_model.specs.Known.{Rows}
+use Rattle.plan_model.specs.Known.{Rows, initial_rows}
 use Rattle.plan_model.specs.MayAt.{lane_cost}
 use Rattle.plan_model.specs.Plan.{Plan, lane}
 use Rattle.plan_model.specs.Safety.{risk_at}
@@ -14,7 +14,7 @@ use Rattle.plan_verifier.specs.Accepted.{AreCosts}
 use Rattle.plan_verifier.specs.Costs.{IsToldOf}
 use Rattle.plan_verifier.specs.Verdict.{IsVerdictOn}
 use Rattle.plan_verifier.specs.Judged.{is_judged}
-use Rattle.plan_verifier.specs.Walk.{initial_rows, Walked}
+use Rattle.plan_verifier.specs.Walk.{Walked}
 use Rattle.plan_verifier.proofs.SoFar.{initial_greatest}
 
 -- the cost of one more lane

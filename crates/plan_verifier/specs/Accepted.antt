@@ -5,13 +5,12 @@
 --   IsAccepted        what is kept of every accepted plan
 use Rattle.std.specs.Prelude.{◌≡◌, ℕ, ◌<◌, List, [], length, slice_index}
 use Rattle.farm_model.specs.Universe.{Universe}
-use Rattle.plan_model.specs.Known.{Rows, IsGreatest}
+use Rattle.plan_model.specs.Known.{Rows, IsGreatest, initial_rows}
 use Rattle.plan_model.specs.MayAt.{lane_cost}
 use Rattle.plan_model.specs.Order.{IsOrder}
 use Rattle.plan_model.specs.Plan.{Plan}
 use Rattle.plan_model.specs.Safety.{IsSafeUnder}
 use Rattle.plan_model.specs.Sound.{IsSound}
-use Rattle.plan_verifier.specs.Walk.{initial_rows}
 
 -- a plan over a universe, and the cost of each lane in file order
 pub record AcceptedPlan : Type 0 where

@@ -11,7 +11,7 @@ use Rattle.plan_verifier.specs.declared.refusal.Refusal.{Refusal}
 use Rattle.plan_verifier.specs.declared.walk.Stop.{Stop}
 use Rattle.plan_verifier.specs.Accepted.{AreCosts}
 use Rattle.plan_verifier.specs.Verdict.{IsVerdictOn}
-use Rattle.plan_verifier.specs.Walk.{initial_rows}
+use Rattle.plan_model.specs.Known.{initial_rows}
 
 -- the lane's name stands beside the instruction and its trap, unless memory ran out
 abbrev pub IsToldOf : List ℕ → Stop → Refusal → Type 0

@@ -1,4 +1,3 @@
-pub mod Sets
 pub mod Judged
 pub mod Map
 pub mod Walk

@@ -12,12 +12,12 @@ use Rattle.plan_model.specs.Turn.{no_builds}
 use Rattle.plan_verifier.specs.declared.map.Held.{Held}
 use Rattle.plan_verifier.specs.declared.map.Held.TheVariants.{Absent, Unpacked, Configured}
 use Rattle.plan_verifier.specs.declared.map.MayMap.{MayMap}
-use Rattle.plan_verifier.specs.Sets.{has}
+use Rattle.farm_model.specs.Packages.{word_has}
 
 abbrev pub slot_of : Held → MaySlot
 slot_of Absent = MayAbsent
-slot_of (Unpacked current last) = MayUnpacked (has current) (has last)
-slot_of (Configured current) = MayConfigured (has current)
+slot_of (Unpacked current last) = MayUnpacked (word_has current) (word_has last)
+slot_of (Configured current) = MayConfigured (word_has current)
 
 abbrev pub held_at : MayMap → ℕ → Held
 held_at map n = slice_index_or map.slots.items n Absent

@@ -1,7 +1,6 @@
 -- A walk over the instructions of a lane. Parameters as in plan_model: u a universe, p a plan, l a
 -- lane, m a may map, x an instruction. The project's own rules.
 --
---   initial_rows                what is known and may be in the archive while nothing is published
 --   risk_now, may_then          the first trap that an instruction may meet, and the map after it
 --   Answers, Walked             what is answered to an instruction, and to a lane
 use Rattle.std.specs.Prelude.{◌≡◌, ℕ, ◌+◌, ◌<◌, ◌≤◌, ◌^◌, length, Option, Some, None, Result, Ok, Err}
@@ -11,7 +10,7 @@ use Rattle.farm_model.specs.Packages.{names, initial}
 use Rattle.farm_model.specs.Sound.{IsUniverse}
 use Rattle.plan_model.specs.declared.instructions.Instruction.{Instruction}
 use Rattle.plan_model.specs.Plan.{Lane, Plan}
-use Rattle.plan_model.specs.Known.{Rows}
+use Rattle.plan_model.specs.Known.{initial_rows}
 use Rattle.plan_model.specs.May.{May}
 use Rattle.plan_model.specs.MayAt.{may_after, lane_cost}
 use Rattle.plan_model.specs.Risk.{risk}
@@ -19,10 +18,6 @@ use Rattle.plan_model.specs.Safety.{risk_at}
 use Rattle.plan_verifier.specs.declared.map.MayMap.{MayMap}
 use Rattle.plan_verifier.specs.declared.walk.Stop.{Stop}
 use Rattle.plan_verifier.specs.declared.walk.Stop.TheVariants.{Unsafe, Memory}
-
--- the initial archive at each place of each lane
-abbrev pub initial_rows : Universe → Rows
-initial_rows u l i v = initial u v
 
 abbrev pub risk_now : Universe → Lane → May → Instruction → Option Trap
 risk_now u of m x = risk u of (initial u) (initial u) m x

@@ -85,7 +85,7 @@ impl Accepted {
     }
 
     /// The promise: no interleaving of the lanes meets a trap, in every unfinished state some lane
-    /// can step, and no run is longer than the plan's count. It does nothing.
+    /// can step, and no run is longer than the plan's count of events. It does nothing.
     #[tactic(auto, using(crate::proofs::Promises::safe_of))]
     pub fn every_interleaving(&self)
         ensures { IsSafe self.now.universe self.now.plan }

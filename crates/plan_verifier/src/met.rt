@@ -6,7 +6,7 @@ ghost use Rattle.farm_model.specs.Chroot.{member, unmet};
 ghost use Rattle.farm_model.specs.Packages.{variant, satisfies, satisfies_entry};
 ghost use Rattle.plan_model.specs.May as may;
 ghost use Rattle.plan_verifier.specs.Map.{slot_of, held_at, may_of};
-ghost use Rattle.plan_verifier.specs.Sets.{has};
+ghost use Rattle.farm_model.specs.Packages.{word_has};
 
 use crate::map::{Held, MayMap};
 use crate::names::{NameTest, some_name};
@@ -92,8 +92,8 @@ pub fn surely_met_with(universe: &Universe, members: &[u32], map: &MayMap, entry
 /// Tells whether all variants of both sets satisfy one alternative of the entry.
 fn some_for_both(universe: &Universe, entry: &Entry, name: u32, current: u64, last: u64) -> bool
     ensures { result ≡ list_any (λ a.
-        may.all_of universe.now name (has current) (λ b. satisfies universe.now a (variant name b))
-        && may.all_of universe.now name (has last) (λ b. satisfies universe.now a (variant name b)))
+        may.all_of universe.now name (word_has current) (λ b. satisfies universe.now a (variant name b))
+        && may.all_of universe.now name (word_has last) (λ b. satisfies universe.now a (variant name b)))
         entry.now }
 {
     entry.alternatives().iter().any(|atom| {
@@ -103,7 +103,7 @@ fn some_for_both(universe: &Universe, entry: &Entry, name: u32, current: u64, la
 }
 
 fn all_satisfy(universe: &Universe, entry: &Entry, name: u32, current: u64, last: u64) -> bool
-    ensures { result ≡ may.all_satisfy universe.now entry.now name (has current) (has last) }
+    ensures { result ≡ may.all_satisfy universe.now entry.now name (word_has current) (word_has last) }
 {
     is_some_of(universe, name, current)
         && (is_some_of(universe, name, last) && some_for_both(universe, entry, name, current, last))

@@ -4,7 +4,7 @@ ghost use Rattle.std.specs.Prelude.{◌≡◌, ◌&&◌, ◌<◌, IfSome};
 ghost use Rattle.farm_model.specs.Packages.{variant, variants, names, initial, is_wanted};
 ghost use Rattle.plan_model.specs.Turn as turn;
 
-use crate::sets::{has, variant_count};
+use crate::sets::{variant_count, word_has};
 use deb_relation::Op;
 use deb_version::Version;
 use farm_universe::{Universe, Variant};
@@ -18,7 +18,8 @@ fn is_there(universe: &Universe, name: u32, relation: &Option<(Op, Version)>, bi
     ensures { result ≡ (initial universe.now (variant name bit)
         && is_wanted universe.now relation.now (variant name bit)) }
 {
-    has(universe.initial(name), bit) && universe.is_wanted(Variant { name, bit }, relation.as_ref())
+    word_has(universe.initial(name), bit)
+        && universe.is_wanted(Variant { name, bit }, relation.as_ref())
 }
 
 /// The highest variant of a name that is in the initial archive and in the relation.

@@ -9,7 +9,7 @@ ghost use Rattle.farm_model.specs.Sound.{IsKnown};
 ghost use Rattle.farm_model.specs.Universe.{Universe};
 ghost use Rattle.plan_model.specs.May as may;
 ghost use Rattle.plan_verifier.specs.Map.{slot_of};
-ghost use Rattle.plan_verifier.specs.Sets.{has};
+ghost use Rattle.farm_model.specs.Packages.{word_has};
 
 use crate::map::Held;
 use farm_universe::{Universe, Variant};
@@ -41,9 +41,9 @@ pub fn variant_count(universe: &Universe, name: u32) -> u32
 }
 
 /// Tells whether the variant of a bit is in a set.
-pub fn has(set: u64, bit: u32) -> bool
+pub fn word_has(set: u64, bit: u32) -> bool
     requires { bit < 64 }
-    ensures { result ≡ has set bit }
+    ensures { result ≡ word_has set bit }
 {
     (set >> bit) & 1 == 1
 }
@@ -58,11 +58,11 @@ pub fn single(bit: u32) -> u64
 
 /// Tells whether there is a variant in a set.
 pub fn is_some_of(universe: &Universe, name: u32, set: u64) -> bool
-    ensures { result ≡ may.is_some_of universe.now name (has set) }
+    ensures { result ≡ may.is_some_of universe.now name (word_has set) }
 {
     let count = variant_count(universe, name);
     for bit in 0..count {
-        if has(set, bit) {
+        if word_has(set, bit) {
             return true;
         }
     }
@@ -73,24 +73,24 @@ fn has_passing<T: VariantTest>(universe: &Universe, name: u32, set: u64, bit: u3
     requires fits { T.fits universe.now test.now }
     requires known { bit < variants universe.now name }
     requires within { bit < 64 }
-    ensures { result ≡ (has set bit && T.test universe.now test.now (variant name bit)) }
+    ensures { result ≡ (word_has set bit && T.test universe.now test.now (variant name bit)) }
 {
-    has(set, bit) && test.passes(universe, Variant { name, bit })
+    word_has(set, bit) && test.passes(universe, Variant { name, bit })
 }
 
 fn has_failing<T: VariantTest>(universe: &Universe, name: u32, set: u64, bit: u32, test: &T) -> bool
     requires fits { T.fits universe.now test.now }
     requires known { bit < variants universe.now name }
     requires within { bit < 64 }
-    ensures { result ≡ (has set bit && not (T.test universe.now test.now (variant name bit))) }
+    ensures { result ≡ (word_has set bit && not (T.test universe.now test.now (variant name bit))) }
 {
-    has(set, bit) && !test.passes(universe, Variant { name, bit })
+    word_has(set, bit) && !test.passes(universe, Variant { name, bit })
 }
 
 /// Tells whether some variant of a set passes.
 pub fn some_of<T: VariantTest>(universe: &Universe, name: u32, set: u64, test: &T) -> bool
     requires { T.fits universe.now test.now }
-    ensures { result ≡ may.some_of universe.now name (has set)
+    ensures { result ≡ may.some_of universe.now name (word_has set)
         (λ b. T.test universe.now test.now (variant name b)) }
 {
     let count = variant_count(universe, name);
@@ -105,7 +105,7 @@ pub fn some_of<T: VariantTest>(universe: &Universe, name: u32, set: u64, test: &
 fn some_failing<T: VariantTest>(universe: &Universe, name: u32, set: u64, test: &T) -> bool
     requires { T.fits universe.now test.now }
     ensures { result ≡ some_below (variants universe.now name)
-        (λ b. has set b && not (T.test universe.now test.now (variant name b))) }
+        (λ b. word_has set b && not (T.test universe.now test.now (variant name b))) }
 {
     let count = variant_count(universe, name);
     for bit in 0..count {
@@ -119,7 +119,7 @@ fn some_failing<T: VariantTest>(universe: &Universe, name: u32, set: u64, test: 
 /// Tells whether each variant of a set passes.
 pub fn all_of<T: VariantTest>(universe: &Universe, name: u32, set: u64, test: &T) -> bool
     requires { T.fits universe.now test.now }
-    ensures { result ≡ may.all_of universe.now name (has set)
+    ensures { result ≡ may.all_of universe.now name (word_has set)
         (λ b. T.test universe.now test.now (variant name b)) }
 {
     !some_failing(universe, name, set, test)

@@ -5,10 +5,10 @@ ghost use Rattle.farm_model.specs.Packages.{variant, variants, size};
 ghost use Rattle.farm_universe.specs.Kept.{IsKept};
 ghost use Rattle.plan_model.specs.May as may;
 ghost use Rattle.plan_verifier.specs.Map.{slot_of, may_of};
-ghost use Rattle.plan_verifier.specs.Sets.{has};
+ghost use Rattle.farm_model.specs.Packages.{word_has};
 
 use crate::map::{Held, MayMap};
-use crate::sets::{has, variant_count};
+use crate::sets::{variant_count, word_has};
 use farm_universe::limits::MOST_SIZE;
 use farm_universe::{Universe, Variant};
 
@@ -18,10 +18,10 @@ fn size_in(universe: &Universe, name: u32, set: u64, bit: u32) -> u64
     requires known { bit < variants universe.now name }
     requires within { bit < 64 }
     requires kept { IsKept universe.now }
-    ensures size { result ≡ (if has set bit then size universe.now (variant name bit) else 0) }
+    ensures size { result ≡ (if word_has set bit then size universe.now (variant name bit) else 0) }
     ensures small { result ≤ MOST_SIZE }
 {
-    if has(set, bit) {
+    if word_has(set, bit) {
         universe.size(Variant { name, bit })
     } else {
         0
@@ -30,7 +30,7 @@ fn size_in(universe: &Universe, name: u32, set: u64, bit: u32) -> u64
 
 /// The greatest size of the variants in a set.
 pub fn greatest_size(universe: &Universe, name: u32, set: u64) -> u64
-    ensures size { result ≡ may.greatest_size universe.now name (has set) }
+    ensures size { result ≡ may.greatest_size universe.now name (word_has set) }
     ensures small { result ≤ MOST_SIZE }
 {
     let count = variant_count(universe, name);

@@ -9,7 +9,7 @@ ghost use Rattle.plan_model.specs.May as may;
 ghost use Rattle.plan_model.specs.Plan.{capacity};
 ghost use Rattle.plan_model.specs.Risk.{unpack_risks};
 ghost use Rattle.plan_verifier.specs.Map.{slot_of, held_at, may_of};
-ghost use Rattle.plan_verifier.specs.Sets.{has};
+ghost use Rattle.farm_model.specs.Packages.{word_has};
 
 use crate::map::MayMap;
 use crate::met::misses_ahead;
@@ -152,7 +152,7 @@ pub fn unpack_risk(
     requires based { lane.now.base < length universe.now.bases }
     requires within { map.now.cost ≤ lane.now.budget }
     ensures { result ≡ first_trap
-        (unpack_risks universe.now lane.now (may_of universe.now map.now) name (has set)) }
+        (unpack_risks universe.now lane.now (may_of universe.now map.now) name (word_has set)) }
 {
     let size = greatest_size(universe, name, set);
     if may_exceed(lane.budget(), map, 1 + size / 1024) {

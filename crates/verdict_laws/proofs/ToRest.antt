@@ -5,8 +5,8 @@ use Rattle.std.proofs.lemmas.List.{get_or_past}
 use Rattle.std.proofs.lemmas.List.Sums.{sum_by-set}
 use Rattle.std.proofs.lemmas.Option.{none-some, same_Some, cond_some}
 use Rattle.farm_model.specs.Universe.{Universe}
-use Rattle.plan_model.specs.Order.{Item, Pass, Give, Board, start_board, rest_of, board_after}
-use Rattle.verdict_laws.specs.Stuck.{IsAtRest, ComesToRest, PlansComeToRest}
+use Rattle.plan_model.specs.Order.{Item, Pass, Give, Board, start_board, rest_of, board_after, IsAtRest}
+use Rattle.verdict_laws.specs.Stuck.{ComesToRest, PlansComeToRest}
 
 -- how many items the lanes have left
 abbrev items_left : Board → ℕ

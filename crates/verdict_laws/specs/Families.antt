@@ -13,7 +13,7 @@ use Rattle.farm_model.specs.Packages.{initial}
 use Rattle.plan_model.specs.declared.instructions.Instruction.{Instruction}
 use Rattle.plan_model.specs.declared.instructions.Instruction.TheVariants.{Publish, Wait}
 use Rattle.plan_model.specs.Plan.{Plan, lane, instruction_at}
-use Rattle.plan_model.specs.Known.{Rows, possible, KeepsRows, IsGreatest}
+use Rattle.plan_model.specs.Known.{Rows, possible, KeepsRows, IsGreatest, initial_rows}
 
 -- at the plan's places the first family has no more than the second
 abbrev pub IsWithin : Plan → Rows → Rows → Type 0
@@ -65,4 +65,4 @@ HasNoNews p =
 -- where no lane waits or publishes, each knows just the initial archive at each place
 abbrev pub InitialRowsAreGreatest : Type 0
 InitialRowsAreGreatest =
-    (u : Universe) (p : Plan) → HasNoNews p → IsGreatest u p (λ l i v. initial u v)
+    (u : Universe) (p : Plan) → HasNoNews p → IsGreatest u p (initial_rows u)

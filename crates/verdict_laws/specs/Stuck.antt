@@ -1,7 +1,6 @@
 -- Which lanes are stuck: a board on which nothing more goes shows it. The project's own rules.
 -- Parameters: u a universe, p a plan, b a board.
 --
---   IsAtRest                nothing more goes on the board
 --   AreLeft, lanes_left     the lanes that have something left on it
 --   RestIsExact             what such a board says of the plan
 use Rattle.std.specs.Prelude.{◌≡◌, ◌≢◌, ℕ, Bool, true, false, List, [], ◌∷◌, length, None, All, Contains}
@@ -9,11 +8,7 @@ use Rattle.std.specs.List.{filter, range_with_len}
 use Rattle.std.specs.List.Sorted.{IsStrictlyIncreasing}
 use Rattle.farm_model.specs.Universe.{Universe}
 use Rattle.plan_model.specs.Plan.{Plan}
-use Rattle.plan_model.specs.Order.{Item, Board, start_board, rest_of, board_after, Reaches, IsOrder, CannotEnd, AreStuck}
-
--- no lane's next item can be made
-abbrev pub IsAtRest : Universe → Board → Type 0
-IsAtRest u b = (l : ℕ) → board_after u b l (rest_of b l) ≡ None
+use Rattle.plan_model.specs.Order.{Item, Board, start_board, rest_of, board_after, Reaches, IsOrder, CannotEnd, AreStuck, IsAtRest}
 
 -- these are all lanes that have something left, in file order
 pub record AreLeft (b : Board) (lanes : List ℕ) : Type 0 where

@@ -3,7 +3,7 @@ use Rattle.std.proofs.lemmas.Bool.{cases_eq}
 use Rattle.plan_model.specs.Plan.{Lane}
 use Rattle.plan_model.specs.Safety.{risk_at}
 use Rattle.plan_verifier.specs.Accepted.{AreCosts}
-use Rattle.plan_verifier.specs.Walk.{initial_rows}
+use Rattle.plan_model.specs.Known.{initial_rows}
 use Rattle.plan_verifier.proofs.Walks.{more_costs, refused}
 use Rattle.plan_verifier.proofs.costs.lane_costs.Goals as goal
 

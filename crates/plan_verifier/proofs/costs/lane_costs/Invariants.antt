@@ -1,7 +1,7 @@
 use Rattle.std.proofs.Common.{◌≡◌, ℕ, ◌<◌, None}
 use Rattle.plan_model.specs.Safety.{risk_at}
 use Rattle.plan_verifier.specs.Accepted.{AreCosts}
-use Rattle.plan_verifier.specs.Walk.{initial_rows}
+use Rattle.plan_model.specs.Known.{initial_rows}
 use Rattle.plan_verifier.proofs.costs.lane_costs.Given as goal
 
 abbrev pub invariant-loop-number : goal.invariant-loop-number

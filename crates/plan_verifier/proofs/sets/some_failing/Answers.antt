@@ -2,14 +2,14 @@ use Rattle.std.proofs.Common.{sym, ◌∙◌, not, arith}
 use Rattle.std.specs.Prelude.{◌&&◌}
 use Rattle.farm_model.specs.Packages.{variant, variants}
 use Rattle.farm_model.proofs.BelowLaws.{some_below-at}
-use Rattle.plan_verifier.specs.Sets.{has}
+use Rattle.farm_model.specs.Packages.{word_has}
 use Rattle.plan_verifier.proofs.sets.some_failing.Goals as goal
 
 pub returns-then-has_failing : goal.returns-then-has_failing
 returns-then-has_failing g c =
     sym
     (some_below-at (variants c.args.universe.now c.args.name)
-    (λ b. has c.args.set b
+    (λ b. word_has c.args.set b
     && not (g.T.VariantTest.test c.args.universe.now c.args.test.now (variant c.args.name b)))
     c.loop-bit.bit (omega arith)
     (sym c.has_failing.ensures ∙ c.if-has_failing.true))

@@ -2,10 +2,10 @@ use Rattle.std.proofs.Common.{◌≡◌, false}
 use Rattle.std.specs.Prelude.{◌&&◌}
 use Rattle.farm_model.specs.Below.{some_below}
 use Rattle.farm_model.specs.Packages.{variant}
-use Rattle.plan_verifier.specs.Sets.{has}
+use Rattle.farm_model.specs.Packages.{word_has}
 use Rattle.plan_verifier.proofs.sets.some_of.Given as goal
 
 abbrev pub invariant-loop-bit : goal.invariant-loop-bit
 invariant-loop-bit g l =
-    some_below l.bit (λ b. has l.set b && g.T.VariantTest.test l.universe l.test (variant l.name b))
+    some_below l.bit (λ b. word_has l.set b && g.T.VariantTest.test l.universe l.test (variant l.name b))
     ≡ false

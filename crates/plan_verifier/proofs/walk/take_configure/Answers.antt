@@ -1,6 +1,6 @@
 use Rattle.std.proofs.Common.{◌+◌, ◌≤◌, sym, ap, ◌∙◌, arith, length}
 use Rattle.plan_verifier.proofs.Configures.{then-configure, all_configured-long}
-use Rattle.plan_verifier.proofs.Risks.{within-budget}
+use Rattle.farm_model.proofs.TrapLaws.{within-limit}
 use Rattle.plan_verifier.proofs.walk.take_configure.Goals as goal
 
 pub returns-clause-answer : goal.returns-clause-answer
@@ -14,7 +14,7 @@ returns-clause-answer c = (
 pub returns-clause-of_lane : goal.returns-clause-of_lane
 returns-clause-of_lane c =
     let paid : c.args.map.now.cost + length c.args.members.now ≤ c.args.lane.now.budget =
-    within-budget _ _ _ _ (sym c.in_default.ensures) in
+    within-limit _ _ _ _ (sym c.in_default.ensures) in
     record {
       sound = c.requires.of_lane.sound;
       based = c.requires.of_lane.based;

@@ -1,9 +1,9 @@
 use Rattle.std.proofs.Common.{◌≡◌, ◌+◌, ◌/◌, ◌≤◌, sym, ap, ◌∙◌, arith, length, length-set}
 use Rattle.plan_model.specs.Risk.{greatest_cost}
 use Rattle.plan_verifier.specs.Map.{may_of}
-use Rattle.plan_verifier.specs.Sets.{has}
+use Rattle.farm_model.specs.Packages.{word_has}
 use Rattle.plan_verifier.proofs.Picks.{highest-small, risk-unpack, then-unpack}
-use Rattle.plan_verifier.proofs.Risks.{within-budget}
+use Rattle.farm_model.proofs.TrapLaws.{within-limit}
 use Rattle.plan_verifier.proofs.walk.take_unpack.Goals as goal
 
 pub single-set-requires : goal.single-set-requires
@@ -35,11 +35,11 @@ returns-clause-answer c =
 pub returns-clause-of_lane : goal.returns-clause-of_lane
 returns-clause-of_lane c =
     let u = c.args.universe.now in
-    let paid : c.args.map.now.cost + greatest_cost u c.args.name (has c.single-set.result)
+    let paid : c.args.map.now.cost + greatest_cost u c.args.name (word_has c.single-set.result)
     ≤ c.args.lane.now.budget =
-    within-budget _ _ _ _ (sym c.in_default-unpack_risk.ensures) in
+    within-limit _ _ _ _ (sym c.in_default-unpack_risk.ensures) in
     let cost : c.unpack.new.self.cost
-    ≡ c.args.map.now.cost + greatest_cost u c.args.name (has c.single-set.result) =
+    ≡ c.args.map.now.cost + greatest_cost u c.args.name (word_has c.single-set.result) =
     c.unpack.ensures.cost
     ∙ ap (λ size. c.args.map.now.cost + (1 + size / 1024)) c.greatest_size.ensures.size in
     record {

@@ -5,7 +5,8 @@ use Rattle.plan_model.specs.Plan.{Lane, lane, no_lane, instruction_at}
 use Rattle.plan_model.specs.MayAt.{may_at, lane_cost}
 use Rattle.plan_model.specs.Safety.{risk_at}
 use Rattle.plan_verifier.specs.Map.{may_of}
-use Rattle.plan_verifier.specs.Walk.{initial_rows, risk_now}
+use Rattle.plan_model.specs.Known.{initial_rows}
+use Rattle.plan_verifier.specs.Walk.{risk_now}
 use Rattle.plan_verifier.proofs.Bases.{base-is}
 use Rattle.plan_verifier.proofs.SoFar.{judged-at}
 use Rattle.plan_verifier.proofs.Quiet.{may-next, risk-is, risk-past, lane-short, instruction-is}

@@ -2,7 +2,8 @@ use Rattle.std.proofs.Common.{◌≡◌, ℕ, ◌<◌, None}
 use Rattle.plan_model.specs.MayAt.{may_at}
 use Rattle.plan_model.specs.Safety.{risk_at}
 use Rattle.plan_verifier.specs.Map.{may_of}
-use Rattle.plan_verifier.specs.Walk.{initial_rows, IsOfLane}
+use Rattle.plan_model.specs.Known.{initial_rows}
+use Rattle.plan_verifier.specs.Walk.{IsOfLane}
 use Rattle.plan_verifier.proofs.walk.walk.Given as goal
 
 abbrev pub invariant-loop-place : goal.invariant-loop-place

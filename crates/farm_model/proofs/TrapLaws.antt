@@ -1,4 +1,4 @@
--- What follows from an instruction that is safe.
+-- Laws of the first trap.
 use Rattle.std.proofs.Common.{◌≡◌, ℕ, ◌≤◌, Bool, true, false, List, ◌∷◌, None, refl, sym}
 use Rattle.std.specs.Prelude.{nat_lt}
 use Rattle.std.proofs.lemmas.Bool.{ltb-false}
@@ -12,7 +12,7 @@ unfolding first_trap
 first-fails true t xs e = absurd (none-some t (sym e))
 first-fails false t xs e = refl
 
--- it costs no more than the budget
-pub within-budget : (budget cost : ℕ) (t : Trap) (xs : List (Bool × Trap))
-    → first_trap ((nat_lt budget cost, t) ∷ xs) ≡ None → cost ≤ budget
-within-budget budget cost t xs e = ltb-false budget cost (first-fails (nat_lt budget cost) t xs e)
+-- where the first test is of a limit, and there is no trap, the limit is kept
+pub within-limit : (limit n : ℕ) (t : Trap) (xs : List (Bool × Trap))
+    → first_trap ((nat_lt limit n, t) ∷ xs) ≡ None → n ≤ limit
+within-limit limit n t xs e = ltb-false limit n (first-fails (nat_lt limit n) t xs e)
