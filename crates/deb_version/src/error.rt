@@ -42,29 +42,3 @@ fn reason(code: &u16) -> &'static str {
         _ => "out of memory",
     }
 }
-
-#[cfg(test)]
-mod tests {
-    use super::*;
-    use std::test::Fail;
-
-    #[test]
-    fn prints_the_code_and_the_reason(rt: HostRuntime) -> Result<(), Fail> {
-        let cases = [
-            (EMPTY_PART, "111 a part of the version is empty"),
-            (
-                BAD_CHARACTER,
-                "112 a character that this part of the version may not have",
-            ),
-            (EPOCH_TOO_LARGE, "113 the epoch is over 2147483647"),
-            (TOO_LONG, "114 the version is over 512 bytes"),
-            (MEMORY, "900 out of memory"),
-        ];
-        for (code, want) in cases {
-            let error = VersionError { code };
-            let text = format!(in rt.alloc(); "{error}")?;
-            assert_eq!(rt; text.as_str(), want);
-        }
-        Ok(())
-    }
-}

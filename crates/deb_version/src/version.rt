@@ -15,7 +15,7 @@ use crate::grammar::{
     MAX_LENGTH, cut_into_pieces, epoch_of, has_bad_byte, has_empty_piece, revision_or_zero,
 };
 use crate::order::compare_parts;
-use std::alloc::Global;
+use std::alloc::{AllocError, Global};
 use std::cmp::Ordering;
 use std::marker::Model;
 
@@ -105,6 +105,17 @@ impl Version {
     }
 }
 
+impl Clone for Version {
+    ghost is_clone = { λ version copy. copy ≡ version };
+
+    fn clone(&self) -> Result<Version, AllocError> {
+        Ok(Version {
+            text: self.text.clone()?,
+            epoch: self.epoch,
+        })
+    }
+}
+
 impl PartialEq for Version {
     ghost eq = { eq_by_cmp text_cmp };
 
@@ -142,6 +153,3 @@ impl Ord for Version {
         self.compare(other)
     }
 }
-
-#[cfg(test)]
-mod tests;
