@@ -1,0 +1,99 @@
+//! Questions about relation fields, and about which package satisfies an alternative.
+
+use crate::answer::{Answer, Refusal, yes_or_no};
+use crate::spelling::{push_atom, push_entry, push_field};
+use deb_relation::{Atom, Entry, Facts, Kind, RelationError, Relations, in_relation, satisfies};
+use deb_text::read_number;
+use deb_version::Version;
+use std::alloc::Global;
+
+/// Answers `field KIND TEXT`, `entry KIND TEXT`, `alternative KIND TEXT`, `unrestricted KIND TEXT`,
+/// `sizes KIND TEXT`, `in_relation ALTERNATIVE VERSION`,
+/// `satisfies NAME VERSION PROVIDES ALTERNATIVE` and `relation_message CODE`.
+pub fn answer(alloc: Global, question: &[u8], args: &[Vec<u8>]) -> Answer {
+    match args {
+        [code] if question == b"relation_message".as_slice() => message(alloc, code),
+        [atom, version] if question == b"in_relation".as_slice() => {
+            stands_in(alloc, atom, version)
+        }
+        [kind, text] => read(alloc, question, kind_of(kind)?, text),
+        [name, version, provides, atom] if question == b"satisfies".as_slice() => {
+            is_satisfied(alloc, name, version, provides, atom)
+        }
+        _ => Err(Refusal::NoQuestion),
+    }
+}
+
+fn kind_of(word: &[u8]) -> Result<Kind, Refusal> {
+    match word {
+        b"Need" => Ok(Kind::Need),
+        b"Clash" => Ok(Kind::Clash),
+        b"Provide" => Ok(Kind::Provide),
+        b"BuildNeed" => Ok(Kind::BuildNeed),
+        b"BuildClash" => Ok(Kind::BuildClash),
+        _ => Err(Refusal::NoQuestion),
+    }
+}
+
+fn read(alloc: Global, question: &[u8], kind: Kind, text: &[u8]) -> Answer {
+    let mut answer = Vec::new(alloc);
+    match question {
+        b"field" => push_field(&mut answer, &Relations::parse(alloc, text, kind)?.clone()?)?,
+        b"entry" => push_entry(&mut answer, &Entry::parse(alloc, text, kind)?)?,
+        b"alternative" => push_atom(&mut answer, &Atom::parse(alloc, text, kind)?)?,
+        b"unrestricted" => {
+            let atom = Atom::parse(alloc, text, kind)?;
+            push_atom(&mut answer, &atom.clone_unrestricted()?)?;
+        }
+        b"sizes" => push_sizes(alloc, &mut answer, &Relations::parse(alloc, text, kind)?)?,
+        _ => return Err(Refusal::NoQuestion),
+    }
+    Ok(answer)
+}
+
+/// Adds how many alternatives each entry has, and the name of each entry's last one.
+fn push_sizes(alloc: Global, answer: &mut Vec<u8>, field: &Relations) -> Result<(), Refusal> {
+    if field.is_empty() {
+        answer.extend_from_slice(b"(none)")?;
+    }
+    for number in 0..field.len() {
+        let entry = field.entry(number);
+        let alternatives = entry.len();
+        answer.extend_from_slice(format!(in alloc; "{alternatives} ")?.as_bytes())?;
+        if !entry.is_empty() {
+            answer.extend_from_slice(&entry.alternative(alternatives - 1).name)?;
+        }
+        answer.push(b' ')?;
+    }
+    Ok(())
+}
+
+fn stands_in(alloc: Global, atom: &[u8], version: &[u8]) -> Answer {
+    let atom = Atom::parse(alloc, atom, Kind::Need)?;
+    let version = Version::parse(alloc, version)?;
+    yes_or_no(alloc, in_relation(atom.relation.as_ref(), &version))
+}
+
+fn is_satisfied(
+    alloc: Global,
+    name: &[u8],
+    version: &[u8],
+    provides: &[u8],
+    atom: &[u8],
+) -> Answer {
+    let version = Version::parse(alloc, version)?;
+    let provides = Relations::parse(alloc, provides, Kind::Provide)?;
+    let atom = Atom::parse(alloc, atom, Kind::Need)?;
+    let facts = Facts {
+        name,
+        version: &version,
+        provides: &provides,
+    };
+    yes_or_no(alloc, satisfies(&facts, &atom))
+}
+
+fn message(alloc: Global, code: &[u8]) -> Answer {
+    let code = read_number(code).unwrap_or(0).min(999) as u16;
+    let error = RelationError { code };
+    Ok(format!(in alloc; "{error}")?.into_bytes())
+}
