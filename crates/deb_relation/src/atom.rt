@@ -6,7 +6,7 @@ ghost use Rattle.std.specs.Option.{option_map};
 use crate::operator::Op;
 use crate::restriction::{ArchList, ProfileList};
 use deb_version::Version;
-use std::alloc::{AllocError, Global};
+use std::alloc::AllocError;
 use std::marker::Model;
 
 /// One alternative, `name:qualifier (op version) [architectures] <profiles> ..` (Debian Policy
@@ -50,13 +50,12 @@ impl Atom {
           profiles = [];
         }) }
     {
-        let alloc = *self.name.allocator();
         Ok(Atom {
             name: self.name.clone()?,
             qualifier: clone_qualifier(&self.qualifier)?,
-            relation: clone_relation(alloc, &self.relation)?,
+            relation: clone_relation(&self.relation)?,
             archs: None,
-            profiles: Vec::new(alloc),
+            profiles: Vec::new(*self.name.allocator()),
         })
     }
 }
@@ -68,7 +67,7 @@ impl Clone for Atom {
         Ok(Atom {
             name: self.name.clone()?,
             qualifier: clone_qualifier(&self.qualifier)?,
-            relation: clone_relation(*self.name.allocator(), &self.relation)?,
+            relation: clone_relation(&self.relation)?,
             archs: clone_archs(&self.archs)?,
             profiles: self.profiles.clone()?,
         })
@@ -85,21 +84,11 @@ fn clone_qualifier(qualifier: &Option<Vec<u8>>) -> Result<Option<Vec<u8>>, Alloc
     }
 }
 
-/// Reads the text of a version again, which only want of memory can refuse.
-fn clone_version(alloc: Global, version: &Version) -> Result<Version, AllocError>
-    ensures { IfOk result (λ copy. copy ≡ version.now) }
-{
-    Version::parse(alloc, version.text()).map_err(|_| AllocError)
-}
-
-fn clone_relation(
-    alloc: Global,
-    relation: &Option<(Op, Version)>,
-) -> Result<Option<(Op, Version)>, AllocError>
+fn clone_relation(relation: &Option<(Op, Version)>) -> Result<Option<(Op, Version)>, AllocError>
     ensures { IfOk result (λ copy. copy ≡ relation.now) }
 {
     match relation {
-        Some((op, version)) => Ok(Some((*op, clone_version(alloc, version)?))),
+        Some((op, version)) => Ok(Some((*op, version.clone()?))),
         None => Ok(None),
     }
 }

@@ -153,6 +153,3 @@ fn copy_qualifier(alloc: Global, text: Option<&[u8]>) -> Result<Option<Vec<u8>>,
         None => Ok(None),
     }
 }
-
-#[cfg(test)]
-mod tests;

@@ -94,6 +94,3 @@ fn admits(op: Op, order: Ordering) -> bool
         Op::Later => order.is_gt(),
     }
 }
-
-#[cfg(test)]
-mod tests;
