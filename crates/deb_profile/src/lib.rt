@@ -4,8 +4,6 @@
 
 mod reduction;
 mod restriction;
-#[cfg(test)]
-mod tests;
 mod word_list;
 
 pub use reduction::reduce;
