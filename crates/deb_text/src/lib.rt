@@ -14,6 +14,3 @@ pub use fault::{Fault, MEMORY};
 pub use lines::{Line, is_blank_line, is_comment, next_line};
 pub use numbers::{is_number, number_of, read_number};
 pub use words::{is_name, is_word, next_word};
-
-#[cfg(test)]
-mod tests;
