@@ -14,6 +14,3 @@ pub use error::{
 };
 pub use paragraphs::Paragraphs;
 pub use plain::{Lines, plain_lines};
-
-#[cfg(test)]
-mod tests;
