@@ -1,2 +1,3 @@
 pub mod NewestBit
+pub mod OneName
 pub mod SetLaws

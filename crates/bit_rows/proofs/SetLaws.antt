@@ -1,6 +1,6 @@
 -- The tests and changes of rows as tests and changes of their sets.
 use Rattle.std.proofs.Common.{◌≡◌, ◌↔◌, ℕ, true, List, length, ap}
-use Rattle.clause_kernel.specs.Rows.{is_set}
+use Rattle.clause_kernel.specs.Rows.{row_has}
 use Rattle.clause_kernel.specs.Kernels.{same}
 use Rattle.clause_kernel.proofs.Meanings.{hits-bits, met-bits, within-bits, same-equal, joined-bits, common-bits, remaining-bits, same_from_bits}
 use Rattle.bit_rows.specs.Sets.{variants_of, HaveSame}
@@ -10,7 +10,7 @@ use Rattle.bit_rows.specs.Laws.{RowsAreSets}
 pub same-variants : (a b : List ℕ) → length a ≡ length b
     → (same a b ≡ true) ↔ HaveSame (variants_of a) (variants_of b)
 same-variants a b long = (
-  (λ e name bit. ap (λ row. is_set row name bit) ((same-equal a b long).0 e)),
+  (λ e name bit. ap (λ row. row_has row name bit) ((same-equal a b long).0 e)),
   (λ h. (same-equal a b long).1 (same_from_bits a b long h)),
 )
 

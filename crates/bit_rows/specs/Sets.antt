@@ -4,12 +4,13 @@
 --   variants_of row                            the set of a row
 --   HasNone                                    the set without variants
 --   IsWordOf                                   one name of a set as a word
+--   HasSomeAt, HasAllAt, IsMetAt               tests of a set by a word of one name
 --   IsSubset, HaveSame, HaveCommon,
 --   HasNameInside                              tests of two sets
 --   IsUnion, IsIntersection, IsDifference,
---   ReplacesName                               sets made of others
+--   ReplacesName, AddsVariant                  sets made of others
 use Rattle.std.specs.Prelude.{◌≡◌, ◌==◌, not, ◌&&◌, ◌||◌, ℕ, Bool, false, IsTrue, List, if◌then◌else◌}
-use Rattle.clause_kernel.specs.Rows.{word_has, is_set}
+use Rattle.clause_kernel.specs.Rows.{word_has, row_has}
 
 -- a set of variants, by name and bit
 abbrev pub Variants : Type 0
@@ -17,7 +18,7 @@ Variants = ℕ → ℕ → Bool
 
 -- the variant is in the set where bit `bit` of word `name` is set
 abbrev pub variants_of : List ℕ → Variants
-variants_of row name bit = is_set row name bit
+variants_of row name bit = row_has row name bit
 
 -- no variant is in the set
 abbrev pub HasNone : Variants → Type 0
@@ -26,6 +27,18 @@ HasNone s = (name bit : ℕ) → s name bit ≡ false
 -- the bits of the word are the variants of this name in s
 abbrev pub IsWordOf : Variants → ℕ → ℕ → Type 0
 IsWordOf s this word = (bit : ℕ) → s this bit ≡ word_has word bit
+
+-- some variant of this name that the word has is in s
+abbrev pub HasSomeAt : Variants → ℕ → ℕ → Type 0
+HasSomeAt s this word = (bit : ℕ) × IsTrue (word_has word bit) × IsTrue (s this bit)
+
+-- each variant of this name that the word has is in s
+abbrev pub HasAllAt : Variants → ℕ → ℕ → Type 0
+HasAllAt s this word = (bit : ℕ) → IsTrue (word_has word bit) → IsTrue (s this bit)
+
+-- the word has a variant of this name, and each that it has is in s
+abbrev pub IsMetAt : Variants → ℕ → ℕ → Type 0
+IsMetAt s this word = ((bit : ℕ) × IsTrue (word_has word bit)) × HasAllAt s this word
 
 -- each variant of s is in t
 abbrev pub IsSubset : Variants → Variants → Type 0
@@ -61,3 +74,8 @@ IsDifference s t new = (name bit : ℕ) → new name bit ≡ (s name bit && not 
 abbrev pub ReplacesName : Variants → ℕ → ℕ → Variants → Type 0
 ReplacesName s this word new =
     (name bit : ℕ) → new name bit ≡ (if name == this then word_has word bit else s name bit)
+
+-- new has this variant, and of the others those of s
+abbrev pub AddsVariant : Variants → ℕ → ℕ → Variants → Type 0
+AddsVariant s this added new =
+    (name bit : ℕ) → new name bit ≡ (s name bit || ((name == this) && (bit == added)))

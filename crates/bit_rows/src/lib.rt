@@ -8,6 +8,3 @@ mod word;
 pub use laws::rows_are_sets;
 pub use row::Row;
 pub use word::newest;
-
-#[cfg(test)]
-mod tests;

@@ -1,8 +1,8 @@
 //! A row of words, and what it does with other rows.
 
 ghost use Rattle.std.specs.Prelude.{◌≡◌, ◌<◌, ◌↔◌, IsTrue, IfOk, OnOk, OnErr, length, replicate, slice_index, slice_set};
-ghost use Rattle.clause_kernel.specs.Kernels.{hits, met, within, same, joined, common, remaining};
-ghost use Rattle.bit_rows.specs.Sets.{variants_of, HasNone, IsWordOf, IsSubset, HaveSame, HaveCommon, HasNameInside, IsUnion, IsIntersection, IsDifference, ReplacesName};
+ghost use Rattle.clause_kernel.specs.Kernels.{shares_bit, meets, lies_in, hits, met, within, same, joined, common, remaining};
+ghost use Rattle.bit_rows.specs.Sets.{variants_of, HasNone, HasSomeAt, HasAllAt, IsMetAt, IsWordOf, IsSubset, HaveSame, HaveCommon, HasNameInside, IsUnion, IsIntersection, IsDifference, ReplacesName, AddsVariant};
 
 use std::alloc::{AllocError, Allocator, Global};
 use std::marker::Model;
@@ -10,7 +10,8 @@ use std::marker::Model;
 /// A set of variants as a list of words, one for each name.
 ///
 /// Clauses see a row as its words, and as the set of the variants whose bit is set. How the words
-/// are kept is no part of the contract. Two rows that meet in one call have one length.
+/// are kept is no part of the contract. Two rows that meet in one call have one length, and so have
+/// a row and a slice of words, one for each name, which stand for a set as a row's do.
 #[derive(Debug, Drop)]
 pub struct Row<A: Allocator = Global> {
     words: Vec<u64, A>,
@@ -47,29 +48,56 @@ impl<A: Allocator> Row<A> {
         self.words.len()
     }
 
-    /// Gives the word of name `i`.
-    pub fn word(&self, i: usize) -> u64
-        requires { i < length self.now }
-        ensures word { result ≡ slice_index self.now i }
-        ensures set { IsWordOf (variants_of self.now) i result }
+    /// Gives the word of a name.
+    pub fn word(&self, name: usize) -> u64
+        requires { name < length self.now }
+        ensures word { result ≡ slice_index self.now name }
+        ensures set { IsWordOf (variants_of self.now) name result }
     {
-        self.words[i]
+        self.words[name]
     }
 
-    /// Puts a word in the place of name `i`'s.
+    /// Tells whether a variant is in the row.
+    pub fn has(&self, name: usize, bit: u32) -> bool
+        requires named { name < length self.now }
+        requires within { bit < 64 }
+        ensures { result ≡ variants_of self.now name bit }
+    {
+        self.word(name) & 1 << bit != 0
+    }
+
+    /// Puts a word in the place of a name's.
     ///
     /// # Errors
     ///
     /// [`AllocError`] where memory is refused. The row is then as it was.
-    pub fn set_word(&mut self, i: usize, word: u64) -> Result<(), AllocError>
-        requires { i < length self.old }
-        ensures words { OnOk result (self.new ≡ slice_set self.old i word) }
+    pub fn set_word(&mut self, name: usize, word: u64) -> Result<(), AllocError>
+        requires { name < length self.old }
+        ensures words { OnOk result (self.new ≡ slice_set self.old name word) }
         ensures set { OnOk result
-            (ReplacesName (variants_of self.old) i word (variants_of self.new)) }
+            (ReplacesName (variants_of self.old) name word (variants_of self.new)) }
         ensures len { length self.new ≡ length self.old }
         ensures unchanged { OnErr result (self.new ≡ self.old) }
     {
-        self.words[i] = word;
+        self.words[name] = word;
+        Ok(())
+    }
+
+    /// Adds a variant.
+    ///
+    /// # Errors
+    ///
+    /// [`AllocError`] where memory is refused. The row is then as it was.
+    pub fn set_bit(&mut self, name: usize, bit: u32) -> Result<(), AllocError>
+        requires named { name < length self.old }
+        requires within { bit < 64 }
+        ensures set { OnOk result
+            (AddsVariant (variants_of self.old) name bit (variants_of self.new)) }
+        ensures len { length self.new ≡ length self.old }
+        ensures unchanged { OnErr result (self.new ≡ self.old) }
+    {
+        let word = self.word(name);
+        self.set_word(name, word | 1 << bit)?;
         Ok(())
     }
 
@@ -147,6 +175,60 @@ impl<A: Allocator> Row<A> {
         ensures set { IsTrue result ↔ HaveSame (variants_of self.now) (variants_of other.now) }
     {
         clause_kernel::same(&self.words, &other.words)
+    }
+
+    /// Tells whether some variant of the words is in this row.
+    pub fn is_hit_by(&self, words: &[u64]) -> bool
+        requires { length words.now ≡ length self.now }
+        ensures test { result ≡ hits words.now self.now }
+        ensures set { IsTrue result ↔ HaveCommon (variants_of words.now) (variants_of self.now) }
+    {
+        clause_kernel::hits(words, &self.words)
+    }
+
+    /// Tells whether some name has variants in the words, and all of them in this row.
+    pub fn is_met_by(&self, words: &[u64]) -> bool
+        requires { length words.now ≡ length self.now }
+        ensures test { result ≡ met words.now self.now }
+        ensures set { IsTrue result ↔ HasNameInside (variants_of words.now) (variants_of self.now) }
+    {
+        clause_kernel::met(words, &self.words)
+    }
+
+    /// Tells whether each variant of the words is in this row.
+    pub fn has_all(&self, words: &[u64]) -> bool
+        requires { length words.now ≡ length self.now }
+        ensures test { result ≡ within words.now self.now }
+        ensures set { IsTrue result ↔ IsSubset (variants_of words.now) (variants_of self.now) }
+    {
+        clause_kernel::within(words, &self.words)
+    }
+
+    /// Tells whether some variant of one name, as a word, is in this row.
+    pub fn is_hit_at(&self, name: usize, word: u64) -> bool
+        requires { name < length self.now }
+        ensures test { result ≡ shares_bit word (slice_index self.now name) }
+        ensures set { IsTrue result ↔ HasSomeAt (variants_of self.now) name word }
+    {
+        word & self.word(name) != 0
+    }
+
+    /// Tells whether a word of one name has variants, and all of them are in this row.
+    pub fn is_met_at(&self, name: usize, word: u64) -> bool
+        requires { name < length self.now }
+        ensures test { result ≡ meets word (slice_index self.now name) }
+        ensures set { IsTrue result ↔ IsMetAt (variants_of self.now) name word }
+    {
+        word != 0 && self.has_all_at(name, word)
+    }
+
+    /// Tells whether each variant of one name, as a word, is in this row.
+    pub fn has_all_at(&self, name: usize, word: u64) -> bool
+        requires { name < length self.now }
+        ensures test { result ≡ lies_in word (slice_index self.now name) }
+        ensures set { IsTrue result ↔ HasAllAt (variants_of self.now) name word }
+    {
+        word & self.word(name) == word
     }
 }
 

@@ -5,9 +5,9 @@ use Rattle.std.specs.Simd.Lanes.{zip2}
 use Rattle.std.proofs.lemmas.Bool.{both_ways, cases_lt, and_parts, eqb-true, eq-eqb}
 use Rattle.std.proofs.lemmas.List.{get_or_past}
 use mir.Syntax.{w64}
-use Rattle.clause_kernel.specs.Rows.{word_has, is_set, Has, Hits, Met, Within, HasEither, HasBoth, HasRest}
-use Rattle.clause_kernel.specs.Kernels.{shares_bit, lies_in, is_met_by, bits_left, hits, met, within, same, joined, common, remaining}
-use Rattle.clause_kernel.proofs.Words.{word_has_zero, word_has-and, word_has-or, word_has-left, same_from_word_has, shares_bit-bits, lies_in-bits, is_met_by-bits, and_not}
+use Rattle.clause_kernel.specs.Rows.{word_has, row_has, Has, Hits, Met, Within, HasEither, HasBoth, HasRest}
+use Rattle.clause_kernel.specs.Kernels.{shares_bit, lies_in, meets, bits_left, hits, met, within, same, joined, common, remaining}
+use Rattle.clause_kernel.proofs.Words.{word_has_zero, word_has-and, word_has-or, word_has-left, same_from_word_has, shares_bit-bits, lies_in-bits, meets-bits, and_not}
 use Rattle.clause_kernel.proofs.Pairs.{some_pair-at, some_pair-from, every_pair-at, every_pair-from}
 
 -- a set bit stands at a position of the row
@@ -29,10 +29,10 @@ hits-bits a b long = (
 
 pub met-bits : (a b : List ℕ) → length a ≡ length b → (met a b ≡ true) ↔ Met a b
 met-bits a b long = (
-  (λ e. let s = some_pair-at is_met_by a b e in let m = (is_met_by-bits _ _).0 s.1 in
+  (λ e. let s = some_pair-at meets a b e in let m = (meets-bits _ _).0 s.1 in
       (s.0, m.0, m.1)),
-  (λ h. some_pair-from is_met_by a b h.0 long (position_of a h.0 h.1.0 h.1.1)
-      ((is_met_by-bits _ _).1 (h.1, h.2))),
+  (λ h. some_pair-from meets a b h.0 long (position_of a h.0 h.1.0 h.1.1)
+      ((meets-bits _ _).1 (h.1, h.2))),
 )
 
 pub within-bits : (a b : List ℕ) → length a ≡ length b → (within a b ≡ true) ↔ Within a b
@@ -57,7 +57,7 @@ same-equal a b long = (
 
 -- rows of one length with the same bits are equal
 pub same_from_bits : (a b : List ℕ) → length a ≡ length b
-    → ((i k : ℕ) → is_set a i k ≡ is_set b i k) → a ≡ b
+    → ((i k : ℕ) → row_has a i k ≡ row_has b i k) → a ≡ b
 same_from_bits [] [] long same = refl
 same_from_bits [] (y ∷ ys) long same = absurd (omega arith)
 same_from_bits (x ∷ xs) [] long same = absurd (omega arith)
@@ -66,26 +66,26 @@ same_from_bits (x ∷ xs) (y ∷ ys) long same =
     (same_from_bits xs ys (omega arith) (λ i. same (suc i)))
 
 -- the bits of a row that is made word by word
-is_set-zip2 : (f : ℕ → ℕ → ℕ) (g : Bool → Bool → Bool) → g false false ≡ false
+row_has-zip2 : (f : ℕ → ℕ → ℕ) (g : Bool → Bool → Bool) → g false false ≡ false
     → ((x y k : ℕ) → word_has (f x y) k ≡ g (word_has x k) (word_has y k))
     → (a b : List ℕ) → length a ≡ length b → (i k : ℕ)
-    → is_set (zip2 f a b) i k ≡ g (is_set a i k) (is_set b i k)
-is_set-zip2 f g none each [] [] long i k =
+    → row_has (zip2 f a b) i k ≡ g (row_has a i k) (row_has b i k)
+row_has-zip2 f g none each [] [] long i k =
     word_has_zero k ∙ sym (ap₂ g (word_has_zero k) (word_has_zero k) ∙ none)
-is_set-zip2 f g none each [] (y ∷ ys) long i k = absurd (omega arith)
-is_set-zip2 f g none each (x ∷ xs) [] long i k = absurd (omega arith)
-is_set-zip2 f g none each (x ∷ xs) (y ∷ ys) long zero k = each x y k
-is_set-zip2 f g none each (x ∷ xs) (y ∷ ys) long (suc i) k =
-    is_set-zip2 f g none each xs ys (omega arith) i k
+row_has-zip2 f g none each [] (y ∷ ys) long i k = absurd (omega arith)
+row_has-zip2 f g none each (x ∷ xs) [] long i k = absurd (omega arith)
+row_has-zip2 f g none each (x ∷ xs) (y ∷ ys) long zero k = each x y k
+row_has-zip2 f g none each (x ∷ xs) (y ∷ ys) long (suc i) k =
+    row_has-zip2 f g none each xs ys (omega arith) i k
 
 pub joined-bits : (a b : List ℕ) → length a ≡ length b → HasEither a b (joined a b)
-joined-bits = is_set-zip2 bit_or (λ p q. p || q) refl word_has-or
+joined-bits = row_has-zip2 bit_or (λ p q. p || q) refl word_has-or
 
 pub common-bits : (a b : List ℕ) → length a ≡ length b → HasBoth a b (common a b)
-common-bits = is_set-zip2 bit_and (λ p q. p && q) refl word_has-and
+common-bits = row_has-zip2 bit_and (λ p q. p && q) refl word_has-and
 
 pub remaining-bits : (a b : List ℕ) → length a ≡ length b → HasRest a b (remaining a b)
-remaining-bits = is_set-zip2 bits_left (λ p q. p && not q) refl word_has-left
+remaining-bits = row_has-zip2 bits_left (λ p q. p && not q) refl word_has-left
 
 -- `x & !y` over two rows
 pub remaining-and_not : (a b : List ℕ) → ((i : ℕ) → get_or a i 0 < 2 ^ 64)

@@ -7,7 +7,7 @@ use Rattle.std.proofs.lemmas.Nat.Bits.{bit_at-zero, bit_at-lt, bit_at_and, bit_a
 use mir.Syntax.{w64}
 use Rattle.std.proofs.lemmas.Bool.{eq-eqb, eqb-true, ne_eqb, cases_Bool, cases_lt, both_ways, not-true, not_from_false, and_parts, and_from, and_left}
 use Rattle.clause_kernel.specs.Rows.{word_has}
-use Rattle.clause_kernel.specs.Kernels.{shares_bit, lies_in, is_met_by, bits_left}
+use Rattle.clause_kernel.specs.Kernels.{shares_bit, lies_in, meets, bits_left}
 
 -- a word as its bits
 
@@ -145,9 +145,9 @@ lies_in-bits x y = (
     one k (inl h) all = and_from _ _ h (all h) ∙ sym h
     one k (inr n) all = and_left _ _ n ∙ sym n
 
-pub is_met_by-bits : (x y : ℕ) → (is_met_by x y ≡ true)
+pub meets-bits : (x y : ℕ) → (meets x y ≡ true)
     ↔ (((k : ℕ) × (word_has x k ≡ true)) × ((k : ℕ) → word_has x k ≡ true → word_has y k ≡ true))
-is_met_by-bits x y = (
+meets-bits x y = (
   (λ e.
       let p = and_parts (not (x == 0)) (lies_in x y) e in
       let some = some_bit x (λ z. both_ways (x == 0) (not-true _ p.0) (eq-eqb x 0 z)) in

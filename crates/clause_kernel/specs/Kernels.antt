@@ -24,8 +24,8 @@ abbrev pub lies_in : ℕ → ℕ → Bool
 lies_in x y = bit_and x y == x
 
 -- x has a bit, and each of its bits is one of y
-abbrev pub is_met_by : ℕ → ℕ → Bool
-is_met_by x y = not (x == 0) && lies_in x y
+abbrev pub meets : ℕ → ℕ → Bool
+meets x y = not (x == 0) && lies_in x y
 
 -- the bits of x that y lacks
 abbrev pub bits_left : ℕ → ℕ → ℕ
@@ -37,7 +37,7 @@ hits = some_pair shares_bit
 
 -- some position of a has a bit, and each of its bits is one of b
 abbrev pub met : List ℕ → List ℕ → Bool
-met = some_pair is_met_by
+met = some_pair meets
 
 -- each bit of a is one of b
 abbrev pub within : List ℕ → List ℕ → Bool

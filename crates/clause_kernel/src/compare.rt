@@ -1,7 +1,7 @@
 //! Tests of two rows of one length.
 
 ghost use Rattle.std.specs.Prelude.{◌≡◌, ◌↔◌, ◌==◌, not, ℕ, Bool, IsTrue, length};
-ghost use Rattle.clause_kernel.specs.Kernels.{some_pair, shares_bit, is_met_by, lies_in, hits, met, within, same};
+ghost use Rattle.clause_kernel.specs.Kernels.{some_pair, shares_bit, meets, lies_in, hits, met, within, same};
 ghost use Rattle.clause_kernel.specs.Rows.{Hits, Met, Within};
 
 use super::BLOCK;
@@ -75,7 +75,7 @@ impl PairTest for SharesBit {
 struct IsMet;
 
 impl PairTest for IsMet {
-    ghost test = { is_met_by };
+    ghost test = { meets };
 
     #[inline(always)]
     fn any_lane(x: u64x8, y: u64x8) -> bool {

@@ -10,6 +10,3 @@ pub use compare::{hits, met, same, within};
 
 // How many words are taken at a time.
 const BLOCK: usize = 8;
-
-#[cfg(test)]
-mod tests;

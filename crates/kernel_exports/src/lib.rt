@@ -67,6 +67,3 @@ pub extern "C" fn clause_kernel_take_out(a: &mut [u64], b: &[u64])
 {
     clause_kernel::take_out(a, b)
 }
-
-#[cfg(test)]
-mod tests;

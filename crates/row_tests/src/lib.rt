@@ -1,0 +1,5 @@
+//! Tests of rows whose memory is refused.
+#![tactic(auto)]
+
+#[cfg(test)]
+mod tests;
