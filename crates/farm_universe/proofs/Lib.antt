@@ -4,3 +4,5 @@ pub mod FitLaws
 pub mod ArchiveLaws
 pub mod FarmLaws
 pub mod KeptLaws
+pub mod PlaceLaws
+pub mod SizeLaws

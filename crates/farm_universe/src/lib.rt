@@ -13,6 +13,7 @@ pub mod limits;
 mod packages;
 mod paragraph;
 mod reduction;
+pub mod relations;
 mod table;
 #[cfg(test)]
 mod tests;

@@ -1,5 +1,4 @@
 pub mod SetLaws
-pub mod SizeLaws
 pub mod Picks
 pub mod Configures
 pub mod Bases

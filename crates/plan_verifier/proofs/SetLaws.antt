@@ -26,11 +26,6 @@ every_of (suc n) set p =
     sym (both (set n) (p n) (every_below n (λ b. not (set b) || p b))
     (some_below n (λ b. set b && not (p b))) (sym (every_of n set p)))
 
--- what is no name has no variants
-pub no_variants : (u : Universe) (name : ℕ) → names u ≤ name → variants u name ≡ 0
-unfolding names variants
-no_variants u name past = ap length (get_or_past u.packages name [] past)
-
 pub not_same : (a b : ℕ) → (a ≡ b → ⊥) → (a == b) ≡ false
 not_same a b ne =
     elim (cases_Bool (a == b)) [
@@ -45,14 +40,6 @@ has-single bit b =
       | inl same ↦ ap (λ k. bit_at (2 ^ bit) k == 1) same
           ∙ (ap (λ n. n == 1) (bit_at-pow_same bit) ∙ sym (eq-eqb b bit same))
       | inr other ↦ ap (λ n. n == 1) (bit_at-pow_other bit b other) ∙ sym (not_same b bit other)
-    ]
-
--- a known variant has a name of the universe
-pub named : (u : Universe) (name bit : ℕ) → bit < variants u name → name < names u
-named u name bit lt =
-    elim (cases_lt name (names u)) [
-      | inl there ↦ there
-      | inr past ↦ let none = no_variants u name past in absurd (omega arith)
     ]
 
 pub configured-single : (word bit : ℕ) → word ≡ 2 ^ bit

@@ -13,9 +13,9 @@ ghost use Rattle.plan_verifier.specs.Map.{slot_of, held_at, may_of};
 use crate::map::MayMap;
 use crate::met::{misses, misses_with};
 use crate::names::{NameTest, some_name};
-use crate::relations::BreakersOf;
-use crate::sets::{VariantTest, may_hold};
+use crate::sets::may_hold;
 use crate::space::may_exceed;
+use farm_universe::relations::{BreakersOf, VariantTest};
 use farm_universe::{Trap, Universe, Variant};
 use plan_asm::Lane;
 

@@ -10,7 +10,6 @@ mod met;
 mod names;
 mod pick;
 mod refusal;
-mod relations;
 mod sets;
 mod space;
 mod texts;

@@ -10,10 +10,10 @@ ghost use Rattle.farm_model.specs.Packages.{word_has};
 
 use crate::map::{Held, MayMap};
 use crate::names::{NameTest, some_name};
-use crate::relations::{SatisfiesAtom, SatisfiesEntry};
 use crate::sets::{all_of, is_some_of, surely_configured, surely_holds};
 use deb_relation::{Entry, Relations};
 use farm_universe::Universe;
+use farm_universe::relations::{SatisfiesAtom, SatisfiesEntry};
 
 /// The names that surely meet an entry.
 #[derive(Drop)]

@@ -12,22 +12,11 @@ ghost use Rattle.plan_verifier.specs.Map.{slot_of};
 ghost use Rattle.farm_model.specs.Packages.{word_has};
 
 use crate::map::Held;
+use farm_universe::relations::VariantTest;
 use farm_universe::{Universe, Variant};
 
-/// A test of the variants of a universe.
-pub trait VariantTest {
-    ghost fits: { Universe → Self → Type 0 } = { λ _ _. Unit {0} };
-
-    ghost test: { Universe → Self → Variant → Bool };
-
-    fn passes(&self, universe: &Universe, variant: Variant) -> bool
-        requires fits { fits universe.now self.now }
-        requires known { IsKnown universe.now variant }
-        ensures { result ≡ test universe.now self.now variant };
-}
-
 /// How many variants a name has: none where the universe does not have the name.
-#[tactic(auto, using(crate::proofs::SetLaws::no_variants))]
+#[tactic(auto, using(farm_universe::proofs::PlaceLaws::no_variants))]
 pub fn variant_count(universe: &Universe, name: u32) -> u32
     ensures number { result ≡ variants universe.now name }
     ensures few { result ≤ 64 }

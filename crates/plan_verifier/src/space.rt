@@ -13,7 +13,7 @@ use farm_universe::limits::MOST_SIZE;
 use farm_universe::{Universe, Variant};
 
 /// The size of a variant, where it is in the set, or 0.
-#[tactic(auto, using(crate::proofs::SizeLaws::size_small))]
+#[tactic(auto, using(farm_universe::proofs::SizeLaws::size_small))]
 fn size_in(universe: &Universe, name: u32, set: u64, bit: u32) -> u64
     requires known { bit < variants universe.now name }
     requires within { bit < 64 }

@@ -14,10 +14,10 @@ ghost use Rattle.farm_model.specs.Packages.{word_has};
 use crate::map::MayMap;
 use crate::met::misses_ahead;
 use crate::names::{NameTest, some_name};
-use crate::relations::{ConflictsWith, IsBrokenBy};
-use crate::sets::{VariantTest, may_hold, may_hold_configured, some_of};
+use crate::sets::{may_hold, may_hold_configured, some_of};
 use crate::space::{greatest_size, may_exceed, may_use};
 use farm_universe::limits::MOST_SIZE;
+use farm_universe::relations::{ConflictsWith, IsBrokenBy, VariantTest};
 use farm_universe::{Trap, Universe, Variant};
 use plan_asm::Lane;
 

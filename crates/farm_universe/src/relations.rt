@@ -1,15 +1,29 @@
 //! Which variants satisfy an entry, and how two of them exclude each other (Debian Policy 7).
 
-ghost use Rattle.std.specs.Prelude.{◌≡◌};
+ghost use Rattle.std.specs.Prelude.{◌≡◌, Bool};
 ghost use Rattle.std.specs.List.{list_any};
 ghost use Rattle.deb_relation.specs.Satisfaction.{satisfies as package_satisfies};
 ghost use Rattle.deb_relation.specs.View.{facts_of};
 ghost use Rattle.farm_model.specs.Packages as packages;
+ghost use Rattle.farm_model.specs.declared.types.Variant.{Variant};
 ghost use Rattle.farm_model.specs.Sound.{IsKnown};
+ghost use Rattle.farm_model.specs.Universe.{Universe};
 
-use crate::sets::VariantTest;
+use crate::universe::Universe;
 use deb_relation::{Atom, Entry, Facts, Relations, satisfies};
-use farm_universe::{Universe, Variant};
+use farm_model::Variant;
+
+/// A test of the variants of a universe.
+pub trait VariantTest {
+    ghost fits: { Universe → Self → Type 0 } = { λ _ _. Unit {0} };
+
+    ghost test: { Universe → Self → Variant → Bool };
+
+    fn passes(&self, universe: &Universe, variant: Variant) -> bool
+        requires fits { fits universe.now self.now }
+        requires known { IsKnown universe.now variant }
+        ensures { result ≡ test universe.now self.now variant };
+}
 
 /// What relations see of a variant.
 fn facts(universe: &Universe, variant: Variant) -> Facts<'_>

@@ -1,6 +1,6 @@
 use Rattle.farm_model.specs.Packages.{facts}
-use Rattle.plan_verifier.proofs.SetLaws.{named}
-use Rattle.plan_verifier.proofs.relations.facts.Goals as goal
+use Rattle.farm_universe.proofs.PlaceLaws.{named}
+use Rattle.farm_universe.proofs.relations.facts.Goals as goal
 
 pub name_text-requires : goal.name_text-requires
 name_text-requires c = named c.args.universe.now c.args.variant.name c.args.variant.bit c.requires

@@ -2,9 +2,10 @@ use Rattle.std.proofs.Common.{ap, ◌∙◌}
 use Rattle.std.specs.List.{list_any}
 use Rattle.deb_relation.specs.Satisfaction.{satisfies as package_satisfies}
 use Rattle.farm_model.specs.Packages.{satisfies}
-use Rattle.plan_verifier.proofs.relations.satisfies_entry.Goals as goal
+use Rattle.farm_universe.proofs.relations.satisfies_any.Goals as goal
 
 pub returns : goal.returns
 unfolding satisfies
 returns c =
-    c.meets.ensures ∙ ap (λ f. list_any (package_satisfies f) c.args.entry.now) c.facts.ensures
+    c.meets_any.ensures
+    ∙ ap (λ f. list_any (λ e. list_any (package_satisfies f) e) c.args.entries.now) c.facts.ensures
