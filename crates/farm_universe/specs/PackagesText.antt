@@ -14,11 +14,11 @@ use Rattle.deb_text.specs.Groups.{distinct, sorted}
 use Rattle.deb_text.specs.Steps.{◌>>=◌, goods, item_fault}
 use Rattle.deb_stanza.specs.Stanza.{Paragraph, value_of}
 use Rattle.deb_version.specs.Grammar.{text_cmp}
-use Rattle.deb_relation.specs.declared.kind.Kind.TheVariants.{Need}
+use Rattle.deb_relation.specs.declared.kind.Kind.TheVariants.{Need, Clash, Provide}
 use Rattle.farm_universe.specs.declared.error.TheConstants.{TWICE, TOO_MANY_VARIANTS, OVER_LIMIT}
 use Rattle.farm_universe.specs.declared.files.TheConstants.{PACKAGES}
 use Rattle.farm_universe.specs.declared.limits.TheConstants.{MOST_NAMES, MOST_ENTRIES, MOST_VARIANTS}
-use Rattle.farm_universe.specs.Fields.{needed_at, name_at, version_text_at, size_at, relations_in, unread_at}
+use Rattle.farm_universe.specs.Fields.{needed_at, name_at, version_text_at, size_at, relations_in}
 use Rattle.farm_universe.specs.Told.{paragraphs_judged}
 use Rattle.farm_model.specs.Universe.{Package}
 
@@ -35,21 +35,21 @@ package_at p = do
   spelled ← needed_at p (codes "Version")
   version ← version_text_at spelled
   size ← size_at (value_of p (codes "Installed-Size"))
-  pre_depends ← unread_at (value_of p (codes "Pre-Depends"))
+  pre_depends ← relations_in Need (value_of p (codes "Pre-Depends"))
   depends ← relations_in Need (value_of p (codes "Depends"))
-  conflicts ← unread_at (value_of p (codes "Conflicts"))
-  breaks ← unread_at (value_of p (codes "Breaks"))
-  provides ← unread_at (value_of p (codes "Provides"))
+  conflicts ← relations_in Clash (value_of p (codes "Conflicts"))
+  breaks ← relations_in Clash (value_of p (codes "Breaks"))
+  provides ← relations_in Provide (value_of p (codes "Provides"))
   Ok (record {
     name = name;
     binary = record {
       version = version;
       size = size;
-      pre_depends = [];
+      pre_depends = pre_depends;
       depends = depends;
-      conflicts = [];
-      breaks = [];
-      provides = [];
+      conflicts = conflicts;
+      breaks = breaks;
+      provides = provides;
     };
   })
 

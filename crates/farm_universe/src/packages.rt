@@ -8,10 +8,10 @@ ghost use Rattle.farm_universe.specs.TableView.{listed_view};
 
 use crate::binary::{Package, PackageRelations};
 use crate::error::Refusal;
-use crate::fields::{read_name, read_relations, read_size, read_version, refuse_unread};
+use crate::fields::{read_name, read_relations, read_size, read_version};
 use crate::limits::MOST_SIZE;
 use crate::paragraph::Paragraph;
-use deb_relation::{Kind, Relations};
+use deb_relation::Kind;
 use std::alloc::Global;
 
 /// What a paragraph says.
@@ -30,17 +30,12 @@ pub fn read_package(alloc: Global, paragraph: &Paragraph) -> Result<Listed, Refu
     let name = read_name(alloc, paragraph.needed(b"Package")?)?;
     let version = read_version(alloc, paragraph.needed(b"Version")?)?;
     let size = read_size(paragraph.field(b"Installed-Size"))?;
-    refuse_unread(paragraph.field(b"Pre-Depends"))?;
-    let depends = read_relations(alloc, Kind::Need, paragraph.field(b"Depends"))?;
-    refuse_unread(paragraph.field(b"Conflicts"))?;
-    refuse_unread(paragraph.field(b"Breaks"))?;
-    refuse_unread(paragraph.field(b"Provides"))?;
     let relations = PackageRelations {
-        pre_depends: Relations::from_entries(Vec::new(alloc)),
-        depends,
-        conflicts: Relations::from_entries(Vec::new(alloc)),
-        breaks: Relations::from_entries(Vec::new(alloc)),
-        provides: Relations::from_entries(Vec::new(alloc)),
+        pre_depends: read_relations(alloc, Kind::Need, paragraph.field(b"Pre-Depends"))?,
+        depends: read_relations(alloc, Kind::Need, paragraph.field(b"Depends"))?,
+        conflicts: read_relations(alloc, Kind::Clash, paragraph.field(b"Conflicts"))?,
+        breaks: read_relations(alloc, Kind::Clash, paragraph.field(b"Breaks"))?,
+        provides: read_relations(alloc, Kind::Provide, paragraph.field(b"Provides"))?,
     };
     Ok(Listed {
         name,

@@ -94,9 +94,9 @@ impl Universe {
     /// The first fault, packages (file 1) before sources (2) before the farm (3), told at the
     /// first line of its paragraph. Of a text: 105 at line 0, 101 to 104 at the faulty line. Of a
     /// packages paragraph: 201, 121 of `Package`; 201, 111 to 114 of `Version`; 202 of
-    /// `Installed-Size`; 211 where `Pre-Depends` stands; 121, 122, 123, 125, 127 or 129 of
-    /// `Depends`; 211 where `Conflicts`, `Breaks` or `Provides` stands; then 203 for a version that
-    /// the name has, 204 for too many of them, 210 for too many names or relation entries. Of a
+    /// `Installed-Size`; 121 to 123 and 125 to 129 of `Pre-Depends`, `Depends`, `Conflicts`,
+    /// `Breaks` and `Provides`, in this order; then 203 for a version that the name has, 204 for too
+    /// many of them, 210 for too many names or relation entries. Of a
     /// sources paragraph: 211. Of the farm: 201 at line 0 where it has no paragraph; in the first
     /// 201, 131 of `Architecture-Names`, then of `Archive` 121, 122, 123, 125, 126, 127 or 128, and
     /// item by item 205 for one that names no variant and 203 for one that stands twice; in each

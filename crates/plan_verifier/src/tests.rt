@@ -164,8 +164,6 @@ fn refuse_texts(rt: &(impl Abort + Threads), alloc: Global, rows: &[([&str; 4], 
 const DEPENDS_TWICE: &str = "Package: libc6\nVersion: 2.40-1\n\n\
     Package: gcc\nVersion: 14-1\nDepends: libc6\nDepends: libgmp\n";
 
-const PRE_DEPENDS: &str = "\nPackage: gcc\nVersion: 14-1\nPre-Depends: libc6\n";
-
 const RECIPE: &str = "Architecture-Names: riscv64\n\nRecipe: gcc\nSource: gcc (= 14-1)\n";
 
 const NO_SUCH_CHROOT: &str = "plan 1\nlane a chroot none budget 1\nend\n";
@@ -177,7 +175,6 @@ fn passes_the_faults_of_each_text_through(rt: HostRuntime) {
     let rows = [
         ([" x: y", "", FARM, PLAN], 1, 1, 101),
         ([DEPENDS_TWICE, "", FARM, PLAN], 1, 7, 104),
-        ([PRE_DEPENDS, "", FARM, PLAN], 1, 2, 211),
         ([LIBC6, "x", FARM, PLAN], 2, 1, 102),
         ([LIBC6, "# s\nPackage: gcc\n", FARM, PLAN], 2, 2, 211),
         ([LIBC6, "", "", PLAN], 3, 0, 201),
