@@ -22,7 +22,7 @@ use Rattle.farm_universe.specs.FarmView.{AreWords}
 use Rattle.farm_universe.specs.FarmText.{refused_if, chroot_name, chroot_named, with_room, chroot_behind, chroot_at, bases_of, code_in, chroots_of}
 use Rattle.farm_universe.specs.ListText.{has_version, variant_of, find_variant, named_variant, variant_at, twice, with_bit, words_of}
 use Rattle.farm_model.specs.Packages.{variant, same, contains, has_bit}
-use Rattle.farm_universe.specs.PackagesText.{Table}
+use Rattle.farm_universe.specs.PackagesText.{PackageTable}
 use Rattle.farm_universe.specs.TableView.{IsFit, IsWithin}
 use Rattle.farm_model.specs.Universe.{Package, Base}
 use Rattle.farm_universe.proofs.ArchiveLaws.{length-words_of, words_of-push, get_or-words_of, bit_at-word_of}
@@ -32,7 +32,7 @@ use Rattle.farm_universe.proofs.ToldLaws.{steps-told, read_step-keeps}
 -- ---- a variant that is found is one of the table
 
 -- a variant of the table
-abbrev pub Known : Table → Variant → Type 0
+abbrev pub Known : PackageTable → Variant → Type 0
 Known table v =
     (v.name < length table.packages) × (v.bit < length (get_or table.packages v.name []))
 
@@ -41,7 +41,7 @@ in_some : {X Y : Type 0} (f : X → Y) (o : Option X) (y : Y) → option_map f o
 in_some f None y is = absurd cc
 in_some f (Some x) y is = (x, refl, cc)
 
-variant_of-known : (table : Table) (version : List ℕ) (at : Option ℕ) (v : Variant)
+variant_of-known : (table : PackageTable) (version : List ℕ) (at : Option ℕ) (v : Variant)
     → IsWithin table at → variant_of table version at ≡ Some v → Known table v
 variant_of-known table version None v within is = absurd cc
 variant_of-known table version (Some n) v within is =
@@ -55,14 +55,14 @@ variant_of-known table version (Some n) v within is =
     position-below [] b e = absurd cc
     position-below (w ∷ ws) b e = (position-Some (has_version version) (w ∷ ws) b w e).0
 
-find_variant-known : (table : Table) (name version : List ℕ) (v : Variant) → IsFit table
+find_variant-known : (table : PackageTable) (name version : List ℕ) (v : Variant) → IsFit table
     → find_variant table name version ≡ Some v → Known table v
 unfolding find_variant
 find_variant-known table name version v fit is =
     variant_of-known table version (place_in bytes_eq table.names name) v
     (within-place_in table name fit) is
 
-named_variant-known : (table : Table) (qualifier : Option (List ℕ)) (name : List ℕ)
+named_variant-known : (table : PackageTable) (qualifier : Option (List ℕ)) (name : List ℕ)
     (relation : Option (Op × List ℕ)) (v : Variant)
     → IsFit table → named_variant table qualifier name relation ≡ Some v → Known table v
 named_variant-known table (Some qualifier) name relation v fit is = absurd cc
@@ -74,7 +74,7 @@ ok-some : {X : Type 0} (o : Option X) (code : ℕ) (x : X) → ok_or o code ≡ 
 ok-some None code x is = absurd cc
 ok-some (Some y) code x is = let e : y ≡ x = cc in ap Some e
 
-pub variant_at-known : (table : Table) (entry : Entry) (v : Variant) → IsFit table
+pub variant_at-known : (table : PackageTable) (entry : Entry) (v : Variant) → IsFit table
     → variant_at table entry ≡ Ok v → Known table v
 unfolding variant_at
 variant_at-known table [] v fit is = absurd cc
@@ -103,7 +103,7 @@ add_variant-keeps n before v lt = rw (has_bit-words_of n before v lt) (by (conta
   by true = refl
   by false = ap Ok (sym (words_of-push n before v lt))
 
-pub steps-words_in : (table : Table) (entries : List Entry) → IsFit table
+pub steps-words_in : (table : PackageTable) (entries : List Entry) → IsFit table
     → steps (add_item table) (words_of (length table.names) []) entries ≡ words_in table entries
 unfolding words_in add_item
 steps-words_in table entries fit =
@@ -166,7 +166,7 @@ steps-chroots_of ps =
 
 -- ---- the words of a list have bits of the table's variants alone
 
-known-same : (table : Table) (v w : Variant) → same w v ≡ true → Known table w → Known table v
+known-same : (table : PackageTable) (v w : Variant) → same w v ≡ true → Known table w → Known table v
 unfolding same
 known-same table v w is known =
     let parts = and_parts (eqb w.name v.name) (eqb w.bit v.bit) is in
@@ -177,7 +177,7 @@ known-same table v w is known =
           (subst (λ b. b < length (get_or table.packages w.name [])) bit known.1),
     )
 
-contains-known : (table : Table) (entries : List Entry) (v : Variant) → IsFit table
+contains-known : (table : PackageTable) (entries : List Entry) (v : Variant) → IsFit table
     → contains (goods (variant_at table) entries) v ≡ true → Known table v
 contains-known table [] v fit is = absurd cc
 contains-known table (e ∷ es) v fit is =
@@ -197,7 +197,7 @@ has_bit-past : (words : List ℕ) (v : Variant) → length words ≤ v.name → 
 unfolding has_bit
 has_bit-past words v past = rw (get_or_past words v.name 0 past, bit_at-zero v.bit) refl
 
-words_of-known : (table : Table) (entries : List Entry) (v : Variant) → IsFit table
+words_of-known : (table : PackageTable) (entries : List Entry) (v : Variant) → IsFit table
     → has_bit (words_of (length table.names) (goods (variant_at table) entries)) v ≡ true
     → v.bit < length (get_or table.packages v.name [])
 words_of-known table entries v fit set = by (nat_lt v.name (length table.names)) refl where
@@ -216,14 +216,14 @@ words_of-known table entries v fit set = by (nat_lt v.name (length table.names))
         ltb-false v.name (length table.names) e,
       ))))
 
-AreWords-words_of : (table : Table) (entries : List Entry) → IsFit table
+AreWords-words_of : (table : PackageTable) (entries : List Entry) → IsFit table
     → AreWords table (words_of (length table.names) (goods (variant_at table) entries))
 AreWords-words_of table entries fit = record {
   paired = length-words_of (length table.names) (goods (variant_at table) entries);
   known = λ v set. words_of-known table entries v fit set;
 }
 
-pub AreWords-words_in : (table : Table) (entries : List Entry) (words : List ℕ) → IsFit table
+pub AreWords-words_in : (table : PackageTable) (entries : List Entry) (words : List ℕ) → IsFit table
     → words_in table entries ≡ Ok words → AreWords table words
 unfolding words_in judged
 AreWords-words_in table entries words fit is =
@@ -237,6 +237,6 @@ AreWords-words_in table entries words fit is =
         let made : words_of (length table.names) (goods (variant_at table) entries) ≡ words = cc in
         subst (AreWords table) made (AreWords-words_of table entries fit)
 
-pub AreWords-none : (table : Table) → IsFit table
+pub AreWords-none : (table : PackageTable) → IsFit table
     → AreWords table (words_of (length table.names) [])
 AreWords-none table fit = AreWords-words_of table [] fit

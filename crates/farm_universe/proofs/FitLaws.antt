@@ -15,8 +15,9 @@ use Rattle.deb_text.proofs.PlaceLaws.{position-any}
 use Rattle.deb_version.specs.Grammar.{text_cmp}
 use Rattle.deb_version.specs.OrderLaws.{text_cmp_total}
 use Rattle.farm_universe.specs.declared.limits.TheConstants.{MOST_NAMES, MOST_ENTRIES, MOST_VARIANTS, MOST_SIZE}
-use Rattle.farm_universe.specs.PackagesText.{Listed, Table, is_below, is_same, is_over, entry_count, first_code}
-use Rattle.farm_universe.specs.TableSteps.{given_at, put_at, code_at}
+use Rattle.farm_universe.specs.Keyed.{group_at}
+use Rattle.farm_universe.specs.PackagesText.{Listed, PackageTable, is_below, is_same, is_over, entry_count, first_code}
+use Rattle.farm_universe.specs.TableSteps.{put_at, code_at}
 use Rattle.farm_universe.specs.TableView.{Rises, IsOrderly, IsFit, IsWithin}
 use Rattle.farm_model.specs.Universe.{Package}
 
@@ -137,15 +138,15 @@ no_code false false true x y z e = absurd cc
 no_code false false false x y z e = (refl, refl, refl)
 
 -- what is known where no rule holds
-rules_fail : (table : Table) (at : Option ℕ) (p : Listed) → code_at table at p ≡ None
-    → (list_any (is_same p.binary) (given_at table at) ≡ false)
-    × (length (given_at table at) < MOST_VARIANTS)
+rules_fail : (table : PackageTable) (at : Option ℕ) (p : Listed) → code_at table at p ≡ None
+    → (list_any (is_same p.binary) (group_at table.packages at) ≡ false)
+    × (length (group_at table.packages at) < MOST_VARIANTS)
     × (length (put_at table at p).names ≤ MOST_NAMES) × ((put_at table at p).entries ≤ MOST_ENTRIES)
 unfolding code_at
 rules_fail table at p none =
     let parts =
-    no_code (list_any (is_same p.binary) (given_at table at))
-    (nat_le MOST_VARIANTS (length (given_at table at)))
+    no_code (list_any (is_same p.binary) (group_at table.packages at))
+    (nat_le MOST_VARIANTS (length (group_at table.packages at)))
     (is_over (put_at table at p)) _ _ _ none in
     let over =
     or_parts (nat_lt MOST_NAMES (length (put_at table at p).names))
@@ -153,12 +154,12 @@ rules_fail table at p none =
     (parts.0, leb-false _ _ parts.1, ltb-false _ _ over.0, ltb-false _ _ over.1)
 
 -- there is room for its entries
-pub room : (table : Table) (at : Option ℕ) (p : Listed) → code_at table at p ≡ None
+pub room : (table : PackageTable) (at : Option ℕ) (p : Listed) → code_at table at p ≡ None
     → table.entries + entry_count p.binary ≤ MOST_ENTRIES
 room table None p none = (rules_fail table None p none).3
 room table (Some i) p none = (rules_fail table (Some i) p none).3
 
-IsFit-put_at : (table : Table) (at : Option ℕ) (p : Listed)
+IsFit-put_at : (table : PackageTable) (at : Option ℕ) (p : Listed)
     → at ≡ place_in bytes_eq table.names p.name → IsWithin table at → IsFit table
     → code_at table at p ≡ None → p.binary.size ≤ MOST_SIZE → IsFit (put_at table at p)
 IsFit-put_at table None p is within fit none small =
@@ -204,7 +205,7 @@ position_or_len-within p (x ∷ xs) there =
     (position-Some p (x ∷ xs) (position_or_len p (x ∷ xs)) x is).0
 
 -- the place of a name is a number of the table
-pub within-place_in : (table : Table) (name : List ℕ) → IsFit table
+pub within-place_in : (table : PackageTable) (name : List ℕ) → IsFit table
     → IsWithin table (place_in bytes_eq table.names name)
 within-place_in table name fit = by (list_any (bytes_eq name) table.names) refl where
   by : (b : Bool) → list_any (bytes_eq name) table.names ≡ b
@@ -213,7 +214,7 @@ within-place_in table name fit = by (list_any (bytes_eq name) table.names) refl 
   by false e = tt
 
 -- a package that no rule refuses keeps it
-pub IsFit-put : (table : Table) (at : Option ℕ) (p : Listed)
+pub IsFit-put : (table : PackageTable) (at : Option ℕ) (p : Listed)
     → at ≡ place_in bytes_eq table.names p.name → IsFit table → code_at table at p ≡ None
     → p.binary.size ≤ MOST_SIZE → IsFit (put_at table at p)
 IsFit-put table at p is fit none small =

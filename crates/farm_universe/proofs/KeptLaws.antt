@@ -18,7 +18,7 @@ use Rattle.farm_universe.specs.FarmText.{Farm}
 use Rattle.farm_universe.specs.FarmView.{IsEmptyBase, AreBases, AreWords}
 use Rattle.farm_universe.specs.Kept.{IsKept}
 use Rattle.farm_model.specs.Packages.{variant, names, variants, no_package, package_of, recipe, outputs, base, no_base, initial, conflict, breaks}
-use Rattle.farm_universe.specs.PackagesText.{Table, is_below}
+use Rattle.farm_universe.specs.PackagesText.{PackageTable, is_below}
 use Rattle.farm_model.specs.Sound.{IsKnown, some_two, IsSettledBase}
 use Rattle.farm_universe.specs.TableView.{Rises, IsOrderly, IsFit}
 use Rattle.farm_model.specs.Universe.{Package, Base, Universe}
@@ -160,7 +160,7 @@ empty_base bases b empty = by (nat_lt b (length bases)) refl where
   by true e = (All-get_or IsEmptyBase bases b no_base (ltb-true _ _ e) empty).empty
   by false e = ap (λ (base : Base). base.packages) (get_or_past bases b no_base (ltb-false _ _ e))
 
-module _ (table : Table) (farm : Farm) (fit : IsFit table) (words : AreWords table farm.initial)
+module _ (table : PackageTable) (farm : Farm) (fit : IsFit table) (words : AreWords table farm.initial)
     (are : AreBases farm.bases) where
   abbrev u : Universe
   u = universe_with table farm

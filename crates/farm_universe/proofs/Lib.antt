@@ -1,5 +1,7 @@
 pub mod ToldLaws
+pub mod KeyedLaws
 pub mod TableLaws
+pub mod SourceLaws
 pub mod FitLaws
 pub mod ArchiveLaws
 pub mod FarmLaws

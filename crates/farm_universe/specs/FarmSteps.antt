@@ -13,7 +13,7 @@ use Rattle.farm_model.specs.declared.types.Variant.{Variant}
 use Rattle.farm_universe.specs.FarmText.{chroot_at}
 use Rattle.farm_universe.specs.ListText.{variant_at, twice, with_bit, words_of}
 use Rattle.farm_model.specs.Packages.{has_bit}
-use Rattle.farm_universe.specs.PackagesText.{Table}
+use Rattle.farm_universe.specs.PackagesText.{PackageTable}
 use Rattle.farm_universe.specs.Told.{told}
 use Rattle.farm_model.specs.Universe.{Base}
 
@@ -24,7 +24,7 @@ add_variant words v =
     else Ok (set words v.name (with_bit (get_or words v.name 0) v.bit))
 
 -- the words after an item of a list, or the code of its fault
-unfoldable pub add_item : Table → List ℕ → Entry → Result (List ℕ) ℕ
+unfoldable pub add_item : PackageTable → List ℕ → Entry → Result (List ℕ) ℕ
 add_item table words entry = read_step (variant_at table) add_variant words entry
 
 -- the base chroots after a paragraph, or the code of its fault
@@ -36,7 +36,7 @@ abbrev pub tell_base : List Base → Paragraph → Result (List Base) Fault
 tell_base bases p = told FARM p (add_base bases p)
 
 -- the words of all items of a list
-unfoldable pub words_in : Table → List Entry → Result (List ℕ) ℕ
+unfoldable pub words_in : PackageTable → List Entry → Result (List ℕ) ℕ
 words_in table entries =
     judged (item_fault (variant_at table) twice)
     (λ items. words_of (length table.names) (goods (variant_at table) items)) entries

@@ -17,7 +17,7 @@ use Rattle.farm_universe.specs.declared.files.TheConstants.{FARM}
 use Rattle.farm_universe.specs.declared.limits.TheConstants.{MOST_BASES, MOST_CAPACITY}
 use Rattle.farm_universe.specs.Fields.{needed_at, name_at, number_up_to, unread_at}
 use Rattle.farm_universe.specs.ListText.{list_of, words_of}
-use Rattle.farm_universe.specs.PackagesText.{Table}
+use Rattle.farm_universe.specs.PackagesText.{PackageTable}
 use Rattle.farm_universe.specs.Told.{told, paragraphs_judged}
 use Rattle.farm_model.specs.Universe.{Base}
 
@@ -29,12 +29,12 @@ pub record Head : Type 0 where
   pub initial : List ℕ
 
 -- the initial archive; absent: an empty one
-abbrev pub archive_at : Table → Option (List ℕ) → Result (List ℕ) ℕ
+abbrev pub archive_at : PackageTable → Option (List ℕ) → Result (List ℕ) ℕ
 archive_at table None = Ok (words_of (length table.names) [])
 archive_at table (Some text) = list_of (words_of (length table.names)) table text
 
 -- the fields in the order in which they are looked at
-unfoldable pub head_at : Table → Paragraph → Result Head ℕ
+unfoldable pub head_at : PackageTable → Paragraph → Result Head ℕ
 head_at table p = do
   spelled ← needed_at p (codes "Architecture-Names")
   architectures ← words_at spelled
@@ -107,7 +107,7 @@ farm_with head bases =
     record { architectures = head.architectures; initial = head.initial; bases = bases }
 
 -- a farm text without a paragraph is refused at line 0
-abbrev pub farm_of : Table → List Paragraph → Result Farm Fault
+abbrev pub farm_of : PackageTable → List Paragraph → Result Farm Fault
 farm_of table [] = Err (fault_at FARM 0 ABSENT)
 farm_of table (p ∷ ps) =
     told FARM p (head_at table p) >>= λ head. chroots_of ps >>= λ bases. Ok (farm_with head bases)

@@ -6,7 +6,7 @@ use Rattle.farm_universe.specs.declared.farm.Farm.{Farm}
 use Rattle.farm_universe.specs.declared.farm.Head.{Head}
 use Rattle.farm_universe.specs.FarmText as text
 use Rattle.farm_model.specs.Packages.{has_bit}
-use Rattle.farm_universe.specs.PackagesText.{Table}
+use Rattle.farm_universe.specs.PackagesText.{PackageTable}
 use Rattle.farm_model.specs.Universe.{Base}
 
 -- a base chroot without packages
@@ -20,12 +20,12 @@ pub record AreBases (bases : List Base) : Type 0 where
   pub empty : All IsEmptyBase bases
 
 -- a name of the table, and a bit of a word
-pub record IsPlace (table : Table) (v : Variant) : Type 0 where
+pub record IsPlace (table : PackageTable) (v : Variant) : Type 0 where
   pub name : v.name < length table.names
   pub bit : v.bit < 64
 
 -- a word for each name of the table, with bits of its variants alone
-pub record AreWords (table : Table) (words : List ℕ) : Type 0 where
+pub record AreWords (table : PackageTable) (words : List ℕ) : Type 0 where
   pub paired : length words ≡ length table.names
   pub known : (v : Variant) → has_bit words v ≡ true
       → v.bit < length (get_or table.packages v.name [])

@@ -1,6 +1,10 @@
 pub mod Fields
 pub mod Told
+pub mod Keyed
 pub mod PackagesText
+pub mod SourcesText
+pub mod SourceSteps
+pub mod SourceView
 pub mod View
 pub mod TableSteps
 pub mod TableView

@@ -21,7 +21,7 @@ use Rattle.deb_relation.specs.Relations.{Entry}
 use Rattle.farm_universe.specs.declared.error.TheConstants.{TWICE, UNKNOWN_VARIANT}
 use Rattle.farm_model.specs.declared.types.Variant.{Variant}
 use Rattle.farm_model.specs.Packages.{variant, contains}
-use Rattle.farm_universe.specs.PackagesText.{Table}
+use Rattle.farm_universe.specs.PackagesText.{PackageTable}
 use Rattle.farm_model.specs.Universe.{Package}
 
 -- the package has this version, however it is written (Policy 5.6.12)
@@ -29,23 +29,23 @@ abbrev pub has_version : List ℕ → Package → Bool
 has_version version v = is_eq (text_cmp version v.version)
 
 -- the variant of the name with this number
-abbrev pub variant_of : Table → List ℕ → Option ℕ → Option Variant
+abbrev pub variant_of : PackageTable → List ℕ → Option ℕ → Option Variant
 variant_of table version None = None
 variant_of table version (Some n) =
     option_map (variant n) (position (has_version version) (get_or table.packages n []))
 
 -- the variant of a name with this version
-unfoldable pub find_variant : Table → List ℕ → List ℕ → Option Variant
+unfoldable pub find_variant : PackageTable → List ℕ → List ℕ → Option Variant
 find_variant table name version = variant_of table version (place_in bytes_eq table.names name)
 
 -- with a version and without a qualifier
-abbrev pub named_variant : Table → Option (List ℕ) → List ℕ → Option (Op × List ℕ) → Option Variant
+abbrev pub named_variant : PackageTable → Option (List ℕ) → List ℕ → Option (Op × List ℕ) → Option Variant
 named_variant table (Some qualifier) name relation = None
 named_variant table None name None = None
 named_variant table None name (Some relation) = find_variant table name relation.1
 
 -- an item has one alternative, since no list of variants has a bar
-unfoldable pub variant_at : Table → Entry → Result Variant ℕ
+unfoldable pub variant_at : PackageTable → Entry → Result Variant ℕ
 variant_at table [] = Err UNKNOWN_VARIANT
 variant_at table (a ∷ []) =
     ok_or (named_variant table a.qualifier a.name a.relation) UNKNOWN_VARIANT
@@ -56,7 +56,7 @@ abbrev pub twice : List Variant → Variant → Option ℕ
 twice before v = if contains before v then Some TWICE else None
 
 -- the faults of the field first, then item by item
-unfoldable pub list_of : {A : Type 0} → (List Variant → A) → Table → List ℕ → Result A ℕ
+unfoldable pub list_of : {A : Type 0} → (List Variant → A) → PackageTable → List ℕ → Result A ℕ
 list_of made table text =
     relations_at Provide text
     >>= judged (item_fault (variant_at table) twice)

@@ -57,7 +57,7 @@ package_at p = do
 
 -- the names, and for each its packages from the lowest version up, their relations as they were
 -- read
-pub record Table : Type 0 where
+pub record PackageTable : Type 0 where
   pub names : List (List ℕ)
   pub packages : List (List Package)
   -- the relation entries of all packages
@@ -91,7 +91,7 @@ abbrev pub entries_of : List Listed → ℕ
 entries_of ps = sum (map (λ p. entry_count p.binary) ps)
 
 -- the names by number, and the packages of each by version
-abbrev pub table_of : List Listed → Table
+abbrev pub table_of : List Listed → PackageTable
 table_of ps = record {
   names = names_of ps;
   packages = map (packages_named ps) (names_of ps);
@@ -106,11 +106,11 @@ first_code [] = None
 first_code (rule ∷ rules) = if rule.0 then Some rule.1 else first_code rules
 
 -- more names or relation entries than the limits allow
-abbrev pub is_over : Table → Bool
+abbrev pub is_over : PackageTable → Bool
 is_over table = nat_lt MOST_NAMES (length table.names) || nat_lt MOST_ENTRIES table.entries
 
 -- the packages of its name before it, and the table with it
-abbrev pub rules_of : Package → List Package → Table → List (Bool × ℕ)
+abbrev pub rules_of : Package → List Package → PackageTable → List (Bool × ℕ)
 rules_of v given table =
     (list_any (is_same v) given, TWICE)
     ∷ (nat_le MOST_VARIANTS (length given), TOO_MANY_VARIANTS)
@@ -122,7 +122,7 @@ package_fault before p =
     first_code (rules_of p.binary (packages_named before p.name) (table_of (before ++ p ∷ [])))
 
 -- what the paragraphs of the packages text say, or the first fault
-unfoldable pub packages_of : List Paragraph → Result Table Fault
+unfoldable pub packages_of : List Paragraph → Result PackageTable Fault
 packages_of ps =
     paragraphs_judged PACKAGES (item_fault package_at package_fault)
     (λ qs. table_of (goods package_at qs)) ps

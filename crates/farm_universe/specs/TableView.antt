@@ -6,7 +6,7 @@ use Rattle.deb_text.specs.Groups.{AllDistinct}
 use Rattle.deb_text.specs.Lists.{lists}
 use Rattle.farm_universe.specs.declared.limits.TheConstants.{MOST_NAMES, MOST_ENTRIES, MOST_VARIANTS, MOST_SIZE}
 use Rattle.farm_universe.specs.declared.packages.Listed.{Listed}
-use Rattle.farm_universe.specs.declared.table.Table.{Table}
+use Rattle.farm_universe.specs.declared.package_table.PackageTable.{PackageTable}
 use Rattle.farm_universe.specs.PackagesText as text
 use Rattle.farm_model.specs.Universe.{Package}
 
@@ -15,7 +15,7 @@ abbrev pub listed_view : Listed → text.Listed
 listed_view listed = record { name = listed.name.items; binary = listed.binary }
 
 -- what the table says
-abbrev pub table_view : Table → text.Table
+abbrev pub table_view : PackageTable → text.PackageTable
 table_view table = record {
   names = lists table.names.keys;
   packages = lists table.packages.items;
@@ -34,7 +34,7 @@ pub record IsOrderly (vs : List Package) : Type 0 where
   pub small : All (λ v. v.size ≤ MOST_SIZE) vs
 
 -- what is true of every table
-pub record IsFit (table : text.Table) : Type 0 where
+pub record IsFit (table : text.PackageTable) : Type 0 where
   pub paired : length table.names ≡ length table.packages
   pub few_names : length table.names ≤ MOST_NAMES
   pub few_entries : table.entries ≤ MOST_ENTRIES
@@ -42,5 +42,5 @@ pub record IsFit (table : text.Table) : Type 0 where
   pub orderly : All IsOrderly table.packages
 
 -- a number of a name of the table, if there is one
-abbrev pub IsWithin : text.Table → Option ℕ → Type 0
+abbrev pub IsWithin : text.PackageTable → Option ℕ → Type 0
 IsWithin table at = MatchOption at (Unit {0}) (λ i. i < length table.packages)

@@ -9,21 +9,16 @@ use Rattle.deb_text.specs.Steps.{◌>>=◌}
 use Rattle.deb_stanza.specs.Stanza.{Paragraph, paragraphs_at}
 use Rattle.deb_profile.specs.Reduction.{reduced}
 use Rattle.deb_relation.specs.Relations.{Relations}
-use Rattle.farm_universe.specs.declared.error.TheConstants.{UNREAD}
 use Rattle.farm_universe.specs.declared.files.TheConstants.{PACKAGES, SOURCES, FARM}
 use Rattle.farm_universe.specs.FarmText.{Farm, farm_of}
-use Rattle.farm_universe.specs.PackagesText.{Table, packages_of}
+use Rattle.farm_universe.specs.PackagesText.{PackageTable, packages_of}
+use Rattle.farm_universe.specs.SourcesText.{SourceTable, sources_of}
 use Rattle.farm_universe.specs.Told.{in_file}
 use Rattle.farm_model.specs.Universe.{Package, Universe}
 
 -- the paragraphs of a text, or its first fault
 unfoldable pub paragraphs_in : ℕ → List ℕ → Result (List Paragraph) Fault
 paragraphs_in file text = in_file file (paragraphs_at text)
-
--- sources are not read yet
-abbrev pub sources_of : List Paragraph → Result (Unit {0}) Fault
-sources_of [] = Ok tt
-sources_of (p ∷ ps) = Err (fault_at SOURCES p.line UNREAD)
 
 -- a relation field, reduced by the names of the architecture and by no profile (Debian Policy 7.1)
 unfoldable pub reduced_field : List (List ℕ) → Relations → Relations
@@ -42,7 +37,7 @@ reduced_package architectures v = record {
 }
 
 -- the universe of a table and a farm; recipes are not read yet
-abbrev pub universe_with : Table → Farm → Universe
+abbrev pub universe_with : PackageTable → Farm → Universe
 universe_with table farm = record {
   names = table.names;
   packages = map (map (reduced_package farm.architectures)) table.packages;
@@ -53,21 +48,21 @@ universe_with table farm = record {
 }
 
 -- what the packages text says
-unfoldable pub table_at : List ℕ → Result Table Fault
+unfoldable pub table_at : List ℕ → Result PackageTable Fault
 table_at packages = paragraphs_in PACKAGES packages >>= packages_of
 
 -- what the sources text says
-unfoldable pub sources_at : List ℕ → Result (Unit {0}) Fault
+unfoldable pub sources_at : List ℕ → Result SourceTable Fault
 sources_at sources = paragraphs_in SOURCES sources >>= sources_of
 
 -- what the farm text says
-unfoldable pub farm_at : Table → List ℕ → Result Farm Fault
+unfoldable pub farm_at : PackageTable → List ℕ → Result Farm Fault
 farm_at table farm = paragraphs_in FARM farm >>= farm_of table
 
 -- what the three texts say together, or the first fault of the first that has one
 unfoldable pub universe_of : List ℕ → List ℕ → List ℕ → Result Universe Fault
 universe_of packages sources farm = do
   table ← table_at packages
-  read ← sources_at sources
+  listed ← sources_at sources
   described ← farm_at table farm
   Ok (universe_with table described)

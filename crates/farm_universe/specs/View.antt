@@ -1,8 +1,8 @@
 -- What the types of the crate stand for.
 use Rattle.std.specs.Prelude.{ℕ, Option}
 use Rattle.deb_text.specs.Answers.{refusal_code}
-use Rattle.farm_universe.specs.declared.error.Refusal.{Refusal}
+use Rattle.farm_universe.specs.declared.error.FieldFault.{FieldFault}
 
 -- the code of a refusal, unless memory ran out
-abbrev pub refusal_of : Refusal → Option ℕ
+abbrev pub refusal_of : FieldFault → Option ℕ
 refusal_of refusal = refusal_code refusal.code

@@ -12,8 +12,8 @@ ghost use Rattle.farm_universe.specs.TableView.{table_view, IsFit};
 ghost use Rattle.farm_universe.specs.View.{refusal_of};
 
 use crate::binary::Package;
-use crate::error::{Refusal, TWICE, UNKNOWN_VARIANT};
-use crate::table::{Table, packages_at, place_of};
+use crate::error::{FieldFault, TWICE, UNKNOWN_VARIANT};
+use crate::package_table::{PackageTable, packages_at, place_of};
 use deb_relation::{Entry, Kind, Relations};
 use deb_version::Version;
 use farm_model::Variant;
@@ -37,7 +37,7 @@ fn bit_of(packages: &[Package], version: &Version) -> Option<usize>
 
 /// The variant of a name with this version.
 #[tactic(auto, unfolding(crate::specs::ListText::find_variant))]
-fn find_variant(table: &Table, name: &[u8], version: &Version) -> Option<Variant>
+fn find_variant(table: &PackageTable, name: &[u8], version: &Version) -> Option<Variant>
     requires fit { IsFit (table_view table.now) }
     ensures found { result ≡ find_variant (table_view table.now) name.now version.now }
     ensures place { IfSome result (IsPlace (table_view table.now)) }
@@ -52,29 +52,29 @@ fn find_variant(table: &Table, name: &[u8], version: &Version) -> Option<Variant
 
 /// The variant that an item of a list names.
 #[tactic(auto, unfolding(crate::specs::ListText::variant_at))]
-fn read_variant(table: &Table, entry: &Entry) -> Result<Variant, Refusal>
+fn read_variant(table: &PackageTable, entry: &Entry) -> Result<Variant, FieldFault>
     requires fit { IsFit (table_view table.now) }
     ensures read { Gives refusal_of (λ v. v) result (variant_at (table_view table.now) entry.now) }
     ensures place { IfOk result (IsPlace (table_view table.now)) }
 {
     let [atom] = entry.alternatives() else {
-        return Err(Refusal {
+        return Err(FieldFault {
             code: UNKNOWN_VARIANT,
         });
     };
     if atom.qualifier.is_some() {
-        return Err(Refusal {
+        return Err(FieldFault {
             code: UNKNOWN_VARIANT,
         });
     }
     let Some((_, version)) = &atom.relation else {
-        return Err(Refusal {
+        return Err(FieldFault {
             code: UNKNOWN_VARIANT,
         });
     };
     match find_variant(table, &atom.name, version) {
         Some(variant) => Ok(variant),
-        None => Err(Refusal {
+        None => Err(FieldFault {
             code: UNKNOWN_VARIANT,
         }),
     }
@@ -100,7 +100,7 @@ fn set_bit(words: &mut Vec<u64>, variant: Variant)
 
 /// Goes on by an item of a list.
 #[tactic(auto, unfolding(crate::specs::FarmSteps::add_item, crate::specs::FarmSteps::add_variant))]
-fn add_item(table: &Table, words: &mut Vec<u64>, entry: &Entry) -> Result<(), Refusal>
+fn add_item(table: &PackageTable, words: &mut Vec<u64>, entry: &Entry) -> Result<(), FieldFault>
     requires fit { IsFit (table_view table.now) }
     requires words { length words.old.items ≡ length (table_view table.now).names }
     ensures read { Gives refusal_of (λ _. words.new.items) result
@@ -109,14 +109,18 @@ fn add_item(table: &Table, words: &mut Vec<u64>, entry: &Entry) -> Result<(), Re
 {
     let variant = read_variant(table, entry)?;
     if has_bit(words, variant) {
-        return Err(Refusal { code: TWICE });
+        return Err(FieldFault { code: TWICE });
     }
     set_bit(words, variant);
     Ok(())
 }
 
 /// Goes on by all items of a list.
-fn add_items(table: &Table, words: &mut Vec<u64>, entries: &[Entry]) -> Result<(), Refusal>
+fn add_items(
+    table: &PackageTable,
+    words: &mut Vec<u64>,
+    entries: &[Entry],
+) -> Result<(), FieldFault>
     requires fit { IsFit (table_view table.now) }
     requires words { words.old.items ≡ words_of (length (table_view table.now).names) [] }
     ensures read { Gives refusal_of (λ _. words.new.items) result
@@ -130,7 +134,7 @@ fn add_items(table: &Table, words: &mut Vec<u64>, entries: &[Entry]) -> Result<(
 }
 
 /// A word without a bit for each name.
-fn empty_words(alloc: Global, table: &Table) -> Result<Vec<u64>, Refusal>
+fn empty_words(alloc: Global, table: &PackageTable) -> Result<Vec<u64>, FieldFault>
     ensures empty { IfOk result
         (λ words. words.items ≡ words_of (length (table_view table.now).names) []) }
     ensures memory { IfErr result (λ e. refusal_of e ≡ None) }
@@ -140,7 +144,7 @@ fn empty_words(alloc: Global, table: &Table) -> Result<Vec<u64>, Refusal>
 
 /// Reads a list of variants as words.
 #[tactic(auto, unfolding(crate::specs::ListText::list_of, crate::specs::FarmSteps::words_in))]
-fn read_words(alloc: Global, table: &Table, text: &[u8]) -> Result<Vec<u64>, Refusal>
+fn read_words(alloc: Global, table: &PackageTable, text: &[u8]) -> Result<Vec<u64>, FieldFault>
     requires fit { IsFit (table_view table.now) }
     ensures read { Gives refusal_of (λ words. words.items) result
         (list_of (words_of (length (table_view table.now).names)) (table_view table.now) text.now) }
@@ -153,7 +157,11 @@ fn read_words(alloc: Global, table: &Table, text: &[u8]) -> Result<Vec<u64>, Ref
 }
 
 /// Reads the initial archive.
-pub fn read_archive(alloc: Global, table: &Table, value: Option<&[u8]>) -> Result<Vec<u64>, Refusal>
+pub fn read_archive(
+    alloc: Global,
+    table: &PackageTable,
+    value: Option<&[u8]>,
+) -> Result<Vec<u64>, FieldFault>
     requires fit { IsFit (table_view table.now) }
     ensures read { Gives refusal_of (λ words. words.items) result
         (archive_at (table_view table.now) (option_map (λ v. v.now) value.entry)) }

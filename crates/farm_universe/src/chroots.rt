@@ -10,7 +10,7 @@ ghost use Rattle.farm_universe.specs.FarmView.{IsEmptyBase, AreBases};
 ghost use Rattle.farm_universe.specs.View.{refusal_of};
 
 use crate::base::Base;
-use crate::error::{OVER_LIMIT, Refusal, TWICE};
+use crate::error::{FieldFault, OVER_LIMIT, TWICE};
 use crate::fields::{read_name, read_number_up_to, refuse_unread};
 use crate::files::FARM;
 use crate::limits::{MOST_BASES, MOST_CAPACITY};
@@ -27,7 +27,7 @@ fn is_given(bases: &[Base], name: &[u8]) -> bool
 
 /// Reads a base chroot behind others.
 #[tactic(auto, unfolding(crate::specs::FarmText::chroot_at))]
-fn read_base(alloc: Global, bases: &[Base], paragraph: &Paragraph) -> Result<Base, Refusal>
+fn read_base(alloc: Global, bases: &[Base], paragraph: &Paragraph) -> Result<Base, FieldFault>
     ensures read { Gives refusal_of (λ base. base) result (chroot_at bases.now paragraph.now) }
     ensures empty { IfOk result IsEmptyBase }
     ensures room { OnOk result (length bases.now < MOST_BASES) }
@@ -35,19 +35,19 @@ fn read_base(alloc: Global, bases: &[Base], paragraph: &Paragraph) -> Result<Bas
     refuse_unread(paragraph.field(b"Recipe"))?;
     let name = read_name(alloc, paragraph.needed(b"Chroot")?)?;
     if is_given(bases, &name) {
-        return Err(Refusal { code: TWICE });
+        return Err(FieldFault { code: TWICE });
     }
     let capacity = read_number_up_to(MOST_CAPACITY, paragraph.needed(b"Capacity")?)?;
     refuse_unread(paragraph.field(b"Packages"))?;
     if bases.len() >= MOST_BASES {
-        return Err(Refusal { code: OVER_LIMIT });
+        return Err(FieldFault { code: OVER_LIMIT });
     }
     Ok(Base::new(name, capacity, Vec::new(alloc)))
 }
 
 /// Goes on by a paragraph.
 #[tactic(auto, unfolding(crate::specs::FarmSteps::add_base))]
-fn add_base(alloc: Global, bases: &mut Vec<Base>, paragraph: &Paragraph) -> Result<(), Refusal>
+fn add_base(alloc: Global, bases: &mut Vec<Base>, paragraph: &Paragraph) -> Result<(), FieldFault>
     requires { AreBases bases.old.items }
     ensures read { Gives refusal_of (λ _. bases.new.items) result
         (add_base bases.old.items paragraph.now) }

@@ -30,38 +30,38 @@ pub const UNREAD: u16 = 211;
 
 /// Why a paragraph is refused: the code of its fault, or that memory ran out.
 #[derive(Clone, Copy, Debug, PartialEq, Eq)]
-pub struct Refusal {
+pub struct FieldFault {
     pub code: u16,
 }
 
-impl From<AllocError> for Refusal {
+impl From<AllocError> for FieldFault {
     ghost from_gives = { λ _ refusal. refusal ≡ record { code = 900 } };
 
-    fn from(_error: AllocError) -> Refusal {
-        Refusal { code: MEMORY }
+    fn from(_error: AllocError) -> FieldFault {
+        FieldFault { code: MEMORY }
     }
 }
 
-impl<T: Drop> From<AllocFailed<T>> for Refusal {
+impl<T: Drop> From<AllocFailed<T>> for FieldFault {
     ghost from_gives = { λ _ refusal. refusal ≡ record { code = 900 } };
 
-    fn from(_error: AllocFailed<T>) -> Refusal {
-        Refusal { code: MEMORY }
+    fn from(_error: AllocFailed<T>) -> FieldFault {
+        FieldFault { code: MEMORY }
     }
 }
 
-impl From<VersionError> for Refusal {
+impl From<VersionError> for FieldFault {
     ghost from_gives = { λ error refusal. refusal ≡ record { code = error.code } };
 
-    fn from(error: VersionError) -> Refusal {
-        Refusal { code: error.code }
+    fn from(error: VersionError) -> FieldFault {
+        FieldFault { code: error.code }
     }
 }
 
-impl From<RelationError> for Refusal {
+impl From<RelationError> for FieldFault {
     ghost from_gives = { λ error refusal. refusal ≡ record { code = error.code } };
 
-    fn from(error: RelationError) -> Refusal {
-        Refusal { code: error.code }
+    fn from(error: RelationError) -> FieldFault {
+        FieldFault { code: error.code }
     }
 }

@@ -12,10 +12,10 @@ ghost use Rattle.farm_universe.specs.View.{refusal_of};
 use crate::archive::read_archive;
 use crate::base::Base;
 use crate::chroots::read_chroots;
-use crate::error::{ABSENT, Refusal};
+use crate::error::{ABSENT, FieldFault};
 use crate::files::FARM;
+use crate::package_table::PackageTable;
 use crate::paragraph::Paragraph;
-use crate::table::Table;
 use deb_profile::ArchNames;
 use deb_stanza::Paragraphs;
 use deb_text::Fault;
@@ -38,7 +38,7 @@ pub struct Farm {
 
 /// Reads the first paragraph.
 #[tactic(auto, unfolding(crate::specs::FarmText::head_at))]
-fn read_head(alloc: Global, table: &Table, paragraph: &Paragraph) -> Result<Head, Refusal>
+fn read_head(alloc: Global, table: &PackageTable, paragraph: &Paragraph) -> Result<Head, FieldFault>
     requires { IsFit (table_view table.now) }
     ensures read { Gives refusal_of head_view result
         (head_at (table_view table.now) paragraph.now) }
@@ -53,7 +53,7 @@ fn read_head(alloc: Global, table: &Table, paragraph: &Paragraph) -> Result<Head
 }
 
 /// Reads the first paragraph, and tells its fault at its line.
-fn tell_head(alloc: Global, table: &Table, paragraph: &Paragraph) -> Result<Head, Fault>
+fn tell_head(alloc: Global, table: &PackageTable, paragraph: &Paragraph) -> Result<Head, Fault>
     requires { IsFit (table_view table.now) }
     ensures read { Gives fault_of head_view result
         (told FARM paragraph.now (head_at (table_view table.now) paragraph.now)) }
@@ -66,7 +66,11 @@ fn tell_head(alloc: Global, table: &Table, paragraph: &Paragraph) -> Result<Head
 }
 
 /// Reads the paragraphs of the farm text.
-pub fn read_farm(alloc: Global, table: &Table, paragraphs: &Paragraphs) -> Result<Farm, Fault>
+pub fn read_farm(
+    alloc: Global,
+    table: &PackageTable,
+    paragraphs: &Paragraphs,
+) -> Result<Farm, Fault>
     requires { IsFit (table_view table.now) }
     ensures read { Gives fault_of farm_view result (farm_of (table_view table.now) paragraphs.now) }
     ensures words { IfOk result (λ farm. AreWords (table_view table.now) farm.initial.items) }

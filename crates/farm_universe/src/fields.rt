@@ -6,7 +6,7 @@ ghost use Rattle.deb_text.specs.Answers.{Gives};
 ghost use Rattle.farm_universe.specs.Fields.{name_at, version_text_at, number_up_to, size_at, relations_in, unread_at};
 ghost use Rattle.farm_universe.specs.View.{refusal_of};
 
-use crate::error::{BAD_NUMBER, Refusal, UNREAD};
+use crate::error::{BAD_NUMBER, FieldFault, UNREAD};
 use crate::limits::MOST_SIZE;
 use deb_relation::{BAD_NAME, Kind, Relations};
 use deb_text::{is_name, read_number};
@@ -14,40 +14,40 @@ use deb_version::Version;
 use std::alloc::Global;
 
 /// Reads a name.
-pub fn read_name(alloc: Global, text: &[u8]) -> Result<Vec<u8>, Refusal>
+pub fn read_name(alloc: Global, text: &[u8]) -> Result<Vec<u8>, FieldFault>
     ensures { Gives refusal_of (λ name. name.items) result (name_at text.now) }
 {
     if !is_name(text) {
-        return Err(Refusal { code: BAD_NAME });
+        return Err(FieldFault { code: BAD_NAME });
     }
     Ok(Vec::from_slice(alloc, text)?)
 }
 
 /// Reads a version.
-pub fn read_version(alloc: Global, text: &[u8]) -> Result<Version, Refusal>
+pub fn read_version(alloc: Global, text: &[u8]) -> Result<Version, FieldFault>
     ensures { Gives refusal_of (λ version. version) result (version_text_at text.now) }
 {
     Ok(Version::parse(alloc, text)?)
 }
 
 /// Reads a number that is at most `most`.
-pub fn read_number_up_to(most: u64, text: &[u8]) -> Result<u64, Refusal>
+pub fn read_number_up_to(most: u64, text: &[u8]) -> Result<u64, FieldFault>
     ensures read { Gives refusal_of (λ n. n) result (number_up_to most text.now) }
     ensures small { IfOk result (λ n. n ≤ most) }
 {
     match read_number(text) {
         Some(number) => {
             if number > most {
-                return Err(Refusal { code: BAD_NUMBER });
+                return Err(FieldFault { code: BAD_NUMBER });
             }
             Ok(number)
         }
-        None => Err(Refusal { code: BAD_NUMBER }),
+        None => Err(FieldFault { code: BAD_NUMBER }),
     }
 }
 
 /// Reads Installed-Size, in KiB.
-pub fn read_size(value: Option<&[u8]>) -> Result<u64, Refusal>
+pub fn read_size(value: Option<&[u8]>) -> Result<u64, FieldFault>
     ensures read { Gives refusal_of (λ n. n) result
         (size_at (option_map (λ v. v.now) value.entry)) }
     ensures small { IfOk result (λ n. n ≤ MOST_SIZE) }
@@ -59,7 +59,11 @@ pub fn read_size(value: Option<&[u8]>) -> Result<u64, Refusal>
 }
 
 /// Reads a relation field.
-pub fn read_relations(alloc: Global, kind: Kind, value: Option<&[u8]>) -> Result<Relations, Refusal>
+pub fn read_relations(
+    alloc: Global,
+    kind: Kind,
+    value: Option<&[u8]>,
+) -> Result<Relations, FieldFault>
     ensures { Gives refusal_of (λ r. r) result
         (relations_in kind (option_map (λ v. v.now) value.entry)) }
 {
@@ -70,11 +74,11 @@ pub fn read_relations(alloc: Global, kind: Kind, value: Option<&[u8]>) -> Result
 }
 
 /// Refuses a field that is not read yet.
-pub fn refuse_unread(value: Option<&[u8]>) -> Result<(), Refusal>
+pub fn refuse_unread(value: Option<&[u8]>) -> Result<(), FieldFault>
     ensures { Gives refusal_of (λ _. tt) result (unread_at (option_map (λ v. v.now) value.entry)) }
 {
     match value {
-        Some(_) => Err(Refusal { code: UNREAD }),
+        Some(_) => Err(FieldFault { code: UNREAD }),
         None => Ok(()),
     }
 }

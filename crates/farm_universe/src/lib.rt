@@ -10,11 +10,13 @@ mod farm;
 mod fields;
 mod files;
 pub mod limits;
+mod package_table;
 mod packages;
 mod paragraph;
 mod reduction;
 pub mod relations;
-mod table;
+mod source_table;
+mod sources;
 #[cfg(test)]
 mod tests;
 mod texts;

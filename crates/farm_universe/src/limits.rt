@@ -9,6 +9,9 @@ pub const MOST_ENTRIES: usize = 8192;
 /// Versions of a name: as many as a word of the archive has bits.
 pub const MOST_VARIANTS: usize = 64;
 
+/// Sources.
+pub const MOST_SOURCES: usize = 4096;
+
 /// Base chroots.
 pub const MOST_BASES: usize = 64;
 

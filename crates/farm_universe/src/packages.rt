@@ -7,7 +7,7 @@ ghost use Rattle.farm_universe.specs.View.{refusal_of};
 ghost use Rattle.farm_universe.specs.TableView.{listed_view};
 
 use crate::binary::{Package, PackageRelations};
-use crate::error::Refusal;
+use crate::error::FieldFault;
 use crate::fields::{read_name, read_relations, read_size, read_version};
 use crate::limits::MOST_SIZE;
 use crate::paragraph::Paragraph;
@@ -23,7 +23,7 @@ pub struct Listed {
 
 /// Reads a paragraph of the packages text.
 #[tactic(auto, unfolding(crate::specs::PackagesText::package_at))]
-pub fn read_package(alloc: Global, paragraph: &Paragraph) -> Result<Listed, Refusal>
+pub fn read_package(alloc: Global, paragraph: &Paragraph) -> Result<Listed, FieldFault>
     ensures read { Gives refusal_of listed_view result (package_at paragraph.now) }
     ensures small { IfOk result (λ listed. listed.binary.size ≤ MOST_SIZE) }
 {

@@ -7,7 +7,7 @@ ghost use Rattle.deb_stanza.specs.Stanza.{value_of, paragraph_at};
 ghost use Rattle.farm_universe.specs.Fields.{needed_at};
 ghost use Rattle.farm_universe.specs.View.{refusal_of};
 
-use crate::error::{ABSENT, Refusal};
+use crate::error::{ABSENT, FieldFault};
 use deb_stanza::Paragraphs;
 use std::marker::Model;
 
@@ -53,12 +53,12 @@ impl<'a> Paragraph<'a> {
     }
 
     /// The value of a field that has to stand.
-    pub fn needed(&self, name: &[u8]) -> Result<&'a [u8], Refusal>
+    pub fn needed(&self, name: &[u8]) -> Result<&'a [u8], FieldFault>
         ensures { Gives refusal_of (λ v. v.now) result (needed_at self.now name.now) }
     {
         match self.field(name) {
             Some(value) => Ok(value),
-            None => Err(Refusal { code: ABSENT }),
+            None => Err(FieldFault { code: ABSENT }),
         }
     }
 }

@@ -95,10 +95,9 @@ fn refuses_packages_at_their_paragraph(rt: HostRuntime) {
 
 /// Sources and farm texts beside two versions of a package, and their first fault: file, line and
 /// code.
-const FARM_FAULTS: [(&str, &str, u8, u32, u16); 33] = [
+const FARM_FAULTS: [(&str, &str, u8, u32, u16); 32] = [
     ("", "", 3, 0, 201),
     ("", "# nothing\n\n", 3, 0, 201),
-    ("# s\nPackage: aa\n", "", 2, 2, 211),
     ("x\n", "", 2, 1, 102),
     ("", "x\n", 3, 1, 102),
     ("", "Archive:\n", 3, 1, 201),
@@ -252,10 +251,6 @@ fn tells_the_first_text_first(rt: HostRuntime) {
     assert_eq!(rt;
         fault_of(alloc, b"Version: 1\n", b"x", b"x"),
         Some(fault(1, 1, 201))
-    );
-    assert_eq!(rt;
-        fault_of(alloc, EMPTY, b"x: y\n", b"x"),
-        Some(fault(2, 1, 211))
     );
     assert_eq!(rt; fault_of(alloc, EMPTY, EMPTY, b"x"), Some(fault(3, 1, 102)));
     assert_eq!(rt;

@@ -3,14 +3,15 @@
 ghost use Rattle.std.specs.Prelude.{◌≡◌, IfOk};
 ghost use Rattle.deb_text.specs.Answers.{Gives, refusal_of as fault_of};
 ghost use Rattle.farm_universe.specs.FarmView.{AreWords, AreBases, farm_view};
+ghost use Rattle.farm_universe.specs.SourceView.{source_view, IsSourceTable};
 ghost use Rattle.farm_universe.specs.TableView.{table_view, IsFit};
-ghost use Rattle.farm_universe.specs.UniverseText.{paragraphs_in, sources_of, table_at, sources_at, farm_at};
+ghost use Rattle.farm_universe.specs.UniverseText.{paragraphs_in, table_at, sources_at, farm_at};
 
-use crate::error::UNREAD;
 use crate::farm::{Farm, read_farm};
 use crate::files::{FARM, PACKAGES, SOURCES};
+use crate::package_table::{PackageTable, read_table};
 use crate::paragraph::Paragraph;
-use crate::table::{Table, read_table};
+use crate::source_table::{SourceTable, read_sources};
 use deb_stanza::Paragraphs;
 use deb_text::Fault;
 use std::alloc::Global;
@@ -27,7 +28,7 @@ fn read_paragraphs(alloc: Global, file: u8, text: &[u8]) -> Result<Paragraphs, F
 
 /// Reads the packages text.
 #[tactic(auto, unfolding(crate::specs::UniverseText::table_at))]
-pub fn read_packages_text(alloc: Global, packages: &[u8]) -> Result<Table, Fault>
+pub fn read_packages_text(alloc: Global, packages: &[u8]) -> Result<PackageTable, Fault>
     ensures read { Gives fault_of table_view result (table_at packages.now) }
     ensures fit { IfOk result (λ table. IsFit (table_view table)) }
 {
@@ -35,28 +36,19 @@ pub fn read_packages_text(alloc: Global, packages: &[u8]) -> Result<Table, Fault
     read_table(alloc, &paragraphs)
 }
 
-fn refuse_sources(paragraphs: &Paragraphs) -> Result<(), Fault>
-    ensures { Gives fault_of (λ _. tt) result (sources_of paragraphs.now) }
-{
-    if paragraphs.count() == 0 {
-        return Ok(());
-    }
-    let paragraph = Paragraph::new(paragraphs, 0);
-    Err(Fault::place(SOURCES, paragraph.line(), UNREAD))
-}
-
 /// Reads the sources text.
 #[tactic(auto, unfolding(crate::specs::UniverseText::sources_at))]
-pub fn read_sources_text(alloc: Global, sources: &[u8]) -> Result<(), Fault>
-    ensures { Gives fault_of (λ _. tt) result (sources_at sources.now) }
+pub fn read_sources_text(alloc: Global, sources: &[u8]) -> Result<SourceTable, Fault>
+    ensures read { Gives fault_of source_view result (sources_at sources.now) }
+    ensures fit { IfOk result (λ table. IsSourceTable (source_view table)) }
 {
     let paragraphs = read_paragraphs(alloc, SOURCES, sources)?;
-    refuse_sources(&paragraphs)
+    read_sources(alloc, &paragraphs)
 }
 
 /// Reads the farm text.
 #[tactic(auto, unfolding(crate::specs::UniverseText::farm_at))]
-pub fn read_farm_text(alloc: Global, table: &Table, farm: &[u8]) -> Result<Farm, Fault>
+pub fn read_farm_text(alloc: Global, table: &PackageTable, farm: &[u8]) -> Result<Farm, Fault>
     requires { IsFit (table_view table.now) }
     ensures read { Gives fault_of farm_view result (farm_at (table_view table.now) farm.now) }
     ensures words { IfOk result (λ farm. AreWords (table_view table.now) farm.initial.items) }

@@ -16,8 +16,8 @@ use crate::base::Base;
 use crate::binary::{Package, PackageRelations};
 use crate::farm::Farm;
 use crate::limits::MOST_VARIANTS;
+use crate::package_table::{PackageTable, place_of};
 use crate::reduction::reduce_all;
-use crate::table::{Table, place_of};
 use crate::texts::{read_farm_text, read_packages_text, read_sources_text};
 use deb_profile::ArchNames;
 use deb_relation::{Atom, Facts, Op, in_relation, satisfies};
@@ -67,7 +67,7 @@ impl Model for Universe {
 }
 
 /// Puts a table and a farm together.
-fn assemble(alloc: Global, table: Table, farm: Farm) -> Result<Universe, AllocError>
+fn assemble(alloc: Global, table: PackageTable, farm: Farm) -> Result<Universe, AllocError>
     requires fit { IsFit (table_view table) }
     requires words { AreWords (table_view table) farm.initial.items }
     requires bases { AreBases farm.bases.items }
@@ -97,7 +97,10 @@ impl Universe {
     /// `Installed-Size`; 121 to 123 and 125 to 129 of `Pre-Depends`, `Depends`, `Conflicts`,
     /// `Breaks` and `Provides`, in this order; then 203 for a version that the name has, 204 for too
     /// many of them, 210 for too many names or relation entries. Of a
-    /// sources paragraph: 211. Of the farm: 201 at line 0 where it has no paragraph; in the first
+    /// sources paragraph: 201, 121 of `Package`, or of `Source` where it has none; 201, 111 to 114 of
+    /// `Version`; 121 to 130 of `Build-Depends`, `Build-Depends-Arch`, `Build-Depends-Indep` and of
+    /// the `Build-Conflicts` fields alike; 203 for a version that the source has, 210 for too many
+    /// sources. Of the farm: 201 at line 0 where it has no paragraph; in the first
     /// 201, 131 of `Architecture-Names`, then of `Archive` 121, 122, 123, 125, 126, 127 or 128, and
     /// item by item 205 for one that names no variant and 203 for one that stands twice; in each
     /// later one 211 where `Recipe` stands, 201, 121, 203 of `Chroot`, 201, 202 of `Capacity`, 211
@@ -113,7 +116,7 @@ impl Universe {
         ensures { Gives fault_of (λ u. u) result (universe_of packages.now sources.now farm.now) }
     {
         let table = read_packages_text(alloc, packages)?;
-        read_sources_text(alloc, sources)?;
+        let _sources = read_sources_text(alloc, sources)?;
         let farm = read_farm_text(alloc, &table, farm)?;
         Ok(assemble(alloc, table, farm)?)
     }

@@ -176,7 +176,6 @@ fn passes_the_faults_of_each_text_through(rt: HostRuntime) {
         ([" x: y", "", FARM, PLAN], 1, 1, 101),
         ([DEPENDS_TWICE, "", FARM, PLAN], 1, 7, 104),
         ([LIBC6, "x", FARM, PLAN], 2, 1, 102),
-        ([LIBC6, "# s\nPackage: gcc\n", FARM, PLAN], 2, 2, 211),
         ([LIBC6, "", "", PLAN], 3, 0, 201),
         ([LIBC6, "", RECIPE, PLAN], 3, 3, 211),
         ([LIBC6, "", FARM, ""], 4, 0, 301),

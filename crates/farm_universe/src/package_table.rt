@@ -7,13 +7,14 @@ ghost use Rattle.indexmap.specs.IndexSet.{index_set_len};
 ghost use Rattle.deb_text.specs.Answers.{Gives, refusal_of as fault_of};
 ghost use Rattle.deb_text.specs.Groups.{in_order, place_in};
 ghost use Rattle.deb_text.specs.Lists.{lists};
+ghost use Rattle.farm_universe.specs.Keyed.{group_at};
 ghost use Rattle.farm_universe.specs.PackagesText.{entry_count, is_below, is_over, packages_of};
-ghost use Rattle.farm_universe.specs.TableSteps.{given_at, put_at, code_at, add, add_paragraph, tell_paragraph};
+ghost use Rattle.farm_universe.specs.TableSteps.{put_at, code_at, add, add_paragraph, tell_paragraph};
 ghost use Rattle.farm_universe.specs.TableView.{listed_view, table_view, IsFit, IsWithin};
 ghost use Rattle.farm_universe.specs.View.{refusal_of};
 
 use crate::binary::{Package, insert_in_order, is_given};
-use crate::error::{OVER_LIMIT, Refusal, TOO_MANY_VARIANTS, TWICE};
+use crate::error::{FieldFault, OVER_LIMIT, TOO_MANY_VARIANTS, TWICE};
 use crate::files::PACKAGES;
 use crate::limits::{MOST_ENTRIES, MOST_NAMES, MOST_SIZE, MOST_VARIANTS};
 use crate::packages::{Listed, read_package};
@@ -26,7 +27,7 @@ use std::alloc::Global;
 /// The names in the order of their first appearance, and for each its packages from the lowest
 /// version up.
 #[derive(Drop)]
-pub struct Table {
+pub struct PackageTable {
     pub names: IndexSet<Vec<u8>>,
     pub packages: Vec<Vec<Package>>,
     pub entries: usize,
@@ -41,7 +42,7 @@ pub fn place_of(names: &IndexSet<Vec<u8>>, name: &[u8]) -> Option<usize>
 }
 
 /// The packages of a name, from the lowest version up.
-pub fn packages_at(table: &Table, number: usize) -> &[Package]
+pub fn packages_at(table: &PackageTable, number: usize) -> &[Package]
     requires fit { IsFit (table_view table.now) }
     requires within { number < length (table_view table.now).packages }
     ensures packages { result.now ≡ get_or (table_view table.now).packages number [] }
@@ -51,9 +52,9 @@ pub fn packages_at(table: &Table, number: usize) -> &[Package]
 }
 
 /// The packages of the name with this number, if there is one.
-fn given_at(table: &Table, at: Option<usize>) -> &[Package]
+fn given_at(table: &PackageTable, at: Option<usize>) -> &[Package]
     requires { IsWithin (table_view table.now) at }
-    ensures { result.now ≡ given_at (table_view table.now) at }
+    ensures { result.now ≡ group_at (table_view table.now).packages at }
 {
     match at {
         None => &[],
@@ -62,7 +63,7 @@ fn given_at(table: &Table, at: Option<usize>) -> &[Package]
 }
 
 /// Tells whether there are too many names or entries with this package.
-fn is_over(table: &Table, at: Option<usize>, listed: &Listed) -> bool
+fn is_over(table: &PackageTable, at: Option<usize>, listed: &Listed) -> bool
     requires { IsFit (table_view table.now) }
     ensures { result ≡ is_over (put_at (table_view table.now) at (listed_view listed.now)) }
 {
@@ -73,7 +74,7 @@ fn is_over(table: &Table, at: Option<usize>, listed: &Listed) -> bool
 }
 
 #[tactic(auto, unfolding(crate::specs::TableSteps::code_at))]
-fn code_at(table: &Table, at: Option<usize>, listed: &Listed) -> Option<u16>
+fn code_at(table: &PackageTable, at: Option<usize>, listed: &Listed) -> Option<u16>
     requires fit { IsFit (table_view table.now) }
     requires within { IsWithin (table_view table.now) at }
     ensures { result ≡ code_at (table_view table.now) at (listed_view listed.now) }
@@ -92,7 +93,7 @@ fn code_at(table: &Table, at: Option<usize>, listed: &Listed) -> Option<u16>
 }
 
 /// Puts a package to those of a name that is there.
-fn put_there(table: &mut Table, at: usize, binary: Package) -> Result<(), Refusal>
+fn put_there(table: &mut PackageTable, at: usize, binary: Package) -> Result<(), FieldFault>
     requires { at < length (table_view table.old).packages }
     ensures names { table.new.names ≡ table.old.names }
     ensures packages { OnOk result (lists table.new.packages.items
@@ -106,7 +107,7 @@ fn put_there(table: &mut Table, at: usize, binary: Package) -> Result<(), Refusa
 }
 
 /// Puts a package of a new name.
-fn put_new(alloc: Global, table: &mut Table, listed: Listed) -> Result<(), Refusal>
+fn put_new(alloc: Global, table: &mut PackageTable, listed: Listed) -> Result<(), FieldFault>
     requires { list_any (bytes_eq listed.name.items) (lists table.old.names.keys) ≡ false }
     ensures put { OnOk result (table_view table.new ≡ record {
       names = lists table.old.names.keys ++ listed.name.items ∷ [];
@@ -125,10 +126,10 @@ fn put_new(alloc: Global, table: &mut Table, listed: Listed) -> Result<(), Refus
 /// Puts a package of the name with this number, or of a new name.
 fn put_at(
     alloc: Global,
-    table: &mut Table,
+    table: &mut PackageTable,
     at: Option<usize>,
     listed: Listed,
-) -> Result<(), Refusal>
+) -> Result<(), FieldFault>
     requires at { at ≡ place_in bytes_eq (lists table.old.names.keys) listed.name.items }
     requires within { IsWithin (table_view table.old) at }
     requires fits { table.old.entries + entry_count listed.binary ≤ MOST_ENTRIES }
@@ -145,7 +146,7 @@ fn put_at(
 
 /// Goes on by a package.
 #[tactic(auto, unfolding(crate::specs::TableSteps::add))]
-fn add(alloc: Global, table: &mut Table, listed: Listed) -> Result<(), Refusal>
+fn add(alloc: Global, table: &mut PackageTable, listed: Listed) -> Result<(), FieldFault>
     requires fit { IsFit (table_view table.old) }
     requires small { listed.binary.size ≤ MOST_SIZE }
     ensures read { Gives refusal_of (λ _. table_view table.new) result
@@ -154,14 +155,18 @@ fn add(alloc: Global, table: &mut Table, listed: Listed) -> Result<(), Refusal>
 {
     let at = place_of(&table.names, &listed.name);
     if let Some(code) = code_at(table, at, &listed) {
-        return Err(Refusal { code });
+        return Err(FieldFault { code });
     }
     put_at(alloc, table, at, listed)
 }
 
 /// Goes on by a paragraph.
 #[tactic(auto, unfolding(crate::specs::TableSteps::add_paragraph))]
-fn add_paragraph(alloc: Global, table: &mut Table, paragraph: &Paragraph) -> Result<(), Refusal>
+fn add_paragraph(
+    alloc: Global,
+    table: &mut PackageTable,
+    paragraph: &Paragraph,
+) -> Result<(), FieldFault>
     requires { IsFit (table_view table.old) }
     ensures read { Gives refusal_of (λ _. table_view table.new) result
         (add_paragraph (table_view table.old) paragraph.now) }
@@ -172,7 +177,11 @@ fn add_paragraph(alloc: Global, table: &mut Table, paragraph: &Paragraph) -> Res
 }
 
 /// Goes on by a paragraph, and tells its fault at its line.
-fn tell_paragraph(alloc: Global, table: &mut Table, paragraph: &Paragraph) -> Result<(), Fault>
+fn tell_paragraph(
+    alloc: Global,
+    table: &mut PackageTable,
+    paragraph: &Paragraph,
+) -> Result<(), Fault>
     requires { IsFit (table_view table.old) }
     ensures read { Gives fault_of (λ _. table_view table.new) result
         (tell_paragraph (table_view table.old) paragraph.now) }
@@ -180,16 +189,16 @@ fn tell_paragraph(alloc: Global, table: &mut Table, paragraph: &Paragraph) -> Re
 {
     match add_paragraph(alloc, table, paragraph) {
         Ok(()) => Ok(()),
-        Err(refusal) => Err(Fault::place(PACKAGES, paragraph.line(), refusal.code)),
+        Err(fault) => Err(Fault::place(PACKAGES, paragraph.line(), fault.code)),
     }
 }
 
 /// Reads the paragraphs of the packages text.
-pub fn read_table(alloc: Global, paragraphs: &Paragraphs) -> Result<Table, Fault>
+pub fn read_table(alloc: Global, paragraphs: &Paragraphs) -> Result<PackageTable, Fault>
     ensures read { Gives fault_of table_view result (packages_of paragraphs.now) }
     ensures fit { IfOk result (λ table. IsFit (table_view table)) }
 {
-    let mut table = Table {
+    let mut table = PackageTable {
         names: IndexSet::new(alloc),
         packages: Vec::new(alloc),
         entries: 0,

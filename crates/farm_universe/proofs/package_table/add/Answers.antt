@@ -5,7 +5,7 @@ use Rattle.deb_text.specs.Groups.{place_in}
 use Rattle.farm_universe.specs.TableSteps.{put_at}
 use Rattle.farm_universe.specs.TableView.{listed_view, table_view, IsFit}
 use Rattle.farm_universe.proofs.FitLaws.{room, IsFit-put}
-use Rattle.farm_universe.proofs.table.add.Goals as goal
+use Rattle.farm_universe.proofs.package_table.add.Goals as goal
 
 pub put_at-requires-clause-fits : goal.put_at-requires-clause-fits
 put_at-requires-clause-fits c =

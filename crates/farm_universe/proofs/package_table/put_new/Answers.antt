@@ -1,6 +1,6 @@
 use Rattle.std.proofs.Common.{sym, ◌∙◌, ◌≡◌, ◌++◌, ◌∷◌, [], refl}
 use Rattle.deb_text.proofs.ListLaws.{lists-push, any-lists}
-use Rattle.farm_universe.proofs.table.put_new.Goals as goal
+use Rattle.farm_universe.proofs.package_table.put_new.Goals as goal
 
 pub returns-clause-put : goal.returns-clause-put
 returns-clause-put c =

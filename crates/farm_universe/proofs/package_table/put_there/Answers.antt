@@ -5,7 +5,7 @@ use Rattle.deb_text.specs.Groups.{in_order}
 use Rattle.deb_text.proofs.ListLaws.{lists-set}
 use Rattle.farm_universe.specs.PackagesText.{is_below}
 use Rattle.farm_model.specs.Universe.{Package}
-use Rattle.farm_universe.proofs.table.put_there.Goals as goal
+use Rattle.farm_universe.proofs.package_table.put_there.Goals as goal
 
 pub returns-clause-packages : goal.returns-clause-packages
 returns-clause-packages c =

@@ -7,7 +7,7 @@ use Rattle.deb_stanza.specs.Stanza.{Paragraph}
 use Rattle.farm_universe.specs.TableSteps.{tell_paragraph}
 use Rattle.farm_universe.specs.TableView.{table_view, IsOrderly}
 use Rattle.farm_universe.proofs.TableLaws.{steps-packages_of}
-use Rattle.farm_universe.proofs.table.read_table.Goals as goal
+use Rattle.farm_universe.proofs.package_table.read_table.Goals as goal
 
 pub loop-number-init : goal.loop-number-init
 loop-number-init c =

@@ -3,7 +3,7 @@ use Rattle.deb_text.specs.Steps.{steps}
 use Rattle.farm_universe.specs.PackagesText.{packages_of}
 use Rattle.farm_universe.specs.TableSteps.{tell_paragraph}
 use Rattle.farm_universe.specs.TableView.{table_view, IsFit}
-use Rattle.farm_universe.proofs.table.read_table.Given as goal
+use Rattle.farm_universe.proofs.package_table.read_table.Given as goal
 
 abbrev pub invariant-loop-number : goal.invariant-loop-number
 invariant-loop-number l = record {

@@ -4,7 +4,7 @@ use Rattle.std.proofs.lemmas.List.{length-map, get_or-map}
 use Rattle.std.proofs.lemmas.List.Elements.{All-get_or}
 use Rattle.farm_universe.specs.TableView.{table_view, IsOrderly}
 use Rattle.farm_model.specs.Universe.{Package}
-use Rattle.farm_universe.proofs.table.packages_at.Goals as goal
+use Rattle.farm_universe.proofs.package_table.packages_at.Goals as goal
 
 pub returns-clause-few : goal.returns-clause-few
 returns-clause-few c =

@@ -1,0 +1,190 @@
+//! The sources of the second text, by the number of their name.
+
+ghost use Rattle.std.specs.Prelude.{◌≡◌, ◌<◌, OnOk, IfOk, IfErr, None, length, false, ◌++◌, ◌∷◌, [], get_or, set};
+ghost use Rattle.std.specs.List.{list_any};
+ghost use Rattle.std.specs.Str.{bytes_eq};
+ghost use Rattle.deb_text.specs.Answers.{Gives, refusal_of as fault_of};
+ghost use Rattle.deb_text.specs.Groups.{place_in};
+ghost use Rattle.deb_text.specs.Lists.{lists};
+ghost use Rattle.farm_universe.specs.Keyed.{group_at};
+ghost use Rattle.farm_universe.specs.SourcesText.{is_of_version, sources_of};
+ghost use Rattle.farm_universe.specs.SourceSteps.{behind_others, put_source, source_code, add_source, add_source_paragraph, tell_source};
+ghost use Rattle.farm_universe.specs.SourceView.{listed_source_view, source_view, IsSourceTable, IsSourcePlace};
+ghost use Rattle.farm_universe.specs.View.{refusal_of};
+
+use crate::error::{FieldFault, OVER_LIMIT, TWICE};
+use crate::files::SOURCES;
+use crate::limits::MOST_SOURCES;
+use crate::package_table::place_of;
+use crate::paragraph::Paragraph;
+use crate::sources::{ListedSource, Source, read_source};
+use deb_stanza::Paragraphs;
+use deb_text::Fault;
+use deb_version::Version;
+use indexmap::IndexSet;
+use std::alloc::Global;
+
+/// The names in the order of their first appearance, for each its sources, and how many sources
+/// there are.
+#[derive(Drop)]
+pub struct SourceTable {
+    pub names: IndexSet<Vec<u8>>,
+    pub sources: Vec<Vec<Source>>,
+    pub count: usize,
+}
+
+/// Tells whether a source has this version.
+fn is_of_version(version: &Version, source: &Source) -> bool
+    ensures { result ≡ is_of_version version.now source.now }
+{
+    version.compare(&source.version).is_eq()
+}
+
+/// The sources of the name with this number, if there is one.
+fn given_at(table: &SourceTable, at: Option<usize>) -> &[Source]
+    requires { IsSourcePlace (source_view table.now) at }
+    ensures { result.now ≡ group_at (source_view table.now).sources at }
+{
+    match at {
+        None => &[],
+        Some(i) => &table.sources[i],
+    }
+}
+
+/// Tells whether one of the sources has this version.
+fn is_given(given: &[Source], version: &Version) -> bool
+    ensures { result ≡ list_any (is_of_version version.now) given.now }
+{
+    given.iter().any(|source| is_of_version(version, source))
+}
+
+#[tactic(auto, unfolding(crate::specs::SourceSteps::source_code))]
+fn code_at(table: &SourceTable, at: Option<usize>, listed: &ListedSource) -> Option<u16>
+    requires { IsSourcePlace (source_view table.now) at }
+    ensures { result ≡ source_code (source_view table.now) at (listed_source_view listed.now) }
+{
+    if is_given(given_at(table, at), &listed.source.version) {
+        return Some(TWICE);
+    }
+    if table.count >= MOST_SOURCES {
+        return Some(OVER_LIMIT);
+    }
+    None
+}
+
+/// Puts a source to those of a name that is there.
+fn put_there(table: &mut SourceTable, at: usize, source: Source) -> Result<(), FieldFault>
+    requires { at < length (source_view table.old).sources }
+    ensures names { table.new.names ≡ table.old.names }
+    ensures sources { OnOk result (lists table.new.sources.items
+        ≡ set (lists table.old.sources.items) at
+        (behind_others source (get_or (lists table.old.sources.items) at []))) }
+    ensures count { table.new.count ≡ table.old.count }
+    ensures memory { IfErr result (λ e. refusal_of e ≡ None) }
+{
+    table.sources[at].push(source)?;
+    Ok(())
+}
+
+/// Puts a source of a new name.
+fn put_new(alloc: Global, table: &mut SourceTable, listed: ListedSource) -> Result<(), FieldFault>
+    requires { list_any (bytes_eq listed.name.items) (lists table.old.names.keys) ≡ false }
+    ensures put { OnOk result (source_view table.new ≡ record {
+      names = lists table.old.names.keys ++ listed.name.items ∷ [];
+      sources = lists table.old.sources.items ++ (listed.source ∷ []) ∷ [];
+      count = table.old.count;
+    }) }
+    ensures memory { IfErr result (λ e. refusal_of e ≡ None) }
+{
+    let mut sources = Vec::new(alloc);
+    sources.push(listed.source)?;
+    table.sources.push(sources)?;
+    table.names.insert(listed.name)?;
+    Ok(())
+}
+
+/// Puts a source of the name with this number, or of a new name.
+fn put_at(
+    alloc: Global,
+    table: &mut SourceTable,
+    at: Option<usize>,
+    listed: ListedSource,
+) -> Result<(), FieldFault>
+    requires at { at ≡ place_in bytes_eq (lists table.old.names.keys) listed.name.items }
+    requires within { IsSourcePlace (source_view table.old) at }
+    requires room { table.old.count < MOST_SOURCES }
+    ensures put { OnOk result
+        (source_view table.new ≡ put_source (source_view table.old) at (listed_source_view listed)) }
+    ensures memory { IfErr result (λ e. refusal_of e ≡ None) }
+{
+    table.count += 1;
+    match at {
+        Some(i) => put_there(table, i, listed.source),
+        None => put_new(alloc, table, listed),
+    }
+}
+
+/// Goes on by a source.
+#[tactic(auto, unfolding(crate::specs::SourceSteps::add_source))]
+fn add(alloc: Global, table: &mut SourceTable, listed: ListedSource) -> Result<(), FieldFault>
+    requires { IsSourceTable (source_view table.old) }
+    ensures read { Gives refusal_of (λ _. source_view table.new) result
+        (add_source (source_view table.old) (listed_source_view listed)) }
+    ensures fit { OnOk result (IsSourceTable (source_view table.new)) }
+{
+    let at = place_of(&table.names, &listed.name);
+    if let Some(code) = code_at(table, at, &listed) {
+        return Err(FieldFault { code });
+    }
+    put_at(alloc, table, at, listed)
+}
+
+/// Goes on by a paragraph.
+#[tactic(auto, unfolding(crate::specs::SourceSteps::add_source_paragraph))]
+fn add_paragraph(
+    alloc: Global,
+    table: &mut SourceTable,
+    paragraph: &Paragraph,
+) -> Result<(), FieldFault>
+    requires { IsSourceTable (source_view table.old) }
+    ensures read { Gives refusal_of (λ _. source_view table.new) result
+        (add_source_paragraph (source_view table.old) paragraph.now) }
+    ensures fit { OnOk result (IsSourceTable (source_view table.new)) }
+{
+    let listed = read_source(alloc, paragraph)?;
+    add(alloc, table, listed)
+}
+
+/// Goes on by a paragraph, and tells its fault at its line.
+fn tell_paragraph(
+    alloc: Global,
+    table: &mut SourceTable,
+    paragraph: &Paragraph,
+) -> Result<(), Fault>
+    requires { IsSourceTable (source_view table.old) }
+    ensures read { Gives fault_of (λ _. source_view table.new) result
+        (tell_source (source_view table.old) paragraph.now) }
+    ensures fit { OnOk result (IsSourceTable (source_view table.new)) }
+{
+    match add_paragraph(alloc, table, paragraph) {
+        Ok(()) => Ok(()),
+        Err(fault) => Err(Fault::place(SOURCES, paragraph.line(), fault.code)),
+    }
+}
+
+/// Reads the paragraphs of the sources text.
+pub fn read_sources(alloc: Global, paragraphs: &Paragraphs) -> Result<SourceTable, Fault>
+    ensures read { Gives fault_of source_view result (sources_of paragraphs.now) }
+    ensures fit { IfOk result (λ table. IsSourceTable (source_view table)) }
+{
+    let mut table = SourceTable {
+        names: IndexSet::new(alloc),
+        sources: Vec::new(alloc),
+        count: 0,
+    };
+    for number in 0..paragraphs.count() {
+        let paragraph = Paragraph::new(paragraphs, number);
+        tell_paragraph(alloc, &mut table, &paragraph)?;
+    }
+    Ok(table)
+}
