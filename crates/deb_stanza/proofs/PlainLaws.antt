@@ -1,36 +1,14 @@
--- The table of plain lines when it gets a line, and a look-up in a paragraph.
-use Rattle.std.proofs.Common.{◌≡◌, ℕ, ◌+◌, ◌<◌, ◌≤◌, false, List, [], ◌∷◌, ◌++◌, length, map, get_or, Some, None, refl, sym, ap, ◌∙◌, arith, length-append, inl, inr}
+-- A line that is kept, and a look-up in a paragraph.
+use Rattle.std.proofs.Common.{◌≡◌, ℕ, ◌+◌, ◌<◌, ◌≤◌, List, [], length, map, get_or, Some, None, refl, sym, ap, ◌∙◌, arith, inl, inr}
 use Rattle.std.specs.List.{slice_range}
 use Rattle.std.proofs.lemmas.Bool.{cases_Bool}
 use Rattle.std.proofs.lemmas.List.{get_or-map, length-map}
-use Rattle.deb_text.specs.Lines.{is_skipped}
 use Rattle.deb_stanza.specs.declared.table.Start.{Start}
 use Rattle.deb_stanza.specs.Cut.{end_at}
 use Rattle.deb_stanza.specs.Stanza.{name_of, same_name, value_of, paragraph_at}
-use Rattle.deb_stanza.specs.View.{finished, first_of, raw_of, texts_in, raws_in, numbered, lines_in, LinesAreCut, value_named, value_among}
-use Rattle.deb_stanza.proofs.CutLaws.{IsCut-push, cut-push, get_or-cut, range-cons}
+use Rattle.deb_stanza.specs.View.{finished, first_of, raw_of, texts_in, raws_in, value_named, value_among}
+use Rattle.deb_stanza.proofs.CutLaws.{get_or-cut, range-cons}
 use Rattle.deb_stanza.proofs.TableLaws.{length-cut, length-texts}
-
-module _ (bytes : List ℕ) (starts : List Start) (line : List ℕ) (number : ℕ)
-    (are : LinesAreCut bytes starts) where
-  pub lines-push : lines_in (bytes ++ line)
-      (starts ++ record { first = length bytes; line = number } ∷ [])
-      ≡ lines_in bytes starts ++ (number, line) ∷ []
-  lines-push =
-      cut-push first_of numbered line bytes starts
-      (record { first = length bytes; line = number }) are refl
-
-  pub LinesAreCut-push : 0 < length line
-      → LinesAreCut (bytes ++ line) (starts ++ record { first = length bytes; line = number } ∷ [])
-  LinesAreCut-push some =
-      IsCut-push first_of (length bytes) (length (bytes ++ line)) starts
-      (record { first = length bytes; line = number }) are refl
-      (omega (arith, length-append bytes line, some))
-
--- an empty line is blank
-pub some-kept : (line : List ℕ) → is_skipped line ≡ false → 0 < length line
-some-kept [] kept = absurd cc
-some-kept (b ∷ bs) kept = omega arith
 
 -- ---- look-ups
 

@@ -59,15 +59,3 @@ abbrev pub value_among : List ℕ → List (List ℕ) → Option (List ℕ)
 value_among name texts =
     option_map (λ field. field.value)
     (find (λ field. same_name name field.name) (map field_of texts))
-
--- ---- plain lines
-
-abbrev pub numbered : Start → List ℕ → Line
-numbered s bytes = (s.line, bytes)
-
-abbrev pub lines_in : List ℕ → List Start → List Line
-lines_in bytes starts = cut first_of numbered bytes starts
-
--- no line is without a byte
-abbrev pub LinesAreCut : List ℕ → List Start → Type 0
-LinesAreCut bytes starts = IsCut first_of (length bytes) starts

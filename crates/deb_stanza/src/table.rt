@@ -11,7 +11,7 @@ use crate::fields::{cut_field, is_same_name};
 use deb_text::trim;
 use std::alloc::{AllocError, Global};
 
-/// Where a paragraph or a line begins: the place of its first field or byte, and its number.
+/// Where a paragraph begins: the place of its first field, and the number of its first line.
 #[derive(Clone, Copy, Debug)]
 pub struct Start {
     pub first: u32,
@@ -36,7 +36,7 @@ fn push_line(bytes: &mut Vec<u8>, line: &[u8]) -> Result<(), AllocError>
 }
 
 /// The bytes from one place up to another.
-pub fn part(bytes: &[u8], start: usize, end: usize) -> &[u8]
+fn part(bytes: &[u8], start: usize, end: usize) -> &[u8]
     requires ascends { start ≤ end }
     requires within { end ≤ length bytes.now }
     ensures { result.now ≡ slice_range bytes.now start end }
@@ -54,8 +54,8 @@ fn field_end(fields: &[u32], field: usize, end: usize) -> usize
     }
 }
 
-/// Where a part ends: where the next one begins, or at the end.
-pub fn start_end(starts: &[Start], place: usize, end: usize) -> usize
+/// Where a paragraph ends: where the next one begins, or at the end.
+fn start_end(starts: &[Start], place: usize, end: usize) -> usize
     requires { place < length starts.now }
     ensures { result ≡ end_at first_of end starts.now place }
 {

@@ -1,16 +1,13 @@
-use Rattle.std.proofs.Common.{◌≡◌, ◌+◌, ◌≤◌, ◌++◌, length}
+use Rattle.std.proofs.Common.{◌≡◌, ◌+◌, ◌≤◌, ◌++◌, length, map}
 use Rattle.deb_text.specs.Lines.{plain_lines}
-use Rattle.deb_stanza.specs.View.{LinesAreCut, lines_in}
+use Rattle.deb_stanza.specs.View.{line_of}
 use Rattle.deb_stanza.proofs.plain.kept_lines.Given as goal
 
-abbrev pub invariant-loop-line : goal.invariant-loop-line
-invariant-loop-line l = record {
-  so_far : lines_in l.bytes.items l.starts.items ++ plain_lines (l.number + 1) l.rest
-      ≡ plain_lines 1 l.text;
-  are_cut : LinesAreCut l.bytes.items l.starts.items;
+abbrev pub invariant-loop-bytes : goal.invariant-loop-bytes
+invariant-loop-bytes l = record {
+  so_far : map line_of l.lines.items ++ plain_lines (l.number + 1) l.rest ≡ plain_lines 1 l.text;
   in_range : l.number + length l.rest ≤ length l.text;
-  room : length l.bytes.items + length l.rest ≤ length l.text;
 }
 
-abbrev pub decreases-loop-line : goal.decreases-loop-line
-decreases-loop-line l = length l.rest
+abbrev pub decreases-loop-bytes : goal.decreases-loop-bytes
+decreases-loop-bytes l = length l.rest
