@@ -3,19 +3,8 @@ use Rattle.std.proofs.Common.{◌≡◌, Bool, true, false, ◌||◌, List, [], 
 use Rattle.std.specs.List.{list_any, position_or_len}
 use Rattle.std.proofs.lemmas.List.Folds.{list_any-append}
 use Rattle.std.proofs.lemmas.Bool.{or_parts}
+use Rattle.std.proofs.Math.Bool.{or_assoc, or-false, or-true}
 use Rattle.deb_text.specs.Groups.{with_key, distinct, AllDistinct}
-
-or_false : (a : Bool) → (a || false) ≡ a
-or_false true = refl
-or_false false = refl
-
-or_true : (a : Bool) → (a || true) ≡ true
-or_true true = refl
-or_true false = refl
-
-or_assoc : (a b c : Bool) → ((a || b) || c) ≡ (a || (b || c))
-or_assoc true b c = refl
-or_assoc false b c = refl
 
 module _ {K : Type 0} (eq : K → K → Bool) (same : (x y : K) → eq x y ≡ true → x ≡ y)
     (self : (x : K) → eq x x ≡ true) where
@@ -56,19 +45,19 @@ module _ {K : Type 0} (eq : K → K → Bool) (same : (x y : K) → eq x y ≡ t
   any-with_key ks k q = by (list_any (eq k) ks) refl where
     there : (b : Bool) → eq q k ≡ b → list_any (eq k) ks ≡ true
         → list_any (eq q) ks ≡ (list_any (eq q) ks || b)
-    there false e is = sym (or_false (list_any (eq q) ks))
+    there false e is = sym (or-false (list_any (eq q) ks))
     there true e is =
         subst (λ z. list_any (eq z) ks ≡ true) (sym (same q k e)) is
-        ∙ sym (or_true (list_any (eq q) ks))
+        ∙ sym (or-true (list_any (eq q) ks))
 
     by : (b : Bool) → list_any (eq k) ks ≡ b
         → list_any (eq q) (if b then ks else ks ++ k ∷ []) ≡ (list_any (eq q) ks || eq q k)
     by true e = there (eq q k) refl e
-    by false e = rw (list_any-append (eq q) ks (k ∷ []), or_false (eq q k)) refl
+    by false e = rw (list_any-append (eq q) ks (k ∷ []), or-false (eq q k)) refl
 
   any-fold : (ks done : List K) (q : K)
       → list_any (eq q) (fold (with_key eq) done ks) ≡ (list_any (eq q) done || list_any (eq q) ks)
-  any-fold [] done q = sym (or_false (list_any (eq q) done))
+  any-fold [] done q = sym (or-false (list_any (eq q) done))
   any-fold (k ∷ ks) done q =
       any-fold ks (with_key eq done k) q ∙ ap (λ b. b || list_any (eq q) ks) (any-with_key done k q)
       ∙ or_assoc (list_any (eq q) done) (eq q k) (list_any (eq q) ks)

@@ -4,38 +4,17 @@ use Rattle.std.proofs.lemmas.List.{append-nil, at_drop_more, drop_all}
 use Rattle.deb_text.specs.Answers.{Fails}
 use Rattle.deb_text.specs.Steps.{◌>>=◌, answer, or_else, first_fault, judged, steps, then_all, with_front, traverse, good_before, goods, own_or, item_fault, read_step}
 
+-- a total that fails where a part does, with the same fault, is refused where the part is
+pub fails-with : {E F X Y : Type 0} (refusal : E → Option F) (e : E) (part : Result X F)
+    (total : Result Y F) → ((d : F) → part ≡ Err d → total ≡ Err d)
+    → Fails refusal e part → Fails refusal e total
+fails-with {F = F} refusal e part total fails is = go (refusal e) is where
+  go : (o : Option F) → MatchOption o (Unit {0}) (λ d. part ≡ Err d)
+      → MatchOption o (Unit {0}) (λ d. total ≡ Err d)
+  go None h = tt
+  go (Some d) h = fails d h
+
 module _ {S X F : Type 0} (f : S → X → Result S F) where
-  steps-from : (judge : List X → X → Option F) (meaning : List X → S)
-      → ((before : List X) (x : X)
-      → f (meaning before) x ≡ answer (judge before x) (meaning (before ++ x ∷ [])))
-      → (xs before : List X)
-      → steps f (meaning before) xs ≡ answer (first_fault judge before xs) (meaning (before ++ xs))
-  unfolding steps
-  steps-from judge meaning keeps [] before =
-      ap (λ (ys : List X). Ok (meaning ys)) (sym (append-nil before))
-  steps-from judge meaning keeps (x ∷ xs) before =
-      let later =
-      steps-from judge meaning keeps xs (before ++ x ∷ [])
-      ∙ ap (λ (ys : List X). answer (first_fault judge (before ++ x ∷ []) xs) (meaning ys))
-      (append_assoc before (x ∷ []) xs) in
-      rw (keeps before x) (go (judge before x) later) where
-        go : (o : Option F)
-            → steps f (meaning (before ++ x ∷ [])) xs
-            ≡ answer (first_fault judge (before ++ x ∷ []) xs) (meaning (before ++ x ∷ xs))
-            → (answer o (meaning (before ++ x ∷ [])) >>= λ t. steps f t xs)
-            ≡ answer (or_else o (first_fault judge (before ++ x ∷ []) xs))
-            (meaning (before ++ x ∷ xs))
-        go None later = later
-        go (Some e) later = refl
-
-  -- steps that keep the meaning of the items so far give what judging each item gives
-  pub steps-judged : (judge : List X → X → Option F) (meaning : List X → S)
-      → ((before : List X) (x : X)
-      → f (meaning before) x ≡ answer (judge before x) (meaning (before ++ x ∷ [])))
-      → (xs : List X) → steps f (meaning []) xs ≡ judged judge meaning xs
-  unfolding judged
-  steps-judged judge meaning keeps xs = steps-from judge meaning keeps xs []
-
   under : (judge : List X → X → Option F) (meaning : List X → S) (Fine : List X → Type 0)
       → ((before : List X) (x : X) → Fine before → judge before x ≡ None → Fine (before ++ x ∷ []))
       → ((before : List X) (x : X) → Fine before
@@ -60,8 +39,8 @@ module _ {S X F : Type 0} (f : S → X → Result S F) where
         go None is later = later is
         go (Some e) is later = refl
 
-  -- the same, where the steps keep the meaning of items without a fault alone: Fine says what is
-  -- known of those
+  -- steps that keep the meaning of the items so far give what judging each item gives; Fine says
+  -- what is known of items without a fault
   pub steps-judged_under : (judge : List X → X → Option F) (meaning : List X → S)
       (Fine : List X → Type 0)
       → ((before : List X) (x : X) → Fine before → judge before x ≡ None → Fine (before ++ x ∷ []))
@@ -71,6 +50,15 @@ module _ {S X F : Type 0} (f : S → X → Result S F) where
   unfolding judged
   steps-judged_under judge meaning Fine stays keeps xs fine =
       under judge meaning Fine stays keeps xs [] fine
+
+  -- the same, where nothing needs to be known of them
+  pub steps-judged : (judge : List X → X → Option F) (meaning : List X → S)
+      → ((before : List X) (x : X)
+      → f (meaning before) x ≡ answer (judge before x) (meaning (before ++ x ∷ [])))
+      → (xs : List X) → steps f (meaning []) xs ≡ judged judge meaning xs
+  steps-judged judge meaning keeps xs =
+      steps-judged_under judge meaning (λ _. Unit {0}) (λ _ _ _ _. tt)
+      (λ before x _. keeps before x) xs tt
 
   -- a loop over the items: it goes on by one, stops at a fault, or ends
   pub steps-goes : (s t : S) (x : X) (xs all : List X) (total : Result S F)
@@ -82,11 +70,8 @@ module _ {S X F : Type 0} (f : S → X → Result S F) where
       (total : Result S F)
       → all ≡ x ∷ xs → Fails refusal e (f s x) → steps f s all ≡ total → Fails refusal e total
   unfolding steps
-  steps-stops refusal e s x xs all total cut is so_far = go (refusal e) is where
-    go : (o : Option F) → MatchOption o (Unit {0}) (λ d. f s x ≡ Err d)
-        → MatchOption o (Unit {0}) (λ d. total ≡ Err d)
-    go None is = tt
-    go (Some d) is = sym (rw (cut, is) at so_far)
+  steps-stops refusal e s x xs all total cut is so_far =
+      fails-with refusal e (f s x) total (λ d at. sym (rw (cut, at) at so_far)) is
 
   pub steps-ends : (s : S) (all : List X) (total : Result S F) → all ≡ [] → steps f s all ≡ total
       → total ≡ Ok s
@@ -129,18 +114,13 @@ module _ {X A B F : Type 0} (judge : List X → X → Option F) (meaning : List 
       → Fails refusal e (judged judge meaning xs)
       → Fails refusal e (judged judge (λ ys. made (meaning ys)) xs)
   unfolding judged
-  judged-fails refusal e xs is = on (refusal e) is where
-    by : (f : F) (o : Option F) → answer o (meaning xs) ≡ Err f
-        → answer o (made (meaning xs)) ≡ Err f
-    by f None h = absurd cc
-    by f (Some g) h = let same : g ≡ f = cc in ap Err same
-
-    on : (o : Option F)
-        → MatchOption o (Unit {0}) (λ d. answer (first_fault judge [] xs) (meaning xs) ≡ Err d)
-        → MatchOption o (Unit {0})
-        (λ d. answer (first_fault judge [] xs) (made (meaning xs)) ≡ Err d)
-    on None h = tt
-    on (Some f) h = by f (first_fault judge [] xs) h
+  judged-fails refusal e xs is =
+      fails-with refusal e (judged judge meaning xs)
+      (judged judge (λ ys. made (meaning ys)) xs) (λ d h. by d (first_fault judge [] xs) h) is where
+        by : (f : F) (o : Option F) → answer o (meaning xs) ≡ Err f
+            → answer o (made (meaning xs)) ≡ Err f
+        by f None h = absurd cc
+        by f (Some g) h = let same : g ≡ f = cc in ap Err same
 
 -- a `for` over a slice
 module _ {S X F C : Type 0} (f : S → X → Result S F) (view : C → X) where
@@ -204,11 +184,8 @@ module _ {A B F : Type 0} (f : A → Result B F) where
       → all ≡ x ∷ xs → Fails refusal e (f x) → with_front done (traverse f all) ≡ total
       → Fails refusal e total
   unfolding traverse
-  traverse-stops refusal e done x xs all total cut is so_far = go (refusal e) is where
-    go : (o : Option F) → MatchOption o (Unit {0}) (λ d. f x ≡ Err d)
-        → MatchOption o (Unit {0}) (λ d. total ≡ Err d)
-    go None is = tt
-    go (Some d) is = sym (rw (cut, is) at so_far)
+  traverse-stops refusal e done x xs all total cut is so_far =
+      fails-with refusal e (f x) total (λ d at. sym (rw (cut, at) at so_far)) is
 
   pub traverse-ends : (done : List B) (all : List A) (total : Result (List B) F) → all ≡ []
       → with_front done (traverse f all) ≡ total → total ≡ Ok done
