@@ -39,6 +39,7 @@ fn reason(code: &u16) -> &'static str {
         BAD_CHARACTER => "a character that this part of the version may not have",
         EPOCH_TOO_LARGE => "the epoch is over 2147483647",
         TOO_LONG => "the version is over 512 bytes",
-        _ => "out of memory",
+        MEMORY => "out of memory",
+        _ => "no code of a version",
     }
 }
