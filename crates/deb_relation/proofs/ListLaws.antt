@@ -1,5 +1,5 @@
 -- The first profile list of a text, and those behind it.
-use Rattle.std.proofs.Common.{◌≡◌, ℕ, ◌∷◌, ◌++◌, true, false, List, [], Option, Some, None, MatchOption, Result, Ok, Err, refl, sym, ◌∙◌}
+use Rattle.std.proofs.Common.{◌≡◌, ℕ, ◌∷◌, ◌++◌, true, false, List, [], Option, Result, Ok, refl, sym, ◌∙◌}
 use Rattle.std.proofs.lemmas.List.{append-nil}
 use Rattle.std.specs.List.{list_any}
 use Rattle.deb_text.specs.Answers.{Fails}
@@ -7,7 +7,7 @@ use Rattle.deb_text.specs.Bytes.{is_byte, is_blank}
 use Rattle.deb_text.specs.Cuts.{before, after, behind}
 use Rattle.deb_text.specs.Steps.{then_all, with_front}
 use Rattle.deb_text.proofs.PartLaws.{split-none, split-some, split-cons}
-use Rattle.deb_text.proofs.StepLaws.{with_front-push}
+use Rattle.deb_text.proofs.StepLaws.{fails-with, with_front-push}
 use Rattle.deb_relation.specs.Marks.{greater}
 use Rattle.deb_relation.specs.Restrictions.{list_in, end_in, lists_at}
 
@@ -37,21 +37,14 @@ module _ {B F : Type 0} where
   module _ {E : Type 0} (refusal : E → Option F) (e : E) (done : List B) where
     pub list-fails : (rest total : Result (List B) F)
         → Fails refusal e rest → with_front done rest ≡ total → Fails refusal e total
-    list-fails rest total is so_far = go (refusal e) is where
-      go : (o : Option F) → MatchOption o (Unit {0}) (λ d. rest ≡ Err d)
-          → MatchOption o (Unit {0}) (λ d. total ≡ Err d)
-      go None is = tt
-      go (Some d) is = sym (rw is at so_far)
+    list-fails rest total is so_far =
+        fails-with refusal e rest total (λ d at. sym (rw at at so_far)) is
 
     pub list-stops : (list : Result B F) (all more total : Result (List B) F)
         → all ≡ then_all list more → Fails refusal e list → with_front done all ≡ total
         → Fails refusal e total
     list-stops list all more total cut is so_far =
-        list-fails all total (go (refusal e) is) so_far where
-          go : (o : Option F) → MatchOption o (Unit {0}) (λ d. list ≡ Err d)
-              → MatchOption o (Unit {0}) (λ d. all ≡ Err d)
-          go None is = tt
-          go (Some d) is = rw (cut, is) refl
+        list-fails all total (fails-with refusal e list all (λ d at. rw (cut, at) refl) is) so_far
 
   pub list-ends : (done : List B) (rest total : Result (List B) F)
       → rest ≡ Ok [] → with_front done rest ≡ total → total ≡ Ok done

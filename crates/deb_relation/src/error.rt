@@ -76,6 +76,7 @@ fn reason(code: &u16) -> &'static str {
         NO_ALTERNATIVE => "an empty alternative",
         BAD_PROFILES => "expected names of profiles",
         BAD_WORD => "a byte that a word may not have",
-        _ => "out of memory",
+        MEMORY => "out of memory",
+        _ => "no code of a relation field",
     }
 }

@@ -21,17 +21,13 @@ use std::alloc::Global;
 fn read_arch(alloc: Global, negated: bool, text: &[u8]) -> Result<Word, RelationError>
     ensures { Gives refusal_of (λ word. word) result (arch_at negated text.now) }
 {
-    let name = match text {
-        [b'!', name @ ..] if negated => name,
-        _ if negated => b"",
-        _ => text,
-    };
-    if !is_word(name) {
-        return Err(RelationError {
+    match text {
+        [b'!', name @ ..] if negated && is_word(name) => Ok(Word::from_slice(alloc, name)?),
+        _ if !negated && is_word(text) => Ok(Word::from_slice(alloc, text)?),
+        _ => Err(RelationError {
             code: BAD_ARCHITECTURES,
-        });
+        }),
     }
-    Ok(Word::from_slice(alloc, name)?)
 }
 
 fn read_names(alloc: Global, negated: bool, text: &[u8]) -> Result<Vec<Word>, RelationError>
