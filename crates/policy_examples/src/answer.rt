@@ -6,7 +6,7 @@ use deb_version::VersionError;
 use std::alloc::{AllocError, AllocFailed, Global};
 
 /// Why a question has no text for an answer.
-#[derive(Clone, Copy, Debug)]
+#[derive(Drop)]
 pub enum Refusal {
     /// A value is refused with this code.
     Code(u16),

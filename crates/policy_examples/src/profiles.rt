@@ -3,7 +3,7 @@
 use crate::answer::{Answer, Refusal, yes_or_no};
 use crate::spelling::push_field;
 use deb_profile::{ArchNames, ProfileSet, keeps, reduce};
-use deb_relation::{Atom, Facts, Kind, Relations, satisfies};
+use deb_relation::{Atom, Entry, Facts, Kind, Relations, satisfies};
 use deb_version::Version;
 use std::alloc::Global;
 
@@ -89,9 +89,18 @@ fn is_satisfied(
         version: &version,
         provides: &provides,
     };
-    let satisfied = wanted.entries().iter().all(|entry| entry
-        .alternatives()
-        .iter()
-        .any(|atom| satisfies(&facts, atom)));
+    let mut satisfied = true;
+    for entry in wanted.entries() {
+        satisfied = satisfied && satisfies_some(&facts, entry);
+    }
     yes_or_no(alloc, satisfied)
+}
+
+fn satisfies_some(facts: &Facts, entry: &Entry) -> bool {
+    for atom in entry.alternatives() {
+        if satisfies(facts, atom) {
+            return true;
+        }
+    }
+    false
 }

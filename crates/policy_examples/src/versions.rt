@@ -16,10 +16,10 @@ pub fn answer(alloc: Global, question: &[u8], args: &[Vec<u8>]) -> Answer {
     }
 }
 
-/// The text of a version and of its copy.
+/// The text of a version's copy.
 fn read(alloc: Global, spelling: &[u8]) -> Answer {
     let version = Version::parse(alloc, spelling)?;
-    text(alloc, version.text())
+    text(alloc, version.clone()?.text())
 }
 
 fn message(alloc: Global, code: &[u8]) -> Answer {
