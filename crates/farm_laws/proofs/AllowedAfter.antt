@@ -10,36 +10,11 @@ use Rattle.farm_model.specs.declared.types.Slot.{Slot}
 use Rattle.farm_model.specs.declared.types.Slot.TheVariants.{Absent, Unpacked}
 use Rattle.farm_model.specs.Chroot.{last_of, member}
 use Rattle.farm_model.specs.Traps.{unpacked, changed}
+use Rattle.farm_model.proofs.ChangedLaws.{slot-changed, length-changed}
 use Rattle.plan_model.specs.May.{Bits, MaySlot, MayUnpacked, May}
 use Rattle.plan_model.specs.Allowed.{Allows, allows_unpacked, AllowsAll}
 use Rattle.plan_model.specs.MayAt.{may_be_last}
 use Rattle.farm_laws.proofs.Slots.{last_allowed, cond_allowed}
-
--- a member's slot is changed, the others stay
-pub slot-changed : (f : Slot → Slot) → f Absent ≡ Absent → (c : Chroot) (members : List ℕ) (n : ℕ)
-    → slot (changed f c members) n ≡ (if member members n then f (slot c n) else slot c n)
-slot-changed f none c members n =
-    elim (cases_lt n (length c)) [
-      | inl lt ↦ get_or-map-range_with_len
-          (λ k. if member members k then f (slot c k) else slot c k) 0 (length c) n n Absent lt
-          (zero-add n)
-      | inr ge ↦ let off : slot (changed f c members) n ≡ Absent
-          = get_or_past _ n Absent (omega (
-            arith,
-            length-map-range_with_len
-                (λ k. if member members k then f (slot c k) else slot c k) 0 (length c),
-          )) in
-          let was : slot c n ≡ Absent = get_or_past c n Absent ge in
-          off ∙ rw was (stays (member members n))
-    ]
-  where
-    stays : (b : Bool) → Absent ≡ (if b then f Absent else Absent)
-    stays true = sym none
-    stays false = refl
-
-pub length-changed : (f : Slot → Slot) (c : Chroot) (members : List ℕ)
-    → length (changed f c members) ≡ length c
-length-changed f c members = length-map-range_with_len _ 0 (length c)
 
 module _ (u : Universe) (m : May) (c : Chroot) (al : AllowsAll u m c) where
   -- the chroot after an unpack is allowed by the map after it

@@ -23,7 +23,7 @@ use Rattle.plan_model.specs.May.{Bits, MaySlot, May, may_hold_configured, surely
 use Rattle.plan_model.specs.Allowed.{Allows, AllowsAll}
 use Rattle.plan_model.specs.Risk.{greatest_cost, unpack_risks, some_may_member, configure_risks, surely_met_outside, may_meet, may_be_needed, withdraw_risks, may_be_unsettled, build_risks}
 use Rattle.farm_laws.proofs.Slots.{list_any-mono, not-mono, and-mono, or-mono, some_of-at, holds-may, holds_configured-may, surely_configured-holds, surely_holds-holds, surely_pre_meets-meets, size_in-may, is_unpacked-may, holds-mono, holds_configured-mono}
-use Rattle.farm_laws.proofs.AllowedAfter.{slot-changed, length-changed}
+use Rattle.farm_model.proofs.ChangedLaws.{slot-changed, length-changed}
 
 -- each test of the first list is bounded by that of the second
 pub data Covers : List (Bool × Trap) → List (Bool × Trap) → Type 0 where

@@ -16,7 +16,7 @@ use Rattle.plan_verifier.specs.declared.map.Held.TheVariants.{Absent}
 use Rattle.plan_verifier.specs.declared.map.MayMap.{MayMap}
 use Rattle.plan_verifier.specs.Map.{slot_of, held_at, may_of, IsBaseMap}
 use Rattle.farm_universe.proofs.PlaceLaws.{no_variants}
-use Rattle.plan_verifier.proofs.SetLaws.{find-all, find-passes}
+use Rattle.farm_model.proofs.FindLaws.{find-all, find-passes}
 
 module _ (u : Universe) (sound : IsUniverse u) (b : ℕ) where
   -- a base chroot holds nothing of what is no name

@@ -4,7 +4,8 @@ use Rattle.std.specs.List.{find}
 use Rattle.farm_model.specs.Packages.{base}
 use Rattle.farm_model.specs.Sound.{IsKnown}
 use Rattle.plan_model.specs.MayAt.{may_base_slot}
-use Rattle.plan_verifier.proofs.SetLaws.{configured-single, find-all}
+use Rattle.farm_model.proofs.FindLaws.{find-all}
+use Rattle.plan_verifier.proofs.SetLaws.{configured-single}
 use Rattle.plan_verifier.proofs.map.base_held.Goals as goal
 
 pub single-requires : goal.single-requires

@@ -1,0 +1,5 @@
+pub mod Needed
+pub mod Withdrawn
+pub mod Opened
+pub mod Sums
+pub mod Effects

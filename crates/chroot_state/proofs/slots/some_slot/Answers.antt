@@ -1,0 +1,14 @@
+use Rattle.std.proofs.Common.{sym, ap, ◌∙◌, length, arith}
+use Rattle.farm_model.specs.Chroot.{slot}
+use Rattle.farm_model.proofs.BelowLaws.{some_below-at}
+use Rattle.chroot_state.proofs.slots.some_slot.Goals as goal
+
+pub returns-then-passes : goal.returns-then-passes
+returns-then-passes g c =
+    sym
+    (some_below-at (length c.args.slots.now)
+    (λ n. g.T.SlotTest.test c.args.universe.now c.args.test.now n (slot c.args.slots.now n))
+    c.loop-name.name (omega (arith, c.requires.slots.long, c.names-count.ensures.number))
+    (ap (g.T.SlotTest.test c.args.universe.now c.args.test.now c.loop-name.name)
+    (sym c.slot_at.ensures)
+    ∙ (sym c.passes.ensures ∙ c.if-passes.true)))

@@ -1,0 +1,5 @@
+pub mod Slots
+pub mod Held
+pub mod Needed
+pub mod Changes
+pub mod Parts

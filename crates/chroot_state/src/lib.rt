@@ -1,0 +1,17 @@
+//! One chroot: what instructions do to it, and the traps that they meet.
+#![tactic(auto)]
+
+mod base;
+mod build;
+mod change;
+mod chroot;
+mod configure;
+mod met;
+mod phase;
+mod slots;
+mod space;
+mod unpack;
+mod withdraw;
+
+pub use chroot::Chroot;
+pub use phase::Phase;
