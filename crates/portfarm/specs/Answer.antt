@@ -14,8 +14,8 @@ use Rattle.plan_verifier.specs.Verdict.{IsVerdict}
 use Rattle.portfarm.specs.declared.TheConstants.{ACCEPTED, REFUSED}
 use Rattle.portfarm.specs.declared.answer.Answer.{Answer}
 use Rattle.portfarm.specs.declared.outside.TheConstants.{MOST_INPUT}
-use Rattle.portfarm.specs.Input.{Texts, texts_in}
-use Rattle.portfarm.specs.VerdictText.{verdict_text}
+use Rattle.farm_input.specs.Input.{Texts, texts_in}
+use Rattle.farm_report.specs.VerdictText.{verdict_text}
 
 -- a verdict on these four texts
 abbrev pub IsVerdictOnTexts : Texts → Result AcceptedPlan Refusal → Type 0

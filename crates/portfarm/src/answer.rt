@@ -3,8 +3,8 @@
 ghost use Rattle.std.specs.Prelude.{IfOk};
 ghost use Rattle.portfarm.specs.Answer.{IsAnswer};
 
-use crate::input::texts_of;
-use crate::verdict::verdict_text;
+use farm_input::texts_of;
+use farm_report::verdict_text;
 use plan_verifier::{Refusal, check};
 use std::alloc::{AllocError, Global};
 use std::thread::Threads;

@@ -6,10 +6,7 @@ ghost use Rattle.portfarm.specs.Answer as spec;
 ghost use Rattle.portfarm.specs.Answer.{IsAnswered};
 
 mod answer;
-mod input;
-mod lines;
 mod outside;
-mod verdict;
 
 use crate::answer::{Answer, answer_to};
 use crate::outside::{MOST_INPUT, OutsideFault, has_words, read_input, write_text};

@@ -3,6 +3,7 @@
 use super::machine::{Behind, Machine, Source};
 use crate::outside::{OutsideFault, read_input};
 use crate::run_or_tell;
+use std::alloc::AllocError;
 use std::process::Abort;
 use std::thread::Threads;
 
@@ -88,4 +89,11 @@ fn tells_that_a_write_failed(rt: HostRuntime) {
     let mut machine = Machine::new(rt, TEXTS, Behind::Nothing);
     machine.takes_output = false;
     assert_outcome(&machine, "", "portfarm: write failed\n", 3);
+}
+
+#[test]
+fn tells_want_of_memory(rt: HostRuntime) -> Result<(), AllocError> {
+    let text = OutsideFault::OutOfMemory.to_string(rt.alloc())?;
+    assert_eq!(rt; text.as_str(), "out of memory");
+    Ok(())
 }

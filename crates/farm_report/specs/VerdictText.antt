@@ -1,0 +1,45 @@
+-- The verdict as it is printed. The project's own format.
+--
+--   accepted_text, refusal_text     the lines of an acceptance and of a refusal
+--   verdict_text                    the lines of a verdict
+use Rattle.std.specs.Prelude.{ℕ, zero, suc, ◌==◌, if◌then◌else◌, List, [], ◌∷◌, ◌++◌, length, codes, Result, Ok, Err}
+use Rattle.std.specs.List.{concat}
+use Rattle.deb_text.specs.Lists.{lists}
+use Rattle.farm_model.specs.TrapText.{trap_text}
+use Rattle.plan_model.specs.MayAt.{lane_cost}
+use Rattle.plan_model.specs.Plan.{lane, count}
+use Rattle.plan_verifier.specs.Accepted.{AcceptedPlan, known_rows}
+use Rattle.plan_verifier.specs.declared.refusal.Refusal.{Refusal}
+use Rattle.plan_verifier.specs.declared.refusal.Refusal.TheVariants.{Text, Unsafe, Stuck, Memory}
+use Rattle.farm_report.specs.AnswerLines.{counted_line, lane_line, fault_line, unsafe_line, stuck_line}
+
+-- the texts are the files 1 to 4
+abbrev pub file_name : ℕ → List ℕ
+file_name file =
+    if file == 1 then codes "packages" else if file == 2 then codes "sources"
+    else if file == 3 then codes "farm" else codes "plan"
+
+-- the lines of the first n lanes, each with its cost and its budget
+abbrev pub lane_lines : AcceptedPlan → ℕ → List ℕ
+lane_lines a zero = []
+lane_lines a (suc n) =
+    lane_lines a n ++ lane_line (lane a.plan n).name (lane_cost a.universe a.plan (known_rows a) n)
+    (lane a.plan n).budget
+
+-- an acceptance: how many lanes and events there are, and the lanes in file order
+abbrev pub accepted_text : AcceptedPlan → List ℕ
+accepted_text a =
+    concat (codes "accepted\n" ∷ counted_line (codes "lanes") (length a.plan)
+    ∷ counted_line (codes "count") (count a.universe a.plan) ∷ lane_lines a (length a.plan) ∷ [])
+
+-- the one line of a refusal; the program never prints that of want of memory
+abbrev pub refusal_text : Refusal → List ℕ
+refusal_text (Text fault) = fault_line fault.code (file_name fault.file) fault.line
+refusal_text (Unsafe name number trap) = unsafe_line name.items number (trap_text trap)
+refusal_text (Stuck names) = stuck_line (lists names.items)
+refusal_text Memory = codes "refused 900\n"
+
+-- the lines of either
+abbrev pub verdict_text : Result AcceptedPlan Refusal → List ℕ
+verdict_text (Ok a) = accepted_text a
+verdict_text (Err refusal) = refusal_text refusal
