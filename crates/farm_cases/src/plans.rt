@@ -1,0 +1,84 @@
+//! A plan in a readable form.
+
+use crate::relations::{push_entry, push_relation};
+use anyhow::Result;
+use farm_universe::Universe;
+use plan_asm::{Instruction, Lane, Members, Plan};
+
+/// The text of a name, which every plan of the universe has.
+fn name_of(universe: &Universe, name: u32) -> &[u8] {
+    if name < universe.names() {
+        universe.name_text(name)
+    } else {
+        b"?"
+    }
+}
+
+fn base_of(universe: &Universe, number: u32) -> &[u8] {
+    if number < universe.bases() {
+        universe.base(number).name()
+    } else {
+        b"?"
+    }
+}
+
+fn push_members(
+    text: &mut String,
+    universe: &Universe,
+    word: &str,
+    members: &Members,
+) -> Result<()> {
+    text.push_str(word)?;
+    for name in members.as_slice() {
+        write!(text, " {}", name_of(universe, *name).escape_ascii())?;
+    }
+    Ok(())
+}
+
+fn push_instruction(
+    text: &mut String,
+    universe: &Universe,
+    instruction: &Instruction,
+) -> Result<()> {
+    match instruction {
+        Instruction::Unpack { name, relation } => {
+            write!(text, "unpack {}", name_of(universe, *name).escape_ascii())?;
+            push_relation(text, relation)?;
+        }
+        Instruction::Configure(members) => push_members(text, universe, "configure", members)?,
+        Instruction::Deconfigure(members) => push_members(text, universe, "deconfigure", members)?,
+        Instruction::Remove(members) => push_members(text, universe, "remove", members)?,
+        Instruction::Build(recipe) => write!(text, "build {recipe}")?,
+        Instruction::Publish(recipe) => write!(text, "publish {recipe}")?,
+        Instruction::Wait(entry) => {
+            text.push_str("wait")?;
+            push_entry(text, entry)?;
+        }
+    }
+    Ok(())
+}
+
+fn push_lane(text: &mut String, universe: &Universe, lane: &Lane) -> Result<()> {
+    writeln!(
+        text,
+        "lane {} chroot {} budget {}",
+        lane.name().escape_ascii(),
+        base_of(universe, lane.base()).escape_ascii(),
+        lane.budget()
+    )?;
+    for instruction in lane.instructions() {
+        text.push_str("  ")?;
+        push_instruction(text, universe, instruction)?;
+        text.push_str("\n")?;
+    }
+    Ok(())
+}
+
+/// Puts the lines of a plan behind a text: how many events it has, and the lanes in file order.
+pub fn push_plan(text: &mut String, universe: &Universe, plan: &Plan) -> Result<()> {
+    writeln!(text, "count {}", plan.count())?;
+    for number in 0..plan.lanes() {
+        push_lane(text, universe, plan.lane(number))?;
+    }
+    Ok(())
+}
