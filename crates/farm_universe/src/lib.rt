@@ -17,8 +17,6 @@ mod reduction;
 pub mod relations;
 mod source_table;
 mod sources;
-#[cfg(test)]
-mod tests;
 mod texts;
 mod universe;
 
