@@ -17,6 +17,3 @@ pub use lane::Lane;
 pub use plan::Plan;
 pub use plan_model::{Instruction, Members};
 pub use reader::assemble;
-
-#[cfg(test)]
-mod tests;
