@@ -20,6 +20,3 @@ mod walk;
 pub use accepted::Accepted;
 pub use refusal::{NOT_JUDGED, Refusal, STUCK, UNSAFE};
 pub use verdict::check;
-
-#[cfg(test)]
-mod tests;
