@@ -1,7 +1,8 @@
 -- The lines of an answer. The project's own format; numbers are decimal without leading zeros.
-use Rattle.std.specs.Prelude.{ℕ, List, [], ◌∷◌, ◌++◌, codes}
-use Rattle.std.specs.List.{concat, flat_map}
+use Rattle.std.specs.Prelude.{ℕ, List, [], ◌∷◌, codes}
+use Rattle.std.specs.List.{concat}
 use Rattle.std.specs.Fmt.{decimal}
+use Rattle.deb_text.specs.Words.{spaced}
 use Rattle.plan_verifier.specs.declared.refusal.TheConstants.{UNSAFE, STUCK}
 
 -- `WORD N`
@@ -25,10 +26,6 @@ abbrev pub unsafe_line : List ℕ → ℕ → List ℕ → List ℕ
 unsafe_line lane instruction trap =
     concat (codes "refused " ∷ decimal UNSAFE ∷ codes " lane " ∷ lane ∷ codes " instruction "
     ∷ decimal instruction ∷ codes " " ∷ trap ∷ codes "\n" ∷ [])
-
--- each name behind a space
-abbrev pub spaced : List (List ℕ) → List ℕ
-spaced names = flat_map (λ name. codes " " ++ name) names
 
 -- `refused 402 lanes NAME NAME ..`, by the code `STUCK`
 abbrev pub stuck_line : List (List ℕ) → List ℕ

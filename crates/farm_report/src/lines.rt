@@ -4,7 +4,8 @@
 ghost use Rattle.std.specs.Prelude.{◌≡◌, ◌++◌, OnOk, map};
 ghost use Rattle.std.specs.List.{concat};
 ghost use Rattle.deb_text.specs.Lists.{lists};
-ghost use Rattle.farm_report.specs.AnswerLines.{counted_line, lane_line, fault_line, unsafe_line, spaced, stuck_line};
+ghost use Rattle.deb_text.specs.Words.{spaced};
+ghost use Rattle.farm_report.specs.AnswerLines.{counted_line, lane_line, fault_line, unsafe_line, stuck_line};
 
 use plan_verifier::{STUCK, UNSAFE};
 use std::alloc::{AllocError, Global};

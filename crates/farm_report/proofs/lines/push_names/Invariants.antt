@@ -1,6 +1,6 @@
 use Rattle.std.proofs.Common.{◌≡◌, ◌++◌, drop}
 use Rattle.deb_text.specs.Lists.{lists}
-use Rattle.farm_report.specs.AnswerLines.{spaced}
+use Rattle.deb_text.specs.Words.{spaced}
 use Rattle.farm_report.proofs.lines.push_names.Given as goal
 
 abbrev pub invariant-loop-name : goal.invariant-loop-name

@@ -3,7 +3,7 @@ use Rattle.std.specs.Fmt.{decimal}
 use Rattle.std.proofs.lemmas.Result.{on_ok_weaker}
 use Rattle.deb_text.specs.Lists.{lists}
 use Rattle.plan_verifier.specs.declared.refusal.TheConstants.{STUCK}
-use Rattle.farm_report.specs.AnswerLines.{spaced}
+use Rattle.deb_text.specs.Words.{spaced}
 use Rattle.farm_report.proofs.PieceLaws.{five_behind}
 use Rattle.farm_report.proofs.lines.push_stuck.Goals as goal
 
