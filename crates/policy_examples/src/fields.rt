@@ -39,8 +39,14 @@ fn read(alloc: Global, question: &[u8], kind: Kind, text: &[u8]) -> Answer {
     let mut answer = Vec::new(alloc);
     match question {
         b"field" => push_field(&mut answer, &Relations::parse(alloc, text, kind)?.clone()?)?,
-        b"entry" => push_entry(&mut answer, &Entry::parse(alloc, text, kind)?)?,
-        b"alternative" => push_atom(&mut answer, &Atom::parse(alloc, text, kind)?)?,
+        b"entry" => {
+            let entry = Entry::parse(alloc, text, kind)?;
+            push_field(&mut answer, &Relations::from_entries(only(alloc, entry)?))?;
+        }
+        b"alternative" => {
+            let atom = Atom::parse(alloc, text, kind)?;
+            push_entry(&mut answer, &Entry::from_alternatives(only(alloc, atom)?))?;
+        }
         b"unrestricted" => {
             let atom = Atom::parse(alloc, text, kind)?;
             push_atom(&mut answer, &atom.clone_unrestricted()?)?;
@@ -49,6 +55,13 @@ fn read(alloc: Global, question: &[u8], kind: Kind, text: &[u8]) -> Answer {
         _ => return Err(Refusal::NoQuestion),
     }
     Ok(answer)
+}
+
+/// A list of one item.
+fn only<T: Drop>(alloc: Global, item: T) -> Result<Vec<T>, Refusal> {
+    let mut items = Vec::new(alloc);
+    items.push(item)?;
+    Ok(items)
 }
 
 /// Adds how many alternatives each entry has, and the name of each entry's last one.
