@@ -6,6 +6,6 @@ mod reduction;
 mod restriction;
 mod word_list;
 
-pub use reduction::reduce;
+pub use reduction::{reduce, reduce_entry};
 pub use restriction::keeps;
 pub use word_list::{ArchNames, ProfileSet};

@@ -27,12 +27,31 @@ pub fn reduce(
 {
     let mut entries = Vec::new(alloc);
     for entry in relations.entries() {
-        push_left(&mut entries, reduce_entry(alloc, names, active, entry)?)?;
+        push_left(
+            &mut entries,
+            alternatives_left(alloc, names, active, entry)?,
+        )?;
     }
     Ok(Relations::from_entries(entries))
 }
 
-fn reduce_entry(
+/// What is left of one entry, as [`reduce`] leaves it: no alternative where none stays.
+///
+/// # Errors
+///
+/// Where memory is refused. Nothing is left behind.
+pub fn reduce_entry(
+    alloc: Global,
+    entry: &Entry,
+    names: &ArchNames,
+    active: &ProfileSet,
+) -> Result<Entry, AllocError>
+    ensures { IfOk result (λ left. left ≡ reduced_entry names.now active.now entry.now) }
+{
+    Ok(Entry::from_alternatives(alternatives_left(alloc, names, active, entry)?))
+}
+
+fn alternatives_left(
     alloc: Global,
     names: &ArchNames,
     active: &ProfileSet,
