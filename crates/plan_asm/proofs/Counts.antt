@@ -1,11 +1,10 @@
--- The count of a plan whose instructions are one event each.
-use Rattle.std.proofs.Common.{◌≡◌, ℕ, zero, suc, ◌+◌, List, [], ◌∷◌, length, length-append, refl, sym, ap, ◌∙◌, arith, All, one-add}
+-- The count of a plan, as a sum over its lanes.
+use Rattle.std.proofs.Common.{◌≡◌, ℕ, zero, suc, ◌+◌, List, [], ◌∷◌, length, ◌<◌, ◌≤◌, ◌++◌, drop, get_or, length-append, refl, sym, ap, ◌∙◌, arith}
 use Rattle.std.specs.List.{sum_by}
-use Rattle.std.proofs.lemmas.List.Elements.{All-head, All-tail}
+use Rattle.std.proofs.lemmas.List.{at_drop_more, drop_all}
 use Rattle.std.proofs.lemmas.List.Sums.{sum_by-cons}
 use Rattle.farm_model.specs.Below.{sum_below}
 use Rattle.farm_model.specs.Universe.{Universe}
-use Rattle.plan_model.specs.declared.instructions.Instruction.{Instruction}
 use Rattle.plan_asm.specs.Drafts.{instructions_of}
 use Rattle.plan_model.specs.Plan.{Lane, Plan, lane, events_of, count}
 
@@ -22,35 +21,35 @@ sum_below-lanes g (l ∷ ls) =
     sum_below-first (length ls) (λ k. g (lane (l ∷ ls) k))
     ∙ ap (λ n. g l + n) (sum_below-lanes g ls) ∙ sym (sum_by-cons g l ls)
 
-module _ (u : Universe) where
-  -- one event each
-  abbrev pub AreSingle : List Instruction → Type 0
-  AreSingle xs = All (λ (x : Instruction). events_of u x ≡ 1) xs
+-- the events of the plan, lane by lane
+pub count-lanes : (u : Universe) (p : Plan)
+    → count u p ≡ sum_by (λ (l : Lane). sum_by (events_of u) l.instructions) p
+unfolding count
+count-lanes u p = sum_below-lanes (λ (l : Lane). sum_by (events_of u) l.instructions) p
 
-  events-single : (xs : List Instruction) → AreSingle xs → sum_by (events_of u) xs ≡ length xs
-  events-single [] single = refl
-  events-single (x ∷ xs) single =
-      let first = All-head (λ (x : Instruction). events_of u x ≡ 1) x xs single in
-      let rest = All-tail (λ (x : Instruction). events_of u x ≡ 1) x xs single in
-      sum_by-cons (events_of u) x xs ∙ rw (first, events-single xs rest) (one-add (length xs))
+-- a lane has no more instructions than all lanes have
+pub lane-short : (ls : List Lane) (i : ℕ) (l : Lane) → i < length ls → l ≡ get_or ls i l
+    → length l.instructions ≤ length (instructions_of ls)
+lane-short [] i l lt is = grind (arith, lt)
+lane-short (x ∷ ls) zero l lt is =
+    let long = length-append x.instructions (instructions_of ls) in
+    rw is (omega (arith, long))
+lane-short (x ∷ ls) (suc i) l lt is =
+    let long = length-append x.instructions (instructions_of ls) in
+    let rest = lane-short ls i l (omega (arith, lt)) is in
+    omega (arith, long, rest)
 
-  -- the events of a lane
-  events : Lane → ℕ
-  events l = sum_by (events_of u) l.instructions
+-- a sum that takes one more
+pub sum-goes : {X : Type 0} (f : X → ℕ) (xs : List X) (i : ℕ) (x : X) (n total : ℕ)
+    → i < length xs → x ≡ get_or xs i x → n + sum_by f (drop i xs) ≡ total
+    → n + f x + sum_by f (drop (i + 1) xs) ≡ total
+sum-goes f xs i x n total lt is so_far =
+    let step = at_drop_more (sum_by f) xs i x lt ∙ sum_by-cons f (get_or xs i x) (drop (i + 1) xs) in
+    let same = ap f is in
+    omega (arith, so_far, step, same)
 
-  events-lanes : (p : Plan) → All (λ (l : Lane). AreSingle l.instructions) p
-      → sum_by events p ≡ length (instructions_of p)
-  unfolding events
-  events-lanes [] single = refl
-  events-lanes (l ∷ ls) single =
-      let first = All-head (λ (l : Lane). AreSingle l.instructions) l ls single in
-      let rest = All-tail (λ (l : Lane). AreSingle l.instructions) l ls single in
-      sum_by-cons events l ls
-      ∙ rw (events-single l.instructions first, events-lanes ls rest)
-      (sym (length-append l.instructions (instructions_of ls)))
-
-  -- as many events as instructions
-  pub count-single : (p : Plan) → All (λ (l : Lane). AreSingle l.instructions) p
-      → count u p ≡ length (instructions_of p)
-  unfolding count events
-  count-single p single = sum_below-lanes events p ∙ events-lanes p single
+pub sum-ends : {X : Type 0} (f : X → ℕ) (xs : List X) (i n total : ℕ) → length xs ≤ i
+    → n + sum_by f (drop i xs) ≡ total → n ≡ total
+sum-ends f xs i n total le so_far =
+    let none = ap (sum_by f) (drop_all i xs le) in
+    omega (arith, so_far, none)

@@ -1,18 +1,20 @@
 -- Numbers that stand twice, found by a table.
-use Rattle.std.proofs.Common.{◌⊎◌, inl, inr, ◌≡◌, ◌<◌, ℕ, ◌+◌, ◌==◌, ◌||◌, Bool, true, false, List, [], ◌∷◌, ◌++◌, length, get_or, take, drop, set, refl, sym, ap, ◌∙◌}
+use Rattle.std.proofs.Common.{◌⊎◌, inl, inr, ◌≡◌, ◌<◌, ℕ, ◌+◌, ◌==◌, ◌||◌, Bool, true, false, List, [], ◌∷◌, ◌++◌, length, get_or, take, drop, set, refl, sym, ap, ◌∙◌, Ok, Err}
 use Rattle.std.specs.List.{list_any}
 use Rattle.std.proofs.lemmas.Bool.{eqb-true, eqb-false, or_parts, eq-eqb, ne_eqb, cases_eq}
-use Rattle.std.proofs.lemmas.List.{take_more, get_or-set_same, get_or-set_other, take-append-drop}
+use Rattle.std.proofs.lemmas.List.{take_more, get_or-set_same, get_or-set_other, take-append-drop, append-nil}
 use Rattle.std.proofs.lemmas.List.Folds.{list_any-append}
 use Rattle.farm_model.specs.Chroot.{member}
+use Rattle.plan_asm.specs.declared.error.TheConstants.{PUBLISHED_TWICE}
+use Rattle.plan_asm.specs.Drafts.{published_once}
 use Rattle.plan_asm.specs.Seen.{Marks}
 use Rattle.plan_model.specs.Sound.{has_double}
 
-or-true : (a : Bool) → (a || true) ≡ true
+pub or-true : (a : Bool) → (a || true) ≡ true
 or-true true = refl
 or-true false = refl
 
-or-nil : (a : Bool) → (a || false) ≡ a
+pub or-nil : (a : Bool) → (a || false) ≡ a
 or-nil true = refl
 or-nil false = refl
 
@@ -30,11 +32,29 @@ eq-turn a b = go (a == b) (b == a) refl refl where
   go true false e f = absurd (eqb-false b a f (sym (eqb-true a b e)))
   go false true e f = absurd (eqb-false a b e (sym (eqb-true b a f)))
 
-double-push : (ns : List ℕ) (n : ℕ) → has_double (ns ++ n ∷ []) ≡ (has_double ns || member ns n)
+pub double-push : (ns : List ℕ) (n : ℕ) → has_double (ns ++ n ∷ []) ≡ (has_double ns || member ns n)
 double-push [] n = refl
 double-push (x ∷ ns) n =
     rw (list_any-append (λ y. y == x) ns (n ∷ []), double-push ns n, eq-turn n x, or-nil (x == n))
     (or-four (member ns x) (x == n) (has_double ns) (member ns n))
+
+-- a test of equality turned round
+any-turn : (ns : List ℕ) (n : ℕ) → list_any (λ m. n == m) ns ≡ member ns n
+any-turn [] n = refl
+any-turn (x ∷ ns) n = rw (eq-turn n x, any-turn ns n) refl
+
+-- a recipe that is new, and one that is not
+pub new-once : (ns : List ℕ) (n : ℕ) → has_double ns ≡ false → list_any (λ m. n == m) ns ≡ false
+    → published_once (ns ++ n ∷ []) ≡ Ok (ns ++ n ∷ [])
+new-once ns n once new = rw (double-push ns n, once, sym (any-turn ns n), new) refl
+
+pub old-twice : (ns : List ℕ) (n : ℕ) → list_any (λ m. n == m) ns ≡ true
+    → published_once (ns ++ n ∷ []) ≡ Err PUBLISHED_TWICE
+old-twice ns n old =
+    rw (double-push ns n, sym (any-turn ns n), old, or-true (has_double ns)) refl
+
+pub same-once : (ns : List ℕ) → has_double ns ≡ false → published_once (ns ++ []) ≡ Ok ns
+same-once ns once = rw (append-nil ns, once) refl
 
 any-front : (p : ℕ → Bool) (xs ys : List ℕ) → list_any p (xs ++ ys) ≡ false
     → list_any p xs ≡ false
@@ -44,7 +64,7 @@ any-front p (x ∷ xs) ys e =
     rw (q.0, any-front p xs ys q.1) refl
 
 -- a part in front of numbers that differ has numbers that differ
-double-front : (xs ys : List ℕ) → has_double (xs ++ ys) ≡ false → has_double xs ≡ false
+pub double-front : (xs ys : List ℕ) → has_double (xs ++ ys) ≡ false → has_double xs ≡ false
 double-front [] ys e = refl
 double-front (x ∷ xs) ys e =
     let q = or_parts (member (xs ++ ys) x) (has_double (xs ++ ys)) e in

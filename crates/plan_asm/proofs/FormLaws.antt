@@ -1,24 +1,19 @@
 -- What the form of a line keeps: a budget is small.
 use Rattle.std.proofs.Common.{◌≡◌, ℕ, ◌<◌, ◌^◌, Bool, true, false, not, ◌&&◌, List, [], ◌∷◌, refl, Result, Ok, Err, IfOk}
 use Rattle.std.specs.Prelude.{codes}
-use Rattle.std.specs.List.{list_all}
-use Rattle.std.specs.Option.{is_none}
 use Rattle.std.specs.Str.{bytes_eq}
-use Rattle.deb_relation.specs.declared.kind.Kind.TheVariants.{Need}
-use Rattle.deb_relation.specs.Field.{alternative_at}
-use Rattle.deb_relation.specs.Relations.{Atom}
 use Rattle.deb_text.proofs.AgainLaws.{number-small}
 use Rattle.deb_text.specs.Cuts.{is_nil}
 use Rattle.deb_text.specs.Numbers.{is_number, number_at}
+use Rattle.deb_text.specs.Steps.{◌>>=◌}
 use Rattle.deb_text.specs.Words.{words, is_word}
-use Rattle.plan_asm.specs.Forms.{Form, LaneForm, EndForm, UnpackForm, ConfigureForm, lane_with, lane_form, is_exact, unpack_in, form_at, first_word, behind_word}
+use Rattle.plan_asm.specs.Forms.{Wording, Form, LaneForm, EndForm, InstructionForm, lane_with, lane_form, wording_by, form_at, first_word, behind_word}
 use Rattle.plan_asm.proofs.Carried.{if-has}
 
 abbrev pub IsForm : Form → Type 0
 IsForm (LaneForm name chroot budget) = budget < 10 ^ 15
 IsForm EndForm = Unit {0}
-IsForm (UnpackForm name relation) = Unit {0}
-IsForm (ConfigureForm names) = Unit {0}
+IsForm (InstructionForm wording) = Unit {0}
 
 lane_with-has : (name chroot budget : List ℕ)
     → IfOk (lane_with name chroot (number_at budget)) IsForm
@@ -39,10 +34,10 @@ lane_form-has (a ∷ b ∷ c ∷ d ∷ e ∷ []) =
     (λ _. lane_with-has a c e) (λ _. tt)
 lane_form-has (a ∷ b ∷ c ∷ d ∷ e ∷ f ∷ ws) = tt
 
-unpack_in-has : (r : Result Atom ℕ) → IfOk (unpack_in r) IsForm
-unpack_in-has (Ok atom) =
-    if-has IsForm (is_none atom.qualifier && is_exact atom.relation) _ _ (λ _. tt) (λ _. tt)
-unpack_in-has (Err code) = tt
+instruction-has : (r : Result Wording ℕ)
+    → IfOk (r >>= λ (wording : Wording). Ok (InstructionForm wording)) IsForm
+instruction-has (Ok wording) = tt
+instruction-has (Err code) = tt
 
 pub form-has : (line : List ℕ) → IfOk (form_at line) IsForm
 unfolding form_at
@@ -51,10 +46,4 @@ form-has line =
     (λ _. lane_form-has (words (behind_word line)))
     (λ _. if-has IsForm (bytes_eq (first_word line) (codes "end")) _ _
     (λ _. if-has IsForm (is_nil (words (behind_word line))) _ _ (λ _. tt) (λ _. tt))
-    (λ _. if-has IsForm (bytes_eq (first_word line) (codes "unpack")) _ _
-    (λ _. unpack_in-has (alternative_at Need (behind_word line)))
-    (λ _. if-has IsForm (bytes_eq (first_word line) (codes "configure")) _ _
-    (λ _. if-has IsForm
-    (not (is_nil (words (behind_word line))) && list_all is_word (words (behind_word line))) _ _
-    (λ _. tt) (λ _. tt))
-    (λ _. tt))))
+    (λ _. instruction-has (wording_by (first_word line) (behind_word line))))

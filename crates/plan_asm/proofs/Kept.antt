@@ -1,5 +1,5 @@
 -- What is read without a fault keeps to the limits and is a plan of its universe.
-use Rattle.std.proofs.Common.{◌≡◌, ℕ, ◌<◌, ◌^◌, true, List, [], ◌∷◌, length, refl, sym, ◌∙◌, subst, arith, Some, Result, Ok, Err, IfOk, All}
+use Rattle.std.proofs.Common.{◌≡◌, ℕ, ◌<◌, ◌^◌, false, List, [], ◌∷◌, length, refl, subst, arith, Some, Result, Ok, Err, IfOk, All}
 use Rattle.std.specs.Prelude.{slice_get}
 use Rattle.std.proofs.lemmas.List.Elements.{All-nil, All-weaker}
 use Rattle.std.proofs.lemmas.Option.{get_or_from_slice_get, slice_get_within}
@@ -11,44 +11,39 @@ use Rattle.farm_model.specs.Packages.{names}
 use Rattle.farm_model.specs.Sound.{IsUniverse}
 use Rattle.farm_universe.specs.Told.{in_file}
 use Rattle.farm_model.specs.Universe.{Universe}
-use Rattle.plan_asm.specs.declared.draft.Open.{Open}
-use Rattle.plan_asm.specs.declared.draft.Open.TheVariants.{Nothing, InLane}
 use Rattle.plan_asm.specs.declared.error.TheConstants.{FILE}
 use Rattle.plan_model.specs.declared.instructions.Instruction.{Instruction}
 use Rattle.plan_model.specs.declared.instructions.Instruction.TheVariants.{Unpack, Configure, Deconfigure, Remove, Build, Publish, Wait}
-use Rattle.plan_asm.specs.Drafts.{Draft, empty, all_lanes, instructions_of}
+use Rattle.plan_asm.specs.Drafts.{Open, Nothing, InLane, Draft, empty, all_lanes, instructions_of, published}
 use Rattle.plan_asm.specs.CountedPlan.{CountedPlan}
 use Rattle.plan_asm.specs.Ends.{finished, IsWithinLimits}
 use Rattle.plan_asm.specs.Forms.{form_at, is_head}
-use Rattle.plan_model.specs.Plan.{Lane, Plan, lane, no_lane, events_of, count}
+use Rattle.plan_model.specs.Plan.{Lane, Plan, lane, no_lane}
 use Rattle.plan_asm.specs.PlanText.{take_text, take_line, draft_of, plan_in, plan_of}
-use Rattle.plan_model.specs.Sound.{IsInstruction, IsPlan}
+use Rattle.plan_model.specs.Sound.{has_double, IsInstruction, IsPlan}
 use Rattle.plan_asm.proofs.Carried.{if-has, then-has, steps-keep, placed-has, always, has-ok}
-use Rattle.plan_asm.proofs.Counts.{AreSingle, count-single}
 use Rattle.plan_asm.proofs.DraftLaws.{IsGood, IsGoodLane, IsGoodDraft, take_form-has}
 use Rattle.plan_asm.proofs.FormLaws.{IsForm, form-has}
+use Rattle.plan_asm.proofs.Publishes.{once-in}
 
--- an instruction that lines can give so far is one event
-good-single : (u : Universe) (x : Instruction) → IsGood u x → events_of u x ≡ 1
-good-single u (Unpack name wanted) good = refl
-good-single u (Configure members) good = refl
-good-single u (Deconfigure members) good = absurd good
-good-single u (Remove members) good = absurd good
-good-single u (Build r) good = absurd good
-good-single u (Publish r) good = absurd good
-good-single u (Wait e) good = absurd good
-
--- and speaks of what there is
+-- an instruction of a plan speaks of what there is
 good-instruction : (u : Universe) → length u.names ≡ names u → (x : Instruction) → IsGood u x
     → IsInstruction u x
 good-instruction u listed (Unpack name wanted) good = rw listed at good
 good-instruction u listed (Configure members) good =
     record { known = rw listed at good.0; distinct = good.1 }
-good-instruction u listed (Deconfigure members) good = absurd good
-good-instruction u listed (Remove members) good = absurd good
-good-instruction u listed (Build r) good = absurd good
-good-instruction u listed (Publish r) good = absurd good
-good-instruction u listed (Wait e) good = absurd good
+good-instruction u listed (Deconfigure members) good =
+    record { known = rw listed at good.0; distinct = good.1 }
+good-instruction u listed (Remove members) good =
+    record { known = rw listed at good.0; distinct = good.1 }
+good-instruction u listed (Build r) good = good
+good-instruction u listed (Publish r) good = good
+good-instruction u listed (Wait e) good = tt
+
+-- what a text without a fault stands for
+record IsGoodPlan (u : Universe) (p : Plan) : Type 0 where
+  lanes : All (IsGoodLane u) p
+  once : has_double (published (instructions_of p)) ≡ false
 
 module _ (u : Universe) where
   -- ---- lines
@@ -64,7 +59,12 @@ module _ (u : Universe) where
   unfolding draft_of
   draft-has ls =
       steps-keep (take_line u) (IsGoodDraft u) line-has ls empty
-      (record { lanes = All-nil (IsGoodLane u); few = omega arith; small = omega arith })
+      (record {
+        lanes = All-nil (IsGoodLane u);
+        few = omega arith;
+        small = omega arith;
+        once = refl;
+      })
 
   good-read : (d : Draft) → IsGoodDraft u d → IsWithinLimits (all_lanes d.lanes d.current)
   good-read d good = record {
@@ -82,22 +82,22 @@ module _ (u : Universe) where
   -- ---- a text
 
   finished-has : (ls : List Lane) (o : Open) → IsGoodDraft u (record { lanes = ls; current = o })
-      → IfOk (finished ls o) (All (IsGoodLane u))
-  finished-has ls Nothing good = good.lanes
+      → IfOk (finished ls o) (IsGoodPlan u)
+  finished-has ls Nothing good = record { lanes = good.lanes; once = good.once }
   finished-has ls (InLane line l) good = tt
 
-  lines-has : (ls : List Line) → IfOk (plan_in u ls) (All (IsGoodLane u))
+  lines-has : (ls : List Line) → IfOk (plan_in u ls) (IsGoodPlan u)
   lines-has [] = tt
   lines-has ((number, line) ∷ ls) =
-      if-has (All (IsGoodLane u)) (is_head line) _ _
-      (λ _. then-has (IsGoodDraft u) (All (IsGoodLane u)) (draft_of u ls) _ (draft-has ls)
+      if-has (IsGoodPlan u) (is_head line) _ _
+      (λ _. then-has (IsGoodDraft u) (IsGoodPlan u) (draft_of u ls) _ (draft-has ls)
       (λ d good. finished-has d.lanes d.current good))
       (λ _. tt)
 
-  text-has : (text : List ℕ) → IfOk (plan_of u text) (All (IsGoodLane u))
+  text-has : (text : List ℕ) → IfOk (plan_of u text) (IsGoodPlan u)
   unfolding plan_of
   text-has text =
-      then-has (λ _. Unit {0}) (All (IsGoodLane u)) (in_file FILE (plain_lines_at text)) _
+      then-has (λ _. Unit {0}) (IsGoodPlan u) (in_file FILE (plain_lines_at text)) _
       (always (in_file FILE (plain_lines_at text))) (λ ls _. lines-has ls)
 
   -- ---- a plan
@@ -109,17 +109,18 @@ module _ (u : Universe) where
       subst (IsGood u) (get_or_from_slice_get xs i x x is)
       ((good l no_lane lt).instructions i x (slice_get_within xs i x is))
 
-  good-plan : (p : Plan) → length u.names ≡ names u → All (IsGoodLane u) p → IsPlan u p
+  good-plan : (p : Plan) → length u.names ≡ names u → IsGoodPlan u p → IsPlan u p
   good-plan p listed good = record {
-    bases = λ l lt. (good l no_lane lt).base;
-    instructions = λ l i x lt is. good-instruction u listed x (good-at p good l i x lt is);
-    published_once = λ l k i j r lt _ is _. absurd (good-at p good l i (Publish r) lt is);
+    bases = λ l lt. (good.lanes l no_lane lt).base;
+    instructions = λ l i x lt is. good-instruction u listed x (good-at p good.lanes l i x lt is);
+    published_once = λ l k i j r l_lt k_lt at_l at_k.
+        once-in p l k i j r good.once l_lt k_lt at_l at_k;
   }
 
   plan-sound : (text : List ℕ) (p : Plan) → plan_of u text ≡ Ok p → IsUniverse u → IsPlan u p
   unfolding names
   plan-sound text p is sound =
-      good-plan p sound.listed (has-ok (All (IsGoodLane u)) (plan_of u text) p (text-has text) is)
+      good-plan p sound.listed (has-ok (IsGoodPlan u) (plan_of u text) p (text-has text) is)
 
   -- a plan that was read over a sound universe
   pub gives-sound : (text : List ℕ) (r : Result CountedPlan Fault)
@@ -127,16 +128,3 @@ module _ (u : Universe) where
       → IfOk r (λ p. IsUniverse u → IsPlan u p.lanes)
   gives-sound text (Ok p) gives = plan-sound text p.lanes gives
   gives-sound text (Err e) gives = tt
-
-  -- has as many events as instructions
-  pub gives-counted : (text : List ℕ) (r : Result CountedPlan Fault)
-      → Gives refusal_of (λ p. p.lanes) r (plan_of u text)
-      → IfOk r (λ p. p.count ≡ length (instructions_of p.lanes))
-      → IfOk r (λ p. p.count ≡ count u p.lanes)
-  gives-counted text (Ok p) gives counted =
-      let good = has-ok (All (IsGoodLane u)) (plan_of u text) p.lanes (text-has text) gives in
-      counted ∙ sym (count-single u p.lanes (All-weaker (IsGoodLane u)
-      (λ (l : Lane). AreSingle u l.instructions)
-      (λ l h. All-weaker (IsGood u) (λ (x : Instruction). events_of u x ≡ 1) (good-single u)
-      l.instructions h.instructions) p.lanes good))
-  gives-counted text (Err e) gives counted = tt

@@ -5,3 +5,5 @@ pub mod DraftLaws
 pub mod FormLaws
 pub mod Kept
 pub mod Places
+pub mod Publishes
+pub mod Tallies

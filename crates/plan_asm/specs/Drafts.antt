@@ -2,23 +2,28 @@
 -- universe, d a draft, ls the lanes that have ended.
 --
 --   Draft                        what the lines so far say
---   known_name, known_base       a name's number in the universe, or UNKNOWN_NAME
---   set_of                       the numbers of a set of names
+--   known_name, known_base,
+--   known_recipe                 a name's number in the universe, or UNKNOWN_NAME
+--   set_of, instruction_of       the numbers of a set of names; the instruction that a line says
 --   take_form u number d form    the draft with one more line, or the code of the line's fault
-use Rattle.std.specs.Prelude.{ℕ, Bool, true, false, nat_le, List, [], ◌∷◌, ◌++◌, length, map, Option, Some, None, Result, Ok, Err, if◌then◌else◌}
+use Rattle.std.specs.Prelude.{ℕ, Bool, true, false, nat_le, nat_lt, List, [], ◌∷◌, ◌++◌, length, map, Option, Some, None, Result, Ok, Err, if◌then◌else◌}
 use Rattle.std.specs.List.{list_any, flat_map}
 use Rattle.std.specs.Str.{bytes_eq}
+use Rattle.deb_profile.specs.Reduction.{reduced_entry}
 use Rattle.deb_text.specs.Groups.{place_in}
 use Rattle.deb_text.specs.Steps.{◌>>=◌, traverse}
-use Rattle.farm_model.specs.Universe.{Base, Universe}
-use Rattle.plan_asm.specs.declared.draft.Open.{Open}
-use Rattle.plan_asm.specs.declared.draft.Open.TheVariants.{Nothing, InLane}
-use Rattle.plan_asm.specs.declared.error.TheConstants.{BAD_LINE, UNKNOWN_NAME, NAME_TWICE, LANE_TWICE, OVER_LIMIT, MOST_LANES, MOST_INSTRUCTIONS}
+use Rattle.farm_model.specs.Universe.{Base, Recipe, Universe}
+use Rattle.plan_asm.specs.declared.error.TheConstants.{BAD_LINE, UNKNOWN_NAME, NAME_TWICE, PUBLISHED_TWICE, NAME_TAKEN, OVER_LIMIT, MOST_LANES, MOST_INSTRUCTIONS}
 use Rattle.plan_model.specs.declared.instructions.Instruction.{Instruction}
-use Rattle.plan_model.specs.declared.instructions.Instruction.TheVariants.{Unpack, Configure}
-use Rattle.plan_asm.specs.Forms.{Form, LaneForm, EndForm, UnpackForm, ConfigureForm}
+use Rattle.plan_model.specs.declared.instructions.Instruction.TheVariants.{Unpack, Configure, Deconfigure, Remove, Build, Publish, Wait}
+use Rattle.plan_asm.specs.Forms.{Wording, UnpackForm, ConfigureForm, DeconfigureForm, RemoveForm, BuildForm, PublishForm, WaitForm, Form, LaneForm, EndForm, InstructionForm}
 use Rattle.plan_model.specs.Plan.{Lane}
 use Rattle.plan_model.specs.Sound.{has_double}
+
+-- what is left open, with the number of its first line
+pub data Open : Type 0 where
+  Nothing : Open
+  InLane : (line : ℕ) (lane : Lane) → Open
 
 -- the lanes that have ended, and what is left open
 pub record Draft : Type 0 where
@@ -42,6 +47,15 @@ all_lanes ls (InLane line lane) = ls ++ lane ∷ []
 -- the instructions of these lanes, lane by lane
 abbrev pub instructions_of : List Lane → List Instruction
 instructions_of ls = flat_map (λ (l : Lane). l.instructions) ls
+
+-- the recipe that an instruction publishes
+abbrev pub published_by : Instruction → List ℕ
+published_by (Publish r) = r ∷ []
+published_by _ = []
+
+-- the recipes that these instructions publish
+abbrev pub published : List Instruction → List ℕ
+published xs = flat_map published_by xs
 
 -- ---- names
 
@@ -70,6 +84,24 @@ distinct_set members = if has_double members then Err NAME_TWICE else Ok members
 unfoldable pub set_of : Universe → List (List ℕ) → Result (List ℕ) ℕ
 set_of u ws = traverse (known_name u) ws >>= distinct_set
 
+-- the names of the recipes, by number
+abbrev pub recipe_names : Universe → List (List ℕ)
+recipe_names u = map (λ (r : Recipe). r.name) u.recipes
+
+-- the number of a recipe
+unfoldable pub known_recipe : Universe → List ℕ → Result ℕ ℕ
+known_recipe u word = or_unknown (place_in bytes_eq (recipe_names u) word)
+
+-- the instruction that a line says; what a wait waits for is reduced to the farm's architecture
+unfoldable pub instruction_of : Universe → Wording → Result Instruction ℕ
+instruction_of u (UnpackForm name relation) = known_name u name >>= λ n. Ok (Unpack n relation)
+instruction_of u (ConfigureForm ws) = set_of u ws >>= λ members. Ok (Configure members)
+instruction_of u (DeconfigureForm ws) = set_of u ws >>= λ members. Ok (Deconfigure members)
+instruction_of u (RemoveForm ws) = set_of u ws >>= λ members. Ok (Remove members)
+instruction_of u (BuildForm word) = known_recipe u word >>= λ r. Ok (Build r)
+instruction_of u (PublishForm word) = known_recipe u word >>= λ r. Ok (Publish r)
+instruction_of u (WaitForm entry) = Ok (Wait (reduced_entry u.architectures [] entry))
+
 -- ---- lines
 
 -- a lane without instructions
@@ -84,7 +116,7 @@ fresh_lane name base budget = record {
 -- a lane opens at the line of this number
 abbrev pub open_lane : ℕ → Draft → List ℕ → ℕ → ℕ → Result Draft ℕ
 open_lane number d name budget base =
-    if list_any (λ (l : Lane). bytes_eq l.name name) d.lanes then Err LANE_TWICE
+    if list_any (λ (l : Lane). bytes_eq l.name name) d.lanes then Err NAME_TAKEN
     else (if nat_le MOST_LANES (length d.lanes) then Err OVER_LIMIT
     else Ok (record {
       lanes = d.lanes;
@@ -96,21 +128,27 @@ abbrev pub end_lane : List Lane → Open → Result Draft ℕ
 end_lane ls Nothing = Err BAD_LINE
 end_lane ls (InLane line lane) = Ok (record { lanes = ls ++ lane ∷ []; current = Nothing })
 
--- a lane with one more instruction behind the others
-abbrev pub with_instruction : Lane → Instruction → Lane
-with_instruction l x = record {
+-- a lane with more instructions behind the others
+abbrev pub with_instructions : Lane → List Instruction → Lane
+with_instructions l xs = record {
   name = l.name;
   base = l.base;
   budget = l.budget;
-  instructions = l.instructions ++ x ∷ [];
+  instructions = l.instructions ++ xs;
 }
 
--- an instruction comes into the open lane
-abbrev pub add : List Lane → Open → Instruction → Result Draft ℕ
-add ls Nothing x = Err BAD_LINE
-add ls (InLane line lane) x =
-    if nat_le MOST_INSTRUCTIONS (length (instructions_of (ls ++ lane ∷ []))) then Err OVER_LIMIT
-    else Ok (record { lanes = ls; current = InLane line (with_instruction lane x) })
+-- these recipes, none of them twice
+abbrev pub published_once : List ℕ → Result (List ℕ) ℕ
+published_once recipes = if has_double recipes then Err PUBLISHED_TWICE else Ok recipes
+
+-- instructions come into the open lane: no recipe is published twice, and there are not too many
+abbrev pub add : List Lane → Open → List Instruction → Result Draft ℕ
+add ls Nothing xs = Err BAD_LINE
+add ls (InLane line lane) xs =
+    let all = instructions_of (ls ++ lane ∷ []) ++ xs in
+    published_once (published all)
+    >>= λ _. (if nat_lt MOST_INSTRUCTIONS (length all) then Err OVER_LIMIT
+    else Ok (record { lanes = ls; current = InLane line (with_instructions lane xs) }))
 
 -- first whether the line may stand here, then its names, then what it changes
 unfoldable pub take_form : Universe → ℕ → Draft → Form → Result Draft ℕ
@@ -118,9 +156,7 @@ take_form u number d (LaneForm name chroot budget) =
     if is_open d.current then Err BAD_LINE
     else (known_base u chroot >>= open_lane number d name budget)
 take_form u number d EndForm = end_lane d.lanes d.current
-take_form u number d (UnpackForm name relation) =
-    if is_open d.current then (known_name u name >>= λ n. add d.lanes d.current (Unpack n relation))
-    else Err BAD_LINE
-take_form u number d (ConfigureForm ws) =
-    if is_open d.current then (set_of u ws >>= λ members. add d.lanes d.current (Configure members))
+take_form u number d (InstructionForm wording) =
+    if is_open d.current
+    then (instruction_of u wording >>= λ x. add d.lanes d.current (x ∷ []))
     else Err BAD_LINE

@@ -5,10 +5,8 @@
 use Rattle.std.specs.Prelude.{◌<◌, ◌≤◌, ◌^◌, List, length, All, Result, Ok, Err}
 use Rattle.deb_text.specs.declared.fault.Fault.{Fault}
 use Rattle.deb_text.specs.Answers.{fault_at}
-use Rattle.plan_asm.specs.declared.draft.Open.{Open}
-use Rattle.plan_asm.specs.declared.draft.Open.TheVariants.{Nothing, InLane}
 use Rattle.plan_asm.specs.declared.error.TheConstants.{FILE, MOST_LANES, MOST_INSTRUCTIONS, UNCLOSED}
-use Rattle.plan_asm.specs.Drafts.{instructions_of}
+use Rattle.plan_asm.specs.Drafts.{Open, Nothing, InLane, instructions_of}
 use Rattle.plan_model.specs.Plan.{Lane, Plan}
 
 -- what is left open is told at its first line

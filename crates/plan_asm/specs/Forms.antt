@@ -1,23 +1,40 @@
 -- A line of a plan by itself (the project's own format): blanks at its ends mean nothing, words
 -- stand between blanks.
 --
---   Form            what a line says
+--   Wording, Form   what the line of an instruction says; what a line says
 --   form_at line    the form of a line, or BAD_LINE
 --   is_head line    whether it is the line `plan 1`
-use Rattle.std.specs.Prelude.{ℕ, Bool, true, false, not, ◌&&◌, List, [], ◌∷◌, Option, Some, None, Result, Ok, Err, codes, if◌then◌else◌}
+use Rattle.std.specs.Prelude.{ℕ, Bool, false, not, ◌&&◌, List, [], ◌∷◌, Option, Some, None, Result, Ok, Err, codes, if◌then◌else◌}
 use Rattle.std.specs.List.{list_all}
 use Rattle.std.specs.Option.{is_none}
 use Rattle.std.specs.Str.{bytes_eq}
 use Rattle.deb_text.specs.Bytes.{is_blank, is_solid}
 use Rattle.deb_text.specs.Cuts.{is_nil, front, behind}
 use Rattle.deb_text.specs.Numbers.{number_at}
+use Rattle.deb_text.specs.Steps.{◌>>=◌}
 use Rattle.deb_text.specs.Words.{words, is_word}
 use Rattle.deb_relation.specs.declared.kind.Kind.TheVariants.{Need}
 use Rattle.deb_relation.specs.declared.operator.Op.{Op}
-use Rattle.deb_relation.specs.declared.operator.Op.TheVariants.{Earlier, EarlierOrEqual, Equal, LaterOrEqual, Later}
-use Rattle.deb_relation.specs.Field.{alternative_at}
-use Rattle.deb_relation.specs.Relations.{Atom}
+use Rattle.deb_relation.specs.Field.{alternative_at, entry_at}
+use Rattle.deb_relation.specs.Relations.{Atom, Entry}
 use Rattle.plan_asm.specs.declared.error.TheConstants.{BAD_LINE}
+
+-- what the line of an instruction says, its names as they stand there
+pub data Wording : Type 0 where
+  -- unpack NAME, perhaps with (OP VERSION)
+  UnpackForm : (name : List ℕ) (relation : Option (Op × List ℕ)) → Wording
+  -- configure NAME ..
+  ConfigureForm : (names : List (List ℕ)) → Wording
+  -- deconfigure NAME ..
+  DeconfigureForm : (names : List (List ℕ)) → Wording
+  -- remove NAME ..
+  RemoveForm : (names : List (List ℕ)) → Wording
+  -- build RECIPE
+  BuildForm : (recipe : List ℕ) → Wording
+  -- publish RECIPE
+  PublishForm : (recipe : List ℕ) → Wording
+  -- wait ENTRY
+  WaitForm : (entry : Entry) → Wording
 
 -- what a line says
 pub data Form : Type 0 where
@@ -25,10 +42,8 @@ pub data Form : Type 0 where
   LaneForm : (name chroot : List ℕ) (budget : ℕ) → Form
   -- end
   EndForm : Form
-  -- unpack NAME (OP VERSION)
-  UnpackForm : (name : List ℕ) (relation : Option (Op × List ℕ)) → Form
-  -- configure NAME ..
-  ConfigureForm : (names : List (List ℕ)) → Form
+  -- an instruction
+  InstructionForm : (wording : Wording) → Form
 
 -- the first word
 abbrev pub first_word : List ℕ → List ℕ
@@ -55,42 +70,50 @@ lane_form _ = Err BAD_LINE
 abbrev pub end_form : List (List ℕ) → Result Form ℕ
 end_form ws = if is_nil ws then Ok EndForm else Err BAD_LINE
 
--- whether a relation stands there and is `=`; so far it has to be
-abbrev pub is_exact : Option (Op × List ℕ) → Bool
-is_exact None = false
-is_exact (Some (Earlier, version)) = false
-is_exact (Some (EarlierOrEqual, version)) = false
-is_exact (Some (Equal, version)) = true
-is_exact (Some (LaterOrEqual, version)) = false
-is_exact (Some (Later, version)) = false
+-- behind `build` and `publish`: one word
+abbrev pub one_word : List (List ℕ) → Result (List ℕ) ℕ
+one_word (word ∷ []) = if is_word word then Ok word else Err BAD_LINE
+one_word _ = Err BAD_LINE
 
--- behind `unpack`: one alternative as in a Depends field (Debian Policy 7.1), without a qualifier
-abbrev pub unpack_of : Atom → Result Form ℕ
+-- behind `configure`, `deconfigure` and `remove`: one word at least
+abbrev pub some_words : List (List ℕ) → Result (List (List ℕ)) ℕ
+some_words ws = if not (is_nil ws) && list_all is_word ws then Ok ws else Err BAD_LINE
+
+-- behind `unpack`: no qualifier
+abbrev pub unpack_of : Atom → Result Wording ℕ
 unpack_of atom =
-    if is_none atom.qualifier && is_exact atom.relation
-    then Ok (UnpackForm atom.name atom.relation) else Err BAD_LINE
+    if is_none atom.qualifier then Ok (UnpackForm atom.name atom.relation) else Err BAD_LINE
 
--- any fault of it is the line's
-abbrev pub unpack_in : Result Atom ℕ → Result Form ℕ
-unpack_in (Ok atom) = unpack_of atom
-unpack_in (Err code) = Err BAD_LINE
+-- any fault of a relation is the line's
+abbrev pub in_line : {X : Type 0} → Result X ℕ → Result X ℕ
+in_line (Ok x) = Ok x
+in_line (Err code) = Err BAD_LINE
 
--- behind `unpack`: what stands there, read as an alternative
-abbrev pub unpack_form : List ℕ → Result Form ℕ
-unpack_form text = unpack_in (alternative_at Need text)
-
--- behind `configure`: one name at least
-abbrev pub set_form : List (List ℕ) → Result Form ℕ
-set_form ws = if not (is_nil ws) && list_all is_word ws then Ok (ConfigureForm ws) else Err BAD_LINE
+-- an instruction by its first word, and what stands behind it: an alternative or an entry as in a
+-- Depends field (Debian Policy 7.1)
+abbrev pub wording_by : List ℕ → List ℕ → Result Wording ℕ
+wording_by word rest =
+    if bytes_eq word (codes "unpack") then (in_line (alternative_at Need rest) >>= unpack_of)
+    else (if bytes_eq word (codes "configure")
+    then (some_words (words rest) >>= λ ws. Ok (ConfigureForm ws))
+    else (if bytes_eq word (codes "deconfigure")
+    then (some_words (words rest) >>= λ ws. Ok (DeconfigureForm ws))
+    else (if bytes_eq word (codes "remove")
+    then (some_words (words rest) >>= λ ws. Ok (RemoveForm ws))
+    else (if bytes_eq word (codes "build")
+    then (one_word (words rest) >>= λ recipe. Ok (BuildForm recipe))
+    else (if bytes_eq word (codes "publish")
+    then (one_word (words rest) >>= λ recipe. Ok (PublishForm recipe))
+    else (if bytes_eq word (codes "wait")
+    then (in_line (entry_at Need rest) >>= λ entry. Ok (WaitForm entry))
+    else Err BAD_LINE))))))
 
 -- by the first word, and what stands behind it
 abbrev pub form_by : List ℕ → List ℕ → Result Form ℕ
 form_by word rest =
     if bytes_eq word (codes "lane") then lane_form (words rest)
     else (if bytes_eq word (codes "end") then end_form (words rest)
-    else (if bytes_eq word (codes "unpack") then unpack_form rest
-    else (if bytes_eq word (codes "configure") then set_form (words rest)
-    else Err BAD_LINE)))
+    else (wording_by word rest >>= λ wording. Ok (InstructionForm wording)))
 
 -- the form of a line, or BAD_LINE
 unfoldable pub form_at : List ℕ → Result Form ℕ

@@ -1,7 +1,9 @@
 pub mod CountedPlan
+pub mod LineErrors
 pub mod Forms
 pub mod Drafts
 pub mod Ends
 pub mod PlanText
 pub mod View
+pub mod SectionView
 pub mod Seen

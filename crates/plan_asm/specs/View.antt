@@ -1,18 +1,21 @@
 -- What the types of the crate stand for.
-use Rattle.std.specs.Prelude.{ℕ, Option}
-use Rattle.deb_text.specs.Answers.{refusal_code}
 use Rattle.deb_text.specs.Words.{words}
-use Rattle.plan_asm.specs.declared.error.LineError.{LineError}
 use Rattle.plan_asm.specs.declared.form.Form.{Form}
-use Rattle.plan_asm.specs.declared.form.Form.TheVariants.{Lane, End, Unpack, Configure}
+use Rattle.plan_asm.specs.declared.form.Form.TheVariants.{Lane, End, Instruction}
+use Rattle.plan_asm.specs.declared.form.Wording.{Wording}
+use Rattle.plan_asm.specs.declared.form.Wording.TheVariants.{Unpack, Configure, Deconfigure, Remove, Build, Publish, Wait}
 use Rattle.plan_asm.specs.Forms as spec
 
--- the code, unless memory ran out
-abbrev pub refusal_of_line : LineError → Option ℕ
-refusal_of_line error = refusal_code error.code
+abbrev pub wording_of : Wording → spec.Wording
+wording_of (Unpack name relation) = spec.UnpackForm name.items relation
+wording_of (Configure names) = spec.ConfigureForm (words names.now)
+wording_of (Deconfigure names) = spec.DeconfigureForm (words names.now)
+wording_of (Remove names) = spec.RemoveForm (words names.now)
+wording_of (Build recipe) = spec.BuildForm recipe.now
+wording_of (Publish recipe) = spec.PublishForm recipe.now
+wording_of (Wait entry) = spec.WaitForm entry
 
 abbrev pub form_of : Form → spec.Form
 form_of (Lane name chroot budget) = spec.LaneForm name.now chroot.now budget
 form_of End = spec.EndForm
-form_of (Unpack name relation) = spec.UnpackForm name.items relation
-form_of (Configure names) = spec.ConfigureForm (words names.now)
+form_of (Instruction wording) = spec.InstructionForm (wording_of wording)

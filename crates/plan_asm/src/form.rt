@@ -2,17 +2,43 @@
 
 ghost use Rattle.std.specs.Prelude.{◌≡◌};
 ghost use Rattle.std.specs.List.{list_all};
-ghost use Rattle.deb_text.specs.Answers.{Gives};
+ghost use Rattle.deb_relation.specs.Field.{alternative_at, entry_at};
+ghost use Rattle.std.specs.Option.{option_map};
+ghost use Rattle.deb_text.specs.Answers.{Gives, refusal_code};
 ghost use Rattle.deb_text.specs.Words.{words, is_word};
-ghost use Rattle.plan_asm.specs.Forms.{form_at, is_exact, is_head};
-ghost use Rattle.plan_asm.specs.Forms.{lane_form, end_form, unpack_form, unpack_of, set_form};
-ghost use Rattle.plan_asm.specs.View.{refusal_of_line, form_of};
+ghost use Rattle.plan_asm.specs.declared.error.TheConstants.{BAD_LINE};
+ghost use Rattle.plan_asm.specs.Forms.{form_at, wording_by, is_head, lane_form, end_form, unpack_of};
+ghost use Rattle.plan_asm.specs.Forms.{in_line, one_word, some_words};
+ghost use Rattle.plan_asm.specs.LineErrors.{refusal_of_line};
+ghost use Rattle.plan_asm.specs.View.{wording_of, form_of};
 
-use crate::error::{BAD_LINE, LineError};
-use deb_relation::{Atom, Kind, Op};
+use crate::error::LineError;
+use deb_relation::{Atom, Entry, Kind, Op, RelationError};
 use deb_text::{Class, MEMORY, is_word, next_word, read_number, skip_front, split_front};
 use deb_version::Version;
 use std::alloc::Global;
+
+/// What the line of an instruction says, its names as they stand there.
+#[derive(Debug, Drop)]
+pub enum Wording<'a> {
+    /// `unpack NAME`, perhaps with `(OP VERSION)`
+    Unpack {
+        name: Vec<u8>,
+        relation: Option<(Op, Version)>,
+    },
+    /// `configure NAME ..`
+    Configure(&'a [u8]),
+    /// `deconfigure NAME ..`
+    Deconfigure(&'a [u8]),
+    /// `remove NAME ..`
+    Remove(&'a [u8]),
+    /// `build RECIPE`
+    Build(&'a [u8]),
+    /// `publish RECIPE`
+    Publish(&'a [u8]),
+    /// `wait ENTRY`
+    Wait(Entry),
+}
 
 /// What a line says.
 #[derive(Debug, Drop)]
@@ -25,40 +51,27 @@ pub enum Form<'a> {
     },
     /// `end`
     End,
-    /// `unpack NAME (OP VERSION)`
-    Unpack {
-        name: Vec<u8>,
-        relation: Option<(Op, Version)>,
-    },
-    /// `configure NAME ..`, with the names as they stand in the line
-    Configure {
-        names: &'a [u8],
-    },
-}
-
-const fn bad_line() -> LineError
-    ensures { result ≡ record { code = BAD_LINE } }
-{
-    LineError { code: BAD_LINE }
+    /// an instruction
+    Instruction(Wording<'a>),
 }
 
 fn read_lane(text: &[u8]) -> Result<Form<'_>, LineError>
     ensures { Gives refusal_of_line form_of result (lane_form (words text.now)) }
 {
     let Some((name, rest)) = next_word(text) else {
-        return Err(bad_line());
+        return Err(LineError::BadLine);
     };
     let Some((first, rest)) = next_word(rest) else {
-        return Err(bad_line());
+        return Err(LineError::BadLine);
     };
     let Some((chroot, rest)) = next_word(rest) else {
-        return Err(bad_line());
+        return Err(LineError::BadLine);
     };
     let Some((second, rest)) = next_word(rest) else {
-        return Err(bad_line());
+        return Err(LineError::BadLine);
     };
     let Some((budget, rest)) = next_word(rest) else {
-        return Err(bad_line());
+        return Err(LineError::BadLine);
     };
     if next_word(rest).is_some()
         || !is_word(name)
@@ -66,7 +79,7 @@ fn read_lane(text: &[u8]) -> Result<Form<'_>, LineError>
         || !is_word(chroot)
         || second != b"budget".as_slice()
     {
-        return Err(bad_line());
+        return Err(LineError::BadLine);
     }
     match read_number(budget) {
         Some(budget) => Ok(Form::Lane {
@@ -74,7 +87,7 @@ fn read_lane(text: &[u8]) -> Result<Form<'_>, LineError>
             chroot,
             budget,
         }),
-        None => Err(bad_line()),
+        None => Err(LineError::BadLine),
     }
 }
 
@@ -82,37 +95,62 @@ fn read_end<'a>(text: &[u8]) -> Result<Form<'a>, LineError>
     ensures { Gives refusal_of_line form_of result (end_form (words text.now)) }
 {
     if next_word(text).is_some() {
-        return Err(bad_line());
+        return Err(LineError::BadLine);
     }
     Ok(Form::End)
 }
 
-fn is_exact(relation: &Option<(Op, Version)>) -> bool
-    ensures { result ≡ is_exact relation.now }
+fn unpack_of<'a>(atom: Atom) -> Result<Wording<'a>, LineError>
+    ensures { Gives refusal_of_line wording_of result (unpack_of atom) }
 {
-    matches!(relation, Some((Op::Equal, _)))
-}
-
-fn unpack_of<'a>(atom: Atom) -> Result<Form<'a>, LineError>
-    ensures { Gives refusal_of_line form_of result (unpack_of atom) }
-{
-    if atom.qualifier.is_some() || !is_exact(&atom.relation) {
-        return Err(bad_line());
+    if atom.qualifier.is_some() {
+        return Err(LineError::BadLine);
     }
-    Ok(Form::Unpack {
+    Ok(Wording::Unpack {
         name: atom.name,
         relation: atom.relation,
     })
 }
 
-fn read_unpack(alloc: Global, text: &[u8]) -> Result<Form<'_>, LineError>
-    ensures { Gives refusal_of_line form_of result (unpack_form text.now) }
+/// Any fault of a relation is the line's.
+fn in_line(error: RelationError) -> LineError
+    ensures { refusal_of_line result ≡ option_map (λ _. BAD_LINE) (refusal_code error.code) }
+{
+    if error.code == MEMORY {
+        LineError::Memory
+    } else {
+        LineError::BadLine
+    }
+}
+
+fn read_atom(alloc: Global, text: &[u8]) -> Result<Atom, LineError>
+    ensures { Gives refusal_of_line (λ atom. atom) result (in_line (alternative_at Kind.Need text.now)) }
 {
     match Atom::parse(alloc, text, Kind::Need) {
-        Ok(atom) => unpack_of(atom),
-        Err(error) if error.code == MEMORY => Err(LineError { code: MEMORY }),
-        Err(_) => Err(bad_line()),
+        Ok(atom) => Ok(atom),
+        Err(error) => Err(in_line(error)),
     }
+}
+
+fn read_entry(alloc: Global, text: &[u8]) -> Result<Entry, LineError>
+    ensures { Gives refusal_of_line (λ entry. entry) result (in_line (entry_at Kind.Need text.now)) }
+{
+    match Entry::parse(alloc, text, Kind::Need) {
+        Ok(entry) => Ok(entry),
+        Err(error) => Err(in_line(error)),
+    }
+}
+
+fn one_word(text: &[u8]) -> Result<&[u8], LineError>
+    ensures { Gives refusal_of_line (λ word. word.now) result (one_word (words text.now)) }
+{
+    let Some((word, rest)) = next_word(text) else {
+        return Err(LineError::BadLine);
+    };
+    if next_word(rest).is_some() || !is_word(word) {
+        return Err(LineError::BadLine);
+    }
+    Ok(word)
 }
 
 fn are_words(text: &[u8]) -> bool
@@ -128,20 +166,43 @@ fn are_words(text: &[u8]) -> bool
     true
 }
 
-fn read_set(text: &[u8]) -> Result<Form<'_>, LineError>
-    ensures { Gives refusal_of_line form_of result (set_form (words text.now)) }
+fn some_words(text: &[u8]) -> Result<&[u8], LineError>
+    ensures { Gives refusal_of_line (λ names. words names.now) result (some_words (words text.now)) }
 {
     if next_word(text).is_none() || !are_words(text) {
-        return Err(bad_line());
+        return Err(LineError::BadLine);
     }
-    Ok(Form::Configure { names: text })
+    Ok(text)
+}
+
+fn read_wording<'a>(alloc: Global, word: &[u8], rest: &'a [u8]) -> Result<Wording<'a>, LineError>
+    ensures { Gives refusal_of_line wording_of result (wording_by word.now rest.now) }
+{
+    if word == b"unpack".as_slice() {
+        unpack_of(read_atom(alloc, rest)?)
+    } else if word == b"configure".as_slice() {
+        Ok(Wording::Configure(some_words(rest)?))
+    } else if word == b"deconfigure".as_slice() {
+        Ok(Wording::Deconfigure(some_words(rest)?))
+    } else if word == b"remove".as_slice() {
+        Ok(Wording::Remove(some_words(rest)?))
+    } else if word == b"build".as_slice() {
+        Ok(Wording::Build(one_word(rest)?))
+    } else if word == b"publish".as_slice() {
+        Ok(Wording::Publish(one_word(rest)?))
+    } else if word == b"wait".as_slice() {
+        Ok(Wording::Wait(read_entry(alloc, rest)?))
+    } else {
+        Err(LineError::BadLine)
+    }
 }
 
 /// Reads a line of a plan by itself.
 ///
 /// # Errors
 ///
-/// [`BAD_LINE`] where it is none of the lines that a plan has. 900 where memory ran out.
+/// [`BadLine`](LineError::BadLine) where it is none of the lines that a plan has. 900 where memory
+/// ran out.
 #[tactic(auto, unfolding(crate::specs::Forms::form_at))]
 pub fn read_form(alloc: Global, line: &[u8]) -> Result<Form<'_>, LineError>
     ensures { Gives refusal_of_line form_of result (form_at line.now) }
@@ -151,12 +212,8 @@ pub fn read_form(alloc: Global, line: &[u8]) -> Result<Form<'_>, LineError>
         read_lane(rest)
     } else if word == b"end".as_slice() {
         read_end(rest)
-    } else if word == b"unpack".as_slice() {
-        read_unpack(alloc, rest)
-    } else if word == b"configure".as_slice() {
-        read_set(rest)
     } else {
-        Err(bad_line())
+        Ok(Form::Instruction(read_wording(alloc, word, rest)?))
     }
 }
 

@@ -1,7 +1,7 @@
 //! A lane of a plan.
 
-ghost use Rattle.std.specs.Prelude.{◌≡◌, OnOk};
-ghost use Rattle.plan_asm.specs.Drafts.{fresh_lane, with_instruction};
+ghost use Rattle.std.specs.Prelude.{◌≡◌, ◌∷◌, [], OnOk};
+ghost use Rattle.plan_asm.specs.Drafts.{fresh_lane, with_instructions};
 
 use plan_model::Instruction;
 use std::alloc::{AllocError, Global};
@@ -45,7 +45,7 @@ impl Lane {
 
     /// Puts an instruction behind the others.
     pub(crate) fn push(&mut self, instruction: Instruction) -> Result<(), AllocError>
-        ensures { OnOk result (self.new ≡ with_instruction self.old instruction) }
+        ensures { OnOk result (self.new ≡ with_instructions self.old (instruction ∷ [])) }
     {
         self.instructions.push(instruction)?;
         Ok(())

@@ -1,8 +1,9 @@
 //! The plan of a farm: lanes of instructions, and how a text is read as a plan.
 #![tactic(auto)]
 
-mod draft;
+mod assembly;
 mod error;
+mod events;
 mod form;
 mod lane;
 mod names;
@@ -10,8 +11,8 @@ mod plan;
 mod reader;
 
 pub use error::{
-    BAD_LINE, FILE, LANE_TWICE, MOST_INSTRUCTIONS, MOST_LANES, NAME_TWICE, NO_PLAN, OVER_LIMIT,
-    UNCLOSED, UNKNOWN_NAME,
+    BAD_LINE, FILE, MOST_INSTRUCTIONS, MOST_LANES, NAME_TAKEN, NAME_TWICE, NO_PLAN, OVER_LIMIT,
+    PUBLISHED_TWICE, UNCLOSED, UNKNOWN_BLOCK, UNKNOWN_NAME,
 };
 pub use lane::Lane;
 pub use plan::Plan;

@@ -5,30 +5,33 @@ ghost use Rattle.deb_text.specs.Answers.{Gives};
 ghost use Rattle.deb_text.specs.Steps.{traverse};
 ghost use Rattle.deb_text.specs.Words.{words};
 ghost use Rattle.farm_model.specs.Packages.{names};
-ghost use Rattle.plan_asm.specs.Drafts.{known_name, known_base, set_of};
+ghost use Rattle.plan_asm.specs.Drafts.{known_name, known_base, known_recipe, set_of, instruction_of};
 ghost use Rattle.plan_model.specs.Sound.{has_double};
 ghost use Rattle.plan_asm.specs.Seen.{Marks};
-ghost use Rattle.plan_asm.specs.View.{refusal_of_line};
+ghost use Rattle.plan_asm.specs.LineErrors.{refusal_of_line};
+ghost use Rattle.plan_asm.specs.View.{wording_of};
 
-use crate::error::{LineError, NAME_TWICE, UNKNOWN_NAME};
+use crate::error::LineError;
+use crate::form::Wording;
+use deb_profile::{ProfileSet, reduce_entry};
 use deb_text::next_word;
 use farm_universe::Universe;
-use plan_model::Members;
+use plan_model::{Instruction, Members};
 use std::alloc::{AllocError, Global};
 
 /// The number of a package's name.
 ///
 /// # Errors
 ///
-/// [`UNKNOWN_NAME`].
+/// [`UnknownName`](LineError::UnknownName).
 #[tactic(auto, unfolding(crate::specs::Drafts::known_name))]
-pub fn known_name(universe: &Universe, word: &[u8]) -> Result<u32, LineError>
+fn known_name(universe: &Universe, word: &[u8]) -> Result<u32, LineError>
     ensures value { Gives refusal_of_line (λ name. name) result (known_name universe.now word.now) }
     ensures known { IfOk result (λ name. name < names universe.now) }
 {
     match universe.find(word) {
         Some(name) => Ok(name),
-        None => Err(LineError { code: UNKNOWN_NAME }),
+        None => Err(LineError::UnknownName),
     }
 }
 
@@ -36,7 +39,7 @@ pub fn known_name(universe: &Universe, word: &[u8]) -> Result<u32, LineError>
 ///
 /// # Errors
 ///
-/// [`UNKNOWN_NAME`].
+/// [`UnknownName`](LineError::UnknownName).
 pub fn known_base(universe: &Universe, word: &[u8]) -> Result<u32, LineError>
     ensures { Gives refusal_of_line (λ base. base) result (known_base universe.now word.now) }
 {
@@ -45,7 +48,23 @@ pub fn known_base(universe: &Universe, word: &[u8]) -> Result<u32, LineError>
             return Ok(base);
         }
     }
-    Err(LineError { code: UNKNOWN_NAME })
+    Err(LineError::UnknownName)
+}
+
+/// The number of a recipe's name.
+///
+/// # Errors
+///
+/// [`UnknownName`](LineError::UnknownName).
+#[tactic(auto, unfolding(crate::specs::Drafts::known_recipe))]
+fn known_recipe(universe: &Universe, word: &[u8]) -> Result<u32, LineError>
+    ensures { Gives refusal_of_line (λ recipe. recipe) result
+        (known_recipe universe.now word.now) }
+{
+    match universe.find_recipe(word) {
+        Some(recipe) => Ok(recipe),
+        None => Err(LineError::UnknownName),
+    }
 }
 
 fn known_names(alloc: Global, universe: &Universe, text: &[u8]) -> Result<Vec<u32>, LineError>
@@ -90,15 +109,52 @@ fn has_double(alloc: Global, numbers: &[u32], bound: u32) -> Result<bool, AllocE
 ///
 /// # Errors
 ///
-/// [`UNKNOWN_NAME`] for one of them; [`NAME_TWICE`]. 900 where memory ran out.
+/// [`UnknownName`](LineError::UnknownName) for one of them; [`NameTwice`](LineError::NameTwice). 900 where memory ran out.
 #[tactic(auto, unfolding(crate::specs::Drafts::set_of))]
-pub fn read_set(alloc: Global, universe: &Universe, names: &[u8]) -> Result<Members, LineError>
+fn read_set(alloc: Global, universe: &Universe, names: &[u8]) -> Result<Members, LineError>
     ensures { Gives refusal_of_line (λ members. members) result
         (set_of universe.now (words names.now)) }
 {
     let members = known_names(alloc, universe, names)?;
     if has_double(alloc, &members, universe.names())? {
-        return Err(LineError { code: NAME_TWICE });
+        return Err(LineError::NameTwice);
     }
     Ok(Members::new(members))
+}
+
+/// The instruction that a line says.
+///
+/// # Errors
+///
+/// [`UnknownName`](LineError::UnknownName) for a package or a recipe;
+/// [`NameTwice`](LineError::NameTwice) in a set; or that memory ran out.
+#[tactic(auto, unfolding(crate::specs::Drafts::instruction_of))]
+pub fn read_instruction(
+    alloc: Global,
+    universe: &Universe,
+    wording: Wording<'_>,
+) -> Result<Instruction, LineError>
+    ensures { Gives refusal_of_line (λ instruction. instruction) result
+        (instruction_of universe.now (wording_of wording.entry)) }
+{
+    match wording {
+        Wording::Unpack { name, relation } => Ok(Instruction::Unpack {
+            name: known_name(universe, &name)?,
+            relation,
+        }),
+        Wording::Configure(names) => {
+            Ok(Instruction::Configure(read_set(alloc, universe, names)?))
+        }
+        Wording::Deconfigure(names) => {
+            Ok(Instruction::Deconfigure(read_set(alloc, universe, names)?))
+        }
+        Wording::Remove(names) => Ok(Instruction::Remove(read_set(alloc, universe, names)?)),
+        Wording::Build(recipe) => Ok(Instruction::Build(known_recipe(universe, recipe)?)),
+        Wording::Publish(recipe) => Ok(Instruction::Publish(known_recipe(universe, recipe)?)),
+        Wording::Wait(entry) => {
+            let none = ProfileSet::none(alloc);
+            let left = reduce_entry(alloc, &entry, universe.arch_names(), &none)?;
+            Ok(Instruction::Wait(left))
+        }
+    }
 }

@@ -6,17 +6,18 @@ ghost use Rattle.deb_stanza.specs.Plain.{plain_lines_at};
 ghost use Rattle.deb_text.specs.Answers.{Gives, fault_at, refusal_of};
 ghost use Rattle.farm_model.specs.Sound.{IsUniverse};
 ghost use Rattle.farm_universe.specs.Told.{in_file};
-ghost use Rattle.plan_asm.specs.Drafts.{instructions_of, take_form};
+ghost use Rattle.plan_asm.specs.Drafts.{take_form};
 ghost use Rattle.plan_asm.specs.PlanText.{take_text, take_line, draft_of};
 ghost use Rattle.plan_asm.specs.PlanText.{plan_in, plan_of};
 ghost use Rattle.plan_model.specs.Plan.{count};
 ghost use Rattle.plan_model.specs.Sound.{IsPlan};
-ghost use Rattle.plan_asm.specs.View.{refusal_of_line, form_of};
+ghost use Rattle.plan_asm.specs.LineErrors.{refusal_of_line};
+ghost use Rattle.plan_asm.specs.View.{form_of};
 
-use crate::draft::Draft;
-use crate::error::{BAD_LINE, FILE, LineError, NO_PLAN};
+use crate::assembly::Assembly;
+use crate::error::{FILE, LineError, NO_PLAN};
 use crate::form::{Form, is_head, read_form};
-use crate::names::{known_base, known_name, read_set};
+use crate::names::{known_base, read_instruction};
 use crate::plan::Plan;
 use deb_stanza::{Lines, plain_lines};
 use deb_text::Fault;
@@ -29,11 +30,11 @@ fn take_form(
     alloc: Global,
     universe: &Universe,
     number: u32,
-    draft: Draft,
-    form: Form,
-) -> Result<Draft, LineError>
+    before: Assembly,
+    form: Form<'_>,
+) -> Result<Assembly, LineError>
     ensures { Gives refusal_of_line (λ next. next) result
-        (take_form universe.now number draft (form_of form.entry)) }
+        (take_form universe.now number before (form_of form.entry)) }
 {
     match form {
         Form::Lane {
@@ -41,26 +42,18 @@ fn take_form(
             chroot,
             budget,
         } => {
-            if draft.is_open() {
-                return Err(LineError { code: BAD_LINE });
+            if before.is_open() {
+                return Err(LineError::BadLine);
             }
             let base = known_base(universe, chroot)?;
-            draft.open_lane(alloc, number, name, budget, base)
+            before.open_lane(alloc, number, name, budget, base)
         }
-        Form::End => draft.end_lane(),
-        Form::Unpack { name, relation } => {
-            if !draft.is_open() {
-                return Err(LineError { code: BAD_LINE });
+        Form::End => before.end_lane(),
+        Form::Instruction(wording) => {
+            if !before.is_open() {
+                return Err(LineError::BadLine);
             }
-            let name = known_name(universe, &name)?;
-            draft.add(Instruction::Unpack { name, relation })
-        }
-        Form::Configure { names } => {
-            if !draft.is_open() {
-                return Err(LineError { code: BAD_LINE });
-            }
-            let members = read_set(alloc, universe, names)?;
-            draft.add(Instruction::Configure(members))
+            before.add(read_instruction(alloc, universe, wording)?)
         }
     }
 }
@@ -70,42 +63,42 @@ fn take_text(
     alloc: Global,
     universe: &Universe,
     number: u32,
-    draft: Draft,
+    before: Assembly,
     line: &[u8],
-) -> Result<Draft, LineError>
+) -> Result<Assembly, LineError>
     ensures { Gives refusal_of_line (λ next. next) result
-        (take_text universe.now number draft line.now) }
+        (take_text universe.now number before line.now) }
 {
     let form = read_form(alloc, line)?;
-    take_form(alloc, universe, number, draft, form)
+    take_form(alloc, universe, number, before, form)
 }
 
 fn take_line(
     alloc: Global,
     universe: &Universe,
-    draft: Draft,
+    before: Assembly,
     number: u32,
     line: &[u8],
-) -> Result<Draft, Fault>
+) -> Result<Assembly, Fault>
     ensures { Gives refusal_of (λ next. next) result
-        (take_line universe.now draft (number, line.now)) }
+        (take_line universe.now before (number, line.now)) }
 {
-    match take_text(alloc, universe, number, draft, line) {
+    match take_text(alloc, universe, number, before, line) {
         Ok(next) => Ok(next),
-        Err(error) => Err(Fault::place(FILE, number, error.code)),
+        Err(error) => Err(error.at(number)),
     }
 }
 
 /// What the lines behind the first one come to.
-fn read_draft(alloc: Global, universe: &Universe, lines: &Lines) -> Result<Draft, Fault>
+fn read_sections(alloc: Global, universe: &Universe, lines: &Lines) -> Result<Assembly, Fault>
     requires { 0 < length lines.now }
-    ensures { Gives refusal_of (λ draft. draft) result (draft_of universe.now (drop 1 lines.now)) }
+    ensures { Gives refusal_of (λ so_far. so_far) result (draft_of universe.now (drop 1 lines.now)) }
 {
-    let mut draft = Draft::new(alloc);
+    let mut so_far = Assembly::new(alloc);
     for i in 1..lines.count() {
-        draft = take_line(alloc, universe, draft, lines.number(i), lines.line(i))?;
+        so_far = take_line(alloc, universe, so_far, lines.number(i), lines.line(i))?;
     }
-    Ok(draft)
+    Ok(so_far)
 }
 
 fn in_plan(fault: Fault) -> Fault
@@ -140,7 +133,7 @@ const fn no_plan(line: u32) -> Fault
 
 fn read_plan(alloc: Global, universe: &Universe, lines: &Lines) -> Result<Plan, Fault>
     ensures lanes { Gives refusal_of (λ plan. plan.lanes) result (plan_in universe.now lines.now) }
-    ensures instructions { IfOk result (λ plan. plan.count ≡ length (instructions_of plan.lanes)) }
+    ensures counted { IfOk result (λ plan. plan.count ≡ count universe.now plan.lanes) }
 {
     if lines.count() == 0 {
         return Err(no_plan(0));
@@ -148,14 +141,14 @@ fn read_plan(alloc: Global, universe: &Universe, lines: &Lines) -> Result<Plan, 
     if !is_head(lines.line(0)) {
         return Err(no_plan(lines.number(0)));
     }
-    let draft = read_draft(alloc, universe, lines)?;
-    draft.finish()
+    let so_far = read_sections(alloc, universe, lines)?;
+    so_far.finish(universe)
 }
 
 #[tactic(auto, unfolding(crate::specs::PlanText::plan_of))]
 fn read_text(alloc: Global, universe: &Universe, text: &[u8]) -> Result<Plan, Fault>
     ensures lanes { Gives refusal_of (λ plan. plan.lanes) result (plan_of universe.now text.now) }
-    ensures instructions { IfOk result (λ plan. plan.count ≡ length (instructions_of plan.lanes)) }
+    ensures counted { IfOk result (λ plan. plan.count ≡ count universe.now plan.lanes) }
 {
     let lines = read_lines(alloc, text)?;
     read_plan(alloc, universe, &lines)
@@ -163,17 +156,20 @@ fn read_text(alloc: Global, universe: &Universe, text: &[u8]) -> Result<Plan, Fa
 
 /// Reads a plan, whose names are those of a universe.
 ///
-/// So far a plan has `lane NAME chroot CHROOT budget NUMBER` and `end`, and between them
-/// `unpack NAME (= VERSION)` and `configure NAME ..`, below a first line `plan 1`. Blank lines and
-/// comments mean nothing.
+/// Below a first line `plan 1` stand lanes, each from `lane NAME chroot CHROOT budget NUMBER` to
+/// `end`, and in them `unpack NAME`, `unpack NAME (OP VERSION)`, `configure`, `deconfigure` and
+/// `remove` with one name or more, `build RECIPE`, `publish RECIPE` and `wait ENTRY`. An entry is
+/// reduced to the farm's architecture, and its names need not be known. Blank lines and comments
+/// mean nothing.
 ///
 /// # Errors
 ///
 /// All of file [`FILE`]: 105 at line 0 for a text over 67,108,864 bytes. Then the first line with a
 /// fault: [`NO_PLAN`] for the first line, at line 0 where there is none; else, of one line in this
-/// order, [`BAD_LINE`], [`UNKNOWN_NAME`](crate::UNKNOWN_NAME), [`NAME_TWICE`](crate::NAME_TWICE),
-/// [`LANE_TWICE`](crate::LANE_TWICE) and [`OVER_LIMIT`](crate::OVER_LIMIT), which is told for more
-/// than 64 lanes and for more than 65,536 instructions of all lanes. Last
+/// order, [`BAD_LINE`](crate::BAD_LINE), [`UNKNOWN_NAME`](crate::UNKNOWN_NAME),
+/// [`NAME_TWICE`](crate::NAME_TWICE), [`NAME_TAKEN`](crate::NAME_TAKEN),
+/// [`PUBLISHED_TWICE`](crate::PUBLISHED_TWICE) and [`OVER_LIMIT`](crate::OVER_LIMIT), which is told
+/// for more than 64 lanes and for more than 65,536 instructions of all lanes. Last
 /// [`UNCLOSED`](crate::UNCLOSED), at the line of a lane without `end`. 900 of file 0 and line 0
 /// where memory ran out. Nothing is left behind.
 pub fn assemble(alloc: Global, universe: &Universe, text: &[u8]) -> Result<Plan, Fault>

@@ -4,7 +4,7 @@ use Rattle.std.proofs.lemmas.Result.{err_from_is_err_and}
 use Rattle.deb_text.proofs.StepLaws.{traverse-goes, traverse-stops, traverse-ends}
 use Rattle.farm_model.specs.Packages.{names}
 use Rattle.plan_asm.specs.Drafts.{known_name}
-use Rattle.plan_asm.specs.View.{refusal_of_line}
+use Rattle.plan_asm.specs.LineErrors.{refusal_of_line}
 use Rattle.plan_asm.proofs.names.known_names.Goals as goal
 
 pub returns-in_err-known_name-clause-value : goal.returns-in_err-known_name-clause-value

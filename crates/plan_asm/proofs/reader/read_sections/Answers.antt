@@ -3,26 +3,26 @@ use Rattle.std.proofs.lemmas.Result.{err_from_is_err_and}
 use Rattle.deb_text.proofs.StepLaws.{place-goes, place-stops, place-ends}
 use Rattle.deb_text.specs.Answers.{refusal_of}
 use Rattle.plan_asm.specs.PlanText.{take_line, draft_of}
-use Rattle.plan_asm.proofs.reader.read_draft.Goals as goal
+use Rattle.plan_asm.proofs.reader.read_sections.Goals as goal
 
 pub loop-i-init : goal.loop-i-init
 unfolding draft_of
-loop-i-init c = rw c.new-draft.ensures refl
+loop-i-init c = rw c.new-so_far.ensures refl
 
-pub returns-in_err-draft : goal.returns-in_err-draft
-returns-in_err-draft c =
+pub returns-in_err-so_far : goal.returns-in_err-so_far
+returns-in_err-so_far c =
     let p = err_from_is_err_and c.from_residual.result c.from_residual.ensures.1 in
     let lt : c.loop-i.i < length c.args.lines.now = omega arith in
     rw (p.1, p.2)
-    (place-stops (take_line c.args.universe.now) refusal_of c.in_err-draft.field-0.0
+    (place-stops (take_line c.args.universe.now) refusal_of c.in_err-so_far.field-0.0
     c.args.lines.now c.loop-i.i (0, []) _ _ lt
-    (rw (c.number.ensures, c.line.ensures) at c.in_err-draft.ensures) c.loop-i.invariant)
+    (rw (c.number.ensures, c.line.ensures) at c.in_err-so_far.ensures) c.loop-i.invariant)
 
 pub loop-i-preserved : goal.loop-i-preserved
 loop-i-preserved c =
     let lt : c.loop-i.i < length c.args.lines.now = omega arith in
     place-goes (take_line c.args.universe.now) c.args.lines.now c.loop-i.i (0, []) _ _ _ lt
-    (rw (c.number.ensures, c.line.ensures) at c.in_ok-draft.ensures) c.loop-i.invariant
+    (rw (c.number.ensures, c.line.ensures) at c.in_ok-so_far.ensures) c.loop-i.invariant
 
 pub returns : goal.returns
 returns c =

@@ -1,0 +1,250 @@
+//! What the lines of a plan say so far.
+
+ghost use Rattle.std.specs.Prelude.{◌≡◌, ◌∷◌, ◌++◌, [], false, IfOk, IfSome, IfNone};
+ghost use Rattle.std.specs.List.{list_any};
+ghost use Rattle.std.specs.Str.{bytes_eq};
+ghost use Rattle.deb_text.specs.Answers.{Gives, refusal_of};
+ghost use Rattle.plan_asm.specs.Drafts.{empty, is_open, all_lanes, published_by, published_once};
+ghost use Rattle.plan_asm.specs.Drafts.{open_lane, end_lane, add};
+ghost use Rattle.plan_asm.specs.Ends.{finished, IsWithinLimits};
+ghost use Rattle.plan_asm.specs.LineErrors.{refusal_of_line};
+ghost use Rattle.plan_model.specs.Plan.{count};
+ghost use Rattle.plan_model.specs.Sound.{has_double};
+
+use crate::error::{FILE, LineError, MOST_INSTRUCTIONS, MOST_LANES, UNCLOSED};
+use crate::events::count_events;
+use crate::lane::Lane;
+use crate::plan::Plan;
+use deb_text::Fault;
+use farm_universe::Universe;
+use indexmap::IndexSet;
+use plan_model::Instruction;
+use std::alloc::Global;
+use std::marker::Model;
+
+/// What is left open.
+#[derive(Drop)]
+pub enum Section {
+    Outside,
+    /// A lane, with the number of its `lane` line.
+    Lane { line: u32, lane: Lane },
+}
+
+/// What the lines of a plan say so far: the lanes that have ended, and what is left open.
+#[derive(Drop)]
+pub struct Assembly {
+    lanes: Vec<Lane>,
+    current: Section,
+    /// The instructions of all lanes, the open one too.
+    count: usize,
+    /// The recipes that they publish.
+    published: IndexSet<u32>,
+}
+
+impl Model for Assembly {
+    ghost use Rattle.std.specs.Prelude.{◌≡◌, false, length};
+    ghost use Rattle.plan_asm.specs.Drafts as spec;
+    ghost use Rattle.plan_asm.specs.SectionView.{open_of, IsTallied};
+
+    ghost Value = { spec.Draft };
+
+    ghost view = { λ it. record { lanes = it.lanes.items; current = open_of it.current } };
+
+    ghost invariant = { λ it.
+        IsTallied (spec.instructions_of (spec.all_lanes it.lanes.items (open_of it.current)))
+        it.count it.published.keys };
+}
+
+fn has_lane(lanes: &[Lane], name: &[u8]) -> bool
+    ensures { result ≡ list_any (λ lane. bytes_eq lane.name name.now) lanes.now }
+{
+    lanes.iter().any(|lane| lane.name() == name)
+}
+
+/// The recipe that an instruction publishes.
+fn published_by(instruction: &Instruction) -> Option<u32>
+    ensures recipe { IfSome result (λ recipe. published_by instruction.now ≡ recipe ∷ []) }
+    ensures none { IfNone result (published_by instruction.now ≡ []) }
+{
+    match instruction {
+        Instruction::Publish(recipe) => Some(*recipe),
+        Instruction::Unpack { .. }
+        | Instruction::Configure(_)
+        | Instruction::Deconfigure(_)
+        | Instruction::Remove(_)
+        | Instruction::Build(_)
+        | Instruction::Wait(_) => None,
+    }
+}
+
+/// Notes a recipe that is published, where each one so far is published once.
+fn note_recipe(published: &mut IndexSet<u32>, recipe: u32) -> Result<(), LineError>
+    requires { has_double published.old.keys ≡ false }
+    ensures { Gives refusal_of_line (λ _. published.new.keys) result
+        (published_once (published.old.keys ++ recipe ∷ [])) }
+{
+    if !published.insert(recipe)? {
+        return Err(LineError::PublishedTwice);
+    }
+    Ok(())
+}
+
+/// Notes what an instruction publishes, where each recipe so far is published once.
+fn note_published(published: &mut IndexSet<u32>, instruction: &Instruction) -> Result<(), LineError>
+    requires { has_double published.old.keys ≡ false }
+    ensures { Gives refusal_of_line (λ _. published.new.keys) result
+        (published_once (published.old.keys ++ published_by instruction.now)) }
+{
+    match published_by(instruction) {
+        Some(recipe) => note_recipe(published, recipe),
+        None => Ok(()),
+    }
+}
+
+impl Assembly {
+    /// Nothing said so far.
+    pub fn new(alloc: Global) -> Assembly
+        ensures { result ≡ empty }
+    {
+        Assembly {
+            lanes: Vec::new(alloc),
+            current: Section::Outside,
+            count: 0,
+            published: IndexSet::new(alloc),
+        }
+    }
+
+    /// Tells whether something is left open.
+    pub fn is_open(&self) -> bool
+        ensures { result ≡ is_open self.now.current }
+    {
+        matches!(self.current, Section::Lane { .. })
+    }
+
+    /// Opens a lane where nothing is open.
+    ///
+    /// # Errors
+    ///
+    /// [`NameTaken`](LineError::NameTaken), [`OverLimit`](LineError::OverLimit), or that memory ran
+    /// out.
+    pub fn open_lane(
+        self,
+        alloc: Global,
+        line: u32,
+        name: &[u8],
+        budget: u64,
+        base: u32,
+    ) -> Result<Assembly, LineError>
+        requires { is_open self.current ≡ false }
+        ensures { Gives refusal_of_line (λ next. next) result
+            (open_lane line self name.now budget base) }
+    {
+        let Assembly {
+            lanes,
+            count,
+            published,
+            ..
+        } = self;
+        if has_lane(&lanes, name) {
+            return Err(LineError::NameTaken);
+        }
+        if lanes.len() >= MOST_LANES {
+            return Err(LineError::OverLimit);
+        }
+        let lane = Lane::new(alloc, Vec::from_slice(alloc, name)?, base, budget);
+        Ok(Assembly {
+            lanes,
+            current: Section::Lane { line, lane },
+            count,
+            published,
+        })
+    }
+
+    /// Ends the open lane.
+    ///
+    /// # Errors
+    ///
+    /// [`BadLine`](LineError::BadLine) where nothing is open, or that memory ran out.
+    pub fn end_lane(self) -> Result<Assembly, LineError>
+        ensures { Gives refusal_of_line (λ next. next) result (end_lane self.lanes self.current) }
+    {
+        let Assembly {
+            mut lanes,
+            current,
+            count,
+            published,
+        } = self;
+        match current {
+            Section::Outside => Err(LineError::BadLine),
+            Section::Lane { lane, .. } => {
+                lanes.push(lane)?;
+                Ok(Assembly {
+                    lanes,
+                    current: Section::Outside,
+                    count,
+                    published,
+                })
+            }
+        }
+    }
+
+    /// Puts an instruction into the open lane.
+    ///
+    /// # Errors
+    ///
+    /// [`BadLine`](LineError::BadLine) where nothing is open;
+    /// [`PublishedTwice`](LineError::PublishedTwice); [`OverLimit`](LineError::OverLimit); or that
+    /// memory ran out.
+    pub fn add(self, instruction: Instruction) -> Result<Assembly, LineError>
+        ensures { Gives refusal_of_line (λ next. next) result
+            (add self.lanes self.current (instruction ∷ [])) }
+    {
+        let Assembly {
+            lanes,
+            current,
+            count,
+            mut published,
+        } = self;
+        match current {
+            Section::Outside => Err(LineError::BadLine),
+            Section::Lane { line, mut lane } => {
+                note_published(&mut published, &instruction)?;
+                if count >= MOST_INSTRUCTIONS {
+                    return Err(LineError::OverLimit);
+                }
+                lane.push(instruction)?;
+                Ok(Assembly {
+                    lanes,
+                    current: Section::Lane { line, lane },
+                    count: count + 1,
+                    published,
+                })
+            }
+        }
+    }
+
+    /// The plan, where nothing is left open.
+    ///
+    /// # Errors
+    ///
+    /// [`UNCLOSED`], at the first line of what is left open.
+    pub fn finish(self, universe: &Universe) -> Result<Plan, Fault>
+        requires { IsWithinLimits (all_lanes self.lanes self.current) }
+        ensures lanes { Gives refusal_of (λ plan. plan.lanes) result
+            (finished self.lanes self.current) }
+        ensures counted { IfOk result (λ plan. plan.count ≡ count universe.now plan.lanes) }
+    {
+        let Assembly { lanes, current, .. } = self;
+        match current {
+            Section::Outside => {
+                let count = count_events(universe, &lanes);
+                Ok(Plan::new(lanes, count))
+            }
+            Section::Lane { line, .. } => Err(Fault {
+                file: FILE,
+                line,
+                code: UNCLOSED,
+            }),
+        }
+    }
+}
