@@ -1,0 +1,4 @@
+pub mod RowLaws
+pub mod Gathered
+pub mod Pairs
+pub mod TableLaws

@@ -1,0 +1,11 @@
+//! Which variants of a universe satisfy which entries, and which exclude each other, as rows.
+#![tactic(auto)]
+
+mod row;
+mod tables;
+mod variant_rows;
+mod word;
+
+pub use row::entry_row;
+pub use tables::Tables;
+pub use word::mask;

@@ -1,0 +1,166 @@
+//! The rows of every variant of a universe.
+
+ghost use Rattle.std.specs.Prelude.{◌≡◌, ◌<◌, IfOk, length, slice_index_or};
+ghost use Rattle.farm_model.specs.Packages.{names, pre_depends, depends, satisfies_entry};
+ghost use Rattle.farm_model.specs.Sound.{IsKnown};
+ghost use Rattle.sat_rows.specs.Rows.{IsRowOf, IsAlternativeRow, entry_at, conflicts_with, broken_by, breakers_of};
+ghost use Rattle.sat_rows.specs.Tables.{AreVariantRows, AreNameRows, no_rows};
+
+use crate::variant_rows::{VariantRows, variant_rows};
+use crate::word::variant_count;
+use bit_rows::Row;
+use farm_universe::{Universe, Variant};
+use rayon::prelude::*;
+use std::alloc::{AllocError, Global};
+use std::marker::Model;
+use std::snapshot::Snapshot;
+use std::thread::Threads;
+
+/// The rows of the variants of one name.
+#[derive(Debug, Drop)]
+struct NameRows {
+    variants: Vec<VariantRows>,
+}
+
+impl Model for NameRows {
+    ghost use Rattle.std.specs.Prelude.{List};
+    ghost use Rattle.sat_rows.specs.Tables as tables;
+
+    ghost Value = { List tables.VariantRows };
+
+    ghost view = { λ rows. rows.variants.items };
+}
+
+impl NameRows {
+    fn variant(&self, bit: u32) -> &VariantRows
+        requires { bit < length self.now }
+        ensures { result.now ≡ slice_index_or self.now bit no_rows }
+    {
+        &self.variants[bit as usize]
+    }
+}
+
+/// Which variants satisfy the entries of each variant, and which exclude it. A contract sees the
+/// universe that the rows are about.
+#[derive(Drop)]
+pub struct Tables {
+    universe: Snapshot<Universe>,
+    names: Vec<NameRows>,
+}
+
+impl Model for Tables {
+    ghost use Rattle.farm_model.specs.Universe as model;
+    ghost use Rattle.sat_rows.specs.Tables.{AreTables};
+
+    ghost Value = { model.Universe };
+
+    ghost view = { λ tables. tables.universe.value };
+
+    ghost invariant = { λ tables. AreTables tables.universe.value tables.names.items };
+}
+
+fn name_rows(alloc: Global, universe: &Universe, name: u32) -> Result<NameRows, AllocError>
+    requires { name < names universe.now }
+    ensures { IfOk result (AreNameRows universe.now name) }
+{
+    let mut variants = Vec::new(alloc);
+    for bit in 0..variant_count(universe, name) {
+        variants.push(variant_rows(alloc, universe, Variant { name, bit })?)?;
+    }
+    Ok(NameRows { variants })
+}
+
+impl Tables {
+    /// Makes the rows of a universe, by as many threads as there are processors.
+    ///
+    /// # Errors
+    ///
+    /// [`AllocError`] where memory is refused. Nothing is left behind.
+    pub fn build(
+        rt: &(impl Threads + Sync),
+        alloc: Global,
+        universe: &Universe,
+    ) -> Result<Tables, AllocError>
+        ensures { IfOk result (λ tables. tables ≡ universe.now) }
+    {
+        let names = (0..universe.names())
+            .into_par_iter()
+            .with_min_len(1)
+            .map(
+                move |name: u32| -> Result<NameRows, AllocError>
+                    requires { name < names universe.now }
+                    ensures { IfOk result (λ rows. AreNameRows universe.entry.now name rows) }
+                { name_rows(alloc, universe, name) },
+            )
+            .collect::<Result<Vec<NameRows>, AllocError>>(rt, alloc)??;
+        Ok(Tables {
+            universe: Snapshot::of(universe),
+            names,
+        })
+    }
+
+    /// The rows of a variant.
+    fn rows(&self, variant: Variant) -> &VariantRows
+        requires { IsKnown self.now variant }
+        ensures { AreVariantRows self.now variant result.now }
+    {
+        self.names[variant.name as usize].variant(variant.bit)
+    }
+
+    /// The variants that satisfy a Pre-Depends entry of a variant.
+    pub fn pre_depends(&self, variant: Variant, number: usize) -> &Row
+        requires known { IsKnown self.now variant }
+        requires there { number < length (pre_depends self.now variant) }
+        ensures { IsRowOf self.now
+            (satisfies_entry self.now (entry_at (pre_depends self.now variant) number)) result.now }
+    {
+        &self.rows(variant).pre_depends(number).entry
+    }
+
+    /// The variants that satisfy an alternative of a Pre-Depends entry of a variant.
+    pub fn pre_alternative(&self, variant: Variant, number: usize, alternative: usize) -> &Row
+        requires known { IsKnown self.now variant }
+        requires there { number < length (pre_depends self.now variant) }
+        requires among { alternative < length (entry_at (pre_depends self.now variant) number) }
+        ensures { IsAlternativeRow self.now (entry_at (pre_depends self.now variant) number)
+            alternative result.now }
+    {
+        self.rows(variant)
+            .pre_depends(number)
+            .alternative(alternative)
+    }
+
+    /// The variants that satisfy a Depends entry of a variant.
+    pub fn depends(&self, variant: Variant, number: usize) -> &Row
+        requires known { IsKnown self.now variant }
+        requires there { number < length (depends self.now variant) }
+        ensures { IsRowOf self.now
+            (satisfies_entry self.now (entry_at (depends self.now variant) number)) result.now }
+    {
+        self.rows(variant).depends(number)
+    }
+
+    /// The variants of other names that are in conflict with a variant, declared by either.
+    pub fn conflicts(&self, variant: Variant) -> &Row
+        requires { IsKnown self.now variant }
+        ensures { IsRowOf self.now (conflicts_with self.now variant) result.now }
+    {
+        &self.rows(variant).conflicts
+    }
+
+    /// The variants of other names that a variant breaks.
+    pub fn breaks(&self, variant: Variant) -> &Row
+        requires { IsKnown self.now variant }
+        ensures { IsRowOf self.now (broken_by self.now variant) result.now }
+    {
+        &self.rows(variant).breaks
+    }
+
+    /// The variants of other names that break a variant.
+    pub fn broken_by(&self, variant: Variant) -> &Row
+        requires { IsKnown self.now variant }
+        ensures { IsRowOf self.now (breakers_of self.now variant) result.now }
+    {
+        &self.rows(variant).broken_by
+    }
+}
