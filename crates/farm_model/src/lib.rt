@@ -4,4 +4,4 @@
 
 pub mod types;
 
-pub use types::{Slot, Trap, Variant};
+pub use types::{Mode, Slot, Trap, Variant};

@@ -25,6 +25,17 @@ pub enum Slot {
     Configured { bit: u32 },
 }
 
+/// Which packages of a source a build makes (Debian Policy 7.7).
+#[derive(Clone, Copy, Debug, PartialEq, Eq)]
+pub enum Mode {
+    /// All of them.
+    Full,
+    /// Those of one architecture.
+    Arch,
+    /// Those of all architectures.
+    Indep,
+}
+
 /// Why an instruction cannot be carried out.
 #[derive(Clone, Copy, Debug, PartialEq, Eq)]
 pub enum Trap {
