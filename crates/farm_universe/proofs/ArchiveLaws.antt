@@ -67,16 +67,16 @@ or_true : (a : Bool) → (a || true) ≡ true
 or_true true = refl
 or_true false = refl
 
-or_false : (a : Bool) → (a || false) ≡ a
+pub or_false : (a : Bool) → (a || false) ≡ a
 or_false true = refl
 or_false false = refl
 
-or_assoc : (a b c : Bool) → ((a || b) || c) ≡ (a || (b || c))
+pub or_assoc : (a b c : Bool) → ((a || b) || c) ≡ (a || (b || c))
 or_assoc true b c = refl
 or_assoc false b c = refl
 
 -- setting bit c changes bit b where they are one
-bit-with_bit : (w c b : ℕ) → eqb (bit_at (with_bit w c) b) 1 ≡ (eqb (bit_at w b) 1 || eqb c b)
+pub bit-with_bit : (w c b : ℕ) → eqb (bit_at (with_bit w c) b) 1 ≡ (eqb (bit_at w b) 1 || eqb c b)
 bit-with_bit w c b = by (eqb c b) refl where
   by : (t : Bool) → eqb c b ≡ t → eqb (bit_at (with_bit w c) b) 1 ≡ (eqb (bit_at w b) 1 || t)
   by true e =

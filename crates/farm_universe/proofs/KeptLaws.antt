@@ -1,28 +1,31 @@
--- What a table and a farm that were read make keeps what every universe keeps.
-use Rattle.std.proofs.Common.{◌≡◌, ℕ, zero, suc, ◌<◌, ◌≤◌, Bool, true, false, ◌&&◌, not, List, [], ◌∷◌, map, length, get_or, refl, sym, ap, subst, ◌∙◌, arith, All, nat_lt, ◌==◌, ◌||◌, Some, slice_get}
+-- What the three texts make keeps what every universe keeps.
+use Rattle.std.proofs.Common.{◌≡◌, ℕ, zero, suc, ◌<◌, ◌≤◌, Bool, true, false, List, [], ◌∷◌, map, length, get_or, refl, sym, ap, subst, ◌∙◌, arith, All, nat_lt, Some}
+use Rattle.std.specs.Prelude.{slice_get}
 use Rattle.std.specs.declared.cmp.Ordering.{Ordering}
 use Rattle.std.specs.declared.cmp.Ordering.TheVariants.{Less, Equal, Greater}
-use Rattle.std.specs.List.{list_all, range_with_len}
+use Rattle.std.specs.List.{list_all}
 use Rattle.std.specs.Ordering.{is_lt}
 use Rattle.std.proofs.lemmas.Bool.{and_parts, ltb-true, ltb-false}
 use Rattle.std.proofs.lemmas.List.{length-map, get_or_past}
 use Rattle.std.proofs.lemmas.List.Elements.{All-nil, All-map, All-weaker, All-get_or}
 use Rattle.deb_version.specs.Grammar.{text_cmp}
-use Rattle.farm_universe.specs.declared.limits.TheConstants.{MOST_SIZE, MOST_CAPACITY}
 use Rattle.farm_model.specs.declared.types.Variant.{Variant}
-use Rattle.farm_model.specs.declared.types.Slot.{Slot}
-use Rattle.farm_model.specs.declared.types.Slot.TheVariants.{Absent}
-use Rattle.farm_model.specs.Below.{some_below, sum_below}
-use Rattle.farm_model.specs.Chroot.{slot, some_slot, holds, is_unpacked, size_in, used, base_chroot, unsettled, met, unmet, entries}
-use Rattle.farm_universe.specs.FarmText.{Farm}
-use Rattle.farm_universe.specs.FarmView.{IsEmptyBase, AreBases, AreWords}
+use Rattle.farm_model.specs.Packages.{variant, names, variants, no_package, package_of, recipe, no_recipe, outputs, base, no_base, initial, has_bit}
+use Rattle.farm_model.specs.Sound.{IsKnown, IsSettledBase}
+use Rattle.farm_model.specs.Universe.{Package, Recipe, Base, Universe}
+use Rattle.farm_universe.specs.declared.farm.Yard.{Yard}
+use Rattle.farm_universe.specs.declared.limits.TheConstants.{MOST_SIZE, MOST_CAPACITY}
+use Rattle.farm_universe.specs.BaseText.{is_settled_base}
+use Rattle.farm_universe.specs.FarmText.{Head, land_of, universe_with}
+use Rattle.farm_universe.specs.FarmView.{AreWords, IsPlace, IsLand, IsRecipe, outputs_of, IsBase, IsYard, yard_view}
 use Rattle.farm_universe.specs.Kept.{IsKept}
-use Rattle.farm_model.specs.Packages.{variant, names, variants, no_package, package_of, recipe, outputs, base, no_base, initial, conflict, breaks}
+use Rattle.farm_universe.specs.Land.{Land, reduced_package, reduced_table}
 use Rattle.farm_universe.specs.PackagesText.{PackageTable, is_below}
-use Rattle.farm_model.specs.Sound.{IsKnown, some_two, IsSettledBase}
+use Rattle.farm_universe.specs.SourcesText.{SourceTable}
+use Rattle.farm_universe.specs.SourceView.{IsSourceTable}
 use Rattle.farm_universe.specs.TableView.{Rises, IsOrderly, IsFit}
-use Rattle.farm_model.specs.Universe.{Package, Base, Universe}
-use Rattle.farm_universe.specs.UniverseText.{reduced_package, universe_with}
+use Rattle.farm_universe.proofs.ListFacts.{All-slice_get}
+use Rattle.farm_universe.proofs.SettledLaws.{IsSettledBase-test}
 
 -- ---- reduced packages
 
@@ -84,68 +87,7 @@ orderly-any packages n orderly = by (nat_lt n (length packages)) refl where
       subst IsOrderly (sym (get_or_past packages n [] (ltb-false _ _ e)))
       (record { rises = tt; few = omega arith; small = All-nil (λ v. v.size ≤ MOST_SIZE) })
 
--- ---- empty chroots
-
-none_below : (n : ℕ) (p : ℕ → Bool) → ((k : ℕ) → p k ≡ false) → some_below n p ≡ false
-none_below zero p none = refl
-none_below (suc n) p none = rw (none n, none_below n p none) refl
-
-nothing_below : (n : ℕ) (f : ℕ → ℕ) → ((k : ℕ) → f k ≡ 0) → sum_below n f ≡ 0
-nothing_below zero f none = refl
-nothing_below (suc n) f none = rw (none n, nothing_below n f none) refl
-
-absent-all : (ks : List ℕ) (n : ℕ) → get_or (map (λ k. Absent) ks) n Absent ≡ Absent
-absent-all [] n = refl
-absent-all (k ∷ ks) zero = refl
-absent-all (k ∷ ks) (suc n) = absent-all ks n
-
-module _ (u : Universe) (b : ℕ) (empty : (base u b).packages ≡ []) where
-  chroot-empty : base_chroot u b ≡ map (λ k. Absent) (range_with_len 0 (names u))
-  unfolding base_chroot
-  chroot-empty = rw empty refl
-
-  slot-empty : (n : ℕ) → slot (base_chroot u b) n ≡ Absent
-  slot-empty n = rw chroot-empty (absent-all (range_with_len 0 (names u)) n)
-
-  no_slot : (p : ℕ → Slot → Bool) → ((n : ℕ) → p n Absent ≡ false)
-      → some_slot (base_chroot u b) p ≡ false
-  no_slot p none =
-      none_below (length (base_chroot u b)) (λ n. p n (slot (base_chroot u b) n))
-      (λ n. rw (slot-empty n) (none n))
-
-  used-empty : used u (base_chroot u b) ≡ 0
-  unfolding used
-  used-empty =
-      nothing_below (length (base_chroot u b)) (λ n. size_in u n (slot (base_chroot u b) n))
-      (λ n. rw (slot-empty n) refl)
-
-  unsettled-empty : unsettled u (base_chroot u b) ≡ false
-  unfolding unsettled
-  unsettled-empty =
-      no_slot (λ n s. is_unpacked s
-      || holds (λ d. unmet (met u (base_chroot u b)) (entries u (variant n d))) s)
-      (λ n. refl)
-
-  some_two-empty : (p : Variant → Variant → Bool) → some_two (base_chroot u b) p ≡ false
-  unfolding some_two
-  some_two-empty p =
-      no_slot (λ n s. holds (λ d. some_slot (base_chroot u b)
-      (λ m t. not (m == n) && holds (λ e. p (variant n d) (variant m e)) t)) s)
-      (λ n. refl)
-
-  no_item : (i : ℕ) (v : Variant) → slice_get (base u b).packages i ≡ Some v → ⊥
-  no_item i v is = let h = rw empty at is in cc
-
-  pub IsSettledBase-empty : IsSettledBase u b
-  IsSettledBase-empty = record {
-    one_each = λ i j v w vi wj same. absurd (no_item i v vi);
-    settled = unsettled-empty;
-    no_conflict = some_two-empty (conflict u);
-    not_broken = some_two-empty (breaks u);
-    within = rw used-empty (omega arith);
-  }
-
--- ---- the universe of a table and a farm
+-- ---- the land
 
 length-reduced : (f : Package → Package) (packages : List (List Package)) (n : ℕ)
     → length (get_or (map (map f) packages) n []) ≡ length (get_or packages n [])
@@ -153,79 +95,158 @@ length-reduced f [] n = refl
 length-reduced f (vs ∷ vss) zero = length-map vs f
 length-reduced f (vs ∷ vss) (suc n) = length-reduced f vss n
 
-empty_base : (bases : List Base) (b : ℕ) → All IsEmptyBase bases
-    → (get_or bases b no_base).packages ≡ []
-empty_base bases b empty = by (nat_lt b (length bases)) refl where
-  by : (t : Bool) → nat_lt b (length bases) ≡ t → (get_or bases b no_base).packages ≡ []
-  by true e = (All-get_or IsEmptyBase bases b no_base (ltb-true _ _ e) empty).empty
-  by false e = ap (λ (base : Base). base.packages) (get_or_past bases b no_base (ltb-false _ _ e))
-
-module _ (table : PackageTable) (farm : Farm) (fit : IsFit table) (words : AreWords table farm.initial)
-    (are : AreBases farm.bases) where
-  abbrev u : Universe
-  u = universe_with table farm
-
-  orderly : All IsOrderly u.packages
+-- what is true of a table is true of it with its relations reduced
+IsFit-reduced : (arch : List (List ℕ)) (table : PackageTable) → IsFit table
+    → IsFit (reduced_table arch table)
+IsFit-reduced arch table fit = record {
+  paired = fit.paired ∙ sym (length-map table.packages (map (reduced_package arch)));
+  few_names = fit.few_names;
+  few_entries = fit.few_entries;
+  distinct = fit.distinct;
   orderly =
-      All-map IsOrderly (map (reduced_package farm.architectures)) table.packages
-      (All-weaker IsOrderly (λ vs. IsOrderly (map (reduced_package farm.architectures) vs))
-      (IsOrderly-reduced farm.architectures) table.packages fit.orderly)
+      All-map IsOrderly (map (reduced_package arch)) table.packages
+      (All-weaker IsOrderly (λ vs. IsOrderly (map (reduced_package arch) vs))
+      (IsOrderly-reduced arch) table.packages fit.orderly);
+}
 
-  same_count : length u.packages ≡ length table.packages
-  same_count = length-map table.packages (map (reduced_package farm.architectures))
+pub IsLand-made : (table : PackageTable) (sources : SourceTable) (head : Head) → IsFit table
+    → IsSourceTable sources → AreWords table head.initial → IsLand (land_of table sources head)
+IsLand-made table sources head fit are words = record {
+  fit = IsFit-reduced head.architectures table fit;
+  sources = are;
+  words = record {
+    paired = words.paired;
+    known =
+        λ v set. rw (length-reduced (reduced_package head.architectures) table.packages v.name)
+        (words.known v set);
+  };
+}
+
+-- ---- the universe of land and yard
+
+-- the recipe with this number, known or not
+outputs-any : (P : Variant → Type 0) (rs : List Recipe) (r : ℕ)
+    → All (λ r. All P r.outputs) rs → All P (outputs_of rs r)
+outputs-any P rs r all = by (nat_lt r (length rs)) refl where
+  by : (b : Bool) → nat_lt r (length rs) ≡ b → All P (outputs_of rs r)
+  by true e = All-get_or (λ r. All P r.outputs) rs r no_recipe (ltb-true _ _ e) all
+  by false e =
+      subst (λ (x : Recipe). All P x.outputs)
+      (sym (get_or_past rs r no_recipe (ltb-false _ _ e))) (All-nil P)
+
+-- the base chroot with this number, known or not
+packages-any : (P : Variant → Type 0) (bases : List Base) (b : ℕ)
+    → All (λ base. All P base.packages) bases → All P (get_or bases b no_base).packages
+packages-any P bases b all = by (nat_lt b (length bases)) refl where
+  by : (t : Bool) → nat_lt b (length bases) ≡ t → All P (get_or bases b no_base).packages
+  by true e = All-get_or (λ base. All P base.packages) bases b no_base (ltb-true _ _ e) all
+  by false e =
+      subst (λ (x : Base). All P x.packages)
+      (sym (get_or_past bases b no_base (ltb-false _ _ e))) (All-nil P)
+
+module _ (l : Land) (is : IsLand l) (yard : Yard) (are : IsYard l yard) where
+  abbrev u : Universe
+  u = universe_with l (yard_view yard)
 
   few : (n : ℕ) → variants u n ≤ 64
   unfolding variants
-  few n = (orderly-any u.packages n orderly).few
+  few n = (orderly-any u.packages n is.fit.orderly).few
+
+  known : (v : Variant) → IsPlace l.table v → IsKnown u v
+  unfolding variants
+  known v place = place.listed
 
   initial_known : (v : Variant) → initial u v ≡ true → IsKnown u v
   unfolding variants initial
-  initial_known v is =
-      rw (length-reduced (reduced_package farm.architectures) table.packages v.name)
-      (words.known v is)
+  initial_known v set = is.words.known v set
 
-  no_output : (r i : ℕ) (v : Variant) → slice_get (outputs u r) i ≡ Some v → ⊥
+  outputs_there : (r : ℕ) → r < length u.recipes → 0 < length (outputs u r)
   unfolding recipe
-  no_output r i v is = absurd cc
+  outputs_there r lt = (All-get_or (IsRecipe l) u.recipes r no_recipe lt are.recipes.each).there
 
   outputs_known : (r : ℕ) → All (IsKnown u) (outputs u r)
   unfolding recipe
-  outputs_known r = All-nil (IsKnown u)
+  outputs_known r =
+      outputs-any (IsKnown u) u.recipes r
+      (All-weaker (IsRecipe l) (λ r. All (IsKnown u) r.outputs)
+      (λ r of. All-weaker (IsPlace l.table) (IsKnown u) known r.outputs of.known)
+      u.recipes are.recipes.each)
 
-  base-empty : (b : ℕ) → (base u b).packages ≡ []
+  outputs_once : (q r i j : ℕ) (v : Variant) → slice_get (outputs u q) i ≡ Some v
+      → slice_get (outputs u r) j ≡ Some v → (q ≡ r) × (i ≡ j)
+  unfolding recipe
+  outputs_once q r i j v vi vj = are.recipes.once q r i j v vi vj
+
+  outputs_new : (r i : ℕ) (v : Variant) → slice_get (outputs u r) i ≡ Some v
+      → initial u v ≡ false
+  unfolding recipe initial
+  outputs_new r i v at =
+      All-slice_get (λ v. has_bit l.initial v ≡ false) (outputs_of u.recipes r) i v
+      (outputs-any (λ v. has_bit l.initial v ≡ false) u.recipes r
+      (All-weaker (IsRecipe l) (λ r. All (λ v. has_bit l.initial v ≡ false) r.outputs)
+      (λ r of. of.new) u.recipes are.recipes.each)) at
+
+  bases_in : (P : Variant → Type 0) → ((v : Variant) → IsPlace l.table v → P v) → (b : ℕ)
+      → All P (base u b).packages
   unfolding base
-  base-empty b = empty_base farm.bases b are.empty
+  bases_in P place b =
+      packages-any P u.bases b
+      (All-weaker (IsBase l.table) (λ base. All P base.packages)
+      (λ base of. All-weaker (IsPlace l.table) P place base.packages of.known)
+      u.bases are.bases.each)
+
+  within : (v : Variant) → IsPlace l.table v → v.name < names u
+  unfolding names
+  within v place = omega (arith, place.name, is.fit.paired)
+
+  tested : (b : ℕ) → b < length u.bases
+      → is_settled_base l.table (base u b).capacity (base u b).packages ≡ true
+  unfolding base
+  tested b lt = (All-get_or (IsBase l.table) u.bases b no_base lt are.bases.each).settled
+
+  settled : (b : ℕ) → b < length u.bases → IsSettledBase u b
+  settled b lt =
+      IsSettledBase-test u l.table.entries b (bases_in (λ v. v.name < names u) within b)
+      (tested b lt)
 
   rising : (n b : ℕ) → suc b < variants u n
       → text_cmp (package_of u (variant n b)).version (package_of u (variant n (suc b))).version
       ≡ Less
   unfolding variants package_of
   rising n b lt =
-      rising-place (get_or u.packages n []) b no_package (orderly-any u.packages n orderly).rises lt
+      rising-place (get_or u.packages n []) b no_package
+      (orderly-any u.packages n is.fit.orderly).rises lt
 
-  pub IsKept-universe_with : IsKept (universe_with table farm)
+  pub IsKept-universe_with : IsKept (universe_with l (yard_view yard))
   IsKept-universe_with = record {
     sound = record {
-      listed = fit.paired ∙ sym same_count;
+      listed = is.fit.paired;
       few = few;
-      words = words.paired ∙ fit.paired ∙ sym same_count;
+      words = is.words.paired ∙ is.fit.paired;
       initial_known = initial_known;
-      outputs_there = λ r lt. absurd (omega (arith, lt));
+      outputs_there = outputs_there;
       outputs_known = outputs_known;
-      outputs_once = λ q r i j v vi vj. absurd (no_output q i v vi);
-      outputs_new = λ r i v vi. absurd (no_output r i v vi);
-      bases_known = λ b. subst (All (IsKnown u)) (sym (base-empty b)) (All-nil (IsKnown u));
+      outputs_once = outputs_once;
+      outputs_new = outputs_new;
+      bases_known = bases_in (IsKnown u) known;
     };
-    in_order = record { rising = rising; settled = λ b lt. IsSettledBase-empty u b (base-empty b) };
-    distinct = fit.distinct;
-    few_names = fit.few_names;
+    in_order = record { rising = rising; settled = settled };
+    distinct = is.fit.distinct;
+    few_names = is.fit.few_names;
     small =
-        All-weaker IsOrderly (All (λ v. v.size ≤ MOST_SIZE)) (λ vs is. is.small)
-        u.packages orderly;
-    few_bases = are.few;
+        All-weaker IsOrderly (All (λ v. v.size ≤ MOST_SIZE)) (λ vs of. of.small)
+        u.packages is.fit.orderly;
+    few_bases = are.bases.few;
     limited =
-        All-weaker IsEmptyBase (λ base. base.capacity ≤ MOST_CAPACITY) (λ base is. is.small)
-        farm.bases are.empty;
+        All-weaker (IsBase l.table) (λ base. base.capacity ≤ MOST_CAPACITY) (λ base of. of.small)
+        u.bases are.bases.each;
+    small_scratch =
+        All-weaker (IsRecipe l) (λ r. r.scratch ≤ MOST_SIZE) (λ r of. of.small)
+        u.recipes are.recipes.each;
+    few_steps =
+        All-weaker (IsRecipe l) (λ r. r.steps ≤ MOST_SIZE) (λ r of. of.few_steps)
+        u.recipes are.recipes.each;
+    few_recipes = are.recipes.few;
   }
 
 -- ---- what callers of a universe meet

@@ -4,7 +4,12 @@ pub mod TableLaws
 pub mod SourceLaws
 pub mod FitLaws
 pub mod ArchiveLaws
+pub mod ListFacts
+pub mod ListLaws
+pub mod RecipeLaws
+pub mod SettledLaws
 pub mod FarmLaws
 pub mod KeptLaws
 pub mod PlaceLaws
 pub mod SizeLaws
+pub mod OutputLaws

@@ -1,25 +1,26 @@
--- The farm text: its first paragraph describes the archive, each later one a base chroot (the
--- project's own format).
+-- The farm text: its first paragraph describes the archive, each later one a recipe or a base
+-- chroot (the project's own format).
 --
---   head_at table p       what the first paragraph says, or its first fault
---   chroot_at before p    what a later paragraph says, behind the base chroots before it
---   farm_of table ps      what the paragraphs say, or the first fault
-use Rattle.std.specs.Prelude.{ℕ, Bool, true, false, nat_le, List, [], ◌∷◌, length, Option, Some, None, Result, Ok, Err, codes}
-use Rattle.std.specs.List.{list_any}
-use Rattle.std.specs.Str.{bytes_eq}
+--   head_at table p                what the first paragraph says, or its first fault
+--   later_at land yard p           what the later paragraphs say with this one
+--   farm_of table sources ps       what the paragraphs say, or the first fault
+use Rattle.std.specs.Prelude.{ℕ, List, [], ◌∷◌, ◌++◌, length, Option, Some, None, Result, Ok, Err, codes}
 use Rattle.deb_text.specs.declared.fault.Fault.{Fault}
 use Rattle.deb_text.specs.Answers.{fault_at}
-use Rattle.deb_text.specs.Steps.{◌>>=◌, goods}
+use Rattle.deb_text.specs.Steps.{◌>>=◌, steps}
 use Rattle.deb_stanza.specs.Stanza.{Paragraph, value_of}
 use Rattle.deb_profile.specs.WordList.{words_at}
-use Rattle.farm_universe.specs.declared.error.TheConstants.{ABSENT, TWICE, OVER_LIMIT}
+use Rattle.farm_model.specs.Universe.{Recipe, Base, Universe}
+use Rattle.farm_universe.specs.declared.error.TheConstants.{ABSENT}
 use Rattle.farm_universe.specs.declared.files.TheConstants.{FARM}
-use Rattle.farm_universe.specs.declared.limits.TheConstants.{MOST_BASES, MOST_CAPACITY}
-use Rattle.farm_universe.specs.Fields.{needed_at, name_at, number_up_to, unread_at}
-use Rattle.farm_universe.specs.ListText.{list_of, words_of}
+use Rattle.farm_universe.specs.BaseText.{base_at}
+use Rattle.farm_universe.specs.Fields.{needed_at}
+use Rattle.farm_universe.specs.Land.{Land, reduced_table}
+use Rattle.farm_universe.specs.ListText.{list_at, words_of}
 use Rattle.farm_universe.specs.PackagesText.{PackageTable}
-use Rattle.farm_universe.specs.Told.{told, paragraphs_judged}
-use Rattle.farm_model.specs.Universe.{Base}
+use Rattle.farm_universe.specs.RecipeText.{recipe_at}
+use Rattle.farm_universe.specs.SourcesText.{SourceTable}
+use Rattle.farm_universe.specs.Told.{told}
 
 -- ---- the first paragraph
 
@@ -31,7 +32,7 @@ pub record Head : Type 0 where
 -- the initial archive; absent: an empty one
 abbrev pub archive_at : PackageTable → Option (List ℕ) → Result (List ℕ) ℕ
 archive_at table None = Ok (words_of (length table.names) [])
-archive_at table (Some text) = list_of (words_of (length table.names)) table text
+archive_at table (Some text) = list_at table text >>= λ vs. Ok (words_of (length table.names) vs)
 
 -- the fields in the order in which they are looked at
 unfoldable pub head_at : PackageTable → Paragraph → Result Head ℕ
@@ -41,73 +42,65 @@ head_at table p = do
   initial ← archive_at table (value_of p (codes "Archive"))
   Ok (record { architectures = architectures; initial = initial })
 
--- ---- base chroots
+-- what the later paragraphs are read against: the packages with their relations reduced
+abbrev pub land_of : PackageTable → SourceTable → Head → Land
+land_of table sources head = record {
+  table = reduced_table head.architectures table;
+  sources = sources;
+  architectures = head.architectures;
+  initial = head.initial;
+}
 
--- a code, where the condition holds
-abbrev pub refused_if : Bool → ℕ → Result (Unit {0}) ℕ
-refused_if true code = Err code
-refused_if false code = Ok tt
+-- ---- the later paragraphs
 
--- the name of a base chroot; recipes are not read yet
-abbrev pub chroot_name : Paragraph → Result (List ℕ) ℕ
-chroot_name p = do
-  recipe ← unread_at (value_of p (codes "Recipe"))
-  given ← needed_at p (codes "Chroot")
-  name_at given
+-- what they say so far
+pub record Yard : Type 0 where
+  pub recipes : List Recipe
+  pub bases : List Base
 
--- a base chroot of this name; its packages are not read yet
-abbrev pub chroot_named : Paragraph → List ℕ → Result Base ℕ
-chroot_named p name = do
-  spelled ← needed_at p (codes "Capacity")
-  capacity ← number_up_to MOST_CAPACITY spelled
-  packages ← unread_at (value_of p (codes "Packages"))
-  Ok (record { name = name; capacity = capacity; packages = [] })
+-- the recipes with one more, and the base chroots with one more
+unfoldable pub recipes_with : Land → List Recipe → Paragraph → List ℕ → Result (List Recipe) ℕ
+recipes_with land before p given = recipe_at land before p given >>= λ r. Ok (before ++ r ∷ [])
 
--- a chroot, if there is room for one more
-abbrev pub with_room : List Base → Base → Result Base ℕ
-with_room before base =
-    refused_if (nat_le MOST_BASES (length before)) OVER_LIMIT >>= λ free. Ok base
+unfoldable pub bases_with : PackageTable → List Base → Paragraph → Result (List Base) ℕ
+bases_with table before p = base_at table before p >>= λ base. Ok (before ++ base ∷ [])
 
--- a base chroot behind those before it, which have other names
-abbrev pub chroot_behind : List Base → Paragraph → List ℕ → Result Base ℕ
-chroot_behind before p name = do
-  free ← refused_if (list_any (λ base. bytes_eq name base.name) before) TWICE
-  base ← chroot_named p name
-  with_room before base
+-- a paragraph with the field Recipe is a recipe, each other a base chroot
+abbrev pub later_by : Land → Yard → Paragraph → Option (List ℕ) → Result Yard ℕ
+later_by land yard p (Some given) =
+    recipes_with land yard.recipes p given
+    >>= λ recipes. Ok (record { recipes = recipes; bases = yard.bases })
+later_by land yard p None =
+    bases_with land.table yard.bases p
+    >>= λ bases. Ok (record { recipes = yard.recipes; bases = bases })
 
--- what a later paragraph says, behind the base chroots before it
-unfoldable pub chroot_at : List Base → Paragraph → Result Base ℕ
-chroot_at before p = chroot_name p >>= chroot_behind before p
+unfoldable pub later_at : Land → Yard → Paragraph → Result Yard ℕ
+later_at land yard p = later_by land yard p (value_of p (codes "Recipe"))
 
--- the base chroots of these paragraphs
-abbrev pub bases_of : List Paragraph → List Base
-bases_of ps = goods (chroot_at []) ps
+abbrev pub tell_later : Land → Yard → Paragraph → Result Yard Fault
+tell_later land yard p = told FARM p (later_at land yard p)
 
--- the code of what is refused
-abbrev pub code_in : {X : Type 0} → Result X ℕ → Option ℕ
-code_in (Ok x) = None
-code_in (Err code) = Some code
-
--- the base chroots of these paragraphs, or the first fault
-unfoldable pub chroots_of : List Paragraph → Result (List Base) Fault
-chroots_of ps =
-    paragraphs_judged FARM (λ before p. code_in (chroot_at (bases_of before) p)) bases_of ps
+-- one after the other, each behind those before it
+abbrev pub yard_of : Land → List Paragraph → Result Yard Fault
+yard_of land ps = steps (tell_later land) (record { recipes = []; bases = [] }) ps
 
 -- ---- the whole text
 
--- what the farm text says
-pub record Farm : Type 0 where
-  pub architectures : List (List ℕ)
-  pub initial : List ℕ
-  pub bases : List Base
-
--- what the first paragraph and the later ones say
-abbrev pub farm_with : Head → List Base → Farm
-farm_with head bases =
-    record { architectures = head.architectures; initial = head.initial; bases = bases }
+-- the universe that land and yard make
+abbrev pub universe_with : Land → Yard → Universe
+universe_with land yard = record {
+  names = land.table.names;
+  packages = land.table.packages;
+  recipes = yard.recipes;
+  bases = yard.bases;
+  initial = land.initial;
+  architectures = land.architectures;
+}
 
 -- a farm text without a paragraph is refused at line 0
-abbrev pub farm_of : PackageTable → List Paragraph → Result Farm Fault
-farm_of table [] = Err (fault_at FARM 0 ABSENT)
-farm_of table (p ∷ ps) =
-    told FARM p (head_at table p) >>= λ head. chroots_of ps >>= λ bases. Ok (farm_with head bases)
+unfoldable pub farm_of : PackageTable → SourceTable → List Paragraph → Result Universe Fault
+farm_of table sources [] = Err (fault_at FARM 0 ABSENT)
+farm_of table sources (p ∷ ps) = do
+  head ← told FARM p (head_at table p)
+  yard ← yard_of (land_of table sources head) ps
+  Ok (universe_with (land_of table sources head) yard)

@@ -4,9 +4,9 @@
 --   needed_at p name             the value of a field that has to stand
 --   name_at, version_text_at     a name; a version, as it is written
 --   number_up_to most text       a number
---   size_at, relations_in        Installed-Size and relation fields, which may be absent
---   unread_at                    a field that is not read yet
-use Rattle.std.specs.Prelude.{ℕ, nat_lt, List, [], Option, Some, None, Result, Ok, Err, ok_or, if◌then◌else◌}
+--   size_at, relations_in        sizes and relation fields, which may be absent
+--   refused_if                   a code, where a condition holds
+use Rattle.std.specs.Prelude.{ℕ, Bool, true, false, nat_lt, List, [], Option, Some, None, Result, Ok, Err, ok_or, if◌then◌else◌}
 use Rattle.deb_text.specs.Numbers.{number_at}
 use Rattle.deb_text.specs.Steps.{◌>>=◌}
 use Rattle.deb_text.specs.Words.{is_name}
@@ -16,7 +16,7 @@ use Rattle.deb_relation.specs.declared.error.TheConstants.{BAD_NAME}
 use Rattle.deb_relation.specs.declared.kind.Kind.{Kind}
 use Rattle.deb_relation.specs.Field.{relations_at}
 use Rattle.deb_relation.specs.Relations.{Relations}
-use Rattle.farm_universe.specs.declared.error.TheConstants.{ABSENT, BAD_NUMBER, UNREAD}
+use Rattle.farm_universe.specs.declared.error.TheConstants.{ABSENT, BAD_NUMBER}
 use Rattle.farm_universe.specs.declared.limits.TheConstants.{MOST_SIZE}
 
 -- the value of a field that has to stand
@@ -40,7 +40,7 @@ up_to most (Some n) = if nat_lt most n then Err BAD_NUMBER else Ok n
 abbrev pub number_up_to : ℕ → List ℕ → Result ℕ ℕ
 number_up_to most text = up_to most (number_at text)
 
--- Installed-Size in KiB (Policy 5.6.20); absent: 0 (the project's own rule)
+-- Installed-Size (Policy 5.6.20) or Scratch, in KiB; absent: 0 (the project's own rule)
 abbrev pub size_at : Option (List ℕ) → Result ℕ ℕ
 size_at None = Ok 0
 size_at (Some text) = number_up_to MOST_SIZE text
@@ -50,7 +50,7 @@ abbrev pub relations_in : Kind → Option (List ℕ) → Result Relations ℕ
 relations_in kind None = Ok []
 relations_in kind (Some text) = relations_at kind text
 
--- a field that is not read yet
-abbrev pub unread_at : Option (List ℕ) → Result (Unit {0}) ℕ
-unread_at None = Ok tt
-unread_at (Some text) = Err UNREAD
+-- a code, where the condition holds
+abbrev pub refused_if : Bool → ℕ → Result (Unit {0}) ℕ
+refused_if true code = Err code
+refused_if false code = Ok tt

@@ -9,6 +9,9 @@ pub mod View
 pub mod TableSteps
 pub mod TableView
 pub mod ListText
+pub mod Land
+pub mod RecipeText
+pub mod BaseText
 pub mod FarmText
 pub mod FarmSteps
 pub mod FarmView

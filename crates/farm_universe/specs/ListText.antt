@@ -3,12 +3,13 @@
 --
 --   find_variant table name version   the variant of a name with this version
 --   variant_at table entry            the variant that an item of a list names
---   list_of made table text           what is made of the variants of a list, or the first fault
+--   variants_in table entries         the variants of these items, or the first fault
+--   list_at table text                the variants of a list, or the first fault
 --   words_of n vs                     for each of n names a word, with a bit for each variant of
 --                                     the list
 use Rattle.std.specs.Prelude.{ℕ, ◌^◌, Bool, ◌==◌, List, [], ◌∷◌, map, filter, fold, get_or, position, ok_or, if◌then◌else◌, Option, Some, None, Result, Err, bit_or}
 use Rattle.std.specs.List.{range_with_len}
-use Rattle.std.specs.Option.{option_map}
+use Rattle.std.specs.Option.{option_map, option_and_then}
 use Rattle.std.specs.Ordering.{is_eq}
 use Rattle.std.specs.Str.{bytes_eq}
 use Rattle.deb_text.specs.Groups.{place_in}
@@ -38,29 +39,36 @@ variant_of table version (Some n) =
 unfoldable pub find_variant : PackageTable → List ℕ → List ℕ → Option Variant
 find_variant table name version = variant_of table version (place_in bytes_eq table.names name)
 
--- with a version and without a qualifier
-abbrev pub named_variant : PackageTable → Option (List ℕ) → List ℕ → Option (Op × List ℕ) → Option Variant
-named_variant table (Some qualifier) name relation = None
-named_variant table None name None = None
-named_variant table None name (Some relation) = find_variant table name relation.1
+-- the name and the version of an alternative that has both, and no qualifier
+abbrev pub pinned_by : Option (List ℕ) → List ℕ → Option (Op × List ℕ) → Option (List ℕ × List ℕ)
+pinned_by (Some qualifier) name relation = None
+pinned_by None name None = None
+pinned_by None name (Some relation) = Some (name, relation.1)
 
--- an item has one alternative, since no list of variants has a bar
+-- an item `name (= version)`: it has one alternative, since no list of variants has a bar
+unfoldable pub pinned : Entry → Option (List ℕ × List ℕ)
+pinned [] = None
+pinned (a ∷ []) = pinned_by a.qualifier a.name a.relation
+pinned (a ∷ b ∷ more) = None
+
+-- the variant of such an item
 unfoldable pub variant_at : PackageTable → Entry → Result Variant ℕ
-variant_at table [] = Err UNKNOWN_VARIANT
-variant_at table (a ∷ []) =
-    ok_or (named_variant table a.qualifier a.name a.relation) UNKNOWN_VARIANT
-variant_at table (a ∷ b ∷ more) = Err UNKNOWN_VARIANT
+variant_at table entry =
+    ok_or (option_and_then (λ item. find_variant table item.0 item.1) (pinned entry))
+    UNKNOWN_VARIANT
 
 -- a variant that stands twice, however its version is written
 abbrev pub twice : List Variant → Variant → Option ℕ
 twice before v = if contains before v then Some TWICE else None
 
--- the faults of the field first, then item by item
-unfoldable pub list_of : {A : Type 0} → (List Variant → A) → PackageTable → List ℕ → Result A ℕ
-list_of made table text =
-    relations_at Provide text
-    >>= judged (item_fault (variant_at table) twice)
-    (λ items. made (goods (variant_at table) items))
+-- the variants of these items, or the first fault, item by item
+unfoldable pub variants_in : PackageTable → List Entry → Result (List Variant) ℕ
+variants_in table entries =
+    judged (item_fault (variant_at table) twice) (goods (variant_at table)) entries
+
+-- the faults of the field come first
+unfoldable pub list_at : PackageTable → List ℕ → Result (List Variant) ℕ
+list_at table text = relations_at Provide text >>= variants_in table
 
 -- ---- words
 

@@ -137,7 +137,7 @@ impl Package {
 }
 
 /// What is left of some room behind the entries of a field, if they fit in it.
-fn room_behind(room: usize, field: &Relations) -> Option<usize>
+pub fn room_behind(room: usize, field: &Relations) -> Option<usize>
     ensures { SomeIff result (length field.now ≤ room) (room - length field.now) }
 {
     room.checked_sub(field.len())

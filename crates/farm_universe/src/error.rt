@@ -10,10 +10,11 @@ use std::alloc::{AllocError, AllocFailed};
 /// A field that has to stand is absent.
 pub const ABSENT: u16 = 201;
 
-/// A field has no number, or one over its limit.
+/// A field has no number, one over its limit, or no mode.
 pub const BAD_NUMBER: u16 = 202;
 
-/// A version of a package, a variant of a list or the name of a chroot stands a second time.
+/// A version of a package or a source, a variant of a list, or the name of a recipe or a chroot
+/// stands a second time.
 pub const TWICE: u16 = 203;
 
 /// A name has more than [`MOST_VARIANTS`](crate::limits::MOST_VARIANTS) versions.
@@ -22,11 +23,21 @@ pub const TOO_MANY_VARIANTS: u16 = 204;
 /// An item of a list of variants names none.
 pub const UNKNOWN_VARIANT: u16 = 205;
 
-/// There are more names, relation entries or base chroots than the limits allow.
-pub const OVER_LIMIT: u16 = 210;
+/// The source of a recipe names none.
+pub const UNKNOWN_SOURCE: u16 = 206;
 
-/// A field or a paragraph that is not read yet.
-pub const UNREAD: u16 = 211;
+/// An output is in the initial archive, or an earlier recipe gives it.
+pub const TAKEN: u16 = 207;
+
+/// A recipe has no output.
+pub const NO_OUTPUT: u16 = 208;
+
+/// A base chroot is not settled, has a member that excludes another or two variants of a name, or
+/// is over its capacity.
+pub const UNSETTLED_BASE: u16 = 209;
+
+/// There are more names, relation entries, sources, recipes or base chroots than the limits allow.
+pub const OVER_LIMIT: u16 = 210;
 
 /// Why a paragraph is refused: the code of its fault, or that memory ran out.
 #[derive(Clone, Copy, Debug, PartialEq, Eq)]

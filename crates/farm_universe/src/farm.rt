@@ -1,89 +1,131 @@
 //! The farm text.
 
-ghost use Rattle.std.specs.Prelude.{◌≡◌, ◌≤◌, IfOk, length};
-ghost use Rattle.std.specs.Option.{option_map};
+ghost use Rattle.std.specs.Prelude.{◌≡◌, [], IfOk, OnOk, drop};
 ghost use Rattle.deb_text.specs.Answers.{Gives, refusal_of as fault_of};
-ghost use Rattle.farm_universe.specs.FarmText.{archive_at, head_at, farm_of};
-ghost use Rattle.farm_universe.specs.FarmView.{AreWords, AreBases, farm_view, head_view};
-ghost use Rattle.farm_universe.specs.Told.{told};
+ghost use Rattle.farm_universe.specs.FarmText.{later_at, tell_later, yard_of, farm_of};
+ghost use Rattle.farm_universe.specs.FarmView.{IsLand, IsYard, farm_view, land_view, yard_view};
+ghost use Rattle.farm_universe.specs.SourceView.{source_view, IsSourceTable};
 ghost use Rattle.farm_universe.specs.TableView.{table_view, IsFit};
 ghost use Rattle.farm_universe.specs.View.{refusal_of};
 
-use crate::archive::read_archive;
 use crate::base::Base;
-use crate::chroots::read_chroots;
+use crate::bases::add_base;
 use crate::error::{ABSENT, FieldFault};
 use crate::files::FARM;
+use crate::land::{Land, make_land, tell_head};
 use crate::package_table::PackageTable;
 use crate::paragraph::Paragraph;
-use deb_profile::ArchNames;
+use crate::recipes::{RecipeList, add_recipe};
+use crate::source_table::SourceTable;
 use deb_stanza::Paragraphs;
 use deb_text::Fault;
-use std::alloc::Global;
+use std::alloc::{AllocError, Global};
 
-/// What the first paragraph says.
-#[derive(Debug, Drop)]
-pub struct Head {
-    pub architectures: ArchNames,
-    pub initial: Vec<u64>,
-}
-
-/// What the farm text says.
-#[derive(Debug, Drop)]
-pub struct Farm {
-    pub architectures: ArchNames,
-    pub initial: Vec<u64>,
+/// What the later paragraphs say so far.
+#[derive(Drop)]
+pub struct Yard {
+    pub recipes: RecipeList,
     pub bases: Vec<Base>,
 }
 
-/// Reads the first paragraph.
-#[tactic(auto, unfolding(crate::specs::FarmText::head_at))]
-fn read_head(alloc: Global, table: &PackageTable, paragraph: &Paragraph) -> Result<Head, FieldFault>
-    requires { IsFit (table_view table.now) }
-    ensures read { Gives refusal_of head_view result
-        (head_at (table_view table.now) paragraph.now) }
-    ensures words { IfOk result (λ head. AreWords (table_view table.now) head.initial.items) }
-{
-    let architectures = ArchNames::parse(alloc, paragraph.needed(b"Architecture-Names")?)?;
-    let initial = read_archive(alloc, table, paragraph.field(b"Archive"))?;
-    Ok(Head {
-        architectures,
-        initial,
-    })
+/// What the farm text says.
+#[derive(Drop)]
+pub struct Farm {
+    pub land: Land,
+    pub yard: Yard,
 }
 
-/// Reads the first paragraph, and tells its fault at its line.
-fn tell_head(alloc: Global, table: &PackageTable, paragraph: &Paragraph) -> Result<Head, Fault>
-    requires { IsFit (table_view table.now) }
-    ensures read { Gives fault_of head_view result
-        (told FARM paragraph.now (head_at (table_view table.now) paragraph.now)) }
-    ensures words { IfOk result (λ head. AreWords (table_view table.now) head.initial.items) }
+/// Goes on by a paragraph.
+#[tactic(auto, unfolding(crate::specs::FarmText::later_at))]
+fn add_later(
+    alloc: Global,
+    land: &Land,
+    yard: &mut Yard,
+    paragraph: &Paragraph,
+) -> Result<(), FieldFault>
+    requires land { IsLand (land_view land.now) }
+    requires yard { IsYard (land_view land.now) yard.old }
+    ensures read { Gives refusal_of (λ _. yard_view yard.new) result
+        (later_at (land_view land.now) (yard_view yard.old) paragraph.now) }
+    ensures yard { OnOk result (IsYard (land_view land.now) yard.new) }
 {
-    match read_head(alloc, table, paragraph) {
-        Ok(head) => Ok(head),
-        Err(refusal) => Err(Fault::place(FARM, paragraph.line(), refusal.code)),
+    match paragraph.field(b"Recipe") {
+        Some(given) => add_recipe(alloc, land, &mut yard.recipes, paragraph, given),
+        None => add_base(alloc, &land.table, &mut yard.bases, paragraph),
     }
 }
 
+/// Goes on by a paragraph, and tells its fault at its line.
+fn tell_later(
+    alloc: Global,
+    land: &Land,
+    yard: &mut Yard,
+    paragraph: &Paragraph,
+) -> Result<(), Fault>
+    requires land { IsLand (land_view land.now) }
+    requires yard { IsYard (land_view land.now) yard.old }
+    ensures read { Gives fault_of (λ _. yard_view yard.new) result
+        (tell_later (land_view land.now) (yard_view yard.old) paragraph.now) }
+    ensures yard { OnOk result (IsYard (land_view land.now) yard.new) }
+{
+    match add_later(alloc, land, yard, paragraph) {
+        Ok(()) => Ok(()),
+        Err(fault) => Err(Fault::place(FARM, paragraph.line(), fault.code)),
+    }
+}
+
+/// A yard without a recipe and without a base chroot.
+fn empty_yard(alloc: Global, land: &Land) -> Result<Yard, AllocError>
+    requires { IsLand (land_view land.now) }
+    ensures empty { IfOk result
+        (λ yard. yard_view yard ≡ record { recipes = []; bases = [] }) }
+    ensures yard { IfOk result (IsYard (land_view land.now)) }
+{
+    Ok(Yard {
+        recipes: RecipeList {
+            recipes: Vec::new(alloc),
+            taken: land.initial.clone()?,
+            entries: 0,
+        },
+        bases: Vec::new(alloc),
+    })
+}
+
+/// Reads the paragraphs behind the first.
+fn read_yard(alloc: Global, land: &Land, paragraphs: &Paragraphs) -> Result<Yard, Fault>
+    requires { IsLand (land_view land.now) }
+    ensures read { Gives fault_of yard_view result
+        (yard_of (land_view land.now) (drop 1 paragraphs.now)) }
+    ensures yard { IfOk result (IsYard (land_view land.now)) }
+{
+    let mut yard = empty_yard(alloc, land)?;
+    for number in 1..paragraphs.count() {
+        let paragraph = Paragraph::new(paragraphs, number);
+        tell_later(alloc, land, &mut yard, &paragraph)?;
+    }
+    Ok(yard)
+}
+
 /// Reads the paragraphs of the farm text.
+#[tactic(auto, unfolding(crate::specs::FarmText::farm_of))]
 pub fn read_farm(
     alloc: Global,
-    table: &PackageTable,
+    table: PackageTable,
+    sources: SourceTable,
     paragraphs: &Paragraphs,
 ) -> Result<Farm, Fault>
-    requires { IsFit (table_view table.now) }
-    ensures read { Gives fault_of farm_view result (farm_of (table_view table.now) paragraphs.now) }
-    ensures words { IfOk result (λ farm. AreWords (table_view table.now) farm.initial.items) }
-    ensures bases { IfOk result (λ farm. AreBases farm.bases.items) }
+    requires fit { IsFit (table_view table) }
+    requires sources { IsSourceTable (source_view sources) }
+    ensures read { Gives fault_of farm_view result
+        (farm_of (table_view table) (source_view sources) paragraphs.now) }
+    ensures land { IfOk result (λ farm. IsLand (land_view farm.land)) }
+    ensures yard { IfOk result (λ farm. IsYard (land_view farm.land) farm.yard) }
 {
     if paragraphs.count() == 0 {
         return Err(Fault::place(FARM, 0, ABSENT));
     }
-    let head = tell_head(alloc, table, &Paragraph::new(paragraphs, 0))?;
-    let bases = read_chroots(alloc, paragraphs)?;
-    Ok(Farm {
-        architectures: head.architectures,
-        initial: head.initial,
-        bases,
-    })
+    let head = tell_head(alloc, &table, &Paragraph::new(paragraphs, 0))?;
+    let land = make_land(alloc, table, sources, head)?;
+    let yard = read_yard(alloc, &land, paragraphs)?;
+    Ok(Farm { land, yard })
 }

@@ -3,10 +3,10 @@
 ghost use Rattle.std.specs.Prelude.{◌≡◌, IfOk, ◌≤◌};
 ghost use Rattle.std.specs.Option.{option_map};
 ghost use Rattle.deb_text.specs.Answers.{Gives};
-ghost use Rattle.farm_universe.specs.Fields.{name_at, version_text_at, number_up_to, size_at, relations_in, unread_at};
+ghost use Rattle.farm_universe.specs.Fields.{name_at, version_text_at, number_up_to, size_at, relations_in};
 ghost use Rattle.farm_universe.specs.View.{refusal_of};
 
-use crate::error::{BAD_NUMBER, FieldFault, UNREAD};
+use crate::error::{BAD_NUMBER, FieldFault};
 use crate::limits::MOST_SIZE;
 use deb_relation::{BAD_NAME, Kind, Relations};
 use deb_text::{is_name, read_number};
@@ -46,7 +46,7 @@ pub fn read_number_up_to(most: u64, text: &[u8]) -> Result<u64, FieldFault>
     }
 }
 
-/// Reads Installed-Size, in KiB.
+/// Reads Installed-Size or Scratch, in KiB.
 pub fn read_size(value: Option<&[u8]>) -> Result<u64, FieldFault>
     ensures read { Gives refusal_of (λ n. n) result
         (size_at (option_map (λ v. v.now) value.entry)) }
@@ -70,15 +70,5 @@ pub fn read_relations(
     match value {
         Some(text) => Ok(Relations::parse(alloc, text, kind)?),
         None => Ok(Relations::from_entries(Vec::new(alloc))),
-    }
-}
-
-/// Refuses a field that is not read yet.
-pub fn refuse_unread(value: Option<&[u8]>) -> Result<(), FieldFault>
-    ensures { Gives refusal_of (λ _. tt) result (unread_at (option_map (λ v. v.now) value.entry)) }
-{
-    match value {
-        Some(_) => Err(FieldFault { code: UNREAD }),
-        None => Ok(()),
     }
 }

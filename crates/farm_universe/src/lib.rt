@@ -1,20 +1,25 @@
 //! The universe of a port's farm: its packages, recipes, base chroots and initial archive.
 #![tactic(auto)]
 
-mod archive;
 mod base;
+mod bases;
 mod binary;
-mod chroots;
+mod build;
 mod error;
 mod farm;
 mod fields;
 mod files;
+mod land;
 pub mod limits;
+mod list;
 mod package_table;
 mod packages;
 mod paragraph;
+mod recipe;
+mod recipes;
 mod reduction;
 pub mod relations;
+mod settled;
 mod source_table;
 mod sources;
 mod texts;
@@ -23,8 +28,10 @@ mod universe;
 pub use base::Base;
 pub use binary::PackageRelations;
 pub use error::{
-    ABSENT, BAD_NUMBER, OVER_LIMIT, TOO_MANY_VARIANTS, TWICE, UNKNOWN_VARIANT, UNREAD,
+    ABSENT, BAD_NUMBER, NO_OUTPUT, OVER_LIMIT, TAKEN, TOO_MANY_VARIANTS, TWICE, UNKNOWN_SOURCE,
+    UNKNOWN_VARIANT, UNSETTLED_BASE,
 };
 pub use farm_model::{Slot, Trap, Variant};
 pub use files::{FARM, PACKAGES, SOURCES};
+pub use recipe::Recipe;
 pub use universe::Universe;

@@ -3,7 +3,7 @@
 /// Names of packages.
 pub const MOST_NAMES: usize = 512;
 
-/// Relation entries of all packages, as they are read.
+/// Relation entries of all packages as they are read, and those of all recipes after reduction.
 pub const MOST_ENTRIES: usize = 8192;
 
 /// Versions of a name: as many as a word of the archive has bits.
@@ -12,10 +12,13 @@ pub const MOST_VARIANTS: usize = 64;
 /// Sources.
 pub const MOST_SOURCES: usize = 4096;
 
+/// Recipes.
+pub const MOST_RECIPES: usize = 1024;
+
 /// Base chroots.
 pub const MOST_BASES: usize = 64;
 
-/// Installed-Size, in KiB.
+/// Installed-Size and Scratch in KiB, and Steps.
 pub const MOST_SIZE: u64 = 4_294_967_295;
 
 /// The capacity of a chroot, in KiB.

@@ -2,14 +2,16 @@
 
 ghost use Rattle.std.specs.Prelude.{◌≡◌, IfOk, map};
 ghost use Rattle.deb_text.specs.Lists.{lists};
-ghost use Rattle.farm_universe.specs.UniverseText.{reduced_field, reduced_package};
+ghost use Rattle.farm_universe.specs.TableView.{table_view};
+ghost use Rattle.farm_universe.specs.Land.{reduced_field, reduced_package, reduced_table};
 
 use crate::binary::{Package, PackageRelations};
+use crate::package_table::PackageTable;
 use deb_profile::{ArchNames, ProfileSet, reduce};
 use deb_relation::Relations;
 use std::alloc::{AllocError, Global};
 
-#[tactic(auto, unfolding(crate::specs::UniverseText::reduced_field))]
+#[tactic(auto, unfolding(crate::specs::Land::reduced_field))]
 fn reduce_field(
     alloc: Global,
     field: &Relations,
@@ -20,7 +22,7 @@ fn reduce_field(
     reduce(alloc, field, architectures, &ProfileSet::none(alloc))
 }
 
-#[tactic(auto, unfolding(crate::specs::UniverseText::reduced_package))]
+#[tactic(auto, unfolding(crate::specs::Land::reduced_package))]
 fn reduce_package(
     alloc: Global,
     binary: Package,
@@ -54,12 +56,7 @@ fn reduce_packages(
     Ok(left)
 }
 
-/// Reduces the relations of all packages.
-///
-/// # Errors
-///
-/// Where memory is refused.
-pub fn reduce_all(
+fn reduce_all(
     alloc: Global,
     packages: Vec<Vec<Package>>,
     architectures: &ArchNames,
@@ -72,4 +69,24 @@ pub fn reduce_all(
         left.push(reduce_packages(alloc, named, architectures)?)?;
     }
     Ok(left)
+}
+
+/// Reduces the relations of all packages of a table.
+///
+/// # Errors
+///
+/// Where memory is refused.
+pub fn reduce_table(
+    alloc: Global,
+    table: PackageTable,
+    architectures: &ArchNames,
+) -> Result<PackageTable, AllocError>
+    ensures { IfOk result
+        (λ left. table_view left ≡ reduced_table architectures.now (table_view table)) }
+{
+    Ok(PackageTable {
+        names: table.names,
+        packages: reduce_all(alloc, table.packages, architectures)?,
+        entries: table.entries,
+    })
 }

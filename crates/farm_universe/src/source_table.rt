@@ -1,13 +1,14 @@
 //! The sources of the second text, by the number of their name.
 
 ghost use Rattle.std.specs.Prelude.{◌≡◌, ◌<◌, OnOk, IfOk, IfErr, None, length, false, ◌++◌, ◌∷◌, [], get_or, set};
+ghost use Rattle.std.specs.Option.{option_map};
 ghost use Rattle.std.specs.List.{list_any};
 ghost use Rattle.std.specs.Str.{bytes_eq};
 ghost use Rattle.deb_text.specs.Answers.{Gives, refusal_of as fault_of};
 ghost use Rattle.deb_text.specs.Groups.{place_in};
 ghost use Rattle.deb_text.specs.Lists.{lists};
 ghost use Rattle.farm_universe.specs.Keyed.{group_at};
-ghost use Rattle.farm_universe.specs.SourcesText.{is_of_version, sources_of};
+ghost use Rattle.farm_universe.specs.SourcesText.{is_of_version, sources_of, find_source};
 ghost use Rattle.farm_universe.specs.SourceSteps.{behind_others, put_source, source_code, add_source, add_source_paragraph, tell_source};
 ghost use Rattle.farm_universe.specs.SourceView.{listed_source_view, source_view, IsSourceTable, IsSourcePlace};
 ghost use Rattle.farm_universe.specs.View.{refusal_of};
@@ -187,4 +188,16 @@ pub fn read_sources(alloc: Global, paragraphs: &Paragraphs) -> Result<SourceTabl
         tell_paragraph(alloc, &mut table, &paragraph)?;
     }
     Ok(table)
+}
+
+/// The source of a name with this version.
+#[tactic(auto, unfolding(crate::specs::SourcesText::find_source))]
+pub fn find_source<'a>(table: &'a SourceTable, name: &[u8], version: &Version) -> Option<&'a Source>
+    requires { IsSourceTable (source_view table.now) }
+    ensures { option_map (λ source. source.now) result
+        ≡ find_source (source_view table.now) name.now version.now }
+{
+    given_at(table, place_of(&table.names, name))
+        .iter()
+        .find(|source| is_of_version(version, source))
 }

@@ -2,7 +2,7 @@
 
 ghost use Rattle.std.specs.Prelude.{◌≡◌, IfOk};
 ghost use Rattle.deb_text.specs.Answers.{Gives, refusal_of as fault_of};
-ghost use Rattle.farm_universe.specs.FarmView.{AreWords, AreBases, farm_view};
+ghost use Rattle.farm_universe.specs.FarmView.{IsLand, IsYard, farm_view, land_view};
 ghost use Rattle.farm_universe.specs.SourceView.{source_view, IsSourceTable};
 ghost use Rattle.farm_universe.specs.TableView.{table_view, IsFit};
 ghost use Rattle.farm_universe.specs.UniverseText.{paragraphs_in, table_at, sources_at, farm_at};
@@ -48,12 +48,19 @@ pub fn read_sources_text(alloc: Global, sources: &[u8]) -> Result<SourceTable, F
 
 /// Reads the farm text.
 #[tactic(auto, unfolding(crate::specs::UniverseText::farm_at))]
-pub fn read_farm_text(alloc: Global, table: &PackageTable, farm: &[u8]) -> Result<Farm, Fault>
-    requires { IsFit (table_view table.now) }
-    ensures read { Gives fault_of farm_view result (farm_at (table_view table.now) farm.now) }
-    ensures words { IfOk result (λ farm. AreWords (table_view table.now) farm.initial.items) }
-    ensures bases { IfOk result (λ farm. AreBases farm.bases.items) }
+pub fn read_farm_text(
+    alloc: Global,
+    table: PackageTable,
+    sources: SourceTable,
+    farm: &[u8],
+) -> Result<Farm, Fault>
+    requires fit { IsFit (table_view table) }
+    requires sources { IsSourceTable (source_view sources) }
+    ensures read { Gives fault_of farm_view result
+        (farm_at (table_view table) (source_view sources) farm.now) }
+    ensures land { IfOk result (λ farm. IsLand (land_view farm.land)) }
+    ensures yard { IfOk result (λ farm. IsYard (land_view farm.land) farm.yard) }
 {
     let paragraphs = read_paragraphs(alloc, FARM, farm)?;
-    read_farm(alloc, table, &paragraphs)
+    read_farm(alloc, table, sources, &paragraphs)
 }

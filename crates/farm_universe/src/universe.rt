@@ -1,23 +1,24 @@
 //! The universe of a farm, as its three texts describe it.
 
-ghost use Rattle.std.specs.Prelude.{◌≡◌, ◌<◌, ◌≤◌, ◌^◌, length, map, slice_index, slice_index_or, [], IfOk, IfSome};
+ghost use Rattle.std.specs.Prelude.{◌≡◌, ◌<◌, ◌≤◌, ◌*◌, length, slice_index, slice_index_or, [], IfOk, IfSome};
 ghost use Rattle.std.specs.Option.{option_copied};
 ghost use Rattle.std.specs.Str.{bytes_eq};
 ghost use Rattle.deb_text.specs.Answers.{Gives, refusal_of as fault_of};
 ghost use Rattle.deb_text.specs.Groups.{place_in};
-ghost use Rattle.farm_universe.specs.FarmView.{AreBases, AreWords, farm_view};
+ghost use Rattle.farm_universe.specs.FarmView.{IsLand, IsYard, farm_view, land_view};
 ghost use Rattle.farm_universe.specs.Kept.{IsKept};
-ghost use Rattle.farm_model.specs.Packages.{names, variants, outputs, package_of, size, pre_depends, depends, satisfies, is_wanted, base};
+ghost use Rattle.farm_model.specs.Packages.{names, variants, outputs, package_of, size, pre_depends, depends, satisfies, is_wanted, recipe, base};
 ghost use Rattle.farm_model.specs.Sound.{IsKnown};
-ghost use Rattle.farm_universe.specs.TableView.{IsFit, table_view};
-ghost use Rattle.farm_universe.specs.UniverseText.{universe_of, universe_with};
+ghost use Rattle.farm_universe.specs.UniverseText.{universe_of};
 
 use crate::base::Base;
 use crate::binary::{Package, PackageRelations};
-use crate::farm::Farm;
-use crate::limits::MOST_VARIANTS;
+use crate::farm::{Farm, Yard};
+use crate::land::Land;
+use crate::limits::{MOST_NAMES, MOST_VARIANTS};
 use crate::package_table::{PackageTable, place_of};
-use crate::reduction::reduce_all;
+use crate::recipe::Recipe;
+use crate::recipes::RecipeList;
 use crate::texts::{read_farm_text, read_packages_text, read_sources_text};
 use deb_profile::ArchNames;
 use deb_relation::{Atom, Facts, Op, in_relation, satisfies};
@@ -25,22 +26,22 @@ use deb_text::Fault;
 use deb_version::Version;
 use farm_model::Variant;
 use indexmap::IndexSet;
-use std::alloc::{AllocError, Global};
+use std::alloc::Global;
 use std::marker::Model;
 
-/// The universe of a farm: names by number, the variants of each from the lowest version up, base
-/// chroots, and the initial archive.
+/// The universe of a farm: names by number, the variants of each from the lowest version up,
+/// recipes, base chroots, and the initial archive.
 #[derive(Drop)]
 pub struct Universe {
     names: IndexSet<Vec<u8>>,
     packages: Vec<Vec<Package>>,
-    initial: Vec<u64>,
+    recipes: Vec<Recipe>,
     bases: Vec<Base>,
+    initial: Vec<u64>,
     architectures: ArchNames,
 }
 
 impl Model for Universe {
-    ghost use Rattle.std.specs.Prelude.{[]};
     ghost use Rattle.deb_text.specs.Lists.{lists};
     ghost use Rattle.farm_model.specs.Universe as universe;
     ghost use Rattle.farm_universe.specs.Kept.{IsKept};
@@ -50,7 +51,7 @@ impl Model for Universe {
     ghost view = { λ u. record {
       names = lists u.names.keys;
       packages = lists u.packages.items;
-      recipes = [];
+      recipes = u.recipes.items;
       bases = u.bases.items;
       initial = u.initial.items;
       architectures = u.architectures;
@@ -59,28 +60,41 @@ impl Model for Universe {
     ghost invariant = { λ u. IsKept (record {
       names = lists u.names.keys;
       packages = lists u.packages.items;
-      recipes = [];
+      recipes = u.recipes.items;
       bases = u.bases.items;
       initial = u.initial.items;
       architectures = u.architectures;
     }) };
 }
 
-/// Puts a table and a farm together.
-fn assemble(alloc: Global, table: PackageTable, farm: Farm) -> Result<Universe, AllocError>
-    requires fit { IsFit (table_view table) }
-    requires words { AreWords (table_view table) farm.initial.items }
-    requires bases { AreBases farm.bases.items }
-    ensures { IfOk result (λ u. u ≡ universe_with (table_view table) (farm_view farm)) }
+/// The universe that the farm text describes.
+fn assemble(farm: Farm) -> Universe
+    requires land { IsLand (land_view farm.land) }
+    requires yard { IsYard (land_view farm.land) farm.yard }
+    ensures { result ≡ farm_view farm }
 {
-    let packages = reduce_all(alloc, table.packages, &farm.architectures)?;
-    Ok(Universe {
-        names: table.names,
+    let Farm { land, yard } = farm;
+    let Land {
+        table,
+        architectures,
+        initial,
+        ..
+    } = land;
+    let PackageTable {
+        names,
         packages,
-        initial: farm.initial,
-        bases: farm.bases,
-        architectures: farm.architectures,
-    })
+        ..
+    } = table;
+    let Yard { recipes, bases } = yard;
+    let RecipeList { recipes, .. } = recipes;
+    Universe {
+        names,
+        packages,
+        recipes,
+        bases,
+        initial,
+        architectures,
+    }
 }
 
 impl Universe {
@@ -92,20 +106,30 @@ impl Universe {
     /// # Errors
     ///
     /// The first fault, packages (file 1) before sources (2) before the farm (3), told at the
-    /// first line of its paragraph. Of a text: 105 at line 0, 101 to 104 at the faulty line. Of a
-    /// packages paragraph: 201, 121 of `Package`; 201, 111 to 114 of `Version`; 202 of
-    /// `Installed-Size`; 121 to 123 and 125 to 129 of `Pre-Depends`, `Depends`, `Conflicts`,
-    /// `Breaks` and `Provides`, in this order; then 203 for a version that the name has, 204 for too
-    /// many of them, 210 for too many names or relation entries. Of a
-    /// sources paragraph: 201, 121 of `Package`, or of `Source` where it has none; 201, 111 to 114 of
-    /// `Version`; 121 to 130 of `Build-Depends`, `Build-Depends-Arch`, `Build-Depends-Indep` and of
-    /// the `Build-Conflicts` fields alike; 203 for a version that the source has, 210 for too many
-    /// sources. Of the farm: 201 at line 0 where it has no paragraph; in the first
-    /// 201, 131 of `Architecture-Names`, then of `Archive` 121, 122, 123, 125, 126, 127 or 128, and
-    /// item by item 205 for one that names no variant and 203 for one that stands twice; in each
-    /// later one 211 where `Recipe` stands, 201, 121, 203 of `Chroot`, 201, 202 of `Capacity`, 211
-    /// where `Packages` stands, 210 for too many chroots. 900 (file 0, line 0) as soon as memory is
-    /// refused, ahead of every fault that would be found later. Nothing is left behind.
+    /// first line of its paragraph. Of a text: 105 at line 0, 101 to 104 at the faulty line.
+    ///
+    /// Of a packages paragraph: 201, 121 of `Package`; 201, 111 to 114 of `Version`; 202 of
+    /// `Installed-Size`; the faults of a relation field, 121 to 129, of `Pre-Depends`, `Depends`,
+    /// `Conflicts`, `Breaks` and `Provides`; 203 for a version that the name has, 204 for too many
+    /// of them, 210 for too many names or relation entries.
+    ///
+    /// Of a sources paragraph: 201, 121 of `Package`, or of `Source` where that is absent; 201, 111
+    /// to 114 of `Version`; 121 to 130 of `Build-Depends`, `Build-Depends-Arch`,
+    /// `Build-Depends-Indep`, and of `Build-Conflicts` and its two companions; 203 for a version
+    /// that the source has, 210 for too many sources.
+    ///
+    /// Of the farm: 201 at line 0 where it has no paragraph. In the first 201, 131 of
+    /// `Architecture-Names`, then the faults of a list of variants in `Archive`: those of the whole
+    /// field, 121 to 128, and item by item 205 for one that names no variant and 203 for one that
+    /// stands twice. In a later one with the field `Recipe` 121, 203 of it; 201, 121 to 128, 206 of
+    /// `Source`; 202 of `Mode`; 131 of `Profiles`; 201, 202 of `Steps`; 202 of `Scratch`; of
+    /// `Outputs` 208 where it has no item, a list's faults, and 207 where an output is taken; 210
+    /// for too many recipes or entries of them. In each other one 201, 121, 203 of `Chroot`; 201,
+    /// 202 of `Capacity`; a list's faults of `Packages`, and 209 where they are not settled; 210
+    /// for too many chroots.
+    ///
+    /// 900 (file 0, line 0) as soon as memory is refused, ahead of every fault that would be found
+    /// later. Nothing is left behind.
     #[tactic(auto, unfolding(crate::specs::UniverseText::universe_of))]
     pub fn read(
         alloc: Global,
@@ -116,9 +140,8 @@ impl Universe {
         ensures { Gives fault_of (λ u. u) result (universe_of packages.now sources.now farm.now) }
     {
         let table = read_packages_text(alloc, packages)?;
-        let _sources = read_sources_text(alloc, sources)?;
-        let farm = read_farm_text(alloc, &table, farm)?;
-        Ok(assemble(alloc, table, farm)?)
+        let sources = read_sources_text(alloc, sources)?;
+        Ok(assemble(read_farm_text(alloc, table, sources, farm)?))
     }
 
     /// How many names of packages there are.
@@ -232,22 +255,39 @@ impl Universe {
         in_relation(relation, self.version(variant))
     }
 
-    /// The number of a recipe.
-    pub fn find_recipe(&self, _text: &[u8]) -> Option<u32>
-        ensures { result ≡ place_in bytes_eq (map (λ recipe. recipe.name) self.now.recipes) _text.now }
+    /// How many recipes there are.
+    pub fn recipes(&self) -> u32
+        ensures { result ≡ length self.now.recipes }
     {
-        let _bases = &self.bases;
-        None
+        self.recipes.len() as u32
+    }
+
+    /// The recipe with this number.
+    #[tactic(auto, unfolding(farm_model::specs::Packages::recipe))]
+    pub fn recipe(&self, number: u32) -> &Recipe
+        requires { number < length self.now.recipes }
+        ensures { result.now ≡ recipe self.now number }
+    {
+        &self.recipes[number as usize]
+    }
+
+    #[tactic(auto, unfolding(farm_model::specs::Packages::recipe))]
+    fn given_by(&self, recipe: u32) -> &[Variant]
+        ensures { result.now ≡ outputs self.now recipe }
+    {
+        match self.recipes.get(recipe as usize) {
+            Some(recipe) => recipe.outputs(),
+            None => &[],
+        }
     }
 
     /// What a recipe gives, in the order of publishing.
-    #[tactic(auto, unfolding(farm_model::specs::Packages::recipe))]
     pub fn outputs(&self, recipe: u32) -> &[Variant]
         ensures outputs { result.now ≡ outputs self.now recipe }
-        ensures few { length result.now < 2 ^ 32 }
+        ensures few { length result.now ≤ MOST_NAMES * MOST_VARIANTS }
     {
-        let _bases = &self.bases;
-        &[]
+        let _names = self.names();
+        self.given_by(recipe)
     }
 
     /// How many base chroots there are.

@@ -7,9 +7,9 @@ use Rattle.std.proofs.lemmas.List.Sums.{position_or_len_is}
 use Rattle.std.proofs.Math.ListN.{get_or-map}
 use Rattle.deb_text.proofs.PlaceLaws.{place_in-position}
 use Rattle.deb_text.specs.Groups.{place_in}
-use Rattle.farm_model.specs.Packages.{no_base, base}
-use Rattle.farm_model.specs.Universe.{Base, Universe}
-use Rattle.plan_asm.specs.Drafts.{base_names}
+use Rattle.farm_model.specs.Packages.{no_base, base, no_recipe, recipe}
+use Rattle.farm_model.specs.Universe.{Base, Recipe, Universe}
+use Rattle.plan_asm.specs.Drafts.{base_names, recipe_names}
 
 module _ (ks : List (List ℕ)) (k : List ℕ) where
   -- a place is one in the list
@@ -43,3 +43,8 @@ module _ (ks : List (List ℕ)) (k : List ℕ) where
 pub base-name : (u : Universe) (i : ℕ) → get_or (base_names u) i [] ≡ (base u i).name
 unfolding base
 base-name u i = get_or-map (λ (b : Base). b.name) u.bases i no_base
+
+-- the name of the recipe of a number
+pub recipe-name : (u : Universe) (i : ℕ) → get_or (recipe_names u) i [] ≡ (recipe u i).name
+unfolding recipe
+recipe-name u i = get_or-map (λ (r : Recipe). r.name) u.recipes i no_recipe

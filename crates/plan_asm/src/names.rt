@@ -61,10 +61,12 @@ fn known_recipe(universe: &Universe, word: &[u8]) -> Result<u32, LineError>
     ensures { Gives refusal_of_line (λ recipe. recipe) result
         (known_recipe universe.now word.now) }
 {
-    match universe.find_recipe(word) {
-        Some(recipe) => Ok(recipe),
-        None => Err(LineError::UnknownName),
+    for recipe in 0..universe.recipes() {
+        if word == universe.recipe(recipe).name() {
+            return Ok(recipe);
+        }
     }
+    Err(LineError::UnknownName)
 }
 
 fn known_names(alloc: Global, universe: &Universe, text: &[u8]) -> Result<Vec<u32>, LineError>

@@ -1,6 +1,6 @@
 use Rattle.std.proofs.Common.{◌≡◌, map}
 use Rattle.deb_text.specs.Lists.{lists}
-use Rattle.farm_universe.specs.UniverseText.{reduced_package}
+use Rattle.farm_universe.specs.Land.{reduced_package}
 use Rattle.farm_universe.proofs.reduction.reduce_all.Given as goal
 
 abbrev pub invariant-loop-named : goal.invariant-loop-named

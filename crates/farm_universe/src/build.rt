@@ -1,0 +1,156 @@
+//! What a recipe builds, and how.
+
+ghost use Rattle.std.specs.Prelude.{◌≡◌, ◌++◌, IfOk, IfSome, OnOk};
+ghost use Rattle.std.specs.Option.{option_map};
+ghost use Rattle.deb_text.specs.Answers.{Gives};
+ghost use Rattle.deb_profile.specs.Reduction.{reduced};
+ghost use Rattle.farm_universe.specs.FarmView.{IsLand, land_view};
+ghost use Rattle.farm_universe.specs.RecipeText.{source_in, mode_of, mode_at, profiles_at, in_mode, build_at};
+ghost use Rattle.farm_universe.specs.SourceView.{source_view, IsSourceTable};
+ghost use Rattle.farm_universe.specs.View.{refusal_of};
+
+use crate::error::{BAD_NUMBER, FieldFault, UNKNOWN_SOURCE};
+use crate::land::Land;
+use crate::list::pinned;
+use crate::paragraph::Paragraph;
+use crate::source_table::{SourceTable, find_source};
+use crate::sources::{BuildFields, Source};
+use deb_profile::{ArchNames, ProfileSet, reduce};
+use deb_relation::{Entry, Kind, Relations};
+use farm_model::Mode;
+use std::alloc::{AllocError, Global};
+
+/// What a build needs, and what it excludes.
+#[derive(Debug, Drop)]
+pub struct Build {
+    pub needs: Relations,
+    pub clashes: Relations,
+}
+
+/// The source that a value `name (= version)` names.
+#[tactic(auto, unfolding(crate::specs::RecipeText::source_in))]
+fn read_source<'a>(
+    alloc: Global,
+    sources: &'a SourceTable,
+    text: &[u8],
+) -> Result<&'a Source, FieldFault>
+    requires { IsSourceTable (source_view sources.now) }
+    ensures { Gives refusal_of (λ source. source.now) result
+        (source_in (source_view sources.now) text.now) }
+{
+    let list = Relations::parse(alloc, text, Kind::Provide)?;
+    let [entry] = list.entries() else {
+        return Err(FieldFault {
+            code: UNKNOWN_SOURCE,
+        });
+    };
+    let Some((name, version)) = pinned(entry) else {
+        return Err(FieldFault {
+            code: UNKNOWN_SOURCE,
+        });
+    };
+    match find_source(sources, name, version) {
+        Some(source) => Ok(source),
+        None => Err(FieldFault {
+            code: UNKNOWN_SOURCE,
+        }),
+    }
+}
+
+fn mode_of(text: &[u8]) -> Result<Mode, FieldFault>
+    ensures { Gives refusal_of (λ mode. mode) result (mode_of text.now) }
+{
+    if text == b"full".as_slice() {
+        return Ok(Mode::Full);
+    }
+    if text == b"arch".as_slice() {
+        return Ok(Mode::Arch);
+    }
+    if text == b"indep".as_slice() {
+        return Ok(Mode::Indep);
+    }
+    Err(FieldFault { code: BAD_NUMBER })
+}
+
+fn read_mode(value: Option<&[u8]>) -> Result<Mode, FieldFault>
+    ensures { Gives refusal_of (λ mode. mode) result
+        (mode_at (option_map (λ v. v.now) value.entry)) }
+{
+    match value {
+        Some(text) => mode_of(text),
+        None => Ok(Mode::Full),
+    }
+}
+
+fn read_profiles(alloc: Global, value: Option<&[u8]>) -> Result<ProfileSet, FieldFault>
+    ensures { Gives refusal_of (λ profiles. profiles) result
+        (profiles_at (option_map (λ v. v.now) value.entry)) }
+{
+    match value {
+        Some(text) => Ok(ProfileSet::parse(alloc, text)?),
+        None => Ok(ProfileSet::none(alloc)),
+    }
+}
+
+/// Puts what is left of a field behind other entries.
+fn push_reduced(
+    alloc: Global,
+    entries: &mut Vec<Entry>,
+    field: &Relations,
+    names: &ArchNames,
+    profiles: &ProfileSet,
+) -> Result<(), AllocError>
+    ensures { OnOk result (entries.new.items
+        ≡ entries.old.items ++ reduced names.now profiles.now field.now) }
+{
+    for entry in reduce(alloc, field, names, profiles)?.entries() {
+        entries.push(entry.clone()?)?;
+    }
+    Ok(())
+}
+
+/// The fields of a mode, reduced.
+#[tactic(auto, unfolding(crate::specs::RecipeText::in_mode))]
+fn reduce_in_mode(
+    alloc: Global,
+    mode: Mode,
+    fields: &BuildFields,
+    names: &ArchNames,
+    profiles: &ProfileSet,
+) -> Result<Relations, AllocError>
+    ensures { IfOk result (λ left. left ≡ in_mode names.now profiles.now mode fields.now) }
+{
+    let mut entries = Vec::new(alloc);
+    push_reduced(alloc, &mut entries, &fields.always, names, profiles)?;
+    match mode {
+        Mode::Full => {
+            push_reduced(alloc, &mut entries, &fields.arch, names, profiles)?;
+            push_reduced(alloc, &mut entries, &fields.indep, names, profiles)?;
+            Ok(Relations::from_entries(entries))
+        }
+        Mode::Arch => {
+            push_reduced(alloc, &mut entries, &fields.arch, names, profiles)?;
+            Ok(Relations::from_entries(entries))
+        }
+        Mode::Indep => {
+            push_reduced(alloc, &mut entries, &fields.indep, names, profiles)?;
+            Ok(Relations::from_entries(entries))
+        }
+    }
+}
+
+/// Reads the fields Source, Mode and Profiles.
+#[tactic(auto, unfolding(crate::specs::RecipeText::build_at))]
+pub fn read_build(alloc: Global, land: &Land, paragraph: &Paragraph) -> Result<Build, FieldFault>
+    requires { IsLand (land_view land.now) }
+    ensures { Gives refusal_of (λ build. build) result (build_at (land_view land.now) paragraph.now) }
+{
+    let source = read_source(alloc, &land.sources, paragraph.needed(b"Source")?)?;
+    let mode = read_mode(paragraph.field(b"Mode"))?;
+    let profiles = read_profiles(alloc, paragraph.field(b"Profiles"))?;
+    let names = &land.architectures;
+    Ok(Build {
+        needs: reduce_in_mode(alloc, mode, &source.needs, names, &profiles)?,
+        clashes: reduce_in_mode(alloc, mode, &source.clashes, names, &profiles)?,
+    })
+}

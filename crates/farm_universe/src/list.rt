@@ -1,0 +1,201 @@
+//! Lists of variants.
+
+ghost use Rattle.std.specs.Prelude.{◌≡◌, ◌<◌, IfSome, IfOk, IfErr, OnOk, None, All, position, length, get_or, set, []};
+ghost use Rattle.std.specs.List.{list_any};
+ghost use Rattle.std.specs.Option.{option_map};
+ghost use Rattle.deb_text.specs.Answers.{Gives};
+ghost use Rattle.farm_universe.specs.FarmSteps.{add_item, word_set, taken_with};
+ghost use Rattle.farm_universe.specs.ListText.{has_version, find_variant, pinned, variant_at, variants_in, list_at, words_of};
+ghost use Rattle.farm_universe.specs.FarmView.{AreListed, AreWords, IsPlace};
+ghost use Rattle.farm_model.specs.Packages.{has_bit};
+ghost use Rattle.farm_universe.specs.TableView.{table_view, IsFit};
+ghost use Rattle.farm_universe.specs.View.{refusal_of};
+
+use crate::binary::Package;
+use crate::error::{FieldFault, TWICE, UNKNOWN_VARIANT};
+use crate::package_table::{PackageTable, packages_at, place_of};
+use deb_relation::{Entry, Kind, Relations};
+use deb_version::Version;
+use farm_model::Variant;
+use std::alloc::Global;
+
+/// The variants of a list in its order, and a word for each name with their bits.
+#[derive(Debug, Drop)]
+pub struct VariantList {
+    pub variants: Vec<Variant>,
+    pub words: Vec<u64>,
+}
+
+fn has_version(version: &Version, binary: &Package) -> bool
+    ensures { result ≡ has_version version.now binary.now }
+{
+    version.compare(binary.version()).is_eq()
+}
+
+/// The place of a version among the packages of a name.
+fn bit_of(packages: &[Package], version: &Version) -> Option<usize>
+    ensures bit { result ≡ position (has_version version.now) packages.now }
+    ensures within { IfSome result (λ bit. bit < length packages.now) }
+{
+    packages
+        .iter()
+        .position(|binary| has_version(version, binary))
+}
+
+/// The variant of a name with this version.
+#[tactic(auto, unfolding(crate::specs::ListText::find_variant))]
+fn find_variant(table: &PackageTable, name: &[u8], version: &Version) -> Option<Variant>
+    requires fit { IsFit (table_view table.now) }
+    ensures found { result ≡ find_variant (table_view table.now) name.now version.now }
+    ensures place { IfSome result (IsPlace (table_view table.now)) }
+{
+    let number = place_of(&table.names, name)?;
+    let bit = bit_of(packages_at(table, number), version)?;
+    Some(Variant {
+        name: number as u32,
+        bit: bit as u32,
+    })
+}
+
+/// The name and the version of an item `name (= version)`.
+#[tactic(auto, unfolding(crate::specs::ListText::pinned))]
+pub fn pinned(entry: &Entry) -> Option<(&[u8], &Version)>
+    ensures { option_map (λ item. (item.0.now, item.1.now)) result ≡ pinned entry.now }
+{
+    let [atom] = entry.alternatives() else {
+        return None;
+    };
+    if atom.qualifier.is_some() {
+        return None;
+    }
+    match &atom.relation {
+        Some((_, version)) => Some((&atom.name, version)),
+        None => None,
+    }
+}
+
+/// The variant that an item of a list names.
+#[tactic(auto, unfolding(crate::specs::ListText::variant_at))]
+fn read_variant(table: &PackageTable, entry: &Entry) -> Result<Variant, FieldFault>
+    requires fit { IsFit (table_view table.now) }
+    ensures read { Gives refusal_of (λ v. v) result (variant_at (table_view table.now) entry.now) }
+    ensures place { IfOk result (IsPlace (table_view table.now)) }
+{
+    let Some((name, version)) = pinned(entry) else {
+        return Err(FieldFault {
+            code: UNKNOWN_VARIANT,
+        });
+    };
+    match find_variant(table, name, version) {
+        Some(variant) => Ok(variant),
+        None => Err(FieldFault {
+            code: UNKNOWN_VARIANT,
+        }),
+    }
+}
+
+/// Tells whether the bit of a variant is set.
+#[tactic(auto, unfolding(farm_model::specs::Packages::has_bit))]
+pub fn has_bit(words: &[u64], variant: Variant) -> bool
+    requires name { variant.name < length words.now }
+    requires bit { variant.bit < 64 }
+    ensures { result ≡ has_bit words.now variant }
+{
+    words[variant.name as usize] >> variant.bit & 1 == 1
+}
+
+/// Sets the bit of a variant.
+pub fn set_bit(words: &mut Vec<u64>, variant: Variant)
+    requires name { variant.name < length words.old.items }
+    requires bit { variant.bit < 64 }
+    ensures { words.new.items ≡ word_set words.old.items variant }
+{
+    words[variant.name as usize] |= 1 << variant.bit;
+}
+
+/// Tells whether the bit of one of these variants is set.
+pub fn has_some_bit(words: &[u64], variants: &[Variant]) -> bool
+    requires names { All (λ v. v.name < length words.now) variants.now }
+    requires bits { All (λ v. v.bit < 64) variants.now }
+    ensures { result ≡ list_any (has_bit words.now) variants.now }
+{
+    variants.iter().any(|variant| has_bit(words, *variant))
+}
+
+/// Sets the bits of these variants.
+pub fn set_bits(words: &mut Vec<u64>, variants: &[Variant])
+    requires names { All (λ v. v.name < length words.old.items) variants.now }
+    requires bits { All (λ v. v.bit < 64) variants.now }
+    ensures { words.new.items ≡ taken_with words.old.items variants.now }
+{
+    for variant in variants {
+        set_bit(words, *variant);
+    }
+}
+
+/// Goes on by an item of a list.
+#[tactic(auto, unfolding(crate::specs::FarmSteps::add_item, crate::specs::FarmSteps::add_variant))]
+fn add_item(table: &PackageTable, list: &mut VariantList, entry: &Entry) -> Result<(), FieldFault>
+    requires fit { IsFit (table_view table.now) }
+    requires listed { AreListed (table_view table.now) list.old }
+    ensures read { Gives refusal_of (λ _. list.new.variants.items) result
+        (add_item (table_view table.now) list.old.variants.items entry.now) }
+    ensures listed { OnOk result (AreListed (table_view table.now) list.new) }
+{
+    let variant = read_variant(table, entry)?;
+    if has_bit(&list.words, variant) {
+        return Err(FieldFault { code: TWICE });
+    }
+    set_bit(&mut list.words, variant);
+    list.variants.push(variant)?;
+    Ok(())
+}
+
+/// A list without a variant.
+pub fn empty_list(alloc: Global, table: &PackageTable) -> Result<VariantList, FieldFault>
+    ensures empty { IfOk result (λ list. list.variants.items ≡ []) }
+    ensures listed { IfOk result (AreListed (table_view table.now)) }
+    ensures words { IfOk result (λ list. AreWords (table_view table.now) list.words.items) }
+    ensures memory { IfErr result (λ e. refusal_of e ≡ None) }
+{
+    Ok(VariantList {
+        variants: Vec::new(alloc),
+        words: vec![in alloc; 0u64; table.names.len()]?,
+    })
+}
+
+/// Reads the items of a list.
+pub fn read_variants(
+    alloc: Global,
+    table: &PackageTable,
+    entries: &[Entry],
+) -> Result<VariantList, FieldFault>
+    requires fit { IsFit (table_view table.now) }
+    ensures read { Gives refusal_of (λ list. list.variants.items) result
+        (variants_in (table_view table.now) entries.now) }
+    ensures listed { IfOk result (AreListed (table_view table.now)) }
+    ensures words { IfOk result (λ list. AreWords (table_view table.now) list.words.items) }
+{
+    let mut list = empty_list(alloc, table)?;
+    for entry in entries {
+        add_item(table, &mut list, entry)?;
+    }
+    Ok(list)
+}
+
+/// Reads a list of variants.
+#[tactic(auto, unfolding(crate::specs::ListText::list_at))]
+pub fn read_list(
+    alloc: Global,
+    table: &PackageTable,
+    text: &[u8],
+) -> Result<VariantList, FieldFault>
+    requires fit { IsFit (table_view table.now) }
+    ensures read { Gives refusal_of (λ list. list.variants.items) result
+        (list_at (table_view table.now) text.now) }
+    ensures listed { IfOk result (AreListed (table_view table.now)) }
+    ensures words { IfOk result (λ list. AreWords (table_view table.now) list.words.items) }
+{
+    let list = Relations::parse(alloc, text, Kind::Provide)?;
+    read_variants(alloc, table, list.entries())
+}

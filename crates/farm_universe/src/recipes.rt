@@ -1,0 +1,170 @@
+//! The recipes of the farm text.
+
+ghost use Rattle.std.specs.Prelude.{◌≡◌, ◌+◌, ◌<◌, ◌≤◌, ◌++◌, ◌∷◌, [], IfOk, OnOk, IfErr, None, All, length, map, sum};
+ghost use Rattle.std.specs.List.{list_any};
+ghost use Rattle.std.specs.Option.{option_map};
+ghost use Rattle.std.specs.Str.{bytes_eq};
+ghost use Rattle.deb_text.specs.Answers.{Gives};
+ghost use Rattle.farm_universe.specs.FarmSteps.{taken_with};
+ghost use Rattle.farm_universe.specs.FarmText.{recipes_with};
+ghost use Rattle.farm_universe.specs.FarmView.{AreOutputs, AreNew, AreRecipes, IsLand, IsNew, land_view};
+ghost use Rattle.farm_universe.specs.RecipeText.{outputs_in, outputs_at, build_entries, is_build_over, recipe_name, new_outputs, recipe_at};
+ghost use Rattle.farm_universe.specs.TableView.{table_view, IsFit};
+ghost use Rattle.farm_universe.specs.View.{refusal_of};
+
+use crate::binary::room_behind;
+use crate::build::{Build, read_build};
+use crate::error::{FieldFault, NO_OUTPUT, OVER_LIMIT, TAKEN, TWICE};
+use crate::fields::{read_name, read_number_up_to, read_size};
+use crate::land::Land;
+use crate::limits::{MOST_ENTRIES, MOST_RECIPES, MOST_SIZE};
+use crate::list::{has_some_bit, read_variants, set_bits};
+use crate::package_table::PackageTable;
+use crate::paragraph::Paragraph;
+use crate::recipe::Recipe;
+use deb_relation::{Kind, Relations};
+use farm_model::Variant;
+use std::alloc::Global;
+
+/// The recipes so far, the words of the initial archive and of their outputs, and how many entries
+/// they have.
+#[derive(Drop)]
+pub struct RecipeList {
+    pub recipes: Vec<Recipe>,
+    pub taken: Vec<u64>,
+    pub entries: usize,
+}
+
+fn is_given(recipes: &[Recipe], name: &[u8]) -> bool
+    ensures { result ≡ list_any (λ r. bytes_eq name.now r.name) recipes.now }
+{
+    recipes.iter().any(|recipe| name == recipe.name())
+}
+
+/// Reads a name that no recipe has yet.
+fn read_recipe_name(alloc: Global, recipes: &[Recipe], given: &[u8]) -> Result<Vec<u8>, FieldFault>
+    ensures { Gives refusal_of (λ name. name.items) result (recipe_name recipes.now given.now) }
+{
+    let name = read_name(alloc, given)?;
+    if is_given(recipes, &name) {
+        return Err(FieldFault { code: TWICE });
+    }
+    Ok(name)
+}
+
+/// Reads a list of variants that has an item.
+#[tactic(auto, unfolding(crate::specs::RecipeText::outputs_at))]
+fn read_outputs(
+    alloc: Global,
+    table: &PackageTable,
+    value: Option<&[u8]>,
+) -> Result<Vec<Variant>, FieldFault>
+    requires { IsFit (table_view table.now) }
+    ensures read { Gives refusal_of (λ vs. vs.items) result
+        (outputs_at (table_view table.now) (option_map (λ v. v.now) value.entry)) }
+    ensures outputs { IfOk result (λ vs. AreOutputs (table_view table.now) vs.items) }
+{
+    let Some(text) = value else {
+        return Err(FieldFault { code: NO_OUTPUT });
+    };
+    let list = Relations::parse(alloc, text, Kind::Provide)?;
+    if list.is_empty() {
+        return Err(FieldFault { code: NO_OUTPUT });
+    }
+    Ok(read_variants(alloc, table, list.entries())?.variants)
+}
+
+/// Reads outputs that are new.
+fn read_new_outputs(
+    alloc: Global,
+    land: &Land,
+    list: &RecipeList,
+    paragraph: &Paragraph,
+) -> Result<Vec<Variant>, FieldFault>
+    requires land { IsLand (land_view land.now) }
+    requires list { AreRecipes (land_view land.now) list.now }
+    ensures read { Gives refusal_of (λ vs. vs.items) result
+        (new_outputs (land_view land.now) list.now.recipes.items paragraph.now) }
+    ensures new { IfOk result
+        (λ vs. AreNew (land_view land.now) list.now.recipes.items vs.items) }
+{
+    let outputs = read_outputs(alloc, &land.table, paragraph.field(b"Outputs"))?;
+    if has_some_bit(&list.taken, &outputs) {
+        return Err(FieldFault { code: TAKEN });
+    }
+    Ok(outputs)
+}
+
+/// Tells whether there are too many recipes or entries with this build.
+fn is_over(list: &RecipeList, build: &Build) -> bool
+    requires { list.now.entries ≤ MOST_ENTRIES }
+    ensures { result ≡ is_build_over (length list.now.recipes.items) list.now.entries build.now }
+{
+    list.recipes.len() >= MOST_RECIPES
+        || room_behind(MOST_ENTRIES - list.entries, &build.needs)
+            .and_then(|room| room_behind(room, &build.clashes))
+            .is_none()
+}
+
+/// Reads a recipe behind others.
+#[tactic(auto, unfolding(crate::specs::RecipeText::recipe_at))]
+fn read_recipe(
+    alloc: Global,
+    land: &Land,
+    list: &RecipeList,
+    paragraph: &Paragraph,
+    given: &[u8],
+) -> Result<Recipe, FieldFault>
+    requires land { IsLand (land_view land.now) }
+    requires list { AreRecipes (land_view land.now) list.now }
+    ensures read { Gives refusal_of (λ r. r) result
+        (recipe_at (land_view land.now) list.now.recipes.items paragraph.now given.now) }
+    ensures new { IfOk result (IsNew (land_view land.now) list.now.recipes.items) }
+{
+    let name = read_recipe_name(alloc, &list.recipes, given)?;
+    let build = read_build(alloc, land, paragraph)?;
+    let steps = read_number_up_to(MOST_SIZE, paragraph.needed(b"Steps")?)?;
+    let scratch = read_size(paragraph.field(b"Scratch"))?;
+    let outputs = read_new_outputs(alloc, land, list, paragraph)?;
+    if is_over(list, &build) {
+        return Err(FieldFault { code: OVER_LIMIT });
+    }
+    let Build { needs, clashes } = build;
+    Ok(Recipe::new(name, steps, scratch, needs, clashes, outputs))
+}
+
+/// Puts a recipe behind the others.
+fn put(list: &mut RecipeList, recipe: Recipe) -> Result<(), FieldFault>
+    requires room { list.old.entries + build_entries recipe ≤ MOST_ENTRIES }
+    requires names { All (λ v. v.name < length list.old.taken.items) recipe.outputs }
+    requires bits { All (λ v. v.bit < 64) recipe.outputs }
+    ensures recipes { OnOk result
+        (list.new.recipes.items ≡ list.old.recipes.items ++ recipe ∷ []) }
+    ensures taken { list.new.taken.items ≡ taken_with list.old.taken.items recipe.outputs }
+    ensures entries { list.new.entries ≡ list.old.entries + build_entries recipe }
+    ensures memory { IfErr result (λ e. refusal_of e ≡ None) }
+{
+    list.entries += recipe.needs().len() + recipe.clashes().len();
+    set_bits(&mut list.taken, recipe.outputs());
+    list.recipes.push(recipe)?;
+    Ok(())
+}
+
+/// Goes on by a paragraph with the field Recipe.
+#[tactic(auto, unfolding(crate::specs::FarmText::recipes_with))]
+pub fn add_recipe(
+    alloc: Global,
+    land: &Land,
+    list: &mut RecipeList,
+    paragraph: &Paragraph,
+    given: &[u8],
+) -> Result<(), FieldFault>
+    requires land { IsLand (land_view land.now) }
+    requires list { AreRecipes (land_view land.now) list.old }
+    ensures read { Gives refusal_of (λ _. list.new.recipes.items) result
+        (recipes_with (land_view land.now) list.old.recipes.items paragraph.now given.now) }
+    ensures list { OnOk result (AreRecipes (land_view land.now) list.new) }
+{
+    let recipe = read_recipe(alloc, land, list, paragraph, given)?;
+    put(list, recipe)
+}
