@@ -1,2 +1,4 @@
 pub mod Rows
+pub mod ByVariant
+pub mod FieldRows
 pub mod Tables

@@ -2,11 +2,12 @@
 --
 --   passes                        the universe has the variant, and it passes
 --   IsWordFor, IsRowOf            the word of one name, and the row of all names
+--   IsSharedRow                   a row, or none where no variant passes
 --   entry_at, IsAlternativeRow    the entry of a number, and the row of an alternative
 --   of_another_name               a test of variants of other names alone
 --   conflicts_with, broken_by, breakers_of
 --                                 the tests of Conflicts and Breaks (Debian Policy 7.3, 7.4)
-use Rattle.std.specs.Prelude.{◌≡◌, ℕ, Bool, not, ◌&&◌, ◌==◌, nat_lt, List, [], length, Some, slice_get, slice_index_or}
+use Rattle.std.specs.Prelude.{◌≡◌, ℕ, Bool, false, not, ◌&&◌, ◌==◌, nat_lt, List, [], length, Option, Some, None, slice_get, slice_index_or}
 use Rattle.clause_kernel.specs.Rows.{word_has}
 use Rattle.bit_rows.specs.Sets.{variants_of}
 use Rattle.deb_relation.specs.Relations.{Atom, Entry, Relations}
@@ -26,6 +27,11 @@ IsWordFor u p n word = (b : ℕ) → word_has word b ≡ passes u p n b
 pub record IsRowOf (u : Universe) (p : Variant → Bool) (row : List ℕ) : Type 0 where
   pub long : length row ≡ names u
   pub set : (n b : ℕ) → variants_of row n b ≡ passes u p n b
+
+-- a row that is left out where no variant passes
+abbrev pub IsSharedRow : Universe → (Variant → Bool) → Option (List ℕ) → Type 0
+IsSharedRow u p None = (n b : ℕ) → passes u p n b ≡ false
+IsSharedRow u p (Some row) = IsRowOf u p row
 
 -- the entry of a number; past the last one an entry without alternatives
 abbrev pub entry_at : Relations → ℕ → Entry

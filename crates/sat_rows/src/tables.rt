@@ -1,11 +1,14 @@
 //! The rows of every variant of a universe.
 
-ghost use Rattle.std.specs.Prelude.{◌≡◌, ◌<◌, IfOk, length, slice_index_or};
+ghost use Rattle.std.specs.Prelude.{◌≡◌, ◌<◌, Bool, IfOk, length, slice_index_or};
+ghost use Rattle.farm_model.specs.declared.types.Variant.{Variant};
 ghost use Rattle.farm_model.specs.Packages.{names, pre_depends, depends, satisfies_entry};
 ghost use Rattle.farm_model.specs.Sound.{IsKnown};
-ghost use Rattle.sat_rows.specs.Rows.{IsRowOf, IsAlternativeRow, entry_at, conflicts_with, broken_by, breakers_of};
+ghost use Rattle.sat_rows.specs.Rows.{IsRowOf, IsSharedRow, IsAlternativeRow, entry_at, conflicts_with, broken_by, breakers_of};
+ghost use Rattle.sat_rows.specs.FieldRows.{AreDeclared};
 ghost use Rattle.sat_rows.specs.Tables.{AreVariantRows, AreNameRows, no_rows};
 
+use crate::field_rows::Declared;
 use crate::variant_rows::{VariantRows, variant_rows};
 use crate::word::variant_count;
 use bit_rows::Row;
@@ -46,26 +49,34 @@ impl NameRows {
 pub struct Tables {
     universe: Snapshot<Universe>,
     names: Vec<NameRows>,
+    /// The row without variants, for all that have none.
+    empty: Row,
 }
 
 impl Model for Tables {
     ghost use Rattle.farm_model.specs.Universe as model;
-    ghost use Rattle.sat_rows.specs.Tables.{AreTables};
+    ghost use Rattle.sat_rows.specs.Tables.{AreKept};
 
     ghost Value = { model.Universe };
 
     ghost view = { λ tables. tables.universe.value };
 
-    ghost invariant = { λ tables. AreTables tables.universe.value tables.names.items };
+    ghost invariant = { λ tables. AreKept tables.universe.value tables.names.items tables.empty };
 }
 
-fn name_rows(alloc: Global, universe: &Universe, name: u32) -> Result<NameRows, AllocError>
-    requires { name < names universe.now }
+fn name_rows(
+    alloc: Global,
+    universe: &Universe,
+    declared: &Declared,
+    name: u32,
+) -> Result<NameRows, AllocError>
+    requires declared { AreDeclared universe.now declared.now }
+    requires named { name < names universe.now }
     ensures { IfOk result (AreNameRows universe.now name) }
 {
     let mut variants = Vec::new(alloc);
     for bit in 0..variant_count(universe, name) {
-        variants.push(variant_rows(alloc, universe, Variant { name, bit })?)?;
+        variants.push(variant_rows(alloc, universe, declared, Variant { name, bit })?)?;
     }
     Ok(NameRows { variants })
 }
@@ -83,19 +94,25 @@ impl Tables {
     ) -> Result<Tables, AllocError>
         ensures { IfOk result (λ tables. tables ≡ universe.now) }
     {
-        let names = (0..universe.names())
+        let count = universe.names();
+        let empty = Row::new(alloc, count as usize)?;
+        let declared = Declared::new(alloc, universe)?;
+        let declared = &declared;
+        let names = (0..count)
             .into_par_iter()
             .with_min_len(1)
             .map(
                 move |name: u32| -> Result<NameRows, AllocError>
-                    requires { name < names universe.now }
+                    requires declared { AreDeclared universe.now declared.now }
+                    requires named { name < names universe.now }
                     ensures { IfOk result (λ rows. AreNameRows universe.entry.now name rows) }
-                { name_rows(alloc, universe, name) },
+                { name_rows(alloc, universe, declared, name) },
             )
             .collect::<Result<Vec<NameRows>, AllocError>>(rt, alloc)??;
         Ok(Tables {
             universe: Snapshot::of(universe),
             names,
+            empty,
         })
     }
 
@@ -105,6 +122,17 @@ impl Tables {
         ensures { AreVariantRows self.now variant result.now }
     {
         self.names[variant.name as usize].variant(variant.bit)
+    }
+
+    /// A row that may be left out.
+    fn shared<'a>(&'a self, row: &'a Option<Row>) -> &'a Row
+        ensures { (p : Variant → Bool) → IsSharedRow self.now p row.now
+            → IsRowOf self.now p result.now }
+    {
+        match row {
+            Some(row) => row,
+            None => &self.empty,
+        }
     }
 
     /// The variants that satisfy a Pre-Depends entry of a variant.
@@ -145,7 +173,7 @@ impl Tables {
         requires { IsKnown self.now variant }
         ensures { IsRowOf self.now (conflicts_with self.now variant) result.now }
     {
-        &self.rows(variant).conflicts
+        self.shared(&self.rows(variant).conflicts)
     }
 
     /// The variants of other names that a variant breaks.
@@ -153,7 +181,7 @@ impl Tables {
         requires { IsKnown self.now variant }
         ensures { IsRowOf self.now (broken_by self.now variant) result.now }
     {
-        &self.rows(variant).breaks
+        self.shared(&self.rows(variant).breaks)
     }
 
     /// The variants of other names that break a variant.
@@ -161,6 +189,6 @@ impl Tables {
         requires { IsKnown self.now variant }
         ensures { IsRowOf self.now (breakers_of self.now variant) result.now }
     {
-        &self.rows(variant).broken_by
+        self.shared(&self.rows(variant).broken_by)
     }
 }

@@ -2,15 +2,17 @@
 
 ghost use Rattle.std.specs.Prelude.{◌≡◌, ◌<◌, IfOk, length, slice_index_or, []};
 ghost use Rattle.std.specs.List.{AllZip};
-ghost use Rattle.farm_model.specs.Packages.{satisfies, satisfies_entry};
+ghost use Rattle.farm_model.specs.Packages.{satisfies, satisfies_entry, conflict, breaks};
 ghost use Rattle.farm_model.specs.Sound.{IsKnown};
-ghost use Rattle.sat_rows.specs.Rows.{IsRowOf, of_another_name};
+ghost use Rattle.sat_rows.specs.Rows.{IsRowOf, IsSharedRow, of_another_name};
+ghost use Rattle.sat_rows.specs.FieldRows.{AreDeclared};
 ghost use Rattle.sat_rows.specs.Tables.{ArePreRows, AreVariantRows, no_pre_rows};
 
+use crate::field_rows::Declared;
 use crate::row::{entry_row, row_of};
 use bit_rows::Row;
 use deb_relation::{Entry, Relations};
-use farm_universe::relations::{BreakersOf, ConflictsWith, IsBrokenBy, SatisfiesAtom, VariantTest};
+use farm_universe::relations::{SatisfiesAtom, VariantTest};
 use farm_universe::{Universe, Variant};
 use std::alloc::{AllocError, Global};
 use std::marker::Model;
@@ -43,14 +45,14 @@ impl PreRows {
     }
 }
 
-/// The rows of a variant.
+/// The rows of a variant. Those of other variants that it excludes are left out where there are none.
 #[derive(Debug, Drop)]
 pub struct VariantRows {
     pub pre_depends: Vec<PreRows>,
     pub depends: Vec<Row>,
-    pub conflicts: Row,
-    pub breaks: Row,
-    pub broken_by: Row,
+    pub conflicts: Option<Row>,
+    pub breaks: Option<Row>,
+    pub broken_by: Option<Row>,
 }
 
 impl Model for VariantRows {
@@ -97,6 +99,62 @@ impl<T: VariantTest + Drop> VariantTest for OfAnotherName<T> {
 
     fn passes(&self, universe: &Universe, variant: Variant) -> bool {
         variant.name != self.variant.name && self.test.passes(universe, variant)
+    }
+}
+
+/// The variants that are in conflict with this one, declared by either.
+#[derive(Drop)]
+struct InConflict<'a> {
+    declared: &'a Declared,
+    variant: Variant,
+}
+
+impl VariantTest for InConflict<'_> {
+    ghost fits = { λ u t. AreDeclared u t.declared.now × IsKnown u t.variant };
+
+    ghost test = { λ u t v. conflict u t.variant v };
+
+    #[tactic(auto, unfolding(farm_model::specs::Packages::conflict))]
+    fn passes(&self, universe: &Universe, variant: Variant) -> bool {
+        self.declared
+            .is_in_conflict(universe, self.variant, variant)
+            || self
+                .declared
+                .is_in_conflict(universe, variant, self.variant)
+    }
+}
+
+/// The variants that this one breaks.
+#[derive(Drop)]
+struct IsBroken<'a> {
+    declared: &'a Declared,
+    variant: Variant,
+}
+
+impl VariantTest for IsBroken<'_> {
+    ghost fits = { λ u t. AreDeclared u t.declared.now × IsKnown u t.variant };
+
+    ghost test = { λ u t v. breaks u t.variant v };
+
+    fn passes(&self, universe: &Universe, variant: Variant) -> bool {
+        self.declared.is_broken(universe, self.variant, variant)
+    }
+}
+
+/// The variants that break this one.
+#[derive(Drop)]
+struct BreaksIt<'a> {
+    declared: &'a Declared,
+    variant: Variant,
+}
+
+impl VariantTest for BreaksIt<'_> {
+    ghost fits = { λ u t. AreDeclared u t.declared.now × IsKnown u t.variant };
+
+    ghost test = { λ u t v. breaks u v t.variant };
+
+    fn passes(&self, universe: &Universe, variant: Variant) -> bool {
+        self.declared.is_broken(universe, variant, self.variant)
     }
 }
 
@@ -157,35 +215,42 @@ pub fn entry_rows(
     Ok(rows)
 }
 
-/// The variants of names other than this variant's that pass a test.
+/// The variants of names other than this variant's that pass a test, if there are any.
 fn row_of_others<T: VariantTest + Drop>(
     alloc: Global,
     universe: &Universe,
     variant: Variant,
     test: T,
-) -> Result<Row, AllocError>
+) -> Result<Option<Row>, AllocError>
     requires { T.fits universe.now test }
     ensures { IfOk result
-        (IsRowOf universe.now (of_another_name variant (T.test universe.now test))) }
+        (IsSharedRow universe.now (of_another_name variant (T.test universe.now test))) }
 {
-    row_of(alloc, universe, &OfAnotherName { variant, test })
+    let row = row_of(alloc, universe, &OfAnotherName { variant, test })?;
+    if row.hits(&row) {
+        Ok(Some(row))
+    } else {
+        Ok(None)
+    }
 }
 
 /// The rows of a variant.
 pub fn variant_rows(
     alloc: Global,
     universe: &Universe,
+    declared: &Declared,
     variant: Variant,
 ) -> Result<VariantRows, AllocError>
-    requires { IsKnown universe.now variant }
+    requires declared { AreDeclared universe.now declared.now }
+    requires known { IsKnown universe.now variant }
     ensures { IfOk result (AreVariantRows universe.now variant) }
 {
     let relations = universe.relations(variant);
     Ok(VariantRows {
         pre_depends: all_pre_rows(alloc, universe, &relations.pre_depends)?,
         depends: entry_rows(alloc, universe, &relations.depends)?,
-        conflicts: row_of_others(alloc, universe, variant, ConflictsWith { variant })?,
-        breaks: row_of_others(alloc, universe, variant, IsBrokenBy { variant })?,
-        broken_by: row_of_others(alloc, universe, variant, BreakersOf { variant })?,
+        conflicts: row_of_others(alloc, universe, variant, InConflict { declared, variant })?,
+        breaks: row_of_others(alloc, universe, variant, IsBroken { declared, variant })?,
+        broken_by: row_of_others(alloc, universe, variant, BreaksIt { declared, variant })?,
     })
 }

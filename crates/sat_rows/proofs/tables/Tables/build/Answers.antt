@@ -4,7 +4,7 @@ use Rattle.std.specs.declared.alloc.AllocError.{AllocError}
 use Rattle.rayon.specs.Numbers.{nat_range}
 use Rattle.rayon.proofs.ToStd.{nat_range-All}
 use Rattle.farm_model.specs.Packages.{names}
-use Rattle.sat_rows.specs.Tables.{AreNameRows, AreTables}
+use Rattle.sat_rows.specs.Tables.{AreNameRows, AreKept}
 use Rattle.sat_rows.proofs.Gathered.{gathered}
 use Rattle.sat_rows.proofs.tables.Tables.build.Goals as goal
 
@@ -13,8 +13,8 @@ collect-requires-clause-ready g c κs within =
     let ends = c.into_par_iter.ensures in
     let n = names c.args.universe.now in
     let inside = nat_range-All (λ i. i < n) 0 n (λ i low high. high) in
-    rw (c.map.ensures.base, c.map.ensures.f, c.with_min_len.ensures.base, ends.0, ends.1, c.names.ensures.number)
-    (λ k d lt. (inside k d lt, λ y p. tt))
+    rw (c.map.ensures.base, c.map.ensures.f, c.with_min_len.ensures.base, ends.0, ends.1, c.names-count.ensures.number)
+    (λ k d lt. ((c.in_ok-declared.ensures, inside k d lt), λ y p. tt))
 
 pub invariant_of-result : goal.invariant_of-result
 invariant_of-result g c =
@@ -24,7 +24,7 @@ invariant_of-result g c =
     let start = ap (λ it. it.base.start) c.map.ensures.base
     ∙ (ap (λ it. it.start) c.with_min_len.ensures.base ∙ ends.0) in
     let end = ap (λ it. it.base.end) c.map.ensures.base
-    ∙ (ap (λ it. it.end) c.with_min_len.ensures.base ∙ (ends.1 ∙ c.names.ensures.number)) in
+    ∙ (ap (λ it. it.end) c.with_min_len.ensures.base ∙ (ends.1 ∙ c.names-count.ensures.number)) in
     let whole : n - 0 ≡ n = omega arith in
     let h = c.in_ok-collect.ensures in
     let made = rw (c.in_ok-names.was) at h.2 in
@@ -35,5 +35,9 @@ invariant_of-result g c =
     let all =
     gathered AllocError (AreNameRows u) n h.0 made.0 c.in_ok-names.names.items [] h.1.0
     made.1 made.2 places called in
-    subst (λ v. AreTables v c.in_ok-names.names.items) (sym c.of.ensures)
-    (record { long = all.0; each = all.1 })
+    subst (λ v. AreKept v c.in_ok-names.names.items c.in_ok-empty.empty) (sym c.of.ensures)
+    (record {
+      tables = record { long = all.0; each = all.1 };
+      long = c.in_ok-empty.ensures.len ∙ c.names-count.ensures.number;
+      none = c.in_ok-empty.ensures.set;
+    })
