@@ -6,3 +6,4 @@ pub mod SoFar
 pub mod Quiet
 pub mod Walks
 pub mod Promises
+pub mod Messages

@@ -5,3 +5,4 @@ pub mod Texts
 pub mod Accepted
 pub mod Verdict
 pub mod Costs
+pub mod Messages

@@ -6,6 +6,7 @@ mod configure;
 mod costs;
 mod judged;
 mod map;
+mod message;
 mod met;
 mod names;
 mod pick;

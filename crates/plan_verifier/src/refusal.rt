@@ -6,8 +6,6 @@ ghost use Rattle.deb_text.specs.Answers.{is_memory};
 use deb_text::Fault;
 use farm_universe::Trap;
 use std::alloc::{AllocError, AllocFailed};
-use std::fmt::{self, Display, Formatter};
-use thiserror::Error;
 
 /// A plan is not judged so far, told of the plan at line 0: it has more than one lane, or an
 /// instruction other than an unpack or a configure.
@@ -21,14 +19,12 @@ pub const STUCK: u16 = 402;
 
 /// Why four texts are not accepted: the first cause in the order of the texts, then of the lanes
 /// and their instructions, then of the waits.
-#[derive(Debug, Drop, Error)]
+#[derive(Debug, Drop)]
 pub enum Refusal {
     /// A text cannot be read.
-    #[error("{0}")]
     Text(Fault),
     /// The instruction of this number, from 1, of the lane of this name may meet a trap
     /// ([`UNSAFE`]).
-    #[error("instruction {instruction} of lane {} may meet {trap}", .lane.escape_ascii())]
     Unsafe {
         lane: Vec<u8>,
         instruction: u32,
@@ -36,26 +32,11 @@ pub enum Refusal {
     },
     /// The lanes of these names wait, and no order of the lanes brings them past their last wait
     /// ([`STUCK`]).
-    #[error("stuck lanes:{}", Spaced(.lanes))]
     Stuck {
         lanes: Vec<Vec<u8>>,
     },
     /// Memory ran out.
-    #[error("out of memory")]
     Memory,
-}
-
-/// Names, each behind a space.
-#[derive(Drop)]
-struct Spaced<'a>(&'a [Vec<u8>]);
-
-impl Display for Spaced<'_> {
-    fn fmt<W: fmt::Write>(&self, f: &mut Formatter<W>) -> fmt::Result {
-        for name in self.0 {
-            write!(f, " {}", name.escape_ascii())?;
-        }
-        Ok(())
-    }
 }
 
 impl From<AllocError> for Refusal {
