@@ -1,4 +1,3 @@
-pub mod Words
 pub mod Turns
 pub mod Settles
 pub mod Recorded

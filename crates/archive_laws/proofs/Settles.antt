@@ -14,7 +14,7 @@ use Rattle.plan_model.specs.Sound.{IsSound}
 use Rattle.plan_model.specs.World.{World, world_lane, goes_on, nothing, settled, with_bit, world_after, archive_step}
 use Rattle.farm_laws.proofs.Places.{GoesOn}
 use Rattle.archive_laws.specs.Shown.{IsReached, with_lane, ready_lane, EachLaneSteps}
-use Rattle.archive_laws.proofs.Words.{with_bit-keeps}
+use Rattle.plan_model.proofs.WordLaws.{with_bit-keeps}
 use Rattle.archive_laws.proofs.Turns.{turn_in, place_of, moves}
 
 -- the next of the instructions that are left

@@ -19,7 +19,7 @@ use Rattle.farm_laws.proofs.Places.{GivesOne, PlaceMove, turn_place}
 use Rattle.farm_laws.proofs.Archive.{or-false, archive-push}
 use Rattle.farm_laws.proofs.Safe.{variants_name}
 use Rattle.archive_laws.specs.Shown.{IsReached, StartIsReached, with_lane}
-use Rattle.archive_laws.proofs.Words.{has_bit-with_bit}
+use Rattle.plan_model.proofs.WordLaws.{has_bit-with_bit}
 
 run_on : (u : Universe) (p : Plan) (ls : List ℕ) (s m t : State) (l : ℕ) → Run u p s ls m
     → step u p m l ≡ Moved t → Run u p s (ls ++ l ∷ []) t

@@ -1,0 +1,10 @@
+-- How many variants a plan publishes.
+--
+--   outputs_in p      the outputs of all its publishes
+use Rattle.std.specs.Prelude.{ℕ, length}
+use Rattle.farm_model.specs.Below.{sum_below}
+use Rattle.farm_model.specs.Universe.{Universe}
+use Rattle.plan_model.specs.Plan.{Plan, lane, lane_outputs}
+
+unfoldable pub outputs_in : Universe → Plan → ℕ
+outputs_in u p = sum_below (length p) (λ l. length (lane_outputs u (lane p l)))
