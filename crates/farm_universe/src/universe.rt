@@ -281,7 +281,18 @@ impl Universe {
         }
     }
 
-    /// What a recipe gives, in the order of publishing.
+    /// The name of a recipe, empty for a number that is none's.
+    #[tactic(auto, unfolding(farm_model::specs::Packages::recipe))]
+    pub fn recipe_name(&self, number: u32) -> &[u8]
+        ensures { result.now ≡ (recipe self.now number).name }
+    {
+        match self.recipes.get(number as usize) {
+            Some(recipe) => recipe.name(),
+            None => &[],
+        }
+    }
+
+    /// What a recipe gives, in the order of publishing; nothing for a number that is none's.
     pub fn outputs(&self, recipe: u32) -> &[Variant]
         ensures outputs { result.now ≡ outputs self.now recipe }
         ensures few { length result.now ≤ MOST_NAMES * MOST_VARIANTS }
