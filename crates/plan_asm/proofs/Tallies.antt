@@ -1,5 +1,5 @@
 -- What is noted of the instructions so far, with one more instruction.
-use Rattle.std.proofs.Common.{◌≡◌, ℕ, ◌+◌, Bool, true, false, not, List, [], ◌∷◌, ◌++◌, length, length-append, refl, sym, ap, ◌∙◌, Option, Some, None, Result, Ok, Err, MatchOption, arith}
+use Rattle.std.proofs.Common.{◌≡◌, ℕ, ◌+◌, Bool, true, false, not, List, [], ◌∷◌, ◌++◌, length-append, refl, sym, ap, ◌∙◌, Option, Some, None, Result, Ok, Err, MatchOption}
 use Rattle.deb_text.specs.Answers.{Fails}
 use Rattle.deb_text.specs.Steps.{◌>>=◌}
 use Rattle.plan_asm.specs.Drafts.{InLane, instructions_of, published_by, published, with_instructions, published_once, add}

@@ -7,3 +7,4 @@ pub mod PlanText
 pub mod View
 pub mod SectionView
 pub mod Seen
+pub mod Listing

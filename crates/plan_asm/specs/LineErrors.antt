@@ -2,7 +2,7 @@
 --
 --   code_of_line error       the code
 --   refusal_of_line error    the code, unless memory ran out
-use Rattle.std.specs.Prelude.{ℕ, Option, Some, None}
+use Rattle.std.specs.Prelude.{ℕ, Option}
 use Rattle.deb_text.specs.Answers.{refusal_code}
 use Rattle.plan_asm.specs.declared.error.LineError.{LineError}
 use Rattle.plan_asm.specs.declared.error.LineError.TheVariants.{BadLine, UnknownName, NameTwice, UnknownBlock, PublishedTwice, NameTaken, OverLimit, Memory}

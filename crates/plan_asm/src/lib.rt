@@ -8,6 +8,7 @@ mod form;
 mod lane;
 mod names;
 mod plan;
+mod print;
 mod reader;
 
 pub use error::{
@@ -17,4 +18,5 @@ pub use error::{
 pub use lane::Lane;
 pub use plan::Plan;
 pub use plan_model::{Instruction, Members};
+pub use print::listing;
 pub use reader::assemble;

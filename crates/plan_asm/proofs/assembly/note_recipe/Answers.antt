@@ -1,4 +1,3 @@
-use Rattle.std.proofs.Common.{sym, ap, ◌∙◌, Ok}
 use Rattle.plan_asm.proofs.Doubles.{new-once, old-twice}
 use Rattle.plan_asm.proofs.Tallies.{not-new, not-old}
 use Rattle.plan_asm.proofs.assembly.note_recipe.Goals as goal

@@ -1,4 +1,4 @@
-use Rattle.std.proofs.Common.{◌≡◌, ◌<◌, ◌≤◌, ◌+◌, length, sym, ◌∙◌, arith}
+use Rattle.std.proofs.Common.{sym, ◌∙◌, arith}
 use Rattle.std.specs.List.{sum_by}
 use Rattle.plan_asm.proofs.Counts.{count-lanes, lane-short, sum-goes, sum-ends}
 use Rattle.plan_model.specs.Plan.{Lane, events_of}
