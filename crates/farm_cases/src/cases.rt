@@ -1,13 +1,12 @@
 //! The cases of a file, line by line.
 
-use crate::lines::push_line;
-use anyhow::{Result, bail};
+use crate::lines::{LineFault, push_line};
 use deb_text::is_comment;
 use std::alloc::Global;
 use std::mem;
 
 /// A question, and the answer that is wanted.
-#[derive(Debug, Drop)]
+#[derive(Drop)]
 pub struct Case<'a> {
     pub name: &'a [u8],
     /// What the question is about, mostly the four texts of a farm.
@@ -17,15 +16,26 @@ pub struct Case<'a> {
     pub want: Vec<u8>,
 }
 
+impl<'a> Case<'a> {
+    fn named(alloc: Global, name: &'a [u8]) -> Case<'a> {
+        Case {
+            name,
+            input: Vec::new(alloc),
+            question: b"",
+            want: Vec::new(alloc),
+        }
+    }
+}
+
 /// A text that the cases behind it use by its name.
-#[derive(Debug, Drop)]
+#[derive(Drop)]
 pub struct Given<'a> {
     pub name: &'a [u8],
     pub text: Vec<u8>,
 }
 
 /// What the next lines belong to.
-#[derive(Clone, Copy, Debug, PartialEq, Eq)]
+#[derive(Clone, Copy)]
 enum Part {
     Nothing,
     Given,
@@ -36,13 +46,10 @@ enum Part {
 /// Reads the cases of a file: the texts that are given so far, and the case under way.
 #[derive(Drop)]
 pub struct Cases<'a> {
-    alloc: Global,
     givens: Vec<Given<'a>>,
     part: Part,
-    name: &'a [u8],
-    question: &'a [u8],
-    text: Vec<u8>,
-    want: Vec<u8>,
+    /// Or the given text under way, as its input.
+    case: Case<'a>,
 }
 
 /// The question behind the line that ends a text.
@@ -58,13 +65,9 @@ impl<'a> Cases<'a> {
     /// Stands before the first line of a file.
     pub fn new(alloc: Global) -> Cases<'a> {
         Cases {
-            alloc,
             givens: Vec::new(alloc),
             part: Part::Nothing,
-            name: b"",
-            question: b"",
-            text: Vec::new(alloc),
-            want: Vec::new(alloc),
+            case: Case::named(alloc, b""),
         }
     }
 
@@ -72,8 +75,8 @@ impl<'a> Cases<'a> {
     ///
     /// # Errors
     ///
-    /// Where the line is not understood, or memory is refused.
-    pub fn take(&mut self, line: &'a [u8]) -> Result<Option<Case<'a>>> {
+    /// The fault of the line.
+    pub fn take(&mut self, line: &'a [u8]) -> Result<Option<Case<'a>>, LineFault> {
         if let Some(name) = line.strip_prefix(b"=== ") {
             return self.begin(Part::Input, name);
         }
@@ -88,55 +91,60 @@ impl<'a> Cases<'a> {
     ///
     /// # Errors
     ///
-    /// Where a text has no end.
-    pub fn take_last(&mut self) -> Result<Option<Case<'a>>> {
+    /// [`LineFault::NoEnd`] where a text has no end.
+    pub fn take_last(&mut self) -> Result<Option<Case<'a>>, LineFault> {
         self.begin(Part::Nothing, b"")
     }
 
-    fn begin(&mut self, part: Part, name: &'a [u8]) -> Result<Option<Case<'a>>> {
-        if matches!(self.part, Part::Given | Part::Input) {
-            bail!("no line --- behind {}", self.name.escape_ascii());
+    fn begin(&mut self, part: Part, name: &'a [u8]) -> Result<Option<Case<'a>>, LineFault> {
+        let ended = mem::replace(&mut self.part, part);
+        let case = self.next_case(name);
+        match ended {
+            Part::Nothing => Ok(None),
+            Part::Given | Part::Input => Err(LineFault::NoEnd),
+            Part::Answer => Ok(Some(case)),
         }
-        let case = Case {
-            name: self.name,
-            input: self.take_text(),
-            question: self.question,
-            want: mem::replace(&mut self.want, Vec::new(self.alloc)),
-        };
-        let is_case = self.part == Part::Answer;
-        self.part = part;
-        self.name = name;
-        Ok(if is_case { Some(case) } else { None })
     }
 
-    fn take_text(&mut self) -> Vec<u8> {
-        mem::replace(&mut self.text, Vec::new(self.alloc))
+    /// Begins a case, and gives the one that was under way.
+    fn next_case(&mut self, name: &'a [u8]) -> Case<'a> {
+        let next = Case::named(*self.case.want.allocator(), name);
+        mem::replace(&mut self.case, next)
     }
 
-    fn put(&mut self, line: &'a [u8]) -> Result<()> {
+    fn put(&mut self, line: &'a [u8]) -> Result<(), LineFault> {
         match self.part {
             Part::Nothing => Ok(()),
             Part::Given | Part::Input => self.put_in_text(line),
             Part::Answer if line.is_empty() || is_comment(line) => Ok(()),
-            Part::Answer => push_line(&mut self.want, &self.givens, line),
+            Part::Answer => push_line(&mut self.case.want, &self.givens, line),
         }
     }
 
-    fn put_in_text(&mut self, line: &'a [u8]) -> Result<()> {
-        let Some(question) = question_of(line) else {
-            return push_line(&mut self.text, &self.givens, line);
-        };
-        if self.part == Part::Given {
-            let text = self.take_text();
-            self.givens.push(Given {
-                name: self.name,
-                text,
-            })?;
-            self.part = Part::Nothing;
-        } else {
-            self.part = Part::Answer;
-            self.question = question;
+    fn put_in_text(&mut self, line: &'a [u8]) -> Result<(), LineFault> {
+        match question_of(line) {
+            Some(question) => self.end_text(question),
+            None => push_line(&mut self.case.input, &self.givens, line),
         }
+    }
+
+    fn end_text(&mut self, question: &'a [u8]) -> Result<(), LineFault> {
+        if let Part::Given = self.part {
+            self.part = Part::Nothing;
+            return self.keep_given();
+        }
+        self.part = Part::Answer;
+        self.case.question = question;
+        Ok(())
+    }
+
+    fn keep_given(&mut self) -> Result<(), LineFault> {
+        let case = self.next_case(b"");
+        let given = Given {
+            name: case.name,
+            text: case.input,
+        };
+        self.givens.push(given)?;
         Ok(())
     }
 }

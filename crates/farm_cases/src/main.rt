@@ -12,43 +12,49 @@ mod universes;
 
 use crate::answers::answer_to;
 use crate::cases::{Case, Cases};
-use anyhow::{Context, Result};
+use crate::lines::LineFault;
 use deb_text::next_line;
 use std::rt::Files;
 use std::thread::Threads;
-use std::{env, fs};
+use std::{env, fs, io};
 
 /// Prints whether the answer to a case is the wanted one.
-fn judge(rt: &(impl Print + AllocGlobal + Threads), file: &str, case: &Case) -> Result<()> {
+fn judge(rt: &(impl Print + AllocGlobal + Threads), file: &str, case: &Case) -> io::Result<()> {
     let found = answer_to(rt, rt.alloc(), case)?;
     let name = case.name.escape_ascii();
-    if found.as_slice() == case.want.as_slice() {
-        println!(rt; "{file} {name}: ok")?;
-    } else {
-        let (want, found) = (case.want.escape_ascii(), found.escape_ascii());
-        println!(rt; "{file} {name}: wanted {want}, got {found}")?;
+    if found == case.want {
+        return println!(rt; "{file} {name}: ok");
     }
-    Ok(())
+    let (want, found) = (case.want.escape_ascii(), found.escape_ascii());
+    println!(rt; "{file} {name}: wanted {want}, got {found}")
+}
+
+/// Judges the case that ends before a line, if one does, or prints the line's fault.
+fn judge_taken(
+    rt: &(impl Print + AllocGlobal + Threads),
+    file: &str,
+    taken: Result<Option<Case>, LineFault>,
+) -> io::Result<()> {
+    match taken {
+        Ok(Some(case)) => judge(rt, file, &case),
+        Ok(None) => Ok(()),
+        Err(fault) => println!(rt; "{file}: {fault}"),
+    }
 }
 
 /// Judges the cases of a file.
-fn run_file(rt: &(impl Files + Print + AllocGlobal + Threads), file: &str) -> Result<()> {
-    let text = fs::read(rt, file).context(file)?;
+fn run_file(rt: &(impl Files + Print + AllocGlobal + Threads), file: &str) -> io::Result<()> {
+    let text = fs::read(rt, file)?;
     let mut cases = Cases::new(rt.alloc());
     let mut rest = text.as_slice();
     while let Some((line, behind)) = next_line(rest) {
-        if let Some(case) = cases.take(line)? {
-            judge(rt, file, &case)?;
-        }
+        judge_taken(rt, file, cases.take(line))?;
         rest = behind;
     }
-    if let Some(case) = cases.take_last()? {
-        judge(rt, file, &case)?;
-    }
-    Ok(())
+    judge_taken(rt, file, cases.take_last())
 }
 
-fn main(rt: HostRuntime) -> Result<()> {
+fn main(rt: HostRuntime) -> io::Result<()> {
     for word in env::args(&rt)?.skip(1) {
         run_file(&rt, word.as_str())?;
     }

@@ -1,9 +1,9 @@
 //! A plan in a readable form.
 
 use crate::relations::{push_entry, push_relation};
-use anyhow::Result;
 use farm_universe::Universe;
 use plan_asm::{Instruction, Lane, Members, Plan};
+use std::alloc::AllocError;
 
 /// The text of a name, which every plan of the universe has.
 fn name_of(universe: &Universe, name: u32) -> &[u8] {
@@ -27,7 +27,7 @@ fn push_members(
     universe: &Universe,
     word: &str,
     members: &Members,
-) -> Result<()> {
+) -> Result<(), AllocError> {
     text.push_str(word)?;
     for name in members.as_slice() {
         write!(text, " {}", name_of(universe, *name).escape_ascii())?;
@@ -39,7 +39,7 @@ fn push_instruction(
     text: &mut String,
     universe: &Universe,
     instruction: &Instruction,
-) -> Result<()> {
+) -> Result<(), AllocError> {
     match instruction {
         Instruction::Unpack { name, relation } => {
             write!(text, "unpack {}", name_of(universe, *name).escape_ascii())?;
@@ -58,7 +58,7 @@ fn push_instruction(
     Ok(())
 }
 
-fn push_lane(text: &mut String, universe: &Universe, lane: &Lane) -> Result<()> {
+fn push_lane(text: &mut String, universe: &Universe, lane: &Lane) -> Result<(), AllocError> {
     writeln!(
         text,
         "lane {} chroot {} budget {}",
@@ -75,7 +75,7 @@ fn push_lane(text: &mut String, universe: &Universe, lane: &Lane) -> Result<()> 
 }
 
 /// Puts the lines of a plan behind a text: how many events it has, and the lanes in file order.
-pub fn push_plan(text: &mut String, universe: &Universe, plan: &Plan) -> Result<()> {
+pub fn push_plan(text: &mut String, universe: &Universe, plan: &Plan) -> Result<(), AllocError> {
     writeln!(text, "count {}", plan.count())?;
     for number in 0..plan.lanes() {
         push_lane(text, universe, plan.lane(number))?;

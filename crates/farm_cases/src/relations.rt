@@ -1,13 +1,13 @@
 //! Relations in a readable form, and the variants that stand in them.
 
 ghost use Rattle.std.specs.Prelude.{◌<◌};
-ghost use Rattle.farm_universe.specs.Packages.{names};
-ghost use Rattle.farm_universe.specs.Sound.{IsKnown};
+ghost use Rattle.farm_model.specs.Packages.{names};
+ghost use Rattle.farm_model.specs.Sound.{IsKnown};
 
-use anyhow::Result;
 use deb_relation::{Atom, Entry, Op, Relations};
 use deb_version::Version;
 use farm_universe::{Universe, Variant};
+use std::alloc::AllocError;
 
 fn operator(op: Op) -> &'static str {
     match op {
@@ -20,7 +20,10 @@ fn operator(op: Op) -> &'static str {
 }
 
 /// A relation to a version, as ` (>= 2.40)`.
-pub fn push_relation(text: &mut String, relation: &Option<(Op, Version)>) -> Result<()> {
+pub fn push_relation(
+    text: &mut String,
+    relation: &Option<(Op, Version)>,
+) -> Result<(), AllocError> {
     if let Some((op, version)) = relation {
         write!(
             text,
@@ -32,7 +35,7 @@ pub fn push_relation(text: &mut String, relation: &Option<(Op, Version)>) -> Res
     Ok(())
 }
 
-fn push_alternative(text: &mut String, atom: &Atom) -> Result<()> {
+fn push_alternative(text: &mut String, atom: &Atom) -> Result<(), AllocError> {
     write!(text, " {}", atom.name.escape_ascii())?;
     if let Some(qualifier) = &atom.qualifier {
         write!(text, ":{}", qualifier.escape_ascii())?;
@@ -41,7 +44,7 @@ fn push_alternative(text: &mut String, atom: &Atom) -> Result<()> {
 }
 
 /// An entry, as ` libgmp | libgmp:odd`.
-pub fn push_entry(text: &mut String, entry: &Entry) -> Result<()> {
+pub fn push_entry(text: &mut String, entry: &Entry) -> Result<(), AllocError> {
     let mut is_first = true;
     for atom in entry.alternatives() {
         if !is_first {
@@ -54,7 +57,11 @@ pub fn push_entry(text: &mut String, entry: &Entry) -> Result<()> {
 }
 
 /// Puts the entries of a field that has some behind a text, each behind the field's name.
-pub fn push_relations(text: &mut String, field: &str, relations: &Relations) -> Result<()> {
+pub fn push_relations(
+    text: &mut String,
+    field: &str,
+    relations: &Relations,
+) -> Result<(), AllocError> {
     for entry in relations.entries() {
         write!(text, ", {field}")?;
         push_entry(text, entry)?;
@@ -87,7 +94,7 @@ fn push_passing(
     name: u32,
     atom: &Atom,
     test: Test,
-) -> Result<()>
+) -> Result<(), AllocError>
     requires { name < names universe.now }
 {
     let name_text = universe.name_text(name).escape_ascii();
@@ -107,7 +114,7 @@ pub fn push_all_passing(
     universe: &Universe,
     field: &Relations,
     test: Test,
-) -> Result<()> {
+) -> Result<(), AllocError> {
     for entry in field.entries() {
         for atom in entry.alternatives() {
             for name in 0..universe.names() {

@@ -1,12 +1,12 @@
 //! A universe in a readable form.
 
 ghost use Rattle.std.specs.Prelude.{◌<◌, length};
-ghost use Rattle.farm_universe.specs.Packages.{names};
-ghost use Rattle.farm_universe.specs.Sound.{IsKnown};
+ghost use Rattle.farm_model.specs.Packages.{names};
+ghost use Rattle.farm_model.specs.Sound.{IsKnown};
 
 use crate::relations::push_relations;
-use anyhow::Result;
 use farm_universe::{Universe, Variant};
+use std::alloc::AllocError;
 
 /// Tells whether a variant is in the initial archive.
 fn is_initial(universe: &Universe, variant: Variant) -> bool
@@ -19,7 +19,7 @@ fn is_initial(universe: &Universe, variant: Variant) -> bool
 }
 
 /// A variant, as `  14-1 archived size 3072 depends libc6 (>= 2.40)`.
-fn push_variant(text: &mut String, universe: &Universe, variant: Variant) -> Result<()>
+fn push_variant(text: &mut String, universe: &Universe, variant: Variant) -> Result<(), AllocError>
     requires name { variant.name < names universe.now }
     requires known { IsKnown universe.now variant }
 {
@@ -43,7 +43,7 @@ fn push_variant(text: &mut String, universe: &Universe, variant: Variant) -> Res
 }
 
 /// A name and its variants from the lowest up.
-fn push_name(text: &mut String, universe: &Universe, name: u32) -> Result<()>
+fn push_name(text: &mut String, universe: &Universe, name: u32) -> Result<(), AllocError>
     requires { name < names universe.now }
 {
     writeln!(text, "package {}", universe.name_text(name).escape_ascii())?;
@@ -54,7 +54,7 @@ fn push_name(text: &mut String, universe: &Universe, name: u32) -> Result<()>
 }
 
 /// A base chroot, as `chroot main capacity 4096 packages 0`.
-fn push_base(text: &mut String, universe: &Universe, number: u32) -> Result<()>
+fn push_base(text: &mut String, universe: &Universe, number: u32) -> Result<(), AllocError>
     requires { number < length universe.now.bases }
 {
     let base = universe.base(number);
@@ -70,7 +70,7 @@ fn push_base(text: &mut String, universe: &Universe, number: u32) -> Result<()>
 
 /// Puts the lines of a universe behind a text: the names, the base chroots and how many names the
 /// farm's architecture has.
-pub fn push_universe(text: &mut String, universe: &Universe) -> Result<()> {
+pub fn push_universe(text: &mut String, universe: &Universe) -> Result<(), AllocError> {
     for name in 0..universe.names() {
         push_name(text, universe, name)?;
     }
