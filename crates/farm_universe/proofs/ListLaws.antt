@@ -1,5 +1,5 @@
 -- The lists of variants so far are what the items so far say.
-use Rattle.std.proofs.Common.{◌≡◌, ℕ, ◌<◌, ◌≤◌, Bool, true, false, nat_lt, List, [], ◌∷◌, ◌++◌, length, get_or, refl, sym, ap, subst, ◌∙◌, true≢false, if◌then◌else◌, eqb, eq-eqb, arith, All, Some, Ok, Err, zero, suc, Option, None, Result, inl, inr, ◌||◌}
+use Rattle.std.proofs.Common.{◌≡◌, ℕ, ◌<◌, ◌≤◌, Bool, true, false, nat_lt, List, [], ◌∷◌, ◌++◌, length, refl, sym, ap, subst, ◌∙◌, true≢false, eqb, eq-eqb, arith, All, Some, Ok, Err, zero, suc, Option, None, Result, inl, inr, ◌||◌}
 use Rattle.std.specs.Int.{bit_at}
 use Rattle.std.specs.Prelude.{slice_get}
 use Rattle.std.proofs.lemmas.Bool.{and_parts, eqb-true, ltb-true, ltb-false}

@@ -1,9 +1,9 @@
 -- One recipe more: what is true of the recipes so far stays true.
-use Rattle.std.proofs.Common.{◌≡◌, ℕ, zero, suc, ◌+◌, ◌<◌, ◌≤◌, Bool, true, false, List, [], ◌∷◌, ◌++◌, map, sum, fold, drop, length, length-append, length-set, get_or, refl, sym, ap, subst, ◌∙◌, true≢false, if◌then◌else◌, eqb, eq-eqb, arith, All, Some, Ok, codes, inl, inr, ◌⊎◌, ◌||◌, ◌&&◌}
+use Rattle.std.proofs.Common.{◌≡◌, ℕ, zero, suc, ◌+◌, ◌<◌, ◌≤◌, Bool, true, false, List, [], ◌∷◌, ◌++◌, map, sum, drop, length, length-append, length-set, get_or, refl, sym, ap, subst, ◌∙◌, true≢false, eqb, arith, All, Some, Ok, codes, inl, inr, ◌⊎◌, ◌||◌, ◌&&◌}
 use Rattle.std.specs.Int.{bit_at}
 use Rattle.std.specs.Prelude.{slice_get}
 use Rattle.std.specs.List.{list_any}
-use Rattle.std.proofs.lemmas.Bool.{eqb-true, eqb-false, or_parts, or_right, and_parts, cases_lt}
+use Rattle.std.proofs.lemmas.Bool.{eqb-true, eqb-false, or_parts, or_right}
 use Rattle.std.proofs.lemmas.Grind.{get_or-set_at}
 use Rattle.std.proofs.lemmas.List.{get_or-set_other, map_push, at_drop_more}
 use Rattle.std.proofs.lemmas.List.Elements.{All-nil, All-cons, All-push, All-head, All-tail}
@@ -12,13 +12,13 @@ use Rattle.std.proofs.lemmas.List.Sums.{fold-append}
 use Rattle.deb_stanza.specs.Stanza.{Paragraph, value_of}
 use Rattle.deb_text.specs.Steps.{◌>>=◌}
 use Rattle.farm_model.specs.declared.types.Variant.{Variant}
-use Rattle.farm_model.specs.Packages.{same, contains, has_bit, no_recipe}
+use Rattle.farm_model.specs.Packages.{same, contains, has_bit}
 use Rattle.farm_model.specs.Universe.{Recipe}
 use Rattle.farm_universe.specs.declared.recipes.RecipeList.{RecipeList}
 use Rattle.farm_universe.specs.Fields.{refused_if}
 use Rattle.farm_universe.specs.declared.error.TheConstants.{TAKEN}
 use Rattle.farm_universe.specs.FarmSteps.{word_set, taken_with}
-use Rattle.farm_universe.specs.FarmView.{IsPlace, IsOnce, AreOutputs, AreNew, IsNew, IsRecipe, outputs_of, GivesOnce, AreTaken, AreRecipes}
+use Rattle.farm_universe.specs.FarmView.{IsPlace, AreNew, IsNew, IsRecipe, outputs_of, GivesOnce, AreTaken, AreRecipes}
 use Rattle.farm_universe.specs.Land.{Land}
 use Rattle.farm_universe.specs.ListText.{with_bit}
 use Rattle.farm_universe.specs.RecipeText.{outputs_at, is_taken, new_outputs, build_entries}

@@ -1,21 +1,21 @@
 -- A base chroot whose packages pass the test of the farm text is settled.
-use Rattle.std.proofs.Common.{◌≡◌, ℕ, zero, suc, ◌+◌, ◌<◌, ◌≤◌, Bool, true, false, not, ◌&&◌, ◌||◌, List, [], ◌∷◌, ◌++◌, map, length, get_or, refl, sym, ap, subst, ◌∙◌, arith, All, Option, Some, None, eqb, eq-eqb, if◌then◌else◌, nat_le, inl, inr, ◌⊎◌}
+use Rattle.std.proofs.Common.{◌≡◌, ℕ, zero, suc, ◌+◌, ◌<◌, ◌≤◌, Bool, true, false, not, ◌&&◌, ◌||◌, List, [], ◌∷◌, map, length, refl, sym, ap, subst, ◌∙◌, arith, All, Option, Some, None, eqb, eq-eqb, if◌then◌else◌, nat_le, inl, inr, ◌⊎◌}
 use Rattle.std.specs.Prelude.{slice_get}
-use Rattle.std.specs.List.{list_any, list_all, find, range_with_len}
-use Rattle.std.proofs.lemmas.Bool.{and_parts, and_from, eqb-true, eqb-false, leb-true, or_parts, or_cases, or_left, or_right, false≢true, true≢false, cases_Bool}
+use Rattle.std.specs.List.{list_any, find}
+use Rattle.std.proofs.lemmas.Bool.{and_parts, and_from, eqb-true, leb-true, or_cases, or_left, or_right, false≢true, cases_Bool}
 use Rattle.std.proofs.lemmas.List.Folds.{list_any-append}
 use Rattle.std.proofs.lemmas.List.FromFn.{length-map-range_with_len, get_or-map-range_with_len}
 use Rattle.deb_relation.specs.Relations.{Entry, Relations}
 use Rattle.farm_model.specs.declared.types.Variant.{Variant}
 use Rattle.farm_model.specs.declared.types.Slot.{Slot}
-use Rattle.farm_model.specs.declared.types.Slot.TheVariants.{Absent, Unpacked, Configured}
-use Rattle.farm_model.specs.Below.{some_below, sum_below}
+use Rattle.farm_model.specs.declared.types.Slot.TheVariants.{Absent, Configured}
+use Rattle.farm_model.specs.Below.{sum_below}
 use Rattle.farm_model.specs.Chroot.{slot, some_slot, holds, holds_configured, is_unpacked, size_in, used, base_slot, base_chroot, unsettled, met, unmet, entries}
-use Rattle.farm_model.specs.Packages.{variant, names, variants, package_of, size, facts, satisfies, satisfies_entry, satisfies_any, depends, pre_depends, base, conflict, breaks}
-use Rattle.farm_model.specs.Sound.{IsKnown, some_two, IsSettledBase}
+use Rattle.farm_model.specs.Packages.{variant, names, package_of, size, facts, satisfies, satisfies_entry, depends, pre_depends, base, conflict, breaks}
+use Rattle.farm_model.specs.Sound.{some_two, IsSettledBase}
 use Rattle.farm_model.specs.Universe.{Universe}
 use Rattle.farm_model.proofs.BelowLaws.{some_below-at, some_below-found, sum_below-mono, sum_below-same}
-use Rattle.farm_universe.specs.BaseText.{Member, member_of, meets, meets_any, one_of_each, are_met, all_met, excludes, some_excluded, size_of_all, are_settled, is_settled_base}
+use Rattle.farm_universe.specs.BaseText.{Member, member_of, meets, meets_any, one_of_each, are_met, all_met, excludes, some_excluded, size_of_all, is_settled_base}
 use Rattle.farm_universe.specs.PackagesText.{PackageTable}
 use Rattle.farm_universe.proofs.ListFacts.{All-slice_get, any-map-at, any-map-found, all-map-at, find-found}
 

@@ -1,5 +1,5 @@
 -- The table of the sources so far is what the sources so far say.
-use Rattle.std.proofs.Common.{◌≡◌, ℕ, ◌+◌, ◌<◌, ◌≤◌, nat_le, arith, Option, Some, None, length-set, Bool, true, false, cond, List, [], ◌∷◌, ◌++◌, map, filter, length, length-append, refl, sym, ap, ◌∙◌, if◌then◌else◌}
+use Rattle.std.proofs.Common.{◌≡◌, ℕ, ◌<◌, nat_le, arith, Option, Some, None, length-set, Bool, true, false, cond, List, [], ◌∷◌, ◌++◌, map, filter, length-append, refl, sym, ap, if◌then◌else◌}
 use Rattle.std.specs.List.{list_any}
 use Rattle.std.specs.Str.{bytes_eq}
 use Rattle.std.proofs.lemmas.Bool.{leb-false}

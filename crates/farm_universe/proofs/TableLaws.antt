@@ -1,14 +1,11 @@
 -- The table of the packages so far is what the packages so far say.
-use Rattle.std.proofs.Common.{◌≡◌, ℕ, ◌+◌, Bool, true, false, cond, List, [], ◌∷◌, ◌++◌, map, filter, set, refl, sym, ap, ◌∙◌, if◌then◌else◌, Option}
-use Rattle.std.specs.List.{list_any, position_or_len}
+use Rattle.std.proofs.Common.{◌≡◌, ℕ, ◌+◌, Bool, true, false, cond, List, [], ◌∷◌, ◌++◌, map, filter, refl, sym, ap, ◌∙◌, if◌then◌else◌, Option}
 use Rattle.std.specs.Str.{bytes_eq}
 use Rattle.std.proofs.lemmas.List.{map_push, append-nil}
 use Rattle.std.proofs.lemmas.List.Elements.{filter-append}
 use Rattle.std.proofs.lemmas.List.Sums.{fold-append}
-use Rattle.deb_text.specs.Groups.{with_key, place_in, in_order, sorted}
+use Rattle.deb_text.specs.Groups.{place_in, in_order, sorted}
 use Rattle.deb_text.specs.Steps.{answer, steps, goods, item_fault}
-use Rattle.deb_text.proofs.GroupLaws.{AllDistinct-distinct, any-distinct, none-of, map-outside, map-at_place, get-at_place}
-use Rattle.deb_text.proofs.ListLaws.{bytes-same, bytes-self}
 use Rattle.deb_stanza.specs.Stanza.{Paragraph}
 use Rattle.farm_universe.specs.declared.files.TheConstants.{PACKAGES}
 use Rattle.farm_universe.specs.PackagesText.{Listed, PackageTable, package_at, is_below, entry_count, names_of, packages_named, entries_of, table_of, first_code, rules_of, package_fault, packages_of}

@@ -1,9 +1,9 @@
 -- What is true of what the farm text says.
-use Rattle.std.specs.Prelude.{◌≡◌, ℕ, ◌+◌, ◌<◌, ◌≤◌, Bool, ◌||◌, List, [], length, map, sum, All, true, false, Some, get_or, slice_get}
+use Rattle.std.specs.Prelude.{◌≡◌, ℕ, ◌+◌, ◌<◌, ◌≤◌, List, [], length, map, sum, All, true, false, Some, get_or, slice_get}
 use Rattle.std.specs.List.{list_any}
 use Rattle.farm_universe.specs.declared.limits.TheConstants.{MOST_BASES, MOST_CAPACITY, MOST_RECIPES, MOST_ENTRIES, MOST_SIZE}
 use Rattle.farm_model.specs.declared.types.Variant.{Variant}
-use Rattle.farm_model.specs.Packages.{has_bit, outputs, no_recipe}
+use Rattle.farm_model.specs.Packages.{has_bit, no_recipe}
 use Rattle.farm_model.specs.Universe.{Recipe, Base, Universe}
 use Rattle.farm_universe.specs.declared.land.Head.{Head}
 use Rattle.farm_universe.specs.declared.land.Land.{Land}

@@ -14,7 +14,7 @@ use Rattle.deb_profile.specs.Reduction.{reduced}
 use Rattle.deb_profile.specs.WordList.{words_at}
 use Rattle.deb_relation.specs.declared.kind.Kind.TheVariants.{Provide}
 use Rattle.deb_relation.specs.Field.{relations_at}
-use Rattle.deb_relation.specs.Relations.{Entry, Relations}
+use Rattle.deb_relation.specs.Relations.{Relations}
 use Rattle.farm_model.specs.declared.types.Mode.{Mode}
 use Rattle.farm_model.specs.declared.types.Mode.TheVariants.{Full, Arch, Indep}
 use Rattle.farm_model.specs.declared.types.Variant.{Variant}

@@ -6,7 +6,7 @@
 --   source_fault        what is wrong with a source behind those before it
 --   sources_of ps       what the paragraphs say, or the first fault
 --   find_source         the source of a name with this version
-use Rattle.std.specs.Prelude.{ℕ, Bool, nat_le, List, [], ◌∷◌, map, filter, find, length, get_or, Option, Some, None, Result, Ok, codes}
+use Rattle.std.specs.Prelude.{ℕ, Bool, nat_le, List, [], ◌∷◌, map, filter, find, length, Option, Some, None, Result, Ok, codes}
 use Rattle.std.specs.List.{list_any}
 use Rattle.std.specs.Str.{bytes_eq}
 use Rattle.std.specs.Ordering.{is_eq}

@@ -3,7 +3,7 @@
 --
 --   put_at                the table with one more package, where its name's number is known
 --   add, add_paragraph    the table after a package, and after a paragraph
-use Rattle.std.specs.Prelude.{ℕ, ◌+◌, List, [], ◌∷◌, ◌++◌, Option, Some, None, Result, set, get_or}
+use Rattle.std.specs.Prelude.{ℕ, ◌+◌, Option, Result}
 use Rattle.std.specs.Str.{bytes_eq}
 use Rattle.deb_text.specs.declared.fault.Fault.{Fault}
 use Rattle.deb_text.specs.Groups.{in_order, place_in}
@@ -13,7 +13,6 @@ use Rattle.farm_universe.specs.declared.files.TheConstants.{PACKAGES}
 use Rattle.farm_universe.specs.Keyed.{keys_with, group_at, groups_with}
 use Rattle.farm_universe.specs.PackagesText.{Listed, PackageTable, package_at, entry_count, is_below, first_code, rules_of}
 use Rattle.farm_universe.specs.Told.{told}
-use Rattle.farm_model.specs.Universe.{Package}
 
 -- a package of the name with this number, or of a new name
 abbrev pub put_at : PackageTable → Option ℕ → Listed → PackageTable

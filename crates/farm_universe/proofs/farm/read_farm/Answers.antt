@@ -1,4 +1,4 @@
-use Rattle.std.proofs.Common.{◌≡◌, ◌<◌, sym, subst, arith, length, Ok}
+use Rattle.std.proofs.Common.{◌≡◌, ◌<◌, subst, arith, length, Ok}
 use Rattle.std.proofs.lemmas.Result.{err_from_is_err_and}
 use Rattle.deb_text.specs.Answers.{refusal_of}
 use Rattle.deb_stanza.specs.Stanza.{Paragraph}

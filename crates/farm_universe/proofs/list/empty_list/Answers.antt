@@ -1,7 +1,6 @@
 use Rattle.std.proofs.Common.{◌≡◌, ◌∙◌, sym, ap, length, replicate}
 use Rattle.std.proofs.lemmas.List.{length-map}
 use Rattle.deb_text.specs.Lists.{lists}
-use Rattle.farm_universe.specs.FarmView.{AreListed}
 use Rattle.farm_universe.specs.TableView.{table_view}
 use Rattle.farm_universe.proofs.ArchiveLaws.{words_of-nil}
 use Rattle.farm_universe.proofs.ListLaws.{AreListed-none, AreWords-listed}

@@ -1,4 +1,3 @@
-use Rattle.std.proofs.Common.{◌∙◌, ap}
 use Rattle.std.proofs.lemmas.List.{map-id}
 use Rattle.std.proofs.lemmas.Result.{err_from_is_err_and}
 use Rattle.deb_text.proofs.StepLaws.{owned-goes, owned-stops, slice-ends}

@@ -1,10 +1,8 @@
-use Rattle.std.proofs.Common.{◌≡◌, ◌∙◌, sym, ap, Bool, true, false, Ok}
+use Rattle.std.proofs.Common.{◌∙◌, sym, ap, true, false}
 use Rattle.std.specs.List.{list_any}
-use Rattle.std.specs.Prelude.{codes}
-use Rattle.deb_stanza.specs.Stanza.{value_of}
 use Rattle.farm_model.specs.Packages.{has_bit}
 use Rattle.farm_universe.specs.FarmView.{land_view}
-use Rattle.farm_universe.specs.RecipeText.{outputs_at, is_taken}
+use Rattle.farm_universe.specs.RecipeText.{outputs_at}
 use Rattle.farm_universe.specs.TableView.{table_view}
 use Rattle.farm_universe.proofs.RecipeLaws.{any-taken, new_outputs-of}
 use Rattle.farm_universe.proofs.recipes.read_new_outputs.Goals as goal

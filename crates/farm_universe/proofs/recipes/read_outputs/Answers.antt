@@ -1,5 +1,4 @@
 use Rattle.std.proofs.Common.{◌≡◌, ◌∙◌, sym, ap, eqb, false, length, Ok}
-use Rattle.deb_relation.specs.Relations.{Relations}
 use Rattle.farm_universe.specs.ListText.{variants_in}
 use Rattle.farm_universe.specs.TableView.{table_view}
 use Rattle.farm_universe.proofs.ListLaws.{outputs-there}
