@@ -1,12 +1,12 @@
 -- What is true of a table stays true.
-use Rattle.std.proofs.Common.{◌≡◌, ℕ, ◌+◌, ◌<◌, ◌≤◌, Bool, true, false, suc, List, [], ◌∷◌, ◌++◌, length, length-append, length-set, get_or, refl, sym, ap, subst, ◌∙◌, true≢false, Option, Some, None, arith, nat_lt, nat_le, All, position, if◌then◌else◌}
+use Rattle.std.proofs.Common.{◌≡◌, ℕ, ◌+◌, ◌<◌, ◌≤◌, Bool, true, false, zero, suc, List, [], ◌∷◌, ◌++◌, length, length-append, length-set, get_or, refl, sym, ap, subst, ◌∙◌, true≢false, one-add, Option, Some, None, arith, nat_lt, nat_le, All, position, if◌then◌else◌}
 use Rattle.std.specs.declared.cmp.Ordering.{Ordering}
 use Rattle.std.specs.declared.cmp.Ordering.TheVariants.{Less, Equal, Greater}
 use Rattle.std.specs.Ordering.{is_lt, is_eq}
 use Rattle.std.specs.List.{list_any, list_all, position_or_len}
 use Rattle.std.proofs.lemmas.List.Quantifiers.{position-Some}
 use Rattle.std.specs.Str.{bytes_eq}
-use Rattle.std.proofs.lemmas.Bool.{ltb-false, leb-false, or_parts, and_parts}
+use Rattle.std.proofs.lemmas.Bool.{ltb-false, leb-false, or_parts, and_parts, and_from}
 use Rattle.std.proofs.lemmas.List.Folds.{list_any-append}
 use Rattle.std.proofs.lemmas.List.Elements.{All-cons, All-head, All-tail, All-nil, All-push, All-set, All-get_or}
 use Rattle.deb_text.specs.Groups.{AllDistinct, in_order, place_in}
@@ -47,6 +47,50 @@ all_below v w [] vw all = refl
 all_below v w (x ∷ xs) vw all =
     let p = and_parts (is_below w x) (list_all (is_below w) xs) all in
     rw (below_trans v w x vw p.0) (all_below v w xs vw p.1)
+
+-- ---- a package above the last one
+
+not_same : (v w : Package) → is_below w v ≡ true → is_same v w ≡ false
+not_same v w below = rw (text_cmp_total.antisymm v.version w.version, lt-less _ below) refl
+
+not_below : (v w : Package) → is_below w v ≡ true → is_below v w ≡ false
+not_below v w below = rw (text_cmp_total.antisymm v.version w.version, lt-less _ below) refl
+
+-- is above all
+pub under-all : (v d : Package) (xs : List Package) → Rises xs → (k : ℕ) → suc k ≡ length xs
+    → is_below (get_or xs k d) v ≡ true → list_all (λ w. is_below w v) xs ≡ true
+under-all v d [] rises k e below = refl
+under-all v d (x ∷ []) rises zero e below = rw below refl
+under-all v d (x ∷ []) rises (suc k) e below = absurd (omega (arith, e))
+under-all v d (x ∷ y ∷ ys) rises zero e below = absurd (omega (arith, e))
+under-all v d (x ∷ y ∷ ys) rises (suc k) e below =
+    let rest = under-all v d (y ∷ ys) rises.1 k (omega (arith, e)) below in
+    let first = and_parts (is_below x y) (list_all (is_below x) ys) rises.0 in
+    let next = and_parts (is_below y v) (list_all (λ w. is_below w v) ys) rest in
+    and_from _ _ (below_trans x y v first.0 next.0) rest
+
+-- is the same as none
+pub newest-alone : (v : Package) (xs : List Package) → list_all (λ w. is_below w v) xs ≡ true
+    → list_any (is_same v) xs ≡ false
+newest-alone v [] all = refl
+newest-alone v (x ∷ xs) all =
+    let p = and_parts (is_below x v) (list_all (λ w. is_below w v) xs) all in
+    rw (not_same v x p.0) (newest-alone v xs p.1)
+
+-- and stands behind all
+pub newest-last : (v : Package) (xs : List Package) → list_all (λ w. is_below w v) xs ≡ true
+    → position_or_len (is_below v) xs ≡ length xs
+newest-last v [] all = refl
+newest-last v (x ∷ xs) all =
+    let p = and_parts (is_below x v) (list_all (λ w. is_below w v) xs) all in
+    rw (not_below v x p.0, one-add) (ap suc (newest-last v xs p.1))
+
+-- the packages of a name rise
+pub rises-at : (table : PackageTable) (at : Option ℕ) → IsFit table → IsWithin table at
+    → Rises (group_at table.packages at)
+rises-at table None fit within = tt
+rises-at table (Some i) fit within =
+    (All-get_or IsOrderly table.packages i [] within fit.orderly).rises
 
 all-in_order : (p : Package → Bool) (v : Package) (xs : List Package) → p v ≡ true
     → list_all p xs ≡ true → list_all p (in_order is_below v xs) ≡ true

@@ -1,9 +1,10 @@
 //! What is known of one version of a package.
 
-ghost use Rattle.std.specs.Prelude.{◌≡◌, ◌≤◌, nat_le, ◌-◌, SomeIff, OnOk, position, length, []};
-ghost use Rattle.std.specs.List.{list_any};
+ghost use Rattle.std.specs.Prelude.{◌≡◌, ◌≤◌, true, nat_le, ◌-◌, SomeIff, OnOk, position, length, []};
+ghost use Rattle.std.specs.List.{list_all, list_any, position_or_len};
 ghost use Rattle.deb_text.specs.Groups.{in_order};
 ghost use Rattle.farm_universe.specs.PackagesText.{entry_count, is_below, is_same};
+ghost use Rattle.farm_universe.specs.TableView.{Rises};
 
 use crate::limits::MOST_ENTRIES;
 use deb_relation::Relations;
@@ -156,11 +157,30 @@ fn is_below(v: &Package, w: &Package) -> bool
     v.version().compare(w.version()).is_lt()
 }
 
-/// Tells whether one of the packages has the version of this one.
-pub fn is_given(given: &[Package], binary: &Package) -> bool
+/// Tells whether the package is above all of these, each of which is above those before it. An
+/// index mostly lists the versions of a name so.
+fn is_newest(given: &[Package], binary: &Package) -> bool
+    requires { Rises given.now }
+    ensures { result ≡ true → list_all (λ v. is_below v binary.now) given.now ≡ true }
+{
+    given.is_empty() || is_below(&given[given.len() - 1], binary)
+}
+
+fn is_same_as_some(given: &[Package], binary: &Package) -> bool
     ensures { result ≡ list_any (is_same binary.now) given.now }
 {
     given.iter().any(|v| is_same(binary, v))
+}
+
+/// Tells whether one of the packages has the version of this one.
+pub fn is_given(given: &[Package], binary: &Package) -> bool
+    requires { Rises given.now }
+    ensures { result ≡ list_any (is_same binary.now) given.now }
+{
+    if is_newest(given, binary) {
+        return false;
+    }
+    is_same_as_some(given, binary)
 }
 
 fn first_above(given: &[Package], binary: &Package) -> Option<usize>
@@ -169,13 +189,26 @@ fn first_above(given: &[Package], binary: &Package) -> Option<usize>
     given.iter().position(|v| is_below(binary, v))
 }
 
+/// The place of a package among others of its name.
+fn place_for(given: &[Package], binary: &Package) -> usize
+    requires { Rises given.now }
+    ensures place { result ≡ position_or_len (is_below binary.now) given.now }
+    ensures within { result ≤ length given.now }
+{
+    if is_newest(given, binary) {
+        return given.len();
+    }
+    first_above(given, binary).unwrap_or(given.len())
+}
+
 /// Puts a package in its place among others of its name, by version.
 pub fn insert_in_order(
     given: &mut Vec<Package>,
     binary: Package,
 ) -> Result<(), AllocFailed<Package>>
+    requires { Rises given.old.items }
     ensures { OnOk result (given.new.items ≡ in_order is_below binary given.old.items) }
 {
-    let at = first_above(given, &binary).unwrap_or(given.len());
+    let at = place_for(given, &binary);
     given.insert(at, binary)
 }

@@ -10,7 +10,7 @@ ghost use Rattle.deb_text.specs.Lists.{lists};
 ghost use Rattle.farm_universe.specs.Keyed.{group_at};
 ghost use Rattle.farm_universe.specs.PackagesText.{entry_count, is_below, is_over, packages_of};
 ghost use Rattle.farm_universe.specs.TableSteps.{put_at, code_at, add, add_paragraph, tell_paragraph};
-ghost use Rattle.farm_universe.specs.TableView.{listed_view, table_view, IsFit, IsWithin};
+ghost use Rattle.farm_universe.specs.TableView.{listed_view, table_view, IsFit, IsWithin, Rises};
 ghost use Rattle.farm_universe.specs.View.{refusal_of};
 
 use crate::binary::{Package, insert_in_order, is_given};
@@ -94,7 +94,8 @@ fn code_at(table: &PackageTable, at: Option<usize>, listed: &Listed) -> Option<u
 
 /// Puts a package to those of a name that is there.
 fn put_there(table: &mut PackageTable, at: usize, binary: Package) -> Result<(), FieldFault>
-    requires { at < length (table_view table.old).packages }
+    requires within { at < length (table_view table.old).packages }
+    requires rises { Rises (get_or (table_view table.old).packages at []) }
     ensures names { table.new.names ≡ table.old.names }
     ensures packages { OnOk result (lists table.new.packages.items
         ≡ set (lists table.old.packages.items) at
@@ -130,6 +131,7 @@ fn put_at(
     at: Option<usize>,
     listed: Listed,
 ) -> Result<(), FieldFault>
+    requires fit { IsFit (table_view table.old) }
     requires at { at ≡ place_in bytes_eq (lists table.old.names.keys) listed.name.items }
     requires within { IsWithin (table_view table.old) at }
     requires fits { table.old.entries + entry_count listed.binary ≤ MOST_ENTRIES }

@@ -10,7 +10,7 @@ use Rattle.farm_universe.proofs.package_table.put_there.Goals as goal
 pub returns-clause-packages : goal.returns-clause-packages
 returns-clause-packages c =
     let vs = c.args.table.now.packages.items in
-    let lt : c.args.at < length vs = rw length-map at c.requires in
+    let lt : c.args.at < length vs = rw length-map at c.requires.within in
     lists-set vs c.args.at c.insert_in_order.new.given (in_order is_below c.args.binary)
     c.index_mut.result.now lt
     (c.in_ok-insert_in_order.ensures
