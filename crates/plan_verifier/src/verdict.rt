@@ -38,8 +38,8 @@ fn judge(alloc: Global, planned: Planned) -> Result<Accepted, Refusal>
 /// the plan at line 0, where it has more than one lane or another instruction than `unpack` and
 /// `configure`. [`Refusal::Unsafe`] with the first
 /// instruction, of the first lane that has one, that may meet a trap, and with the first such trap.
-/// [`Refusal::Stuck`] does not come so far, since no plan waits. [`Refusal::Memory`] where memory
-/// ran out.
+/// [`Refusal::Stuck`] does not come so far, since no plan that is judged waits.
+/// [`Refusal::Memory`] where memory ran out.
 pub fn check(
     _rt: &impl Threads,
     alloc: Global,
