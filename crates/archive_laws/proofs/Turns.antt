@@ -1,6 +1,7 @@
 -- One turn of a lane, in a world that is reached.
 use Rattle.std.proofs.Common.{◌≡◌, ℕ, ◌<◌, Bool, ◌||◌, List, [], ◌∷◌, ◌++◌, length, Option, Some, slice_set, refl, sym, ap, ◌∙◌, subst, length-set}
 use Rattle.std.specs.Prelude.{nat_lt, slice_index_or}
+use Rattle.std.proofs.Math.Bool.{or-false}
 use Rattle.std.proofs.lemmas.Bool.{cond-true, lt-ltb}
 use Rattle.std.proofs.lemmas.List.{length-map}
 use Rattle.std.proofs.lemmas.Option.{none-some, same_Some, slice_get_within, get_or_from_slice_get}
@@ -16,7 +17,7 @@ use Rattle.plan_model.specs.Sound.{IsSound}
 use Rattle.plan_model.specs.World.{World, world_lane, Shows, with_bit, world_after}
 use Rattle.farm_laws.proofs.Steps.{put, put_output, turn_at}
 use Rattle.farm_laws.proofs.Places.{GivesOne, PlaceMove, turn_place}
-use Rattle.farm_laws.proofs.Archive.{or-false, archive-push}
+use Rattle.farm_laws.proofs.Archive.{archive-push}
 use Rattle.farm_laws.proofs.Safe.{variants_name}
 use Rattle.archive_laws.specs.Shown.{IsReached, StartIsReached, with_lane}
 use Rattle.plan_model.proofs.WordLaws.{has_bit-with_bit}

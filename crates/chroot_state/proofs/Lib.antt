@@ -3,3 +3,4 @@ pub mod Withdrawn
 pub mod Opened
 pub mod Sums
 pub mod Effects
+pub mod Present

@@ -2,4 +2,4 @@ pub mod Slots
 pub mod Held
 pub mod Needed
 pub mod Changes
-pub mod Parts
+pub mod Present

@@ -1,6 +1,6 @@
 //! What a base chroot holds.
 
-ghost use Rattle.std.specs.Prelude.{◌≡◌, ◌<◌, ◌==◌, IfOk, length};
+ghost use Rattle.std.specs.Prelude.{◌≡◌, ◌<◌, ◌^◌, ◌==◌, IfOk, length};
 ghost use Rattle.std.specs.List.{find};
 ghost use Rattle.std.specs.Option.{option_map};
 ghost use Rattle.chroot_state.specs.Slots.{AreSlots};
@@ -33,6 +33,7 @@ pub fn base_slots(alloc: Global, universe: &Universe, number: u32) -> Result<Vec
     requires { number < length universe.now.bases }
     ensures based { IfOk result (λ slots. slots.items ≡ base_chroot universe.now number) }
     ensures known { IfOk result (λ slots. AreSlots universe.now slots.items) }
+    ensures small { IfOk result (λ slots. length slots.items < 2 ^ 32) }
 {
     let count = universe.names();
     let mut slots = Vec::new(alloc);

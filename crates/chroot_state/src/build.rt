@@ -1,23 +1,23 @@
 //! The traps of a build.
 
-ghost use Rattle.std.specs.Prelude.{◌≡◌, ◌||◌};
-ghost use Rattle.chroot_state.specs.Parts.{parts};
+ghost use Rattle.std.specs.Prelude.{◌≡◌, ◌||◌, refl};
 ghost use Rattle.chroot_state.specs.Slots.{AreSlots};
 ghost use Rattle.farm_model.specs.Chroot as chroots;
 ghost use Rattle.farm_model.specs.Packages.{variant, satisfies_any};
 ghost use Rattle.farm_model.specs.Traps.{first_trap, build_traps};
 
+use crate::held::Slots;
 use crate::met::misses;
 use crate::slots::{SlotTest, holds, is_unpacked, some_slot};
 use crate::space::overflows;
 use deb_relation::Relations;
 use farm_universe::relations::{VariantTest, satisfies_any};
-use farm_universe::{Slot, Trap, Universe, Variant};
+use farm_universe::{Recipe, Slot, Trap, Universe, Variant};
 
 /// The variants with a Depends or Pre-Depends entry that is not met.
 #[derive(Drop)]
 struct MissesEntries<'a> {
-    slots: &'a [Slot],
+    slots: &'a Slots,
 }
 
 impl VariantTest for MissesEntries<'_> {
@@ -36,7 +36,7 @@ impl VariantTest for MissesEntries<'_> {
 /// What is present and not configured, or misses an entry.
 #[derive(Drop)]
 struct IsUnsettled<'a> {
-    slots: &'a [Slot],
+    slots: &'a Slots,
 }
 
 impl SlotTest for IsUnsettled<'_> {
@@ -49,11 +49,13 @@ impl SlotTest for IsUnsettled<'_> {
     fn passes(&self, universe: &Universe, name: u32, slot: Slot) -> bool {
         is_unpacked(slot) || holds(universe, name, slot, &MissesEntries { slots: self.slots })
     }
+
+    ghost absent = { λ _ _ _. refl };
 }
 
 /// Tells whether something present is not configured, or misses an entry.
 #[tactic(auto, unfolding(farm_model::specs::Chroot::unsettled))]
-fn is_unsettled(universe: &Universe, slots: &[Slot]) -> bool
+fn is_unsettled(universe: &Universe, slots: &Slots) -> bool
     requires { AreSlots universe.now slots.now }
     ensures { result ≡ chroots.unsettled universe.now slots.now }
 {
@@ -90,35 +92,34 @@ impl SlotTest for Clashes<'_> {
         };
         holds(universe, name, slot, &test)
     }
+
+    ghost absent = { λ _ _ _. refl };
 }
 
-/// The first trap of a build that has these needs and clashes and takes this scratch space, where
-/// so much of the room is taken.
+/// The first trap of a build by a recipe, where so much of the room is taken.
 #[tactic(auto, unfolding(farm_model::specs::Traps::first_trap))]
 pub fn build_trap(
     universe: &Universe,
     room: u64,
     used: u64,
-    slots: &[Slot],
-    needs: &Relations,
-    clashes: &Relations,
-    scratch: u64,
+    slots: &Slots,
+    recipe: &Recipe,
 ) -> Option<Trap>
     requires slots { AreSlots universe.now slots.now }
     requires used { used ≡ chroots.used universe.now slots.now }
-    ensures { result
-        ≡ first_trap (build_traps universe.now room slots.now (parts needs.now clashes.now scratch)) }
+    ensures { result ≡ first_trap (build_traps universe.now room slots.now recipe.now) }
 {
     if is_unsettled(universe, slots) {
         return Some(Trap::Unsettled);
     }
-    if misses(universe, slots, needs) {
+    if misses(universe, slots, recipe.needs()) {
         return Some(Trap::BuildDepends);
     }
+    let clashes = recipe.clashes();
     if some_slot(universe, slots, &Clashes { clashes }) {
         return Some(Trap::BuildConflict);
     }
-    if overflows(room, used, scratch) {
+    if overflows(room, used, recipe.scratch()) {
         return Some(Trap::Full);
     }
     None

@@ -7,14 +7,16 @@ ghost use Rattle.chroot_state.specs.Changes.{changed_slot};
 ghost use Rattle.chroot_state.specs.Held.{IsHeld, opened, room, with_slots};
 ghost use Rattle.chroot_state.specs.Slots.{IsKnownSlot, bit_of, phase_of};
 ghost use Rattle.farm_model.specs.Chroot.{slot, last_of};
-ghost use Rattle.farm_model.specs.Packages.{names, variant};
+ghost use Rattle.farm_model.specs.Packages.{names, variant, recipe as recipe_of};
 ghost use Rattle.farm_model.specs.Sound.{IsKnown};
 ghost use Rattle.farm_model.specs.Traps as traps;
 ghost use Rattle.farm_model.specs.Traps.{first_trap};
 
 use crate::base::base_slots;
+use crate::build::build_trap;
 use crate::change::Change;
 use crate::configure::configure_trap;
+use crate::held::Slots;
 use crate::phase::Phase;
 use crate::slots::{bit_of, last_of, phase_of, slot_at};
 use crate::space::{size_in, space};
@@ -28,7 +30,7 @@ use std::marker::Model;
 /// universe that it was opened with, and is handed that one in each call.
 #[derive(Debug, Drop)]
 pub struct Chroot {
-    slots: Vec<Slot>,
+    slots: Slots,
     base: u32,
     used: u64,
 }
@@ -38,7 +40,7 @@ impl Model for Chroot {
 
     ghost Value = { Held };
 
-    ghost view = { λ c. record { slots = c.slots.items; base = c.base; used = c.used } };
+    ghost view = { λ c. record { slots = c.slots; base = c.base; used = c.used } };
 }
 
 impl Chroot {
@@ -48,7 +50,7 @@ impl Chroot {
         ensures opened { IfOk result (λ chroot. chroot ≡ opened universe.now base) }
         ensures held { IfOk result (IsHeld universe.now) }
     {
-        let slots = base_slots(alloc, universe, base)?;
+        let slots = Slots::new(alloc, base_slots(alloc, universe, base)?)?;
         let used = space(universe, &slots);
         Ok(Chroot { slots, base, used })
     }
@@ -100,7 +102,7 @@ impl Chroot {
         let before = size_in(universe, name, slot_at(&self.slots, name));
         let after = size_in(universe, name, slot);
         self.used = self.used - before + after;
-        self.slots[name as usize] = slot;
+        self.slots.put(name, slot);
     }
 
     /// Changes what is held of each member.
@@ -212,5 +214,25 @@ impl Chroot {
         }
         self.change(universe, members, Change::Remove);
         Ok(())
+    }
+
+    /// Tells whether a recipe can be built here. The chroot stays as it is.
+    ///
+    /// # Errors
+    ///
+    /// The first trap of these: [`Trap::Unsettled`], [`Trap::BuildDepends`],
+    /// [`Trap::BuildConflict`], [`Trap::Full`].
+    pub fn can_build(&self, universe: &Universe, recipe: u32) -> Result<(), Trap>
+        requires held { IsHeld universe.now self.now }
+        requires known { recipe < length universe.now.recipes }
+        ensures { result_err result ≡ first_trap (traps.build_traps universe.now
+            (room universe.now self.now) self.now.slots (recipe_of universe.now recipe)) }
+    {
+        let room = universe.base(self.base).capacity();
+        let recipe = universe.recipe(recipe);
+        match build_trap(universe, room, self.used, &self.slots, recipe) {
+            Some(trap) => Err(trap),
+            None => Ok(()),
+        }
     }
 }

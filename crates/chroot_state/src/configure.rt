@@ -1,5 +1,6 @@
 //! The traps of a configure.
 
+ghost use Rattle.std.proofs.Math.Bool.{and-false};
 ghost use Rattle.std.specs.Prelude.{◌≡◌, ◌&&◌, ◌==◌, not};
 ghost use Rattle.std.specs.List.{list_any};
 ghost use Rattle.chroot_state.specs.Slots.{AreSlots};
@@ -10,6 +11,7 @@ ghost use Rattle.farm_model.specs.Sound.{IsKnown};
 ghost use Rattle.farm_model.specs.Traps as traps;
 ghost use Rattle.farm_model.specs.Traps.{first_trap};
 
+use crate::held::Slots;
 use crate::met::{misses, misses_with};
 use crate::slots::{SlotTest, holds, is_unpacked, slot_at, some_slot};
 use farm_universe::relations::{BreakersOf, VariantTest};
@@ -18,7 +20,7 @@ use farm_universe::{Slot, Trap, Universe, Variant};
 /// The variants with a Pre-Depends entry that is not met.
 #[derive(Drop)]
 struct MissesPreDepends<'a> {
-    slots: &'a [Slot],
+    slots: &'a Slots,
 }
 
 impl VariantTest for MissesPreDepends<'_> {
@@ -37,7 +39,7 @@ impl VariantTest for MissesPreDepends<'_> {
 #[derive(Drop)]
 struct MissesDepends<'a> {
     members: &'a [u32],
-    slots: &'a [Slot],
+    slots: &'a Slots,
 }
 
 impl VariantTest for MissesDepends<'_> {
@@ -70,12 +72,14 @@ impl SlotTest for HoldsBreaking {
         };
         name != self.variant.name && holds(universe, name, slot, &test)
     }
+
+    ghost absent = { λ _ _ _. and-false _ };
 }
 
 /// The variants that a present one of another name breaks.
 #[derive(Drop)]
 struct IsBroken<'a> {
-    slots: &'a [Slot],
+    slots: &'a Slots,
 }
 
 impl VariantTest for IsBroken<'_> {
@@ -93,7 +97,7 @@ impl VariantTest for IsBroken<'_> {
 fn some_member<T: VariantTest>(
     universe: &Universe,
     members: &[u32],
-    slots: &[Slot],
+    slots: &Slots,
     test: &T,
 ) -> bool
     requires fits { T.fits universe.now test.now }
@@ -110,7 +114,7 @@ fn some_member<T: VariantTest>(
 }
 
 /// Tells whether some member is not unpacked.
-fn some_not_unpacked(members: &[u32], slots: &[Slot]) -> bool
+fn some_not_unpacked(members: &[u32], slots: &Slots) -> bool
     ensures { result
         ≡ list_any (λ m. not (chroots.is_unpacked (chroots.slot slots.now m))) members.now }
 {
@@ -121,7 +125,7 @@ fn some_not_unpacked(members: &[u32], slots: &[Slot]) -> bool
 
 /// The first trap of a configure of members.
 #[tactic(auto, unfolding(farm_model::specs::Traps::first_trap))]
-pub fn configure_trap(universe: &Universe, slots: &[Slot], members: &[u32]) -> Option<Trap>
+pub fn configure_trap(universe: &Universe, slots: &Slots, members: &[u32]) -> Option<Trap>
     requires { AreSlots universe.now slots.now }
     ensures { result ≡ first_trap (traps.configure_traps universe.now slots.now members.now) }
 {

@@ -6,6 +6,7 @@ mod build;
 mod change;
 mod chroot;
 mod configure;
+mod held;
 mod met;
 mod phase;
 mod slots;

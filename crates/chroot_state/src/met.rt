@@ -1,13 +1,15 @@
 //! Which entries are met in a chroot.
 
-ghost use Rattle.std.specs.Prelude.{◌≡◌, ◌&&◌, ◌||◌, ◌==◌, not};
+ghost use Rattle.std.proofs.Math.Bool.{and-false};
+ghost use Rattle.std.specs.Prelude.{◌≡◌, ◌&&◌, ◌||◌, ◌==◌, not, refl};
 ghost use Rattle.std.specs.List.{list_any};
 ghost use Rattle.chroot_state.specs.Slots.{IsKnownSlot, AreSlots};
 ghost use Rattle.farm_model.specs.Chroot as chroots;
 ghost use Rattle.farm_model.specs.Packages.{variant, satisfies_entry};
 ghost use Rattle.farm_model.specs.Sound.{IsKnown};
 
-use crate::slots::{SlotTest, holds, holds_configured, some_slot};
+use crate::held::Slots;
+use crate::slots::{SlotTest, holds, holds_configured, some_slot_for};
 use deb_relation::{Entry, Relations};
 use farm_universe::relations::{SatisfiesEntry, satisfies_entry};
 use farm_universe::{Slot, Universe, Variant};
@@ -25,15 +27,17 @@ impl SlotTest for Meets<'_> {
     fn passes(&self, universe: &Universe, name: u32, slot: Slot) -> bool {
         holds_configured(universe, name, slot, &SatisfiesEntry { entry: self.entry })
     }
+
+    ghost absent = { λ _ _ _. refl };
 }
 
 /// Tells whether an entry is met (Debian Policy 7.2).
 #[tactic(auto, unfolding(farm_model::specs::Chroot::met))]
-pub fn met(universe: &Universe, slots: &[Slot], entry: &Entry) -> bool
+pub fn met(universe: &Universe, slots: &Slots, entry: &Entry) -> bool
     requires { AreSlots universe.now slots.now }
     ensures { result ≡ chroots.met universe.now slots.now entry.now }
 {
-    some_slot(universe, slots, &Meets { entry })
+    some_slot_for(universe, slots, entry, &Meets { entry })
 }
 
 /// Tells whether a name is a member of a set.
@@ -59,17 +63,19 @@ impl SlotTest for MeetsWith<'_> {
     fn passes(&self, universe: &Universe, name: u32, slot: Slot) -> bool {
         let test = SatisfiesEntry { entry: self.entry };
         holds_configured(universe, name, slot, &test)
-            || (is_member(self.members, name) && holds(universe, name, slot, &test))
+            || (holds(universe, name, slot, &test) && is_member(self.members, name))
     }
+
+    ghost absent = { λ _ _ _. and-false _ };
 }
 
 /// Tells whether an entry is met where members count too, since they are configured together.
 #[tactic(auto, unfolding(farm_model::specs::Chroot::met_with))]
-pub fn met_with(universe: &Universe, members: &[u32], slots: &[Slot], entry: &Entry) -> bool
+pub fn met_with(universe: &Universe, members: &[u32], slots: &Slots, entry: &Entry) -> bool
     requires { AreSlots universe.now slots.now }
     ensures { result ≡ chroots.met_with universe.now members.now slots.now entry.now }
 {
-    some_slot(universe, slots, &MeetsWith { members, entry })
+    some_slot_for(universe, slots, entry, &MeetsWith { members, entry })
 }
 
 /// Tells whether both variants of a name satisfy one alternative of an entry.
@@ -113,19 +119,21 @@ impl SlotTest for MeetsAhead<'_> {
     fn passes(&self, universe: &Universe, name: u32, slot: Slot) -> bool {
         name != self.name && pre_meets(universe, self.entry, name, slot)
     }
+
+    ghost absent = { λ _ _ _. and-false _ };
 }
 
 /// Tells whether an entry is met ahead of the unpack of a name (Debian Policy 7.2, Pre-Depends).
 #[tactic(auto, unfolding(farm_model::specs::Chroot::pre_met))]
-pub fn pre_met(universe: &Universe, name: u32, slots: &[Slot], entry: &Entry) -> bool
+pub fn pre_met(universe: &Universe, name: u32, slots: &Slots, entry: &Entry) -> bool
     requires { AreSlots universe.now slots.now }
     ensures { result ≡ chroots.pre_met universe.now name slots.now entry.now }
 {
-    some_slot(universe, slots, &MeetsAhead { name, entry })
+    some_slot_for(universe, slots, entry, &MeetsAhead { name, entry })
 }
 
 /// Tells whether some entry is not met.
-pub fn misses(universe: &Universe, slots: &[Slot], entries: &Relations) -> bool
+pub fn misses(universe: &Universe, slots: &Slots, entries: &Relations) -> bool
     requires { AreSlots universe.now slots.now }
     ensures { result ≡ chroots.unmet (chroots.met universe.now slots.now) entries.now }
 {
@@ -136,12 +144,7 @@ pub fn misses(universe: &Universe, slots: &[Slot], entries: &Relations) -> bool
 }
 
 /// Tells whether some entry is not met where members count too.
-pub fn misses_with(
-    universe: &Universe,
-    members: &[u32],
-    slots: &[Slot],
-    entries: &Relations,
-) -> bool
+pub fn misses_with(universe: &Universe, members: &[u32], slots: &Slots, entries: &Relations) -> bool
     requires { AreSlots universe.now slots.now }
     ensures { result
         ≡ chroots.unmet (chroots.met_with universe.now members.now slots.now) entries.now }
@@ -153,7 +156,7 @@ pub fn misses_with(
 }
 
 /// Tells whether some entry is not met ahead of the unpack of a name.
-pub fn misses_ahead(universe: &Universe, name: u32, slots: &[Slot], entries: &Relations) -> bool
+pub fn misses_ahead(universe: &Universe, name: u32, slots: &Slots, entries: &Relations) -> bool
     requires { AreSlots universe.now slots.now }
     ensures { result ≡ chroots.unmet (chroots.pre_met universe.now name slots.now) entries.now }
 {

@@ -1,30 +1,25 @@
 //! What a chroot holds of each name, and tests of it.
 
-ghost use Rattle.std.specs.Prelude.{◌≡◌, ℕ, Bool};
+ghost use Rattle.std.specs.Prelude.{◌≡◌, ℕ, Bool, true, false};
+ghost use Rattle.std.specs.List.{list_any};
 ghost use Rattle.chroot_state.specs.Slots.{IsKnownSlot, AreSlots, bit_of, phase_of};
 ghost use Rattle.farm_model.specs.declared.types.Slot.{Slot};
+ghost use Rattle.farm_model.specs.declared.types.Slot.TheVariants.{Absent};
 ghost use Rattle.farm_model.specs.Chroot as chroots;
 ghost use Rattle.farm_model.specs.Packages.{variant};
 ghost use Rattle.farm_model.specs.Universe.{Universe};
 
+use crate::held::Slots;
 use crate::phase::Phase;
+use deb_relation::Entry;
 use farm_universe::relations::VariantTest;
 use farm_universe::{Slot, Universe, Variant};
 
 /// What is held of a name: nothing where there is no such name.
-pub fn slot_at(slots: &[Slot], name: u32) -> Slot
+pub fn slot_at(slots: &Slots, name: u32) -> Slot
     ensures { result ≡ chroots.slot slots.now name }
 {
-    match slots.get(name as usize) {
-        Some(slot) => *slot,
-        None => Slot::Absent,
-    }
-}
-
-pub fn is_present(slot: Slot) -> bool
-    ensures { result ≡ chroots.is_present slot }
-{
-    !matches!(slot, Slot::Absent)
+    slots.at(name)
 }
 
 pub fn is_unpacked(slot: Slot) -> bool
@@ -114,19 +109,61 @@ pub trait SlotTest {
         requires fits { fits universe.now self.now }
         requires known { IsKnownSlot universe.now name slot }
         ensures { result ≡ test universe.now self.now name slot };
+
+    ghost absent: { (u : Universe) (t : Self) (n : ℕ) → test u t n Absent ≡ false };
 }
 
-/// Tells whether the slot of some name passes.
-pub fn some_slot<T: SlotTest>(universe: &Universe, slots: &[Slot], test: &T) -> bool
+/// Tells whether the slot of one of these names passes.
+fn some_of<T: SlotTest>(universe: &Universe, slots: &Slots, listed: &[u32], test: &T) -> bool
     requires fits { T.fits universe.now test.now }
     requires slots { AreSlots universe.now slots.now }
-    ensures { result ≡ chroots.some_slot slots.now (T.test universe.now test.now) }
+    ensures { result ≡ list_any (λ n. T.test universe.now test.now n (chroots.slot slots.now n))
+        listed.now }
 {
-    let count = universe.names();
-    for name in 0..count {
-        if test.passes(universe, name, slot_at(slots, name)) {
+    for name in listed {
+        if test.passes(universe, *name, slot_at(slots, *name)) {
             return true;
         }
     }
     false
+}
+
+/// Tells whether the slot of some name passes. The names that are present are looked at alone.
+pub fn some_slot<T: SlotTest>(universe: &Universe, slots: &Slots, test: &T) -> bool
+    requires fits { T.fits universe.now test.now }
+    requires slots { AreSlots universe.now slots.now }
+    ensures { result ≡ chroots.some_slot slots.now (T.test universe.now test.now) }
+{
+    some_of(universe, slots, slots.present(), test)
+}
+
+/// Tells whether the slot of a name that an entry names passes.
+fn some_named_slot<T: SlotTest>(universe: &Universe, slots: &Slots, entry: &Entry, test: &T) -> bool
+    requires fits { T.fits universe.now test.now }
+    requires slots { AreSlots universe.now slots.now }
+    ensures { result ≡ true → chroots.some_slot slots.now (T.test universe.now test.now) ≡ true }
+{
+    for atom in entry.alternatives() {
+        if let Some(name) = universe.find(&atom.name) {
+            if test.passes(universe, name, slot_at(slots, name)) {
+                return true;
+            }
+        }
+    }
+    false
+}
+
+/// Tells whether the slot of some name passes. The names that an entry names are looked at first,
+/// since mostly one of them meets it.
+pub fn some_slot_for<T: SlotTest>(
+    universe: &Universe,
+    slots: &Slots,
+    entry: &Entry,
+    test: &T,
+) -> bool
+    requires fits { T.fits universe.now test.now }
+    requires slots { AreSlots universe.now slots.now }
+    ensures { result ≡ chroots.some_slot slots.now (T.test universe.now test.now) }
+{
+    some_named_slot(universe, slots, entry, test) || some_slot(universe, slots, test)
 }

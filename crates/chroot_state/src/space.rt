@@ -5,6 +5,7 @@ ghost use Rattle.chroot_state.specs.Slots.{IsKnownSlot, AreSlots};
 ghost use Rattle.farm_model.specs.Chroot as chroots;
 ghost use Rattle.farm_universe.specs.Kept.{IsKept};
 
+use crate::held::Slots;
 use crate::slots::slot_at;
 use farm_universe::limits::MOST_SIZE;
 use farm_universe::{Slot, Universe, Variant};
@@ -26,7 +27,7 @@ pub fn size_in(universe: &Universe, name: u32, slot: Slot) -> u64
 
 /// The disk space that a chroot takes.
 #[tactic(auto, unfolding(farm_model::specs::Chroot::used))]
-pub fn space(universe: &Universe, slots: &[Slot]) -> u64
+pub fn space(universe: &Universe, slots: &Slots) -> u64
     requires { AreSlots universe.now slots.now }
     ensures { result ≡ chroots.used universe.now slots.now }
 {

@@ -1,5 +1,6 @@
 //! The traps of an unpack.
 
+ghost use Rattle.std.proofs.Math.Bool.{and-false};
 ghost use Rattle.std.specs.Prelude.{◌≡◌, ◌&&◌, ◌==◌, not};
 ghost use Rattle.chroot_state.specs.Slots.{AreSlots};
 ghost use Rattle.farm_model.specs.Chroot as chroots;
@@ -8,6 +9,7 @@ ghost use Rattle.farm_model.specs.Packages.{variant};
 ghost use Rattle.farm_model.specs.Sound.{IsKnown};
 ghost use Rattle.farm_model.specs.Traps.{first_trap, unpack_traps};
 
+use crate::held::Slots;
 use crate::met::misses_ahead;
 use crate::slots::{SlotTest, holds, holds_configured, some_slot};
 use crate::space::overflows;
@@ -32,6 +34,8 @@ impl SlotTest for HoldsConflicting {
         };
         name != self.variant.name && holds(universe, name, slot, &test)
     }
+
+    ghost absent = { λ _ _ _. and-false _ };
 }
 
 /// Configured variants of other names that this one breaks.
@@ -52,6 +56,8 @@ impl SlotTest for HoldsBroken {
         };
         name != self.variant.name && holds_configured(universe, name, slot, &test)
     }
+
+    ghost absent = { λ _ _ _. and-false _ };
 }
 
 /// The first trap of an unpack, where so much of the room is taken.
@@ -60,7 +66,7 @@ pub fn unpack_trap(
     universe: &Universe,
     room: u64,
     used: u64,
-    slots: &[Slot],
+    slots: &Slots,
     variant: Variant,
 ) -> Option<Trap>
     requires slots { AreSlots universe.now slots.now }

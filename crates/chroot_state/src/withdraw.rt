@@ -1,5 +1,6 @@
 //! The traps of a deconfigure and of a remove.
 
+ghost use Rattle.std.proofs.Math.Bool.{and-false};
 ghost use Rattle.std.specs.Prelude.{◌≡◌, ◌&&◌, not};
 ghost use Rattle.std.specs.List.{list_any};
 ghost use Rattle.chroot_state.specs.Needed.{met_inside, met_outside, needs_members, is_needed};
@@ -9,8 +10,9 @@ ghost use Rattle.farm_model.specs.Packages.{variant, satisfies_entry};
 ghost use Rattle.farm_model.specs.Traps as traps;
 ghost use Rattle.farm_model.specs.Traps.{first_trap};
 
+use crate::held::{Slots, is_present};
 use crate::met::is_member;
-use crate::slots::{SlotTest, holds_configured, is_configured, is_present, slot_at, some_slot};
+use crate::slots::{SlotTest, holds_configured, is_configured, slot_at, some_slot, some_slot_for};
 use deb_relation::{Entry, Relations};
 use farm_universe::relations::{SatisfiesEntry, VariantTest};
 use farm_universe::{Slot, Trap, Universe, Variant};
@@ -30,19 +32,21 @@ impl SlotTest for MeetsOutside<'_> {
         let test = SatisfiesEntry { entry: self.entry };
         holds_configured(universe, name, slot, &test) && !is_member(self.members, name)
     }
+
+    ghost absent = { λ _ _ _. and-false _ };
 }
 
 /// Tells whether something outside of a set meets an entry.
 #[tactic(auto, unfolding(crate::specs::Needed::met_outside))]
-fn met_outside(universe: &Universe, members: &[u32], slots: &[Slot], entry: &Entry) -> bool
+fn met_outside(universe: &Universe, members: &[u32], slots: &Slots, entry: &Entry) -> bool
     requires { AreSlots universe.now slots.now }
     ensures { result ≡ met_outside universe.now members.now slots.now entry.now }
 {
-    some_slot(universe, slots, &MeetsOutside { members, entry })
+    some_slot_for(universe, slots, entry, &MeetsOutside { members, entry })
 }
 
 /// Tells whether a configured member satisfies an entry.
-fn met_inside(universe: &Universe, members: &[u32], slots: &[Slot], entry: &Entry) -> bool
+fn met_inside(universe: &Universe, members: &[u32], slots: &Slots, entry: &Entry) -> bool
     requires { AreSlots universe.now slots.now }
     ensures { result ≡ met_inside universe.now members.now slots.now entry.now }
 {
@@ -56,7 +60,7 @@ fn met_inside(universe: &Universe, members: &[u32], slots: &[Slot], entry: &Entr
 }
 
 /// Tells whether some entry is met by members alone.
-fn needs_members(universe: &Universe, members: &[u32], slots: &[Slot], entries: &Relations) -> bool
+fn needs_members(universe: &Universe, members: &[u32], slots: &Slots, entries: &Relations) -> bool
     requires { AreSlots universe.now slots.now }
     ensures { result
         ≡ list_any (needs_members universe.now members.now slots.now) entries.now }
@@ -70,7 +74,7 @@ fn needs_members(universe: &Universe, members: &[u32], slots: &[Slot], entries: 
 #[derive(Drop)]
 struct NeedsMembers<'a> {
     members: &'a [u32],
-    slots: &'a [Slot],
+    slots: &'a Slots,
 }
 
 impl VariantTest for NeedsMembers<'_> {
@@ -90,7 +94,7 @@ impl VariantTest for NeedsMembers<'_> {
 #[derive(Drop)]
 struct HoldsNeedy<'a> {
     members: &'a [u32],
-    slots: &'a [Slot],
+    slots: &'a Slots,
 }
 
 impl SlotTest for HoldsNeedy<'_> {
@@ -107,12 +111,14 @@ impl SlotTest for HoldsNeedy<'_> {
         };
         !is_member(self.members, name) && holds_configured(universe, name, slot, &test)
     }
+
+    ghost absent = { λ _ _ _. and-false _ };
 }
 
 /// Tells whether a configured package outside of a set still needs a member. The entries of each
 /// configured package are looked at once, and only those that a member satisfies any further.
 #[tactic(auto, unfolding(crate::specs::Needed::is_needed))]
-fn is_needed(universe: &Universe, members: &[u32], slots: &[Slot]) -> bool
+fn is_needed(universe: &Universe, members: &[u32], slots: &Slots) -> bool
     requires { AreSlots universe.now slots.now }
     ensures { result ≡ is_needed universe.now members.now slots.now }
 {
@@ -120,7 +126,7 @@ fn is_needed(universe: &Universe, members: &[u32], slots: &[Slot]) -> bool
 }
 
 /// Tells whether some member is not configured.
-fn some_not_configured(members: &[u32], slots: &[Slot]) -> bool
+fn some_not_configured(members: &[u32], slots: &Slots) -> bool
     ensures { result
         ≡ list_any (λ m. not (chroots.is_configured (chroots.slot slots.now m))) members.now }
 {
@@ -130,7 +136,7 @@ fn some_not_configured(members: &[u32], slots: &[Slot]) -> bool
 }
 
 /// The first trap of a deconfigure of members.
-pub fn deconfigure_trap(universe: &Universe, slots: &[Slot], members: &[u32]) -> Option<Trap>
+pub fn deconfigure_trap(universe: &Universe, slots: &Slots, members: &[u32]) -> Option<Trap>
     requires { AreSlots universe.now slots.now }
     ensures { result ≡ first_trap (traps.deconfigure_traps universe.now slots.now members.now) }
 {
@@ -144,7 +150,7 @@ pub fn deconfigure_trap(universe: &Universe, slots: &[Slot], members: &[u32]) ->
 }
 
 /// Tells whether some member is absent.
-fn some_absent(members: &[u32], slots: &[Slot]) -> bool
+fn some_absent(members: &[u32], slots: &Slots) -> bool
     ensures { result
         ≡ list_any (λ m. not (chroots.is_present (chroots.slot slots.now m))) members.now }
 {
@@ -154,7 +160,7 @@ fn some_absent(members: &[u32], slots: &[Slot]) -> bool
 }
 
 /// The first trap of a remove of members.
-pub fn remove_trap(universe: &Universe, slots: &[Slot], members: &[u32]) -> Option<Trap>
+pub fn remove_trap(universe: &Universe, slots: &Slots, members: &[u32]) -> Option<Trap>
     requires { AreSlots universe.now slots.now }
     ensures { result ≡ first_trap (traps.remove_traps universe.now slots.now members.now) }
 {

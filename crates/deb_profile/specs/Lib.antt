@@ -1,3 +1,4 @@
+pub mod Laws
 pub mod Restriction
 pub mod Reduction
 pub mod WordList

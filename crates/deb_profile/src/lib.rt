@@ -2,6 +2,7 @@
 //! (Debian Policy 7.1, BuildProfileSpec).
 #![tactic(auto)]
 
+pub mod laws;
 mod reduction;
 mod restriction;
 mod word_list;

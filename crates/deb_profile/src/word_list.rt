@@ -2,14 +2,12 @@
 
 ghost use Rattle.std.specs.Prelude.{◌≡◌, []};
 ghost use Rattle.deb_text.specs.Answers.{Gives};
-ghost use Rattle.deb_text.specs.Steps.{traverse};
-ghost use Rattle.deb_text.specs.Words.{words};
 ghost use Rattle.deb_relation.specs.View.{refusal_of};
 ghost use Rattle.deb_profile.specs.Restriction.{is_among};
 ghost use Rattle.deb_profile.specs.WordList.{word_at, words_at};
 
-use deb_relation::{BAD_WORD, RelationError, Word};
-use deb_text::{is_word, next_word};
+use deb_relation::{BAD_WORD, RelationError, Word, WordRule, read_words};
+use deb_text::is_word;
 use std::alloc::Global;
 use std::marker::Model;
 
@@ -39,7 +37,7 @@ impl ArchNames {
         ensures { Gives refusal_of (λ names. names) result (words_at text.now) }
     {
         Ok(ArchNames {
-            list: read_words(alloc, text)?,
+            list: read_words(alloc, &AnyWord, text)?,
         })
     }
 
@@ -83,7 +81,7 @@ impl ProfileSet {
         ensures { Gives refusal_of (λ profiles. profiles) result (words_at text.now) }
     {
         Ok(ProfileSet {
-            list: read_words(alloc, text)?,
+            list: read_words(alloc, &AnyWord, text)?,
         })
     }
 
@@ -104,25 +102,21 @@ impl ProfileSet {
     }
 }
 
-fn read_words(alloc: Global, text: &[u8]) -> Result<Vec<Word>, RelationError>
-    ensures { Gives refusal_of (λ list. list.items) result (words_at text.now) }
-{
-    let mut list = Vec::new(alloc);
-    let mut rest = text;
-    while let Some((run, after)) = next_word(rest) {
-        list.push(read_word(alloc, run)?)?;
-        rest = after;
-    }
-    Ok(list)
-}
+/// The words of a list, each as it stands.
+#[derive(Drop)]
+struct AnyWord;
 
-fn read_word(alloc: Global, run: &[u8]) -> Result<Word, RelationError>
-    ensures { Gives refusal_of (λ word. word) result (word_at run.now) }
-{
-    if !is_word(run) {
-        return Err(RelationError { code: BAD_WORD });
+impl WordRule for AnyWord {
+    type Read = Word;
+
+    ghost meaning = { λ _. word_at };
+
+    fn read(&self, alloc: Global, word: &[u8]) -> Result<Word, RelationError> {
+        if !is_word(word) {
+            return Err(RelationError { code: BAD_WORD });
+        }
+        Ok(Word::from_slice(alloc, word)?)
     }
-    Ok(Word::from_slice(alloc, run)?)
 }
 
 fn is_among(list: &[Word], word: &[u8]) -> bool

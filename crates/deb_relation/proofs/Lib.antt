@@ -1,2 +1,5 @@
-pub mod ListLaws
+pub mod EntryLaws
 pub mod FieldLaws
+pub mod ListLaws
+pub mod ReadLaws
+pub mod SpellingLaws

@@ -4,5 +4,7 @@ pub mod Kinds
 pub mod Grammar
 pub mod Restrictions
 pub mod Field
+pub mod Laws
 pub mod Satisfaction
+pub mod Spelling
 pub mod View

@@ -7,11 +7,13 @@ mod error;
 mod field;
 mod grammar;
 mod kind;
+pub mod laws;
 mod lists;
 mod operator;
 mod relations;
 mod restriction;
 mod satisfaction;
+mod words;
 
 pub use atom::Atom;
 pub use error::{
@@ -23,3 +25,4 @@ pub use operator::Op;
 pub use relations::{Entry, Relations};
 pub use restriction::{ArchList, Item, ProfileList, Word};
 pub use satisfaction::{Facts, in_relation, satisfies};
+pub use words::{WordRule, read_words};

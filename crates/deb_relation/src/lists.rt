@@ -4,7 +4,6 @@ ghost use Rattle.std.specs.Prelude.{◌≡◌, []};
 ghost use Rattle.deb_text.specs.Answers.{Gives};
 ghost use Rattle.deb_text.specs.Bytes.{is_blank};
 ghost use Rattle.deb_text.specs.Cuts.{behind};
-ghost use Rattle.deb_text.specs.Steps.{traverse};
 ghost use Rattle.deb_text.specs.Words.{words};
 ghost use Rattle.deb_relation.specs.Restrictions.{item_at, arch_at, arch_list_of, archs_in, archs_at, items_in, list_in, end_in, lists_at, profiles_at};
 ghost use Rattle.deb_relation.specs.View.{refusal_of};
@@ -14,33 +13,32 @@ use crate::error::{
 };
 use crate::kind::Kind;
 use crate::restriction::{ArchList, Item, ProfileList, Word};
+use crate::words::{WordRule, read_words};
 use deb_text::{Class, cut_at_first, is_word, next_word, skip_front};
 use std::alloc::Global;
 
-#[tactic(auto, unfolding(crate::specs::Restrictions::arch_at))]
-fn read_arch(alloc: Global, negated: bool, text: &[u8]) -> Result<Word, RelationError>
-    ensures { Gives refusal_of (λ word. word) result (arch_at negated text.now) }
-{
-    match text {
-        [b'!', name @ ..] if negated && is_word(name) => Ok(Word::from_slice(alloc, name)?),
-        _ if !negated && is_word(text) => Ok(Word::from_slice(alloc, text)?),
-        _ => Err(RelationError {
-            code: BAD_ARCHITECTURES,
-        }),
-    }
+/// The names of architectures, each with `!` before it or none.
+#[derive(Drop)]
+struct ArchRule {
+    negated: bool,
 }
 
-fn read_names(alloc: Global, negated: bool, text: &[u8]) -> Result<Vec<Word>, RelationError>
-    ensures { Gives refusal_of (λ names. names.items) result
-        (traverse (arch_at negated) (words text.now)) }
-{
-    let mut names = Vec::new(alloc);
-    let mut rest = text;
-    while let Some((name, after)) = next_word(rest) {
-        names.push(read_arch(alloc, negated, name)?)?;
-        rest = after;
+impl WordRule for ArchRule {
+    type Read = Word;
+
+    ghost meaning = { λ rule. arch_at rule.negated };
+
+    #[tactic(auto, unfolding(crate::specs::Restrictions::arch_at))]
+    fn read(&self, alloc: Global, word: &[u8]) -> Result<Word, RelationError> {
+        let negated = self.negated;
+        match word {
+            [b'!', name @ ..] if negated && is_word(name) => Ok(Word::from_slice(alloc, name)?),
+            _ if !negated && is_word(word) => Ok(Word::from_slice(alloc, word)?),
+            _ => Err(RelationError {
+                code: BAD_ARCHITECTURES,
+            }),
+        }
     }
-    Ok(names)
 }
 
 fn read_arch_list(alloc: Global, text: &[u8]) -> Result<ArchList, RelationError>
@@ -54,7 +52,7 @@ fn read_arch_list(alloc: Global, text: &[u8]) -> Result<ArchList, RelationError>
     let negated = matches!(first, [b'!', ..]);
     Ok(ArchList {
         negated,
-        names: read_names(alloc, negated, text)?,
+        names: read_words(alloc, &ArchRule { negated }, text)?,
     })
 }
 
@@ -86,33 +84,29 @@ pub fn read_archs(
     }
 }
 
-#[tactic(auto, unfolding(crate::specs::Restrictions::item_at))]
-fn read_item(alloc: Global, text: &[u8]) -> Result<Item, RelationError>
-    ensures { Gives refusal_of (λ item. item) result (item_at text.now) }
-{
-    let (negated, word) = match text {
-        [b'!', word @ ..] => (true, word),
-        _ => (false, text),
-    };
-    if !is_word(word) {
-        return Err(RelationError { code: BAD_PROFILES });
-    }
-    Ok(Item {
-        word: Word::from_slice(alloc, word)?,
-        negated,
-    })
-}
+/// The profiles of a list, each perhaps with `!` before it.
+#[derive(Drop)]
+struct ItemRule;
 
-fn read_all_items(alloc: Global, text: &[u8]) -> Result<Vec<Item>, RelationError>
-    ensures { Gives refusal_of (λ items. items.items) result (traverse item_at (words text.now)) }
-{
-    let mut items = Vec::new(alloc);
-    let mut rest = text;
-    while let Some((word, after)) = next_word(rest) {
-        items.push(read_item(alloc, word)?)?;
-        rest = after;
+impl WordRule for ItemRule {
+    type Read = Item;
+
+    ghost meaning = { λ _. item_at };
+
+    #[tactic(auto, unfolding(crate::specs::Restrictions::item_at))]
+    fn read(&self, alloc: Global, word: &[u8]) -> Result<Item, RelationError> {
+        let (negated, word) = match word {
+            [b'!', word @ ..] => (true, word),
+            _ => (false, word),
+        };
+        if !is_word(word) {
+            return Err(RelationError { code: BAD_PROFILES });
+        }
+        Ok(Item {
+            word: Word::from_slice(alloc, word)?,
+            negated,
+        })
     }
-    Ok(items)
 }
 
 #[tactic(auto, unfolding(crate::specs::Restrictions::items_in))]
@@ -122,7 +116,7 @@ fn read_items(alloc: Global, text: &[u8]) -> Result<Vec<Item>, RelationError>
     if next_word(text).is_none() {
         return Err(RelationError { code: BAD_PROFILES });
     }
-    read_all_items(alloc, text)
+    read_words(alloc, &ItemRule, text)
 }
 
 fn read_list(alloc: Global, text: &[u8]) -> Result<ProfileList, RelationError>

@@ -1,5 +1,5 @@
 -- What was written is read again: lines, words and numbers.
-use Rattle.std.proofs.Common.{rules, arith, ◌≡◌, ℕ, ◌<◌, ◌≤◌, ◌^◌, Bool, true, false, not, ◌&&◌, ◌||◌, length, List, [], ◌∷◌, ◌++◌, refl, sym, ap, ◌∙◌, append_assoc, filter}
+use Rattle.std.proofs.Common.{rules, arith, ◌≡◌, ℕ, ◌+◌, ◌<◌, ◌≤◌, ◌^◌, Bool, true, false, not, ◌&&◌, ◌||◌, length, List, [], ◌∷◌, ◌++◌, refl, sym, ap, ◌∙◌, append_assoc, filter}
 use Rattle.std.specs.Prelude.{nat_le, ◌==◌}
 use Rattle.std.specs.List.{list_all, slice_split}
 use Rattle.std.specs.Str.{all_ascii_digits}
@@ -11,10 +11,10 @@ use Rattle.std.proofs.lemmas.Bool.{ne_eqb, leb-true, and_from, le-leb, and_parts
 use Rattle.std.proofs.lemmas.List.Folds.{list_all-append}
 use Rattle.deb_text.specs.Bytes.{is_newline, is_blank, is_solid, is_digit}
 use Rattle.deb_text.specs.Cuts.{is_nil}
-use Rattle.deb_text.specs.Lines.{lines_of}
+use Rattle.deb_text.specs.Lines.{lines_of, is_skipped, plain_lines}
 use Rattle.deb_text.specs.Numbers.{is_number, number}
 use Rattle.deb_text.specs.Words.{words, is_run, spaced, text_of}
-use Rattle.deb_text.proofs.LineLaws.{lines_of-nil}
+use Rattle.deb_text.proofs.LineLaws.{lines_of-nil, lines_kept-keeps}
 use Rattle.deb_text.proofs.NumberLaws.{list_all-digits, number-digits_value}
 
 -- a byte that ends no line
@@ -51,6 +51,14 @@ text-again (l ∷ ls) are =
     ap lines_of (append_assoc l (10 ∷ []) (text_of ls)) ∙ line-again l (text_of ls) p.0
     ∙ ap (λ rest. l ∷ rest) (text-again ls p.1)
 
+-- a line that is kept, with its number
+pub plain-again : (n : ℕ) (line rest : List ℕ) → list_all is_inner line ≡ true
+    → is_skipped line ≡ false
+    → plain_lines n (line ++ 10 ∷ rest) ≡ (n, line) ∷ plain_lines (n + 1) rest
+plain-again n line rest inner kept =
+    lines_kept-keeps (λ line. not (is_skipped line)) n (line ++ 10 ∷ rest) line rest
+    (line-again line rest inner) (rw kept refl)
+
 -- ---- words
 
 filter-again : (ws : List (List ℕ)) → list_all is_run ws ≡ true
@@ -78,7 +86,15 @@ words-again w ws run are =
     let p = run-parts w run in
     rw (parts-again w ws p.1 are, p.0) (ap (λ rest. w ∷ rest) (filter-again ws are))
 
--- the same, indented by two
+-- the same, with a space before the first
+pub spaced-again : (ws : List (List ℕ)) → list_all is_run ws ≡ true → words (spaced ws) ≡ ws
+unfolding words
+spaced-again [] are = refl
+spaced-again (w ∷ ws) are =
+    let p = all-parts is_run w ws are in
+    rw (parts-again w ws (run-parts w p.0).1 p.1) (filter-again (w ∷ ws) are)
+
+-- and indented by two
 pub indented-again : (ws : List (List ℕ)) → list_all is_run ws ≡ true → words (32 ∷ spaced ws) ≡ ws
 unfolding words
 indented-again ws are = rw (parts-again [] ws refl are) (filter-again ws are)

@@ -1,10 +1,10 @@
 -- The longest front of a list by its length, and a list less its end.
 use Rattle.std.proofs.Common.{◌≡◌, ◌+◌, ◌-◌, ◌≤◌, Bool, true, false, ◌&&◌, List, [], ◌∷◌, ◌++◌, length, get_or, take, drop, refl, sym, ap, ◌∙◌, one-add, arith, inl, inr}
-use Rattle.std.proofs.lemmas.Bool.{cases_Bool, and_right, or_parts}
+use Rattle.std.proofs.lemmas.Bool.{cases_Bool, and_right, and_parts, or_parts}
 use Rattle.std.proofs.lemmas.List.{take_all, take_more}
 use Rattle.std.proofs.lemmas.List.Folds.{list_all-append}
 use Rattle.std.specs.List.{prefix_len, list_all, list_any}
-use Rattle.deb_text.specs.Cuts.{before, after, front, behind, without_end}
+use Rattle.deb_text.specs.Cuts.{first_is, before, after, front, behind, without_end}
 
 and_true : (b : Bool) → (b && true) ≡ b
 and_true true = refl
@@ -86,3 +86,30 @@ module _ {X : Type 0} (p : X → Bool) where
   after-none [] none = refl
   after-none (x ∷ xs) none =
       let parts = or_parts (p x) (list_any p xs) none in rw parts.0 (after-none xs parts.1)
+
+  -- all of a front pass
+  pub front-passes : (xs : List X) → list_all p (front p xs) ≡ true
+  front-passes [] = refl
+  front-passes (x ∷ xs) =
+      elim (cases_Bool (p x)) [
+        | inl is ↦ rw (is, is) (front-passes xs)
+        | inr is ↦ rw is refl
+      ]
+
+  -- a front that was written before something that does not pass is found again
+  pub front-again : (xs rest : List X) → list_all p xs ≡ true → first_is p rest ≡ false
+      → front p (xs ++ rest) ≡ xs
+  front-again [] [] are stops = refl
+  front-again [] (y ∷ ys) are stops = rw stops refl
+  front-again (x ∷ xs) rest are stops =
+      let both = and_parts (p x) (list_all p xs) are in
+      rw both.0 (ap (λ ys. x ∷ ys) (front-again xs rest both.1 stops))
+
+  -- and so is what stands behind it
+  pub behind-again : (xs rest : List X) → list_all p xs ≡ true → first_is p rest ≡ false
+      → behind p (xs ++ rest) ≡ rest
+  behind-again [] [] are stops = refl
+  behind-again [] (y ∷ ys) are stops = rw stops refl
+  behind-again (x ∷ xs) rest are stops =
+      let both = and_parts (p x) (list_all p xs) are in
+      rw both.0 (behind-again xs rest both.1 stops)

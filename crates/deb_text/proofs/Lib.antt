@@ -1,4 +1,5 @@
 pub mod AgainLaws
+pub mod CarriedLaws
 pub mod CutLaws
 pub mod FindLaws
 pub mod GroupLaws
@@ -8,4 +9,5 @@ pub mod NumberLaws
 pub mod PartLaws
 pub mod PlaceLaws
 pub mod StepLaws
+pub mod TestLaws
 pub mod WordLaws

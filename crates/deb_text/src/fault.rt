@@ -1,7 +1,7 @@
 //! Where a text is refused, and why.
 
 ghost use Rattle.std.specs.Prelude.{◌≡◌, ◌==◌, if◌then◌else◌};
-ghost use Rattle.deb_text.specs.Answers.{fault_at};
+ghost use Rattle.deb_text.specs.Answers.{fault_at, is_memory};
 
 use std::alloc::{AllocError, AllocFailed};
 use thiserror::Error;
@@ -11,8 +11,8 @@ pub const MEMORY: u16 = 900;
 
 /// Where a text is refused, and why.
 ///
-/// The file is 1 for packages, 2 for sources, 3 for the farm and 4 for the plan, and 0 where no
-/// file is known. Lines count from 1, and line 0 is the whole text.
+/// The file is one of [`files`](crate::files), and 0 where none is known. Lines count from 1, and
+/// line 0 is the whole text.
 #[derive(Clone, Copy, Debug, PartialEq, Eq, Error)]
 #[error("code {code} at line {line} of file {file}")]
 pub struct Fault {
@@ -37,6 +37,17 @@ impl Fault {
             Fault::MEMORY
         } else {
             Fault { file, line, code }
+        }
+    }
+
+    /// Tells the same fault of this file, and that memory ran out of none.
+    pub fn in_file(self, file: u8) -> Fault
+        ensures { result ≡ (if is_memory self then self else fault_at file self.line self.code) }
+    {
+        if self == Fault::MEMORY {
+            self
+        } else {
+            Fault { file, ..self }
         }
     }
 }

@@ -4,6 +4,7 @@
 mod classes;
 mod cuts;
 mod fault;
+pub mod files;
 mod lines;
 mod numbers;
 mod words;

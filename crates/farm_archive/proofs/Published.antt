@@ -1,7 +1,8 @@
 -- The archive after one more publication.
-use Rattle.std.proofs.Common.{◌≡◌, ℕ, suc, ◌+◌, ◌<◌, Bool, true, false, refl, sym, ap, ◌∙◌, List, [], ◌∷◌, ◌++◌, length, length-set, zero-add, add-zero, take, get_or, arith, ◌≤◌, take_all}
+use Rattle.std.proofs.Common.{◌≡◌, ℕ, suc, ◌+◌, ◌<◌, refl, sym, ap, ◌∙◌, List, [], ◌∷◌, ◌++◌, length, length-set, zero-add, add-zero, take, get_or, arith, ◌≤◌, take_all}
 use Rattle.std.specs.Prelude.{◌||◌}
 use Rattle.std.specs.List.{list_any}
+use Rattle.std.proofs.Math.Bool.{or_assoc, or-false}
 use Rattle.std.proofs.lemmas.List.{take_more}
 use Rattle.std.proofs.lemmas.List.Folds.{list_any-append}
 use Rattle.farm_model.specs.declared.types.Variant.{Variant}
@@ -10,13 +11,9 @@ use Rattle.farm_model.specs.Packages.{names, same, initial, has_bit}
 use Rattle.farm_universe.specs.Kept.{IsKept}
 use Rattle.plan_model.specs.Run as run
 use Rattle.plan_model.specs.Run.{publication, archive}
-use Rattle.plan_model.proofs.WordLaws.{has_bit-with_bit, or-false}
+use Rattle.plan_model.proofs.WordLaws.{has_bit-with_bit}
 use Rattle.farm_archive.specs.declared.publication.Publication.{Publication}
 use Rattle.farm_archive.specs.Kept.{Kept, with_publication, numbered, IsArchive}
-
-or_assoc : (a b c : Bool) → (a || (b || c)) ≡ ((a || b) || c)
-or_assoc true b c = refl
-or_assoc false b c = refl
 
 abbrev serialed : ℕ → ℕ → Variant → Publication
 serialed k l v = record { serial = k; lane = l; variant = v }
@@ -44,7 +41,8 @@ module _ (l : ℕ) (v : Variant) where
       (list_any-append (λ (q : run.Publication). same q.variant w) ps (publication l v ∷ [])
       ∙ ap (λ b. list_any (λ (q : run.Publication). same q.variant w) ps || b)
       (or-false (same v w)))
-      ∙ or_assoc (initial u w) (list_any (λ (q : run.Publication). same q.variant w) ps) (same v w)
+      ∙ sym (or_assoc (initial u w) (list_any (λ (q : run.Publication). same q.variant w) ps)
+      (same v w))
 
   -- the archive of one publication more
   pub archive-published : (u : Universe) (ps : List run.Publication) (a : Kept)

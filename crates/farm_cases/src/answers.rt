@@ -1,20 +1,20 @@
 //! The answers to the questions of cases.
 
-use crate::cases::Case;
 use crate::plans::push_plan;
 use crate::relations::{Test, push_all_passing};
 use crate::universes::push_universe;
+use case_files::Case;
 use deb_relation::{Kind, Relations};
 use deb_text::{Fault, cut_at_first};
 use farm_input::{Texts, texts_of};
 use farm_report::verdict_text;
 use farm_universe::{Trap, Universe};
-use plan_asm::assemble;
+use plan_asm::{assemble, listing};
 use plan_verifier::{Accepted, Refusal, check};
 use std::alloc::{AllocError, Global};
 use std::thread::Threads;
 
-fn verdict_on(rt: &impl Threads, alloc: Global, texts: Texts) -> Result<Accepted, Refusal> {
+fn verdict_on(rt: &(impl Threads + Sync), alloc: Global, texts: Texts) -> Result<Accepted, Refusal> {
     check(
         rt,
         alloc,
@@ -25,12 +25,12 @@ fn verdict_on(rt: &impl Threads, alloc: Global, texts: Texts) -> Result<Accepted
     )
 }
 
-fn verdict(rt: &impl Threads, alloc: Global, texts: Texts) -> Result<Vec<u8>, AllocError> {
+fn verdict(rt: &(impl Threads + Sync), alloc: Global, texts: Texts) -> Result<Vec<u8>, AllocError> {
     verdict_text(alloc, &verdict_on(rt, alloc, texts))
 }
 
 /// The message of the verdict's refusal, or nothing.
-fn message(rt: &impl Threads, alloc: Global, texts: Texts) -> Result<Vec<u8>, AllocError> {
+fn message(rt: &(impl Threads + Sync), alloc: Global, texts: Texts) -> Result<Vec<u8>, AllocError> {
     match verdict_on(rt, alloc, texts) {
         Ok(_) => Ok(Vec::new(alloc)),
         Err(refusal) => Ok(format!(in alloc; "{refusal}\n")?.into_bytes()),
@@ -38,7 +38,7 @@ fn message(rt: &impl Threads, alloc: Global, texts: Texts) -> Result<Vec<u8>, Al
 }
 
 /// The universe and the plan that an accepted plan keeps, or nothing.
-fn accepted(rt: &impl Threads, alloc: Global, texts: Texts) -> Result<Vec<u8>, AllocError> {
+fn accepted(rt: &(impl Threads + Sync), alloc: Global, texts: Texts) -> Result<Vec<u8>, AllocError> {
     let mut text = String::new(alloc);
     if let Ok(accepted) = verdict_on(rt, alloc, texts) {
         push_universe(&mut text, accepted.universe())?;
@@ -69,6 +69,14 @@ fn plan(alloc: Global, universe: &Universe, plan: &[u8]) -> Result<Vec<u8>, Allo
             push_plan(&mut text, universe, &plan)?;
             Ok(text.into_bytes())
         }
+        Err(fault) => fault_text(alloc, fault),
+    }
+}
+
+/// The plan's listing, or its first fault.
+fn listed(alloc: Global, universe: &Universe, plan: &[u8]) -> Result<Vec<u8>, AllocError> {
+    match assemble(alloc, universe, plan) {
+        Ok(plan) => listing(alloc, universe, &plan),
         Err(fault) => fault_text(alloc, fault),
     }
 }
@@ -150,6 +158,7 @@ fn answer_on_universe(
     match word {
         b"universe" => universe(alloc, &read),
         b"plan" => plan(alloc, &read, texts.plan),
+        b"listing" => listed(alloc, &read, texts.plan),
         b"find" => find(alloc, &read, rest),
         b"satisfies" => passing(alloc, &read, rest, Test::Satisfies),
         b"wanted" => passing(alloc, &read, rest, Test::IsWanted),
@@ -162,7 +171,11 @@ fn answer_on_universe(
 /// # Errors
 ///
 /// [`AllocError`] where memory is refused.
-pub fn answer_to(rt: &impl Threads, alloc: Global, case: &Case) -> Result<Vec<u8>, AllocError> {
+pub fn answer_to(
+    rt: &(impl Threads + Sync),
+    alloc: Global,
+    case: &Case,
+) -> Result<Vec<u8>, AllocError> {
     let texts = texts_of(&case.input);
     let (word, rest) = cut_at_first(b' ', case.question).unwrap_or((case.question, b""));
     match word {

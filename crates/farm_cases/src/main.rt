@@ -4,46 +4,38 @@
 #![tactic(auto)]
 
 mod answers;
-mod cases;
-mod lines;
 mod plans;
 mod relations;
 mod universes;
 
 use crate::answers::answer_to;
-use crate::cases::{Case, Cases};
-use crate::lines::LineFault;
+use case_files::{Case, Cases, LineFault, print_judged};
 use deb_text::next_line;
 use std::rt::Files;
 use std::thread::Threads;
 use std::{env, fs, io};
 
-/// Prints whether the answer to a case is the wanted one.
-fn judge(rt: &(impl Print + AllocGlobal + Threads), file: &str, case: &Case) -> io::Result<()> {
-    let found = answer_to(rt, rt.alloc(), case)?;
-    let name = case.name.escape_ascii();
-    if found == case.want {
-        return println!(rt; "{file} {name}: ok");
-    }
-    let (want, found) = (case.want.escape_ascii(), found.escape_ascii());
-    println!(rt; "{file} {name}: wanted {want}, got {found}")
-}
-
 /// Judges the case that ends before a line, if one does, or prints the line's fault.
 fn judge_taken(
-    rt: &(impl Print + AllocGlobal + Threads),
+    rt: &(impl Print + AllocGlobal + Threads + Sync),
     file: &str,
     taken: Result<Option<Case>, LineFault>,
 ) -> io::Result<()> {
     match taken {
-        Ok(Some(case)) => judge(rt, file, &case),
+        Ok(Some(case)) => {
+            let found = answer_to(rt, rt.alloc(), &case)?;
+            print_judged(rt, file, &case, &found)
+        }
         Ok(None) => Ok(()),
         Err(fault) => println!(rt; "{file}: {fault}"),
     }
 }
 
-/// Judges the cases of a file.
-fn run_file(rt: &(impl Files + Print + AllocGlobal + Threads), file: &str) -> io::Result<()> {
+/// Judges the cases of a file. The library's own run hands on no threads.
+fn run_file(
+    rt: &(impl Files + Print + AllocGlobal + Threads + Sync),
+    file: &str,
+) -> io::Result<()> {
     let text = fs::read(rt, file)?;
     let mut cases = Cases::new(rt.alloc());
     let mut rest = text.as_slice();

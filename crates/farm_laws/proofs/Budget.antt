@@ -1,11 +1,9 @@
 -- What a lane spends is within its cost, and its cost within its budget; no schedule meets a trap.
-use Rattle.std.proofs.Common.{◌≡◌, ℕ, zero, suc, ◌<◌, ◌≤◌, Bool, inl, inr, List, [], ◌∷◌, length, Option, Some, None, refl, sym, ap, ◌∙◌, arith}
-use Rattle.std.specs.Prelude.{nat_lt}
-use Rattle.std.proofs.lemmas.Option.{none-some, slice_get_past}
-use Rattle.std.proofs.lemmas.Bool.{cond-true, cases_lt, ltb-false, false_from_ne_true}
+use Rattle.std.proofs.Common.{◌≡◌, ℕ, zero, suc, ◌<◌, ◌≤◌, Bool, inl, inr, List, [], ◌∷◌, length, Option, Some, None, refl, ap, arith}
+use Rattle.std.proofs.lemmas.Option.{slice_get_past}
+use Rattle.std.proofs.lemmas.Bool.{cases_lt}
 use Rattle.deb_relation.specs.declared.operator.Op.{Op}
 use Rattle.farm_model.specs.declared.types.Variant.{Variant}
-use Rattle.farm_model.specs.declared.types.Trap.{Trap}
 use Rattle.farm_model.specs.Universe.{Universe}
 use Rattle.farm_model.proofs.TrapLaws.{within-limit}
 use Rattle.plan_model.specs.declared.instructions.Instruction.{Instruction}

@@ -209,7 +209,7 @@ module _ (u : Universe) (p : Plan) (sound : IsSound u p) where
     each = λ k h. rw (state_at_start k h) (fresh_place k 0 h);
   }
 
-  left_at_start : left_in u p (start u p) ≡ count u p
+  pub left_at_start : left_in u p (start u p) ≡ count u p
   unfolding left_in left count
   left_at_start =
       sum_below-same (length p) _ _ (λ k h. rw (state_at_start k h) (omega arith))

@@ -1,5 +1,6 @@
 -- The archive has what a lane knows.
 use Rattle.std.proofs.Common.{◌≡◌, ℕ, suc, ◌<◌, Bool, true, false, ◌&&◌, ◌||◌, inl, inr, [], ◌∷◌, ◌++◌, length, take, Some, slice_get, refl, sym, ap, ◌∙◌, take_all}
+use Rattle.std.proofs.Math.Bool.{or-false}
 use Rattle.std.proofs.lemmas.Bool.{both_ways, false≢true, or_cases, or_left, or_right, and_parts}
 use Rattle.farm_model.specs.declared.types.Variant.{Variant}
 use Rattle.farm_model.specs.Below.{some_below}
@@ -16,7 +17,7 @@ use Rattle.plan_model.specs.Sound.{IsSound}
 use Rattle.farm_laws.proofs.Steps.{put, put_output, turn_at, After, step_keeps}
 use Rattle.farm_laws.proofs.Places.{IsQuiet, GoesOn, GivesOne, PlaceMove, turn_place}
 use Rattle.farm_laws.proofs.EventsLeft.{InPlaces, put_each, step_places, places_at_start, state_at_start}
-use Rattle.farm_laws.proofs.Archive.{or-false, same-true, archive-push, made_before, made_by, made_by-zero, made_goes, made_gives, contains-more, publishing-quiet}
+use Rattle.farm_laws.proofs.Archive.{same-true, archive-push, made_before, made_by, made_by-zero, made_goes, made_gives, contains-more, publishing-quiet}
 use Rattle.farm_laws.proofs.Possible.{ArchiveIs, archive_goes, archive_gives, nothing_else, initial_there}
 
 some_variant-found : (u : Universe) (p : Variant → Bool) → some_variant u p ≡ true

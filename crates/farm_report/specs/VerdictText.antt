@@ -5,6 +5,7 @@
 use Rattle.std.specs.Prelude.{ℕ, zero, suc, ◌==◌, if◌then◌else◌, List, [], ◌∷◌, ◌++◌, length, codes, Result, Ok, Err}
 use Rattle.std.specs.List.{concat}
 use Rattle.deb_text.specs.Lists.{lists}
+use Rattle.deb_text.specs.declared.files.TheConstants.{PACKAGES, SOURCES, FARM, PLAN}
 use Rattle.farm_model.specs.TrapText.{trap_text}
 use Rattle.plan_model.specs.MayAt.{lane_cost}
 use Rattle.plan_model.specs.Plan.{lane, count}
@@ -13,11 +14,11 @@ use Rattle.plan_verifier.specs.declared.refusal.Refusal.{Refusal}
 use Rattle.plan_verifier.specs.declared.refusal.Refusal.TheVariants.{Text, Unsafe, Stuck, Memory}
 use Rattle.farm_report.specs.AnswerLines.{counted_line, lane_line, fault_line, unsafe_line, stuck_line}
 
--- the texts are the files 1 to 4
+-- the names of the texts; no text has another number
 abbrev pub file_name : ℕ → List ℕ
 file_name file =
-    if file == 1 then codes "packages" else if file == 2 then codes "sources"
-    else if file == 3 then codes "farm" else codes "plan"
+    if file == PACKAGES then codes "packages" else if file == SOURCES then codes "sources"
+    else if file == FARM then codes "farm" else if file == PLAN then codes "plan" else []
 
 -- the lines of the first n lanes, each with its cost and its budget
 abbrev pub lane_lines : AcceptedPlan → ℕ → List ℕ

@@ -6,18 +6,20 @@ ghost use Rattle.farm_report.specs.VerdictText as spec;
 
 use crate::lines::{push_counted, push_fault, push_lane, push_stuck, push_unsafe};
 use deb_text::Fault;
+use deb_text::files::{FARM, PACKAGES, PLAN, SOURCES};
 use plan_verifier::{Accepted, Refusal};
 use std::alloc::{AllocError, Global};
 
-/// The name of a text, as faults tell it.
+/// The name of a text, as faults tell it; no name for another number.
 fn file_name(file: u8) -> &'static str
     ensures { result.now ≡ spec.file_name file }
 {
     match file {
-        1 => "packages",
-        2 => "sources",
-        3 => "farm",
-        _ => "plan",
+        PACKAGES => "packages",
+        SOURCES => "sources",
+        FARM => "farm",
+        PLAN => "plan",
+        _ => "",
     }
 }
 

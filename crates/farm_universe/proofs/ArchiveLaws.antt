@@ -2,6 +2,7 @@
 use Rattle.std.proofs.Common.{◌≡◌, ℕ, zero, suc, ◌+◌, ◌<◌, Bool, true, false, ◌&&◌, ◌||◌, ◌^◌, cond, List, [], ◌∷◌, ◌++◌, map, fold, filter, set, get_or, length, length-set, refl, sym, ap, ◌∙◌, if◌then◌else◌, eqb, arith, replicate}
 use Rattle.std.specs.List.{range_with_len, list_any}
 use Rattle.std.specs.Int.{bit_at}
+use Rattle.std.proofs.Math.Bool.{or_assoc, or-false, or-true}
 use Rattle.std.proofs.lemmas.Bool.{eqb-true, eqb-false}
 use Rattle.std.proofs.lemmas.List.{append-nil, get_or-set_other}
 use Rattle.std.proofs.lemmas.Grind.{get_or-set_at}
@@ -63,18 +64,6 @@ words_of-push n vs v lt =
           ∙ sym (word_of-push vs v k
           ∙ ap (λ b. if b then with_bit (word_of vs k) v.bit else word_of vs k) e)
 
-or_true : (a : Bool) → (a || true) ≡ true
-or_true true = refl
-or_true false = refl
-
-pub or_false : (a : Bool) → (a || false) ≡ a
-or_false true = refl
-or_false false = refl
-
-pub or_assoc : (a b c : Bool) → ((a || b) || c) ≡ (a || (b || c))
-or_assoc true b c = refl
-or_assoc false b c = refl
-
 -- setting bit c changes bit b where they are one
 pub bit-with_bit : (w c b : ℕ) → eqb (bit_at (with_bit w c) b) 1 ≡ (eqb (bit_at w b) 1 || eqb c b)
 bit-with_bit w c b = by (eqb c b) refl where
@@ -84,16 +73,16 @@ bit-with_bit w c b = by (eqb c b) refl where
       ap (bit_at (2 ^ c)) (sym (eqb-true c b e)) ∙ bit_at-pow_same c in
       let is : bit_at (with_bit w c) b ≡ 1 =
       omega (arith, bit_at_or w (2 ^ c) b, one, bit_at-lt w b) in
-      ap (λ n. eqb n 1) is ∙ sym (or_true (eqb (bit_at w b) 1))
+      ap (λ n. eqb n 1) is ∙ sym (or-true (eqb (bit_at w b) 1))
   by false e =
       let none : bit_at (2 ^ c) b ≡ 0 = bit_at-pow_other c b (λ q. eqb-false c b e (sym q)) in
       let is : bit_at (with_bit w c) b ≡ bit_at w b = omega (arith, bit_at_or w (2 ^ c) b, none) in
-      ap (λ n. eqb n 1) is ∙ sym (or_false (eqb (bit_at w b) 1))
+      ap (λ n. eqb n 1) is ∙ sym (or-false (eqb (bit_at w b) 1))
 
 bits-from : (vs : List Variant) (i b w : ℕ)
     → eqb (bit_at (fold (λ word v. with_bit word v.bit) w (filter (λ v. eqb v.name i) vs)) b) 1
     ≡ (eqb (bit_at w b) 1 || list_any (λ v. eqb v.name i && eqb v.bit b) vs)
-bits-from [] i b w = sym (or_false (eqb (bit_at w b) 1))
+bits-from [] i b w = sym (or-false (eqb (bit_at w b) 1))
 bits-from (v ∷ vs) i b w = by (eqb v.name i) (λ w. bits-from vs i b w) where
   by : (t : Bool)
       → ((w : ℕ)

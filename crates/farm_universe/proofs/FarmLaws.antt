@@ -1,10 +1,10 @@
 -- A farm text whose later paragraphs are refused.
 use Rattle.std.proofs.Common.{◌≡◌, ◌<◌, List, [], ◌∷◌, length, drop, Option, Some, None, Result, Ok, Err, arith, MatchOption, subst, refl}
 use Rattle.deb_text.specs.declared.fault.Fault.{Fault}
+use Rattle.deb_text.specs.declared.files.TheConstants.{FARM}
 use Rattle.deb_text.specs.Answers.{Fails}
 use Rattle.deb_text.specs.Steps.{◌>>=◌}
 use Rattle.deb_stanza.specs.Stanza.{Paragraph, paragraph_at}
-use Rattle.farm_universe.specs.declared.files.TheConstants.{FARM}
 use Rattle.farm_universe.specs.FarmText.{Head, head_at, land_of, yard_of, universe_with, farm_of}
 use Rattle.farm_universe.specs.Land.{Land}
 use Rattle.farm_universe.specs.PackagesText.{PackageTable}

@@ -23,7 +23,7 @@ use Rattle.farm_model.specs.Universe.{Package}
 
 -- ---- the packages of a name rise
 
-lt-less : (o : Ordering) → is_lt o ≡ true → o ≡ Less
+pub lt-less : (o : Ordering) → is_lt o ≡ true → o ≡ Less
 lt-less Less e = refl
 lt-less Equal e = absurd cc
 lt-less Greater e = absurd cc

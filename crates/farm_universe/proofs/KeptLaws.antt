@@ -1,10 +1,8 @@
 -- What the three texts make keeps what every universe keeps.
 use Rattle.std.proofs.Common.{◌≡◌, ℕ, zero, suc, ◌<◌, ◌≤◌, Bool, true, false, List, [], ◌∷◌, map, length, get_or, refl, sym, ap, subst, ◌∙◌, arith, All, nat_lt, Some}
 use Rattle.std.specs.Prelude.{slice_get}
-use Rattle.std.specs.declared.cmp.Ordering.{Ordering}
-use Rattle.std.specs.declared.cmp.Ordering.TheVariants.{Less, Equal, Greater}
+use Rattle.std.specs.declared.cmp.Ordering.TheVariants.{Less}
 use Rattle.std.specs.List.{list_all}
-use Rattle.std.specs.Ordering.{is_lt}
 use Rattle.std.proofs.lemmas.Bool.{and_parts, ltb-true, ltb-false}
 use Rattle.std.proofs.lemmas.List.{length-map, get_or_past}
 use Rattle.std.proofs.lemmas.List.Elements.{All-nil, All-map, All-weaker, All-get_or}
@@ -24,6 +22,7 @@ use Rattle.farm_universe.specs.PackagesText.{PackageTable, is_below}
 use Rattle.farm_universe.specs.SourcesText.{SourceTable}
 use Rattle.farm_universe.specs.SourceView.{IsSourceTable}
 use Rattle.farm_universe.specs.TableView.{Rises, IsOrderly, IsFit}
+use Rattle.farm_universe.proofs.FitLaws.{lt-less}
 use Rattle.farm_universe.proofs.ListFacts.{All-slice_get}
 use Rattle.farm_universe.proofs.SettledLaws.{IsSettledBase-test}
 
@@ -63,11 +62,6 @@ IsOrderly-reduced arch vs is = record {
 }
 
 -- ---- rising lists by place
-
-lt-less : (o : Ordering) → is_lt o ≡ true → o ≡ Less
-lt-less Less e = refl
-lt-less Equal e = absurd cc
-lt-less Greater e = absurd cc
 
 rising-place : (vs : List Package) (b : ℕ) (d : Package) → Rises vs → suc b < length vs
     → text_cmp (get_or vs b d).version (get_or vs (suc b) d).version ≡ Less

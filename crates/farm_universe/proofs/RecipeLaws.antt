@@ -3,6 +3,7 @@ use Rattle.std.proofs.Common.{◌≡◌, ℕ, zero, suc, ◌+◌, ◌<◌, ◌�
 use Rattle.std.specs.Int.{bit_at}
 use Rattle.std.specs.Prelude.{slice_get}
 use Rattle.std.specs.List.{list_any}
+use Rattle.std.proofs.Math.Bool.{or_assoc, or-false}
 use Rattle.std.proofs.lemmas.Bool.{eqb-true, eqb-false, or_parts, or_right}
 use Rattle.std.proofs.lemmas.Grind.{get_or-set_at}
 use Rattle.std.proofs.lemmas.List.{get_or-set_other, map_push, at_drop_more}
@@ -22,7 +23,7 @@ use Rattle.farm_universe.specs.FarmView.{IsPlace, AreNew, IsNew, IsRecipe, outpu
 use Rattle.farm_universe.specs.Land.{Land}
 use Rattle.farm_universe.specs.ListText.{with_bit}
 use Rattle.farm_universe.specs.RecipeText.{outputs_at, is_taken, new_outputs, build_entries}
-use Rattle.farm_universe.proofs.ArchiveLaws.{bit-with_bit, or_assoc, or_false}
+use Rattle.farm_universe.proofs.ArchiveLaws.{bit-with_bit}
 use Rattle.farm_universe.proofs.ListFacts.{any-at}
 use Rattle.farm_universe.proofs.ListLaws.{same-self}
 
@@ -47,7 +48,7 @@ has_bit-word_set words v w lt = by (eqb v.name w.name) refl where
   by false e =
       ap (λ word. eqb (bit_at word w.bit) 1)
       (get_or-set_other words v.name w.name new 0 (λ q. eqb-false v.name w.name e (sym q)))
-      ∙ sym (or_false (eqb (bit_at (get_or words w.name 0) w.bit) 1))
+      ∙ sym (or-false (eqb (bit_at (get_or words w.name 0) w.bit) 1))
 
 length-word_set : (words : List ℕ) (v : Variant) → length (word_set words v) ≡ length words
 length-word_set words v = length-set words v.name (with_bit (get_or words v.name 0) v.bit)
@@ -69,7 +70,7 @@ taken-goes vs i v words new total lt at is so_far =
 has_bit-taken_with : (vs : List Variant) (words : List ℕ) (w : Variant)
     → All (λ v. v.name < length words) vs
     → has_bit (taken_with words vs) w ≡ (has_bit words w || contains vs w)
-has_bit-taken_with [] words w all = sym (or_false (has_bit words w))
+has_bit-taken_with [] words w all = sym (or-false (has_bit words w))
 has_bit-taken_with (v ∷ vs) words w all =
     has_bit-taken_with vs (word_set words v) w
     (subst (λ n. All (λ v. v.name < n) vs) (sym (length-word_set words v))
@@ -162,7 +163,7 @@ new_outputs-of l rs p vs b read is = rw (read, is) refl
 pub AreTaken-none : (l : Land) → length l.initial ≡ length l.table.names → AreTaken l [] l.initial
 AreTaken-none l paired = record {
   paired = paired;
-  bits = λ v lt. sym (or_false (has_bit l.initial v));
+  bits = λ v lt. sym (or-false (has_bit l.initial v));
 }
 
 pub names-within : (l : Land) (n : ℕ) (vs : List Variant) → n ≡ length l.table.names
@@ -192,7 +193,7 @@ AreTaken-push l rs r words is places = record {
       (contains r.outputs v)
       ∙ ap (λ b. has_bit l.initial v || b)
       (ap (λ b. list_any (λ r. contains r.outputs v) rs || b)
-      (sym (or_false (contains r.outputs v)))
+      (sym (or-false (contains r.outputs v)))
       ∙ sym (list_any-append (λ r. contains r.outputs v) rs (r ∷ [])));
 }
 

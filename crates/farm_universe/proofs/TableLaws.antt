@@ -6,8 +6,8 @@ use Rattle.std.proofs.lemmas.List.Elements.{filter-append}
 use Rattle.std.proofs.lemmas.List.Sums.{fold-append}
 use Rattle.deb_text.specs.Groups.{place_in, in_order, sorted}
 use Rattle.deb_text.specs.Steps.{answer, steps, goods, item_fault}
+use Rattle.deb_text.specs.declared.files.TheConstants.{PACKAGES}
 use Rattle.deb_stanza.specs.Stanza.{Paragraph}
-use Rattle.farm_universe.specs.declared.files.TheConstants.{PACKAGES}
 use Rattle.farm_universe.specs.PackagesText.{Listed, PackageTable, package_at, is_below, entry_count, names_of, packages_named, entries_of, table_of, first_code, rules_of, package_fault, packages_of}
 use Rattle.farm_universe.specs.TableSteps.{put_at, code_at, add, add_paragraph, tell_paragraph}
 use Rattle.farm_model.specs.Universe.{Package}

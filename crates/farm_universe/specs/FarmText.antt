@@ -6,13 +6,13 @@
 --   farm_of table sources ps       what the paragraphs say, or the first fault
 use Rattle.std.specs.Prelude.{ℕ, List, [], ◌∷◌, ◌++◌, length, Option, Some, None, Result, Ok, Err, codes}
 use Rattle.deb_text.specs.declared.fault.Fault.{Fault}
+use Rattle.deb_text.specs.declared.files.TheConstants.{FARM}
 use Rattle.deb_text.specs.Answers.{fault_at}
 use Rattle.deb_text.specs.Steps.{◌>>=◌, steps}
 use Rattle.deb_stanza.specs.Stanza.{Paragraph, value_of}
 use Rattle.deb_profile.specs.WordList.{words_at}
 use Rattle.farm_model.specs.Universe.{Recipe, Base, Universe}
 use Rattle.farm_universe.specs.declared.error.TheConstants.{ABSENT}
-use Rattle.farm_universe.specs.declared.files.TheConstants.{FARM}
 use Rattle.farm_universe.specs.BaseText.{base_at}
 use Rattle.farm_universe.specs.Fields.{needed_at}
 use Rattle.farm_universe.specs.Land.{Land, reduced_table}

@@ -11,6 +11,7 @@ use Rattle.std.specs.List.{list_any}
 use Rattle.std.specs.Str.{bytes_eq}
 use Rattle.std.specs.Ordering.{is_eq}
 use Rattle.deb_text.specs.declared.fault.Fault.{Fault}
+use Rattle.deb_text.specs.declared.files.TheConstants.{SOURCES}
 use Rattle.deb_text.specs.Groups.{distinct, place_in}
 use Rattle.deb_text.specs.Steps.{◌>>=◌, goods, item_fault}
 use Rattle.deb_stanza.specs.Stanza.{Paragraph, value_of}
@@ -18,7 +19,6 @@ use Rattle.deb_version.specs.Grammar.{text_cmp}
 use Rattle.deb_relation.specs.declared.kind.Kind.{Kind}
 use Rattle.deb_relation.specs.declared.kind.Kind.TheVariants.{BuildNeed, BuildClash}
 use Rattle.farm_universe.specs.declared.error.TheConstants.{TWICE, OVER_LIMIT}
-use Rattle.farm_universe.specs.declared.files.TheConstants.{SOURCES}
 use Rattle.farm_universe.specs.declared.limits.TheConstants.{MOST_SOURCES}
 use Rattle.farm_universe.specs.declared.sources.BuildFields.{BuildFields}
 use Rattle.farm_universe.specs.declared.sources.Source.{Source}

@@ -6,10 +6,10 @@
 use Rattle.std.specs.Prelude.{ℕ, ◌+◌, Option, Result}
 use Rattle.std.specs.Str.{bytes_eq}
 use Rattle.deb_text.specs.declared.fault.Fault.{Fault}
+use Rattle.deb_text.specs.declared.files.TheConstants.{PACKAGES}
 use Rattle.deb_text.specs.Groups.{in_order, place_in}
 use Rattle.deb_text.specs.Steps.{answer, read_step}
 use Rattle.deb_stanza.specs.Stanza.{Paragraph}
-use Rattle.farm_universe.specs.declared.files.TheConstants.{PACKAGES}
 use Rattle.farm_universe.specs.Keyed.{keys_with, group_at, groups_with}
 use Rattle.farm_universe.specs.PackagesText.{Listed, PackageTable, package_at, entry_count, is_below, first_code, rules_of}
 use Rattle.farm_universe.specs.Told.{told}

@@ -1,6 +1,6 @@
 //! The base chroots of the farm text.
 
-ghost use Rattle.std.specs.Prelude.{◌≡◌, ◌<◌, ◌≤◌, IfOk, OnOk, length, All};
+ghost use Rattle.std.specs.Prelude.{◌≡◌, ◌<◌, IfOk, OnOk, length, All};
 ghost use Rattle.std.specs.List.{list_any};
 ghost use Rattle.std.specs.Option.{option_map};
 ghost use Rattle.std.specs.Str.{bytes_eq};
@@ -12,7 +12,7 @@ ghost use Rattle.farm_universe.specs.TableView.{table_view, IsFit};
 ghost use Rattle.farm_universe.specs.View.{refusal_of};
 
 use crate::base::Base;
-use crate::error::{FieldFault, OVER_LIMIT, TWICE, UNSETTLED_BASE};
+use crate::error::FieldFault;
 use crate::fields::{read_name, read_number_up_to};
 use crate::limits::{MOST_BASES, MOST_CAPACITY};
 use crate::list::read_list;
@@ -34,7 +34,7 @@ fn read_base_name(alloc: Global, bases: &[Base], given: &[u8]) -> Result<Vec<u8>
 {
     let name = read_name(alloc, given)?;
     if is_given(bases, &name) {
-        return Err(FieldFault { code: TWICE });
+        return Err(FieldFault::Twice);
     }
     Ok(name)
 }
@@ -73,12 +73,10 @@ fn read_base(
     let capacity = read_number_up_to(MOST_CAPACITY, paragraph.needed(b"Capacity")?)?;
     let packages = read_packages(alloc, table, paragraph.field(b"Packages"))?;
     if !is_settled_base(alloc, table, capacity, &packages)? {
-        return Err(FieldFault {
-            code: UNSETTLED_BASE,
-        });
+        return Err(FieldFault::UnsettledBase);
     }
     if bases.len() >= MOST_BASES {
-        return Err(FieldFault { code: OVER_LIMIT });
+        return Err(FieldFault::OverLimit);
     }
     Ok(Base::new(name, capacity, packages))
 }

@@ -1,6 +1,6 @@
 //! What is known of one version of a package.
 
-ghost use Rattle.std.specs.Prelude.{◌≡◌, ◌≤◌, true, nat_le, ◌-◌, SomeIff, OnOk, position, length, []};
+ghost use Rattle.std.specs.Prelude.{◌≡◌, ◌≤◌, true, nat_le, ◌-◌, SomeIff, OnOk, position, length};
 ghost use Rattle.std.specs.List.{list_all, list_any, position_or_len};
 ghost use Rattle.deb_text.specs.Groups.{in_order};
 ghost use Rattle.farm_universe.specs.PackagesText.{entry_count, is_below, is_same};

@@ -1,6 +1,6 @@
 //! What a recipe builds, and how.
 
-ghost use Rattle.std.specs.Prelude.{◌≡◌, ◌++◌, IfOk, IfSome, OnOk};
+ghost use Rattle.std.specs.Prelude.{◌≡◌, ◌++◌, IfOk, OnOk};
 ghost use Rattle.std.specs.Option.{option_map};
 ghost use Rattle.deb_text.specs.Answers.{Gives};
 ghost use Rattle.deb_profile.specs.Reduction.{reduced};
@@ -9,7 +9,7 @@ ghost use Rattle.farm_universe.specs.RecipeText.{source_in, mode_of, mode_at, pr
 ghost use Rattle.farm_universe.specs.SourceView.{source_view, IsSourceTable};
 ghost use Rattle.farm_universe.specs.View.{refusal_of};
 
-use crate::error::{BAD_NUMBER, FieldFault, UNKNOWN_SOURCE};
+use crate::error::FieldFault;
 use crate::land::Land;
 use crate::list::pinned;
 use crate::paragraph::Paragraph;
@@ -40,20 +40,14 @@ fn read_source<'a>(
 {
     let list = Relations::parse(alloc, text, Kind::Provide)?;
     let [entry] = list.entries() else {
-        return Err(FieldFault {
-            code: UNKNOWN_SOURCE,
-        });
+        return Err(FieldFault::UnknownSource);
     };
     let Some((name, version)) = pinned(entry) else {
-        return Err(FieldFault {
-            code: UNKNOWN_SOURCE,
-        });
+        return Err(FieldFault::UnknownSource);
     };
     match find_source(sources, name, version) {
         Some(source) => Ok(source),
-        None => Err(FieldFault {
-            code: UNKNOWN_SOURCE,
-        }),
+        None => Err(FieldFault::UnknownSource),
     }
 }
 
@@ -69,7 +63,7 @@ fn mode_of(text: &[u8]) -> Result<Mode, FieldFault>
     if text == b"indep".as_slice() {
         return Ok(Mode::Indep);
     }
-    Err(FieldFault { code: BAD_NUMBER })
+    Err(FieldFault::BadNumber)
 }
 
 fn read_mode(value: Option<&[u8]>) -> Result<Mode, FieldFault>

@@ -1,9 +1,11 @@
 //! Why a part of the texts is refused.
 
 ghost use Rattle.std.specs.Prelude.{◌≡◌};
+ghost use Rattle.farm_universe.specs.View.{code_of, fault_of_field, field_told};
 
-use deb_relation::RelationError;
-use deb_text::MEMORY;
+use crate::paragraph::Paragraph;
+use deb_relation::{BAD_NAME, RelationError};
+use deb_text::{Fault, MEMORY};
 use deb_version::VersionError;
 use std::alloc::{AllocError, AllocFailed};
 
@@ -39,40 +41,101 @@ pub const UNSETTLED_BASE: u16 = 209;
 /// There are more names, relation entries, sources, recipes or base chroots than the limits allow.
 pub const OVER_LIMIT: u16 = 210;
 
-/// Why a paragraph is refused: the code of its fault, or that memory ran out.
+/// Why a paragraph is refused, apart from its place.
 #[derive(Clone, Copy, Debug, PartialEq, Eq)]
-pub struct FieldFault {
-    pub code: u16,
+pub enum FieldFault {
+    Absent,
+    BadName,
+    BadVersion(VersionError),
+    BadRelations(RelationError),
+    BadNumber,
+    Twice,
+    TooManyVariants,
+    UnknownVariant,
+    UnknownSource,
+    Taken,
+    NoOutput,
+    UnsettledBase,
+    OverLimit,
+    Memory,
+}
+
+impl FieldFault {
+    const fn code(self) -> u16
+        ensures { result ≡ code_of self }
+    {
+        match self {
+            FieldFault::Absent => ABSENT,
+            FieldFault::BadName => BAD_NAME,
+            FieldFault::BadVersion(error) => error.code,
+            FieldFault::BadRelations(error) => error.code,
+            FieldFault::BadNumber => BAD_NUMBER,
+            FieldFault::Twice => TWICE,
+            FieldFault::TooManyVariants => TOO_MANY_VARIANTS,
+            FieldFault::UnknownVariant => UNKNOWN_VARIANT,
+            FieldFault::UnknownSource => UNKNOWN_SOURCE,
+            FieldFault::Taken => TAKEN,
+            FieldFault::NoOutput => NO_OUTPUT,
+            FieldFault::UnsettledBase => UNSETTLED_BASE,
+            FieldFault::OverLimit => OVER_LIMIT,
+            FieldFault::Memory => MEMORY,
+        }
+    }
+
+    /// The fault of a paragraph that begins at this line.
+    fn at(self, file: u8, line: u32) -> Fault
+        ensures { result ≡ fault_of_field file line self }
+    {
+        Fault::place(file, line, self.code())
+    }
+}
+
+/// What is read of a paragraph, a fault told at the paragraph's first line.
+pub fn told<X>(file: u8, paragraph: &Paragraph, read: Result<X, FieldFault>) -> Result<X, Fault>
+    ensures { result ≡ field_told file paragraph.now read }
+{
+    match read {
+        Ok(value) => Ok(value),
+        Err(fault) => Err(fault.at(file, paragraph.line())),
+    }
 }
 
 impl From<AllocError> for FieldFault {
-    ghost from_gives = { λ _ refusal. refusal ≡ record { code = 900 } };
+    ghost use Rattle.farm_universe.specs.declared.error.FieldFault.TheVariants.{Memory};
+
+    ghost from_gives = { λ _ fault. fault ≡ Memory };
 
     fn from(_error: AllocError) -> FieldFault {
-        FieldFault { code: MEMORY }
+        FieldFault::Memory
     }
 }
 
 impl<T: Drop> From<AllocFailed<T>> for FieldFault {
-    ghost from_gives = { λ _ refusal. refusal ≡ record { code = 900 } };
+    ghost use Rattle.farm_universe.specs.declared.error.FieldFault.TheVariants.{Memory};
+
+    ghost from_gives = { λ _ fault. fault ≡ Memory };
 
     fn from(_error: AllocFailed<T>) -> FieldFault {
-        FieldFault { code: MEMORY }
+        FieldFault::Memory
     }
 }
 
 impl From<VersionError> for FieldFault {
-    ghost from_gives = { λ error refusal. refusal ≡ record { code = error.code } };
+    ghost use Rattle.farm_universe.specs.declared.error.FieldFault.TheVariants.{BadVersion};
+
+    ghost from_gives = { λ error fault. fault ≡ BadVersion error };
 
     fn from(error: VersionError) -> FieldFault {
-        FieldFault { code: error.code }
+        FieldFault::BadVersion(error)
     }
 }
 
 impl From<RelationError> for FieldFault {
-    ghost from_gives = { λ error refusal. refusal ≡ record { code = error.code } };
+    ghost use Rattle.farm_universe.specs.declared.error.FieldFault.TheVariants.{BadRelations};
+
+    ghost from_gives = { λ error fault. fault ≡ BadRelations error };
 
     fn from(error: RelationError) -> FieldFault {
-        FieldFault { code: error.code }
+        FieldFault::BadRelations(error)
     }
 }

@@ -10,15 +10,16 @@ ghost use Rattle.farm_universe.specs.View.{refusal_of};
 
 use crate::base::Base;
 use crate::bases::add_base;
-use crate::error::{ABSENT, FieldFault};
-use crate::files::FARM;
+use crate::error::{ABSENT, FieldFault, told};
 use crate::land::{Land, make_land, tell_head};
 use crate::package_table::PackageTable;
 use crate::paragraph::Paragraph;
 use crate::recipes::{RecipeList, add_recipe};
 use crate::source_table::SourceTable;
+use crate::steps::{ParagraphStep, read_steps};
 use deb_stanza::Paragraphs;
 use deb_text::Fault;
+use deb_text::files::FARM;
 use std::alloc::{AllocError, Global};
 
 /// What the later paragraphs say so far.
@@ -56,21 +57,31 @@ fn add_later(
 }
 
 /// Goes on by a paragraph, and tells its fault at its line.
-fn tell_later(
-    alloc: Global,
-    land: &Land,
-    yard: &mut Yard,
-    paragraph: &Paragraph,
-) -> Result<(), Fault>
-    requires land { IsLand (land_view land.now) }
-    requires yard { IsYard (land_view land.now) yard.old }
-    ensures read { Gives fault_of (λ _. yard_view yard.new) result
-        (tell_later (land_view land.now) (yard_view yard.old) paragraph.now) }
-    ensures yard { OnOk result (IsYard (land_view land.now) yard.new) }
-{
-    match add_later(alloc, land, yard, paragraph) {
-        Ok(()) => Ok(()),
-        Err(fault) => Err(Fault::place(FARM, paragraph.line(), fault.code)),
+#[derive(Drop)]
+struct YardStep<'a> {
+    land: &'a Land,
+}
+
+impl ParagraphStep for YardStep<'_> {
+    ghost use Rattle.farm_universe.specs.FarmText as text;
+
+    type SoFar = Yard;
+
+    ghost Said = { text.Yard };
+
+    ghost said = { yard_view };
+
+    ghost fits = { λ s yard. IsLand (land_view s.land.now) × IsYard (land_view s.land.now) yard };
+
+    ghost step = { λ s. tell_later (land_view s.land.now) };
+
+    #[tactic(auto, using(crate::proofs::ToldLaws::gives_told))]
+    fn take(&self, alloc: Global, yard: &mut Yard, paragraph: &Paragraph) -> Result<(), Fault> {
+        told(
+            FARM,
+            paragraph,
+            add_later(alloc, self.land, yard, paragraph),
+        )
     }
 }
 
@@ -98,12 +109,8 @@ fn read_yard(alloc: Global, land: &Land, paragraphs: &Paragraphs) -> Result<Yard
         (yard_of (land_view land.now) (drop 1 paragraphs.now)) }
     ensures yard { IfOk result (IsYard (land_view land.now)) }
 {
-    let mut yard = empty_yard(alloc, land)?;
-    for number in 1..paragraphs.count() {
-        let paragraph = Paragraph::new(paragraphs, number);
-        tell_later(alloc, land, &mut yard, &paragraph)?;
-    }
-    Ok(yard)
+    let empty = empty_yard(alloc, land)?;
+    read_steps(alloc, &YardStep { land }, empty, paragraphs, 1)
 }
 
 /// Reads the paragraphs of the farm text.

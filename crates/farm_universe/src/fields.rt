@@ -1,12 +1,12 @@
 //! How the fields of a paragraph are read.
 
-ghost use Rattle.std.specs.Prelude.{◌≡◌, IfOk, ◌≤◌};
+ghost use Rattle.std.specs.Prelude.{IfOk, ◌≤◌};
 ghost use Rattle.std.specs.Option.{option_map};
 ghost use Rattle.deb_text.specs.Answers.{Gives};
 ghost use Rattle.farm_universe.specs.Fields.{name_at, version_text_at, number_up_to, size_at, relations_in};
 ghost use Rattle.farm_universe.specs.View.{refusal_of};
 
-use crate::error::{BAD_NUMBER, FieldFault};
+use crate::error::FieldFault;
 use crate::limits::MOST_SIZE;
 use deb_relation::{BAD_NAME, Kind, Relations};
 use deb_text::{is_name, read_number};
@@ -18,7 +18,7 @@ pub fn read_name(alloc: Global, text: &[u8]) -> Result<Vec<u8>, FieldFault>
     ensures { Gives refusal_of (λ name. name.items) result (name_at text.now) }
 {
     if !is_name(text) {
-        return Err(FieldFault { code: BAD_NAME });
+        return Err(FieldFault::BadName);
     }
     Ok(Vec::from_slice(alloc, text)?)
 }
@@ -38,11 +38,11 @@ pub fn read_number_up_to(most: u64, text: &[u8]) -> Result<u64, FieldFault>
     match read_number(text) {
         Some(number) => {
             if number > most {
-                return Err(FieldFault { code: BAD_NUMBER });
+                return Err(FieldFault::BadNumber);
             }
             Ok(number)
         }
-        None => Err(FieldFault { code: BAD_NUMBER }),
+        None => Err(FieldFault::BadNumber),
     }
 }
 

@@ -10,8 +10,7 @@ ghost use Rattle.farm_universe.specs.Told.{told};
 ghost use Rattle.farm_universe.specs.TableView.{table_view, IsFit};
 ghost use Rattle.farm_universe.specs.View.{refusal_of};
 
-use crate::error::FieldFault;
-use crate::files::FARM;
+use crate::error::{FieldFault, told};
 use crate::list::{empty_list, read_list};
 use crate::package_table::PackageTable;
 use crate::paragraph::Paragraph;
@@ -19,6 +18,7 @@ use crate::reduction::reduce_table;
 use crate::source_table::SourceTable;
 use deb_profile::ArchNames;
 use deb_text::Fault;
+use deb_text::files::FARM;
 use std::alloc::{AllocError, Global};
 
 /// What the first paragraph says.
@@ -72,16 +72,14 @@ fn read_head(alloc: Global, table: &PackageTable, paragraph: &Paragraph) -> Resu
 }
 
 /// Reads the first paragraph, and tells its fault at its line.
+#[tactic(auto, using(crate::proofs::ToldLaws::gives_told))]
 pub fn tell_head(alloc: Global, table: &PackageTable, paragraph: &Paragraph) -> Result<Head, Fault>
     requires { IsFit (table_view table.now) }
     ensures read { Gives fault_of head_view result
         (told FARM paragraph.now (head_at (table_view table.now) paragraph.now)) }
     ensures words { IfOk result (λ head. AreWords (table_view table.now) head.initial.items) }
 {
-    match read_head(alloc, table, paragraph) {
-        Ok(head) => Ok(head),
-        Err(fault) => Err(Fault::place(FARM, paragraph.line(), fault.code)),
-    }
+    told(FARM, paragraph, read_head(alloc, table, paragraph))
 }
 
 /// Puts together what the later paragraphs are read against.

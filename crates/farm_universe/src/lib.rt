@@ -8,7 +8,7 @@ mod build;
 mod error;
 mod farm;
 mod fields;
-mod files;
+mod keyed;
 mod land;
 pub mod limits;
 mod list;
@@ -22,6 +22,7 @@ pub mod relations;
 mod settled;
 mod source_table;
 mod sources;
+mod steps;
 mod texts;
 mod universe;
 
@@ -32,6 +33,5 @@ pub use error::{
     UNKNOWN_VARIANT, UNSETTLED_BASE,
 };
 pub use farm_model::{Slot, Trap, Variant};
-pub use files::{FARM, PACKAGES, SOURCES};
 pub use recipe::Recipe;
 pub use universe::Universe;

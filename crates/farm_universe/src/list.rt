@@ -1,18 +1,18 @@
 //! Lists of variants.
 
-ghost use Rattle.std.specs.Prelude.{◌≡◌, ◌<◌, IfSome, IfOk, IfErr, OnOk, None, All, position, length, get_or, set, []};
+ghost use Rattle.std.specs.Prelude.{◌≡◌, ◌<◌, IfSome, IfOk, IfErr, OnOk, None, All, position, length, set, []};
 ghost use Rattle.std.specs.List.{list_any};
 ghost use Rattle.std.specs.Option.{option_map};
 ghost use Rattle.deb_text.specs.Answers.{Gives};
 ghost use Rattle.farm_universe.specs.FarmSteps.{add_item, word_set, taken_with};
-ghost use Rattle.farm_universe.specs.ListText.{has_version, find_variant, pinned, variant_at, variants_in, list_at, words_of};
+ghost use Rattle.farm_universe.specs.ListText.{has_version, find_variant, pinned, variant_at, variants_in, list_at};
 ghost use Rattle.farm_universe.specs.FarmView.{AreListed, AreWords, IsPlace};
 ghost use Rattle.farm_model.specs.Packages.{has_bit};
 ghost use Rattle.farm_universe.specs.TableView.{table_view, IsFit};
 ghost use Rattle.farm_universe.specs.View.{refusal_of};
 
 use crate::binary::Package;
-use crate::error::{FieldFault, TWICE, UNKNOWN_VARIANT};
+use crate::error::FieldFault;
 use crate::package_table::{PackageTable, packages_at, place_of};
 use deb_relation::{Entry, Kind, Relations};
 use deb_version::Version;
@@ -82,15 +82,11 @@ fn read_variant(table: &PackageTable, entry: &Entry) -> Result<Variant, FieldFau
     ensures place { IfOk result (IsPlace (table_view table.now)) }
 {
     let Some((name, version)) = pinned(entry) else {
-        return Err(FieldFault {
-            code: UNKNOWN_VARIANT,
-        });
+        return Err(FieldFault::UnknownVariant);
     };
     match find_variant(table, name, version) {
         Some(variant) => Ok(variant),
-        None => Err(FieldFault {
-            code: UNKNOWN_VARIANT,
-        }),
+        None => Err(FieldFault::UnknownVariant),
     }
 }
 
@@ -144,7 +140,7 @@ fn add_item(table: &PackageTable, list: &mut VariantList, entry: &Entry) -> Resu
 {
     let variant = read_variant(table, entry)?;
     if has_bit(&list.words, variant) {
-        return Err(FieldFault { code: TWICE });
+        return Err(FieldFault::Twice);
     }
     set_bit(&mut list.words, variant);
     list.variants.push(variant)?;

@@ -1,7 +1,7 @@
 //! The packages of the first text, by the number of their name and by version.
 
-ghost use Rattle.std.specs.Prelude.{◌≡◌, ◌+◌, ◌<◌, ◌≤◌, IfSome, OnOk, IfOk, IfErr, IfNone, None, Some, length, false, ◌++◌, ◌∷◌, [], get_or, set, position};
-ghost use Rattle.std.specs.List.{list_any};
+ghost use Rattle.std.specs.Prelude.{◌≡◌, ◌+◌, ◌<◌, ◌≤◌, IfSome, OnOk, IfOk, IfErr, None, Some, length, [], get_or, set};
+ghost use Rattle.std.specs.Option.{option_map};
 ghost use Rattle.std.specs.Str.{bytes_eq};
 ghost use Rattle.indexmap.specs.IndexSet.{index_set_len};
 ghost use Rattle.deb_text.specs.Answers.{Gives, refusal_of as fault_of};
@@ -11,16 +11,18 @@ ghost use Rattle.farm_universe.specs.Keyed.{group_at};
 ghost use Rattle.farm_universe.specs.PackagesText.{entry_count, is_below, is_over, packages_of};
 ghost use Rattle.farm_universe.specs.TableSteps.{put_at, code_at, add, add_paragraph, tell_paragraph};
 ghost use Rattle.farm_universe.specs.TableView.{listed_view, table_view, IsFit, IsWithin, Rises};
-ghost use Rattle.farm_universe.specs.View.{refusal_of};
+ghost use Rattle.farm_universe.specs.View.{code_of, refusal_of};
 
 use crate::binary::{Package, insert_in_order, is_given};
-use crate::error::{FieldFault, OVER_LIMIT, TOO_MANY_VARIANTS, TWICE};
-use crate::files::PACKAGES;
+use crate::error::{FieldFault, told};
+use crate::keyed::{group_at, put_new};
 use crate::limits::{MOST_ENTRIES, MOST_NAMES, MOST_SIZE, MOST_VARIANTS};
 use crate::packages::{Listed, read_package};
 use crate::paragraph::Paragraph;
+use crate::steps::{ParagraphStep, read_steps};
 use deb_stanza::Paragraphs;
 use deb_text::Fault;
+use deb_text::files::PACKAGES;
 use indexmap::IndexSet;
 use std::alloc::Global;
 
@@ -51,17 +53,6 @@ pub fn packages_at(table: &PackageTable, number: usize) -> &[Package]
     &table.packages[number]
 }
 
-/// The packages of the name with this number, if there is one.
-fn given_at(table: &PackageTable, at: Option<usize>) -> &[Package]
-    requires { IsWithin (table_view table.now) at }
-    ensures { result.now ≡ group_at (table_view table.now).packages at }
-{
-    match at {
-        None => &[],
-        Some(i) => &table.packages[i],
-    }
-}
-
 /// Tells whether there are too many names or entries with this package.
 fn is_over(table: &PackageTable, at: Option<usize>, listed: &Listed) -> bool
     requires { IsFit (table_view table.now) }
@@ -74,20 +65,21 @@ fn is_over(table: &PackageTable, at: Option<usize>, listed: &Listed) -> bool
 }
 
 #[tactic(auto, unfolding(crate::specs::TableSteps::code_at))]
-fn code_at(table: &PackageTable, at: Option<usize>, listed: &Listed) -> Option<u16>
+fn fault_at(table: &PackageTable, at: Option<usize>, listed: &Listed) -> Option<FieldFault>
     requires fit { IsFit (table_view table.now) }
     requires within { IsWithin (table_view table.now) at }
-    ensures { result ≡ code_at (table_view table.now) at (listed_view listed.now) }
+    ensures { option_map code_of result
+        ≡ code_at (table_view table.now) at (listed_view listed.now) }
 {
-    let given = given_at(table, at);
+    let given = group_at(&table.packages, at);
     if is_given(given, &listed.binary) {
-        return Some(TWICE);
+        return Some(FieldFault::Twice);
     }
     if given.len() >= MOST_VARIANTS {
-        return Some(TOO_MANY_VARIANTS);
+        return Some(FieldFault::TooManyVariants);
     }
     if is_over(table, at, listed) {
-        return Some(OVER_LIMIT);
+        return Some(FieldFault::OverLimit);
     }
     None
 }
@@ -104,23 +96,6 @@ fn put_there(table: &mut PackageTable, at: usize, binary: Package) -> Result<(),
     ensures memory { IfErr result (λ e. refusal_of e ≡ None) }
 {
     insert_in_order(&mut table.packages[at], binary)?;
-    Ok(())
-}
-
-/// Puts a package of a new name.
-fn put_new(alloc: Global, table: &mut PackageTable, listed: Listed) -> Result<(), FieldFault>
-    requires { list_any (bytes_eq listed.name.items) (lists table.old.names.keys) ≡ false }
-    ensures put { OnOk result (table_view table.new ≡ record {
-      names = lists table.old.names.keys ++ listed.name.items ∷ [];
-      packages = lists table.old.packages.items ++ (listed.binary ∷ []) ∷ [];
-      entries = table.old.entries;
-    }) }
-    ensures memory { IfErr result (λ e. refusal_of e ≡ None) }
-{
-    let mut packages = Vec::new(alloc);
-    packages.push(listed.binary)?;
-    table.packages.push(packages)?;
-    table.names.insert(listed.name)?;
     Ok(())
 }
 
@@ -142,7 +117,10 @@ fn put_at(
     table.entries += listed.binary.entry_count();
     match at {
         Some(i) => put_there(table, i, listed.binary),
-        None => put_new(alloc, table, listed),
+        None => {
+            let Listed { name, binary } = listed;
+            put_new(alloc, &mut table.names, &mut table.packages, name, binary)
+        }
     }
 }
 
@@ -156,8 +134,8 @@ fn add(alloc: Global, table: &mut PackageTable, listed: Listed) -> Result<(), Fi
     ensures fit { OnOk result (IsFit (table_view table.new)) }
 {
     let at = place_of(&table.names, &listed.name);
-    if let Some(code) = code_at(table, at, &listed) {
-        return Err(FieldFault { code });
+    if let Some(fault) = fault_at(table, at, &listed) {
+        return Err(fault);
     }
     put_at(alloc, table, at, listed)
 }
@@ -179,19 +157,30 @@ fn add_paragraph(
 }
 
 /// Goes on by a paragraph, and tells its fault at its line.
-fn tell_paragraph(
-    alloc: Global,
-    table: &mut PackageTable,
-    paragraph: &Paragraph,
-) -> Result<(), Fault>
-    requires { IsFit (table_view table.old) }
-    ensures read { Gives fault_of (λ _. table_view table.new) result
-        (tell_paragraph (table_view table.old) paragraph.now) }
-    ensures fit { OnOk result (IsFit (table_view table.new)) }
-{
-    match add_paragraph(alloc, table, paragraph) {
-        Ok(()) => Ok(()),
-        Err(fault) => Err(Fault::place(PACKAGES, paragraph.line(), fault.code)),
+#[derive(Drop)]
+struct PackageStep;
+
+impl ParagraphStep for PackageStep {
+    ghost use Rattle.farm_universe.specs.PackagesText as text;
+
+    type SoFar = PackageTable;
+
+    ghost Said = { text.PackageTable };
+
+    ghost said = { table_view };
+
+    ghost fits = { λ _ table. IsFit (table_view table) };
+
+    ghost step = { λ _. tell_paragraph };
+
+    #[tactic(auto, using(crate::proofs::ToldLaws::gives_told))]
+    fn take(
+        &self,
+        alloc: Global,
+        table: &mut PackageTable,
+        paragraph: &Paragraph,
+    ) -> Result<(), Fault> {
+        told(PACKAGES, paragraph, add_paragraph(alloc, table, paragraph))
     }
 }
 
@@ -200,14 +189,10 @@ pub fn read_table(alloc: Global, paragraphs: &Paragraphs) -> Result<PackageTable
     ensures read { Gives fault_of table_view result (packages_of paragraphs.now) }
     ensures fit { IfOk result (λ table. IsFit (table_view table)) }
 {
-    let mut table = PackageTable {
+    let empty = PackageTable {
         names: IndexSet::new(alloc),
         packages: Vec::new(alloc),
         entries: 0,
     };
-    for number in 0..paragraphs.count() {
-        let paragraph = Paragraph::new(paragraphs, number);
-        tell_paragraph(alloc, &mut table, &paragraph)?;
-    }
-    Ok(table)
+    read_steps(alloc, &PackageStep, empty, paragraphs, 0)
 }

@@ -7,7 +7,7 @@ ghost use Rattle.deb_stanza.specs.Stanza.{value_of, paragraph_at};
 ghost use Rattle.farm_universe.specs.Fields.{needed_at};
 ghost use Rattle.farm_universe.specs.View.{refusal_of};
 
-use crate::error::{ABSENT, FieldFault};
+use crate::error::FieldFault;
 use deb_stanza::Paragraphs;
 use std::marker::Model;
 
@@ -58,7 +58,7 @@ impl<'a> Paragraph<'a> {
     {
         match self.field(name) {
             Some(value) => Ok(value),
-            None => Err(FieldFault { code: ABSENT }),
+            None => Err(FieldFault::Absent),
         }
     }
 }

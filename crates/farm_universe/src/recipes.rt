@@ -1,6 +1,6 @@
 //! The recipes of the farm text.
 
-ghost use Rattle.std.specs.Prelude.{◌≡◌, ◌+◌, ◌<◌, ◌≤◌, ◌++◌, ◌∷◌, [], IfOk, OnOk, IfErr, None, All, length, map, sum};
+ghost use Rattle.std.specs.Prelude.{◌≡◌, ◌+◌, ◌<◌, ◌≤◌, ◌++◌, ◌∷◌, [], IfOk, OnOk, IfErr, None, All, length};
 ghost use Rattle.std.specs.List.{list_any};
 ghost use Rattle.std.specs.Option.{option_map};
 ghost use Rattle.std.specs.Str.{bytes_eq};
@@ -8,13 +8,13 @@ ghost use Rattle.deb_text.specs.Answers.{Gives};
 ghost use Rattle.farm_universe.specs.FarmSteps.{taken_with};
 ghost use Rattle.farm_universe.specs.FarmText.{recipes_with};
 ghost use Rattle.farm_universe.specs.FarmView.{AreOutputs, AreNew, AreRecipes, IsLand, IsNew, land_view};
-ghost use Rattle.farm_universe.specs.RecipeText.{outputs_in, outputs_at, build_entries, is_build_over, recipe_name, new_outputs, recipe_at};
+ghost use Rattle.farm_universe.specs.RecipeText.{outputs_at, build_entries, is_build_over, recipe_name, new_outputs, recipe_at};
 ghost use Rattle.farm_universe.specs.TableView.{table_view, IsFit};
 ghost use Rattle.farm_universe.specs.View.{refusal_of};
 
 use crate::binary::room_behind;
 use crate::build::{Build, read_build};
-use crate::error::{FieldFault, NO_OUTPUT, OVER_LIMIT, TAKEN, TWICE};
+use crate::error::FieldFault;
 use crate::fields::{read_name, read_number_up_to, read_size};
 use crate::land::Land;
 use crate::limits::{MOST_ENTRIES, MOST_RECIPES, MOST_SIZE};
@@ -47,7 +47,7 @@ fn read_recipe_name(alloc: Global, recipes: &[Recipe], given: &[u8]) -> Result<V
 {
     let name = read_name(alloc, given)?;
     if is_given(recipes, &name) {
-        return Err(FieldFault { code: TWICE });
+        return Err(FieldFault::Twice);
     }
     Ok(name)
 }
@@ -65,11 +65,11 @@ fn read_outputs(
     ensures outputs { IfOk result (λ vs. AreOutputs (table_view table.now) vs.items) }
 {
     let Some(text) = value else {
-        return Err(FieldFault { code: NO_OUTPUT });
+        return Err(FieldFault::NoOutput);
     };
     let list = Relations::parse(alloc, text, Kind::Provide)?;
     if list.is_empty() {
-        return Err(FieldFault { code: NO_OUTPUT });
+        return Err(FieldFault::NoOutput);
     }
     Ok(read_variants(alloc, table, list.entries())?.variants)
 }
@@ -90,7 +90,7 @@ fn read_new_outputs(
 {
     let outputs = read_outputs(alloc, &land.table, paragraph.field(b"Outputs"))?;
     if has_some_bit(&list.taken, &outputs) {
-        return Err(FieldFault { code: TAKEN });
+        return Err(FieldFault::Taken);
     }
     Ok(outputs)
 }
@@ -127,7 +127,7 @@ fn read_recipe(
     let scratch = read_size(paragraph.field(b"Scratch"))?;
     let outputs = read_new_outputs(alloc, land, list, paragraph)?;
     if is_over(list, &build) {
-        return Err(FieldFault { code: OVER_LIMIT });
+        return Err(FieldFault::OverLimit);
     }
     let Build { needs, clashes } = build;
     Ok(Recipe::new(name, steps, scratch, needs, clashes, outputs))

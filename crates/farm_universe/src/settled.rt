@@ -1,6 +1,6 @@
 //! What a base chroot may hold: packages that need and allow each other (Debian Policy 7).
 
-ghost use Rattle.std.specs.Prelude.{◌≡◌, ◌==◌, IfOk, All, map, length, nat_le};
+ghost use Rattle.std.specs.Prelude.{◌≡◌, ◌==◌, IfOk, All, map, nat_le};
 ghost use Rattle.std.specs.List.{list_any};
 ghost use Rattle.deb_relation.specs.View.{facts_of};
 ghost use Rattle.farm_universe.specs.BaseText as base;

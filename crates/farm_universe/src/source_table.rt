@@ -1,6 +1,6 @@
 //! The sources of the second text, by the number of their name.
 
-ghost use Rattle.std.specs.Prelude.{◌≡◌, ◌<◌, OnOk, IfOk, IfErr, None, length, false, ◌++◌, ◌∷◌, [], get_or, set};
+ghost use Rattle.std.specs.Prelude.{◌≡◌, ◌<◌, OnOk, IfOk, IfErr, None, length, [], get_or, set};
 ghost use Rattle.std.specs.Option.{option_map};
 ghost use Rattle.std.specs.List.{list_any};
 ghost use Rattle.std.specs.Str.{bytes_eq};
@@ -11,16 +11,18 @@ ghost use Rattle.farm_universe.specs.Keyed.{group_at};
 ghost use Rattle.farm_universe.specs.SourcesText.{is_of_version, sources_of, find_source};
 ghost use Rattle.farm_universe.specs.SourceSteps.{behind_others, put_source, source_code, add_source, add_source_paragraph, tell_source};
 ghost use Rattle.farm_universe.specs.SourceView.{listed_source_view, source_view, IsSourceTable, IsSourcePlace};
-ghost use Rattle.farm_universe.specs.View.{refusal_of};
+ghost use Rattle.farm_universe.specs.View.{code_of, refusal_of};
 
-use crate::error::{FieldFault, OVER_LIMIT, TWICE};
-use crate::files::SOURCES;
+use crate::error::{FieldFault, told};
+use crate::keyed::{group_at, put_new};
 use crate::limits::MOST_SOURCES;
 use crate::package_table::place_of;
 use crate::paragraph::Paragraph;
 use crate::sources::{ListedSource, Source, read_source};
+use crate::steps::{ParagraphStep, read_steps};
 use deb_stanza::Paragraphs;
 use deb_text::Fault;
+use deb_text::files::SOURCES;
 use deb_version::Version;
 use indexmap::IndexSet;
 use std::alloc::Global;
@@ -41,17 +43,6 @@ fn is_of_version(version: &Version, source: &Source) -> bool
     version.compare(&source.version).is_eq()
 }
 
-/// The sources of the name with this number, if there is one.
-fn given_at(table: &SourceTable, at: Option<usize>) -> &[Source]
-    requires { IsSourcePlace (source_view table.now) at }
-    ensures { result.now ≡ group_at (source_view table.now).sources at }
-{
-    match at {
-        None => &[],
-        Some(i) => &table.sources[i],
-    }
-}
-
 /// Tells whether one of the sources has this version.
 fn is_given(given: &[Source], version: &Version) -> bool
     ensures { result ≡ list_any (is_of_version version.now) given.now }
@@ -60,15 +51,16 @@ fn is_given(given: &[Source], version: &Version) -> bool
 }
 
 #[tactic(auto, unfolding(crate::specs::SourceSteps::source_code))]
-fn code_at(table: &SourceTable, at: Option<usize>, listed: &ListedSource) -> Option<u16>
+fn fault_at(table: &SourceTable, at: Option<usize>, listed: &ListedSource) -> Option<FieldFault>
     requires { IsSourcePlace (source_view table.now) at }
-    ensures { result ≡ source_code (source_view table.now) at (listed_source_view listed.now) }
+    ensures { option_map code_of result
+        ≡ source_code (source_view table.now) at (listed_source_view listed.now) }
 {
-    if is_given(given_at(table, at), &listed.source.version) {
-        return Some(TWICE);
+    if is_given(group_at(&table.sources, at), &listed.source.version) {
+        return Some(FieldFault::Twice);
     }
     if table.count >= MOST_SOURCES {
-        return Some(OVER_LIMIT);
+        return Some(FieldFault::OverLimit);
     }
     None
 }
@@ -84,23 +76,6 @@ fn put_there(table: &mut SourceTable, at: usize, source: Source) -> Result<(), F
     ensures memory { IfErr result (λ e. refusal_of e ≡ None) }
 {
     table.sources[at].push(source)?;
-    Ok(())
-}
-
-/// Puts a source of a new name.
-fn put_new(alloc: Global, table: &mut SourceTable, listed: ListedSource) -> Result<(), FieldFault>
-    requires { list_any (bytes_eq listed.name.items) (lists table.old.names.keys) ≡ false }
-    ensures put { OnOk result (source_view table.new ≡ record {
-      names = lists table.old.names.keys ++ listed.name.items ∷ [];
-      sources = lists table.old.sources.items ++ (listed.source ∷ []) ∷ [];
-      count = table.old.count;
-    }) }
-    ensures memory { IfErr result (λ e. refusal_of e ≡ None) }
-{
-    let mut sources = Vec::new(alloc);
-    sources.push(listed.source)?;
-    table.sources.push(sources)?;
-    table.names.insert(listed.name)?;
     Ok(())
 }
 
@@ -121,7 +96,10 @@ fn put_at(
     table.count += 1;
     match at {
         Some(i) => put_there(table, i, listed.source),
-        None => put_new(alloc, table, listed),
+        None => {
+            let ListedSource { name, source } = listed;
+            put_new(alloc, &mut table.names, &mut table.sources, name, source)
+        }
     }
 }
 
@@ -134,8 +112,8 @@ fn add(alloc: Global, table: &mut SourceTable, listed: ListedSource) -> Result<(
     ensures fit { OnOk result (IsSourceTable (source_view table.new)) }
 {
     let at = place_of(&table.names, &listed.name);
-    if let Some(code) = code_at(table, at, &listed) {
-        return Err(FieldFault { code });
+    if let Some(fault) = fault_at(table, at, &listed) {
+        return Err(fault);
     }
     put_at(alloc, table, at, listed)
 }
@@ -157,19 +135,30 @@ fn add_paragraph(
 }
 
 /// Goes on by a paragraph, and tells its fault at its line.
-fn tell_paragraph(
-    alloc: Global,
-    table: &mut SourceTable,
-    paragraph: &Paragraph,
-) -> Result<(), Fault>
-    requires { IsSourceTable (source_view table.old) }
-    ensures read { Gives fault_of (λ _. source_view table.new) result
-        (tell_source (source_view table.old) paragraph.now) }
-    ensures fit { OnOk result (IsSourceTable (source_view table.new)) }
-{
-    match add_paragraph(alloc, table, paragraph) {
-        Ok(()) => Ok(()),
-        Err(fault) => Err(Fault::place(SOURCES, paragraph.line(), fault.code)),
+#[derive(Drop)]
+struct SourceStep;
+
+impl ParagraphStep for SourceStep {
+    ghost use Rattle.farm_universe.specs.SourcesText as text;
+
+    type SoFar = SourceTable;
+
+    ghost Said = { text.SourceTable };
+
+    ghost said = { source_view };
+
+    ghost fits = { λ _ table. IsSourceTable (source_view table) };
+
+    ghost step = { λ _. tell_source };
+
+    #[tactic(auto, using(crate::proofs::ToldLaws::gives_told))]
+    fn take(
+        &self,
+        alloc: Global,
+        table: &mut SourceTable,
+        paragraph: &Paragraph,
+    ) -> Result<(), Fault> {
+        told(SOURCES, paragraph, add_paragraph(alloc, table, paragraph))
     }
 }
 
@@ -178,16 +167,12 @@ pub fn read_sources(alloc: Global, paragraphs: &Paragraphs) -> Result<SourceTabl
     ensures read { Gives fault_of source_view result (sources_of paragraphs.now) }
     ensures fit { IfOk result (λ table. IsSourceTable (source_view table)) }
 {
-    let mut table = SourceTable {
+    let empty = SourceTable {
         names: IndexSet::new(alloc),
         sources: Vec::new(alloc),
         count: 0,
     };
-    for number in 0..paragraphs.count() {
-        let paragraph = Paragraph::new(paragraphs, number);
-        tell_paragraph(alloc, &mut table, &paragraph)?;
-    }
-    Ok(table)
+    read_steps(alloc, &SourceStep, empty, paragraphs, 0)
 }
 
 /// The source of a name with this version.
@@ -197,7 +182,7 @@ pub fn find_source<'a>(table: &'a SourceTable, name: &[u8], version: &Version) -
     ensures { option_map (λ source. source.now) result
         ≡ find_source (source_view table.now) name.now version.now }
 {
-    given_at(table, place_of(&table.names, name))
+    group_at(&table.sources, place_of(&table.names, name))
         .iter()
         .find(|source| is_of_version(version, source))
 }

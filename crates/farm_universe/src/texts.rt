@@ -1,6 +1,6 @@
 //! The three texts, each as a whole.
 
-ghost use Rattle.std.specs.Prelude.{◌≡◌, IfOk};
+ghost use Rattle.std.specs.Prelude.{IfOk};
 ghost use Rattle.deb_text.specs.Answers.{Gives, refusal_of as fault_of};
 ghost use Rattle.farm_universe.specs.FarmView.{IsLand, IsYard, farm_view, land_view};
 ghost use Rattle.farm_universe.specs.SourceView.{source_view, IsSourceTable};
@@ -8,12 +8,12 @@ ghost use Rattle.farm_universe.specs.TableView.{table_view, IsFit};
 ghost use Rattle.farm_universe.specs.UniverseText.{paragraphs_in, table_at, sources_at, farm_at};
 
 use crate::farm::{Farm, read_farm};
-use crate::files::{FARM, PACKAGES, SOURCES};
 use crate::package_table::{PackageTable, read_table};
 use crate::paragraph::Paragraph;
 use crate::source_table::{SourceTable, read_sources};
 use deb_stanza::Paragraphs;
 use deb_text::Fault;
+use deb_text::files::{FARM, PACKAGES, SOURCES};
 use std::alloc::Global;
 
 #[tactic(auto, unfolding(crate::specs::UniverseText::paragraphs_in))]
@@ -22,7 +22,7 @@ fn read_paragraphs(alloc: Global, file: u8, text: &[u8]) -> Result<Paragraphs, F
 {
     match Paragraphs::read(alloc, text) {
         Ok(paragraphs) => Ok(paragraphs),
-        Err(fault) => Err(Fault::place(file, fault.line, fault.code)),
+        Err(fault) => Err(fault.in_file(file)),
     }
 }
 

@@ -6,14 +6,14 @@ use Rattle.std.specs.Str.{bytes_eq}
 use Rattle.std.proofs.lemmas.Bool.{leb-false, ltb-false}
 use Rattle.std.proofs.lemmas.List.{append-nil, length-map}
 use Rattle.std.proofs.lemmas.List.Concat.{flat_map-append}
-use Rattle.std.proofs.lemmas.List.Elements.{All-nil, All-push, All-pop, All-append}
+use Rattle.std.proofs.lemmas.List.Elements.{All-nil, All-tail, All-push, All-pop, All-append}
 use Rattle.deb_text.specs.Steps.{traverse}
 use Rattle.farm_model.specs.Universe.{Recipe, Base, Universe}
 use Rattle.plan_asm.specs.declared.error.TheConstants.{MOST_LANES, MOST_INSTRUCTIONS}
 use Rattle.plan_model.specs.declared.instructions.Instruction.{Instruction}
 use Rattle.plan_model.specs.declared.instructions.Instruction.TheVariants.{Unpack, Configure, Deconfigure, Remove, Build, Publish, Wait}
-use Rattle.plan_asm.specs.Drafts.{Open, Nothing, InLane, Draft, is_open, all_lanes, instructions_of, published, or_unknown, known_name, base_names, known_base, recipe_names, known_recipe, set_of, instruction_of, fresh_lane, open_lane, end_lane, with_instructions, published_once, add, take_form}
-use Rattle.plan_asm.specs.Forms.{Wording, UnpackForm, ConfigureForm, DeconfigureForm, RemoveForm, BuildForm, PublishForm, WaitForm, Form, LaneForm, EndForm, InstructionForm}
+use Rattle.plan_asm.specs.Drafts.{Block, Open, Nothing, InBlock, InLane, Draft, is_open, block_named, all_lanes, instructions_of, published, or_unknown, known_name, base_names, known_base, recipe_names, known_recipe, set_of, instruction_of, open_block, fresh_lane, open_lane, end_open, with_instructions, published_once, within_limit, add, take_form}
+use Rattle.plan_asm.specs.Forms.{Wording, UnpackForm, ConfigureForm, DeconfigureForm, RemoveForm, BuildForm, PublishForm, WaitForm, Form, BlockForm, LaneForm, EndForm, UseForm, InstructionForm}
 use Rattle.plan_model.specs.Plan.{Lane}
 use Rattle.plan_model.specs.Sound.{has_double}
 use Rattle.plan_asm.proofs.Carried.{if-has, then-has, traverse-has}
@@ -39,14 +39,24 @@ pub record IsGoodLane (u : Universe) (l : Lane) : Type 0 where
   pub budget : l.budget < 10 ^ 15
   pub instructions : All (IsGood u) l.instructions
 
+abbrev pub IsGoodBlock : Universe → Block → Type 0
+IsGoodBlock u b = All (IsGood u) b.instructions
+
+-- the blocks that have ended, and the open one
+abbrev pub all_blocks : List Block → Open → List Block
+all_blocks bs Nothing = bs
+all_blocks bs (InBlock line block) = bs ++ block ∷ []
+all_blocks bs (InLane line lane) = bs
+
 pub record IsGoodDraft (u : Universe) (d : Draft) : Type 0 where
+  pub blocks : All (IsGoodBlock u) (all_blocks d.blocks d.current)
   pub lanes : All (IsGoodLane u) (all_lanes d.lanes d.current)
   pub few : length (all_lanes d.lanes d.current) ≤ MOST_LANES
   pub small : length (instructions_of (all_lanes d.lanes d.current)) ≤ MOST_INSTRUCTIONS
   pub once : has_double (published (instructions_of (all_lanes d.lanes d.current))) ≡ false
 
 -- the instructions of one more lane come last
-instructions_of-push : (ls : List Lane) (l : Lane)
+pub instructions_of-push : (ls : List Lane) (l : Lane)
     → instructions_of (ls ++ l ∷ []) ≡ instructions_of ls ++ l.instructions
 instructions_of-push ls l =
     rw (flat_map-append (λ (l : Lane). l.instructions) ls (l ∷ []), append-nil l.instructions) refl
@@ -115,58 +125,138 @@ module _ (u : Universe) where
 
   -- ---- lines
 
-  lane-opened : (number : ℕ) (ls : List Lane) (name : List ℕ) (budget base : ℕ)
-      → IsGoodDraft u (record { lanes = ls; current = Nothing })
+  abbrev good : List Block → List Lane → Open → Type 0
+  good bs ls o = IsGoodDraft u (record { blocks = bs; lanes = ls; current = o })
+
+  block-opened : (number : ℕ) (bs : List Block) (ls : List Lane) (name : List ℕ)
+      → good bs ls Nothing
+      → good bs ls (InBlock number (record { name = name; instructions = [] }))
+  block-opened number bs ls name kept = record {
+    blocks = All-push (IsGoodBlock u) bs (record { name = name; instructions = [] }) kept.blocks
+        (All-nil (IsGood u));
+    lanes = kept.lanes;
+    few = kept.few;
+    small = kept.small;
+    once = kept.once;
+  }
+
+  open_block-has : (number : ℕ) (bs : List Block) (ls : List Lane) (o : Open) (name : List ℕ)
+      → is_open o ≡ false → good bs ls o
+      → let d : Draft = record { blocks = bs; lanes = ls; current = o } in
+      IfOk (open_block number d name) (IsGoodDraft u)
+  open_block-has number bs ls Nothing name shut kept =
+      if-has (IsGoodDraft u) (list_any (λ (b : Block). bytes_eq name b.name) bs) _ _ (λ _. tt)
+      (λ _. block-opened number bs ls name kept)
+  open_block-has number bs ls (InBlock line b) name shut kept = absurd (true≢false shut)
+  open_block-has number bs ls (InLane line l) name shut kept = absurd (true≢false shut)
+
+  lane-opened : (number : ℕ) (bs : List Block) (ls : List Lane) (name : List ℕ) (budget base : ℕ)
+      → good bs ls Nothing
       → budget < 10 ^ 15 → base < length u.bases → length ls < MOST_LANES
-      → IsGoodDraft u (record { lanes = ls; current = InLane number (fresh_lane name base budget) })
-  lane-opened number ls name budget base good small known few = record {
-    lanes = All-push (IsGoodLane u) ls (fresh_lane name base budget) good.lanes
+      → good bs ls (InLane number (fresh_lane name base budget))
+  lane-opened number bs ls name budget base kept small known few = record {
+    blocks = kept.blocks;
+    lanes = All-push (IsGoodLane u) ls (fresh_lane name base budget) kept.lanes
         (record { base = known; budget = small; instructions = All-nil (IsGood u) });
     few = rw (length-append ls (fresh_lane name base budget ∷ [])) (omega (arith, few));
     small = rw (
       instructions_of-push ls (fresh_lane name base budget),
       append-nil (instructions_of ls),
-    ) good.small;
+    ) kept.small;
     once = rw (
       instructions_of-push ls (fresh_lane name base budget),
       append-nil (instructions_of ls),
-    ) good.once;
+    ) kept.once;
   }
 
-  open_lane-has : (number : ℕ) (ls : List Lane) (o : Open) (name : List ℕ) (budget base : ℕ)
-      → is_open o ≡ false → IsGoodDraft u (record { lanes = ls; current = o })
+  open_lane-has : (number : ℕ) (bs : List Block) (ls : List Lane) (o : Open) (name : List ℕ)
+      (budget base : ℕ) → is_open o ≡ false → good bs ls o
       → budget < 10 ^ 15 → base < length u.bases
-      → let d : Draft = record { lanes = ls; current = o } in
+      → let d : Draft = record { blocks = bs; lanes = ls; current = o } in
       IfOk (open_lane number d name budget base) (IsGoodDraft u)
-  open_lane-has number ls Nothing name budget base shut good small known =
+  open_lane-has number bs ls Nothing name budget base shut kept small known =
       if-has (IsGoodDraft u) (list_any (λ (l : Lane). bytes_eq l.name name) ls) _ _ (λ _. tt)
       (λ _. if-has (IsGoodDraft u) (nat_le MOST_LANES (length ls)) _ _ (λ _. tt)
-      (λ free. lane-opened number ls name budget base good small known
+      (λ free. lane-opened number bs ls name budget base kept small known
       (leb-false MOST_LANES (length ls) free)))
-  open_lane-has number ls (InLane line l) name budget base shut good small known =
+  open_lane-has number bs ls (InBlock line b) name budget base shut kept small known =
+      absurd (true≢false shut)
+  open_lane-has number bs ls (InLane line l) name budget base shut kept small known =
       absurd (true≢false shut)
 
-  end_lane-has : (ls : List Lane) (o : Open) → IsGoodDraft u (record { lanes = ls; current = o })
-      → IfOk (end_lane ls o) (IsGoodDraft u)
-  end_lane-has ls Nothing good = tt
-  end_lane-has ls (InLane line l) good =
-      record { lanes = good.lanes; few = good.few; small = good.small; once = good.once }
+  end_open-has : (bs : List Block) (ls : List Lane) (o : Open) → good bs ls o
+      → IfOk (end_open bs ls o) (IsGoodDraft u)
+  end_open-has bs ls Nothing kept = tt
+  end_open-has bs ls (InBlock line b) kept = record {
+    blocks = kept.blocks;
+    lanes = kept.lanes;
+    few = kept.few;
+    small = kept.small;
+    once = kept.once;
+  }
+  end_open-has bs ls (InLane line l) kept = record {
+    blocks = kept.blocks;
+    lanes = kept.lanes;
+    few = kept.few;
+    small = kept.small;
+    once = kept.once;
+  }
 
-  instructions-added : (ls : List Lane) (line : ℕ) (l : Lane) (xs : List Instruction)
-      → IsGoodDraft u (record { lanes = ls; current = InLane line l }) → All (IsGood u) xs
+  ended : (bs : List Block) (o : Open) → All (IsGoodBlock u) (all_blocks bs o)
+      → All (IsGoodBlock u) bs
+  ended bs Nothing kept = kept
+  ended bs (InBlock line b) kept =
+      (All-pop (IsGoodBlock u) (bs ++ b ∷ []) bs (Some b) refl kept).0
+  ended bs (InLane line l) kept = kept
+
+  block_named-has : (bs : List Block) (name : List ℕ) → All (IsGoodBlock u) bs
+      → IfOk (block_named bs name) (All (IsGood u))
+  block_named-has [] name kept = tt
+  block_named-has (b ∷ bs) name kept =
+      if-has (All (IsGood u)) (bytes_eq name b.name) _ _
+      (λ _. kept 0 b (omega arith))
+      (λ _. block_named-has bs name (All-tail (IsGoodBlock u) b bs kept))
+
+  within_limit-has : (xs : List Instruction)
+      → IfOk (within_limit xs) (λ ys. (ys ≡ xs) × (length xs ≤ MOST_INSTRUCTIONS))
+  within_limit-has xs =
+      if-has (λ ys. (ys ≡ xs) × (length xs ≤ MOST_INSTRUCTIONS))
+      (nat_lt MOST_INSTRUCTIONS (length xs)) _ _ (λ _. tt)
+      (λ few. (refl, ltb-false MOST_INSTRUCTIONS (length xs) few))
+
+  -- more instructions of the open block
+  block-added : (bs : List Block) (ls : List Lane) (line : ℕ) (b : Block)
+      (xs all : List Instruction) → good bs ls (InBlock line b) → All (IsGood u) xs
+      → all ≡ b.instructions ++ xs
+      → good bs ls (InBlock line (record { name = b.name; instructions = all }))
+  block-added bs ls line b xs all kept fine is =
+      let both = All-pop (IsGoodBlock u) (bs ++ b ∷ []) bs (Some b) refl kept.blocks in
+      record {
+        blocks = All-push (IsGoodBlock u) bs (record { name = b.name; instructions = all }) both.0
+            (rw is (All-append (IsGood u) b.instructions xs both.1 fine));
+        lanes = kept.lanes;
+        few = kept.few;
+        small = kept.small;
+        once = kept.once;
+      }
+
+  -- more instructions of the open lane
+  lane-added : (bs : List Block) (ls : List Lane) (line : ℕ) (l : Lane) (xs : List Instruction)
+      → good bs ls (InLane line l) → All (IsGood u) xs
       → has_double (published (instructions_of (ls ++ l ∷ []) ++ xs)) ≡ false
       → length (instructions_of (ls ++ l ∷ []) ++ xs) ≤ MOST_INSTRUCTIONS
-      → IsGoodDraft u (record { lanes = ls; current = InLane line (with_instructions l xs) })
-  instructions-added ls line l xs good fine once few =
-      let both = All-pop (IsGoodLane u) (ls ++ l ∷ []) ls (Some l) refl good.lanes in
+      → good bs ls (InLane line (with_instructions l xs))
+  lane-added bs ls line l xs kept fine once few =
+      let both = All-pop (IsGoodLane u) (ls ++ l ∷ []) ls (Some l) refl kept.lanes in
       record {
+        blocks = kept.blocks;
         lanes = All-push (IsGoodLane u) ls (with_instructions l xs) both.0 (record {
           base = both.1.base;
           budget = both.1.budget;
           instructions = All-append (IsGood u) l.instructions xs both.1.instructions fine;
         });
         few = rw (length-append ls (with_instructions l xs ∷ []))
-            (rw (length-append ls (l ∷ [])) at good.few);
+            (rw (length-append ls (l ∷ [])) at kept.few);
         small = rw (instructions-more ls l xs) few;
         once = rw (instructions-more ls l xs) once;
       }
@@ -175,32 +265,45 @@ module _ (u : Universe) where
   published_once-has rs =
       if-has (λ _. has_double rs ≡ false) (has_double rs) _ _ (λ _. tt) (λ once. once)
 
-  add-has : (ls : List Lane) (o : Open) (xs : List Instruction)
-      → IsGoodDraft u (record { lanes = ls; current = o }) → All (IsGood u) xs
-      → IfOk (add ls o xs) (IsGoodDraft u)
-  add-has ls Nothing xs good fine = tt
-  add-has ls (InLane line l) xs good fine =
+  add-has : (bs : List Block) (ls : List Lane) (o : Open) (xs : List Instruction)
+      → good bs ls o → All (IsGood u) xs → IfOk (add bs ls o xs) (IsGoodDraft u)
+  add-has bs ls Nothing xs kept fine = tt
+  add-has bs ls (InBlock line b) xs kept fine =
+      let all = b.instructions ++ xs in
+      then-has (λ ys. (ys ≡ all) × (length all ≤ MOST_INSTRUCTIONS)) (IsGoodDraft u)
+      (within_limit all) _ (within_limit-has all)
+      (λ ys is. block-added bs ls line b xs ys kept fine is.0)
+  add-has bs ls (InLane line l) xs kept fine =
       let all = instructions_of (ls ++ l ∷ []) ++ xs in
       then-has (λ _. has_double (published all) ≡ false) (IsGoodDraft u)
       (published_once (published all)) _ (published_once-has (published all))
-      (λ _ once. if-has (IsGoodDraft u) (nat_lt MOST_INSTRUCTIONS (length all)) _ _ (λ _. tt)
-      (λ few. instructions-added ls line l xs good fine once
-      (ltb-false MOST_INSTRUCTIONS (length all) few)))
+      (λ _ once. then-has (λ ys. (ys ≡ all) × (length all ≤ MOST_INSTRUCTIONS)) (IsGoodDraft u)
+      (within_limit all) _ (within_limit-has all)
+      (λ _ few. lane-added bs ls line l xs kept fine once few.1))
 
   pub take_form-has : (number : ℕ) (d : Draft) (form : Form) → IsGoodDraft u d → IsForm form
       → IfOk (take_form u number d form) (IsGoodDraft u)
   unfolding take_form
-  take_form-has number d (LaneForm name chroot budget) good small =
+  take_form-has number d (BlockForm name) kept small =
+      if-has (IsGoodDraft u) (is_open d.current) _ _ (λ _. tt)
+      (λ shut. open_block-has number d.blocks d.lanes d.current name shut kept)
+  take_form-has number d (LaneForm name chroot budget) kept small =
       if-has (IsGoodDraft u) (is_open d.current) _ _ (λ _. tt)
       (λ shut. then-has (λ b. b < length u.bases) (IsGoodDraft u) (known_base u chroot) _
       (known_base-has chroot)
       (λ base known.
-      open_lane-has number d.lanes d.current name budget base shut good small known))
-  take_form-has number d EndForm good small = end_lane-has d.lanes d.current good
-  take_form-has number d (InstructionForm wording) good small =
+      open_lane-has number d.blocks d.lanes d.current name budget base shut kept small known))
+  take_form-has number d EndForm kept small = end_open-has d.blocks d.lanes d.current kept
+  take_form-has number d (UseForm name) kept small =
+      if-has (IsGoodDraft u) (is_open d.current) _ _
+      (λ _. then-has (All (IsGood u)) (IsGoodDraft u) (block_named d.blocks name) _
+      (block_named-has d.blocks name (ended d.blocks d.current kept.blocks))
+      (λ xs fine. add-has d.blocks d.lanes d.current xs kept fine))
+      (λ _. tt)
+  take_form-has number d (InstructionForm wording) kept small =
       if-has (IsGoodDraft u) (is_open d.current) _ _
       (λ _. then-has (IsGood u) (IsGoodDraft u) (instruction_of u wording) _
       (instruction_of-has wording)
-      (λ x fine. add-has d.lanes d.current (x ∷ []) good
+      (λ x fine. add-has d.blocks d.lanes d.current (x ∷ []) kept
       (All-push (IsGood u) [] x (All-nil (IsGood u)) fine)))
       (λ _. tt)

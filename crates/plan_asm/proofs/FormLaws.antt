@@ -7,12 +7,14 @@ use Rattle.deb_text.specs.Cuts.{is_nil}
 use Rattle.deb_text.specs.Numbers.{is_number, number_at}
 use Rattle.deb_text.specs.Steps.{◌>>=◌}
 use Rattle.deb_text.specs.Words.{words, is_word}
-use Rattle.plan_asm.specs.Forms.{Wording, Form, LaneForm, EndForm, InstructionForm, lane_with, lane_form, wording_by, form_at, first_word, behind_word}
+use Rattle.plan_asm.specs.Forms.{Wording, Form, BlockForm, LaneForm, EndForm, UseForm, InstructionForm, lane_with, lane_form, one_word, wording_by, form_at, first_word, behind_word}
 use Rattle.plan_asm.proofs.Carried.{if-has}
 
 abbrev pub IsForm : Form → Type 0
+IsForm (BlockForm name) = Unit {0}
 IsForm (LaneForm name chroot budget) = budget < 10 ^ 15
 IsForm EndForm = Unit {0}
+IsForm (UseForm block) = Unit {0}
 IsForm (InstructionForm wording) = Unit {0}
 
 lane_with-has : (name chroot budget : List ℕ)
@@ -34,6 +36,14 @@ lane_form-has (a ∷ b ∷ c ∷ d ∷ e ∷ []) =
     (λ _. lane_with-has a c e) (λ _. tt)
 lane_form-has (a ∷ b ∷ c ∷ d ∷ e ∷ f ∷ ws) = tt
 
+block-has : (r : Result (List ℕ) ℕ) → IfOk (r >>= λ (name : List ℕ). Ok (BlockForm name)) IsForm
+block-has (Ok name) = tt
+block-has (Err code) = tt
+
+use-has : (r : Result (List ℕ) ℕ) → IfOk (r >>= λ (block : List ℕ). Ok (UseForm block)) IsForm
+use-has (Ok block) = tt
+use-has (Err code) = tt
+
 instruction-has : (r : Result Wording ℕ)
     → IfOk (r >>= λ (wording : Wording). Ok (InstructionForm wording)) IsForm
 instruction-has (Ok wording) = tt
@@ -46,4 +56,8 @@ form-has line =
     (λ _. lane_form-has (words (behind_word line)))
     (λ _. if-has IsForm (bytes_eq (first_word line) (codes "end")) _ _
     (λ _. if-has IsForm (is_nil (words (behind_word line))) _ _ (λ _. tt) (λ _. tt))
-    (λ _. instruction-has (wording_by (first_word line) (behind_word line))))
+    (λ _. if-has IsForm (bytes_eq (first_word line) (codes "block")) _ _
+    (λ _. block-has (one_word (words (behind_word line))))
+    (λ _. if-has IsForm (bytes_eq (first_word line) (codes "use")) _ _
+    (λ _. use-has (one_word (words (behind_word line))))
+    (λ _. instruction-has (wording_by (first_word line) (behind_word line))))))

@@ -14,7 +14,7 @@ use Rattle.farm_model.specs.Universe.{Universe}
 use Rattle.plan_asm.specs.declared.error.TheConstants.{FILE}
 use Rattle.plan_model.specs.declared.instructions.Instruction.{Instruction}
 use Rattle.plan_model.specs.declared.instructions.Instruction.TheVariants.{Unpack, Configure, Deconfigure, Remove, Build, Publish, Wait}
-use Rattle.plan_asm.specs.Drafts.{Open, Nothing, InLane, Draft, empty, all_lanes, instructions_of, published}
+use Rattle.plan_asm.specs.Drafts.{Block, Open, Nothing, InBlock, InLane, Draft, empty, all_lanes, instructions_of, published}
 use Rattle.plan_asm.specs.CountedPlan.{CountedPlan}
 use Rattle.plan_asm.specs.Ends.{finished, IsWithinLimits}
 use Rattle.plan_asm.specs.Forms.{form_at, is_head}
@@ -22,7 +22,7 @@ use Rattle.plan_model.specs.Plan.{Lane, Plan, lane, no_lane}
 use Rattle.plan_asm.specs.PlanText.{take_text, take_line, draft_of, plan_in, plan_of}
 use Rattle.plan_model.specs.Sound.{has_double, IsInstruction, IsPlan}
 use Rattle.plan_asm.proofs.Carried.{if-has, then-has, steps-keep, placed-has, always, has-ok}
-use Rattle.plan_asm.proofs.DraftLaws.{IsGood, IsGoodLane, IsGoodDraft, take_form-has}
+use Rattle.plan_asm.proofs.DraftLaws.{IsGood, IsGoodBlock, IsGoodLane, IsGoodDraft, take_form-has}
 use Rattle.plan_asm.proofs.FormLaws.{IsForm, form-has}
 use Rattle.plan_asm.proofs.Publishes.{once-in}
 
@@ -60,6 +60,7 @@ module _ (u : Universe) where
   draft-has ls =
       steps-keep (take_line u) (IsGoodDraft u) line-has ls empty
       (record {
+        blocks = All-nil (IsGoodBlock u);
         lanes = All-nil (IsGoodLane u);
         few = omega arith;
         small = omega arith;
@@ -81,17 +82,19 @@ module _ (u : Universe) where
 
   -- ---- a text
 
-  finished-has : (ls : List Lane) (o : Open) → IsGoodDraft u (record { lanes = ls; current = o })
+  finished-has : (bs : List Block) (ls : List Lane) (o : Open)
+      → IsGoodDraft u (record { blocks = bs; lanes = ls; current = o })
       → IfOk (finished ls o) (IsGoodPlan u)
-  finished-has ls Nothing good = record { lanes = good.lanes; once = good.once }
-  finished-has ls (InLane line l) good = tt
+  finished-has bs ls Nothing good = record { lanes = good.lanes; once = good.once }
+  finished-has bs ls (InBlock line b) good = tt
+  finished-has bs ls (InLane line l) good = tt
 
   lines-has : (ls : List Line) → IfOk (plan_in u ls) (IsGoodPlan u)
   lines-has [] = tt
   lines-has ((number, line) ∷ ls) =
       if-has (IsGoodPlan u) (is_head line) _ _
       (λ _. then-has (IsGoodDraft u) (IsGoodPlan u) (draft_of u ls) _ (draft-has ls)
-      (λ d good. finished-has d.lanes d.current good))
+      (λ d good. finished-has d.blocks d.lanes d.current good))
       (λ _. tt)
 
   text-has : (text : List ℕ) → IfOk (plan_of u text) (IsGoodPlan u)

@@ -1,3 +1,5 @@
+pub mod AssemblyLaws
+pub mod BlockLaws
 pub mod Carried
 pub mod Counts
 pub mod Doubles
@@ -6,4 +8,7 @@ pub mod FormLaws
 pub mod Kept
 pub mod Places
 pub mod Publishes
+pub mod TableLaws
 pub mod Tallies
+pub mod TurnLaws
+pub mod WriteLaws

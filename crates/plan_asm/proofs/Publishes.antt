@@ -2,7 +2,6 @@
 use Rattle.std.proofs.Common.{◌≡◌, ℕ, zero, suc, ◌<◌, Bool, true, false, List, [], ◌∷◌, ◌++◌, length, refl, sym, ap, subst, ◌∙◌, Some, arith, true≢false}
 use Rattle.std.specs.Prelude.{slice_get, ◌==◌}
 use Rattle.std.proofs.lemmas.Bool.{or_parts, eqb-true, eq-eqb}
-use Rattle.std.proofs.lemmas.List.{append-nil}
 use Rattle.std.proofs.lemmas.List.Concat.{flat_map-append}
 use Rattle.std.proofs.lemmas.List.Folds.{list_any-append}
 use Rattle.farm_model.specs.Chroot.{member}
@@ -45,10 +44,9 @@ member-back ms ns r there =
 
 -- ---- a lane
 
-pub published-push : (xs : List Instruction) (x : Instruction)
-    → published (xs ++ x ∷ []) ≡ published xs ++ published_by x
-published-push xs x =
-    flat_map-append published_by xs (x ∷ []) ∙ rw (append-nil (published_by x)) refl
+pub published-append : (xs ys : List Instruction)
+    → published (xs ++ ys) ≡ published xs ++ published ys
+published-append xs ys = flat_map-append published_by xs ys
 
 publishes : (x : Instruction) (r : ℕ) → Some x ≡ Some (Publish r) → member (published_by x) r ≡ true
 publishes x r is =

@@ -1,7 +1,9 @@
--- What a line of a plan does behind the lines before it (the project's own format). Parameters: u a
--- universe, d a draft, ls the lanes that have ended.
+-- What a line of a plan does behind the lines before it (the project's own format): blocks are a map
+-- from names to lists of instructions, and a `use` stands for the list of its block. Parameters: u a
+-- universe, d a draft, bs and ls the blocks and the lanes that have ended.
 --
 --   Draft                        what the lines so far say
+--   block_named bs name          the instructions of a block, or UNKNOWN_BLOCK
 --   known_name, known_base,
 --   known_recipe                 a name's number in the universe, or UNKNOWN_NAME
 --   set_of, instruction_of       the numbers of a set of names; the instruction that a line says
@@ -13,35 +15,50 @@ use Rattle.deb_profile.specs.Reduction.{reduced_entry}
 use Rattle.deb_text.specs.Groups.{place_in}
 use Rattle.deb_text.specs.Steps.{◌>>=◌, traverse}
 use Rattle.farm_model.specs.Universe.{Base, Recipe, Universe}
-use Rattle.plan_asm.specs.declared.error.TheConstants.{BAD_LINE, UNKNOWN_NAME, NAME_TWICE, PUBLISHED_TWICE, NAME_TAKEN, OVER_LIMIT, MOST_LANES, MOST_INSTRUCTIONS}
+use Rattle.plan_asm.specs.declared.error.TheConstants.{BAD_LINE, UNKNOWN_NAME, NAME_TWICE, UNKNOWN_BLOCK, PUBLISHED_TWICE, NAME_TAKEN, OVER_LIMIT, MOST_LANES, MOST_INSTRUCTIONS}
 use Rattle.plan_model.specs.declared.instructions.Instruction.{Instruction}
 use Rattle.plan_model.specs.declared.instructions.Instruction.TheVariants.{Unpack, Configure, Deconfigure, Remove, Build, Publish, Wait}
-use Rattle.plan_asm.specs.Forms.{Wording, UnpackForm, ConfigureForm, DeconfigureForm, RemoveForm, BuildForm, PublishForm, WaitForm, Form, LaneForm, EndForm, InstructionForm}
+use Rattle.plan_asm.specs.Forms.{Wording, UnpackForm, ConfigureForm, DeconfigureForm, RemoveForm, BuildForm, PublishForm, WaitForm, Form, BlockForm, LaneForm, EndForm, UseForm, InstructionForm}
 use Rattle.plan_model.specs.Plan.{Lane}
 use Rattle.plan_model.specs.Sound.{has_double}
+
+-- a block: its name, and its instructions with those of the blocks that it uses
+pub record Block : Type 0 where
+  pub name : List ℕ
+  pub instructions : List Instruction
 
 -- what is left open, with the number of its first line
 pub data Open : Type 0 where
   Nothing : Open
+  InBlock : (line : ℕ) (block : Block) → Open
   InLane : (line : ℕ) (lane : Lane) → Open
 
--- the lanes that have ended, and what is left open
+-- the blocks and the lanes that have ended, and what is left open
 pub record Draft : Type 0 where
+  pub blocks : List Block
   pub lanes : List Lane
   pub current : Open
 
 -- before the first line
 abbrev pub empty : Draft
-empty = record { lanes = []; current = Nothing }
+empty = record { blocks = []; lanes = []; current = Nothing }
 
 -- whether something is left open
 abbrev pub is_open : Open → Bool
 is_open Nothing = false
+is_open (InBlock line block) = true
 is_open (InLane line lane) = true
+
+-- the instructions of the block of this name, or that no block that has ended is called so
+abbrev pub block_named : List Block → List ℕ → Result (List Instruction) ℕ
+block_named [] name = Err UNKNOWN_BLOCK
+block_named (b ∷ bs) name =
+    if bytes_eq name b.name then Ok b.instructions else block_named bs name
 
 -- the lanes that have ended, and the open one
 abbrev pub all_lanes : List Lane → Open → List Lane
 all_lanes ls Nothing = ls
+all_lanes ls (InBlock line block) = ls
 all_lanes ls (InLane line lane) = ls ++ lane ∷ []
 
 -- the instructions of these lanes, lane by lane
@@ -104,6 +121,16 @@ instruction_of u (WaitForm entry) = Ok (Wait (reduced_entry u.architectures [] e
 
 -- ---- lines
 
+-- a block opens at the line of this number
+abbrev pub open_block : ℕ → Draft → List ℕ → Result Draft ℕ
+open_block number d name =
+    if list_any (λ (b : Block). bytes_eq name b.name) d.blocks then Err NAME_TAKEN
+    else Ok (record {
+      blocks = d.blocks;
+      lanes = d.lanes;
+      current = InBlock number (record { name = name; instructions = [] });
+    })
+
 -- a lane without instructions
 abbrev pub fresh_lane : List ℕ → ℕ → ℕ → Lane
 fresh_lane name base budget = record {
@@ -119,14 +146,18 @@ open_lane number d name budget base =
     if list_any (λ (l : Lane). bytes_eq l.name name) d.lanes then Err NAME_TAKEN
     else (if nat_le MOST_LANES (length d.lanes) then Err OVER_LIMIT
     else Ok (record {
+      blocks = d.blocks;
       lanes = d.lanes;
       current = InLane number (fresh_lane name base budget);
     }))
 
--- the open lane ends
-abbrev pub end_lane : List Lane → Open → Result Draft ℕ
-end_lane ls Nothing = Err BAD_LINE
-end_lane ls (InLane line lane) = Ok (record { lanes = ls ++ lane ∷ []; current = Nothing })
+-- the open block or lane ends
+abbrev pub end_open : List Block → List Lane → Open → Result Draft ℕ
+end_open bs ls Nothing = Err BAD_LINE
+end_open bs ls (InBlock line block) =
+    Ok (record { blocks = bs ++ block ∷ []; lanes = ls; current = Nothing })
+end_open bs ls (InLane line lane) =
+    Ok (record { blocks = bs; lanes = ls ++ lane ∷ []; current = Nothing })
 
 -- a lane with more instructions behind the others
 abbrev pub with_instructions : Lane → List Instruction → Lane
@@ -141,22 +172,46 @@ with_instructions l xs = record {
 abbrev pub published_once : List ℕ → Result (List ℕ) ℕ
 published_once recipes = if has_double recipes then Err PUBLISHED_TWICE else Ok recipes
 
--- instructions come into the open lane: no recipe is published twice, and there are not too many
-abbrev pub add : List Lane → Open → List Instruction → Result Draft ℕ
-add ls Nothing xs = Err BAD_LINE
-add ls (InLane line lane) xs =
+-- these instructions, not too many of them
+abbrev pub within_limit : List Instruction → Result (List Instruction) ℕ
+within_limit xs = if nat_lt MOST_INSTRUCTIONS (length xs) then Err OVER_LIMIT else Ok xs
+
+-- instructions come into the open block or lane: no recipe is published twice in the lanes, and
+-- there are not too many in the block, or in all lanes
+abbrev pub add : List Block → List Lane → Open → List Instruction → Result Draft ℕ
+add bs ls Nothing xs = Err BAD_LINE
+add bs ls (InBlock line block) xs =
+    within_limit (block.instructions ++ xs)
+    >>= λ all. Ok (record {
+      blocks = bs;
+      lanes = ls;
+      current = InBlock line (record { name = block.name; instructions = all });
+    })
+add bs ls (InLane line lane) xs =
     let all = instructions_of (ls ++ lane ∷ []) ++ xs in
     published_once (published all)
-    >>= λ _. (if nat_lt MOST_INSTRUCTIONS (length all) then Err OVER_LIMIT
-    else Ok (record { lanes = ls; current = InLane line (with_instructions lane xs) }))
+    >>= λ _. within_limit all
+    >>= λ _. Ok (record {
+      blocks = bs;
+      lanes = ls;
+      current = InLane line (with_instructions lane xs);
+    })
+
+-- what a block stands for comes into the open block or lane
+abbrev pub add_use : List Block → List Lane → Open → List ℕ → Result Draft ℕ
+add_use bs ls o name = block_named bs name >>= λ xs. add bs ls o xs
 
 -- first whether the line may stand here, then its names, then what it changes
 unfoldable pub take_form : Universe → ℕ → Draft → Form → Result Draft ℕ
+take_form u number d (BlockForm name) =
+    if is_open d.current then Err BAD_LINE else open_block number d name
 take_form u number d (LaneForm name chroot budget) =
     if is_open d.current then Err BAD_LINE
     else (known_base u chroot >>= open_lane number d name budget)
-take_form u number d EndForm = end_lane d.lanes d.current
+take_form u number d EndForm = end_open d.blocks d.lanes d.current
+take_form u number d (UseForm name) =
+    if is_open d.current then add_use d.blocks d.lanes d.current name else Err BAD_LINE
 take_form u number d (InstructionForm wording) =
     if is_open d.current
-    then (instruction_of u wording >>= λ x. add d.lanes d.current (x ∷ []))
+    then (instruction_of u wording >>= λ x. add d.blocks d.lanes d.current (x ∷ []))
     else Err BAD_LINE

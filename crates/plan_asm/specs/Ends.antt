@@ -6,12 +6,13 @@ use Rattle.std.specs.Prelude.{◌<◌, ◌≤◌, ◌^◌, List, length, All, Re
 use Rattle.deb_text.specs.declared.fault.Fault.{Fault}
 use Rattle.deb_text.specs.Answers.{fault_at}
 use Rattle.plan_asm.specs.declared.error.TheConstants.{FILE, MOST_LANES, MOST_INSTRUCTIONS, UNCLOSED}
-use Rattle.plan_asm.specs.Drafts.{Open, Nothing, InLane, instructions_of}
+use Rattle.plan_asm.specs.Drafts.{Open, Nothing, InBlock, InLane, instructions_of}
 use Rattle.plan_model.specs.Plan.{Lane, Plan}
 
 -- what is left open is told at its first line
 abbrev pub finished : List Lane → Open → Result Plan Fault
 finished ls Nothing = Ok ls
+finished ls (InBlock line block) = Err (fault_at FILE line UNCLOSED)
 finished ls (InLane line lane) = Err (fault_at FILE line UNCLOSED)
 
 -- the limits of a plan

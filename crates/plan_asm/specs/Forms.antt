@@ -38,10 +38,14 @@ pub data Wording : Type 0 where
 
 -- what a line says
 pub data Form : Type 0 where
+  -- block NAME
+  BlockForm : (name : List ℕ) → Form
   -- lane NAME chroot CHROOT budget NUMBER
   LaneForm : (name chroot : List ℕ) (budget : ℕ) → Form
   -- end
   EndForm : Form
+  -- use BLOCK
+  UseForm : (block : List ℕ) → Form
   -- an instruction
   InstructionForm : (wording : Wording) → Form
 
@@ -70,7 +74,7 @@ lane_form _ = Err BAD_LINE
 abbrev pub end_form : List (List ℕ) → Result Form ℕ
 end_form ws = if is_nil ws then Ok EndForm else Err BAD_LINE
 
--- behind `build` and `publish`: one word
+-- behind `block`, `use`, `build` and `publish`: one word
 abbrev pub one_word : List (List ℕ) → Result (List ℕ) ℕ
 one_word (word ∷ []) = if is_word word then Ok word else Err BAD_LINE
 one_word _ = Err BAD_LINE
@@ -113,7 +117,11 @@ abbrev pub form_by : List ℕ → List ℕ → Result Form ℕ
 form_by word rest =
     if bytes_eq word (codes "lane") then lane_form (words rest)
     else (if bytes_eq word (codes "end") then end_form (words rest)
-    else (wording_by word rest >>= λ wording. Ok (InstructionForm wording)))
+    else (if bytes_eq word (codes "block")
+    then (one_word (words rest) >>= λ name. Ok (BlockForm name))
+    else (if bytes_eq word (codes "use")
+    then (one_word (words rest) >>= λ block. Ok (UseForm block))
+    else (wording_by word rest >>= λ wording. Ok (InstructionForm wording)))))
 
 -- the form of a line, or BAD_LINE
 unfoldable pub form_at : List ℕ → Result Form ℕ

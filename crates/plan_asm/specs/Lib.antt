@@ -3,6 +3,7 @@ pub mod LineErrors
 pub mod Forms
 pub mod Drafts
 pub mod Ends
+pub mod BlockTable
 pub mod PlanText
 pub mod View
 pub mod SectionView

@@ -1,52 +1,17 @@
 -- The listing of a plan (the project's own format): `plan 1`, and for each lane its line, its
 -- instructions and `end`. Versions stand as they were written.
 --
---   atom_text, entry_text      an alternative, and an entry (Debian Policy 7.1)
 --   instruction_text u x       an instruction
 --   listing_of u p             the listing of a plan
-use Rattle.std.specs.Prelude.{ℕ, List, [], ◌∷◌, ◌++◌, codes, Option, Some, None, slice_index_or}
+use Rattle.std.specs.Prelude.{ℕ, List, [], ◌++◌, codes, slice_index_or}
 use Rattle.std.specs.List.{flat_map}
 use Rattle.std.specs.Fmt.{decimal}
-use Rattle.deb_relation.specs.declared.operator.Op.{Op}
-use Rattle.deb_relation.specs.declared.operator.Op.TheVariants.{Earlier, EarlierOrEqual, Equal, LaterOrEqual, Later}
-use Rattle.deb_relation.specs.Relations.{Atom, Entry}
+use Rattle.deb_relation.specs.Spelling.{relation_text, entry_text}
 use Rattle.farm_model.specs.Packages.{recipe, base}
 use Rattle.farm_model.specs.Universe.{Universe}
 use Rattle.plan_model.specs.declared.instructions.Instruction.{Instruction}
 use Rattle.plan_model.specs.declared.instructions.Instruction.TheVariants.{Unpack, Configure, Deconfigure, Remove, Build, Publish, Wait}
 use Rattle.plan_model.specs.Plan.{Lane, Plan}
-
--- an operator between versions
-abbrev pub operator_text : Op → List ℕ
-operator_text Earlier = codes "<<"
-operator_text EarlierOrEqual = codes "<="
-operator_text Equal = codes "="
-operator_text LaterOrEqual = codes ">="
-operator_text Later = codes ">>"
-
--- behind a name: ` (OP VERSION)`, where there is one
-abbrev pub relation_text : Option (Op × List ℕ) → List ℕ
-relation_text None = []
-relation_text (Some (op, version)) =
-    codes " (" ++ operator_text op ++ codes " " ++ version ++ codes ")"
-
--- behind a name: `:` and the qualifier, where there is one
-abbrev pub qualifier_text : Option (List ℕ) → List ℕ
-qualifier_text None = []
-qualifier_text (Some qualifier) = codes ":" ++ qualifier
-
--- an alternative
-unfoldable pub atom_text : Atom → List ℕ
-atom_text atom = atom.name ++ qualifier_text atom.qualifier ++ relation_text atom.relation
-
--- alternatives, ` | ` before each
-abbrev pub more_text : Entry → List ℕ
-more_text atoms = flat_map (λ atom. codes " | " ++ atom_text atom) atoms
-
--- alternatives, ` | ` between two
-abbrev pub entry_text : Entry → List ℕ
-entry_text [] = []
-entry_text (atom ∷ atoms) = atom_text atom ++ more_text atoms
 
 -- the name of this number
 abbrev pub name_of : Universe → ℕ → List ℕ

@@ -1,7 +1,7 @@
 -- What the types of the crate stand for.
 use Rattle.deb_text.specs.Words.{words}
 use Rattle.plan_asm.specs.declared.form.Form.{Form}
-use Rattle.plan_asm.specs.declared.form.Form.TheVariants.{Lane, End, Instruction}
+use Rattle.plan_asm.specs.declared.form.Form.TheVariants.{Block, Lane, End, Use, Instruction}
 use Rattle.plan_asm.specs.declared.form.Wording.{Wording}
 use Rattle.plan_asm.specs.declared.form.Wording.TheVariants.{Unpack, Configure, Deconfigure, Remove, Build, Publish, Wait}
 use Rattle.plan_asm.specs.Forms as spec
@@ -16,6 +16,8 @@ wording_of (Publish recipe) = spec.PublishForm recipe.now
 wording_of (Wait entry) = spec.WaitForm entry
 
 abbrev pub form_of : Form → spec.Form
+form_of (Block name) = spec.BlockForm name.now
 form_of (Lane name chroot budget) = spec.LaneForm name.now chroot.now budget
 form_of End = spec.EndForm
+form_of (Use block) = spec.UseForm block.now
 form_of (Instruction wording) = spec.InstructionForm (wording_of wording)

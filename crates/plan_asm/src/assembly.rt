@@ -1,16 +1,17 @@
 //! What the lines of a plan say so far.
 
-ghost use Rattle.std.specs.Prelude.{◌≡◌, ◌∷◌, ◌++◌, [], false, IfOk, IfSome, IfNone};
+ghost use Rattle.std.specs.Prelude.{◌≡◌, ◌∷◌, ◌++◌, [], true, false, IfOk, IfSome, IfNone};
 ghost use Rattle.std.specs.List.{list_any};
 ghost use Rattle.std.specs.Str.{bytes_eq};
 ghost use Rattle.deb_text.specs.Answers.{Gives, refusal_of};
 ghost use Rattle.plan_asm.specs.Drafts.{empty, is_open, all_lanes, published_by, published_once};
-ghost use Rattle.plan_asm.specs.Drafts.{open_lane, end_lane, add};
+ghost use Rattle.plan_asm.specs.Drafts.{open_block, open_lane, end_open, published as recipes_of, add, add_use};
 ghost use Rattle.plan_asm.specs.Ends.{finished, IsWithinLimits};
 ghost use Rattle.plan_asm.specs.LineErrors.{refusal_of_line};
 ghost use Rattle.plan_model.specs.Plan.{count};
 ghost use Rattle.plan_model.specs.Sound.{has_double};
 
+use crate::blocks::Blocks;
 use crate::error::{FILE, LineError, MOST_INSTRUCTIONS, MOST_LANES, UNCLOSED};
 use crate::events::count_events;
 use crate::lane::Lane;
@@ -26,13 +27,16 @@ use std::marker::Model;
 #[derive(Drop)]
 pub enum Section {
     Outside,
+    /// A block, with the number of its `block` line.
+    Block { line: u32, name: Vec<u8> },
     /// A lane, with the number of its `lane` line.
     Lane { line: u32, lane: Lane },
 }
 
-/// What the lines of a plan say so far: the lanes that have ended, and what is left open.
+/// What the lines of a plan say so far: the blocks and lanes that have ended, and what is left open.
 #[derive(Drop)]
 pub struct Assembly {
+    blocks: Blocks,
     lanes: Vec<Lane>,
     current: Section,
     /// The instructions of all lanes, the open one too.
@@ -42,17 +46,19 @@ pub struct Assembly {
 }
 
 impl Model for Assembly {
-    ghost use Rattle.std.specs.Prelude.{◌≡◌, false, length};
     ghost use Rattle.plan_asm.specs.Drafts as spec;
-    ghost use Rattle.plan_asm.specs.SectionView.{open_of, IsTallied};
+    ghost use Rattle.plan_asm.specs.SectionView.{open_of, IsAssembled};
 
     ghost Value = { spec.Draft };
 
-    ghost view = { λ it. record { lanes = it.lanes.items; current = open_of it.current } };
+    ghost view = { λ it. record {
+      blocks = it.blocks.ended;
+      lanes = it.lanes.items;
+      current = open_of it.blocks.written it.current;
+    } };
 
     ghost invariant = { λ it.
-        IsTallied (spec.instructions_of (spec.all_lanes it.lanes.items (open_of it.current)))
-        it.count it.published.keys };
+        IsAssembled it.blocks it.lanes.items it.current it.count it.published.keys };
 }
 
 fn has_lane(lanes: &[Lane], name: &[u8]) -> bool
@@ -101,12 +107,25 @@ fn note_published(published: &mut IndexSet<u32>, instruction: &Instruction) -> R
     }
 }
 
+/// Notes what these instructions publish, where each recipe so far is published once.
+fn note_all(published: &mut IndexSet<u32>, instructions: &[Instruction]) -> Result<(), LineError>
+    requires { has_double published.old.keys ≡ false }
+    ensures { Gives refusal_of_line (λ _. published.new.keys) result
+        (published_once (published.old.keys ++ recipes_of instructions.now)) }
+{
+    for instruction in instructions {
+        note_published(published, instruction)?;
+    }
+    Ok(())
+}
+
 impl Assembly {
     /// Nothing said so far.
     pub fn new(alloc: Global) -> Assembly
         ensures { result ≡ empty }
     {
         Assembly {
+            blocks: Blocks::new(alloc),
             lanes: Vec::new(alloc),
             current: Section::Outside,
             count: 0,
@@ -118,7 +137,36 @@ impl Assembly {
     pub fn is_open(&self) -> bool
         ensures { result ≡ is_open self.now.current }
     {
-        matches!(self.current, Section::Lane { .. })
+        !matches!(self.current, Section::Outside)
+    }
+
+    /// Opens a block where nothing is open.
+    ///
+    /// # Errors
+    ///
+    /// [`NameTaken`](LineError::NameTaken), or that memory ran out.
+    pub fn open_block(self, alloc: Global, line: u32, name: &[u8]) -> Result<Assembly, LineError>
+        requires { is_open self.current ≡ false }
+        ensures { Gives refusal_of_line (λ next. next) result (open_block line self name.now) }
+    {
+        let Assembly {
+            blocks,
+            lanes,
+            count,
+            published,
+            ..
+        } = self;
+        if blocks.has(name) {
+            return Err(LineError::NameTaken);
+        }
+        let name = Vec::from_slice(alloc, name)?;
+        Ok(Assembly {
+            blocks,
+            lanes,
+            current: Section::Block { line, name },
+            count,
+            published,
+        })
     }
 
     /// Opens a lane where nothing is open.
@@ -140,6 +188,7 @@ impl Assembly {
             (open_lane line self name.now budget base) }
     {
         let Assembly {
+            blocks,
             lanes,
             count,
             published,
@@ -153,6 +202,7 @@ impl Assembly {
         }
         let lane = Lane::new(alloc, Vec::from_slice(alloc, name)?, base, budget);
         Ok(Assembly {
+            blocks,
             lanes,
             current: Section::Lane { line, lane },
             count,
@@ -160,15 +210,17 @@ impl Assembly {
         })
     }
 
-    /// Ends the open lane.
+    /// Ends the open block or lane.
     ///
     /// # Errors
     ///
     /// [`BadLine`](LineError::BadLine) where nothing is open, or that memory ran out.
-    pub fn end_lane(self) -> Result<Assembly, LineError>
-        ensures { Gives refusal_of_line (λ next. next) result (end_lane self.lanes self.current) }
+    pub fn end_open(self, alloc: Global) -> Result<Assembly, LineError>
+        ensures { Gives refusal_of_line (λ next. next) result
+            (end_open self.blocks self.lanes self.current) }
     {
         let Assembly {
+            blocks,
             mut lanes,
             current,
             count,
@@ -176,9 +228,19 @@ impl Assembly {
         } = self;
         match current {
             Section::Outside => Err(LineError::BadLine),
+            Section::Block { name, .. } => {
+                Ok(Assembly {
+                    blocks: blocks.end(alloc, name)?,
+                    lanes,
+                    current: Section::Outside,
+                    count,
+                    published,
+                })
+            }
             Section::Lane { lane, .. } => {
                 lanes.push(lane)?;
                 Ok(Assembly {
+                    blocks,
                     lanes,
                     current: Section::Outside,
                     count,
@@ -188,18 +250,19 @@ impl Assembly {
         }
     }
 
-    /// Puts an instruction into the open lane.
+    /// Puts an instruction into the open block or lane.
     ///
     /// # Errors
     ///
     /// [`BadLine`](LineError::BadLine) where nothing is open;
-    /// [`PublishedTwice`](LineError::PublishedTwice); [`OverLimit`](LineError::OverLimit); or that
-    /// memory ran out.
+    /// [`PublishedTwice`](LineError::PublishedTwice) in a lane; [`OverLimit`](LineError::OverLimit);
+    /// or that memory ran out.
     pub fn add(self, instruction: Instruction) -> Result<Assembly, LineError>
         ensures { Gives refusal_of_line (λ next. next) result
-            (add self.lanes self.current (instruction ∷ [])) }
+            (add self.blocks self.lanes self.current (instruction ∷ [])) }
     {
         let Assembly {
+            blocks,
             lanes,
             current,
             count,
@@ -207,6 +270,15 @@ impl Assembly {
         } = self;
         match current {
             Section::Outside => Err(LineError::BadLine),
+            Section::Block { line, name } => {
+                Ok(Assembly {
+                    blocks: blocks.add(instruction)?,
+                    lanes,
+                    current: Section::Block { line, name },
+                    count,
+                    published,
+                })
+            }
             Section::Lane { line, mut lane } => {
                 note_published(&mut published, &instruction)?;
                 if count >= MOST_INSTRUCTIONS {
@@ -214,9 +286,59 @@ impl Assembly {
                 }
                 lane.push(instruction)?;
                 Ok(Assembly {
+                    blocks,
                     lanes,
                     current: Section::Lane { line, lane },
                     count: count + 1,
+                    published,
+                })
+            }
+        }
+    }
+
+    /// Puts what a block stands for into the open block or lane.
+    ///
+    /// # Errors
+    ///
+    /// [`BadLine`](LineError::BadLine) where nothing is open;
+    /// [`UnknownBlock`](LineError::UnknownBlock); [`PublishedTwice`](LineError::PublishedTwice) in a
+    /// lane; [`OverLimit`](LineError::OverLimit); or that memory ran out.
+    pub fn add_use(self, alloc: Global, block: &[u8]) -> Result<Assembly, LineError>
+        requires { is_open self.current ≡ true }
+        ensures { Gives refusal_of_line (λ next. next) result
+            (add_use self.blocks self.lanes self.current block.now) }
+    {
+        let Assembly {
+            blocks,
+            lanes,
+            current,
+            count,
+            mut published,
+        } = self;
+        match current {
+            Section::Outside => Err(LineError::BadLine),
+            Section::Block { line, name } => {
+                Ok(Assembly {
+                    blocks: blocks.add_use(block)?,
+                    lanes,
+                    current: Section::Block { line, name },
+                    count,
+                    published,
+                })
+            }
+            Section::Lane { line, mut lane } => {
+                let instructions = blocks.instructions(alloc, block)?;
+                note_all(&mut published, &instructions)?;
+                if instructions.len() > MOST_INSTRUCTIONS - count {
+                    return Err(LineError::OverLimit);
+                }
+                let count = count + instructions.len();
+                lane.append(instructions)?;
+                Ok(Assembly {
+                    blocks,
+                    lanes,
+                    current: Section::Lane { line, lane },
+                    count,
                     published,
                 })
             }
@@ -240,7 +362,7 @@ impl Assembly {
                 let count = count_events(universe, &lanes);
                 Ok(Plan::new(lanes, count))
             }
-            Section::Lane { line, .. } => Err(Fault {
+            Section::Block { line, .. } | Section::Lane { line, .. } => Err(Fault {
                 file: FILE,
                 line,
                 code: UNCLOSED,

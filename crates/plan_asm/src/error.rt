@@ -5,11 +5,12 @@ ghost use Rattle.std.specs.Option.{option_map};
 ghost use Rattle.deb_text.specs.Answers.{fault_at, refusal_of};
 ghost use Rattle.plan_asm.specs.LineErrors.{code_of_line, refusal_of_line};
 
+use deb_text::files::PLAN;
 use deb_text::{Fault, MEMORY};
 use std::alloc::{AllocError, AllocFailed};
 
 /// The number of the plan among the files of a fault.
-pub const FILE: u8 = 4;
+pub const FILE: u8 = PLAN;
 
 /// The first line is not `plan 1`.
 pub const NO_PLAN: u16 = 301;

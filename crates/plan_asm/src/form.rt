@@ -43,6 +43,8 @@ pub enum Wording<'a> {
 /// What a line says.
 #[derive(Debug, Drop)]
 pub enum Form<'a> {
+    /// `block NAME`
+    Block(&'a [u8]),
     /// `lane NAME chroot CHROOT budget NUMBER`
     Lane {
         name: &'a [u8],
@@ -51,6 +53,8 @@ pub enum Form<'a> {
     },
     /// `end`
     End,
+    /// `use BLOCK`
+    Use(&'a [u8]),
     /// an instruction
     Instruction(Wording<'a>),
 }
@@ -212,6 +216,10 @@ pub fn read_form(alloc: Global, line: &[u8]) -> Result<Form<'_>, LineError>
         read_lane(rest)
     } else if word == b"end".as_slice() {
         read_end(rest)
+    } else if word == b"block".as_slice() {
+        Ok(Form::Block(one_word(rest)?))
+    } else if word == b"use".as_slice() {
+        Ok(Form::Use(one_word(rest)?))
     } else {
         Ok(Form::Instruction(read_wording(alloc, word, rest)?))
     }

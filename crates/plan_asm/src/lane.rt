@@ -51,6 +51,14 @@ impl Lane {
         Ok(())
     }
 
+    /// Puts instructions behind the others.
+    pub(crate) fn append(&mut self, mut instructions: Vec<Instruction>) -> Result<(), AllocError>
+        ensures { OnOk result (self.new ≡ with_instructions self.old instructions.items) }
+    {
+        self.instructions.append(&mut instructions)?;
+        Ok(())
+    }
+
     /// The name, a word.
     pub fn name(&self) -> &[u8]
         ensures { result.now ≡ self.now.name }

@@ -2,6 +2,8 @@
 #![tactic(auto)]
 
 mod assembly;
+mod blocks;
+mod copies;
 mod error;
 mod events;
 mod form;

@@ -2,8 +2,9 @@
 
 ghost use Rattle.std.specs.Prelude.{◌≡◌, ◌++◌, codes, map, slice_index_or, [], IfOk, OnOk};
 ghost use Rattle.std.specs.List.{concat, flat_map};
+ghost use Rattle.deb_relation.specs.Spelling.{operator_text, relation_text, qualifier_text, atom_text, more_text, entry_text};
 ghost use Rattle.farm_model.specs.Packages.{recipe, base};
-ghost use Rattle.plan_asm.specs.Listing.{operator_text, relation_text, qualifier_text, atom_text, more_text, entry_text, name_of, names_text, instruction_text, instruction_line, lane_line, lane_text, listing_of};
+ghost use Rattle.plan_asm.specs.Listing.{name_of, names_text, instruction_text, instruction_line, lane_line, lane_text, listing_of};
 
 use crate::lane::Lane;
 use crate::plan::Plan;
@@ -48,7 +49,7 @@ fn push_relation(text: &mut Vec<u8>, relation: &Option<(Op, Version)>) -> Result
     }
 }
 
-#[tactic(auto, unfolding(crate::specs::Listing::atom_text))]
+#[tactic(auto, unfolding(deb_relation::specs::Spelling::atom_text))]
 fn push_atom(text: &mut Vec<u8>, atom: &Atom) -> Result<(), AllocError>
     ensures { OnOk result (text.new.items ≡ text.old.items ++ atom_text atom.now) }
 {

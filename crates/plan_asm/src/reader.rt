@@ -37,6 +37,12 @@ fn take_form(
         (take_form universe.now number before (form_of form.entry)) }
 {
     match form {
+        Form::Block(name) => {
+            if before.is_open() {
+                return Err(LineError::BadLine);
+            }
+            before.open_block(alloc, number, name)
+        }
         Form::Lane {
             name,
             chroot,
@@ -48,7 +54,13 @@ fn take_form(
             let base = known_base(universe, chroot)?;
             before.open_lane(alloc, number, name, budget, base)
         }
-        Form::End => before.end_lane(),
+        Form::End => before.end_open(alloc),
+        Form::Use(name) => {
+            if !before.is_open() {
+                return Err(LineError::BadLine);
+            }
+            before.add_use(alloc, name)
+        }
         Form::Instruction(wording) => {
             if !before.is_open() {
                 return Err(LineError::BadLine);
@@ -105,14 +117,7 @@ fn in_plan(fault: Fault) -> Fault
     ensures { refusal_of result
         ≡ option_map (λ fault. fault_at FILE fault.line fault.code) (refusal_of fault) }
 {
-    if fault == Fault::MEMORY {
-        return Fault::MEMORY;
-    }
-    Fault {
-        file: FILE,
-        line: fault.line,
-        code: fault.code,
-    }
+    fault.in_file(FILE)
 }
 
 fn read_lines(alloc: Global, text: &[u8]) -> Result<Lines, Fault>
@@ -157,21 +162,23 @@ fn read_text(alloc: Global, universe: &Universe, text: &[u8]) -> Result<Plan, Fa
 /// Reads a plan, whose names are those of a universe.
 ///
 /// Below a first line `plan 1` stand lanes, each from `lane NAME chroot CHROOT budget NUMBER` to
-/// `end`, and in them `unpack NAME`, `unpack NAME (OP VERSION)`, `configure`, `deconfigure` and
-/// `remove` with one name or more, `build RECIPE`, `publish RECIPE` and `wait ENTRY`. An entry is
-/// reduced to the farm's architecture, and its names need not be known. Blank lines and comments
-/// mean nothing.
+/// `end`, and blocks, each from `block NAME` to `end`. In them stand `unpack NAME`,
+/// `unpack NAME (OP VERSION)`, `configure`, `deconfigure` and `remove` with one name or more,
+/// `build RECIPE`, `publish RECIPE`, `wait ENTRY`, and `use BLOCK` for what a block above comes to.
+/// An entry is reduced to the farm's architecture, and its names need not be known. Blank lines and
+/// comments mean nothing.
 ///
 /// # Errors
 ///
 /// All of file [`FILE`]: 105 at line 0 for a text over 67,108,864 bytes. Then the first line with a
 /// fault: [`NO_PLAN`] for the first line, at line 0 where there is none; else, of one line in this
 /// order, [`BAD_LINE`](crate::BAD_LINE), [`UNKNOWN_NAME`](crate::UNKNOWN_NAME),
-/// [`NAME_TWICE`](crate::NAME_TWICE), [`NAME_TAKEN`](crate::NAME_TAKEN),
-/// [`PUBLISHED_TWICE`](crate::PUBLISHED_TWICE) and [`OVER_LIMIT`](crate::OVER_LIMIT), which is told
-/// for more than 64 lanes and for more than 65,536 instructions of all lanes. Last
-/// [`UNCLOSED`](crate::UNCLOSED), at the line of a lane without `end`. 900 of file 0 and line 0
-/// where memory ran out. Nothing is left behind.
+/// [`NAME_TWICE`](crate::NAME_TWICE), [`UNKNOWN_BLOCK`](crate::UNKNOWN_BLOCK),
+/// [`NAME_TAKEN`](crate::NAME_TAKEN), [`PUBLISHED_TWICE`](crate::PUBLISHED_TWICE), told where a lane
+/// comes to publish a recipe again, and [`OVER_LIMIT`](crate::OVER_LIMIT), told for more than 64
+/// lanes, and for more than 65,536 instructions of all lanes or of a block. Last
+/// [`UNCLOSED`](crate::UNCLOSED), at the first line of a lane or block without `end`. 900 of file 0
+/// and line 0 where memory ran out. Nothing is left behind.
 pub fn assemble(alloc: Global, universe: &Universe, text: &[u8]) -> Result<Plan, Fault>
     ensures plan { Gives refusal_of (λ plan. plan.lanes) result (plan_of universe.now text.now) }
     ensures counted { IfOk result (λ plan. plan.count ≡ count universe.now plan.lanes) }

@@ -1,9 +1,5 @@
-pub mod SetLaws
-pub mod Picks
-pub mod Configures
-pub mod Bases
-pub mod SoFar
-pub mod Quiet
+pub mod Reach
+pub mod Steps
 pub mod Walks
 pub mod Promises
 pub mod Messages

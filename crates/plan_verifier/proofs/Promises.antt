@@ -13,7 +13,7 @@ module _ (a : AcceptedPlan) (is : IsAccepted a) where
   annotation = record { keeps = is.known.keeps; safe = is.safe }
 
   pub safe_of : IsSafe a.universe a.plan
-  safe_of = every_interleaving a.universe a.plan (known_rows a) [] is.sound annotation is.order
+  safe_of = every_interleaving a.universe a.plan (known_rows a) a.order is.sound annotation is.order
 
   pub cost_within : (l : ℕ) → l < length a.plan
       → lane_cost a.universe a.plan (known_rows a) l ≤ (lane a.plan l).budget

@@ -1,21 +1,21 @@
 -- What the walks over the lanes come to.
-use Rattle.std.proofs.Common.{◌≡◌, ℕ, ◌+◌, ◌<◌, sym, ◌∙◌, List, [], ◌∷◌, ◌++◌, length, length-append, true, inl, inr, None, Err, arith}
+use Rattle.std.proofs.Common.{◌≡◌, ◌≢◌, ℕ, ◌+◌, ◌<◌, sym, ◌∙◌, List, [], ◌∷◌, ◌++◌, length, length-append, inl, inr, None, Err, arith}
 use Rattle.std.proofs.lemmas.Bool.{cases_eq}
 use Rattle.std.proofs.lemmas.List.{get_or_append_left}
 use Rattle.std.proofs.Math.Seq.{get_or-append_seam}
 use Rattle.farm_model.specs.Universe.{Universe}
-use Rattle.plan_model.specs.Known.{Rows, initial_rows}
+use Rattle.plan_model.specs.Known.{Rows, IsGreatest}
 use Rattle.plan_model.specs.MayAt.{lane_cost}
+use Rattle.plan_model.specs.Order.{AreStuck}
 use Rattle.plan_model.specs.Plan.{Plan, lane}
-use Rattle.plan_model.specs.Safety.{risk_at}
+use Rattle.plan_model.specs.Safety.{risk_at, IsSafeUnder}
 use Rattle.plan_verifier.specs.declared.refusal.Refusal.{Refusal}
 use Rattle.plan_verifier.specs.declared.walk.Stop.{Stop}
 use Rattle.plan_verifier.specs.Accepted.{AreCosts}
-use Rattle.plan_verifier.specs.Costs.{IsToldOf}
+use Rattle.plan_verifier.specs.Costs.{IsToldOf, IsWalked}
+use Rattle.plan_verifier.specs.Stuck.{IsToldStuck}
 use Rattle.plan_verifier.specs.Verdict.{IsVerdictOn}
-use Rattle.plan_verifier.specs.Judged.{is_judged}
 use Rattle.plan_verifier.specs.Walk.{Walked}
-use Rattle.plan_verifier.proofs.SoFar.{initial_greatest}
 
 -- the cost of one more lane
 pub more_costs : (u : Universe) (p : Plan) (rows : Rows) (n : ℕ) (costs : List ℕ) (cost : ℕ)
@@ -31,18 +31,16 @@ more_costs u p rows n costs cost so_far is = record {
   ];
 }
 
--- the lane at whose first unsafe instruction the plan is refused
-pub refused : (u : Universe) (p : Plan) → is_judged p ≡ true → (l : ℕ) → l < length p
-    → ((j i : ℕ) → j < l → risk_at u p (initial_rows u) j i ≡ None)
-    → (stop : Stop) → Walked u p l (Err stop)
+-- the lane at whose first unsafe instruction the walks end
+pub refused : (u : Universe) (p : Plan) (rows : Rows) → (l : ℕ) → l < length p
+    → ((j i : ℕ) → j < l → risk_at u p rows j i ≡ None)
+    → (stop : Stop) → Walked u p rows l (Err stop)
     → (name : List ℕ) → name ≡ (lane p l).name
-    → (refusal : Refusal) → IsToldOf name stop refusal → IsVerdictOn u p (Err refusal)
-refused u p judged l lt before stop walked name is Refusal.Memory told = tt
-refused u p judged l lt before (Stop.Unsafe number trap) walked name is
+    → (refusal : Refusal) → IsToldOf name stop refusal → IsWalked u p rows (Err refusal)
+refused u p rows l lt before stop walked name is Refusal.Memory told = tt
+refused u p rows l lt before (Stop.Unsafe number trap) walked name is
     (Refusal.Unsafe as_name as_number as_trap) told =
     record {
-      rows = initial_rows u;
-      greatest = initial_greatest u p judged;
       l = l;
       i = walked.0;
       first = record {
@@ -54,11 +52,45 @@ refused u p judged l lt before (Stop.Unsafe number trap) walked name is
       named = told.0 ∙ is;
       numbered = told.1 ∙ walked.1;
     }
-refused u p judged l lt before (Stop.Unsafe number trap) walked name is
+refused u p rows l lt before (Stop.Unsafe number trap) walked name is
     (Refusal.Text fault) told = absurd told
-refused u p judged l lt before (Stop.Unsafe number trap) walked name is
+refused u p rows l lt before (Stop.Unsafe number trap) walked name is
     (Refusal.Stuck names) told = absurd told
-refused u p judged l lt before Stop.Memory walked name is (Refusal.Text fault) told = absurd told
-refused u p judged l lt before Stop.Memory walked name is
+refused u p rows l lt before Stop.Memory walked name is (Refusal.Text fault) told = absurd told
+refused u p rows l lt before Stop.Memory walked name is
     (Refusal.Unsafe as_name as_number as_trap) told = absurd told
-refused u p judged l lt before Stop.Memory walked name is (Refusal.Stuck names) told = absurd told
+refused u p rows l lt before Stop.Memory walked name is (Refusal.Stuck names) told = absurd told
+
+-- under the greatest rows that is the verdict
+pub walked_verdict : (u : Universe) (p : Plan) (rows : Rows) → IsGreatest u p rows
+    → (refusal : Refusal) → IsWalked u p rows (Err refusal) → IsVerdictOn u p (Err refusal)
+walked_verdict u p rows greatest Refusal.Memory walked = tt
+walked_verdict u p rows greatest (Refusal.Unsafe name number trap) walked = record {
+  rows = rows;
+  greatest = greatest;
+  l = walked.l;
+  i = walked.i;
+  first = walked.first;
+  named = walked.named;
+  numbered = walked.numbered;
+}
+walked_verdict u p rows greatest (Refusal.Text fault) walked = absurd walked
+walked_verdict u p rows greatest (Refusal.Stuck names) walked = absurd walked
+
+-- stuck lanes of a plan that is safe
+pub stuck_verdict : (u : Universe) (p : Plan) (rows : Rows) → IsGreatest u p rows
+    → IsSafeUnder u p rows → (lanes : List ℕ) → AreStuck u p lanes → lanes ≢ []
+    → (refusal : Refusal) → IsToldStuck p lanes refusal → IsVerdictOn u p (Err refusal)
+stuck_verdict u p rows greatest safe lanes stuck some Refusal.Memory told = tt
+stuck_verdict u p rows greatest safe lanes stuck some (Refusal.Stuck names) told = record {
+  rows = rows;
+  greatest = greatest;
+  safe = safe;
+  lanes = lanes;
+  stuck = stuck;
+  some = some;
+  named = told;
+}
+stuck_verdict u p rows greatest safe lanes stuck some (Refusal.Text fault) told = absurd told
+stuck_verdict u p rows greatest safe lanes stuck some (Refusal.Unsafe name number trap) told =
+    absurd told

@@ -1,26 +1,30 @@
 -- An accepted plan, and what is promised of it. The project's own rules.
 --
---   AcceptedPlan      the universe, the plan, and what each lane costs at most
---   known_rows        what its lanes know of the archive
+--   AcceptedPlan      the universe, the plan, what its lanes know, an order of its waits, its costs
+--   known_rows        what its lanes know of the archive, as sets
 --   IsAccepted        what is kept of every accepted plan
-use Rattle.std.specs.Prelude.{◌≡◌, ℕ, ◌<◌, List, [], length, slice_index}
+use Rattle.std.specs.Prelude.{◌≡◌, ℕ, ◌<◌, List, length, slice_index}
 use Rattle.farm_model.specs.Universe.{Universe}
-use Rattle.plan_model.specs.Known.{Rows, IsGreatest, initial_rows}
+use Rattle.plan_model.specs.Known.{Rows, IsGreatest}
 use Rattle.plan_model.specs.MayAt.{lane_cost}
 use Rattle.plan_model.specs.Order.{IsOrder}
 use Rattle.plan_model.specs.Plan.{Plan}
 use Rattle.plan_model.specs.Safety.{IsSafeUnder}
 use Rattle.plan_model.specs.Sound.{IsSound}
+use Rattle.wait_order.specs.KnownRows.{KnownRows, rows_of}
 
--- a plan over a universe, and the cost of each lane in file order
+-- a plan over a universe: the rows that are known at the places of each lane, the lanes in an order
+-- of their waits and outputs, and the cost of each lane in file order
 pub record AcceptedPlan : Type 0 where
   pub universe : Universe
   pub plan : Plan
+  pub known : KnownRows
+  pub order : List ℕ
   pub costs : List ℕ
 
--- what each lane knows at each place: the initial archive, since nothing is published so far
+-- what each lane knows at each place
 abbrev pub known_rows : AcceptedPlan → Rows
-known_rows a = initial_rows a.universe
+known_rows a = rows_of a.known
 
 -- the costs of the first n lanes
 pub record AreCosts (u : Universe) (p : Plan) (rows : Rows) (n : ℕ) (costs : List ℕ) : Type 0 where
@@ -31,11 +35,13 @@ pub record AreCosts (u : Universe) (p : Plan) (rows : Rows) (n : ℕ) (costs : L
 pub record IsAccepted (a : AcceptedPlan) : Type 0 where
   -- the universe and the plan are what the readers make;
   pub sound : IsSound a.universe a.plan
-  -- the known rows are the greatest that keep to the inclusions;
+  -- the known rows are about them,
+  pub about : (a.known.universe ≡ a.universe) × (a.known.plan ≡ a.plan)
+  -- and the greatest that keep to the inclusions;
   pub known : IsGreatest a.universe a.plan (known_rows a)
   -- under them no instruction may meet a trap;
   pub safe : IsSafeUnder a.universe a.plan (known_rows a)
-  -- there is an order of the waits and outputs (there are none so far);
-  pub order : IsOrder a.universe a.plan []
+  -- there is an order of the waits and outputs, this one;
+  pub order : IsOrder a.universe a.plan a.order
   -- and these are the costs of the lanes.
   pub costs : AreCosts a.universe a.plan (known_rows a) (length a.plan) a.costs

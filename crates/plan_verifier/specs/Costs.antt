@@ -1,17 +1,17 @@
 -- The walk over each lane of a plan.
 --
---   IsToldOf       how the end of a lane's walk is told
---   IsWalked       what the walks over all lanes come to
-use Rattle.std.specs.Prelude.{◌≡◌, ℕ, List, length, Result, Ok, Err}
+--   IsToldOf                      how the end of a lane's walk is told
+--   IsFirstToldUnsafe, IsWalked   what the walks over all lanes come to
+use Rattle.std.specs.Prelude.{◌≡◌, ℕ, ◌+◌, List, length, Result, Ok, Err}
 use Rattle.std.specs.Global.{Vec}
+use Rattle.farm_model.specs.declared.types.Trap.{Trap}
 use Rattle.farm_model.specs.Universe.{Universe}
-use Rattle.plan_model.specs.Plan.{Plan}
-use Rattle.plan_model.specs.Safety.{IsSafeUnder}
+use Rattle.plan_model.specs.Known.{Rows}
+use Rattle.plan_model.specs.Plan.{Plan, lane}
+use Rattle.plan_model.specs.Safety.{IsSafeUnder, IsFirstUnsafe}
 use Rattle.plan_verifier.specs.declared.refusal.Refusal.{Refusal}
 use Rattle.plan_verifier.specs.declared.walk.Stop.{Stop}
 use Rattle.plan_verifier.specs.Accepted.{AreCosts}
-use Rattle.plan_verifier.specs.Verdict.{IsVerdictOn}
-use Rattle.plan_model.specs.Known.{initial_rows}
 
 -- the lane's name stands beside the instruction and its trap, unless memory ran out
 abbrev pub IsToldOf : List ℕ → Stop → Refusal → Type 0
@@ -20,8 +20,22 @@ IsToldOf name (Stop.Unsafe number trap) (Refusal.Unsafe told n t) =
     (told.items ≡ name) × (n ≡ number) × (t ≡ trap)
 IsToldOf name stop refusal = ⊥
 
--- each instruction is safe, and these are the costs; or the refusal of the plan
-abbrev pub IsWalked : Universe → Plan → Result (Vec ℕ) Refusal → Type 0
-IsWalked u p (Ok costs) =
-    IsSafeUnder u p (initial_rows u) × AreCosts u p (initial_rows u) (length p) costs.items
-IsWalked u p (Err refusal) = IsVerdictOn u p (Err refusal)
+-- under the rows, this instruction of the lane of this name, by its number from 1, is the first
+-- unsafe one of the first lane that has one, and this is the first trap that it may meet
+pub record IsFirstToldUnsafe (u : Universe) (p : Plan) (rows : Rows) (name : List ℕ) (number : ℕ)
+    (trap : Trap) : Type 0 where
+  pub l : ℕ
+  pub i : ℕ
+  pub first : IsFirstUnsafe u p rows l i trap
+  pub named : name ≡ (lane p l).name
+  pub numbered : number ≡ i + 1
+
+-- each instruction is safe under the rows, and these are the costs; or the first unsafe one is told
+abbrev pub IsWalked : Universe → Plan → Rows → Result (Vec ℕ) Refusal → Type 0
+IsWalked u p rows (Ok costs) =
+    IsSafeUnder u p rows × AreCosts u p rows (length p) costs.items
+IsWalked u p rows (Err (Refusal.Unsafe name number trap)) =
+    IsFirstToldUnsafe u p rows name.items number trap
+IsWalked u p rows (Err Refusal.Memory) = Unit {0}
+IsWalked u p rows (Err (Refusal.Text fault)) = ⊥
+IsWalked u p rows (Err (Refusal.Stuck names)) = ⊥

@@ -4,28 +4,18 @@
 --   FarmPlan       a universe, and a plan over it
 --   planned_of     those of four texts, or the first fault, packages before sources before the
 --                  farm before the plan
-use Rattle.std.specs.Prelude.{ℕ, List, Result, Ok, Err, if◌then◌else◌}
+use Rattle.std.specs.Prelude.{ℕ, List, Result, Ok}
 use Rattle.deb_text.specs.declared.fault.Fault.{Fault}
-use Rattle.deb_text.specs.Answers.{fault_at}
 use Rattle.deb_text.specs.Steps.{◌>>=◌}
 use Rattle.farm_model.specs.Universe.{Universe}
 use Rattle.farm_universe.specs.UniverseText.{universe_of}
-use Rattle.plan_asm.specs.declared.error.TheConstants.{FILE}
 use Rattle.plan_asm.specs.PlanText.{plan_of}
 use Rattle.plan_model.specs.Plan.{Plan}
-use Rattle.plan_verifier.specs.declared.refusal.TheConstants.{NOT_JUDGED}
-use Rattle.plan_verifier.specs.Judged.{is_judged}
 
 pub record FarmPlan : Type 0 where
   pub universe : Universe
   pub plan : Plan
 
--- another plan is not judged so far
-abbrev pub if_judged : Universe → Plan → Result FarmPlan Fault
-if_judged u p =
-    if is_judged p then Ok (record { universe = u; plan = p })
-    else Err (fault_at FILE 0 NOT_JUDGED)
-
 unfoldable pub planned_of : (packages sources farm text : List ℕ) → Result FarmPlan Fault
 planned_of packages sources farm text =
-    universe_of packages sources farm >>= λ u. plan_of u text >>= λ p. if_judged u p
+    universe_of packages sources farm >>= λ u. plan_of u text >>= λ p. Ok (record { universe = u; plan = p })

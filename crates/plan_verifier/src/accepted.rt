@@ -9,12 +9,15 @@ ghost use Rattle.plan_verifier.specs.Accepted.{IsAccepted, known_rows};
 use farm_universe::Universe;
 use plan_asm::Plan;
 use std::marker::Model;
+use wait_order::Known;
 
 /// A plan that was accepted, with the universe that it is about.
 #[derive(Drop)]
 pub struct Accepted {
     universe: Universe,
     plan: Plan,
+    known: Known,
+    order: Vec<u32>,
     costs: Vec<u64>,
 }
 
@@ -26,25 +29,53 @@ impl Model for Accepted {
     ghost use Rattle.std.specs.Prelude.{◌≡◌};
     ghost use Rattle.plan_model.specs.Plan.{count};
 
-    ghost view = { λ a.
-        record { universe = a.universe; plan = a.plan.lanes; costs = a.costs.items } };
+    ghost view = { λ a. record {
+      universe = a.universe;
+      plan = a.plan.lanes;
+      known = a.known;
+      order = a.order.items;
+      costs = a.costs.items;
+    } };
 
-    ghost invariant = { λ a. IsAccepted
-        (record { universe = a.universe; plan = a.plan.lanes; costs = a.costs.items })
-        × (a.plan.count ≡ count a.universe a.plan.lanes) };
+    ghost invariant = { λ a. IsAccepted (record {
+      universe = a.universe;
+      plan = a.plan.lanes;
+      known = a.known;
+      order = a.order.items;
+      costs = a.costs.items;
+    }) × (a.plan.count ≡ count a.universe a.plan.lanes) };
 }
 
 impl Accepted {
-    /// Accepts a plan of these costs.
-    pub(crate) fn new(universe: Universe, plan: Plan, costs: Vec<u64>) -> Accepted
-        requires accepted { IsAccepted
-            (record { universe = universe; plan = plan.lanes; costs = costs.items }) }
+    /// Accepts a plan with what its lanes know, an order of its waits, and its costs.
+    pub(crate) fn new(
+        universe: Universe,
+        plan: Plan,
+        known: Known,
+        order: Vec<u32>,
+        costs: Vec<u64>,
+    ) -> Accepted
+        requires accepted { IsAccepted (record {
+          universe = universe;
+          plan = plan.lanes;
+          known = known;
+          order = order.items;
+          costs = costs.items;
+        }) }
         requires counted { plan.count ≡ count universe plan.lanes }
-        ensures { result ≡ record { universe = universe; plan = plan.lanes; costs = costs.items } }
+        ensures { result ≡ record {
+          universe = universe;
+          plan = plan.lanes;
+          known = known;
+          order = order.items;
+          costs = costs.items;
+        } }
     {
         Accepted {
             universe,
             plan,
+            known,
+            order,
             costs,
         }
     }
@@ -62,6 +93,20 @@ impl Accepted {
         ensures counted { result.now.count ≡ count self.now.universe self.now.plan }
     {
         &self.plan
+    }
+
+    /// What each lane knows of the archive at each place.
+    pub fn known(&self) -> &Known
+        ensures { result.now ≡ self.now.known }
+    {
+        &self.known
+    }
+
+    /// The lanes in an order of their waits and outputs: taken in it, each lane gets past its last.
+    pub fn order(&self) -> &[u32]
+        ensures { result.now ≡ self.now.order }
+    {
+        self.order.as_slice()
     }
 
     /// What a lane spends at most, in steps, for a number below the plan's `lanes`. It is within

@@ -2,22 +2,16 @@
 #![tactic(auto)]
 
 mod accepted;
-mod configure;
 mod costs;
-mod judged;
-mod map;
 mod message;
-mod met;
-mod names;
-mod pick;
+mod possible;
 mod refusal;
-mod sets;
-mod space;
+mod stuck;
 mod texts;
-mod unpack;
 mod verdict;
 mod walk;
 
 pub use accepted::Accepted;
-pub use refusal::{NOT_JUDGED, Refusal, STUCK, UNSAFE};
+pub use costs::check_lanes;
+pub use refusal::{Refusal, STUCK, UNSAFE};
 pub use verdict::check;

@@ -7,10 +7,6 @@ use deb_text::Fault;
 use farm_universe::Trap;
 use std::alloc::{AllocError, AllocFailed};
 
-/// A plan is not judged so far, told of the plan at line 0: it has more than one lane, or an
-/// instruction other than an unpack or a configure.
-pub const NOT_JUDGED: u16 = 310;
-
 /// The code of [`Refusal::Unsafe`].
 pub const UNSAFE: u16 = 401;
 

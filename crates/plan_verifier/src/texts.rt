@@ -1,17 +1,14 @@
 //! Four texts read as the universe and the plan of a farm.
 
-ghost use Rattle.std.specs.Prelude.{◌≡◌, true, IfOk};
+ghost use Rattle.std.specs.Prelude.{◌≡◌, IfOk};
 ghost use Rattle.deb_text.specs.Answers.{Gives, refusal_of};
 ghost use Rattle.plan_model.specs.Plan.{count};
 ghost use Rattle.plan_model.specs.Sound.{IsSound};
-ghost use Rattle.plan_verifier.specs.Judged.{is_judged};
 ghost use Rattle.plan_verifier.specs.Texts.{planned_of};
 
-use crate::judged::is_judged;
-use crate::refusal::NOT_JUDGED;
 use deb_text::Fault;
 use farm_universe::Universe;
-use plan_asm::{FILE, Plan, assemble};
+use plan_asm::{Plan, assemble};
 use std::alloc::Global;
 
 /// What four texts stand for.
@@ -36,17 +33,9 @@ pub fn read_texts(
     ensures counted { IfOk result
         (λ planned. planned.plan.count ≡ count planned.universe planned.plan.lanes) }
     ensures sound { IfOk result (λ planned. IsSound planned.universe planned.plan.lanes) }
-    ensures judged { IfOk result (λ planned. is_judged planned.plan.lanes ≡ true) }
 {
     let universe = Universe::read(alloc, packages, sources, farm)?;
     let _names = universe.names();
     let plan = assemble(alloc, &universe, plan)?;
-    if !is_judged(&plan) {
-        return Err(Fault {
-            file: FILE,
-            line: 0,
-            code: NOT_JUDGED,
-        });
-    }
     Ok(Planned { universe, plan })
 }

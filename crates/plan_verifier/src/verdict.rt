@@ -1,28 +1,37 @@
 //! The verdict on four texts.
 
-ghost use Rattle.std.specs.Prelude.{◌≡◌, true, IfOk};
+ghost use Rattle.std.specs.Prelude.{◌≡◌, IfOk};
 ghost use Rattle.plan_model.specs.Promise.{IsSafe};
 ghost use Rattle.plan_model.specs.Plan.{count};
 ghost use Rattle.plan_model.specs.Sound.{IsSound};
-ghost use Rattle.plan_verifier.specs.Judged.{is_judged};
 ghost use Rattle.plan_verifier.specs.Texts.{planned_of};
 ghost use Rattle.plan_verifier.specs.Verdict.{IsVerdict, IsVerdictOn};
 
 use crate::accepted::Accepted;
-use crate::costs::lane_costs;
+use crate::costs::check_lanes;
 use crate::refusal::Refusal;
+use crate::stuck::stuck_refusal;
 use crate::texts::{Planned, read_texts};
+use sat_rows::Tables;
 use std::alloc::Global;
 use std::thread::Threads;
+use wait_order::{OrderError, knowledge, order};
 
-fn judge(alloc: Global, planned: Planned) -> Result<Accepted, Refusal>
+/// Judges a plan over a universe.
+fn judge(rt: &(impl Threads + Sync), alloc: Global, planned: Planned) -> Result<Accepted, Refusal>
     requires counted { planned.plan.count ≡ count planned.universe planned.plan.lanes }
     requires sound { IsSound planned.universe planned.plan.lanes }
-    requires judged { is_judged planned.plan.lanes ≡ true }
     ensures { IsVerdictOn planned.universe planned.plan.lanes result }
 {
-    let costs = lane_costs(alloc, &planned.universe, &planned.plan)?;
-    Ok(Accepted::new(planned.universe, planned.plan, costs))
+    let Planned { universe, plan } = planned;
+    let tables = Tables::build(rt, alloc, &universe)?;
+    let known = knowledge(alloc, &universe, &tables, &plan)?;
+    let costs = check_lanes(alloc, &universe, &tables, &plan, &known)?;
+    match order(alloc, &universe, &tables, &plan) {
+        Ok(order) => Ok(Accepted::new(universe, plan, known, order, costs)),
+        Err(OrderError::Stuck(lanes)) => Err(stuck_refusal(alloc, &plan, &lanes)),
+        Err(OrderError::Memory) => Err(Refusal::Memory),
+    }
 }
 
 /// Checks the plan of a farm before anything is built: the packages index, the sources index, the
@@ -34,14 +43,12 @@ fn judge(alloc: Global, planned: Planned) -> Result<Accepted, Refusal>
 /// # Errors
 ///
 /// The first cause of these, and nothing is left behind. [`Refusal::Text`] with the first fault of
-/// the packages, the sources, the farm or the plan, and then [`NOT_JUDGED`](crate::NOT_JUDGED) of
-/// the plan at line 0, where it has more than one lane or another instruction than `unpack` and
-/// `configure`. [`Refusal::Unsafe`] with the first
-/// instruction, of the first lane that has one, that may meet a trap, and with the first such trap.
-/// [`Refusal::Stuck`] does not come so far, since no plan that is judged waits.
+/// the packages, the sources, the farm or the plan. [`Refusal::Unsafe`] with the first instruction,
+/// of the first lane that has one, that may meet a trap, and with the first such trap.
+/// [`Refusal::Stuck`] with the lanes that no order of waits and outputs brings past their last one.
 /// [`Refusal::Memory`] where memory ran out.
 pub fn check(
-    _rt: &impl Threads,
+    rt: &(impl Threads + Sync),
     alloc: Global,
     packages: &[u8],
     sources: &[u8],
@@ -52,7 +59,7 @@ pub fn check(
     ensures verdict { IsVerdict (planned_of packages.now sources.now farm.now plan.now) result }
 {
     let planned = read_texts(alloc, packages, sources, farm, plan)?;
-    let accepted = judge(alloc, planned)?;
+    let accepted = judge(rt, alloc, planned)?;
     accepted.every_interleaving();
     Ok(accepted)
 }

@@ -44,7 +44,7 @@ fn status_of(answer: &Answer) -> u8
 /// [`OutsideFault::OutOfMemory`] where memory is refused; nothing is written then. And
 /// [`OutsideFault::WriteFailed`] where a write fails. What was written before stays.
 fn answer_from<R: Read + Drop, W: Write>(
-    rt: &impl Threads,
+    rt: &(impl Threads + Sync),
     alloc: Global,
     reader: R,
     writer: &mut W,
@@ -64,7 +64,7 @@ fn answer_from<R: Read + Drop, W: Write>(
 /// # Errors
 ///
 /// The fault outside of the texts that ended it.
-fn run(rt: &(impl Env + Input + Print + Eprint + AllocGlobal + Threads)) -> Result<u8, OutsideFault>
+fn run(rt: &(impl Env + Input + Print + Eprint + AllocGlobal + Threads + Sync)) -> Result<u8, OutsideFault>
     ensures { IfOk result (λ status. status < OUTSIDE) }
 {
     if has_words(rt) {
@@ -75,7 +75,7 @@ fn run(rt: &(impl Env + Input + Print + Eprint + AllocGlobal + Threads)) -> Resu
 }
 
 /// Runs, and tells a fault outside of the texts by its line on standard error.
-fn run_or_tell(rt: &(impl Env + Input + Print + Eprint + AllocGlobal + Threads)) -> u8
+fn run_or_tell(rt: &(impl Env + Input + Print + Eprint + AllocGlobal + Threads + Sync)) -> u8
     ensures { result ≤ OUTSIDE }
 {
     match run(rt) {

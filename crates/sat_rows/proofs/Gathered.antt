@@ -1,14 +1,11 @@
 -- Lists whose elements were made one by one, or by several threads.
-use Rattle.std.proofs.Common.{◌≡◌, ℕ, zero, suc, ◌+◌, ◌<◌, List, [], ◌∷◌, ◌++◌, length, length-append, map, get_or, Result, Ok, IfOk, refl, sym, ap, subst, ◌∙◌, inl, inr, arith}
+use Rattle.std.proofs.Common.{◌≡◌, ℕ, zero, suc, ◌+◌, ◌<◌, List, [], ◌∷◌, ◌++◌, length, map, get_or, Result, Ok, IfOk, refl, sym, ap, subst, ◌∙◌, inl, inr, arith}
 use Rattle.std.specs.List.{AllZip, range_with_len}
 use Rattle.std.proofs.Math.Seq.{get_or-append_seam}
 use Rattle.std.proofs.lemmas.Bool.{cases_lt}
 use Rattle.std.proofs.lemmas.List.{get_or_append_left}
 
 -- one more element at the end
-pub length_next : {T : Type 0} (xs : List T) (x : T) → length (xs ++ x ∷ []) ≡ length xs + 1
-length_next xs x = length-append xs (x ∷ [])
-
 pub each_next : {T : Type 0} (P : ℕ → T → Type 0) (xs : List T) (x d : T)
     → ((i : ℕ) → i < length xs → P i (get_or xs i d)) → P (length xs) x
     → (i : ℕ) → i < length xs + 1 → P i (get_or (xs ++ x ∷ []) i d)

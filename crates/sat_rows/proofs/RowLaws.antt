@@ -1,9 +1,9 @@
 -- Rows of tests.
-use Rattle.std.proofs.Common.{◌≡◌, ℕ, suc, ◌+◌, ◌<◌, ◌≤◌, nat_lt, Bool, false, List, [], ◌∷◌, ◌++◌, length, take, get_or, inl, inr, sym, ap, subst, ◌∙◌, arith, ◌&&◌}
+use Rattle.std.proofs.Common.{◌≡◌, ℕ, suc, ◌+◌, ◌<◌, ◌≤◌, nat_lt, Bool, false, List, [], ◌∷◌, ◌++◌, length, take, get_or, inl, inr, sym, ap, subst, ◌∙◌, arith}
 use Rattle.std.specs.List.{AllZip}
 use Rattle.std.proofs.Math.Seq.{take-suc}
 use Rattle.std.proofs.lemmas.Slice.Zip.{all_zipped_more}
-use Rattle.std.proofs.lemmas.Bool.{cases_lt, and_left, lt-ltb}
+use Rattle.std.proofs.lemmas.Bool.{cases_lt, and_left}
 use Rattle.std.proofs.lemmas.Bool.Decides.{nat_tests}
 use Rattle.std.proofs.lemmas.List.{get_or_past}
 use Rattle.clause_kernel.specs.Rows.{word_has}
@@ -11,8 +11,7 @@ use Rattle.clause_kernel.proofs.Words.{word_has_zero}
 use Rattle.bit_rows.specs.Sets.{variants_of}
 use Rattle.farm_model.specs.declared.types.Variant.{Variant}
 use Rattle.farm_model.specs.Universe.{Universe}
-use Rattle.farm_model.specs.Packages.{names, variants}
-use Rattle.farm_model.specs.Sound.{IsKnown}
+use Rattle.farm_model.specs.Packages.{names}
 use Rattle.farm_universe.proofs.PlaceLaws.{no_variants}
 use Rattle.sat_rows.specs.Rows.{passes, IsRowOf}
 
@@ -44,8 +43,3 @@ all_zip_next R xs ys i x y lt is so_far here =
     subst (λ front. AllZip R front (ys ++ y ∷ []))
     (ap (λ z. take i xs ++ z ∷ []) is ∙ sym (take-suc xs i x lt) ∙ ap (λ k. take k xs) (let e : suc i ≡ i + 1 = omega arith in e))
     (all_zipped_more R (take i xs) ys x y so_far here)
-
--- a variant of the universe passes where its bit is set
-pub passes_known : (u : Universe) (p : Variant → Bool) (v : Variant) → IsKnown u v
-    → passes u p v.name v.bit ≡ p v
-passes_known u p v known = ap (λ there. there && p v) (lt-ltb v.bit (variants u v.name) known)

@@ -1,4 +1,6 @@
 pub mod Rows
+pub mod Index
+pub mod Found
 pub mod ByVariant
-pub mod FieldRows
+pub mod RecipeRows
 pub mod Tables

@@ -12,6 +12,8 @@ use Rattle.farm_model.specs.declared.types.Variant.{Variant}
 use Rattle.farm_model.specs.Universe.{Universe}
 use Rattle.farm_model.specs.Packages.{names, pre_depends, depends, satisfies, satisfies_entry}
 use Rattle.sat_rows.specs.ByVariant.{AreOfName, AreOfEach}
+use Rattle.sat_rows.specs.Index.{IsProviding}
+use Rattle.sat_rows.specs.RecipeRows.{RecipeRows, AreRecipes}
 use Rattle.sat_rows.specs.Rows.{IsRowOf, IsSharedRow, conflicts_with, broken_by, breakers_of}
 
 -- the rows of a variant, as lists of words
@@ -51,8 +53,11 @@ AreNameRows u = AreOfName u (AreVariantRows u) no_rows
 abbrev pub AreTables : Universe → List (List VariantRows) → Type 0
 AreTables u = AreOfEach u (AreVariantRows u) no_rows
 
--- all rows, and one without variants
-pub record AreKept (u : Universe) (rows : List (List VariantRows)) (empty : List ℕ) : Type 0 where
+-- all rows, the index of those who provide, and a row without variants
+pub record AreKept (u : Universe) (rows : List (List VariantRows))
+    (by_recipe : List RecipeRows) (lists : List (List Variant)) (empty : List ℕ) : Type 0 where
   pub tables : AreTables u rows
+  pub recipes : AreRecipes u by_recipe
+  pub providers : IsProviding u lists
   pub long : length empty ≡ names u
   pub none : HasNone (variants_of empty)

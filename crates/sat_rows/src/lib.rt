@@ -1,7 +1,9 @@
 //! Which variants of a universe satisfy which entries, and which exclude each other, as rows.
 #![tactic(auto)]
 
-mod field_rows;
+mod found;
+mod index;
+mod recipe_rows;
 mod row;
 mod tables;
 mod variant_rows;

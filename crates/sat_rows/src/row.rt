@@ -1,14 +1,19 @@
 //! The variants of a universe that pass a test, as a row.
 
-ghost use Rattle.std.specs.Prelude.{IfOk};
-ghost use Rattle.farm_model.specs.Packages.{satisfies_entry};
-ghost use Rattle.sat_rows.specs.Rows.{IsRowOf};
+ghost use Rattle.std.specs.Prelude.{◌≡◌, ◌||◌, ◌&&◌, ◌==◌, ℕ, Bool, IfOk, OnOk, length, nat_lt};
+ghost use Rattle.bit_rows.specs.Sets.{variants_of};
+ghost use Rattle.farm_model.specs.declared.types.Variant.{Variant};
+ghost use Rattle.farm_model.specs.Packages.{names, variants, satisfies_entry};
+ghost use Rattle.farm_model.specs.Sound.{IsKnown};
+ghost use Rattle.sat_rows.specs.Rows.{IsRowOf, IsSharedRow, of_another_name};
+ghost use Rattle.sat_rows.specs.Found.{IsFound};
 
-use crate::word::word_for;
+use crate::found::Found;
+use crate::word::{variant_count, word_for};
 use bit_rows::Row;
 use deb_relation::Entry;
-use farm_universe::Universe;
 use farm_universe::relations::{SatisfiesEntry, VariantTest};
+use farm_universe::{Universe, Variant};
 use std::alloc::{AllocError, Global};
 
 /// The variants that pass a test.
@@ -16,11 +21,7 @@ use std::alloc::{AllocError, Global};
 /// # Errors
 ///
 /// [`AllocError`] where memory is refused.
-pub fn row_of<T: VariantTest>(
-    alloc: Global,
-    universe: &Universe,
-    test: &T,
-) -> Result<Row, AllocError>
+fn row_of<T: VariantTest>(alloc: Global, universe: &Universe, test: &T) -> Result<Row, AllocError>
     requires { T.fits universe.now test.now }
     ensures { IfOk result (IsRowOf universe.now (T.test universe.now test.now)) }
 {
@@ -40,4 +41,82 @@ pub fn entry_row(alloc: Global, universe: &Universe, entry: &Entry) -> Result<Ro
     ensures { IfOk result (IsRowOf universe.now (satisfies_entry universe.now entry.now)) }
 {
     row_of(alloc, universe, &SatisfiesEntry { entry })
+}
+
+/// Adds a variant to a row, where the universe has it.
+#[tactic(auto, using(farm_universe::proofs::PlaceLaws::named))]
+fn add_known(row: &mut Row, universe: &Universe, variant: Variant) -> Result<(), AllocError>
+    requires { length row.old ≡ names universe.now }
+    ensures set { OnOk result ((n b : ℕ) → variants_of row.new n b ≡ (variants_of row.old n b
+        || (nat_lt variant.bit (variants universe.now variant.name)
+        && ((n == variant.name) && (b == variant.bit))))) }
+    ensures len { length row.new ≡ length row.old }
+{
+    if variant.bit < variant_count(universe, variant.name) {
+        row.set_bit(variant.name as usize, variant.bit)?;
+    }
+    Ok(())
+}
+
+/// The row of variants that were found.
+///
+/// # Errors
+///
+/// [`AllocError`] where memory is refused.
+pub fn row_of_found(alloc: Global, universe: &Universe, found: &Found) -> Result<Row, AllocError>
+    ensures set { IfOk result (λ row. (p : Variant → Bool) → IsFound universe.now p found.now
+        → IsRowOf universe.now p row) }
+    ensures len { IfOk result (λ row. length row ≡ names universe.now) }
+{
+    let mut row = Row::new(alloc, universe.names() as usize)?;
+    for variant in found.variants() {
+        add_known(&mut row, universe, *variant)?;
+    }
+    Ok(row)
+}
+
+/// The row of variants that were found, if there are any.
+///
+/// # Errors
+///
+/// [`AllocError`] where memory is refused.
+pub fn shared_row(
+    alloc: Global,
+    universe: &Universe,
+    found: &Found,
+) -> Result<Option<Row>, AllocError>
+    ensures { IfOk result (λ row. (p : Variant → Bool) → IsFound universe.now p found.now
+        → IsSharedRow universe.now p row) }
+{
+    if found.variants().is_empty() {
+        return Ok(None);
+    }
+    Ok(Some(row_of_found(alloc, universe, found)?))
+}
+
+/// The row of those that were found of other names than this variant's, if there are any.
+///
+/// # Errors
+///
+/// [`AllocError`] where memory is refused.
+pub fn row_of_others(
+    alloc: Global,
+    universe: &Universe,
+    found: &Found,
+    variant: Variant,
+) -> Result<Option<Row>, AllocError>
+    requires { IsKnown universe.now variant }
+    ensures { IfOk result (λ row. (p : Variant → Bool) → IsFound universe.now p found.now
+        → IsSharedRow universe.now (of_another_name variant p) row) }
+{
+    if found.variants().is_empty() {
+        return Ok(None);
+    }
+    let mut row = row_of_found(alloc, universe, found)?;
+    row.set_word(variant.name as usize, 0)?;
+    if row.hits(&row) {
+        Ok(Some(row))
+    } else {
+        Ok(None)
+    }
 }

@@ -2,17 +2,17 @@
 
 ghost use Rattle.std.specs.Prelude.{◌≡◌, ◌<◌, IfOk, length, slice_index_or, []};
 ghost use Rattle.std.specs.List.{AllZip};
-ghost use Rattle.farm_model.specs.Packages.{satisfies, satisfies_entry, conflict, breaks};
+ghost use Rattle.farm_model.specs.Packages.{satisfies, satisfies_entry};
 ghost use Rattle.farm_model.specs.Sound.{IsKnown};
-ghost use Rattle.sat_rows.specs.Rows.{IsRowOf, IsSharedRow, of_another_name};
-ghost use Rattle.sat_rows.specs.FieldRows.{AreDeclared};
+ghost use Rattle.sat_rows.specs.Rows.{IsRowOf, IsSharedRow, conflicts_with, broken_by, breakers_of};
+ghost use Rattle.sat_rows.specs.Index.{IsProviding, AreIndexes};
 ghost use Rattle.sat_rows.specs.Tables.{ArePreRows, AreVariantRows, no_pre_rows};
 
-use crate::field_rows::Declared;
-use crate::row::{entry_row, row_of};
+use crate::found::{breaking, broken, in_conflict, satisfying, satisfying_atom};
+use crate::index::{Index, Indexes};
+use crate::row::{row_of_found, row_of_others};
 use bit_rows::Row;
 use deb_relation::{Entry, Relations};
-use farm_universe::relations::{SatisfiesAtom, VariantTest};
 use farm_universe::{Universe, Variant};
 use std::alloc::{AllocError, Global};
 use std::marker::Model;
@@ -85,101 +85,55 @@ impl VariantRows {
     }
 }
 
-/// The variants of other names that pass a test.
-#[derive(Drop)]
-struct OfAnotherName<T: VariantTest> {
-    variant: Variant,
-    test: T,
-}
-
-impl<T: VariantTest + Drop> VariantTest for OfAnotherName<T> {
-    ghost fits = { λ u t. T.fits u t.test };
-
-    ghost test = { λ u t. of_another_name t.variant (T.test u t.test) };
-
-    fn passes(&self, universe: &Universe, variant: Variant) -> bool {
-        variant.name != self.variant.name && self.test.passes(universe, variant)
-    }
-}
-
-/// The variants that are in conflict with this one, declared by either.
-#[derive(Drop)]
-struct InConflict<'a> {
-    declared: &'a Declared,
-    variant: Variant,
-}
-
-impl VariantTest for InConflict<'_> {
-    ghost fits = { λ u t. AreDeclared u t.declared.now × IsKnown u t.variant };
-
-    ghost test = { λ u t v. conflict u t.variant v };
-
-    #[tactic(auto, unfolding(farm_model::specs::Packages::conflict))]
-    fn passes(&self, universe: &Universe, variant: Variant) -> bool {
-        self.declared
-            .is_in_conflict(universe, self.variant, variant)
-            || self
-                .declared
-                .is_in_conflict(universe, variant, self.variant)
-    }
-}
-
-/// The variants that this one breaks.
-#[derive(Drop)]
-struct IsBroken<'a> {
-    declared: &'a Declared,
-    variant: Variant,
-}
-
-impl VariantTest for IsBroken<'_> {
-    ghost fits = { λ u t. AreDeclared u t.declared.now × IsKnown u t.variant };
-
-    ghost test = { λ u t v. breaks u t.variant v };
-
-    fn passes(&self, universe: &Universe, variant: Variant) -> bool {
-        self.declared.is_broken(universe, self.variant, variant)
-    }
-}
-
-/// The variants that break this one.
-#[derive(Drop)]
-struct BreaksIt<'a> {
-    declared: &'a Declared,
-    variant: Variant,
-}
-
-impl VariantTest for BreaksIt<'_> {
-    ghost fits = { λ u t. AreDeclared u t.declared.now × IsKnown u t.variant };
-
-    ghost test = { λ u t v. breaks u v t.variant };
-
-    fn passes(&self, universe: &Universe, variant: Variant) -> bool {
-        self.declared.is_broken(universe, variant, self.variant)
-    }
-}
-
 /// A row for each alternative of an entry.
 fn alternative_rows(
     alloc: Global,
     universe: &Universe,
+    providers: &Index,
     entry: &Entry,
 ) -> Result<Vec<Row>, AllocError>
+    requires { IsProviding universe.now providers.now }
     ensures { IfOk result (λ rows. AllZip
         (λ a row. IsRowOf universe.now (satisfies universe.now a) row) entry.now rows.items) }
 {
     let mut rows = Vec::new(alloc);
     for atom in entry.alternatives() {
-        rows.push(row_of(alloc, universe, &SatisfiesAtom { atom })?)?;
+        let found = satisfying_atom(alloc, universe, providers, atom)?;
+        rows.push(row_of_found(alloc, universe, &found)?)?;
     }
     Ok(rows)
 }
 
-fn pre_rows(alloc: Global, universe: &Universe, entry: &Entry) -> Result<PreRows, AllocError>
+/// The row of an entry.
+///
+/// # Errors
+///
+/// [`AllocError`] where memory is refused.
+pub fn row_of_entry(
+    alloc: Global,
+    universe: &Universe,
+    providers: &Index,
+    entry: &Entry,
+) -> Result<Row, AllocError>
+    requires { IsProviding universe.now providers.now }
+    ensures { IfOk result (IsRowOf universe.now (satisfies_entry universe.now entry.now)) }
+{
+    let found = satisfying(alloc, universe, providers, entry)?;
+    Ok(row_of_found(alloc, universe, &found)?)
+}
+
+fn pre_rows(
+    alloc: Global,
+    universe: &Universe,
+    providers: &Index,
+    entry: &Entry,
+) -> Result<PreRows, AllocError>
+    requires { IsProviding universe.now providers.now }
     ensures { IfOk result (ArePreRows universe.now entry.now) }
 {
     Ok(PreRows {
-        entry: entry_row(alloc, universe, entry)?,
-        alternatives: alternative_rows(alloc, universe, entry)?,
+        entry: row_of_entry(alloc, universe, providers, entry)?,
+        alternatives: alternative_rows(alloc, universe, providers, entry)?,
     })
 }
 
@@ -187,13 +141,15 @@ fn pre_rows(alloc: Global, universe: &Universe, entry: &Entry) -> Result<PreRows
 fn all_pre_rows(
     alloc: Global,
     universe: &Universe,
+    providers: &Index,
     entries: &Relations,
 ) -> Result<Vec<PreRows>, AllocError>
+    requires { IsProviding universe.now providers.now }
     ensures { IfOk result (λ rows. AllZip (ArePreRows universe.now) entries.now rows.items) }
 {
     let mut rows = Vec::new(alloc);
     for entry in entries.entries() {
-        rows.push(pre_rows(alloc, universe, entry)?)?;
+        rows.push(pre_rows(alloc, universe, providers, entry)?)?;
     }
     Ok(rows)
 }
@@ -202,55 +158,84 @@ fn all_pre_rows(
 pub fn entry_rows(
     alloc: Global,
     universe: &Universe,
+    providers: &Index,
     entries: &Relations,
 ) -> Result<Vec<Row>, AllocError>
+    requires { IsProviding universe.now providers.now }
     ensures { IfOk result (λ rows. AllZip
         (λ e row. IsRowOf universe.now (satisfies_entry universe.now e) row)
         entries.now rows.items) }
 {
     let mut rows = Vec::new(alloc);
     for entry in entries.entries() {
-        rows.push(entry_row(alloc, universe, entry)?)?;
+        rows.push(row_of_entry(alloc, universe, providers, entry)?)?;
     }
     Ok(rows)
 }
 
-/// The variants of names other than this variant's that pass a test, if there are any.
-fn row_of_others<T: VariantTest + Drop>(
+/// The row of the variants of other names that are in conflict with this one.
+fn conflicts_row(
     alloc: Global,
     universe: &Universe,
+    indexes: &Indexes,
     variant: Variant,
-    test: T,
 ) -> Result<Option<Row>, AllocError>
-    requires { T.fits universe.now test }
-    ensures { IfOk result
-        (IsSharedRow universe.now (of_another_name variant (T.test universe.now test))) }
+    requires indexes { AreIndexes universe.now indexes.now }
+    requires known { IsKnown universe.now variant }
+    ensures { IfOk result (IsSharedRow universe.now (conflicts_with universe.now variant)) }
 {
-    let row = row_of(alloc, universe, &OfAnotherName { variant, test })?;
-    if row.hits(&row) {
-        Ok(Some(row))
-    } else {
-        Ok(None)
-    }
+    let found = in_conflict(alloc, universe, indexes, variant)?;
+    Ok(row_of_others(alloc, universe, &found, variant)?)
+}
+
+/// The row of those that this one breaks.
+fn breaks_row(
+    alloc: Global,
+    universe: &Universe,
+    providers: &Index,
+    variant: Variant,
+) -> Result<Option<Row>, AllocError>
+    requires providers { IsProviding universe.now providers.now }
+    requires known { IsKnown universe.now variant }
+    ensures { IfOk result (IsSharedRow universe.now (broken_by universe.now variant)) }
+{
+    let found = broken(alloc, universe, providers, variant)?;
+    Ok(row_of_others(alloc, universe, &found, variant)?)
+}
+
+/// The row of those that break this one.
+fn broken_by_row(
+    alloc: Global,
+    universe: &Universe,
+    indexes: &Indexes,
+    variant: Variant,
+) -> Result<Option<Row>, AllocError>
+    requires indexes { AreIndexes universe.now indexes.now }
+    requires known { IsKnown universe.now variant }
+    ensures { IfOk result (IsSharedRow universe.now (breakers_of universe.now variant)) }
+{
+    let found = breaking(alloc, universe, indexes, variant)?;
+    Ok(row_of_others(alloc, universe, &found, variant)?)
 }
 
 /// The rows of a variant.
 pub fn variant_rows(
     alloc: Global,
     universe: &Universe,
-    declared: &Declared,
+    indexes: &Indexes,
     variant: Variant,
 ) -> Result<VariantRows, AllocError>
-    requires declared { AreDeclared universe.now declared.now }
+    requires indexes { AreIndexes universe.now indexes.now }
     requires known { IsKnown universe.now variant }
     ensures { IfOk result (AreVariantRows universe.now variant) }
 {
     let relations = universe.relations(variant);
+    let providers = &indexes.providers;
     Ok(VariantRows {
-        pre_depends: all_pre_rows(alloc, universe, &relations.pre_depends)?,
-        depends: entry_rows(alloc, universe, &relations.depends)?,
-        conflicts: row_of_others(alloc, universe, variant, InConflict { declared, variant })?,
-        breaks: row_of_others(alloc, universe, variant, IsBroken { declared, variant })?,
-        broken_by: row_of_others(alloc, universe, variant, BreaksIt { declared, variant })?,
+        pre_depends: all_pre_rows(alloc, universe, providers, &relations.pre_depends)?,
+        depends: entry_rows(alloc, universe, providers, &relations.depends)?,
+        conflicts: conflicts_row(alloc, universe, indexes, variant)?,
+        breaks: breaks_row(alloc, universe, providers, variant)?,
+        broken_by: broken_by_row(alloc, universe, indexes, variant)?,
     })
 }

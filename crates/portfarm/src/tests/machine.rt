@@ -1,10 +1,10 @@
 //! A machine for tests: what the program is called with, and what it writes.
 
 use std::alloc::{Allocator, Global};
-use std::cell::RefCell;
 use std::env::{Env, FillError};
 use std::fmt::Display;
 use std::io::{self, BufRead, ErrorKind, Lines, Read};
+use std::sync::Mutex;
 use std::thread::Threads;
 
 /// What stands behind the bytes of standard input.
@@ -51,8 +51,8 @@ pub struct Machine<'a, R> {
     pub word: Option<&'a [u8]>,
     pub input: Source<'a>,
     pub takes_output: bool,
-    pub output: RefCell<Vec<u8>>,
-    pub errors: RefCell<Vec<u8>>,
+    pub output: Mutex<Vec<u8>>,
+    pub errors: Mutex<Vec<u8>>,
 }
 
 impl<'a, R: AllocGlobal> Machine<'a, R> {
@@ -64,22 +64,22 @@ impl<'a, R: AllocGlobal> Machine<'a, R> {
             word: None,
             input: Source { bytes, behind },
             takes_output: true,
-            output: RefCell::new(Vec::new(alloc)),
-            errors: RefCell::new(Vec::new(alloc)),
+            output: Mutex::new(Vec::new(alloc)),
+            errors: Mutex::new(Vec::new(alloc)),
         }
     }
 
     /// Puts the text of a value behind what was written.
     fn put<D: Display + Drop>(
         &self,
-        written: &RefCell<Vec<u8>>,
+        written: &Mutex<Vec<u8>>,
         value: D,
         end: &str,
     ) -> io::Result<()> {
         let text = format!(in self.rt.alloc(); "{value}{end}")?;
-        match written.try_borrow_mut() {
-            Ok(mut written) => Ok(written.extend_from_slice(text.as_bytes())?),
-            Err(_) => Err(io::Error::from(ErrorKind::WouldBlock)),
+        match written.try_lock() {
+            Some(mut written) => Ok(written.extend_from_slice(text.as_bytes())?),
+            None => Err(io::Error::from(ErrorKind::WouldBlock)),
         }
     }
 }
@@ -146,9 +146,9 @@ impl<R: AllocGlobal> Print for Machine<'_, R> {
         if !self.takes_output {
             return Err(io::Error::from(ErrorKind::BrokenPipe));
         }
-        match self.output.try_borrow_mut() {
-            Ok(mut written) => Ok(written.extend_from_slice(bytes)?),
-            Err(_) => Err(io::Error::from(ErrorKind::WouldBlock)),
+        match self.output.try_lock() {
+            Some(mut written) => Ok(written.extend_from_slice(bytes)?),
+            None => Err(io::Error::from(ErrorKind::WouldBlock)),
         }
     }
 }

@@ -12,7 +12,7 @@ const TEXTS: &[u8] = b"%%\n%%\nArchitecture-Names: riscv64\n%%\nplan 1\n";
 
 /// The program's run on this machine has these outputs and this status.
 fn assert_outcome(
-    machine: &Machine<'_, impl Abort + AllocGlobal + Threads>,
+    machine: &Machine<'_, impl Abort + AllocGlobal + Threads + Sync>,
     output: &str,
     errors: &str,
     status: u8,
@@ -20,10 +20,10 @@ fn assert_outcome(
     let rt = &machine.rt;
     assert_eq!(rt; run_or_tell(machine), status);
     assert!(rt;
-        matches!(machine.output.try_borrow(), Ok(it) if it.as_slice() == output.as_bytes())
+        matches!(machine.output.try_lock(), Some(it) if it.as_slice() == output.as_bytes())
     );
     assert!(rt;
-        matches!(machine.errors.try_borrow(), Ok(it) if it.as_slice() == errors.as_bytes())
+        matches!(machine.errors.try_lock(), Some(it) if it.as_slice() == errors.as_bytes())
     );
 }
 

@@ -1,4 +1,5 @@
 use Rattle.std.proofs.Common.{sym, subst, arith}
+use Rattle.farm_model.specs.Packages.{names}
 use Rattle.chroot_state.specs.Slots.{AreSlots}
 use Rattle.chroot_state.proofs.Opened.{based-more, based-all, based-slots}
 use Rattle.chroot_state.proofs.base.base_slots.Goals as goal
@@ -24,3 +25,13 @@ returns-clause-known c =
     (omega
     (arith, c.loop-name.auto.name-end, c.loop-name-test.false, c.names-count.ensures.number))))
     (based-slots c.args.universe.now c.args.number c.names-count.ensures.kept.sound)
+
+pub returns-clause-small : goal.returns-clause-small
+unfolding names
+returns-clause-small c =
+    omega (
+      arith,
+      (returns-clause-known c).long,
+      c.names-count.ensures.kept.few_names,
+      c.names-count.ensures.kept.sound.listed,
+    )

@@ -1,14 +1,14 @@
-use Rattle.std.proofs.Common.{sym, ap, ◌∙◌, length, arith}
+use Rattle.std.proofs.Common.{ap, ◌∙◌, length}
+use Rattle.std.specs.List.{list_any}
 use Rattle.farm_model.specs.Chroot.{slot}
-use Rattle.farm_model.proofs.BelowLaws.{some_below-at}
+use Rattle.chroot_state.proofs.Present.{listed_any}
 use Rattle.chroot_state.proofs.slots.some_slot.Goals as goal
 
-pub returns-then-passes : goal.returns-then-passes
-returns-then-passes g c =
-    sym
-    (some_below-at (length c.args.slots.now)
-    (λ n. g.T.SlotTest.test c.args.universe.now c.args.test.now n (slot c.args.slots.now n))
-    c.loop-name.name (omega (arith, c.requires.slots.long, c.names-count.ensures.number))
-    (ap (g.T.SlotTest.test c.args.universe.now c.args.test.now c.loop-name.name)
-    (sym c.slot_at.ensures)
-    ∙ (sym c.passes.ensures ∙ c.if-passes.true)))
+pub returns : goal.returns
+returns g c =
+    let slots = c.args.slots.now in
+    let test = g.T.SlotTest.test c.args.universe.now c.args.test.now in
+    c.some_of.ensures
+    ∙ (ap (λ xs. list_any (λ n. test n (slot slots n)) xs) c.present.ensures
+    ∙ listed_any slots test (g.met.T.SlotTest.absent c.args.universe.now c.args.test.now)
+    (length slots))

@@ -1,8 +1,8 @@
 use Rattle.std.proofs.Common.{◌≡◌, ◌<◌, subst, arith, length, Ok}
 use Rattle.std.proofs.lemmas.Result.{err_from_is_err_and}
 use Rattle.deb_text.specs.Answers.{refusal_of}
+use Rattle.deb_text.specs.declared.files.TheConstants.{FARM}
 use Rattle.deb_stanza.specs.Stanza.{Paragraph}
-use Rattle.farm_universe.specs.declared.files.TheConstants.{FARM}
 use Rattle.farm_universe.specs.FarmText.{head_at}
 use Rattle.farm_universe.specs.FarmView.{head_view, land_view}
 use Rattle.farm_universe.specs.SourceView.{source_view}

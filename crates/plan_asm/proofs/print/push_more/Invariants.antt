@@ -1,5 +1,5 @@
 use Rattle.std.proofs.Common.{◌≡◌, ◌++◌, drop}
-use Rattle.plan_asm.specs.Listing.{more_text}
+use Rattle.deb_relation.specs.Spelling.{more_text}
 use Rattle.plan_asm.proofs.print.push_more.Given as goal
 
 abbrev pub invariant-loop-atom : goal.invariant-loop-atom

@@ -1,14 +1,21 @@
-use Rattle.plan_verifier.proofs.SoFar.{initial_greatest, no_order}
+use Rattle.std.proofs.Common.{◌≢◌, [], subst}
+use Rattle.plan_model.specs.Order.{AreStuck}
+use Rattle.wait_order.specs.KnownRows.{rows_of}
+use Rattle.wait_order.specs.Answer.{IsWhyNone}
+use Rattle.wait_order.specs.declared.rounds.OrderError.TheVariants.{Stuck}
+use Rattle.plan_verifier.specs.Stuck.{IsToldStuck}
+use Rattle.plan_verifier.proofs.Walks.{stuck_verdict}
 use Rattle.plan_verifier.proofs.verdict.judge.Goals as goal
 
-pub new-requires-clause-accepted : goal.new-requires-clause-accepted
-new-requires-clause-accepted c =
+pub returns-in-Err-Stuck : goal.returns-in-Err-Stuck
+returns-in-Err-Stuck g c =
     let u = c.args.planned.universe in
     let p = c.args.planned.plan.lanes in
-    record {
-      sound = c.requires.sound;
-      known = initial_greatest u p c.requires.judged;
-      safe = c.in_ok-costs.ensures.0;
-      order = no_order u p c.requires.judged;
-      costs = c.in_ok-costs.ensures.1;
-    }
+    let lanes = c.in-Err-Stuck.lanes.items in
+    let why : IsWhyNone u p (Stuck c.in-Err-Stuck.lanes) =
+    subst (IsWhyNone u p) c.in-Err-Stuck.field-0-is c.in-Err-Stuck.ensures.stuck in
+    let stuck : AreStuck u p lanes × (lanes ≢ []) = why in
+    stuck_verdict u p (rows_of c.in_ok-known.known) c.in_ok-known.ensures.greatest
+    c.in_ok-costs.ensures.0 lanes stuck.0 stuck.1 c.stuck_refusal.result
+    (subst (λ ls. IsToldStuck p ls c.stuck_refusal.result) c.deref.ensures.value
+    c.stuck_refusal.ensures)

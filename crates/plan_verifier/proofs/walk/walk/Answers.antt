@@ -1,15 +1,17 @@
 use Rattle.std.proofs.Common.{◌≡◌, ◌<◌, ◌^◌, None, Some, length, inl, inr, refl, sym, ap, subst, ◌∙◌, add-one, arith}
 use Rattle.std.proofs.lemmas.Bool.{cases_eq, cases_lt}
 use Rattle.std.proofs.lemmas.Option.{slice_get_past}
-use Rattle.plan_model.specs.Plan.{Lane, lane, no_lane, instruction_at}
+use Rattle.farm_model.specs.Universe.{Universe}
+use Rattle.may_rows.specs.Words.{may_of}
+use Rattle.plan_model.specs.Known.{possible}
 use Rattle.plan_model.specs.MayAt.{may_at, lane_cost}
+use Rattle.plan_model.specs.Plan.{Lane, lane, no_lane, instruction_at}
+use Rattle.plan_model.specs.Risk.{risk}
 use Rattle.plan_model.specs.Safety.{risk_at}
-use Rattle.plan_verifier.specs.Map.{may_of}
-use Rattle.plan_model.specs.Known.{initial_rows}
-use Rattle.plan_verifier.specs.Walk.{risk_now}
-use Rattle.plan_verifier.proofs.Bases.{base-is}
-use Rattle.plan_verifier.proofs.SoFar.{judged-at}
-use Rattle.plan_verifier.proofs.Quiet.{may-next, risk-is, risk-past, lane-short, instruction-is}
+use Rattle.sat_rows.specs.Rows.{IsRowOf}
+use Rattle.wait_order.specs.KnownRows.{rows_of}
+use Rattle.plan_verifier.proofs.Reach.{possible_after}
+use Rattle.plan_verifier.proofs.Steps.{may-next, risk-is, risk-past, lane-short, instruction-is, of_archive, known_within}
 use Rattle.plan_verifier.proofs.walk.walk.Goals as goal
 
 pub loop-place-init : goal.loop-place-init
@@ -18,34 +20,68 @@ loop-place-init c =
     let p = c.args.plan.now.lanes in
     let of = c.lane-lane.result.now in
     let same : lane p c.args.number ≡ of = sym c.lane-lane.ensures in
+    let map = c.in_ok-state.ensures.map (lane p c.args.number)
+        (ap (λ (o : Lane). o.base) same ∙ sym c.base.ensures) in
+    let free : c.in_ok-state.state.cost ≡ 0 = ap (λ m. m.cost) map in
     record {
-      at = base-is u c.requires.sound.universe c.base.result (lane p c.args.number) c.in_ok-map.map
-          (ap (λ (o : Lane). o.base) same ∙ sym c.base.ensures) c.in_ok-map.ensures;
+      at = sym map;
       safe = λ k lt. absurd (omega arith);
       of_lane = record {
-        sound = c.requires.sound.universe;
         based =
             subst (λ (o : Lane). o.base < length u.bases) same
             (c.requires.sound.plan.bases c.args.number c.requires.lane);
         small =
             subst (λ (o : Lane). o.budget < 10 ^ 15) same
             (c.lanes-lanes.ensures.limits.budgets c.args.number no_lane c.requires.lane);
-        long = c.in_ok-map.ensures.long;
-        within = omega (arith, c.in_ok-map.ensures.free);
+        words = c.in_ok-state.ensures.words;
+        within = omega (arith, free);
       };
+      there = c.in_ok-there.ensures;
     }
 
-pub take-requires-clause-known : goal.take-requires-clause-known
-take-requires-clause-known c =
-    c.requires.sound.plan.instructions c.args.number c.loop-place.place
-    c.index-instructions-place.result c.requires.lane
-    (instruction-is c.args.plan.now.lanes c.args.number c.loop-place.place c.lane-lane.result.now
-    c.instructions-instructions.result.now c.index-instructions-place.result c.lane-lane.ensures
-    c.instructions-instructions.ensures (omega arith) c.index-instructions-place.is)
+pub loop-place-preserved : goal.loop-place-preserved
+loop-place-preserved c =
+    let u = c.args.universe.now in
+    let p = c.args.plan.now.lanes in
+    let rows = rows_of c.args.known.now in
+    let l = c.args.number in
+    let i = c.loop-place.place in
+    let m = may_of c.loop-place.state in
+    let x = c.index-instructions-place.result in
+    let here : instruction_at p l i ≡ Some x =
+    instruction-is p l i c.lane-lane.result.now c.instructions-instructions.result.now x
+    c.lane-lane.ensures c.instructions-instructions.ensures (omega arith)
+    c.index-instructions-place.is in
+    let long : length (lane p l).instructions ≡ length c.instructions-instructions.result.now =
+    ap length
+    (sym (c.instructions-instructions.ensures
+    ∙ ap (λ (o : Lane). o.instructions) c.lane-lane.ensures)) in
+    let known : IsRowOf u (rows l i) c.row-known.result.now =
+    subst (λ (w : Universe). IsRowOf w (rows l i) c.row-known.result.now) c.requires.of_universe
+    c.row-known.ensures in
+    let answer = c.in_default.ensures.answer (rows l i) (possible u p l i)
+        (of_archive u p rows c.requires.sound.universe c.requires.keeps l i c.requires.lane (omega (arith, long)))
+        known c.loop-place.invariant.there in
+    let safe : risk_at u p rows l i ≡ None =
+    risk-is u p rows l i x m here c.loop-place.invariant.at
+    ∙ (ap (λ of. risk u of (rows l i) (possible u p l i) m x) (sym c.lane-lane.ensures)
+    ∙ answer.0) in
+    record {
+      at = rw add-one (may-next u p rows l i x m here c.loop-place.invariant.at ∙ answer.1);
+      safe = λ k lt. elim (cases_eq k i) [
+        | inl same ↦ subst (λ n. risk_at u p rows l n ≡ None) (sym same) safe
+        | inr other ↦ c.loop-place.invariant.safe k (omega arith)
+      ];
+      of_lane = c.in_default.ensures.of_lane;
+      there =
+          rw add-one
+          (possible_after u p l c.requires.lane i x here c.add_outputs.new.row
+          (c.in_ok-add_outputs.ensures.added (possible u p l i) c.loop-place.invariant.there));
+    }
 
-pub take-requires-clause-judged : goal.take-requires-clause-judged
-take-requires-clause-judged c =
-    judged-at c.args.plan.now.lanes c.requires.judged c.args.number c.loop-place.place
+pub step-stepped-requires-clause-instruction : goal.step-stepped-requires-clause-instruction
+step-stepped-requires-clause-instruction c =
+    c.requires.sound.plan.instructions c.args.number c.loop-place.place
     c.index-instructions-place.result c.requires.lane
     (instruction-is c.args.plan.now.lanes c.args.number c.loop-place.place c.lane-lane.result.now
     c.instructions-instructions.result.now c.index-instructions-place.result c.lane-lane.ensures
@@ -73,59 +109,12 @@ overflow_add-result c =
     ∙ ap (λ (o : Lane). o.instructions) c.lane-lane.ensures) in
     omega (arith, short, long)
 
-pub returns-in-Err : goal.returns-in-Err
-returns-in-Err c =
-    let u = c.args.universe.now in
-    let p = c.args.plan.now.lanes in
-    let x = c.index-instructions-place.result in
-    let here : instruction_at p c.args.number c.loop-place.place ≡ Some x =
-    instruction-is p c.args.number c.loop-place.place c.lane-lane.result.now
-    c.instructions-instructions.result.now x c.lane-lane.ensures
-    c.instructions-instructions.ensures (omega arith) c.index-instructions-place.is in (
-      c.loop-place.place,
-      refl,
-      risk-is u p c.requires.judged c.args.number c.loop-place.place x
-          (may_of u c.loop-place.map) here c.loop-place.invariant.at
-          ∙ (ap (λ of. risk_now u of (may_of u c.loop-place.map) x)
-          (sym c.lane-lane.ensures)
-          ∙ c.in-Err.ensures.answer),
-      c.loop-place.invariant.safe,
-    )
-
-pub loop-place-preserved : goal.loop-place-preserved
-loop-place-preserved c =
-    let u = c.args.universe.now in
-    let p = c.args.plan.now.lanes in
-    let x = c.index-instructions-place.result in
-    let here : instruction_at p c.args.number c.loop-place.place ≡ Some x =
-    instruction-is p c.args.number c.loop-place.place c.lane-lane.result.now
-    c.instructions-instructions.result.now x c.lane-lane.ensures
-    c.instructions-instructions.ensures (omega arith) c.index-instructions-place.is in
-    let safe : risk_at u p (initial_rows u) c.args.number c.loop-place.place ≡ None =
-    risk-is u p c.requires.judged c.args.number c.loop-place.place x
-    (may_of u c.loop-place.map) here c.loop-place.invariant.at
-    ∙ (ap (λ of. risk_now u of (may_of u c.loop-place.map) x)
-    (sym c.lane-lane.ensures)
-    ∙ c.in_default.ensures.answer.0) in
-    record {
-      at =
-          rw add-one
-          (may-next u p c.requires.judged c.args.number c.loop-place.place x
-          (may_of u c.loop-place.map) here c.loop-place.invariant.at
-          ∙ c.in_default.ensures.answer.1);
-      safe = λ k lt. elim (cases_eq k c.loop-place.place) [
-        | inl same ↦
-            subst (λ i. risk_at u p (initial_rows u) c.args.number i ≡ None) (sym same) safe
-        | inr other ↦ c.loop-place.invariant.safe k (omega arith)
-      ];
-      of_lane = c.in_default.ensures.of_lane;
-    }
-
 pub returns : goal.returns
 unfolding lane_cost
 returns c =
     let u = c.args.universe.now in
     let p = c.args.plan.now.lanes in
+    let rows = rows_of c.args.known.now in
     let long : length (lane p c.args.number).instructions
     ≡ length c.instructions-instructions.result.now =
     ap length
@@ -134,9 +123,57 @@ returns c =
     let end : c.loop-place.place ≡ length (lane p c.args.number).instructions = omega arith in (
       λ i. elim (cases_lt i c.loop-place.place) [
         | inl lt ↦ c.loop-place.invariant.safe i lt
-        | inr past ↦ risk-past u p (initial_rows u) c.args.number i
+        | inr past ↦ risk-past u p rows c.args.number i
             (slice_get_past (lane p c.args.number).instructions i (omega arith))
       ],
-      sym (ap (λ m. m.cost) c.loop-place.invariant.at)
-          ∙ ap (λ k. (may_at u p (initial_rows u) c.args.number k).cost) end,
+      c.cost.ensures ∙ sym (ap (λ m. m.cost) c.loop-place.invariant.at)
+          ∙ ap (λ k. (may_at u p rows c.args.number k).cost) end,
+    )
+
+pub step-stepped-requires-clause-known_there : goal.step-stepped-requires-clause-known_there
+step-stepped-requires-clause-known_there c =
+    let u = c.args.universe.now in
+    let p = c.args.plan.now.lanes in
+    let rows = rows_of c.args.known.now in
+    let l = c.args.number in
+    let i = c.loop-place.place in
+    let long : length (lane p l).instructions ≡ length c.instructions-instructions.result.now =
+    ap length
+    (sym (c.instructions-instructions.ensures
+    ∙ ap (λ (o : Lane). o.instructions) c.lane-lane.ensures)) in
+    known_within u p rows c.requires.sound.universe c.requires.keeps l i c.requires.lane
+    (omega (arith, long)) c.row-known.result.now c.loop-place.there
+    (subst (λ (w : Universe). IsRowOf w (rows l i) c.row-known.result.now) c.requires.of_universe
+    c.row-known.ensures)
+    c.loop-place.invariant.there
+
+pub returns-in-Err : goal.returns-in-Err
+returns-in-Err c =
+    let u = c.args.universe.now in
+    let p = c.args.plan.now.lanes in
+    let rows = rows_of c.args.known.now in
+    let l = c.args.number in
+    let i = c.loop-place.place in
+    let m = may_of c.loop-place.state in
+    let x = c.index-instructions-place.result in
+    let here : instruction_at p l i ≡ Some x =
+    instruction-is p l i c.lane-lane.result.now c.instructions-instructions.result.now x
+    c.lane-lane.ensures c.instructions-instructions.ensures (omega arith)
+    c.index-instructions-place.is in
+    let long : length (lane p l).instructions ≡ length c.instructions-instructions.result.now =
+    ap length
+    (sym (c.instructions-instructions.ensures
+    ∙ ap (λ (o : Lane). o.instructions) c.lane-lane.ensures)) in
+    let known : IsRowOf u (rows l i) c.row-known.result.now =
+    subst (λ (w : Universe). IsRowOf w (rows l i) c.row-known.result.now) c.requires.of_universe
+    c.row-known.ensures in (
+      i,
+      refl,
+      risk-is u p rows l i x m here c.loop-place.invariant.at
+          ∙ (ap (λ of. risk u of (rows l i) (possible u p l i) m x) (sym c.lane-lane.ensures)
+          ∙ c.in-Err.ensures.answer (rows l i) (possible u p l i)
+          (of_archive u p rows c.requires.sound.universe c.requires.keeps l i c.requires.lane
+          (omega (arith, long)))
+          known c.loop-place.invariant.there),
+      c.loop-place.invariant.safe,
     )

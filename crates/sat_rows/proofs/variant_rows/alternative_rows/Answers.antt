@@ -9,4 +9,5 @@ loop-atom-preserved c =
     (all_zip_next (λ a row. IsRowOf c.args.universe.now (satisfies c.args.universe.now a) row)
     c.alternatives-atom-items.result.now c.loop-atom.rows.items c.loop-atom.atom-index
     c.atom-item.result _ c.loop-atom-test.true c.atom-item.is c.loop-atom.invariant
-    c.in_ok-row_of.ensures)
+    (c.in_ok-row_of_found.ensures.set (satisfies c.args.universe.now c.atom-item.result)
+    c.in_ok-found.ensures))

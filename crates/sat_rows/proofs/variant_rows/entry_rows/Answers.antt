@@ -9,4 +9,4 @@ loop-entry-preserved c =
     (all_zip_next (λ e row. IsRowOf c.args.universe.now (satisfies_entry c.args.universe.now e) row)
     c.entries-entry-items.result.now c.loop-entry.rows.items c.loop-entry.entry-index
     c.entry-item.result _ c.loop-entry-test.true c.entry-item.is c.loop-entry.invariant
-    c.in_ok-entry_row.ensures)
+    c.in_ok-row_of_entry.ensures)

@@ -28,5 +28,5 @@ loop-member-preserved c = record {
       ∙ ap (changed_slot c.args.change)
       (c.slot_at.ensures
       ∙ ap (λ xs. slot xs (get_or c.args.members.now c.loop-member.member-index 0))
-      (c.deref.ensures.value ∙ ap (λ h. h.slots) c.self.view_is)));
+      (ap (λ h. h.slots) c.self.view_is)));
 }

@@ -1,0 +1,4 @@
+pub mod Sets
+pub mod Above
+pub mod Unique
+pub mod Greatest

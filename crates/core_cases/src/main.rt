@@ -1,0 +1,21 @@
+//! Runs cases of schedules that stand in files, and prints of each whether its answer is the wanted
+//! one.
+//!
+//! The files are named by the program's words. What a file looks like is said in data/README.
+#![tactic(auto)]
+
+mod answers;
+mod schedule;
+mod state;
+mod turns;
+
+use crate::answers::CoreAnswers;
+use case_files::run_file;
+use std::{env, io};
+
+fn main(rt: HostRuntime) -> io::Result<()> {
+    for word in env::args(&rt)?.skip(1) {
+        run_file(&rt, &CoreAnswers, word.as_str())?;
+    }
+    Ok(())
+}

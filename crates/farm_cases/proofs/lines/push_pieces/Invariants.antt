@@ -1,5 +1,0 @@
-use Rattle.std.proofs.Common.{length}
-use Rattle.farm_cases.proofs.lines.push_pieces.Given as goal
-
-abbrev pub decreases-loop-piece : goal.decreases-loop-piece
-decreases-loop-piece l = length l.rest

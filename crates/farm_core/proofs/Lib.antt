@@ -1,0 +1,8 @@
+pub mod Picked
+pub mod Waits
+pub mod Taken
+pub mod Stepped
+pub mod Events
+pub mod Opened
+pub mod Views
+pub mod Played

@@ -1,0 +1,48 @@
+//! The turn of a lane of a farm at work.
+
+ghost use Rattle.std.specs.Prelude.{◌<◌, length};
+ghost use Rattle.farm_core.specs.Farm.{IsCore};
+ghost use Rattle.farm_core.specs.Steps.{IsStepped};
+
+use crate::answer::Step;
+use crate::lane::LaneRun;
+use crate::turn::Turn;
+use farm_archive::PlainArchive;
+use farm_universe::Universe;
+use plan_asm::Plan;
+
+/// Takes the turn of a lane of the plan. A lane that waits is not looked at again until something
+/// is published.
+pub fn take_turn(
+    universe: &Universe,
+    plan: &Plan,
+    lanes: &mut Vec<LaneRun>,
+    archive: &mut PlainArchive,
+    lane: u32,
+) -> Step
+    requires there { lane < length plan.now.lanes }
+    requires core { IsCore universe.now plan.now.lanes lanes.old.items archive.old }
+    ensures { IsStepped universe.now plan.now.lanes lane lanes.old.items archive.old
+        lanes.new.items archive.new result }
+{
+    let _lanes = plan.lanes();
+    let of = plan.lane(lane as usize);
+    let published = archive.history().len();
+    let run = &mut lanes[lane as usize];
+    if run.waited > published {
+        return Step::Blocked;
+    }
+    match run.turn(universe, archive, of) {
+        Turn::Goes => Step::Moved,
+        Turn::Gives(output) => {
+            archive.publish(lane, output);
+            Step::Moved
+        }
+        Turn::Waits => {
+            run.waited = published + 1;
+            Step::Blocked
+        }
+        Turn::Ends => Step::Finished,
+        Turn::Fails(trap) => Step::Trapped(trap),
+    }
+}

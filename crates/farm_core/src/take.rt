@@ -1,0 +1,116 @@
+//! A lane's turn.
+
+ghost use Rattle.std.specs.Prelude.{◌≡◌, ◌<◌, ◌≤◌, ℕ, Some, length, slice_get};
+ghost use Rattle.farm_core.specs.Lanes.{IsRun, shown};
+ghost use Rattle.farm_core.specs.Turns.{IsTurn};
+ghost use Rattle.farm_model.specs.Packages.{names, has_bit};
+ghost use Rattle.plan_asm.specs.declared.error.TheConstants.{MOST_INSTRUCTIONS};
+ghost use Rattle.plan_model.specs.declared.instructions.Instruction.{Instruction};
+ghost use Rattle.plan_model.specs.declared.instructions.Instruction.TheVariants.{Unpack, Wait};
+ghost use Rattle.plan_model.specs.Sound.{IsInstruction};
+ghost use Rattle.plan_model.specs.Turn.{turn_of};
+
+use crate::lane::LaneRun;
+use crate::pick::newest;
+use crate::turn::Turn;
+use crate::wait::passes;
+use deb_relation::{Entry, Op};
+use deb_version::Version;
+use farm_archive::PlainArchive;
+use farm_universe::{Trap, Universe, Variant};
+use plan_asm::{Instruction, Lane};
+
+impl LaneRun {
+    /// Unpacks the highest variant of a name that is in the archive and in the relation.
+    fn unpack_newest(
+        &mut self,
+        universe: &Universe,
+        archive: &PlainArchive,
+        lane: &Lane,
+        name: u32,
+        relation: &Option<(Op, Version)>,
+    ) -> Turn
+        requires run { IsRun universe.now lane.now self.old }
+        requires next { self.old.done < u32.MAX }
+        requires named { name < names universe.now }
+        ensures { IsTurn universe.now lane.now self.old self.new result
+            (turn_of universe.now (has_bit archive.now.words) lane.now (shown self.old)
+            (Some (Unpack name relation.now))) }
+    {
+        match newest(universe, archive, name, relation) {
+            Some(bit) => self.unpack(universe, lane, Variant { name, bit }),
+            None => Turn::Fails(Trap::Missing),
+        }
+    }
+
+    /// Goes on where some variant in the archive satisfies the entry.
+    fn wait(
+        &mut self,
+        universe: &Universe,
+        archive: &PlainArchive,
+        lane: &Lane,
+        entry: &Entry,
+    ) -> Turn
+        requires run { IsRun universe.now lane.now self.old }
+        requires next { self.old.done < u32.MAX }
+        ensures { IsTurn universe.now lane.now self.old self.new result
+            (turn_of universe.now (has_bit archive.now.words) lane.now (shown self.old)
+            (Some (Wait entry.now))) }
+    {
+        if passes(universe, archive, entry) {
+            let _spent = self.spent;
+            self.pass(0);
+            Turn::Goes
+        } else {
+            Turn::Waits
+        }
+    }
+
+    /// Carries out an instruction, or makes an output of it.
+    fn take(
+        &mut self,
+        universe: &Universe,
+        archive: &PlainArchive,
+        lane: &Lane,
+        instruction: &Instruction,
+    ) -> Turn
+        requires run { IsRun universe.now lane.now self.old }
+        requires next { self.old.done < u32.MAX }
+        requires known { IsInstruction universe.now instruction.now }
+        ensures { IsTurn universe.now lane.now self.old self.new result
+            (turn_of universe.now (has_bit archive.now.words) lane.now (shown self.old)
+            (Some instruction.now)) }
+    {
+        match instruction {
+            Instruction::Unpack { name, relation } => {
+                self.unpack_newest(universe, archive, lane, *name, relation)
+            }
+            Instruction::Configure(members) => {
+                self.configure(universe, lane, members.as_slice())
+            }
+            Instruction::Deconfigure(members) => {
+                self.deconfigure(universe, lane, members.as_slice())
+            }
+            Instruction::Remove(members) => self.remove(universe, lane, members.as_slice()),
+            Instruction::Build(recipe) => self.build(universe, lane, *recipe),
+            Instruction::Publish(recipe) => self.publish(universe, lane, *recipe),
+            Instruction::Wait(entry) => self.wait(universe, archive, lane, entry),
+        }
+    }
+
+    /// Takes the lane's turn, over what is in the archive.
+    pub fn turn(&mut self, universe: &Universe, archive: &PlainArchive, lane: &Lane) -> Turn
+        requires run { IsRun universe.now lane.now self.old }
+        requires short { length lane.now.instructions ≤ MOST_INSTRUCTIONS }
+        requires known { (i : ℕ) (x : Instruction)
+            → slice_get lane.now.instructions i ≡ Some x → IsInstruction universe.now x }
+        ensures { IsTurn universe.now lane.now self.old self.new result
+            (turn_of universe.now (has_bit archive.now.words) lane.now (shown self.old)
+            (slice_get lane.now.instructions self.old.done)) }
+    {
+        match lane.instructions().get(self.done as usize) {
+            Some(instruction) => self.take(universe, archive, lane, instruction),
+            None => Turn::Ends,
+        }
+    }
+}

@@ -1,0 +1,10 @@
+pub mod Again
+pub mod Drafts
+pub mod EntryLines
+pub mod Kept
+pub mod Listed
+pub mod Names
+pub mod RoundTrip
+pub mod Waits
+pub mod WordLines
+pub mod Wordings

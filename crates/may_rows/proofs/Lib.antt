@@ -1,0 +1,12 @@
+pub mod Bridges
+pub mod Writes
+pub mod ByNumber
+pub mod MetAhead
+pub mod OtherNames
+pub mod Candidates
+pub mod Unpacked
+pub mod Builds
+pub mod BaseMaps
+pub mod MemberSlots
+pub mod Configured
+pub mod Withdrawn

@@ -1,0 +1,12 @@
+use Rattle.std.proofs.Common.{◌≡◌, false, take}
+use Rattle.deb_relation.specs.Relations.{Entry}
+use Rattle.farm_model.specs.Packages.{satisfies_entry}
+use Rattle.sat_rows.specs.Rows.{IsRowOf}
+use Rattle.may_rows.specs.Words.{may_of}
+use Rattle.may_rows.specs.Withdraws.{may_have_met}
+use Rattle.may_rows.proofs.needed.may_have_hit.Given as goal
+
+abbrev pub invariant-loop-place : goal.invariant-loop-place
+invariant-loop-place l =
+    (e : Entry) → IsRowOf l.universe (satisfies_entry l.universe e) l.row
+    → may_have_met l.universe (take l.place l.members) (may_of l.state) e ≡ false

@@ -1,0 +1,55 @@
+use Rattle.std.proofs.Common.{◌+◌, ◌≤◌, length, sym, ap, ◌∙◌, arith}
+use Rattle.farm_model.proofs.TrapLaws.{within-limit}
+use Rattle.plan_model.specs.May.{May, MayAbsent, is_surely_present}
+use Rattle.may_rows.specs.Words.{Words, may_of, may_spend}
+use Rattle.may_rows.specs.Configures.{slots_after}
+use Rattle.may_rows.proofs.Withdrawn.{told_wrong, told_needed, told_none, removed-is}
+use Rattle.may_rows.proofs.withdraw.remove.Goals as goal
+
+pub returns-in-Some-clause-answer : goal.returns-in-Some-clause-answer
+returns-in-Some-clause-answer c known there =
+    told_wrong c.args.universe.now c.args.members.now (may_of c.args.state.now)
+    c.requires.members.known is_surely_present c.args.lane.now c.in-Some.trap (sym c.in-Some.ensures)
+
+pub returns-then-some_needs-clause-answer : goal.returns-then-some_needs-clause-answer
+returns-then-some_needs-clause-answer c known there =
+    told_needed c.args.universe.now c.args.members.now (may_of c.args.state.now)
+    c.requires.members.known is_surely_present c.args.lane.now c.some_needs.result
+    (may_of c.withdraw_members.new.state) c.withdraw_members.ensures.map c.some_needs.ensures
+    (sym c.in_default.ensures) c.if-some_needs.true
+
+pub spend-requires-clause-fits : goal.spend-requires-clause-fits
+spend-requires-clause-fits c =
+    let paid : c.args.state.now.cost + length c.args.members.now ≤ c.args.lane.now.budget =
+    within-limit _ _ _ _ (sym c.in_default.ensures) in
+    let same = ap (λ (k : May). k.cost) c.withdraw_members.ensures.map in
+    let removed = ap (λ (k : May). k.cost) c.remove_members.ensures.map in
+    omega (arith, paid, same, removed, c.requires.of_lane.small)
+
+pub returns-clause-answer : goal.returns-clause-answer
+returns-clause-answer c known there =
+    let m = may_of c.args.state.now in
+    let ms = c.args.members.now in (
+      told_none c.args.universe.now ms m c.requires.members.known is_surely_present c.args.lane.now
+          c.some_needs.result (may_of c.withdraw_members.new.state)
+          c.withdraw_members.ensures.map c.some_needs.ensures (sym c.in_default.ensures)
+          c.if-some_needs.false,
+      sym (ap may_of c.spend.ensures.words
+          ∙ ap (λ k. may_spend k (length ms)) (c.remove_members.ensures.map
+          ∙ ap (λ k. slots_after (λ s. MayAbsent) k ms) c.withdraw_members.ensures.map
+          ∙ removed-is m ms)),
+    )
+
+pub returns-clause-of_lane : goal.returns-clause-of_lane
+returns-clause-of_lane c =
+    let paid : c.args.state.now.cost + length c.args.members.now ≤ c.args.lane.now.budget =
+    within-limit _ _ _ _ (sym c.in_default.ensures) in
+    let same = ap (λ (k : May). k.cost) c.withdraw_members.ensures.map in
+    let spent = ap (λ (w : Words). w.cost) c.spend.ensures.words in
+    let removed = ap (λ (k : May). k.cost) c.remove_members.ensures.map in
+    record {
+      based = c.requires.of_lane.based;
+      small = c.requires.of_lane.small;
+      words = c.spend.ensures.state;
+      within = omega (arith, paid, same, removed, spent);
+    }

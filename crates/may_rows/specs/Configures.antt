@@ -1,0 +1,38 @@
+-- The tests of a configure, in two parts: those that are told before the members are configured,
+-- and those that are told by the map where they are. The project's own rules.
+use Rattle.std.specs.Prelude.{ℕ, Bool, not, ◌&&◌, ◌==◌, List, [], ◌∷◌, if◌then◌else◌}
+use Rattle.std.specs.List.{list_any}
+use Rattle.farm_model.specs.declared.types.Trap.{Trap}
+use Rattle.farm_model.specs.declared.types.Trap.TheVariants.{WrongState, PreDepends, Depends, Broken, OverBudget}
+use Rattle.farm_model.specs.Universe.{Universe}
+use Rattle.farm_model.specs.Packages.{variant, pre_depends, depends, breaks}
+use Rattle.farm_model.specs.Chroot.{member, unmet}
+use Rattle.plan_model.specs.Plan.{Lane, set_cost}
+use Rattle.plan_model.specs.May.{MaySlot, May, some_name, may_hold, surely_met, is_surely_unpacked}
+use Rattle.plan_model.specs.Risk.{may_exceed, some_may_member}
+
+-- the map with each member's slot changed
+abbrev pub slots_after : (MaySlot → MaySlot) → May → List ℕ → May
+slots_after f m members = record {
+  slots = λ n. if member members n then f (m.slots n) else m.slots n;
+  cost = m.cost;
+  built = m.built;
+}
+
+abbrev pub risks_before : Universe → Lane → May → List ℕ → List (Bool × Trap)
+risks_before u of m members =
+    (may_exceed of m (set_cost members), OverBudget)
+    ∷ (list_any (λ k. not (is_surely_unpacked (m.slots k))) members, WrongState)
+    ∷ (some_may_member u members m (λ v. unmet (surely_met u m) (pre_depends u v)), PreDepends)
+    ∷ []
+
+abbrev pub risks_after : Universe → May → List ℕ → List (Bool × Trap)
+risks_after u m members =
+    (some_may_member u members m (λ v. unmet (surely_met u m) (depends u v)), Depends)
+    ∷ (
+      some_may_member u members m
+          (λ v. some_name u m (λ n s. not (n == v.name)
+          && may_hold u n (λ b. breaks u (variant n b) v) s)),
+      Broken,
+    )
+    ∷ []

@@ -1,0 +1,28 @@
+-- A walk over the instructions of a lane.
+--
+--   Answers      what is answered to an instruction
+--   IsOfLane     the words of a place of a lane
+use Rattle.std.specs.Prelude.{◌≡◌, ◌<◌, ◌≤◌, ◌^◌, Bool, length, Some, None, Result, Ok, Err}
+use Rattle.farm_model.specs.declared.types.Variant.{Variant}
+use Rattle.farm_model.specs.declared.types.Trap.{Trap}
+use Rattle.farm_model.specs.Universe.{Universe}
+use Rattle.plan_model.specs.declared.instructions.Instruction.{Instruction}
+use Rattle.plan_model.specs.Plan.{Lane}
+use Rattle.plan_model.specs.May.{May}
+use Rattle.plan_model.specs.MayAt.{may_after}
+use Rattle.plan_model.specs.Risk.{risk}
+use Rattle.may_rows.specs.Words.{Words, AreWords}
+
+-- the instruction is safe, and this is the map after it; or the first trap that it may meet
+abbrev pub Answers : Universe → Lane → (known there : Variant → Bool) → May → Instruction → May
+    → Result (Unit {0}) Trap → Type 0
+Answers u of known there m x next (Ok done) =
+    (risk u of known there m x ≡ None) × (may_after u known there m x ≡ next)
+Answers u of known there m x next (Err trap) = risk u of known there m x ≡ Some trap
+
+-- words of the universe, within the budget of a lane that has a base chroot
+pub record IsOfLane (u : Universe) (of : Lane) (w : Words) : Type 0 where
+  pub based : of.base < length u.bases
+  pub small : of.budget < 10 ^ 15
+  pub words : AreWords u w
+  pub within : w.cost ≤ of.budget

@@ -1,0 +1,42 @@
+-- A deconfigure and a remove in two steps: the members are withdrawn, and then the map tells whether
+-- one of them may still be needed. The project's own rules.
+use Rattle.std.specs.Prelude.{ℕ, Bool, false, not, ◌&&◌, List, [], ◌∷◌}
+use Rattle.std.specs.List.{list_any}
+use Rattle.deb_relation.specs.Relations.{Entry, Relations}
+use Rattle.farm_model.specs.declared.types.Trap.{Trap}
+use Rattle.farm_model.specs.declared.types.Trap.TheVariants.{WrongState, OverBudget}
+use Rattle.farm_model.specs.Universe.{Universe}
+use Rattle.farm_model.specs.Packages.{variant, satisfies_entry}
+use Rattle.farm_model.specs.Chroot.{entries}
+use Rattle.plan_model.specs.May.{MaySlot, MayAbsent, MayUnpacked, MayConfigured, May, some_of, may_hold_configured, surely_met}
+use Rattle.plan_model.specs.MayAt.{may_be_last}
+use Rattle.plan_model.specs.Plan.{Lane, set_cost}
+use Rattle.plan_model.specs.Risk.{may_exceed}
+
+-- a slot whose variant is no longer configured, with what was configured until then
+abbrev pub may_be_withdrawn : MaySlot → MaySlot
+may_be_withdrawn MayAbsent = MayAbsent
+may_be_withdrawn (MayUnpacked current last) = MayUnpacked current (λ b. false)
+may_be_withdrawn (MayConfigured current) = MayUnpacked current current
+
+-- a withdrawn member may have satisfied the entry
+abbrev pub may_have_met : Universe → List ℕ → May → Entry → Bool
+may_have_met u members m e =
+    list_any (λ k. some_of u k (may_be_last (m.slots k)) (λ b. satisfies_entry u e (variant k b)))
+    members
+
+-- such an entry is not surely met any more
+abbrev pub may_be_missed : Universe → List ℕ → May → Relations → Bool
+may_be_missed u members m es = list_any (λ e. may_have_met u members m e && not (surely_met u m e)) es
+
+-- a configured name may hold a variant with such an entry, by name
+abbrev pub needs_at : Universe → List ℕ → May → ℕ → Bool
+needs_at u members m n =
+    may_hold_configured u n (λ b. may_be_missed u members m (entries u (variant n b))) (m.slots n)
+
+-- the tests that are told before the members are withdrawn
+abbrev pub wrong_risks : (MaySlot → Bool) → Lane → May → List ℕ → List (Bool × Trap)
+wrong_risks right of m members =
+    (may_exceed of m (set_cost members), OverBudget)
+    ∷ (list_any (λ k. not (right (m.slots k))) members, WrongState)
+    ∷ []

@@ -1,0 +1,197 @@
+//! A configure under a may map.
+
+ghost use Rattle.std.specs.Prelude.{◌≡◌, ◌<◌, ◌≤◌, ◌&&◌, ◌==◌, ◌∷◌, [], Bool, not, length, All, OnOk};
+ghost use Rattle.std.specs.List.{list_any};
+ghost use Rattle.farm_model.specs.declared.types.Variant.{Variant};
+ghost use Rattle.farm_model.specs.Chroot.{unmet};
+ghost use Rattle.farm_model.specs.Packages as packages;
+ghost use Rattle.farm_model.specs.Traps.{first_trap};
+ghost use Rattle.plan_model.specs.May as may;
+ghost use Rattle.plan_model.specs.MayAt.{may_be_configured};
+ghost use Rattle.plan_model.specs.Risk as risks;
+ghost use Rattle.plan_model.specs.Sound.{IsNameSet};
+ghost use Rattle.may_rows.specs.Words.{AreWords, may_of, with_slot};
+ghost use Rattle.may_rows.specs.Walk.{Answers, IsOfLane};
+ghost use Rattle.may_rows.specs.Configures.{risks_before, risks_after, slots_after};
+
+use crate::entries::{misses_depends, misses_pre_depends};
+use crate::exclude::may_be_broken;
+use crate::members::some_may_member;
+use crate::space::may_exceed;
+use crate::state::MayHold;
+use farm_universe::relations::VariantTest;
+use farm_universe::{Trap, Universe, Variant};
+use plan_asm::{Instruction, Lane};
+use sat_rows::Tables;
+
+/// The variants with a Pre-Depends entry that may not be met.
+#[derive(Drop)]
+struct MissesPreDepends<'a> {
+    tables: &'a Tables,
+    state: &'a MayHold,
+}
+
+impl VariantTest for MissesPreDepends<'_> {
+    ghost fits = { λ u t. (t.tables.now ≡ u) × AreWords u t.state.now };
+
+    ghost test = { λ u t v.
+        unmet (may.surely_met u (may_of t.state.now)) (packages.pre_depends u v) };
+
+    fn passes(&self, universe: &Universe, variant: Variant) -> bool {
+        misses_pre_depends(universe, self.tables, self.state, variant)
+    }
+}
+
+/// The variants with a Depends entry that may not be met.
+#[derive(Drop)]
+struct MissesDepends<'a> {
+    tables: &'a Tables,
+    state: &'a MayHold,
+}
+
+impl VariantTest for MissesDepends<'_> {
+    ghost fits = { λ u t. (t.tables.now ≡ u) × AreWords u t.state.now };
+
+    ghost test = { λ u t v.
+        unmet (may.surely_met u (may_of t.state.now)) (packages.depends u v) };
+
+    fn passes(&self, universe: &Universe, variant: Variant) -> bool {
+        misses_depends(universe, self.tables, self.state, variant)
+    }
+}
+
+/// The variants that a present one may break.
+#[derive(Drop)]
+struct MayBeBroken<'a> {
+    tables: &'a Tables,
+    state: &'a MayHold,
+}
+
+impl VariantTest for MayBeBroken<'_> {
+    ghost fits = { λ u t. (t.tables.now ≡ u) × AreWords u t.state.now };
+
+    ghost test = { λ u t v. may.some_name u (may_of t.state.now)
+        (λ n s. not (n == v.name)
+        && may.may_hold u n (λ b. packages.breaks u (packages.variant n b) v) s) };
+
+    fn passes(&self, universe: &Universe, variant: Variant) -> bool {
+        may_be_broken(universe, self.tables, self.state, variant)
+    }
+}
+
+/// Tells whether some member may not be unpacked.
+fn some_not_unpacked(members: &[u32], state: &MayHold) -> bool
+    ensures { result ≡ list_any
+        (λ k. not (may.is_surely_unpacked ((may_of state.now).slots k))) members.now }
+{
+    members.iter().any(|member| !state.is_unpacked(*member))
+}
+
+/// The first trap among those that are told before the members are configured.
+#[tactic(auto, unfolding(farm_model::specs::Traps::first_trap))]
+fn risk_before(
+    universe: &Universe,
+    tables: &Tables,
+    lane: &Lane,
+    state: &MayHold,
+    members: &[u32],
+) -> Option<Trap>
+    requires same { tables.now ≡ universe.now }
+    requires of_lane { IsOfLane universe.now lane.now state.now }
+    ensures { result
+        ≡ first_trap (risks_before universe.now lane.now (may_of state.now) members.now) }
+{
+    if may_exceed(lane.budget(), state, members.len() as u64) {
+        return Some(Trap::OverBudget);
+    }
+    if some_not_unpacked(members, state) {
+        return Some(Trap::WrongState);
+    }
+    if some_may_member(
+        universe,
+        members,
+        state,
+        &MissesPreDepends { tables, state },
+    ) {
+        return Some(Trap::PreDepends);
+    }
+    None
+}
+
+/// The first trap among those that are told by the words where the members are configured.
+#[tactic(auto, unfolding(farm_model::specs::Traps::first_trap))]
+fn risk_after(
+    universe: &Universe,
+    tables: &Tables,
+    state: &MayHold,
+    members: &[u32],
+) -> Option<Trap>
+    requires same { tables.now ≡ universe.now }
+    requires words { AreWords universe.now state.now }
+    ensures { result ≡ first_trap (risks_after universe.now (may_of state.now) members.now) }
+{
+    if some_may_member(universe, members, state, &MissesDepends { tables, state }) {
+        return Some(Trap::Depends);
+    }
+    if some_may_member(universe, members, state, &MayBeBroken { tables, state }) {
+        return Some(Trap::Broken);
+    }
+    None
+}
+
+impl MayHold {
+    /// Configures what is present of a name.
+    fn configure_name(&mut self, universe: &Universe, name: u32)
+        requires words { AreWords universe.now self.old }
+        requires named { name < packages.names universe.now }
+        ensures words { AreWords universe.now self.new }
+        ensures map { may_of self.new ≡ with_slot (may_of self.old) name
+            (may_be_configured ((may_of self.old).slots name)) }
+    {
+        let here = self.here_word(name);
+        self.turn(universe, name, here, here);
+    }
+}
+
+/// Configures the words of the members.
+fn configure_members(universe: &Universe, state: &mut MayHold, members: &[u32])
+    requires words { AreWords universe.now state.old }
+    requires members { IsNameSet universe.now members.now }
+    ensures words { AreWords universe.now state.new }
+    ensures map { may_of state.new ≡ slots_after may_be_configured (may_of state.old) members.now }
+{
+    for place in 0..members.len() {
+        state.configure_name(universe, members[place]);
+    }
+}
+
+/// Configures members together, or tells the first trap that this may meet.
+///
+/// # Errors
+///
+/// The first trap that the configure may meet. The members are then configured, or the state is as
+/// it was.
+pub fn configure(
+    universe: &Universe,
+    tables: &Tables,
+    lane: &Lane,
+    state: &mut MayHold,
+    members: &[u32],
+) -> Result<(), Trap>
+    requires same { tables.now ≡ universe.now }
+    requires members { IsNameSet universe.now members.now }
+    requires of_lane { IsOfLane universe.now lane.now state.old }
+    ensures answer { (in_it may_be : Variant → Bool) → Answers universe.now lane.now in_it may_be
+        (may_of state.old) (Instruction.Configure members.now) (may_of state.new) result }
+    ensures of_lane { OnOk result (IsOfLane universe.now lane.now state.new) }
+{
+    if let Some(trap) = risk_before(universe, tables, lane, state, members) {
+        return Err(trap);
+    }
+    configure_members(universe, state, members);
+    if let Some(trap) = risk_after(universe, tables, state, members) {
+        return Err(trap);
+    }
+    state.spend(universe, members.len() as u64);
+    Ok(())
+}

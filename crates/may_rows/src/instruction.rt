@@ -1,0 +1,75 @@
+//! An instruction under a may map.
+
+ghost use Rattle.std.specs.Prelude.{◌≡◌, ◌<◌, ℕ, Bool, true, length, OnOk};
+ghost use Rattle.bit_rows.specs.Sets.{variants_of};
+ghost use Rattle.farm_model.specs.declared.types.Variant.{Variant};
+ghost use Rattle.farm_model.specs.Packages.{names};
+ghost use Rattle.plan_model.specs.Sound.{IsInstruction};
+ghost use Rattle.sat_rows.specs.Rows.{IsRowOf};
+ghost use Rattle.may_rows.specs.Picks.{AreOfArchive};
+ghost use Rattle.may_rows.specs.Words.{may_of};
+ghost use Rattle.may_rows.specs.Walk.{Answers, IsOfLane};
+
+use crate::build::{build, publish};
+use crate::configure::configure;
+use crate::state::MayHold;
+use crate::unpack::unpack;
+use crate::withdraw::{deconfigure, remove};
+use bit_rows::Row;
+use farm_universe::{Trap, Universe};
+use plan_asm::{Instruction, Lane};
+use sat_rows::Tables;
+
+/// Goes on by an instruction, where it is safe. `known` is what is surely in the archive, and
+/// `there` what may be.
+///
+/// # Errors
+///
+/// The first trap that the instruction may meet. The state then is of no further use.
+pub fn step(
+    universe: &Universe,
+    tables: &Tables,
+    lane: &Lane,
+    state: &mut MayHold,
+    instruction: &Instruction,
+    known: &Row,
+    there: &Row,
+) -> Result<(), Trap>
+    requires same { tables.now ≡ universe.now }
+    requires instruction { IsInstruction universe.now instruction.now }
+    requires of_lane { IsOfLane universe.now lane.now state.old }
+    requires known_long { length known.now ≡ names universe.now }
+    requires there_long { length there.now ≡ names universe.now }
+    requires known_there { (n b : ℕ) → variants_of known.now n b ≡ true
+        → variants_of there.now n b ≡ true }
+    ensures answer { (in_it may_be : Variant → Bool) → AreOfArchive universe.now in_it may_be
+        → IsRowOf universe.now in_it known.now → IsRowOf universe.now may_be there.now
+        → Answers universe.now lane.now in_it may_be (may_of state.old) instruction.now
+        (may_of state.new) result }
+    ensures of_lane { OnOk result (IsOfLane universe.now lane.now state.new) }
+{
+    match instruction {
+        Instruction::Unpack { name, relation } => unpack(
+            universe,
+            tables,
+            lane,
+            state,
+            *name,
+            relation,
+            known.word(*name as usize),
+            there.word(*name as usize),
+        ),
+        Instruction::Configure(members) => {
+            configure(universe, tables, lane, state, members.as_slice())
+        }
+        Instruction::Deconfigure(members) => {
+            deconfigure(universe, tables, lane, state, members.as_slice())
+        }
+        Instruction::Remove(members) => {
+            remove(universe, tables, lane, state, members.as_slice())
+        }
+        Instruction::Build(recipe) => build(universe, tables, lane, state, *recipe),
+        Instruction::Publish(recipe) => publish(universe, lane, state, *recipe),
+        Instruction::Wait(_) => Ok(()),
+    }
+}

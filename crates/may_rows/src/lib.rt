@@ -1,0 +1,24 @@
+//! What a chroot may hold, as rows of words, and what an instruction does to it.
+#![tactic(auto)]
+
+mod ahead;
+mod base;
+mod build;
+mod configure;
+mod entries;
+mod exclude;
+mod instruction;
+mod members;
+mod needed;
+mod numbers;
+mod pick;
+mod sets;
+mod settled;
+mod space;
+mod state;
+mod unpack;
+mod withdraw;
+mod write;
+
+pub use instruction::step;
+pub use state::MayHold;

@@ -1,0 +1,175 @@
+//! A deconfigure and a remove under a may map.
+
+ghost use Rattle.std.specs.Prelude.{◌≡◌, ◌<◌, Bool, not, OnOk};
+ghost use Rattle.std.specs.List.{list_any};
+ghost use Rattle.farm_model.specs.declared.types.Variant.{Variant};
+ghost use Rattle.farm_model.specs.Packages as packages;
+ghost use Rattle.farm_model.specs.Traps.{first_trap};
+ghost use Rattle.plan_model.specs.May.{MayAbsent, is_surely_configured, is_surely_present};
+ghost use Rattle.plan_model.specs.Sound.{IsNameSet};
+ghost use Rattle.may_rows.specs.Words.{AreWords, may_of, with_slot};
+ghost use Rattle.may_rows.specs.Walk.{Answers, IsOfLane};
+ghost use Rattle.may_rows.specs.Configures.{slots_after};
+ghost use Rattle.may_rows.specs.Withdraws.{may_be_withdrawn, wrong_risks};
+
+use crate::needed::some_needs;
+use crate::space::may_exceed;
+use crate::state::MayHold;
+use farm_universe::{Trap, Universe};
+use plan_asm::{Instruction, Lane};
+use sat_rows::Tables;
+
+impl MayHold {
+    /// Takes what is configured of a name out of what is ready, and keeps it as the last.
+    fn withdraw_name(&mut self, universe: &Universe, name: u32)
+        requires words { AreWords universe.now self.old }
+        requires named { name < packages.names universe.now }
+        ensures words { AreWords universe.now self.new }
+        ensures map { may_of self.new ≡ with_slot (may_of self.old) name
+            (may_be_withdrawn ((may_of self.old).slots name)) }
+    {
+        let ready = self.ready_word(name);
+        self.turn(universe, name, 0, ready);
+    }
+}
+
+/// Withdraws the members.
+fn withdraw_members(universe: &Universe, state: &mut MayHold, members: &[u32])
+    requires words { AreWords universe.now state.old }
+    requires members { IsNameSet universe.now members.now }
+    ensures words { AreWords universe.now state.new }
+    ensures map { may_of state.new ≡ slots_after may_be_withdrawn (may_of state.old) members.now }
+{
+    for place in 0..members.len() {
+        state.withdraw_name(universe, members[place]);
+    }
+}
+
+/// Takes all that is present of the members away.
+fn remove_members(universe: &Universe, state: &mut MayHold, members: &[u32])
+    requires words { AreWords universe.now state.old }
+    requires members { IsNameSet universe.now members.now }
+    ensures words { AreWords universe.now state.new }
+    ensures map { may_of state.new ≡ slots_after (λ s. MayAbsent) (may_of state.old) members.now }
+{
+    for place in 0..members.len() {
+        state.put(universe, members[place], 0, 0, 0);
+    }
+}
+
+/// Tells whether some member may not be configured.
+fn some_not_configured(_universe: &Universe, members: &[u32], state: &MayHold) -> bool
+    requires { AreWords _universe.now state.now }
+    ensures { result ≡ list_any (λ k. not (is_surely_configured ((may_of state.now).slots k)))
+        members.now }
+{
+    members.iter().any(|member| !state.is_configured(*member))
+}
+
+/// Tells whether some member may be absent.
+fn some_not_present(members: &[u32], state: &MayHold) -> bool
+    ensures { result ≡ list_any (λ k. not (is_surely_present ((may_of state.now).slots k)))
+        members.now }
+{
+    members.iter().any(|member| !state.is_present(*member))
+}
+
+/// The first trap of a deconfigure that is told before its members are withdrawn.
+#[tactic(auto, unfolding(farm_model::specs::Traps::first_trap))]
+fn deconfigure_risk(
+    universe: &Universe,
+    lane: &Lane,
+    state: &MayHold,
+    members: &[u32],
+) -> Option<Trap>
+    requires of_lane { IsOfLane universe.now lane.now state.now }
+    ensures { result
+        ≡ first_trap (wrong_risks is_surely_configured lane.now (may_of state.now) members.now) }
+{
+    if may_exceed(lane.budget(), state, members.len() as u64) {
+        return Some(Trap::OverBudget);
+    }
+    if some_not_configured(universe, members, state) {
+        return Some(Trap::WrongState);
+    }
+    None
+}
+
+/// The same of a remove.
+#[tactic(auto, unfolding(farm_model::specs::Traps::first_trap))]
+fn remove_risk(_universe: &Universe, lane: &Lane, state: &MayHold, members: &[u32]) -> Option<Trap>
+    requires of_lane { IsOfLane _universe.now lane.now state.now }
+    ensures { result
+        ≡ first_trap (wrong_risks is_surely_present lane.now (may_of state.now) members.now) }
+{
+    if may_exceed(lane.budget(), state, members.len() as u64) {
+        return Some(Trap::OverBudget);
+    }
+    if some_not_present(members, state) {
+        return Some(Trap::WrongState);
+    }
+    None
+}
+
+/// Deconfigures members, or tells the first trap that this may meet.
+///
+/// # Errors
+///
+/// The first trap that the deconfigure may meet. The members are then withdrawn, or the state is as
+/// it was.
+pub fn deconfigure(
+    universe: &Universe,
+    tables: &Tables,
+    lane: &Lane,
+    state: &mut MayHold,
+    members: &[u32],
+) -> Result<(), Trap>
+    requires same { tables.now ≡ universe.now }
+    requires members { IsNameSet universe.now members.now }
+    requires of_lane { IsOfLane universe.now lane.now state.old }
+    ensures answer { (in_it may_be : Variant → Bool) → Answers universe.now lane.now in_it may_be
+        (may_of state.old) (Instruction.Deconfigure members.now) (may_of state.new) result }
+    ensures of_lane { OnOk result (IsOfLane universe.now lane.now state.new) }
+{
+    if let Some(trap) = deconfigure_risk(universe, lane, state, members) {
+        return Err(trap);
+    }
+    withdraw_members(universe, state, members);
+    if some_needs(universe, tables, state, members) {
+        return Err(Trap::StillNeeded);
+    }
+    state.spend(universe, members.len() as u64);
+    Ok(())
+}
+
+/// Removes members, or tells the first trap that this may meet.
+///
+/// # Errors
+///
+/// The first trap that the remove may meet. The members are then withdrawn, or the state is as it
+/// was.
+pub fn remove(
+    universe: &Universe,
+    tables: &Tables,
+    lane: &Lane,
+    state: &mut MayHold,
+    members: &[u32],
+) -> Result<(), Trap>
+    requires same { tables.now ≡ universe.now }
+    requires members { IsNameSet universe.now members.now }
+    requires of_lane { IsOfLane universe.now lane.now state.old }
+    ensures answer { (in_it may_be : Variant → Bool) → Answers universe.now lane.now in_it may_be
+        (may_of state.old) (Instruction.Remove members.now) (may_of state.new) result }
+    ensures of_lane { OnOk result (IsOfLane universe.now lane.now state.new) }
+{
+    if let Some(trap) = remove_risk(universe, lane, state, members) {
+        return Err(trap);
+    }
+    withdraw_members(universe, state, members);
+    if some_needs(universe, tables, state, members) {
+        return Err(Trap::StillNeeded);
+    }
+    remove_members(universe, state, members);
+    state.spend(universe, members.len() as u64);
+    Ok(())
+}

@@ -1,0 +1,219 @@
+//! Each row beside the plain question, asked of each variant.
+
+ghost use Rattle.std.specs.Prelude.{◌≡◌, ◌<◌, length};
+ghost use Rattle.farm_model.specs.Packages as packages;
+ghost use Rattle.farm_model.specs.Sound.{IsKnown};
+
+use bit_rows::Row;
+use deb_relation::{Entry, Op, Relations};
+use deb_version::Version;
+use farm_universe::relations::{
+    BreakersOf, ConflictsWith, IsBrokenBy, SatisfiesAtom, SatisfiesEntry, VariantTest,
+    satisfies_any,
+};
+use farm_universe::{Universe, Variant};
+use sat_rows::{Tables, entry_row, mask};
+use std::alloc::{AllocError, Global};
+
+/// The variants that satisfy some entry.
+#[derive(Drop)]
+struct SatisfiesAny<'a> {
+    entries: &'a Relations,
+}
+
+impl VariantTest for SatisfiesAny<'_> {
+    ghost test = { λ u t v. packages.satisfies_any u t.entries.now v };
+
+    fn passes(&self, universe: &Universe, variant: Variant) -> bool {
+        satisfies_any(universe, self.entries, variant)
+    }
+}
+
+/// The variants of a name that pass.
+fn plain_word<T: VariantTest>(universe: &Universe, name: u32, test: &T) -> u64
+    requires fits { T.fits universe.now test.now }
+    requires named { name < packages.names universe.now }
+{
+    let mut word = 0;
+    for bit in 0..universe.variants(name) {
+        if test.passes(universe, Variant { name, bit }) {
+            word |= 1u64.checked_shl(bit).unwrap_or(0);
+        }
+    }
+    word
+}
+
+/// Tells whether a row has each variant that passes, those of one name left out, and no other.
+fn is_plain<T: VariantTest>(universe: &Universe, row: &Row, test: &T, but: Option<u32>) -> bool
+    requires { T.fits universe.now test.now }
+{
+    for name in 0..universe.names() {
+        let left_out = but == Some(name);
+        let wanted = if left_out {
+            0
+        } else {
+            plain_word(universe, name, test)
+        };
+        if name as usize >= row.len() || row.word(name as usize) != wanted {
+            return false;
+        }
+    }
+    row.len() == universe.names() as usize
+}
+
+/// Tells whether the mask of a relation has each version of a name that stands in it.
+fn mask_is_plain(universe: &Universe, name: u32, relation: Option<&(Op, Version)>) -> bool
+    requires { name < packages.names universe.now }
+{
+    let word = mask(universe, name, relation);
+    for bit in 0..universe.variants(name) {
+        let is_set = word & 1u64.checked_shl(bit).unwrap_or(0) != 0;
+        if is_set != universe.is_wanted(Variant { name, bit }, relation) {
+            return false;
+        }
+    }
+    true
+}
+
+/// The same of the relations of an entry's alternatives.
+fn masks_are_plain(universe: &Universe, name: u32, entry: &Entry) -> bool
+    requires { name < packages.names universe.now }
+{
+    entry.alternatives().iter().all(|atom| mask_is_plain(universe, name, atom.relation.as_ref()))
+}
+
+/// Tells whether the rows of the entries of a variant are plain.
+#[tactic(auto, using(farm_universe::proofs::PlaceLaws::named))]
+fn entries_are_plain(
+    alloc: Global,
+    universe: &Universe,
+    tables: &Tables,
+    variant: Variant,
+) -> Result<bool, AllocError>
+    requires same { tables.now ≡ universe.now }
+    requires known { IsKnown universe.now variant }
+{
+    let relations = universe.relations(variant);
+    for number in 0..relations.depends.len() {
+        let test = SatisfiesEntry {
+            entry: relations.depends.entry(number),
+        };
+        let by_itself = entry_row(alloc, universe, test.entry)?;
+        let looked_up = tables.entry_row(alloc, universe, test.entry)?;
+        if !is_plain(universe, tables.depends(variant, number), &test, None)
+            || !is_plain(universe, &by_itself, &test, None)
+            || !is_plain(universe, &looked_up, &test, None)
+            || !masks_are_plain(universe, variant.name, test.entry)
+        {
+            return Ok(false);
+        }
+    }
+    for number in 0..relations.pre_depends.len() {
+        if !pre_entry_is_plain(universe, tables, variant, number) {
+            return Ok(false);
+        }
+    }
+    Ok(true)
+}
+
+fn pre_entry_is_plain(universe: &Universe, tables: &Tables, variant: Variant, number: usize) -> bool
+    requires same { tables.now ≡ universe.now }
+    requires known { IsKnown universe.now variant }
+    requires there { number < length (packages.pre_depends universe.now variant) }
+{
+    let entry = universe.relations(variant).pre_depends.entry(number);
+    for place in 0..entry.len() {
+        let row = tables.pre_alternative(variant, number, place);
+        if !is_plain(
+            universe,
+            row,
+            &SatisfiesAtom {
+                atom: entry.alternative(place),
+            },
+            None,
+        ) {
+            return false;
+        }
+    }
+    is_plain(
+        universe,
+        tables.pre_depends(variant, number),
+        &SatisfiesEntry { entry },
+        None,
+    )
+}
+
+/// Tells whether the rows of what a variant excludes are plain.
+fn others_are_plain(universe: &Universe, tables: &Tables, variant: Variant) -> bool
+    requires same { tables.now ≡ universe.now }
+    requires known { IsKnown universe.now variant }
+{
+    let own = Some(variant.name);
+    is_plain(
+        universe,
+        tables.conflicts(variant),
+        &ConflictsWith { variant },
+        own,
+    ) && is_plain(
+        universe,
+        tables.breaks(variant),
+        &IsBrokenBy { variant },
+        own,
+    ) && is_plain(
+        universe,
+        tables.broken_by(variant),
+        &BreakersOf { variant },
+        own,
+    )
+}
+
+/// Tells whether the rows of a recipe are plain.
+fn recipe_is_plain(universe: &Universe, tables: &Tables, number: u32) -> bool
+    requires same { tables.now ≡ universe.now }
+    requires known { number < length universe.now.recipes }
+{
+    let recipe = universe.recipe(number);
+    for place in 0..recipe.needs().len() {
+        let test = SatisfiesEntry {
+            entry: recipe.needs().entry(place),
+        };
+        if !is_plain(universe, tables.needs(number, place), &test, None) {
+            return false;
+        }
+    }
+    let entries = recipe.clashes();
+    is_plain(
+        universe,
+        tables.clashes(number),
+        &SatisfiesAny { entries },
+        None,
+    )
+}
+
+/// Compares every row with the plain question: `same`, or the first variant or recipe of which a
+/// row differs.
+pub fn first_difference(
+    alloc: Global,
+    universe: &Universe,
+    tables: &Tables,
+) -> Result<String, AllocError>
+    requires { tables.now ≡ universe.now }
+{
+    for name in 0..universe.names() {
+        for bit in 0..universe.variants(name) {
+            let variant = Variant { name, bit };
+            if !others_are_plain(universe, tables, variant)
+                || !entries_are_plain(alloc, universe, tables, variant)?
+            {
+                let name = universe.name_text(name).escape_ascii();
+                return format!(in alloc; "variant {bit} of {name}");
+            }
+        }
+    }
+    for number in 0..universe.recipes() {
+        if !recipe_is_plain(universe, tables, number) {
+            return format!(in alloc; "recipe {number}");
+        }
+    }
+    String::from_str(alloc, "same")
+}

@@ -1,0 +1,102 @@
+-- Rows of clocks, lane by lane.
+use Rattle.std.proofs.Common.{◌≡◌, ℕ, ◌+◌, ◌<◌, ◌==◌, Bool, true, false, ◌||◌, List, [], ◌∷◌, length, map, take, min, Option, Some, None, refl, sym, ap, subst, ◌∙◌, arith, add-one}
+use Rattle.std.specs.Prelude.{if◌then◌else◌}
+use Rattle.std.specs.List.{list_any}
+use Rattle.std.proofs.Math.Bool.{or-false}
+use Rattle.std.proofs.lemmas.List.{take_all, take_min, take-map}
+use Rattle.farm_model.specs.declared.types.Variant.{Variant}
+use Rattle.farm_model.specs.Below.{some_below}
+use Rattle.farm_model.specs.Universe.{Universe}
+use Rattle.farm_model.specs.Packages.{same, contains, initial}
+use Rattle.plan_model.specs.Plan.{Plan, lane}
+use Rattle.clock_laws.specs.Clocks.{made, lane_made, count_before, Clocks, clock_rows}
+use Rattle.sat_rows.specs.Rows.{IsRowOf}
+use Rattle.wait_order.specs.declared.column.Point.{Point}
+use Rattle.wait_order.specs.declared.marks.Output.{Output}
+use Rattle.wait_order.specs.Column.{of_list, count_at, IsIn}
+use Rattle.wait_order.specs.Columns.{column_of, counts_of, AreColumns}
+use Rattle.wait_order.specs.Marks.{lane_outputs}
+use Rattle.wait_order.specs.Waits.{last_wait, ArePoints, clock_of}
+use Rattle.wait_order.proofs.Numbering.{last-in}
+use Rattle.wait_order.proofs.RowSteps.{variant_of, outputs-made}
+use Rattle.wait_order.proofs.ArchiveRows.{row_same}
+
+-- an output among these is this variant
+abbrev pub any_output : List Output → Variant → Bool
+any_output os v = list_any (λ o. same o.variant v) os
+
+any-variants : (os : List Output) (v : Variant) → any_output os v ≡ contains (map variant_of os) v
+any-variants [] v = refl
+any-variants (o ∷ os) v = ap (λ b. same o.variant v || b) (any-variants os v)
+
+-- all that were asked for
+pub all-first : (os : List Output) (n count total : ℕ) (v : Variant) → n ≡ min count total
+    → total ≡ length os → any_output (take n os) v ≡ any_output (take count os) v
+all-first os n count total v is long =
+    ap (λ k. any_output (take k os) v) (is ∙ ap (min count) long)
+    ∙ ap (λ xs. any_output xs v) (take_min count os)
+
+module _ (u : Universe) (p : Plan) where
+  -- the first outputs of a lane
+  pub first-made : (j count : ℕ) (os : List Output) (v : Variant)
+      → os ≡ lane_outputs u p j (length (lane p j).instructions)
+      → any_output (take count os) v ≡ contains (take count (lane_made u p j)) v
+  first-made j count os v are =
+      any-variants (take count os) v
+      ∙ ap (λ vs. contains vs v) (sym (take-map variant_of count os))
+      ∙ ap (λ vs. contains (take count vs) v)
+      (ap (map variant_of) are
+      ∙ outputs-made u p j (length (lane p j).instructions) (omega arith)
+      ∙ ap (made u)
+      (take_all (length (lane p j).instructions) (lane p j).instructions (omega arith)))
+
+  module _ (x : Clocks) (l i : ℕ) where
+    -- of the lanes so far
+    abbrev pub so_far : ℕ → Variant → Bool
+    so_far n v = initial u v || some_below n (λ j. contains (take (x l i j) (lane_made u p j)) v)
+
+    swapped : (a b c : Bool) → ((a || b) || c) ≡ (a || (c || b))
+    swapped true b c = refl
+    swapped false true true = refl
+    swapped false true false = refl
+    swapped false false c = sym (or-false c)
+
+    pub with_lane : (n count : ℕ) (os : List Output) (row : List ℕ)
+        → os ≡ lane_outputs u p n (length (lane p n).instructions) → count ≡ x l i n
+        → IsRowOf u (λ v. so_far n v || any_output (take count os) v) row
+        → IsRowOf u (so_far (n + 1)) row
+    with_lane n count os row are is row_is =
+        row_same u _ _ row
+        (λ v. ap (λ b. so_far n v || b)
+        (first-made n count os v are ∙ ap (λ k. contains (take k (lane_made u p n)) v) is)
+        ∙ swapped (initial u v) _ _
+        ∙ ap (λ k. initial u v || some_below k (λ j. contains (take (x l i j) (lane_made u p j)) v))
+        (sym (add-one n)))
+        row_is
+
+    pub all_lanes : (n : ℕ) (row : List ℕ) → n ≡ length p → IsRowOf u (so_far n) row
+        → IsRowOf u (clock_rows u p x l i) row
+    all_lanes n row end is = subst (λ k. IsRowOf u (so_far k) row) end is
+
+  -- the last wait has a count in each column
+  pub wait_in : (ps : List Point) (columns : List (List ℕ)) (l i j : ℕ) (column : List ℕ)
+      → ArePoints u p ps → AreColumns u p ps columns (length p) → l < length p → j < length p
+      → column ≡ column_of columns j → IsIn (length column) (last_wait p l i)
+  wait_in ps columns l i j column points are lt j_lt here = by (last_wait p l i) refl
+    where
+      by : (o : Option ℕ) → last_wait p l i ≡ o → IsIn (length column) o
+      by None e = tt
+      by (Some w) e =
+          omega (arith, last-in p l i w lt e, points.long, (are.each j j_lt).long, ap length here)
+
+  -- what was read is what the clock knows
+  pub known_is : (columns : List (List ℕ)) (l i j own : ℕ) (last : Option ℕ) (column : List ℕ)
+      (count : ℕ) → column ≡ column_of columns j → own ≡ count_before u p l i
+      → last ≡ last_wait p l i
+      → count ≡ (if j == l then own else count_at (of_list column) last)
+      → count ≡ clock_of u p (counts_of columns) l i j
+  known_is columns l i j own last column count here own_is last_is is =
+      is
+      ∙ ap (λ n. if j == l then n else count_at (of_list column) last) own_is
+      ∙ ap (λ xs. if j == l then count_before u p l i else count_at (of_list xs) last) here
+      ∙ ap (λ o. if j == l then count_before u p l i else count_at (counts_of columns j) o) last_is

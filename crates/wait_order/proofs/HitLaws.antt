@@ -1,0 +1,123 @@
+-- The first output that a row has, and the initial variants that satisfy a wait.
+use Rattle.std.proofs.Common.{◌≡◌, inl, inr, ℕ, zero, suc, ◌+◌, ◌<◌, ◌≤◌, Bool, true, false, ◌==◌, nat_lt, List, [], ◌∷◌, length, get_or, Some, None, slice_get, refl, sym, ap, subst, ◌∙◌, arith}
+use Rattle.std.specs.Prelude.{◌↔◌, IsTrue, if◌then◌else◌}
+use Rattle.std.proofs.lemmas.Option.{none-some, same_Some, slice_get-get_or, slice_get_within, get_or_from_slice_get}
+use Rattle.std.proofs.lemmas.Bool.{cases_eq, and_parts, and_from, lt-ltb, both_ways, eq-eqb, ne_eqb}
+use Rattle.bit_rows.specs.Sets.{variants_of, HaveCommon}
+use Rattle.deb_relation.specs.Relations.{Entry}
+use Rattle.farm_model.specs.declared.types.Variant.{Variant}
+use Rattle.farm_model.specs.Universe.{Universe}
+use Rattle.farm_model.specs.Packages.{variant, variants, satisfies_entry, initial}
+use Rattle.farm_model.specs.Sound.{IsKnown, IsUniverse}
+use Rattle.plan_model.specs.Plan.{Plan, lane}
+use Rattle.clock_laws.specs.Clocks.{count_before}
+use Rattle.sat_rows.specs.Rows.{IsRowOf}
+use Rattle.wait_order.specs.declared.column.Source.{Source}
+use Rattle.wait_order.specs.declared.marks.Output.{Output}
+use Rattle.wait_order.specs.Marks.{lane_outputs}
+use Rattle.wait_order.specs.Waits.{IsNothing}
+use Rattle.wait_order.specs.Hits.{HasNoHit, IsFirstHit, AreKnownOutputs, AreSourcesBelow}
+use Rattle.wait_order.proofs.Numbering.{count-few}
+use Rattle.wait_order.proofs.Sources.{outs-long, comes_from, start_sources}
+
+pub out_known : (u : Universe) (outs : List Output) (n : ℕ) (d : Output) → AreKnownOutputs u outs
+    → n < length outs → IsKnown u (get_or outs n d).variant
+out_known u outs n d known lt = known n (get_or outs n d) (slice_get-get_or outs n d lt)
+
+pub first_found : (row : List ℕ) (outs : List Output) (limit n : ℕ) (d : Output) (hit : Bool)
+    → n < limit → limit ≤ length outs
+    → hit ≡ variants_of row (get_or outs n d).variant.name (get_or outs n d).variant.bit
+    → hit ≡ true → HasNoHit row outs n → IsFirstHit row outs limit n
+first_found row outs limit n d hit lt le is here none =
+    record {
+      below = lt;
+      hit = λ o at.
+          let same : get_or outs n d ≡ o = get_or_from_slice_get outs n o d at in
+          ap (λ (w : Output). variants_of row w.variant.name w.variant.bit) (sym same) ∙ sym is ∙ here;
+      none = none;
+    }
+
+pub no_hit_next : (row : List ℕ) (outs : List Output) (n : ℕ) (d : Output) (hit : Bool)
+    → hit ≡ variants_of row (get_or outs n d).variant.name (get_or outs n d).variant.bit
+    → hit ≡ false → HasNoHit row outs n → HasNoHit row outs (n + 1)
+no_hit_next row outs n d hit is miss none k o lt at =
+    elim (cases_eq k n) [
+      | inl same ↦
+          let found : get_or outs n d ≡ o = get_or_from_slice_get outs n o d (ap (slice_get outs) (sym same) ∙ at) in
+          ap (λ (w : Output). variants_of row w.variant.name w.variant.bit) (sym found) ∙ sym is ∙ miss
+      | inr other ↦ none k o (omega (arith, lt, other)) at
+    ]
+
+-- the outputs of a lane are known
+pub lane_known : (u : Universe) (p : Plan) (h : ℕ) (outs : List Output)
+    → outs ≡ lane_outputs u p h (length (lane p h).instructions) → IsUniverse u
+    → AreKnownOutputs u outs
+lane_known u p h outs are sound k o at =
+    let f = comes_from u p h outs are k o at in
+    subst (IsKnown u) (get_or_from_slice_get _ f.number o.variant o.variant f.output)
+    (sound.outputs_known f.recipe f.number o.variant (slice_get_within _ f.number o.variant f.output))
+
+-- a wait meets no more outputs of a lane than there are
+pub limit_within : (u : Universe) (p : Plan) (h l i own limit : ℕ) (outs : List Output)
+    → outs ≡ lane_outputs u p h (length (lane p h).instructions) → own ≡ count_before u p l i
+    → limit ≡ (if h == l then own else length outs) → limit ≤ length outs
+limit_within u p h l i own limit outs are own_is is =
+    elim (cases_eq h l) [
+      | inl same ↦
+          let a : limit ≡ own = is ∙ (rw (eq-eqb h l same) refl) in
+          let b = ap (λ g. count_before u p g i) same in
+          omega (arith, a, own_is, b, count-few u p h i, outs-long u p h outs are)
+      | inr other ↦
+          let a : limit ≡ length outs = is ∙ (rw (ne_eqb h l other) refl) in omega (arith, a)
+    ]
+
+module _ (u : Universe) (sound : IsUniverse u) (e : Entry) (archive row : List ℕ) (hit : Bool)
+    (common : IsTrue hit ↔ HaveCommon (variants_of archive) (variants_of row))
+    (archive_is : IsRowOf u (initial u) archive) (row_is : IsRowOf u (satisfies_entry u e) row) where
+  met : (c : Variant) → initial u c ≡ true → satisfies_entry u e c ≡ true → hit ≡ true
+  met c is sat =
+      let known = lt-ltb c.bit (variants u c.name) (sound.initial_known c is) in
+      common.1 (
+        c.name,
+        c.bit,
+        archive_is.set c.name c.bit ∙ and_from _ _ known is,
+        row_is.set c.name c.bit ∙ and_from _ _ known sat,
+      )
+
+  pub start_none : (p : Plan) (l i : ℕ) (ss : List Source) → ss ≡ [] → hit ≡ false
+      → AreSourcesBelow u p l i e ss 0
+  start_none p l i ss empty miss =
+      start_sources u p l i e ss (λ c is sat. absurd (both_ways hit miss (met c is sat)))
+      (λ k s at. absurd (none-some s (ap (λ xs. slice_get xs k) (sym empty) ∙ at)))
+
+  one_source : (s t : Source) (k : ℕ) → slice_get (s ∷ []) k ≡ Some t → s ≡ t
+  one_source s t zero at = same_Some s t at
+  one_source s t (suc k) at = absurd (none-some t at)
+
+  pub start_some : (p : Plan) (l i : ℕ) (ss : List Source)
+      → ss ≡ record { point = None; lane = 0; count = 0 } ∷ [] → hit ≡ true
+      → AreSourcesBelow u p l i e ss 0
+  start_some p l i ss is here =
+      subst (λ xs. AreSourcesBelow u p l i e xs 0) (sym is)
+      (start_sources u p l i e (zero_source ∷ [])
+      (λ c _ sat. record { index = 0; source = zero_source; at = refl; count = refl; point = refl })
+      (λ k s at. subst (IsNothing u e) (one_source zero_source s k at) (nothing)))
+    where
+      zero_source : Source
+      zero_source = record { point = None; lane = 0; count = 0 }
+
+      found : HaveCommon (variants_of archive) (variants_of row)
+      found = common.0 here
+
+      v : Variant
+      v = variant found.0 found.1
+
+      nothing : IsNothing u e zero_source
+      nothing =
+          record {
+            variant = v;
+            is_initial = (and_parts (nat_lt found.1 (variants u found.0)) (initial u v) (sym (archive_is.set found.0 found.1) ∙ found.2)).1;
+            satisfies = (and_parts (nat_lt found.1 (variants u found.0)) (satisfies_entry u e v) (sym (row_is.set found.0 found.1) ∙ found.3)).1;
+            count = refl;
+            point = refl;
+          }

@@ -1,0 +1,106 @@
+-- The points of all waits.
+use Rattle.std.proofs.Common.{◌≡◌, inl, inr, ℕ, ◌+◌, ◌<◌, List, ◌∷◌, [], ◌++◌, length, get_or, Some, slice_get, refl, sym, ap, subst, ◌∙◌, arith}
+use Rattle.std.proofs.lemmas.Option.{same_Some, slice_get-get_or, slice_get_within}
+use Rattle.std.proofs.lemmas.Bool.{cases_eq}
+use Rattle.deb_relation.specs.Relations.{Entry}
+use Rattle.farm_model.specs.Universe.{Universe}
+use Rattle.plan_model.specs.declared.instructions.Instruction.{Instruction}
+use Rattle.plan_model.specs.declared.instructions.Instruction.TheVariants.{Wait}
+use Rattle.plan_model.specs.Plan.{Plan, lane, instruction_at}
+use Rattle.clock_laws.specs.Clocks.{count_before}
+use Rattle.wait_order.specs.declared.column.Point.{Point}
+use Rattle.wait_order.specs.declared.marks.Mark.{Mark}
+use Rattle.wait_order.specs.Marks.{all_marks}
+use Rattle.wait_order.specs.Waits.{wait_number, IsPointAt, HasPoint, IsWait, ArePoints}
+use Rattle.wait_order.specs.Hits.{IsPointOf, HasPointOf}
+use Rattle.wait_order.proofs.MarkLaws.{get-first, get-then, all_marks-long}
+use Rattle.wait_order.proofs.MarkPlaces.{mark_at, in_all, all_back}
+
+module _ (u : Universe) (p : Plan) (marks : List Mark) (ps : List Point)
+    (marks_are : marks ≡ all_marks u p (length p)) (long : length ps ≡ length marks)
+    (have : (k : ℕ) (mark : Mark) → slice_get marks k ≡ Some mark → HasPointOf u p ps k mark) where
+  here : (l i : ℕ) (e : Entry) (of : Point) → instruction_at p l i ≡ Some (Wait e)
+      → IsPointOf u p (mark_at u p l i) of → IsPointAt u p l i e of
+  here l i e of at is =
+      record {
+        lane = is.lane;
+        place = is.place;
+        own = is.own;
+        before = is.before;
+        sources = is.sources e at;
+      }
+
+  each : (l i : ℕ) (e : Entry) → l < length p → instruction_at p l i ≡ Some (Wait e)
+      → HasPoint u p ps l i e
+  each l i e lt at =
+      let h =
+      have (wait_number p l i) (mark_at u p l i)
+      (ap (λ ms. slice_get ms (wait_number p l i)) marks_are ∙ in_all u p (length p) l i e lt at) in
+      record { point = h.point; at = h.at; is = here l i e h.point at h.is }
+
+  back : (w : ℕ) (of : Point) → slice_get ps w ≡ Some of → IsWait u p w of
+  back w of at =
+      let lt = slice_get_within ps w of at in
+      let mark = get_or marks w (mark_at u p 0 0) in
+      let got = slice_get-get_or marks w (mark_at u p 0 0) (omega (arith, lt, long)) in
+      let m = all_back u p (length p) w mark (ap (λ ms. slice_get ms w) (sym marks_are) ∙ got) in
+      let h = have w mark got in
+      let same : h.point ≡ of = same_Some h.point of (sym h.at ∙ at) in
+      record {
+        lane = m.in_lane_of;
+        place = m.at_place;
+        entry = m.entry;
+        below = m.below;
+        wait = m.wait;
+        number = m.number;
+        is = here m.in_lane_of m.at_place m.entry of m.wait
+            (subst (λ k. IsPointOf u p k of) m.is (subst (IsPointOf u p mark) same h.is));
+      }
+
+  pub points_are : ArePoints u p ps
+  points_are =
+      record { long = long ∙ ap length marks_are ∙ all_marks-long u p (length p); each = each; back = back }
+
+-- one more point
+pub points_next : (u : Universe) (p : Plan) (marks : List Mark) (ps : List Point) (w : ℕ) (mark : Mark)
+    (of : Point) → length ps ≡ w
+    → ((k : ℕ) (m : Mark) → k < w → slice_get marks k ≡ Some m → HasPointOf u p ps k m)
+    → slice_get marks w ≡ Some mark → IsPointOf u p mark of
+    → (k : ℕ) (m : Mark) → k < w + 1 → slice_get marks k ≡ Some m → HasPointOf u p (ps ++ of ∷ []) k m
+points_next u p marks ps w mark of long have at is k m lt at_k =
+    elim (cases_eq k w) [
+      | inl same ↦
+          let m_is : mark ≡ m = same_Some mark m (sym at ∙ ap (slice_get marks) (sym same) ∙ at_k) in
+          record {
+            point = of;
+            at = get-then ps (of ∷ []) k 0 (omega (arith, long, same));
+            is = subst (λ z. IsPointOf u p z of) m_is is;
+          }
+      | inr other ↦
+          let h = have k m (omega (arith, lt, other)) at_k in
+          record { point = h.point; at = get-first ps (of ∷ []) k h.point h.at; is = h.is }
+    ]
+
+-- what a mark says
+pub mark_facts : (u : Universe) (p : Plan) (marks : List Mark) (w : ℕ) (d : Mark)
+    → marks ≡ all_marks u p (length p) → w < length marks
+    → ((get_or marks w d).own ≡ count_before u p (get_or marks w d).lane (get_or marks w d).place)
+    × ((get_or marks w d).lane < length p)
+    × ((get_or marks w d).place < length (lane p (get_or marks w d).lane).instructions)
+mark_facts u p marks w d marks_are lt =
+    let got = slice_get-get_or marks w d lt in
+    let m = all_back u p (length p) w (get_or marks w d) (ap (λ ms. slice_get ms w) (sym marks_are) ∙ got) in
+    subst
+    (λ (z : Mark). (z.own ≡ count_before u p z.lane z.place) × (z.lane < length p)
+    × (z.place < length (lane p z.lane).instructions)) (sym m.is)
+    (refl, m.below, slice_get_within (lane p m.in_lane_of).instructions m.at_place (Wait m.entry) m.wait)
+
+-- the entry of the wait that was read
+pub wait_here : (p : Plan) (l i : ℕ) (xs : List Instruction) (x : Instruction) (e f : Entry)
+    → xs ≡ (lane p l).instructions → i < length xs → get_or xs i x ≡ Wait e
+    → instruction_at p l i ≡ Some (Wait f) → e ≡ f
+wait_here p l i xs x e f are lt is at =
+    let read = ap (λ ys. slice_get ys i) are ∙ at in
+    let got = slice_get-get_or xs i x lt in
+    let same : Wait e ≡ Wait f = sym is ∙ same_Some (get_or xs i x) (Wait f) (sym got ∙ read) in
+    cc

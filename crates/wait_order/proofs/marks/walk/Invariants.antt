@@ -1,0 +1,16 @@
+use Rattle.std.proofs.Common.{◌≡◌, ℕ, length, Some, slice_get}
+use Rattle.plan_model.specs.Plan.{lane}
+use Rattle.wait_order.specs.declared.marks.LaneOutputs.{LaneOutputs}
+use Rattle.wait_order.specs.Marks.{all_marks, lane_outputs}
+use Rattle.wait_order.proofs.marks.walk.Given as goal
+
+-- the lanes so far
+abbrev pub invariant-loop-number : goal.invariant-loop-number
+invariant-loop-number l =
+    record {
+      waits : l.waits.items ≡ all_marks l.universe l.plan.lanes l.number;
+      long : length l.lanes.items ≡ l.number;
+      each : (k : ℕ) (of : LaneOutputs) → slice_get l.lanes.items k ≡ Some of
+          → of.outputs.items ≡ lane_outputs l.universe l.plan.lanes k
+          (length (lane l.plan.lanes k).instructions);
+    }

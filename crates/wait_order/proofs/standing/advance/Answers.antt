@@ -1,0 +1,57 @@
+use Rattle.std.proofs.Common.{◌≡◌, suc, ◌+◌, ◌≤◌, length, nat_lt, refl, ap, subst, ◌∙◌, arith}
+use Rattle.plan_model.specs.Plan.{lane}
+use Rattle.wait_order.specs.Standing.{Leads, IsAdvance}
+use Rattle.wait_order.proofs.Leading.{leads_more, read_at, standing_at, advance_done, held_past}
+use Rattle.wait_order.proofs.standing.advance.Goals as goal
+
+pub loop-place-preserved : goal.loop-place-preserved
+loop-place-preserved c =
+    let u = c.args.universe.now in
+    let p = c.args.plan.now.lanes in
+    let l = c.args.number in
+    let i = c.loop-place.place in
+    let xs = c.instructions-instructions.ensures ∙ ap (λ of. of.instructions) c.lane.ensures in
+    let at = read_at p l c.instructions-instructions.result.now i c.index-instructions-place.result
+    xs
+    c.loop-place-test.true c.index-instructions-place.is in
+    let below : i + 1 ≤ length (lane p l).instructions =
+    omega (arith, c.loop-place-test.true, ap length xs) in
+    record {
+      standing = standing_at u p l (i + 1) below;
+      place = refl;
+      long = c.in_ok-made.ensures.long;
+      leads = subst
+          (λ k. Leads u p l c.args.at.now.place k c.args.order.now.items c.args.archive.now
+          c.make.new.order.items c.make.new.archive) (let e : suc i ≡ i + 1 = omega arith in e)
+          (leads_more u p l c.args.at.now.place i c.index-instructions-place.result
+          c.args.order.now.items c.args.archive.now c.loop-place.order.items c.loop-place.archive
+          c.make.new.order.items c.make.new.archive c.requires.lane at c.loop-place.invariant.leads
+          (c.in_ok-made.ensures.makes c.if-not-made.false));
+      same = λ e. absurd (omega (arith, e, c.loop-place.auto.place));
+    }
+
+pub returns : goal.returns
+returns c =
+    let u = c.args.universe.now in
+    let p = c.args.plan.now.lanes in
+    let l = c.args.number in
+    let i = c.loop-place.place in
+    let xs = c.instructions-instructions.ensures ∙ ap (λ of. of.instructions) c.lane.ensures in
+    let past : length (lane p l).instructions ≤ i =
+    omega (arith, c.loop-place-test.false, ap length xs) in
+    let end : i ≡ length c.instructions-instructions.result.now =
+    omega (
+      arith,
+      past,
+      ap length xs,
+      c.loop-place.invariant.standing.within,
+      c.loop-place.invariant.place,
+    ) in
+    subst
+    (λ k. IsAdvance u p l c.args.at.now c.loop-place.at c.args.order.now.items c.args.archive.now
+    c.loop-place.order.items c.loop-place.archive (nat_lt c.args.at.now.place k)) end
+    (advance_done u p l c.args.at.now c.loop-place.at c.args.order.now.items c.args.archive.now
+    c.loop-place.order.items c.loop-place.archive i c.loop-place.invariant.standing
+    c.loop-place.invariant.place c.loop-place.invariant.long c.loop-place.auto.place
+    c.loop-place.invariant.leads c.loop-place.invariant.same
+    (held_past u p l i c.loop-place.archive past))

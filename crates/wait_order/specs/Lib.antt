@@ -1,0 +1,9 @@
+pub mod KnownRows
+pub mod Standing
+pub mod Answer
+pub mod Column
+pub mod Waits
+pub mod Marks
+pub mod Hits
+pub mod Columns
+pub mod PlaceRows

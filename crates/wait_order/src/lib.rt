@@ -1,0 +1,19 @@
+//! What the lanes of a plan know of the archive at each place, and an order of their waits.
+#![tactic(auto)]
+
+mod clock_row;
+mod column;
+mod columns;
+mod known;
+mod lane_rows;
+mod marks;
+mod plan_rows;
+mod points;
+mod rounds;
+mod standing;
+mod visit;
+
+pub use known::{Known, LanePlaces};
+pub use plan_rows::knowledge;
+pub use rounds::{OrderError, order};
+pub use standing::initial_row;
