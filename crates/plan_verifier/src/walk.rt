@@ -58,7 +58,15 @@ pub fn walk(
     for place in 0..instructions.len() {
         let instruction = &instructions[place];
         let known = known.row(number, place);
-        let stepped = step(universe, tables, lane, &mut state, instruction, known, &there);
+        let stepped = step(
+            universe,
+            tables,
+            lane,
+            &mut state,
+            instruction,
+            known,
+            &there,
+        );
         if let Err(trap) = stepped {
             return Err(Stop::Unsafe {
                 instruction: place as u32 + 1,

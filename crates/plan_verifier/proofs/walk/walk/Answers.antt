@@ -21,7 +21,7 @@ loop-place-init c =
     let of = c.lane-lane.result.now in
     let same : lane p c.args.number ≡ of = sym c.lane-lane.ensures in
     let map = c.in_ok-state.ensures.map (lane p c.args.number)
-        (ap (λ (o : Lane). o.base) same ∙ sym c.base.ensures) in
+    (ap (λ (o : Lane). o.base) same ∙ sym c.base.ensures) in
     let free : c.in_ok-state.state.cost ≡ 0 = ap (λ m. m.cost) map in
     record {
       at = sym map;
@@ -60,8 +60,8 @@ loop-place-preserved c =
     subst (λ (w : Universe). IsRowOf w (rows l i) c.row-known.result.now) c.requires.of_universe
     c.row-known.ensures in
     let answer = c.in_default.ensures.answer (rows l i) (possible u p l i)
-        (of_archive u p rows c.requires.sound.universe c.requires.keeps l i c.requires.lane (omega (arith, long)))
-        known c.loop-place.invariant.there in
+    (of_archive u p rows c.requires.sound.universe c.requires.keeps l i c.requires.lane (omega (arith, long)))
+    known c.loop-place.invariant.there in
     let safe : risk_at u p rows l i ≡ None =
     risk-is u p rows l i x m here c.loop-place.invariant.at
     ∙ (ap (λ of. risk u of (rows l i) (possible u p l i) m x) (sym c.lane-lane.ensures)
