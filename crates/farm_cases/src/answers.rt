@@ -14,7 +14,11 @@ use plan_verifier::{Accepted, Refusal, check};
 use std::alloc::{AllocError, Global};
 use std::thread::Threads;
 
-fn verdict_on(rt: &(impl Threads + Sync), alloc: Global, texts: Texts) -> Result<Accepted, Refusal> {
+fn verdict_on(
+    rt: &(impl Threads + Sync),
+    alloc: Global,
+    texts: Texts,
+) -> Result<Accepted, Refusal> {
     check(
         rt,
         alloc,
@@ -38,7 +42,11 @@ fn message(rt: &(impl Threads + Sync), alloc: Global, texts: Texts) -> Result<Ve
 }
 
 /// The universe and the plan that an accepted plan keeps, or nothing.
-fn accepted(rt: &(impl Threads + Sync), alloc: Global, texts: Texts) -> Result<Vec<u8>, AllocError> {
+fn accepted(
+    rt: &(impl Threads + Sync),
+    alloc: Global,
+    texts: Texts,
+) -> Result<Vec<u8>, AllocError> {
     let mut text = String::new(alloc);
     if let Ok(accepted) = verdict_on(rt, alloc, texts) {
         push_universe(&mut text, accepted.universe())?;

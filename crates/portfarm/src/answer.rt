@@ -21,7 +21,11 @@ pub struct Answer {
 /// # Errors
 ///
 /// [`AllocError`] where memory is refused.
-pub fn answer_to(rt: &(impl Threads + Sync), alloc: Global, input: &[u8]) -> Result<Answer, AllocError>
+pub fn answer_to(
+    rt: &(impl Threads + Sync),
+    alloc: Global,
+    input: &[u8],
+) -> Result<Answer, AllocError>
     ensures { IfOk result (IsAnswer input.now) }
 {
     let texts = texts_of(input);

@@ -64,7 +64,9 @@ fn answer_from<R: Read + Drop, W: Write>(
 /// # Errors
 ///
 /// The fault outside of the texts that ended it.
-fn run(rt: &(impl Env + Input + Print + Eprint + AllocGlobal + Threads + Sync)) -> Result<u8, OutsideFault>
+fn run(
+    rt: &(impl Env + Input + Print + Eprint + AllocGlobal + Threads + Sync),
+) -> Result<u8, OutsideFault>
     ensures { IfOk result (λ status. status < OUTSIDE) }
 {
     if has_words(rt) {
