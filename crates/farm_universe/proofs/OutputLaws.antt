@@ -20,7 +20,7 @@ code v = v.name * 64 + v.bit
 
 -- a name and a bit within the limits
 abbrev IsSmall : Variant → Type 0
-IsSmall v = (v.name < 512) × (v.bit < 64)
+IsSmall v = (v.name < 4096) × (v.bit < 64)
 
 apart : (x : Variant) (ys : List Variant) → IsSmall x → All IsSmall ys
     → ((k : ℕ) → slice_get ys k ≡ Some x → ⊥)
@@ -52,7 +52,7 @@ distinct (x ∷ xs) all once = (
 )
 
 below : (xs : List Variant) → All IsSmall xs → (q : ℕ)
-    → list_any (λ c. q == c) (map code xs) ≡ true → q < 512 * 64
+    → list_any (λ c. q == c) (map code xs) ≡ true → q < 4096 * 64
 below [] all q there = absurd (false≢true there)
 below (x ∷ xs) all q there =
     elim (or_cases (q == code x) _ there) [
@@ -76,7 +76,7 @@ pub few_outputs : (u : Universe) → IsKept u → (r : ℕ)
 few_outputs u kept r =
     let small : All IsSmall (outputs u r) = λ k d lt. is-small u kept (get_or (outputs u r) k d)
     (kept.sound.outputs_known r k d lt) in
-    subst (λ n. n ≤ 512 * 64) (length-map (outputs u r) code)
-    (length-le_from_distinct_below (map code (outputs u r)) (512 * 64)
+    subst (λ n. n ≤ 4096 * 64) (length-map (outputs u r) code)
+    (length-le_from_distinct_below (map code (outputs u r)) (4096 * 64)
     (distinct (outputs u r) small (λ i j v a b. (kept.sound.outputs_once r r i j v a b).1))
     (below (outputs u r) small))

@@ -1,10 +1,10 @@
 //! How much the texts of a farm may hold.
 
 /// Names of packages.
-pub const MOST_NAMES: usize = 512;
+pub const MOST_NAMES: usize = 4096;
 
 /// Relation entries of all packages as they are read, and those of all recipes after reduction.
-pub const MOST_ENTRIES: usize = 8192;
+pub const MOST_ENTRIES: usize = 65_536;
 
 /// Versions of a name: as many as a word of the archive has bits.
 pub const MOST_VARIANTS: usize = 64;
