@@ -3,6 +3,7 @@ use Rattle.std.proofs.Common.{◌≡◌, ◌≢◌, ℕ, ◌+◌, ◌<◌, sym, 
 use Rattle.std.proofs.lemmas.Bool.{cases_eq}
 use Rattle.std.proofs.lemmas.List.{get_or_append_left}
 use Rattle.std.proofs.Math.Seq.{get_or-append_seam}
+use Rattle.farm_model.specs.declared.types.Trap.{Trap}
 use Rattle.farm_model.specs.Universe.{Universe}
 use Rattle.plan_model.specs.Known.{Rows, IsGreatest}
 use Rattle.plan_model.specs.MayAt.{lane_cost}
@@ -10,9 +11,9 @@ use Rattle.plan_model.specs.Order.{AreStuck}
 use Rattle.plan_model.specs.Plan.{Plan, lane}
 use Rattle.plan_model.specs.Safety.{risk_at, IsSafeUnder}
 use Rattle.plan_verifier.specs.declared.refusal.Refusal.{Refusal}
-use Rattle.plan_verifier.specs.declared.walk.Stop.{Stop}
+use Rattle.plan_verifier.specs.declared.walk.WalkError.{WalkError}
 use Rattle.plan_verifier.specs.Accepted.{AreCosts}
-use Rattle.plan_verifier.specs.Costs.{IsToldOf, IsWalked}
+use Rattle.plan_verifier.specs.Costs.{AreWalked, IsToldUnsafe, IsWalked}
 use Rattle.plan_verifier.specs.Stuck.{IsToldStuck}
 use Rattle.plan_verifier.specs.Verdict.{IsVerdictOn}
 use Rattle.plan_verifier.specs.Walk.{Walked}
@@ -32,34 +33,38 @@ more_costs u p rows n costs cost so_far is = record {
 }
 
 -- the lane at whose first unsafe instruction the walks end
-pub refused : (u : Universe) (p : Plan) (rows : Rows) → (l : ℕ) → l < length p
+pub walk_ends : (u : Universe) (p : Plan) (rows : Rows) → (l : ℕ) → l < length p
     → ((j i : ℕ) → j < l → risk_at u p rows j i ≡ None)
-    → (stop : Stop) → Walked u p rows l (Err stop)
+    → (error : WalkError) → Walked u p rows l (Err error) → AreWalked u p rows (Err error)
+walk_ends u p rows l lt before WalkError.Memory walked = tt
+walk_ends u p rows l lt before (WalkError.Unsafe told number trap) walked =
+    rw walked.1 (
+      walked.0,
+      walked.2,
+      record {
+        in_plan = lt;
+        here = walked.3;
+        before = walked.4;
+        lanes_before = before;
+      },
+    )
+
+-- it is told by the lane's name
+pub refused : (u : Universe) (p : Plan) (rows : Rows) (l number : ℕ) (trap : Trap)
+    → AreWalked u p rows (Err (WalkError.Unsafe l number trap))
     → (name : List ℕ) → name ≡ (lane p l).name
-    → (refusal : Refusal) → IsToldOf name stop refusal → IsWalked u p rows (Err refusal)
-refused u p rows l lt before stop walked name is Refusal.Memory told = tt
-refused u p rows l lt before (Stop.Unsafe number trap) walked name is
-    (Refusal.Unsafe as_name as_number as_trap) told =
+    → (refusal : Refusal) → IsToldUnsafe name number trap refusal → IsWalked u p rows (Err refusal)
+refused u p rows l number trap walked name is Refusal.Memory told = tt
+refused u p rows l number trap walked name is (Refusal.Unsafe as_name as_number as_trap) told =
     record {
       l = l;
       i = walked.0;
-      first = record {
-        in_plan = lt;
-        here = rw told.2 walked.2;
-        before = walked.3;
-        lanes_before = before;
-      };
+      first = rw told.2 walked.2;
       named = told.0 ∙ is;
       numbered = told.1 ∙ walked.1;
     }
-refused u p rows l lt before (Stop.Unsafe number trap) walked name is
-    (Refusal.Text fault) told = absurd told
-refused u p rows l lt before (Stop.Unsafe number trap) walked name is
-    (Refusal.Stuck names) told = absurd told
-refused u p rows l lt before Stop.Memory walked name is (Refusal.Text fault) told = absurd told
-refused u p rows l lt before Stop.Memory walked name is
-    (Refusal.Unsafe as_name as_number as_trap) told = absurd told
-refused u p rows l lt before Stop.Memory walked name is (Refusal.Stuck names) told = absurd told
+refused u p rows l number trap walked name is (Refusal.Text fault) told = absurd told
+refused u p rows l number trap walked name is (Refusal.Stuck names) told = absurd told
 
 -- under the greatest rows that is the verdict
 pub walked_verdict : (u : Universe) (p : Plan) (rows : Rows) → IsGreatest u p rows

@@ -4,36 +4,63 @@ ghost use Rattle.std.specs.Prelude.{◌≡◌, ◌<◌, length};
 ghost use Rattle.plan_model.specs.Known.{KeepsRows};
 ghost use Rattle.plan_model.specs.Plan.{lane};
 ghost use Rattle.plan_model.specs.Sound.{IsSound};
-ghost use Rattle.plan_verifier.specs.Costs.{IsWalked, IsToldOf};
+ghost use Rattle.plan_verifier.specs.Costs.{AreWalked, IsWalked, IsToldUnsafe};
 ghost use Rattle.wait_order.specs.KnownRows.{rows_of};
 
 use crate::refusal::Refusal;
-use crate::walk::{Stop, walk};
-use farm_universe::Universe;
+use crate::walk::{WalkError, walk};
+use farm_universe::{Trap, Universe};
 use plan_asm::Plan;
 use sat_rows::Tables;
 use std::alloc::Global;
 use wait_order::Known;
 
-/// The refusal of a lane of this name.
-fn refusal_of(alloc: Global, name: &[u8], stop: Stop) -> Refusal
-    ensures { IsToldOf name.now stop result }
+/// What each lane costs at most, in steps, where each instruction is safe under these known rows,
+/// whoever made them.
+///
+/// # Errors
+///
+/// [`WalkError::Unsafe`] with the first unsafe instruction of the first lane that has one, and the
+/// first trap that it may meet. [`WalkError::Memory`] where memory ran out.
+pub fn walk_lanes(
+    alloc: Global,
+    universe: &Universe,
+    tables: &Tables,
+    plan: &Plan,
+    known: &Known,
+) -> Result<Vec<u64>, WalkError>
+    requires sound { IsSound universe.now plan.now.lanes }
+    requires tables { tables.now ≡ universe.now }
+    requires of_universe { known.now.universe ≡ universe.now }
+    requires of_plan { known.now.plan ≡ plan.now.lanes }
+    requires keeps { KeepsRows universe.now plan.now.lanes (rows_of known.now) }
+    ensures { AreWalked universe.now plan.now.lanes (rows_of known.now) result }
 {
-    match stop {
-        Stop::Unsafe { instruction, trap } => match Vec::from_slice(alloc, name) {
-            Ok(lane) => Refusal::Unsafe {
-                lane,
-                instruction,
-                trap,
-            },
-            Err(_) => Refusal::Memory,
+    let mut costs = Vec::new(alloc);
+    for number in 0..plan.lanes() {
+        match walk(alloc, universe, tables, plan, known, number) {
+            Ok(cost) => costs.push(cost)?,
+            Err(error) => return Err(error),
+        }
+    }
+    Ok(costs)
+}
+
+/// The refusal of a lane of this name, whose instruction of this number may meet a trap.
+fn unsafe_refusal(alloc: Global, name: &[u8], instruction: u32, trap: Trap) -> Refusal
+    ensures { IsToldUnsafe name.now instruction trap result }
+{
+    match Vec::from_slice(alloc, name) {
+        Ok(lane) => Refusal::Unsafe {
+            lane,
+            instruction,
+            trap,
         },
-        Stop::Memory => Refusal::Memory,
+        Err(_) => Refusal::Memory,
     }
 }
 
-/// What each lane costs at most, in steps, where each instruction is safe under these known rows,
-/// whoever made them.
+/// What [`walk_lanes`] gives, or its error as a refusal, by the lane's name.
 ///
 /// # Errors
 ///
@@ -53,12 +80,18 @@ pub fn check_lanes(
     requires keeps { KeepsRows universe.now plan.now.lanes (rows_of known.now) }
     ensures { IsWalked universe.now plan.now.lanes (rows_of known.now) result }
 {
-    let mut costs = Vec::new(alloc);
-    for number in 0..plan.lanes() {
-        match walk(alloc, universe, tables, plan, known, number) {
-            Ok(cost) => costs.push(cost)?,
-            Err(stop) => return Err(refusal_of(alloc, plan.lane(number).name(), stop)),
+    match walk_lanes(alloc, universe, tables, plan, known) {
+        Ok(costs) => Ok(costs),
+        Err(
+            WalkError::Unsafe {
+                lane,
+                instruction,
+                trap,
+            },
+        ) => {
+            let name = plan.lane(lane as usize).name();
+            Err(unsafe_refusal(alloc, name, instruction, trap))
         }
+        Err(WalkError::Memory) => Err(Refusal::Memory),
     }
-    Ok(costs)
 }

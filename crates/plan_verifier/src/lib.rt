@@ -12,6 +12,7 @@ mod verdict;
 mod walk;
 
 pub use accepted::Accepted;
-pub use costs::check_lanes;
+pub use costs::{check_lanes, walk_lanes};
 pub use refusal::{Refusal, STUCK, UNSAFE};
 pub use verdict::check;
+pub use walk::WalkError;

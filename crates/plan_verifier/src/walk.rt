@@ -11,25 +11,40 @@ use farm_universe::{Trap, Universe};
 use may_rows::{MayHold, step};
 use plan_asm::Plan;
 use sat_rows::Tables;
-use std::alloc::{AllocError, Global};
+use std::alloc::{AllocError, AllocFailed, Global};
 use wait_order::Known;
 
-/// Why a walk over a lane ends before its end.
+/// Why a walk over lanes ends before their ends.
 #[derive(Clone, Copy, Debug, PartialEq, Eq)]
-pub enum Stop {
-    /// The instruction of this number, from 1, may meet this trap.
-    Unsafe { instruction: u32, trap: Trap },
+pub enum WalkError {
+    /// The instruction of this number, from 1, of the lane of this number, from 0 in file order,
+    /// may meet this trap.
+    Unsafe {
+        lane: u32,
+        instruction: u32,
+        trap: Trap,
+    },
     /// Memory ran out.
     Memory,
 }
 
-impl From<AllocError> for Stop {
-    ghost use Rattle.plan_verifier.specs.declared.walk.Stop.{Stop};
+impl From<AllocError> for WalkError {
+    ghost use Rattle.plan_verifier.specs.declared.walk.WalkError.{WalkError};
 
-    ghost from_gives = { λ _ stop. stop ≡ Stop.Memory };
+    ghost from_gives = { λ _ error. error ≡ WalkError.Memory };
 
-    fn from(_error: AllocError) -> Stop {
-        Stop::Memory
+    fn from(_error: AllocError) -> WalkError {
+        WalkError::Memory
+    }
+}
+
+impl<T: Drop> From<AllocFailed<T>> for WalkError {
+    ghost use Rattle.plan_verifier.specs.declared.walk.WalkError.{WalkError};
+
+    ghost from_gives = { λ _ error. error ≡ WalkError.Memory };
+
+    fn from(_error: AllocFailed<T>) -> WalkError {
+        WalkError::Memory
     }
 }
 
@@ -41,7 +56,7 @@ pub fn walk(
     plan: &Plan,
     known: &Known,
     number: usize,
-) -> Result<u64, Stop>
+) -> Result<u64, WalkError>
     requires lane { number < length plan.now.lanes }
     requires sound { IsSound universe.now plan.now.lanes }
     requires tables { tables.now ≡ universe.now }
@@ -68,7 +83,8 @@ pub fn walk(
             &there,
         );
         if let Err(trap) = stepped {
-            return Err(Stop::Unsafe {
+            return Err(WalkError::Unsafe {
+                lane: number as u32,
                 instruction: place as u32 + 1,
                 trap,
             });

@@ -1,50 +1,27 @@
-use Rattle.std.proofs.Common.{◌≡◌, ◌+◌, inl, inr, None, ap, sym, subst, ◌∙◌, length, arith}
-use Rattle.std.proofs.lemmas.Bool.{cases_eq}
+use Rattle.std.proofs.Common.{Err, ap, subst, ◌∙◌}
 use Rattle.plan_model.specs.Plan.{Lane}
-use Rattle.plan_model.specs.Safety.{risk_at}
-use Rattle.plan_verifier.specs.Accepted.{AreCosts}
 use Rattle.wait_order.specs.KnownRows.{rows_of}
-use Rattle.plan_verifier.proofs.Walks.{more_costs, refused}
+use Rattle.plan_verifier.specs.Costs.{AreWalked}
+use Rattle.plan_verifier.specs.declared.walk.WalkError.{WalkError}
+use Rattle.plan_verifier.proofs.Walks.{refused}
 use Rattle.plan_verifier.proofs.costs.check_lanes.Goals as goal
 
-pub loop-number-init : goal.loop-number-init
-loop-number-init c = record {
-  safe = λ j i lt. absurd (omega arith);
-  costs = record { long = search; each = λ l lt. absurd (omega arith) };
-}
+pub lane-requires : goal.lane-requires
+lane-requires c =
+    let walked : AreWalked c.args.universe.now c.args.plan.now.lanes (rows_of c.args.known.now)
+    (Err (WalkError.Unsafe c.in-Err-Unsafe.lane c.in-Err-Unsafe.instruction c.in-Err-Unsafe.trap)) =
+    subst
+    (λ e. AreWalked c.args.universe.now c.args.plan.now.lanes (rows_of c.args.known.now) (Err e))
+    c.in-Err-Unsafe.field-0-is c.in-Err-Unsafe.ensures in
+    walked.2.in_plan
 
-pub returns-in-Err : goal.returns-in-Err
-returns-in-Err c =
-    let p = c.args.plan.now.lanes in
-    let l = c.loop-number.number in
-    refused c.args.universe.now p (rows_of c.args.known.now) l
-    (omega (arith, c.lanes-number-end.ensures.lanes))
-    c.loop-number.invariant.safe c.in-Err.stop c.in-Err.ensures c.name.result.now
-    (c.name.ensures ∙ ap (λ (of : Lane). of.name) c.lane.ensures)
-    c.refusal_of.result c.refusal_of.ensures
-
-pub loop-number-preserved : goal.loop-number-preserved
-loop-number-preserved c =
-    let u = c.args.universe.now in
-    let p = c.args.plan.now.lanes in
-    let rows = rows_of c.args.known.now in
-    let l = c.loop-number.number in
-    record {
-      safe = λ j i lt. elim (cases_eq j l) [
-        | inl same ↦ subst (λ k. risk_at u p rows k i ≡ None) (sym same) (c.in-Ok.ensures.0 i)
-        | inr other ↦ c.loop-number.invariant.safe j i (omega arith)
-      ];
-      costs = subst (AreCosts u p rows (l + 1)) (sym c.in_ok-push-in-Ok.ensures.items)
-          (more_costs u p rows l c.loop-number.costs.items c.in-Ok.cost
-          c.loop-number.invariant.costs c.in-Ok.ensures.1);
-    }
-
-pub returns : goal.returns
-returns c =
-    let u = c.args.universe.now in
-    let p = c.args.plan.now.lanes in
-    let rows = rows_of c.args.known.now in
-    let end : c.loop-number.number ≡ length p = omega (arith, c.lanes-number-end.ensures.lanes) in (
-      λ l i lt. c.loop-number.invariant.safe l i (omega arith),
-      subst (λ n. AreCosts u p rows n c.loop-number.costs.items) end c.loop-number.invariant.costs,
-    )
+pub returns-in-Err-Unsafe : goal.returns-in-Err-Unsafe
+returns-in-Err-Unsafe c =
+    refused c.args.universe.now c.args.plan.now.lanes (rows_of c.args.known.now)
+    c.in-Err-Unsafe.lane c.in-Err-Unsafe.instruction c.in-Err-Unsafe.trap
+    (subst
+    (λ e. AreWalked c.args.universe.now c.args.plan.now.lanes (rows_of c.args.known.now) (Err e))
+    c.in-Err-Unsafe.field-0-is c.in-Err-Unsafe.ensures)
+    c.name-name.result.now
+    (c.name-name.ensures ∙ ap (λ (of : Lane). of.name) c.lane.ensures)
+    c.unsafe_refusal.result c.unsafe_refusal.ensures

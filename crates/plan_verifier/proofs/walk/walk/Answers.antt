@@ -88,7 +88,10 @@ step-stepped-requires-clause-instruction c =
     c.instructions-instructions.ensures (omega arith) c.index-instructions-place.is)
 
 pub overflow_cast-result : goal.overflow_cast-result
-overflow_cast-result c =
+overflow_cast-result c = omega (arith, c.requires.lane, c.lanes-lanes.ensures.limits.lanes)
+
+pub overflow_cast-result-in-Err : goal.overflow_cast-result-in-Err
+overflow_cast-result-in-Err c =
     let short =
     lane-short c.args.plan.now.lanes c.args.number c.requires.lane c.lanes-lanes.ensures.limits in
     let long : length c.instructions-instructions.result.now
@@ -168,6 +171,7 @@ returns-in-Err c =
     subst (λ (w : Universe). IsRowOf w (rows l i) c.row-known.result.now) c.requires.of_universe
     c.row-known.ensures in (
       i,
+      refl,
       refl,
       risk-is u p rows l i x m here c.loop-place.invariant.at
           ∙ (ap (λ of. risk u of (rows l i) (possible u p l i) m x) (sym c.lane-lane.ensures)

@@ -2,7 +2,7 @@ use Rattle.std.proofs.Common.{◌≡◌, ℕ, ◌<◌, None}
 use Rattle.plan_model.specs.Safety.{risk_at}
 use Rattle.plan_verifier.specs.Accepted.{AreCosts}
 use Rattle.wait_order.specs.KnownRows.{rows_of}
-use Rattle.plan_verifier.proofs.costs.check_lanes.Given as goal
+use Rattle.plan_verifier.proofs.costs.walk_lanes.Given as goal
 
 abbrev pub invariant-loop-number : goal.invariant-loop-number
 invariant-loop-number l = record {
