@@ -1,12 +1,13 @@
 -- What an accepted plan promises, by the laws of annotated plans.
 use Rattle.std.proofs.Common.{ℕ, ◌<◌, ◌≤◌, [], length, refl}
-use Rattle.farm_laws.proofs.LawsOfPlans.{every_interleaving, lanes_are_within_budget}
+use Rattle.farm_laws.proofs.LawsOfPlans.{every_interleaving, states_are_foreseen, lanes_are_within_budget, schedules_meet_no_trap}
+use Rattle.plan_model.specs.Foreseen.{PlaysSafely}
 use Rattle.plan_model.specs.MayAt.{lane_cost}
 use Rattle.plan_model.specs.Plan.{lane}
 use Rattle.plan_model.specs.Promise.{IsSafe}
 use Rattle.plan_model.specs.Run.{start}
 use Rattle.plan_model.specs.Safety.{IsAnnotation}
-use Rattle.plan_verifier.specs.Accepted.{AcceptedPlan, known_rows, IsAccepted}
+use Rattle.plan_verifier.specs.Accepted.{AcceptedPlan, known_rows, IsAccepted, StaysForeseen}
 
 module _ (a : AcceptedPlan) (is : IsAccepted a) where
   annotation : IsAnnotation a.universe a.plan (known_rows a)
@@ -14,6 +15,15 @@ module _ (a : AcceptedPlan) (is : IsAccepted a) where
 
   pub safe_of : IsSafe a.universe a.plan
   safe_of = every_interleaving a.universe a.plan (known_rows a) a.order is.sound annotation is.order
+
+  pub stays_foreseen : StaysForeseen a
+  stays_foreseen = record {
+    facts = states_are_foreseen a.universe a.plan (known_rows a) is.sound annotation;
+    spent = lanes_are_within_budget a.universe a.plan (known_rows a) is.sound annotation;
+  }
+
+  pub plays_safely : PlaysSafely a.universe a.plan
+  plays_safely = schedules_meet_no_trap a.universe a.plan (known_rows a) is.sound annotation
 
   pub cost_within : (l : ℕ) → l < length a.plan
       → lane_cost a.universe a.plan (known_rows a) l ≤ (lane a.plan l).budget

@@ -3,12 +3,15 @@
 --   AcceptedPlan      the universe, the plan, what its lanes know, an order of its waits, its costs
 --   known_rows        what its lanes know of the archive, as sets
 --   IsAccepted        what is kept of every accepted plan
+--   StaysForeseen     what holds of each state that its runs reach
 use Rattle.std.specs.Prelude.{◌≡◌, ℕ, ◌<◌, List, length, slice_index}
 use Rattle.farm_model.specs.Universe.{Universe}
+use Rattle.plan_model.specs.Foreseen.{IsForeseen, IsWithinBudget}
 use Rattle.plan_model.specs.Known.{Rows, IsGreatest}
 use Rattle.plan_model.specs.MayAt.{lane_cost}
 use Rattle.plan_model.specs.Order.{IsOrder}
 use Rattle.plan_model.specs.Plan.{Plan}
+use Rattle.plan_model.specs.Run.{State, Reachable}
 use Rattle.plan_model.specs.Safety.{IsSafeUnder}
 use Rattle.plan_model.specs.Sound.{IsSound}
 use Rattle.wait_order.specs.KnownRows.{KnownRows, rows_of}
@@ -45,3 +48,13 @@ pub record IsAccepted (a : AcceptedPlan) : Type 0 where
   pub order : IsOrder a.universe a.plan a.order
   -- and these are the costs of the lanes.
   pub costs : AreCosts a.universe a.plan (known_rows a) (length a.plan) a.costs
+
+-- Of each state that a run of an accepted plan reaches:
+pub record StaysForeseen (a : AcceptedPlan) : Type 0 where
+  -- the archive has what each lane knows and the facts of each publication, and nothing beyond what
+  -- may be published, and each chroot is one that its may map allows;
+  pub facts : (s : State) → Reachable a.universe a.plan s
+      → IsForeseen a.universe a.plan (known_rows a) s
+  -- and each lane has spent at most its cost, which is at most its budget.
+  pub spent : (s : State) → Reachable a.universe a.plan s
+      → IsWithinBudget a.universe a.plan (known_rows a) s

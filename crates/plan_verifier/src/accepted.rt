@@ -1,10 +1,11 @@
 //! An accepted plan, which keeps its promise in its type.
 
 ghost use Rattle.std.specs.Prelude.{◌≡◌, ◌<◌, ◌≤◌, length};
+ghost use Rattle.plan_model.specs.Foreseen.{PlaysSafely};
 ghost use Rattle.plan_model.specs.MayAt.{lane_cost};
 ghost use Rattle.plan_model.specs.Plan.{lane, count};
 ghost use Rattle.plan_model.specs.Promise.{IsSafe};
-ghost use Rattle.plan_verifier.specs.Accepted.{IsAccepted, known_rows};
+ghost use Rattle.plan_verifier.specs.Accepted.{IsAccepted, StaysForeseen, known_rows};
 
 use farm_universe::Universe;
 use plan_asm::Plan;
@@ -134,6 +135,24 @@ impl Accepted {
     #[tactic(auto, using(crate::proofs::Promises::safe_of))]
     pub fn every_interleaving(&self)
         ensures { IsSafe self.now.universe self.now.plan }
+    {
+        self.keeps();
+    }
+
+    /// What holds of each state that a run reaches: the archive and the chroots are what the known
+    /// rows and the may maps foresee, and each lane has spent at most its cost, which is within its
+    /// budget. It does nothing.
+    #[tactic(auto, using(crate::proofs::Promises::stays_foreseen))]
+    pub fn every_state(&self)
+        ensures { StaysForeseen self.now }
+    {
+        self.keeps();
+    }
+
+    /// No schedule meets a trap, whatever lane numbers it has. It does nothing.
+    #[tactic(auto, using(crate::proofs::Promises::plays_safely))]
+    pub fn every_schedule(&self)
+        ensures { PlaysSafely self.now.universe self.now.plan }
     {
         self.keeps();
     }

@@ -4,6 +4,7 @@ ghost use Rattle.std.specs.Prelude.{◌≡◌, IfOk};
 ghost use Rattle.plan_model.specs.Promise.{IsSafe};
 ghost use Rattle.plan_model.specs.Plan.{count};
 ghost use Rattle.plan_model.specs.Sound.{IsSound};
+ghost use Rattle.plan_verifier.specs.Accepted.{StaysForeseen};
 ghost use Rattle.plan_verifier.specs.Texts.{planned_of};
 ghost use Rattle.plan_verifier.specs.Verdict.{IsVerdict, IsVerdictOn};
 
@@ -38,7 +39,9 @@ fn judge(rt: &(impl Threads + Sync), alloc: Global, planned: Planned) -> Result<
 /// farm's description, and the plan.
 ///
 /// Where it accepts them, no interleaving of the plan's lanes meets a trap, in every unfinished
-/// state some lane can step, and no run is longer than the plan's count of events.
+/// state some lane can step, and no run is longer than the plan's count of events. In each state
+/// that a run reaches, the archive has what the lanes know, and each lane has spent at most its
+/// cost, which is within its budget.
 ///
 /// # Errors
 ///
@@ -56,10 +59,12 @@ pub fn check(
     plan: &[u8],
 ) -> Result<Accepted, Refusal>
     ensures safe { IfOk result (λ accepted. IsSafe accepted.universe accepted.plan) }
+    ensures foreseen { IfOk result StaysForeseen }
     ensures verdict { IsVerdict (planned_of packages.now sources.now farm.now plan.now) result }
 {
     let planned = read_texts(alloc, packages, sources, farm, plan)?;
     let accepted = judge(rt, alloc, planned)?;
     accepted.every_interleaving();
+    accepted.every_state();
     Ok(accepted)
 }
