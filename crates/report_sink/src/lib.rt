@@ -1,0 +1,12 @@
+//! Where texts go: sinks of bytes, and the writing of texts to them.
+#![tactic(auto)]
+
+mod failures;
+mod sink;
+mod texts;
+mod write_sink;
+
+pub use failures::{SinkFailed, WRITE_FAILED, WriteFailed};
+pub use sink::Sink;
+pub use texts::{whether_written, write_pieces, write_text};
+pub use write_sink::WriteSink;
