@@ -1,11 +1,8 @@
 -- Texts that are written one behind the other.
-use Rattle.std.proofs.Common.{◌≡◌, ◌<◌, ◌+◌, ◌-◌, arith, get_or, add-one, ℕ, suc, ◌==◌, nat_lt, Bool, true, false, ◌&&◌, List, [], ◌++◌, length, take, drop, Option, Some, None, Result, Ok, Err, refl, sym, ap, ◌∙◌, subst}
+use Rattle.std.proofs.Common.{◌≡◌, ◌-◌, arith, ℕ, ◌==◌, nat_lt, Bool, true, false, ◌&&◌, List, [], ◌++◌, length, take, drop, Option, Some, None, Result, Ok, Err, refl, sym, ap, ◌∙◌, subst}
 use Rattle.std.specs.Io.KnownBytes.{Appends}
-use Rattle.std.specs.List.{flat_map}
-use Rattle.std.proofs.Math.Seq.{take-suc}
-use Rattle.std.proofs.lemmas.List.{append_assoc, append-nil, take-append-drop, take_all, length-drop, flat_map_more}
+use Rattle.std.proofs.lemmas.List.{append_assoc, append-nil, take-append-drop, take_all, length-drop}
 use Rattle.std.specs.Result.{result_unwrap_or}
-use Rattle.std.proofs.lemmas.List.Concat.{flat_map-append}
 use Rattle.report_sink.specs.Sinks.{SinkState, IsTaken, IsWritten, count_of}
 
 -- bytes that are put behind known ones, twice
@@ -118,27 +115,6 @@ went_on old now new text rest (Ok n) count is some so_far more = record {
       ∙ rw (so_far.going) (not_refused n (nat_lt 0 (length rest)) (λ none. some (is ∙ none)));
   went = so_far.went;
 }
-
--- Of a text that is written item by item, each item at its turn:
-module _ {X : Type 0} (f : X → List ℕ) (xs : List X) (i : ℕ) (d : X) (within : i < length xs)
-    (old mid new : SinkState) (so_far : IsWritten old mid (flat_map f (take i xs)))
-    (more : IsWritten mid new (f (get_or xs i d))) where
-  one_more : flat_map f (take i xs) ++ f (get_or xs i d) ≡ flat_map f (take (suc i) xs)
-  one_more = flat_map_more f [] (take i xs) (get_or xs i d)
-      ∙ ap (flat_map f) (sym (take-suc xs i d within))
-
-  -- one more of them is written
-  pub next_written : IsWritten old new (flat_map f (take (i + 1) xs))
-  next_written = rw (add-one, ← one_more) (written_twice old mid new _ _ so_far more)
-
-  -- it is the last one, where the sink has failed then
-  pub last_written : new.failed ≡ true → IsWritten old new (flat_map f xs)
-  last_written failed =
-      let all : flat_map f (take (suc i) xs) ++ flat_map f (drop (suc i) xs) ≡ flat_map f xs =
-      sym (flat_map-append f (take (suc i) xs) (drop (suc i) xs)) ∙ ap (flat_map f) (take-append-drop (suc i) xs) in
-      subst (IsWritten old new) all
-      (cut_short old new _ (flat_map f (drop (suc i) xs))
-      (rw (← one_more) (written_twice old mid new _ _ so_far more)) failed)
 
 -- the rest of a list is all that is behind its front
 pub behind : (k : ℕ) (rest : List ℕ) → take (length rest - k) (drop k rest) ≡ drop k rest

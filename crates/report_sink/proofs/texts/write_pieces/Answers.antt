@@ -1,5 +1,5 @@
 use Rattle.std.proofs.Common.{sym}
-use Rattle.report_sink.proofs.WriteLaws.{next_written, last_written}
+use Rattle.report_sink.proofs.ItemLaws.{next_written, last_written}
 use Rattle.report_sink.proofs.texts.write_pieces.Goals as goal
 
 pub loop-piece-preserved : goal.loop-piece-preserved
