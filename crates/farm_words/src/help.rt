@@ -1,0 +1,73 @@
+//! What the help of the commands says.
+
+pub const VERSION: &str = "0.1.0";
+
+pub const PORTFARM: &str = "\
+Checks plans that rebuild a Debian port on its build farm, before anything is built";
+
+pub const PORTFARM_MORE: &str = "\
+A plan has lanes of instructions, each over one chroot, which share one archive that only grows.
+
+With no word at all, portfarm reads the four texts from standard input, divided by the first three
+lines that are exactly `%%`, and answers as `check` does.
+
+Example:
+  portfarm check packages sources farm plan
+
+Status:
+  0  accepted, listed, stepped without a trap, or help shown
+  1  refused or trapped: the answer tells where and why
+  2  wrong words, or a schedule that is none
+  3  a file cannot be read, memory ran out, or the answer cannot be written";
+
+pub const CHECK: &str = "\
+Tells whether the plan is safe in whatever order its lanes take turns";
+
+pub const CHECK_MORE: &str = "\
+The answer is `accepted`, how many lanes and events there are, and what each lane costs at most; or
+one line with the first thing that may go wrong, as `refused 401 lane a instruction 3 X7 Depends`,
+`refused 402 lanes a b` for lanes that would wait for ever, or `refused 302 plan line 4`.
+
+Example:
+  portfarm check packages sources farm plan
+
+Status: 0 accepted, 1 refused, 2 wrong words, 3 nothing could be answered";
+
+pub const LIST: &str = "\
+Prints the plan with its blocks expanded, one instruction a line";
+
+pub const LIST_MORE: &str = "\
+The answer is a plan that means the same, and that can be checked in place of the given one. The plan
+need not be safe. Where a text cannot be read, the answer is its first fault, as
+`refused 303 plan line 2`.
+
+Example:
+  portfarm list packages sources farm plan > plan.expanded
+
+Status: 0 listed, 1 refused, 2 wrong words, 3 nothing could be answered";
+
+pub const STEP: &str = "\
+Lets lanes take turns in a given order, and shows what has come of it";
+
+pub const STEP_MORE: &str = "\
+Each turn takes one instruction of its lane, or one output of a publish; a lane that waits in vain
+or has finished stays as it is. The answer is `ran` and the number of turns, or the first trap with
+its place in the schedule; then what was published, and of each lane how far it is, what it spent,
+and what its chroot holds. The plan need not be safe. Where a text cannot be read, the answer is its
+first fault.
+
+Example, in which the first lane takes two turns and then the second one:
+  portfarm step --schedule 0,0,1 packages sources farm plan
+
+Status: 0 stepped without a trap, 1 trapped or refused, 2 wrong words or a schedule that is none,
+3 nothing could be answered";
+
+pub const PACKAGES: &str = "Packages index: the packages, with their versions, sizes and relations";
+
+pub const SOURCES: &str = "Sources index: what each source package needs to be built";
+
+pub const FARM: &str = "The farm: its architecture, its archive, recipes of builds, and chroots";
+
+pub const PLAN: &str = "The plan: lanes of instructions, and blocks that they use";
+
+pub const SCHEDULE: &str = "Lanes in the order of their turns, as 0,0,1: 0 is the first lane";
