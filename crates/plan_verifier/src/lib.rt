@@ -14,5 +14,6 @@ mod walk;
 pub use accepted::Accepted;
 pub use costs::{check_lanes, walk_lanes};
 pub use refusal::{Refusal, STUCK, UNSAFE};
+pub use texts::{Planned, read_texts};
 pub use verdict::check;
 pub use walk::WalkError;
