@@ -1,0 +1,47 @@
+-- A certificate of a plan over a universe. The project's own words. Parameters: u the universe, p
+-- the plan, l the number of a lane.
+--
+--   Certificate             rows by lane, and the order of lanes
+--   learns                  an instruction behind which stands a row
+--   IsNewRow                a row of variants that the initial archive does not have
+--   IsCertificate u p c     c has the rows and the lanes of the plan
+use Rattle.std.specs.Prelude.{◌≡◌, ℕ, ◌<◌, Bool, true, false, List, [], length, slice_index_or, count_by, All}
+use Rattle.bit_rows.specs.Sets.{variants_of}
+use Rattle.farm_model.specs.Universe.{Universe}
+use Rattle.farm_model.specs.Packages.{names, variant, variants, initial}
+use Rattle.plan_model.specs.declared.instructions.Instruction.{Instruction}
+use Rattle.plan_model.specs.declared.instructions.Instruction.TheVariants.{Publish, Wait}
+use Rattle.plan_model.specs.Plan.{Plan, Lane, lane}
+
+-- by lane a row of words behind each wait and publish, and lanes by number, one for each wait
+-- passed and each output
+pub record Certificate : Type 0 where
+  pub rows : List (List (List ℕ))
+  pub order : List ℕ
+
+-- the rows of a lane
+abbrev pub lane_rows : Certificate → ℕ → List (List ℕ)
+lane_rows c l = slice_index_or c.rows l []
+
+-- behind a wait or a publish its lane may know more
+abbrev pub learns : Instruction → Bool
+learns (Publish r) = true
+learns (Wait e) = true
+learns _ = false
+
+-- how many rows a lane has
+abbrev pub count_rows : Lane → ℕ
+count_rows of = count_by learns of.instructions
+
+-- a word for each name, with bits of its variants alone, none of them in the initial archive
+pub record IsNewRow (u : Universe) (row : List ℕ) : Type 0 where
+  pub long : length row ≡ names u
+  pub known : (n b : ℕ) → variants_of row n b ≡ true → b < variants u n
+  pub new : (n b : ℕ) → variants_of row n b ≡ true → initial u (variant n b) ≡ false
+
+-- a row behind each wait and publish, and lanes of the plan in the order
+pub record IsCertificate (u : Universe) (p : Plan) (c : Certificate) : Type 0 where
+  pub lanes : length c.rows ≡ length p
+  pub counts : (l : ℕ) → l < length p → length (lane_rows c l) ≡ count_rows (lane p l)
+  pub rows : (l : ℕ) → All (IsNewRow u) (lane_rows c l)
+  pub order : All (λ l. l < length p) c.order

@@ -1,0 +1,10 @@
+//! The certificate of a plan: what each lane knows where it learns something, and an order of the
+//! waits and outputs; how it is printed, and how a text is read as one.
+#![tactic(auto)]
+
+mod certificate;
+mod fault;
+
+pub use certificate::Certificate;
+pub use farm_model::Trap;
+pub use fault::{BAD_ORDER, BAD_TEXT, CertFault, NOT_JUSTIFIED, UNSAFE};
