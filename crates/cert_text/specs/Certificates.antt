@@ -2,10 +2,11 @@
 -- the plan, l the number of a lane.
 --
 --   Certificate             rows by lane, and the order of lanes
---   learns                  an instruction behind which stands a row
+--   learns, row_places      the instructions behind which stands a row, and their numbers
 --   IsNewRow                a row of variants that the initial archive does not have
 --   IsCertificate u p c     c has the rows and the lanes of the plan
-use Rattle.std.specs.Prelude.{◌≡◌, ℕ, ◌<◌, Bool, true, false, List, [], length, slice_index_or, count_by, All}
+use Rattle.std.specs.Prelude.{◌≡◌, ℕ, ◌<◌, Bool, true, false, List, [], length, map, filter, slice_index_or, count_by, All}
+use Rattle.std.specs.List.{enumerate_from}
 use Rattle.bit_rows.specs.Sets.{variants_of}
 use Rattle.farm_model.specs.Universe.{Universe}
 use Rattle.farm_model.specs.Packages.{names, variant, variants, initial}
@@ -28,6 +29,14 @@ abbrev pub learns : Instruction → Bool
 learns (Publish r) = true
 learns (Wait e) = true
 learns _ = false
+
+-- the numbers of such instructions, where the first has this number
+abbrev pub places_from : ℕ → List Instruction → List ℕ
+places_from number xs = map (λ x. x.0) (filter (λ x. learns x.1) (enumerate_from number xs))
+
+-- the first instruction of a lane has the number 1
+abbrev pub row_places : Lane → List ℕ
+row_places of = places_from 1 of.instructions
 
 -- how many rows a lane has
 abbrev pub count_rows : Lane → ℕ

@@ -1,2 +1,6 @@
+pub mod CertLines
 pub mod Certificates
+pub mod CertText
 pub mod Faults
+pub mod Printed
+pub mod Rows

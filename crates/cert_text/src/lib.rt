@@ -4,7 +4,10 @@
 
 mod certificate;
 mod fault;
+mod places;
+mod printer;
 
 pub use certificate::Certificate;
 pub use farm_model::Trap;
 pub use fault::{BAD_ORDER, BAD_TEXT, CertFault, NOT_JUSTIFIED, UNSAFE};
+pub use printer::print;

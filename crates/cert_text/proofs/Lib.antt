@@ -1,0 +1,2 @@
+pub mod PlaceLists
+pub mod RowLists
