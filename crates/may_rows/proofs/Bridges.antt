@@ -178,7 +178,7 @@ module _ (u : Universe) (n : ℕ) (p : Bits) (here ready last both : ℕ)
       by (inr h) (inr r) (inr same) =
           rw (h, r) (ap (λ k. all_of u n (word_has k) p) (sym same.0))
 
-  ready_known : (b : ℕ) → word_has ready b ≡ true → b < variants u n
+  pub ready_known : (b : ℕ) → word_has ready b ≡ true → b < variants u n
   ready_known b has =
       elim is.phase [
         | inl none ↦ absurd (both_ways _ (ap (λ k. word_has k b) none ∙ word_has_zero b) has)

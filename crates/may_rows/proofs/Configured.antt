@@ -67,7 +67,7 @@ module _ (u : Universe) (ms : List ℕ) (m : May) where
       by n p false (MayUnpacked current last) = refl
       by n p false (MayConfigured current) = or-false _
 
-  unmet-after : (es : Relations) → unmet (surely_met_with u ms m) es ≡ unmet (surely_met u after) es
+  pub unmet-after : (es : Relations) → unmet (surely_met_with u ms m) es ≡ unmet (surely_met u after) es
   unmet-after es = any-same _ _ es (λ e. ap not (with_is_after e))
 
   hold-after : (n : ℕ) (p : Bits) → may_hold u n p (m.slots n) ≡ may_hold u n p (after.slots n)

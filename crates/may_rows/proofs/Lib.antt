@@ -10,3 +10,5 @@ pub mod BaseMaps
 pub mod MemberSlots
 pub mod Configured
 pub mod Withdrawn
+pub mod MetAfter
+pub mod MetWords

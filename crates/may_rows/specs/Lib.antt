@@ -1,7 +1,7 @@
 pub mod Words
+pub mod Met
 pub mod Walk
 pub mod Picks
 pub mod Unpacks
-pub mod Unsettled
 pub mod Configures
 pub mod Withdraws

@@ -1,6 +1,6 @@
 //! A build and a publish under a may map.
 
-ghost use Rattle.std.specs.Prelude.{◌≡◌, ◌<◌, ◌≤◌, ◌+◌, ◌*◌, ◌^◌, ◌||◌, ◌&&◌, ◌==◌, Bool, nat_lt, not, length, OnOk};
+ghost use Rattle.std.specs.Prelude.{◌≡◌, ◌<◌, ◌≤◌, ◌+◌, ◌*◌, ◌^◌, ◌||◌, ◌&&◌, ◌==◌, Bool, true, false, nat_lt, not, length, OnOk};
 ghost use Rattle.farm_model.specs.declared.types.Variant.{Variant};
 ghost use Rattle.farm_model.specs.Chroot.{unmet};
 ghost use Rattle.farm_model.specs.Packages as packages;
@@ -10,6 +10,7 @@ ghost use Rattle.plan_model.specs.Risk.{build_risks, publish_risks};
 ghost use Rattle.plan_model.specs.Turn.{was_built};
 ghost use Rattle.sat_rows.specs.Rows.{entry_at};
 ghost use Rattle.may_rows.specs.Words.{AreWords, may_of};
+ghost use Rattle.may_rows.specs.Met.{some_misses};
 ghost use Rattle.may_rows.specs.Walk.{Answers, IsOfLane};
 
 use crate::numbers::{NumberTest, some_number};
@@ -76,18 +77,21 @@ fn may_clash(_universe: &Universe, tables: &Tables, state: &MayHold, recipe: u32
     state.may_hit(tables.clashes(recipe))
 }
 
-/// The first trap that a build may meet.
+/// The first trap that a build may meet. `met` tells that each entry of what is configured is known
+/// to be met.
 #[tactic(auto, unfolding(farm_model::specs::Traps::first_trap))]
 fn build_risk(
     universe: &Universe,
     tables: &Tables,
     lane: &Lane,
     state: &MayHold,
+    met: bool,
     recipe: u32,
 ) -> Option<Trap>
     requires same { tables.now ≡ universe.now }
     requires known { recipe < length universe.now.recipes }
     requires of_lane { IsOfLane universe.now lane.now state.now }
+    requires met { met ≡ true → some_misses universe.now (may_of state.now) ≡ false }
     ensures { result ≡ first_trap (build_risks universe.now lane.now (may_of state.now)
         (packages.recipe universe.now recipe)) }
 {
@@ -96,7 +100,7 @@ fn build_risk(
     if may_exceed(lane.budget(), state, costs.steps()) {
         return Some(Trap::OverBudget);
     }
-    if may_be_unsettled(universe, tables, state) {
+    if may_be_unsettled(universe, tables, state, met) {
         return Some(Trap::Unsettled);
     }
     if misses_needs(universe, tables, state, recipe) {
@@ -111,7 +115,8 @@ fn build_risk(
     None
 }
 
-/// Builds a recipe, or tells the first trap that this may meet.
+/// Builds a recipe, or tells the first trap that this may meet. `met` tells that each entry of what
+/// is configured is known to be met.
 ///
 /// # Errors
 ///
@@ -121,16 +126,18 @@ pub fn build(
     tables: &Tables,
     lane: &Lane,
     state: &mut MayHold,
+    met: bool,
     recipe: u32,
 ) -> Result<(), Trap>
     requires same { tables.now ≡ universe.now }
     requires known { recipe < length universe.now.recipes }
     requires of_lane { IsOfLane universe.now lane.now state.old }
+    requires met { met ≡ true → some_misses universe.now (may_of state.old) ≡ false }
     ensures answer { (in_it may_be : Variant → Bool) → Answers universe.now lane.now in_it may_be
         (may_of state.old) (Instruction.Build recipe) (may_of state.new) result }
     ensures of_lane { OnOk result (IsOfLane universe.now lane.now state.new) }
 {
-    if let Some(trap) = build_risk(universe, tables, lane, state, recipe) {
+    if let Some(trap) = build_risk(universe, tables, lane, state, met, recipe) {
         return Err(trap);
     }
     state.spend(universe, universe.recipe(recipe).steps());

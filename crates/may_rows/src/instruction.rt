@@ -1,13 +1,15 @@
 //! An instruction under a may map.
 
-ghost use Rattle.std.specs.Prelude.{◌≡◌, ◌<◌, ℕ, Bool, true, length, OnOk};
+ghost use Rattle.std.specs.Prelude.{◌≡◌, ◌<◌, ℕ, Bool, true, false, length, OnOk};
 ghost use Rattle.bit_rows.specs.Sets.{variants_of};
 ghost use Rattle.farm_model.specs.declared.types.Variant.{Variant};
 ghost use Rattle.farm_model.specs.Packages.{names};
 ghost use Rattle.plan_model.specs.Sound.{IsInstruction};
 ghost use Rattle.sat_rows.specs.Rows.{IsRowOf};
+ghost use Rattle.may_rows.specs.Met.{some_misses};
+ghost use Rattle.may_rows.specs.Met as spec;
 ghost use Rattle.may_rows.specs.Picks.{AreOfArchive};
-ghost use Rattle.may_rows.specs.Words.{may_of};
+ghost use Rattle.may_rows.specs.Words.{AreWords, may_of};
 ghost use Rattle.may_rows.specs.Walk.{Answers, IsOfLane};
 
 use crate::build::{build, publish};
@@ -20,17 +22,30 @@ use farm_universe::{Trap, Universe};
 use plan_asm::{Instruction, Lane};
 use sat_rows::Tables;
 
-/// Goes on by an instruction, where it is safe. `known` is what is surely in the archive, and
-/// `there` what may be.
-///
-/// # Errors
-///
-/// The first trap that the instruction may meet. The state then is of no further use.
-pub fn step(
+/// Tells whether it is known after a safe instruction that each entry of what is configured is met,
+/// where `met` tells whether it was known.
+fn stays_met(_universe: &Universe, state: &MayHold, met: bool, instruction: &Instruction) -> bool
+    requires { AreWords _universe.now state.now }
+    ensures { result ≡ spec.stays_met met (may_of state.now) instruction.now }
+{
+    match instruction {
+        Instruction::Unpack { name, relation: _ } => met && !state.is_configured(*name),
+        Instruction::Build(_) => true,
+        Instruction::Configure(_)
+        | Instruction::Deconfigure(_)
+        | Instruction::Remove(_)
+        | Instruction::Publish(_)
+        | Instruction::Wait(_) => met,
+    }
+}
+
+/// Goes on by an instruction, where it is safe.
+fn go_on(
     universe: &Universe,
     tables: &Tables,
     lane: &Lane,
     state: &mut MayHold,
+    met: bool,
     instruction: &Instruction,
     known: &Row,
     there: &Row,
@@ -42,6 +57,7 @@ pub fn step(
     requires there_long { length there.now ≡ names universe.now }
     requires known_there { (n b : ℕ) → variants_of known.now n b ≡ true
         → variants_of there.now n b ≡ true }
+    requires met { met ≡ true → some_misses universe.now (may_of state.old) ≡ false }
     ensures answer { (in_it may_be : Variant → Bool) → AreOfArchive universe.now in_it may_be
         → IsRowOf universe.now in_it known.now → IsRowOf universe.now may_be there.now
         → Answers universe.now lane.now in_it may_be (may_of state.old) instruction.now
@@ -68,8 +84,56 @@ pub fn step(
         Instruction::Remove(members) => {
             remove(universe, tables, lane, state, members.as_slice())
         }
-        Instruction::Build(recipe) => build(universe, tables, lane, state, *recipe),
+        Instruction::Build(recipe) => build(universe, tables, lane, state, met, *recipe),
         Instruction::Publish(recipe) => publish(universe, lane, state, *recipe),
         Instruction::Wait(_) => Ok(()),
     }
+}
+
+/// Goes on by an instruction, where it is safe. `known` is what is surely in the archive, and
+/// `there` what may be. `met` tells whether it is known that each entry of what is configured is
+/// met, and is kept so: a build then looks at no entry.
+///
+/// # Errors
+///
+/// The first trap that the instruction may meet. The state then is of no further use.
+pub fn step(
+    universe: &Universe,
+    tables: &Tables,
+    lane: &Lane,
+    state: &mut MayHold,
+    met: &mut bool,
+    instruction: &Instruction,
+    known: &Row,
+    there: &Row,
+) -> Result<(), Trap>
+    requires same { tables.now ≡ universe.now }
+    requires instruction { IsInstruction universe.now instruction.now }
+    requires of_lane { IsOfLane universe.now lane.now state.old }
+    requires known_long { length known.now ≡ names universe.now }
+    requires there_long { length there.now ≡ names universe.now }
+    requires known_there { (n b : ℕ) → variants_of known.now n b ≡ true
+        → variants_of there.now n b ≡ true }
+    requires met { met.old ≡ true → some_misses universe.now (may_of state.old) ≡ false }
+    ensures answer { (in_it may_be : Variant → Bool) → AreOfArchive universe.now in_it may_be
+        → IsRowOf universe.now in_it known.now → IsRowOf universe.now may_be there.now
+        → Answers universe.now lane.now in_it may_be (may_of state.old) instruction.now
+        (may_of state.new) result }
+    ensures of_lane { OnOk result (IsOfLane universe.now lane.now state.new) }
+    ensures met { (in_it may_be : Variant → Bool) → AreOfArchive universe.now in_it may_be
+        → IsRowOf universe.now in_it known.now → IsRowOf universe.now may_be there.now
+        → OnOk result (met.new ≡ true → some_misses universe.now (may_of state.new) ≡ false) }
+{
+    let was_met = *met;
+    *met = stays_met(universe, state, was_met, instruction);
+    go_on(
+        universe,
+        tables,
+        lane,
+        state,
+        was_met,
+        instruction,
+        known,
+        there,
+    )
 }

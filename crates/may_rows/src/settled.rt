@@ -1,17 +1,18 @@
 //! Whether all that is present is configured, with each of its entries met.
 
-ghost use Rattle.std.specs.Prelude.{◌≡◌, ◌<◌, ◌||◌, ◌&&◌, ◌==◌, not};
+ghost use Rattle.std.specs.Prelude.{◌≡◌, ◌<◌, ◌||◌, true, false};
+ghost use Rattle.farm_model.specs.Below.{some_below};
 ghost use Rattle.farm_model.specs.Chroot.{unmet, entries};
-ghost use Rattle.farm_model.specs.Packages as packages;
-ghost use Rattle.farm_model.specs.Sound.{IsKnown};
+ghost use Rattle.farm_model.specs.Packages.{names};
 ghost use Rattle.plan_model.specs.May as may;
 ghost use Rattle.plan_model.specs.Risk.{may_be_unsettled};
+ghost use Rattle.may_rows.specs.Met as spec;
 ghost use Rattle.may_rows.specs.Words.{AreWords, may_of};
-ghost use Rattle.may_rows.specs.Unsettled.{may_be_unsettled_at};
 
 use crate::entries::{misses_depends, misses_pre_depends};
-use crate::sets::some_of;
+use crate::members::may_hold_configured;
 use crate::state::MayHold;
+use clause_kernel::same;
 use farm_universe::relations::VariantTest;
 use farm_universe::{Universe, Variant};
 use sat_rows::Tables;
@@ -35,34 +36,46 @@ impl VariantTest for MissesEntry<'_> {
     }
 }
 
-/// Tells whether a name may hold an unpacked variant alone, or one with an entry that may not be
-/// met.
-fn is_unsettled_at(universe: &Universe, tables: &Tables, state: &MayHold, name: u32) -> bool
+/// Tells whether a configured variant of a name may have an entry that is not met.
+fn misses_at(universe: &Universe, tables: &Tables, state: &MayHold, name: u32) -> bool
     requires same { tables.now ≡ universe.now }
     requires state { AreWords universe.now state.now }
-    ensures { result ≡ may_be_unsettled_at universe.now (may_of state.now) name }
+    ensures { result ≡ spec.misses_at universe.now (may_of state.now) name }
 {
-    state.is_unpacked(name)
-        || some_of(
-            universe,
-            name,
-            state.here_word(name),
-            &MissesEntry { tables, state },
-        )
+    may_hold_configured(universe, state, name, &MissesEntry { tables, state })
 }
 
-/// Tells whether a present variant may be unpacked alone, or have an entry that may not be met.
-#[tactic(auto, unfolding(plan_model::specs::Risk::may_be_unsettled))]
-pub fn may_be_unsettled(universe: &Universe, tables: &Tables, state: &MayHold) -> bool
+/// Tells whether a configured variant of some name may have an entry that is not met.
+fn some_misses(universe: &Universe, tables: &Tables, state: &MayHold) -> bool
     requires same { tables.now ≡ universe.now }
     requires state { AreWords universe.now state.now }
-    ensures { result ≡ may_be_unsettled universe.now (may_of state.now) }
+    ensures { result ≡ spec.some_misses universe.now (may_of state.now) }
 {
     let count = universe.names();
     for name in 0..count {
-        if is_unsettled_at(universe, tables, state, name) {
+        if misses_at(universe, tables, state, name) {
             return true;
         }
     }
     false
+}
+
+/// Tells whether some name may hold an unpacked variant alone.
+fn some_unpacked(_universe: &Universe, state: &MayHold) -> bool
+    requires { AreWords _universe.now state.now }
+    ensures { result ≡ some_below (names _universe.now)
+        (λ n. may.is_surely_unpacked ((may_of state.now).slots n)) }
+{
+    !same(&state.here, &state.ready)
+}
+
+/// Tells whether a present variant may be unpacked alone, or have an entry that may not be met.
+/// `met` tells that each entry of what is configured is known to be met.
+pub fn may_be_unsettled(universe: &Universe, tables: &Tables, state: &MayHold, met: bool) -> bool
+    requires same { tables.now ≡ universe.now }
+    requires state { AreWords universe.now state.now }
+    requires met { met ≡ true → spec.some_misses universe.now (may_of state.now) ≡ false }
+    ensures { result ≡ may_be_unsettled universe.now (may_of state.now) }
+{
+    some_unpacked(universe, state) || (!met && some_misses(universe, tables, state))
 }

@@ -70,6 +70,7 @@ pub fn walk(
     let instructions = lane.instructions();
     let mut there = possible_row(alloc, universe, plan, number)?;
     let mut state = MayHold::of_base(alloc, universe, lane.base())?;
+    let mut met = false;
     for place in 0..instructions.len() {
         let instruction = &instructions[place];
         let known = known.row(number, place);
@@ -78,6 +79,7 @@ pub fn walk(
             tables,
             lane,
             &mut state,
+            &mut met,
             instruction,
             known,
             &there,

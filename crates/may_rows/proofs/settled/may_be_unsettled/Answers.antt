@@ -1,15 +1,34 @@
-use Rattle.std.proofs.Common.{sym, ◌∙◌, arith}
+use Rattle.std.proofs.Common.{false, not, ◌||◌, sym, ap, ◌∙◌}
+use Rattle.std.proofs.Math.Bool.{or-false}
+use Rattle.farm_model.specs.Below.{some_below}
 use Rattle.farm_model.specs.Packages.{names}
-use Rattle.farm_model.proofs.BelowLaws.{some_below-at}
-use Rattle.plan_model.specs.Risk.{may_be_unsettled}
+use Rattle.plan_model.specs.May.{is_surely_unpacked}
+use Rattle.may_rows.specs.Met.{some_misses}
 use Rattle.may_rows.specs.Words.{may_of}
-use Rattle.may_rows.specs.Unsettled.{may_be_unsettled_at}
+use Rattle.may_rows.proofs.MetWords.{unsettled-is}
 use Rattle.may_rows.proofs.settled.may_be_unsettled.Goals as goal
 
-pub returns-then-is_unsettled_at : goal.returns-then-is_unsettled_at
-unfolding may_be_unsettled
-returns-then-is_unsettled_at c =
-    sym
-    (some_below-at (names c.args.universe.now)
-    (may_be_unsettled_at c.args.universe.now (may_of c.args.state.now)) c.loop-name.name
-    (omega arith) (sym c.is_unsettled_at.ensures ∙ c.if-is_unsettled_at.true))
+pub returns-then-some_unpacked : goal.returns-then-some_unpacked
+returns-then-some_unpacked c =
+    let u = c.args.universe.now in
+    let m = may_of c.args.state.now in
+    c.if-some_unpacked.true
+    ∙ sym (unsettled-is u m
+    ∙ ap (λ t. t || some_misses u m) (sym c.some_unpacked.ensures ∙ c.if-some_unpacked.true))
+
+pub returns-then-not-met : goal.returns-then-not-met
+returns-then-not-met c =
+    let u = c.args.universe.now in
+    let m = may_of c.args.state.now in
+    c.some_misses.ensures
+    ∙ sym (unsettled-is u m
+    ∙ ap (λ t. t || some_misses u m) (sym c.some_unpacked.ensures ∙ c.if-some_unpacked.false))
+
+pub returns-else-not-met : goal.returns-else-not-met
+returns-else-not-met c =
+    let u = c.args.universe.now in
+    let m = may_of c.args.state.now in
+    ap not c.if-not-met.false
+    ∙ sym (unsettled-is u m
+    ∙ ap (λ t. t || some_misses u m) (sym c.some_unpacked.ensures ∙ c.if-some_unpacked.false)
+    ∙ c.requires.met c.if-not-met.false)

@@ -36,6 +36,7 @@ loop-place-init c =
         words = c.in_ok-state.ensures.words;
         within = omega (arith, free);
       };
+      met = λ known. cc known;
       there = c.in_ok-there.ensures;
     }
 
@@ -59,9 +60,11 @@ loop-place-preserved c =
     let known : IsRowOf u (rows l i) c.row-known.result.now =
     subst (λ (w : Universe). IsRowOf w (rows l i) c.row-known.result.now) c.requires.of_universe
     c.row-known.ensures in
-    let answer = c.in_default.ensures.answer (rows l i) (possible u p l i)
-    (of_archive u p rows c.requires.sound.universe c.requires.keeps l i c.requires.lane (omega (arith, long)))
-    known c.loop-place.invariant.there in
+    let archive =
+    of_archive u p rows c.requires.sound.universe c.requires.keeps l i c.requires.lane
+    (omega (arith, long)) in
+    let answer = c.in_default.ensures.answer (rows l i) (possible u p l i) archive known
+    c.loop-place.invariant.there in
     let safe : risk_at u p rows l i ≡ None =
     risk-is u p rows l i x m here c.loop-place.invariant.at
     ∙ (ap (λ of. risk u of (rows l i) (possible u p l i) m x) (sym c.lane-lane.ensures)
@@ -73,6 +76,8 @@ loop-place-preserved c =
         | inr other ↦ c.loop-place.invariant.safe k (omega arith)
       ];
       of_lane = c.in_default.ensures.of_lane;
+      met = c.in_default.ensures.met (rows l i) (possible u p l i) archive known
+          c.loop-place.invariant.there;
       there =
           rw add-one
           (possible_after u p l c.requires.lane i x here c.add_outputs.new.row

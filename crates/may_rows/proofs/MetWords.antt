@@ -1,0 +1,182 @@
+-- What is unpacked, and what is configured, by the words.
+use Rattle.std.proofs.Common.{◌≡◌, ◌↔◌, ◌⊎◌, inl, inr, ℕ, Bool, true, false, not, ◌&&◌, ◌||◌, ◌==◌, List, length, slice_index, None, Result, Ok, Err, OnOk, refl, sym, ap, ◌∙◌, arith}
+use Rattle.std.proofs.lemmas.Bool.{cases_Bool, and_from, and_parts, or_cases, or_left, or_right, not-true, not_from_false, both_ways, eq-eqb, eqb-true}
+use Rattle.std.proofs.lemmas.Grind.{same_number_lists}
+use Rattle.clause_kernel.specs.Rows.{word_has}
+use Rattle.clause_kernel.proofs.Words.{some_bit}
+use Rattle.farm_model.specs.Below.{some_below}
+use Rattle.farm_model.specs.Chroot.{unmet, entries}
+use Rattle.farm_model.specs.Universe.{Universe, Recipe}
+use Rattle.farm_model.specs.declared.types.Trap.{Trap}
+use Rattle.farm_model.specs.declared.types.Variant.{Variant}
+use Rattle.farm_model.specs.Traps.{first_trap}
+use Rattle.farm_model.specs.Packages.{variant, names, variants, recipe}
+use Rattle.farm_model.proofs.BelowLaws.{some_below-at, some_below-found, some_below-same}
+use Rattle.farm_model.proofs.TestLaws.{same_tests}
+use Rattle.plan_model.specs.May.{MaySlot, MayAbsent, MayUnpacked, MayConfigured, May, may_hold, may_hold_configured, surely_met, is_surely_unpacked, is_surely_configured, is_surely_present}
+use Rattle.plan_model.specs.MayAt.{may_be_deconfigured, may_after}
+use Rattle.plan_model.specs.Plan.{Lane}
+use Rattle.plan_model.specs.Risk.{may_be_unsettled, build_risks, risk}
+use Rattle.plan_model.specs.Turn.{newest}
+use Rattle.plan_model.specs.declared.instructions.Instruction.{Instruction}
+use Rattle.plan_model.specs.declared.instructions.Instruction.TheVariants.{Unpack, Configure, Deconfigure, Remove, Build, Publish, Wait}
+use Rattle.may_rows.specs.Met.{misses_at, some_misses, stays_met}
+use Rattle.may_rows.specs.Walk.{Answers}
+use Rattle.may_rows.specs.Words.{Words, slot_of, may_of, AreOfName, AreWords}
+use Rattle.may_rows.proofs.Bridges.{configured-is, ready_known}
+use Rattle.may_rows.proofs.MetAfter.{HoldSome, implied, no_trap, met_same, met_unpacked, met_configured, met_withdrawn}
+
+-- ---- words of one name
+
+configured_ready : (here ready last : ℕ) → is_surely_configured (slot_of here ready last) ≡ true
+    → (ready == 0) ≡ false
+configured_ready here ready last is = elim (cases_Bool (ready == 0)) [
+  | inl none ↦ absurd (both_ways _ (unready (cases_Bool (here == 0)) none) is)
+  | inr some ↦ some
+]
+  where
+    unready : ((here == 0) ≡ true) ⊎ ((here == 0) ≡ false) → (ready == 0) ≡ true
+        → is_surely_configured (slot_of here ready last) ≡ false
+    unready (inl z) none = rw z refl
+    unready (inr h) none = rw (h, none) refl
+
+pub hold_some : (u : Universe) (w : Words) → AreWords u w → HoldSome u (may_of w)
+hold_some u w are n is =
+    let ready = slice_index w.ready n in
+    let bit =
+    some_bit ready
+    (λ z. both_ways _ (configured_ready (slice_index w.here n) ready (slice_index w.last n) is)
+    (eq-eqb ready 0 z)) in
+    configured-is u n (λ b. true) _ _ _ _ (are.each n)
+    ∙ some_below-at (variants u n) (λ b. word_has ready b && true) bit.0
+    (ready_known u n (λ b. true) _ _ _ _ (are.each n) bit.0 bit.1)
+    (and_from _ _ bit.1 refl)
+
+unpacked-is : (count here ready last both : ℕ) → AreOfName count here ready last both
+    → is_surely_unpacked (slot_of here ready last) ≡ not (here == ready)
+unpacked-is count here ready last both is = by (cases_Bool (here == 0)) (cases_Bool (ready == 0)) is.phase
+  where
+    by : ((here == 0) ≡ true) ⊎ ((here == 0) ≡ false)
+        → ((ready == 0) ≡ true) ⊎ ((ready == 0) ≡ false)
+        → (ready ≡ 0) ⊎ ((ready ≡ here) × (last ≡ here))
+        → is_surely_unpacked (slot_of here ready last) ≡ not (here == ready)
+    by (inl z) r (inl none) =
+        rw (z, eq-eqb here ready (eqb-true here 0 z ∙ sym none)) refl
+    by (inl z) r (inr same) = rw (z, eq-eqb here ready (sym same.0)) refl
+    by (inr h) (inl none) c =
+        rw (h, none) (sym (ap (λ k. not (here == k)) (eqb-true ready 0 none) ∙ ap not h))
+    by (inr h) (inr some) (inl none) = absurd (both_ways _ some (eq-eqb ready 0 none))
+    by (inr h) (inr some) (inr same) = rw (h, some, eq-eqb here ready (sym same.0)) refl
+
+-- ---- all names
+
+module _ (u : Universe) (w : Words) (are : AreWords u w) where
+  abbrev differs : ℕ → Bool
+  differs n = not (slice_index w.here n == slice_index w.ready n)
+
+  abbrev unpacked : ℕ → Bool
+  unpacked n = is_surely_unpacked ((may_of w).slots n)
+
+  -- nothing is unpacked where the words of what is present and of what is configured are the same
+  pub some_unpacked-is : (t : Bool) → (t ≡ true) ↔ (w.here ≡ w.ready)
+      → not t ≡ some_below (names u) (λ n. is_surely_unpacked ((may_of w).slots n))
+  some_unpacked-is t told =
+      same_tests _ _
+      (λ other. elim (cases_Bool (some_below (names u) unpacked)) [
+        | inl some ↦ some
+        | inr none ↦ absurd (both_ways _ (not-true _ other) (told.1 (equal none)))
+      ])
+      (λ some. let at = some_below-found (names u) unpacked some in
+      not_from_false _ (elim (cases_Bool t) [
+        | inr other ↦ other
+        | inl equal_words ↦ absurd (both_ways _
+            (not-true _ (sym (unpacked-is _ _ _ _ _ (are.each at.0)) ∙ at.2))
+            (eq-eqb _ _ (ap (λ ws. slice_index ws at.0) (told.0 equal_words))))
+      ]))
+    where
+      equal : some_below (names u) unpacked ≡ false → w.here ≡ w.ready
+      equal none =
+          same_number_lists w.here w.ready (are.here_long ∙ sym are.ready_long)
+          (λ k lt. eqb-true _ _ (elim (cases_Bool (slice_index w.here k == slice_index w.ready k)) [
+            | inl same ↦ same
+            | inr other ↦ absurd (both_ways _ none (some_below-at (names u) unpacked k
+                (omega (arith, lt, are.here_long))
+                (unpacked-is _ _ _ _ _ (are.each k) ∙ not_from_false _ other)))
+          ]))
+
+-- ---- the test of a build
+
+either : (n : ℕ) (p q : ℕ → Bool) → some_below n (λ k. p k || q k) ≡ (some_below n p || some_below n q)
+either n p q =
+    same_tests _ _
+    (λ some. let at = some_below-found n (λ k. p k || q k) some in
+    elim (or_cases (p at.0) (q at.0) at.2) [
+      | inl left ↦ or_left _ _ (some_below-at n p at.0 at.1 left)
+      | inr right ↦ or_right (some_below n p) _ (some_below-at n q at.0 at.1 right)
+    ])
+    (λ some. elim (or_cases (some_below n p) (some_below n q) some) [
+      | inl left ↦ let at = some_below-found n p left in
+          some_below-at n (λ k. p k || q k) at.0 at.1 (or_left _ _ at.2)
+      | inr right ↦ let at = some_below-found n q right in
+          some_below-at n (λ k. p k || q k) at.0 at.1 (or_right (p at.0) _ at.2)
+    ])
+
+pub unsettled-is : (u : Universe) (m : May)
+    → may_be_unsettled u m
+    ≡ (some_below (names u) (λ n. is_surely_unpacked (m.slots n)) || some_misses u m)
+unfolding may_be_unsettled
+unsettled-is u m =
+    some_below-same (names u) _ _ (λ n lt. by (λ b. unmet (surely_met u m) (entries u (variant n b))) n (m.slots n))
+    ∙ either (names u) (λ n. is_surely_unpacked (m.slots n)) (misses_at u m)
+  where
+    by : (p : ℕ → Bool) (n : ℕ) (s : MaySlot)
+        → (is_surely_unpacked s || may_hold u n p s)
+        ≡ (is_surely_unpacked s || may_hold_configured u n p s)
+    by p n MayAbsent = refl
+    by p n (MayUnpacked current last) = refl
+    by p n (MayConfigured current) = refl
+
+-- ---- an instruction
+
+-- a build is safe where nothing misses an entry
+built_met : (u : Universe) (of : Lane) (m : May) (r : Recipe)
+    → first_trap (build_risks u of m r) ≡ None → some_misses u m ≡ false
+built_met u of m r none =
+    let told = (no_trap _ _ _ (no_trap _ _ _ none).1).0 in
+    implied _ _ (λ some. unsettled-is u m ∙ or_right
+    (some_below (names u) (λ n. is_surely_unpacked (m.slots n))) _ some) told
+
+pub met_step : (u : Universe) (of : Lane) (known there : Variant → Bool) (m : May)
+    → HoldSome u m → (met : Bool) → (met ≡ true → some_misses u m ≡ false)
+    → (x : Instruction) → risk u of known there m x ≡ None → stays_met met m x ≡ true
+    → some_misses u (may_after u known there m x) ≡ false
+met_step u of known there m hold met is (Unpack name wanted) none stays =
+    let parts = and_parts _ _ stays in
+    met_unpacked u there m name wanted (newest u known name wanted) (not-true _ parts.1) (is parts.0)
+met_step u of known there m hold met is (Configure members) none stays =
+    met_configured u of m members none (is stays)
+met_step u of known there m hold met is (Deconfigure members) none stays =
+    met_withdrawn u of m members may_be_deconfigured off hold is_surely_configured none (is stays)
+  where
+    off : (s : MaySlot) → is_surely_configured (may_be_deconfigured s) ≡ false
+    off MayAbsent = refl
+    off (MayUnpacked current last) = refl
+    off (MayConfigured current) = refl
+met_step u of known there m hold met is (Remove members) none stays =
+    met_withdrawn u of m members (λ s. MayAbsent) (λ s. refl) hold is_surely_present none (is stays)
+met_step u of known there m hold met is (Build r) none stays =
+    met_same u m _ (λ n. refl) (built_met u of m (recipe u r) none)
+met_step u of known there m hold met is (Publish r) none stays = met_same u m _ (λ n. refl) (is stays)
+met_step u of known there m hold met is (Wait e) none stays = is stays
+
+-- what is answered to it
+pub met_answer : (u : Universe) (of : Lane) (known there : Variant → Bool) (m : May)
+    → HoldSome u m → (met : Bool) → (met ≡ true → some_misses u m ≡ false)
+    → (x : Instruction) (next : May) (result : Result (Unit {0}) Trap)
+    → Answers u of known there m x next result
+    → (stays : Bool) → stays ≡ stays_met met m x
+    → OnOk result (stays ≡ true → some_misses u next ≡ false)
+met_answer u of known there m hold met is x next (Ok done) answer stays same =
+    λ stayed. ap (some_misses u) (sym answer.1)
+    ∙ met_step u of known there m hold met is x answer.0 (sym same ∙ stayed)
+met_answer u of known there m hold met is x next (Err trap) answer stays same = tt
