@@ -1,2 +1,3 @@
 pub mod WriteLaws
 pub mod ItemLaws
+pub mod SeriesLaws

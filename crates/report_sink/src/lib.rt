@@ -7,6 +7,6 @@ mod texts;
 mod write_sink;
 
 pub use failures::{SinkFailed, WRITE_FAILED, WriteFailed};
-pub use sink::Sink;
-pub use texts::{whether_written, write_pieces, write_text};
+pub use sink::{Sink, whether_written};
+pub use texts::{write_pieces, write_text};
 pub use write_sink::WriteSink;

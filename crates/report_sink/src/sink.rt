@@ -1,9 +1,9 @@
 //! What takes bytes.
 
-ghost use Rattle.std.specs.Prelude.{◌≡◌};
+ghost use Rattle.std.specs.Prelude.{◌≡◌, is_err};
 ghost use Rattle.report_sink.specs.Sinks.{SinkState, IsTaken};
 
-use crate::failures::SinkFailed;
+use crate::failures::{SinkFailed, WriteFailed};
 
 /// Takes bytes, until it fails for good.
 pub trait Sink {
@@ -22,4 +22,19 @@ pub trait Sink {
     /// Tells whether the sink has failed.
     fn has_failed(&self) -> bool
         ensures { result ≡ (state self.now).failed };
+}
+
+/// Tells whether what was written to a sink was written whole.
+///
+/// # Errors
+///
+/// [`WriteFailed`] where the sink has failed.
+pub fn whether_written<S: Sink>(out: &S) -> Result<(), WriteFailed>
+    ensures { is_err result ≡ (S.state out.now).failed }
+{
+    if out.has_failed() {
+        Err(WriteFailed)
+    } else {
+        Ok(())
+    }
 }

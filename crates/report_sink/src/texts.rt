@@ -5,22 +5,7 @@ ghost use Rattle.std.specs.List.{flat_map};
 ghost use Rattle.report_sink.specs.Sinks.{IsWritten};
 
 use crate::failures::WriteFailed;
-use crate::sink::Sink;
-
-/// Tells whether what was written to a sink was written whole.
-///
-/// # Errors
-///
-/// [`WriteFailed`] where the sink has failed.
-pub fn whether_written<S: Sink>(out: &S) -> Result<(), WriteFailed>
-    ensures { is_err result ≡ (S.state out.now).failed }
-{
-    if out.has_failed() {
-        Err(WriteFailed)
-    } else {
-        Ok(())
-    }
-}
+use crate::sink::{Sink, whether_written};
 
 /// Writes a text. A sink that had failed before is not written to.
 ///
