@@ -1,2 +1,2 @@
-pub mod PieceLaws
-pub mod LaneLines
+pub mod NameLaws
+pub mod CostLines

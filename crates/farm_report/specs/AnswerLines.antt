@@ -27,7 +27,10 @@ unsafe_line lane instruction trap =
     concat (codes "refused " ∷ decimal UNSAFE ∷ codes " lane " ∷ lane ∷ codes " instruction "
     ∷ decimal instruction ∷ codes " " ∷ trap ∷ codes "\n" ∷ [])
 
--- `refused 402 lanes NAME NAME ..`, by the code `STUCK`
+-- `refused 402 lanes`, by the code `STUCK`
+abbrev pub stuck_words : List ℕ
+stuck_words = concat (codes "refused " ∷ decimal STUCK ∷ codes " lanes" ∷ [])
+
+-- `refused 402 lanes NAME NAME ..`
 abbrev pub stuck_line : List (List ℕ) → List ℕ
-stuck_line names =
-    concat (codes "refused " ∷ decimal STUCK ∷ codes " lanes" ∷ spaced names ∷ codes "\n" ∷ [])
+stuck_line names = concat (stuck_words ∷ spaced names ∷ codes "\n" ∷ [])

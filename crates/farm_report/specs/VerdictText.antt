@@ -2,8 +2,8 @@
 --
 --   accepted_text, refusal_text     the lines of an acceptance and of a refusal
 --   verdict_text                    the lines of a verdict
-use Rattle.std.specs.Prelude.{ℕ, zero, suc, ◌==◌, if◌then◌else◌, List, [], ◌∷◌, ◌++◌, length, codes, Result, Ok, Err}
-use Rattle.std.specs.List.{concat}
+use Rattle.std.specs.Prelude.{ℕ, ◌==◌, if◌then◌else◌, List, [], ◌∷◌, length, codes, Result, Ok, Err}
+use Rattle.std.specs.List.{concat, flat_map, range_with_len}
 use Rattle.deb_text.specs.Lists.{lists}
 use Rattle.deb_text.specs.declared.files.TheConstants.{PACKAGES, SOURCES, FARM, PLAN}
 use Rattle.farm_model.specs.TrapText.{trap_text}
@@ -20,18 +20,17 @@ file_name file =
     if file == PACKAGES then codes "packages" else if file == SOURCES then codes "sources"
     else if file == FARM then codes "farm" else if file == PLAN then codes "plan" else []
 
--- the lines of the first n lanes, each with its cost and its budget
-abbrev pub lane_lines : AcceptedPlan → ℕ → List ℕ
-lane_lines a zero = []
-lane_lines a (suc n) =
-    lane_lines a n ++ lane_line (lane a.plan n).name (lane_cost a.universe a.plan (known_rows a) n)
-    (lane a.plan n).budget
+-- the line of a lane, with its cost and its budget
+abbrev pub cost_line : AcceptedPlan → ℕ → List ℕ
+cost_line a l = lane_line (lane a.plan l).name (lane_cost a.universe a.plan (known_rows a) l)
+    (lane a.plan l).budget
 
 -- an acceptance: how many lanes and events there are, and the lanes in file order
 abbrev pub accepted_text : AcceptedPlan → List ℕ
 accepted_text a =
     concat (codes "accepted\n" ∷ counted_line (codes "lanes") (length a.plan)
-    ∷ counted_line (codes "count") (count a.universe a.plan) ∷ lane_lines a (length a.plan) ∷ [])
+    ∷ counted_line (codes "count") (count a.universe a.plan)
+    ∷ flat_map (cost_line a) (range_with_len 0 (length a.plan)) ∷ [])
 
 -- the one line of a refusal; the program never prints that of want of memory
 abbrev pub refusal_text : Refusal → List ℕ

@@ -1,61 +1,50 @@
-//! The lines of an answer, each put behind a text. Where memory is refused, some of a line may
-//! stand there.
+//! The lines of an answer, each written to a sink. A sink that had failed before is not written
+//! to.
 
-ghost use Rattle.std.specs.Prelude.{◌≡◌, ◌++◌, OnOk, map};
-ghost use Rattle.std.specs.List.{concat};
+ghost use Rattle.std.specs.Prelude.{◌≡◌, is_err};
 ghost use Rattle.deb_text.specs.Lists.{lists};
 ghost use Rattle.deb_text.specs.Words.{spaced};
 ghost use Rattle.farm_report.specs.AnswerLines.{counted_line, lane_line, fault_line, unsafe_line, stuck_line};
+ghost use Rattle.report_sink.specs.Sinks.{IsWritten};
 
+use itoa::Buffer;
 use plan_verifier::{STUCK, UNSAFE};
-use std::alloc::{AllocError, Global};
-
-/// Puts pieces of text behind a text.
-fn push_pieces(text: &mut Vec<u8>, pieces: &[&[u8]]) -> Result<(), AllocError>
-    ensures { OnOk result
-        (text.new.items ≡ text.old.items ++ concat (map (λ piece. piece.now) pieces.now)) }
-{
-    for piece in pieces {
-        text.extend_from_slice(piece)?;
-    }
-    Ok(())
-}
+use report_sink::{Sink, WriteFailed, whether_written, write_pieces, write_text};
 
 /// A line of a word and a number, as `lanes 2`.
 ///
 /// # Errors
 ///
-/// [`AllocError`] where memory is refused.
-pub fn push_counted(
-    alloc: Global,
-    text: &mut Vec<u8>,
-    word: &[u8],
-    number: u64,
-) -> Result<(), AllocError>
-    ensures { OnOk result (text.new.items ≡ text.old.items ++ counted_line word.now number) }
+/// [`WriteFailed`] where the sink has failed. It has then taken a first part of the line.
+pub fn write_counted<S: Sink>(out: &mut S, word: &[u8], number: u64) -> Result<(), WriteFailed>
+    ensures written { IsWritten (S.state out.old) (S.state out.new) (counted_line word.now number) }
+    ensures told { is_err result ≡ (S.state out.new).failed }
 {
-    let number = format!(in alloc; "{number}")?;
-    push_pieces(text, &[word, b" ", number.as_bytes(), b"\n"])
+    let mut digits = Buffer::new();
+    let number = digits.format(number);
+    write_pieces(out, &[word, b" ", number.as_bytes(), b"\n"])
 }
 
 /// The line of a lane in an acceptance, as `lane a cost 4 budget 4`.
 ///
 /// # Errors
 ///
-/// [`AllocError`] where memory is refused.
-pub fn push_lane(
-    alloc: Global,
-    text: &mut Vec<u8>,
+/// [`WriteFailed`] where the sink has failed. It has then taken a first part of the line.
+pub fn write_lane<S: Sink>(
+    out: &mut S,
     name: &[u8],
     cost: u64,
     budget: u64,
-) -> Result<(), AllocError>
-    ensures { OnOk result (text.new.items ≡ text.old.items ++ lane_line name.now cost budget) }
+) -> Result<(), WriteFailed>
+    ensures written { IsWritten (S.state out.old) (S.state out.new)
+        (lane_line name.now cost budget) }
+    ensures told { is_err result ≡ (S.state out.new).failed }
 {
-    let cost = format!(in alloc; "{cost}")?;
-    let budget = format!(in alloc; "{budget}")?;
-    push_pieces(
-        text,
+    let (mut cost_digits, mut budget_digits) = (Buffer::new(), Buffer::new());
+    let cost = cost_digits.format(cost);
+    let budget = budget_digits.format(budget);
+    write_pieces(
+        out,
         &[
             b"lane ",
             name,
@@ -72,20 +61,22 @@ pub fn push_lane(
 ///
 /// # Errors
 ///
-/// [`AllocError`] where memory is refused.
-pub fn push_fault(
-    alloc: Global,
-    text: &mut Vec<u8>,
+/// [`WriteFailed`] where the sink has failed. It has then taken a first part of the line.
+pub fn write_fault<S: Sink>(
+    out: &mut S,
     code: u16,
     file: &[u8],
     line: u32,
-) -> Result<(), AllocError>
-    ensures { OnOk result (text.new.items ≡ text.old.items ++ fault_line code file.now line) }
+) -> Result<(), WriteFailed>
+    ensures written { IsWritten (S.state out.old) (S.state out.new)
+        (fault_line code file.now line) }
+    ensures told { is_err result ≡ (S.state out.new).failed }
 {
-    let code = format!(in alloc; "{code}")?;
-    let line = format!(in alloc; "{line}")?;
-    push_pieces(
-        text,
+    let (mut code_digits, mut line_digits) = (Buffer::new(), Buffer::new());
+    let code = code_digits.format(code);
+    let line = line_digits.format(line);
+    write_pieces(
+        out,
         &[
             b"refused ",
             code.as_bytes(),
@@ -102,21 +93,22 @@ pub fn push_fault(
 ///
 /// # Errors
 ///
-/// [`AllocError`] where memory is refused.
-pub fn push_unsafe(
-    alloc: Global,
-    text: &mut Vec<u8>,
+/// [`WriteFailed`] where the sink has failed. It has then taken a first part of the line.
+pub fn write_unsafe<S: Sink>(
+    out: &mut S,
     lane: &[u8],
     instruction: u32,
     trap: &[u8],
-) -> Result<(), AllocError>
-    ensures { OnOk result
-        (text.new.items ≡ text.old.items ++ unsafe_line lane.now instruction trap.now) }
+) -> Result<(), WriteFailed>
+    ensures written { IsWritten (S.state out.old) (S.state out.new)
+        (unsafe_line lane.now instruction trap.now) }
+    ensures told { is_err result ≡ (S.state out.new).failed }
 {
-    let code = format!(in alloc; "{UNSAFE}")?;
-    let instruction = format!(in alloc; "{instruction}")?;
-    push_pieces(
-        text,
+    let (mut code_digits, mut place_digits) = (Buffer::new(), Buffer::new());
+    let code = code_digits.format(UNSAFE);
+    let instruction = place_digits.format(instruction);
+    write_pieces(
+        out,
         &[
             b"refused ",
             code.as_bytes(),
@@ -131,26 +123,29 @@ pub fn push_unsafe(
     )
 }
 
-/// Puts names behind a text, each behind a space.
-fn push_names(text: &mut Vec<u8>, names: &[Vec<u8>]) -> Result<(), AllocError>
-    ensures { OnOk result (text.new.items ≡ text.old.items ++ spaced (lists names.now)) }
+/// Names, each behind a space.
+fn write_names<S: Sink>(out: &mut S, names: &[Vec<u8>]) -> Result<(), WriteFailed>
+    ensures written { IsWritten (S.state out.old) (S.state out.new) (spaced (lists names.now)) }
+    ensures told { is_err result ≡ (S.state out.new).failed }
 {
     for name in names {
-        push_pieces(text, &[b" ", name.as_slice()])?;
+        write_pieces(out, &[b" ", name.as_slice()])?;
     }
-    Ok(())
+    whether_written(out)
 }
 
 /// The line of stuck lanes, as `refused 402 lanes a b`.
 ///
 /// # Errors
 ///
-/// [`AllocError`] where memory is refused.
-pub fn push_stuck(alloc: Global, text: &mut Vec<u8>, lanes: &[Vec<u8>]) -> Result<(), AllocError>
-    ensures { OnOk result (text.new.items ≡ text.old.items ++ stuck_line (lists lanes.now)) }
+/// [`WriteFailed`] where the sink has failed. It has then taken a first part of the line.
+pub fn write_stuck<S: Sink>(out: &mut S, lanes: &[Vec<u8>]) -> Result<(), WriteFailed>
+    ensures written { IsWritten (S.state out.old) (S.state out.new) (stuck_line (lists lanes.now)) }
+    ensures told { is_err result ≡ (S.state out.new).failed }
 {
-    let code = format!(in alloc; "{STUCK}")?;
-    push_pieces(text, &[b"refused ", code.as_bytes(), b" lanes"])?;
-    push_names(text, lanes)?;
-    push_pieces(text, &[b"\n"])
+    let mut code_digits = Buffer::new();
+    let code = code_digits.format(STUCK);
+    write_pieces(out, &[b"refused ", code.as_bytes(), b" lanes"])?;
+    write_names(out, lanes)?;
+    write_text(out, b"\n")
 }

@@ -1,13 +1,14 @@
 //! The verdict as it is printed.
 
-ghost use Rattle.std.specs.Prelude.{◌≡◌, ◌++◌, OnOk, IfOk, length};
-ghost use Rattle.deb_text.specs.Lists.{lists};
+ghost use Rattle.std.specs.Prelude.{◌≡◌, IfOk, is_err, length};
+ghost use Rattle.std.specs.List.{flat_map, range_with_len};
 ghost use Rattle.farm_report.specs.VerdictText as spec;
+ghost use Rattle.report_sink.specs.Sinks.{IsWritten};
 
-use crate::lines::{push_counted, push_fault, push_lane, push_stuck, push_unsafe};
-use deb_text::Fault;
+use crate::lines::{write_counted, write_fault, write_lane, write_stuck, write_unsafe};
 use deb_text::files::{FARM, PACKAGES, PLAN, SOURCES};
 use plan_verifier::{Accepted, Refusal};
+use report_sink::{Sink, WriteFailed, WriteSink, whether_written, write_text};
 use std::alloc::{AllocError, Global};
 
 /// The name of a text, as faults tell it; no name for another number.
@@ -23,49 +24,70 @@ fn file_name(file: u8) -> &'static str
     }
 }
 
-fn push_lanes(alloc: Global, text: &mut Vec<u8>, accepted: &Accepted) -> Result<(), AllocError>
-    ensures { OnOk result (text.new.items
-        ≡ text.old.items ++ spec.lane_lines accepted.now (length accepted.now.plan)) }
+fn write_lanes<S: Sink>(out: &mut S, accepted: &Accepted) -> Result<(), WriteFailed>
+    ensures written { IsWritten (S.state out.old) (S.state out.new)
+        (flat_map (spec.cost_line accepted.now)
+        (range_with_len 0 (length accepted.now.plan))) }
+    ensures told { is_err result ≡ (S.state out.new).failed }
 {
     let plan = accepted.plan();
     for number in 0..plan.lanes() {
         let lane = plan.lane(number);
         let cost = accepted.lane_cost(number);
-        push_lane(alloc, text, lane.name(), cost, lane.budget())?;
+        write_lane(out, lane.name(), cost, lane.budget())?;
     }
-    Ok(())
+    whether_written(out)
 }
 
-fn push_accepted(alloc: Global, text: &mut Vec<u8>, accepted: &Accepted) -> Result<(), AllocError>
-    ensures { OnOk result (text.new.items ≡ text.old.items ++ spec.accepted_text accepted.now) }
+fn write_accepted<S: Sink>(out: &mut S, accepted: &Accepted) -> Result<(), WriteFailed>
+    ensures written { IsWritten (S.state out.old) (S.state out.new)
+        (spec.accepted_text accepted.now) }
+    ensures told { is_err result ≡ (S.state out.new).failed }
 {
     let plan = accepted.plan();
-    text.extend_from_slice(b"accepted\n")?;
-    push_counted(alloc, text, b"lanes", plan.lanes() as u64)?;
-    push_counted(alloc, text, b"count", plan.count() as u64)?;
-    push_lanes(alloc, text, accepted)
+    write_text(out, b"accepted\n")?;
+    write_counted(out, b"lanes", plan.lanes() as u64)?;
+    write_counted(out, b"count", plan.count() as u64)?;
+    write_lanes(out, accepted)
 }
 
-fn push_refusal(alloc: Global, text: &mut Vec<u8>, refusal: &Refusal) -> Result<(), AllocError>
-    ensures { OnOk result (text.new.items ≡ text.old.items ++ spec.refusal_text refusal.now) }
+fn write_refusal<S: Sink>(out: &mut S, refusal: &Refusal) -> Result<(), WriteFailed>
+    ensures written { IsWritten (S.state out.old) (S.state out.new)
+        (spec.refusal_text refusal.now) }
+    ensures told { is_err result ≡ (S.state out.new).failed }
 {
     match refusal {
         Refusal::Text(fault) => {
-            push_fault(
-                alloc,
-                text,
-                fault.code,
-                file_name(fault.file).as_bytes(),
-                fault.line,
-            )
+            let file = file_name(fault.file);
+            write_fault(out, fault.code, file.as_bytes(), fault.line)
         }
         Refusal::Unsafe {
             lane,
             instruction,
             trap,
-        } => push_unsafe(alloc, text, lane, *instruction, trap.text().as_bytes()),
-        Refusal::Stuck { lanes } => push_stuck(alloc, text, lanes),
-        Refusal::Memory => text.extend_from_slice(b"refused 900\n"),
+        } => write_unsafe(out, lane, *instruction, trap.text().as_bytes()),
+        Refusal::Stuck { lanes } => write_stuck(out, lanes),
+        Refusal::Memory => write_text(out, b"refused 900\n"),
+    }
+}
+
+/// Writes the lines of a verdict. It takes no memory, and a sink that had failed before is not
+/// written to.
+///
+/// # Errors
+///
+/// [`WriteFailed`] where the sink has failed. It has then taken a first part of the lines.
+pub fn write_check<S: Sink>(
+    out: &mut S,
+    verdict: &Result<Accepted, Refusal>,
+) -> Result<(), WriteFailed>
+    ensures written { IsWritten (S.state out.old) (S.state out.new)
+        (spec.verdict_text verdict.now) }
+    ensures told { is_err result ≡ (S.state out.new).failed }
+{
+    match verdict {
+        Ok(accepted) => write_accepted(out, accepted),
+        Err(refusal) => write_refusal(out, refusal),
     }
 }
 
@@ -80,10 +102,9 @@ pub fn verdict_text(
 ) -> Result<Vec<u8>, AllocError>
     ensures { IfOk result (λ text. text.items ≡ spec.verdict_text verdict.now) }
 {
-    let mut text = Vec::new(alloc);
-    match verdict {
-        Ok(accepted) => push_accepted(alloc, &mut text, accepted)?,
-        Err(refusal) => push_refusal(alloc, &mut text, refusal)?,
+    let mut out = WriteSink::new(Vec::new(alloc));
+    match write_check(&mut out, verdict) {
+        Ok(()) => Ok(out.into_inner()),
+        Err(WriteFailed) => Err(AllocError),
     }
-    Ok(text)
 }
