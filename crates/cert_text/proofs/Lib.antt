@@ -1,2 +1,5 @@
+pub mod LineRows
 pub mod PlaceLists
 pub mod RowLists
+pub mod RowsSoFar
+pub mod Searches

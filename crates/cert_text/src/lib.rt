@@ -4,10 +4,14 @@
 
 mod certificate;
 mod fault;
+mod line;
+mod list;
 mod places;
 mod printer;
+mod reader;
 
 pub use certificate::Certificate;
 pub use farm_model::Trap;
 pub use fault::{BAD_ORDER, BAD_TEXT, CertFault, NOT_JUSTIFIED, UNSAFE};
 pub use printer::print;
+pub use reader::read;

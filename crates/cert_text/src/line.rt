@@ -1,0 +1,95 @@
+//! A line of a certificate by itself.
+
+ghost use Rattle.std.specs.Prelude.{◌≡◌, ◌<◌, length, IfOk, IfSome};
+ghost use Rattle.cert_text.specs.CertLines.{is_head, numbered_row, known_row, lane_names, order_lane};
+ghost use Rattle.deb_text.specs.Groups.{place_in};
+ghost use Rattle.std.specs.Str.{bytes_eq};
+
+use crate::list::read_row;
+use bit_rows::Row;
+use deb_text::{Class, cut_at_first, next_word, read_number, skip_front, split_front};
+use farm_universe::Universe;
+use plan_asm::Plan;
+use std::alloc::{AllocError, Global};
+
+/// Tells whether a line is `cert 1`.
+#[tactic(auto, unfolding(crate::specs::CertLines::is_head))]
+pub fn is_head(line: &[u8]) -> bool
+    ensures { result ≡ is_head line.now }
+{
+    let Some((word, rest)) = next_word(line) else {
+        return false;
+    };
+    let Some((version, rest)) = next_word(rest) else {
+        return false;
+    };
+    next_word(rest).is_none() && word == b"cert".as_slice() && version == b"1".as_slice()
+}
+
+/// The row behind this number and its colon.
+#[tactic(auto, unfolding(crate::specs::CertLines::numbered_row))]
+fn read_numbered(
+    alloc: Global,
+    universe: &Universe,
+    number: u32,
+    text: &[u8],
+) -> Result<Option<Row>, AllocError>
+    ensures { IfOk result (λ row. row ≡ numbered_row universe.now number text.now) }
+{
+    let Some((digits, list)) = cut_at_first(b':', text) else {
+        return Ok(None);
+    };
+    match read_number(digits) {
+        Some(n) => {
+            if n != u64::from(number) {
+                return Ok(None);
+            }
+            read_row(alloc, universe, list)
+        }
+        None => Ok(None),
+    }
+}
+
+/// The row of a line `known NAME NUMBER: ..` of this name and number, if the line is one.
+#[tactic(auto, unfolding(crate::specs::CertLines::known_row))]
+pub fn read_known(
+    alloc: Global,
+    universe: &Universe,
+    name: &[u8],
+    number: u32,
+    line: &[u8],
+) -> Result<Option<Row>, AllocError>
+    ensures { IfOk result (λ row. row ≡ known_row universe.now name.now number line.now) }
+{
+    let (word, rest) = split_front(Class::Solid, skip_front(Class::Blank, line));
+    let (lane, rest) = split_front(Class::Solid, skip_front(Class::Blank, rest));
+    if word != b"known".as_slice() || lane != name {
+        return Ok(None);
+    }
+    read_numbered(alloc, universe, number, skip_front(Class::Blank, rest))
+}
+
+/// The number of the lane of a name.
+fn lane_of(plan: &Plan, name: &[u8]) -> Option<u32>
+    ensures { result ≡ place_in bytes_eq (lane_names plan.now.lanes) name.now }
+{
+    for number in 0..plan.lanes() {
+        if name == plan.lane(number).name() {
+            return Some(number as u32);
+        }
+    }
+    None
+}
+
+/// The lane of a line `order LANE`, if the line is one.
+#[tactic(auto, unfolding(crate::specs::CertLines::order_lane))]
+pub fn read_order(plan: &Plan, line: &[u8]) -> Option<u32>
+    ensures { result ≡ order_lane plan.now.lanes line.now }
+{
+    let (word, rest) = next_word(line)?;
+    let (name, rest) = next_word(rest)?;
+    if next_word(rest).is_some() || word != b"order".as_slice() {
+        return None;
+    }
+    lane_of(plan, name)
+}

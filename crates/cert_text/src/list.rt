@@ -1,0 +1,108 @@
+//! The row of a list of variants.
+
+ghost use Rattle.std.specs.Prelude.{◌≡◌, ◌<◌, None, All, length, IfOk, IfSome};
+ghost use Rattle.std.specs.Option.{option_map};
+ghost use Rattle.cert_text.specs.Rows.{IsIn, find_variant, item_variant, is_behind, variants_behind, row_at};
+ghost use Rattle.farm_model.specs.Packages.{names, initial};
+ghost use Rattle.farm_universe.specs.Kept.{IsKept};
+ghost use Rattle.farm_universe.specs.ListText.{words_of};
+
+use bit_rows::Row;
+use deb_relation::{Entry, Kind, Relations};
+use deb_text::MEMORY;
+use deb_version::Version;
+use farm_model::Variant;
+use farm_universe::Universe;
+use std::alloc::{AllocError, Global};
+
+/// The variant of a name with this version, however it is written.
+#[tactic(auto, unfolding(crate::specs::Rows::find_variant))]
+fn find_variant(universe: &Universe, name: &[u8], version: &Version) -> Option<Variant>
+    ensures found { result ≡ find_variant universe.now name.now version.now }
+    ensures known { IfSome result (IsIn universe.now) }
+{
+    let number = universe.find(name)?;
+    for bit in 0..universe.variants(number) {
+        let variant = Variant { name: number, bit };
+        if version.compare(universe.version(variant)).is_eq() {
+            return Some(variant);
+        }
+    }
+    None
+}
+
+/// The variant of an item `NAME (= VERSION)`.
+#[tactic(auto, unfolding(crate::specs::Rows::item_variant, farm_universe::specs::ListText::pinned))]
+fn item_variant(universe: &Universe, item: &Entry) -> Option<Variant>
+    ensures found { result ≡ item_variant universe.now item.now }
+    ensures known { IfSome result (IsIn universe.now) }
+{
+    let [atom] = item.alternatives() else {
+        return None;
+    };
+    if atom.qualifier.is_some() {
+        return None;
+    }
+    match &atom.relation {
+        Some((_, version)) => find_variant(universe, &atom.name, version),
+        None => None,
+    }
+}
+
+/// Tells whether a variant has a later name than the last one or, of the same name, a higher bit.
+fn is_behind(last: Option<Variant>, variant: Variant) -> bool
+    ensures { result ≡ is_behind last variant }
+{
+    match last {
+        Some(last) => {
+            last.name < variant.name || last.name == variant.name && last.bit < variant.bit
+        }
+        None => true,
+    }
+}
+
+#[tactic(auto, unfolding(farm_model::specs::Packages::initial, farm_model::specs::Packages::has_bit))]
+fn is_initial(universe: &Universe, variant: Variant) -> bool
+    requires name { variant.name < names universe.now }
+    requires bit { variant.bit < 64 }
+    ensures { result ≡ initial universe.now variant }
+{
+    universe.initial(variant.name) >> variant.bit & 1 == 1
+}
+
+/// The row of the variants of these items, where each comes behind the one before it and none is in
+/// the initial archive.
+fn row_of(alloc: Global, universe: &Universe, items: &[Entry]) -> Result<Option<Row>, AllocError>
+    ensures { IfOk result (λ row. row
+        ≡ option_map (words_of (names universe.now)) (variants_behind universe.now None items.now)) }
+{
+    let mut row = Row::new(alloc, universe.names() as usize)?;
+    let mut last = None;
+    for item in items {
+        let Some(variant) = item_variant(universe, item) else {
+            return Ok(None);
+        };
+        if !is_behind(last, variant) || is_initial(universe, variant) {
+            return Ok(None);
+        }
+        row.set_bit(variant.name as usize, variant.bit)?;
+        last = Some(variant);
+    }
+    Ok(Some(row))
+}
+
+/// The row that a list of variants says, if it says one.
+#[tactic(auto, unfolding(crate::specs::Rows::row_at))]
+pub fn read_row(alloc: Global, universe: &Universe, text: &[u8]) -> Result<Option<Row>, AllocError>
+    ensures { IfOk result (λ row. row ≡ row_at universe.now text.now) }
+{
+    match Relations::parse(alloc, text, Kind::Provide) {
+        Ok(items) => row_of(alloc, universe, items.entries()),
+        Err(error) => {
+            if error.code == MEMORY {
+                return Err(AllocError);
+            }
+            Ok(None)
+        }
+    }
+}
