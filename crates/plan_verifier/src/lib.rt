@@ -13,6 +13,7 @@ mod walk;
 
 pub use accepted::Accepted;
 pub use costs::{check_lanes, walk_lanes};
+pub use possible::{add_outputs, possible_row};
 pub use refusal::{Refusal, STUCK, UNSAFE};
 pub use texts::{Planned, read_texts};
 pub use verdict::check;
