@@ -1,4 +1,6 @@
 pub mod RowLaws
+pub mod ColumnLaws
+pub mod NumberLaws
 pub mod Gathered
 pub mod Pairs
 pub mod TableLaws

@@ -1,11 +1,20 @@
--- The value of a variant among those of all.
-use Rattle.std.proofs.Common.{◌≡◌, ◌<◌, List, [], length, get_or, refl, subst, arith}
-use Rattle.std.proofs.lemmas.Option.{slice_get_read, get_or_from_slice_get}
+-- What is read of the tables.
+use Rattle.std.proofs.Common.{◌≡◌, ℕ, zero, suc, ◌<◌, ◌&&◌, nat_lt, List, [], ◌∷◌, Some, length, get_or, refl, sym, ap, ◌∙◌, subst, arith}
+use Rattle.std.specs.List.{AllZip, slice_get}
+use Rattle.std.proofs.lemmas.List.{get_or_default}
+use Rattle.std.proofs.lemmas.Option.{slice_get_read, slice_get_within, get_or_from_slice_get}
+use Rattle.deb_relation.specs.Relations.{Atom, Entry}
 use Rattle.farm_model.specs.declared.types.Variant.{Variant}
 use Rattle.farm_model.specs.Universe.{Universe}
+use Rattle.farm_model.specs.Packages.{variant, variants, pre_depends, depends, recipe, satisfies, satisfies_entry}
 use Rattle.farm_model.specs.Sound.{IsKnown}
 use Rattle.farm_universe.proofs.PlaceLaws.{named}
 use Rattle.sat_rows.specs.ByVariant.{AreOfName, AreOfEach}
+use Rattle.sat_rows.specs.Entries.{Numbers, PreNumbers, IsNumberOf, IsPreNumbers, AreNumbers, no_numbers, no_pre_numbers}
+use Rattle.sat_rows.specs.Rows.{IsRowOf, entry_at}
+use Rattle.sat_rows.specs.Tables.{AreEntryRows}
+use Rattle.sat_rows.proofs.FoundLaws.{or_false}
+use Rattle.sat_rows.proofs.Pairs.{paired_within, paired_at, paired_with}
 
 module _ {T : Type 0} (u : Universe) (Is : Variant → T → Type 0) (none : T) (lists : List (List T))
     (all : AreOfEach u Is none lists) (v : Variant) (known : IsKnown u v) where
@@ -26,3 +35,106 @@ module _ {T : Type 0} (u : Universe) (Is : Variant → T → Type 0) (none : T) 
 
     pub value_at : Is v (get_or here v.bit none)
     value_at = name_at.each v.bit known
+
+-- what stands at a place within the list
+pub read_at : (e : Entry) (j : ℕ) → j < length e → (a : Atom) × (slice_get e j ≡ Some a)
+read_at [] j lt = absurd (omega arith)
+read_at (a ∷ e) zero lt = (a, refl)
+read_at (a ∷ e) (suc j) lt = read_at e j (omega arith)
+
+-- an entry with one alternative
+pub one_alternative : (u : Universe) (a : Atom) (row : List ℕ)
+    → IsRowOf u (satisfies_entry u (a ∷ [])) row → IsRowOf u (satisfies u a) row
+one_alternative u a row is =
+    record {
+      long = is.long;
+      set = λ n b.
+          is.set n b ∙ ap (λ x. nat_lt b (variants u n) && x) (or_false (satisfies u a (variant n b)));
+    }
+
+module _ (u : Universe) (by_name : List (List Numbers)) (by_recipe rows : List (List ℕ))
+    (kept : AreEntryRows u by_name by_recipe rows) where
+  -- where an entry is numbered, its row stands
+  pub row_within : (e : Entry) (n : ℕ) → IsNumberOf kept.entries e n → n < length rows
+  row_within e n is =
+      let lt = slice_get_within kept.entries n e is in omega (arith, lt, kept.rows_of.long)
+
+  pub row_at : (e : Entry) (n : ℕ) (row : List ℕ) → IsNumberOf kept.entries e n
+      → row ≡ get_or rows n row → IsRowOf u (satisfies_entry u e) row
+  row_at e n row is read =
+      subst (IsRowOf u (satisfies_entry u e))
+      (get_or_default rows n [] row (row_within e n is) ∙ sym read) (kept.rows_of.each n e is)
+
+  module _ (v : Variant) (known : IsKnown u v) where
+    pub numbers_within : v.name < length by_name
+    numbers_within =
+        name_within u (AreNumbers u kept.entries) no_numbers by_name kept.variants v known
+
+    module _ (here : List Numbers) (is : here ≡ get_or by_name v.name here) where
+      pub variant_within : v.bit < length here
+      variant_within =
+          bit_within u (AreNumbers u kept.entries) no_numbers by_name kept.variants v known here is
+
+      module _ (numbers : Numbers) (at : numbers ≡ get_or here v.bit no_numbers) where
+        are : AreNumbers u kept.entries v numbers
+        are =
+            subst (AreNumbers u kept.entries v) (sym at)
+            (value_at u (AreNumbers u kept.entries) no_numbers by_name kept.variants v known here is)
+
+        pub depends_within : (i : ℕ) → i < length (depends u v) → i < length numbers.depends
+        depends_within i lt =
+            paired_within (IsNumberOf kept.entries) (depends u v) numbers.depends i are.depends lt
+
+        pub depends_number : (i n : ℕ) → i < length (depends u v)
+            → n ≡ get_or numbers.depends i 0
+            → IsNumberOf kept.entries (entry_at (depends u v) i) n
+        depends_number i n lt e =
+            subst (IsNumberOf kept.entries (entry_at (depends u v) i)) (sym e)
+            (paired_at (IsNumberOf kept.entries) (depends u v) numbers.depends i [] 0 are.depends lt)
+
+        pub pre_within : (i : ℕ) → i < length (pre_depends u v) → i < length numbers.pre_depends
+        pre_within i lt =
+            paired_within (IsPreNumbers kept.entries) (pre_depends u v) numbers.pre_depends i
+            are.pre_depends lt
+
+        pub pre_numbers : (i : ℕ) (pre : PreNumbers) → i < length (pre_depends u v)
+            → pre ≡ get_or numbers.pre_depends i no_pre_numbers
+            → IsPreNumbers kept.entries (entry_at (pre_depends u v) i) pre
+        pre_numbers i pre lt e =
+            subst (IsPreNumbers kept.entries (entry_at (pre_depends u v) i)) (sym e)
+            (paired_at (IsPreNumbers kept.entries) (pre_depends u v) numbers.pre_depends i []
+            no_pre_numbers are.pre_depends lt)
+
+  -- the alternative of a number
+  pub alternative_within : (e : Entry) (pre : PreNumbers) (j : ℕ) → IsPreNumbers kept.entries e pre
+      → j < length e → j < length pre.alternatives
+  alternative_within e pre j is lt =
+      paired_within (λ a n. IsNumberOf kept.entries (a ∷ []) n) e pre.alternatives j is.alternatives lt
+
+  pub alternative_number : (e : Entry) (pre : PreNumbers) (j n : ℕ) (a : Atom)
+      → IsPreNumbers kept.entries e pre → n ≡ get_or pre.alternatives j 0 → slice_get e j ≡ Some a
+      → IsNumberOf kept.entries (a ∷ []) n
+  alternative_number e pre j n a is at there =
+      subst (IsNumberOf kept.entries (a ∷ [])) (sym at)
+      (paired_with (λ a n. IsNumberOf kept.entries (a ∷ []) n) e pre.alternatives j a 0
+      is.alternatives there)
+
+  module _ (r : ℕ) (lt : r < length u.recipes) where
+    pub needs_within : r < length by_recipe
+    needs_within = omega (arith, lt, kept.needs.long)
+
+    module _ (here : List ℕ) (is : here ≡ get_or by_recipe r here) where
+      all : AllZip (IsNumberOf kept.entries) (recipe u r).needs here
+      all =
+          subst (AllZip (IsNumberOf kept.entries) (recipe u r).needs)
+          (get_or_default by_recipe r [] here needs_within ∙ sym is) (kept.needs.each r lt)
+
+      pub need_within : (i : ℕ) → i < length (recipe u r).needs → i < length here
+      need_within i there =
+          paired_within (IsNumberOf kept.entries) (recipe u r).needs here i all there
+
+      pub need_number : (i n : ℕ) → i < length (recipe u r).needs → n ≡ get_or here i 0
+          → IsNumberOf kept.entries (entry_at (recipe u r).needs i) n
+      need_number i n there e =
+          subst (IsNumberOf kept.entries (entry_at (recipe u r).needs i)) (sym e)
+          (paired_at (IsNumberOf kept.entries) (recipe u r).needs here i [] 0 all there)

@@ -2,5 +2,7 @@ pub mod Rows
 pub mod Index
 pub mod Found
 pub mod ByVariant
-pub mod RecipeRows
+pub mod Entries
+pub mod Others
+pub mod Clashes
 pub mod Tables

@@ -1,6 +1,6 @@
 //! The variants that pass a test, looked for among those that an index lists.
 
-ghost use Rattle.std.specs.Prelude.{◌≡◌, ◌<◌, ◌++◌, [], IfOk, OnOk, length, filter};
+ghost use Rattle.std.specs.Prelude.{◌≡◌, ◌<◌, ◌++◌, [], IsTrue, IfOk, OnOk, length, filter};
 ghost use Rattle.farm_model.specs.Packages.{satisfies, satisfies_entry, satisfies_any, conflict, breaks};
 ghost use Rattle.farm_model.specs.Sound.{IsKnown};
 ghost use Rattle.sat_rows.specs.Index.{IsNaming, IsProviding, AreIndexes};
@@ -71,6 +71,13 @@ impl Found {
         &self.variants
     }
 
+    /// Tells whether the same variants were found in the same order.
+    pub fn is_same(&self, other: &Found) -> bool
+        ensures { IsTrue result → self.now ≡ other.now }
+    {
+        self.variants == other.variants
+    }
+
     /// Puts those of some variants that pass.
     fn add_passing<T: VariantTest>(
         &mut self,
@@ -110,13 +117,13 @@ impl Found {
         &mut self,
         universe: &Universe,
         providers: &Index,
-        entry: &Entry,
+        entry: &[Atom],
     ) -> Result<(), AllocError>
         requires { IsProviding universe.now providers.now }
         ensures { OnOk result
             (Finds universe.now (satisfies_entry universe.now entry.now) self.old self.new) }
     {
-        for atom in entry.alternatives() {
+        for atom in entry {
             self.add_atom(universe, providers, atom)?;
         }
         Ok(())
@@ -134,7 +141,7 @@ impl Found {
             (Finds universe.now (satisfies_any universe.now field.now) self.old self.new) }
     {
         for entry in field.entries() {
-            self.add_entry(universe, providers, entry)?;
+            self.add_entry(universe, providers, entry.alternatives())?;
         }
         Ok(())
     }
@@ -216,32 +223,13 @@ pub fn satisfying(
     alloc: Global,
     universe: &Universe,
     providers: &Index,
-    entry: &Entry,
+    entry: &[Atom],
 ) -> Result<Found, AllocError>
     requires { IsProviding universe.now providers.now }
     ensures { IfOk result (IsFound universe.now (satisfies_entry universe.now entry.now)) }
 {
     let mut found = Found::new(alloc);
     found.add_entry(universe, providers, entry)?;
-    Ok(found)
-}
-
-/// The variants that satisfy an alternative.
-///
-/// # Errors
-///
-/// [`AllocError`] where memory is refused.
-pub fn satisfying_atom(
-    alloc: Global,
-    universe: &Universe,
-    providers: &Index,
-    atom: &Atom,
-) -> Result<Found, AllocError>
-    requires { IsProviding universe.now providers.now }
-    ensures { IfOk result (IsFound universe.now (satisfies universe.now atom.now)) }
-{
-    let mut found = Found::new(alloc);
-    found.add_atom(universe, providers, atom)?;
     Ok(found)
 }
 

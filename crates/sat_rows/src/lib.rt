@@ -1,12 +1,15 @@
 //! Which variants of a universe satisfy which entries, and which exclude each other, as rows.
 #![tactic(auto)]
 
+mod clashes;
+mod entries;
+mod entry_rows;
 mod found;
 mod index;
-mod recipe_rows;
+mod numbers;
+mod others;
 mod row;
 mod tables;
-mod variant_rows;
 mod word;
 
 pub use row::entry_row;

@@ -1,59 +1,39 @@
-//! The rows of every variant of a universe.
+//! The rows of every variant and of every recipe of a universe.
 
-ghost use Rattle.std.specs.Prelude.{◌≡◌, ◌<◌, Bool, IfOk, length, slice_index_or};
+ghost use Rattle.std.specs.Prelude.{◌≡◌, ◌<◌, Bool, IfOk, length};
 ghost use Rattle.farm_model.specs.declared.types.Variant.{Variant};
 ghost use Rattle.farm_model.specs.Packages.{names, pre_depends, depends, satisfies_entry, satisfies_any};
 ghost use Rattle.farm_model.specs.Packages as packages;
 ghost use Rattle.farm_model.specs.Sound.{IsKnown};
 ghost use Rattle.sat_rows.specs.Rows.{IsRowOf, IsSharedRow, IsAlternativeRow, entry_at, conflicts_with, broken_by, breakers_of};
-ghost use Rattle.sat_rows.specs.Index.{AreIndexes};
-ghost use Rattle.sat_rows.specs.RecipeRows.{AreRecipeRows};
-ghost use Rattle.sat_rows.specs.Tables.{AreVariantRows, AreNameRows, AreTables, no_rows};
+ghost use Rattle.sat_rows.specs.Others.{AreOthers};
 
+use crate::clashes::all_clashes;
+use crate::entries::Entries;
+use crate::entry_rows::{all_entry_rows, row_of_entry};
 use crate::index::{Index, Indexes};
-use crate::recipe_rows::{RecipeRows, all_recipe_rows};
-use crate::variant_rows::{VariantRows, row_of_entry, variant_rows};
-use crate::word::variant_count;
+use crate::numbers::{NameNumbers, Needs};
+use crate::others::{Others, all_others};
 use bit_rows::Row;
 use deb_relation::Entry;
 use farm_universe::{Universe, Variant};
-use rayon::prelude::*;
 use std::alloc::{AllocError, Global};
 use std::marker::Model;
 use std::snapshot::Snapshot;
 use std::thread::Threads;
 
-/// The rows of the variants of one name.
-#[derive(Debug, Drop)]
-struct NameRows {
-    variants: Vec<VariantRows>,
-}
-
-impl Model for NameRows {
-    ghost use Rattle.std.specs.Prelude.{List};
-    ghost use Rattle.sat_rows.specs.Tables as tables;
-
-    ghost Value = { List tables.VariantRows };
-
-    ghost view = { λ rows. rows.variants.items };
-}
-
-impl NameRows {
-    fn variant(&self, bit: u32) -> &VariantRows
-        requires { bit < length self.now }
-        ensures { result.now ≡ slice_index_or self.now bit no_rows }
-    {
-        &self.variants[bit as usize]
-    }
-}
-
 /// Which variants satisfy the entries of each variant and of each recipe, and which exclude it. A
-/// contract sees the universe that the rows are about.
+/// contract sees the universe that the rows are about. Entries with the same alternatives share a
+/// row.
 #[derive(Drop)]
 pub struct Tables {
     universe: Snapshot<Universe>,
-    names: Vec<NameRows>,
-    recipes: Vec<RecipeRows>,
+    /// Where the entries of each variant have their rows, and those of each recipe's needs.
+    names: Vec<NameNumbers>,
+    needs: Vec<Needs>,
+    rows: Vec<Row>,
+    others: Vec<Others>,
+    clashes: Vec<Option<Row>>,
     providers: Index,
     /// The row without variants, for all that have none.
     empty: Row,
@@ -68,49 +48,12 @@ impl Model for Tables {
     ghost view = { λ tables. tables.universe.value };
 
     ghost invariant = { λ tables. AreKept tables.universe.value tables.names.items
-        tables.recipes.items tables.providers tables.empty };
+        tables.needs.items tables.rows.items tables.others.items tables.clashes.items
+        tables.providers tables.empty };
 }
 
-fn name_rows(
-    alloc: Global,
-    universe: &Universe,
-    indexes: &Indexes,
-    name: u32,
-) -> Result<NameRows, AllocError>
-    requires indexes { AreIndexes universe.now indexes.now }
-    requires named { name < names universe.now }
-    ensures { IfOk result (AreNameRows universe.now name) }
-{
-    let mut variants = Vec::new(alloc);
-    for bit in 0..variant_count(universe, name) {
-        variants.push(variant_rows(alloc, universe, indexes, Variant { name, bit })?)?;
-    }
-    Ok(NameRows { variants })
-}
-
-/// Makes the rows of every variant, by as many threads as there are processors.
-fn all_name_rows(
-    rt: &(impl Threads + Sync),
-    alloc: Global,
-    universe: &Universe,
-    indexes: &Indexes,
-) -> Result<Vec<NameRows>, AllocError>
-    requires { AreIndexes universe.now indexes.now }
-    ensures { IfOk result (λ rows. AreTables universe.now rows.items) }
-{
-    let names = (0..universe.names())
-        .into_par_iter()
-        .with_min_len(1)
-        .map(
-            move |name: u32| -> Result<NameRows, AllocError>
-                requires indexes { AreIndexes universe.now indexes.now }
-                requires named { name < names universe.now }
-                ensures { IfOk result (λ rows. AreNameRows universe.entry.now name rows) }
-            { name_rows(alloc, universe, indexes, name) },
-        )
-        .collect::<Result<Vec<NameRows>, AllocError>>(rt, alloc)??;
-    Ok(names)
-}
+/// How many places distinct entries are looked up in, for each name of a universe.
+const PLACES: usize = 16;
 
 impl Tables {
     /// Makes the rows of a universe, by as many threads as there are processors.
@@ -127,32 +70,31 @@ impl Tables {
     {
         let empty = Row::new(alloc, universe.names() as usize)?;
         let indexes = Indexes::new(alloc, universe)?;
-        let names = all_name_rows(rt, alloc, universe, &indexes)?;
-        let recipes = all_recipe_rows(rt, alloc, universe, &indexes.providers)?;
+        let mut entries = Entries::new(alloc, universe.names() as usize * PLACES)?;
+        let names = entries.names(alloc, universe)?;
+        let needs = entries.recipes(alloc, universe)?;
+        let rows = all_entry_rows(rt, alloc, universe, &indexes.providers, &entries)?;
+        let others = all_others(rt, alloc, universe, &indexes)?;
+        let clashes = all_clashes(rt, alloc, universe, &indexes.providers)?;
         let Indexes { providers, .. } = indexes;
         Ok(Tables {
             universe: Snapshot::of(universe),
             names,
-            recipes,
+            needs,
+            rows,
+            others,
+            clashes,
             providers,
             empty,
         })
     }
 
-    /// The rows of a variant.
-    fn rows(&self, variant: Variant) -> &VariantRows
+    /// The rows of what the variants of a variant's name exclude.
+    fn others(&self, variant: Variant) -> &Others
         requires { IsKnown self.now variant }
-        ensures { AreVariantRows self.now variant result.now }
+        ensures { AreOthers self.now variant.name result.now }
     {
-        self.names[variant.name as usize].variant(variant.bit)
-    }
-
-    /// The rows of a recipe.
-    fn recipe_rows(&self, number: u32) -> &RecipeRows
-        requires { number < length self.now.recipes }
-        ensures { AreRecipeRows self.now (packages.recipe self.now number) result.now }
-    {
-        &self.recipes[number as usize]
+        &self.others[variant.name as usize]
     }
 
     /// A row that may be left out.
@@ -181,7 +123,7 @@ impl Tables {
         requires { self.now ≡ universe.now }
         ensures { IfOk result (IsRowOf self.now (satisfies_entry self.now entry.now)) }
     {
-        Ok(row_of_entry(alloc, universe, &self.providers, entry)?)
+        Ok(row_of_entry(alloc, universe, &self.providers, entry.alternatives())?)
     }
 
     /// The variants that satisfy a Pre-Depends entry of a variant.
@@ -191,7 +133,8 @@ impl Tables {
         ensures { IsRowOf self.now
             (satisfies_entry self.now (entry_at (pre_depends self.now variant) number)) result.now }
     {
-        &self.rows(variant).pre_depends(number).entry
+        let numbers = self.names[variant.name as usize].variant(variant.bit);
+        &self.rows[numbers.pre_depends(number).entry()]
     }
 
     /// The variants that satisfy an alternative of a Pre-Depends entry of a variant.
@@ -202,9 +145,8 @@ impl Tables {
         ensures { IsAlternativeRow self.now (entry_at (pre_depends self.now variant) number)
             alternative result.now }
     {
-        self.rows(variant)
-            .pre_depends(number)
-            .alternative(alternative)
+        let numbers = self.names[variant.name as usize].variant(variant.bit);
+        &self.rows[numbers.pre_depends(number).alternative(alternative)]
     }
 
     /// The variants that satisfy a Depends entry of a variant.
@@ -214,7 +156,8 @@ impl Tables {
         ensures { IsRowOf self.now
             (satisfies_entry self.now (entry_at (depends self.now variant) number)) result.now }
     {
-        self.rows(variant).depends(number)
+        let numbers = self.names[variant.name as usize].variant(variant.bit);
+        &self.rows[numbers.depends(number)]
     }
 
     /// The variants of other names that are in conflict with a variant, declared by either.
@@ -222,7 +165,7 @@ impl Tables {
         requires { IsKnown self.now variant }
         ensures { IsRowOf self.now (conflicts_with self.now variant) result.now }
     {
-        self.shared(&self.rows(variant).conflicts)
+        self.shared(self.others(variant).conflicts.row(variant.bit))
     }
 
     /// The variants of other names that a variant breaks.
@@ -230,7 +173,7 @@ impl Tables {
         requires { IsKnown self.now variant }
         ensures { IsRowOf self.now (broken_by self.now variant) result.now }
     {
-        self.shared(&self.rows(variant).breaks)
+        self.shared(self.others(variant).breaks.row(variant.bit))
     }
 
     /// The variants of other names that break a variant.
@@ -238,7 +181,7 @@ impl Tables {
         requires { IsKnown self.now variant }
         ensures { IsRowOf self.now (breakers_of self.now variant) result.now }
     {
-        self.shared(&self.rows(variant).broken_by)
+        self.shared(self.others(variant).broken_by.row(variant.bit))
     }
 
     /// The variants that satisfy an entry of the needs of a recipe.
@@ -248,7 +191,7 @@ impl Tables {
         ensures { IsRowOf self.now (satisfies_entry self.now
             (entry_at (packages.recipe self.now recipe).needs number)) result.now }
     {
-        self.recipe_rows(recipe).need(number)
+        &self.rows[self.needs[recipe as usize].need(number)]
     }
 
     /// The variants that satisfy some entry of the clashes of a recipe.
@@ -257,6 +200,6 @@ impl Tables {
         ensures { IsRowOf self.now
             (satisfies_any self.now (packages.recipe self.now recipe).clashes) result.now }
     {
-        self.shared(&self.recipe_rows(recipe).clashes)
+        self.shared(&self.clashes[recipe as usize])
     }
 }

@@ -10,7 +10,7 @@ loop-atom-init c = finds_none c.args.universe.now c.args.self.now
 pub loop-atom-preserved : goal.loop-atom-preserved
 loop-atom-preserved c =
     let u = c.args.universe.now in
-    let xs = c.alternatives-atom-items.result.now in
+    let xs = c.args.entry.now in
     let i = c.loop-atom.atom-index in
     finds_next u (λ v. list_any (λ a. satisfies u a v) (take i xs))
     (satisfies u c.atom-item.result)

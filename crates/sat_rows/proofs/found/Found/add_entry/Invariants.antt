@@ -7,5 +7,5 @@ use Rattle.sat_rows.proofs.found.Found.add_entry.Given as goal
 abbrev pub invariant-loop-atom : goal.invariant-loop-atom
 invariant-loop-atom l =
     Finds l.universe
-    (λ v. list_any (λ a. satisfies l.universe a v) (take l.atom-index l.atom-items))
+    (λ v. list_any (λ a. satisfies l.universe a v) (take l.atom-index l.entry))
     l.fn.self l.self

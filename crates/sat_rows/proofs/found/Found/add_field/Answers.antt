@@ -1,6 +1,7 @@
-use Rattle.std.proofs.Common.{◌+◌, take}
+use Rattle.std.proofs.Common.{◌+◌, take, subst}
 use Rattle.std.specs.List.{list_any}
 use Rattle.farm_model.specs.Packages.{satisfies_entry}
+use Rattle.sat_rows.specs.Found.{Finds}
 use Rattle.sat_rows.proofs.FoundLaws.{finds_none, finds_next, any_next}
 use Rattle.sat_rows.proofs.found.Found.add_field.Goals as goal
 
@@ -18,4 +19,6 @@ loop-entry-preserved c =
     c.args.self.now c.loop-entry.self c.add_entry.new.self
     (λ v. any_next (λ e. satisfies_entry u e v) xs i c.entry-item.result c.loop-entry-test.true
     c.entry-item.is)
-    c.loop-entry.invariant c.in_ok-add_entry.ensures
+    c.loop-entry.invariant
+    (subst (λ e. Finds u (satisfies_entry u e) c.loop-entry.self c.add_entry.new.self)
+    c.alternatives.ensures c.in_ok-add_entry.ensures)

@@ -1,11 +1,22 @@
-use Rattle.std.proofs.Common.{sym, subst}
-use Rattle.sat_rows.specs.Rows.{breakers_of}
-use Rattle.sat_rows.specs.Tables.{AreVariantRows}
+use Rattle.std.proofs.Common.{sym, subst, arith}
+use Rattle.sat_rows.specs.Others.{AreOthers}
+use Rattle.sat_rows.specs.Rows.{IsSharedRow, breakers_of}
 use Rattle.sat_rows.proofs.tables.Tables.broken_by.Goals as goal
+
+pub row-requires : goal.row-requires
+row-requires c =
+    let others = subst (AreOthers c.args.self.now c.args.variant.name) (sym c.behind-self.view_is)
+    c.others.ensures in
+    record {
+      there = omega (arith, others.broken_by.long, c.requires);
+      within = others.broken_by.within c.args.variant.bit c.requires;
+    }
 
 pub returns : goal.returns
 returns c =
+    let others = subst (AreOthers c.args.self.now c.args.variant.name) (sym c.behind-self.view_is)
+    c.others.ensures in
     let u = c.args.self.now in
-    let v = c.args.variant in
-    let rows = subst (AreVariantRows u v) (sym c.behind-self.view_is) c.rows.ensures in
-    c.shared.ensures (breakers_of u v) rows.broken_by
+    c.shared.ensures (breakers_of u c.args.variant)
+    (subst (IsSharedRow u (breakers_of u c.args.variant)) (sym c.row.ensures)
+    (others.broken_by.each c.args.variant.bit c.requires))

@@ -1,19 +1,63 @@
-use Rattle.std.proofs.Common.{[], sym, subst}
-use Rattle.farm_model.specs.Packages.{depends, satisfies_entry}
-use Rattle.sat_rows.specs.Rows.{IsRowOf, entry_at}
-use Rattle.sat_rows.proofs.Pairs.{paired_within, paired_at}
+use Rattle.std.proofs.Common.{subst, arith}
+use Rattle.sat_rows.specs.Tables.{AreKept}
+use Rattle.farm_model.specs.Packages.{depends}
+use Rattle.sat_rows.specs.Rows.{entry_at}
+use Rattle.sat_rows.proofs.TableLaws.{numbers_within, variant_within, depends_within, depends_number, row_within, row_at}
 use Rattle.sat_rows.proofs.tables.Tables.depends.Goals as goal
+
+pub index-requires : goal.index-requires
+index-requires c =
+    let inside = c.self.inside in
+    let kept = subst
+    (λ u. AreKept u inside.names.items inside.needs.items inside.rows.items inside.others.items
+    inside.clashes.items inside.providers inside.empty) c.self.view_is c.self.invariant in
+    let within = numbers_within c.args.self.now inside.names.items inside.needs.items inside.rows.items kept.entries
+    c.args.variant c.requires.known in
+    omega (arith, within, inside.names.ok)
+
+pub variant-numbers-requires : goal.variant-numbers-requires
+variant-numbers-requires c =
+    let inside = c.self.inside in
+    let kept = subst
+    (λ u. AreKept u inside.names.items inside.needs.items inside.rows.items inside.others.items
+    inside.clashes.items inside.providers inside.empty) c.self.view_is c.self.invariant in
+    variant_within c.args.self.now inside.names.items inside.needs.items inside.rows.items kept.entries
+    c.args.variant c.requires.known c.index.result.now c.index.ensures
 
 pub depends-requires : goal.depends-requires
 depends-requires c =
-    let u = c.args.self.now in
-    paired_within (λ e row. IsRowOf u (satisfies_entry u e) row) (depends u c.args.variant)
-    c.rows.result.now.depends c.args.number c.rows.ensures.depends c.requires.there
+    let inside = c.self.inside in
+    let kept = subst
+    (λ u. AreKept u inside.names.items inside.needs.items inside.rows.items inside.others.items
+    inside.clashes.items inside.providers inside.empty) c.self.view_is c.self.invariant in
+    depends_within c.args.self.now inside.names.items inside.needs.items inside.rows.items kept.entries
+    c.args.variant c.requires.known c.index.result.now c.index.ensures
+    c.variant-numbers.result.now c.variant-numbers.ensures c.args.number c.requires.there
+
+pub index-requires-2 : goal.index-requires-2
+index-requires-2 c =
+    let inside = c.self.inside in
+    let kept = subst
+    (λ u. AreKept u inside.names.items inside.needs.items inside.rows.items inside.others.items
+    inside.clashes.items inside.providers inside.empty) c.self.view_is c.self.invariant in
+    let e = entry_at (depends c.args.self.now c.args.variant) c.args.number in
+    let is = depends_number c.args.self.now inside.names.items inside.needs.items inside.rows.items kept.entries
+    c.args.variant c.requires.known c.index.result.now c.index.ensures
+    c.variant-numbers.result.now c.variant-numbers.ensures c.args.number c.depends.result c.requires.there c.depends.ensures in
+    let within = row_within c.args.self.now inside.names.items inside.needs.items inside.rows.items kept.entries
+    e c.depends.result is in
+    omega (arith, within, inside.rows.ok)
 
 pub returns : goal.returns
 returns c =
-    let u = c.args.self.now in
-    subst (IsRowOf u (satisfies_entry u (entry_at (depends u c.args.variant) c.args.number)))
-    (sym c.depends.ensures)
-    (paired_at (λ e row. IsRowOf u (satisfies_entry u e) row) (depends u c.args.variant)
-    c.rows.result.now.depends c.args.number [] [] c.rows.ensures.depends c.requires.there)
+    let inside = c.self.inside in
+    let kept = subst
+    (λ u. AreKept u inside.names.items inside.needs.items inside.rows.items inside.others.items
+    inside.clashes.items inside.providers inside.empty) c.self.view_is c.self.invariant in
+    let e = entry_at (depends c.args.self.now c.args.variant) c.args.number in
+    row_at c.args.self.now inside.names.items inside.needs.items inside.rows.items kept.entries
+    e c.depends.result c.index-2.result.now
+    (depends_number c.args.self.now inside.names.items inside.needs.items inside.rows.items kept.entries
+    c.args.variant c.requires.known c.index.result.now c.index.ensures
+    c.variant-numbers.result.now c.variant-numbers.ensures c.args.number c.depends.result c.requires.there c.depends.ensures)
+    c.index-2.ensures

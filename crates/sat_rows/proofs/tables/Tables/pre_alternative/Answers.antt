@@ -1,35 +1,86 @@
-use Rattle.std.proofs.Common.{[], sym, subst}
-use Rattle.farm_model.specs.Packages.{pre_depends, satisfies}
-use Rattle.sat_rows.specs.Rows.{IsRowOf, entry_at}
-use Rattle.sat_rows.specs.Tables.{ArePreRows, no_pre_rows}
-use Rattle.sat_rows.proofs.Pairs.{paired_within, paired_at, paired_with}
+use Rattle.std.proofs.Common.{subst, arith, [], ◌∷◌}
+use Rattle.sat_rows.specs.Tables.{AreKept}
+use Rattle.farm_model.specs.Packages.{pre_depends}
+use Rattle.sat_rows.specs.Rows.{entry_at}
+use Rattle.sat_rows.proofs.TableLaws.{numbers_within, variant_within, pre_within, pre_numbers, alternative_within, alternative_number, row_within, row_at, one_alternative, read_at}
 use Rattle.sat_rows.proofs.tables.Tables.pre_alternative.Goals as goal
+
+pub index-requires : goal.index-requires
+index-requires c =
+    let inside = c.self.inside in
+    let kept = subst
+    (λ u. AreKept u inside.names.items inside.needs.items inside.rows.items inside.others.items
+    inside.clashes.items inside.providers inside.empty) c.self.view_is c.self.invariant in
+    let within = numbers_within c.args.self.now inside.names.items inside.needs.items inside.rows.items kept.entries
+    c.args.variant c.requires.known in
+    omega (arith, within, inside.names.ok)
+
+pub variant-numbers-requires : goal.variant-numbers-requires
+variant-numbers-requires c =
+    let inside = c.self.inside in
+    let kept = subst
+    (λ u. AreKept u inside.names.items inside.needs.items inside.rows.items inside.others.items
+    inside.clashes.items inside.providers inside.empty) c.self.view_is c.self.invariant in
+    variant_within c.args.self.now inside.names.items inside.needs.items inside.rows.items kept.entries
+    c.args.variant c.requires.known c.index.result.now c.index.ensures
 
 pub pre_depends-requires : goal.pre_depends-requires
 pre_depends-requires c =
-    let u = c.args.self.now in
-    paired_within (ArePreRows u) (pre_depends u c.args.variant) c.rows.result.now.pre_depends
-    c.args.number c.rows.ensures.pre_depends c.requires.there
+    let inside = c.self.inside in
+    let kept = subst
+    (λ u. AreKept u inside.names.items inside.needs.items inside.rows.items inside.others.items
+    inside.clashes.items inside.providers inside.empty) c.self.view_is c.self.invariant in
+    pre_within c.args.self.now inside.names.items inside.needs.items inside.rows.items kept.entries
+    c.args.variant c.requires.known c.index.result.now c.index.ensures
+    c.variant-numbers.result.now c.variant-numbers.ensures c.args.number c.requires.there
 
 pub alternative-requires : goal.alternative-requires
 alternative-requires c =
-    let u = c.args.self.now in
-    let e = entry_at (pre_depends u c.args.variant) c.args.number in
-    let pre =
-    subst (ArePreRows u e) (sym c.pre_depends.ensures)
-    (paired_at (ArePreRows u) (pre_depends u c.args.variant) c.rows.result.now.pre_depends
-    c.args.number [] no_pre_rows c.rows.ensures.pre_depends c.requires.there) in
-    paired_within (λ a row. IsRowOf u (satisfies u a) row) e
-    c.pre_depends.result.now.alternatives c.args.alternative pre.alternatives c.requires.among
+    let inside = c.self.inside in
+    let kept = subst
+    (λ u. AreKept u inside.names.items inside.needs.items inside.rows.items inside.others.items
+    inside.clashes.items inside.providers inside.empty) c.self.view_is c.self.invariant in
+    let e = entry_at (pre_depends c.args.self.now c.args.variant) c.args.number in
+    let pre = pre_numbers c.args.self.now inside.names.items inside.needs.items inside.rows.items kept.entries
+    c.args.variant c.requires.known c.index.result.now c.index.ensures
+    c.variant-numbers.result.now c.variant-numbers.ensures c.args.number c.pre_depends.result.now c.requires.there
+    c.pre_depends.ensures in
+    alternative_within c.args.self.now inside.names.items inside.needs.items inside.rows.items kept.entries
+    e c.pre_depends.result.now c.args.alternative pre c.requires.among
+
+pub index-requires-2 : goal.index-requires-2
+index-requires-2 c =
+    let inside = c.self.inside in
+    let kept = subst
+    (λ u. AreKept u inside.names.items inside.needs.items inside.rows.items inside.others.items
+    inside.clashes.items inside.providers inside.empty) c.self.view_is c.self.invariant in
+    let e = entry_at (pre_depends c.args.self.now c.args.variant) c.args.number in
+    let pre = pre_numbers c.args.self.now inside.names.items inside.needs.items inside.rows.items kept.entries
+    c.args.variant c.requires.known c.index.result.now c.index.ensures
+    c.variant-numbers.result.now c.variant-numbers.ensures c.args.number c.pre_depends.result.now c.requires.there
+    c.pre_depends.ensures in
+    let there = read_at e c.args.alternative c.requires.among in
+    let is = alternative_number c.args.self.now inside.names.items inside.needs.items inside.rows.items kept.entries
+    e c.pre_depends.result.now c.args.alternative c.alternative.result there.0 pre c.alternative.ensures
+    there.1 in
+    let within = row_within c.args.self.now inside.names.items inside.needs.items inside.rows.items kept.entries
+    (there.0 ∷ []) c.alternative.result is in
+    omega (arith, within, inside.rows.ok)
 
 pub returns : goal.returns
 returns c atom is =
-    let u = c.args.self.now in
-    let e = entry_at (pre_depends u c.args.variant) c.args.number in
-    let pre =
-    subst (ArePreRows u e) (sym c.pre_depends.ensures)
-    (paired_at (ArePreRows u) (pre_depends u c.args.variant) c.rows.result.now.pre_depends
-    c.args.number [] no_pre_rows c.rows.ensures.pre_depends c.requires.there) in
-    subst (IsRowOf u (satisfies u atom)) (sym c.alternative.ensures)
-    (paired_with (λ a row. IsRowOf u (satisfies u a) row) e
-    c.pre_depends.result.now.alternatives c.args.alternative atom [] pre.alternatives is)
+    let inside = c.self.inside in
+    let kept = subst
+    (λ u. AreKept u inside.names.items inside.needs.items inside.rows.items inside.others.items
+    inside.clashes.items inside.providers inside.empty) c.self.view_is c.self.invariant in
+    let e = entry_at (pre_depends c.args.self.now c.args.variant) c.args.number in
+    let pre = pre_numbers c.args.self.now inside.names.items inside.needs.items inside.rows.items kept.entries
+    c.args.variant c.requires.known c.index.result.now c.index.ensures
+    c.variant-numbers.result.now c.variant-numbers.ensures c.args.number c.pre_depends.result.now c.requires.there
+    c.pre_depends.ensures in
+    one_alternative c.args.self.now atom c.index-2.result.now
+    (row_at c.args.self.now inside.names.items inside.needs.items inside.rows.items kept.entries
+    (atom ∷ []) c.alternative.result c.index-2.result.now
+    (alternative_number c.args.self.now inside.names.items inside.needs.items inside.rows.items kept.entries
+    e c.pre_depends.result.now c.args.alternative c.alternative.result atom pre c.alternative.ensures is)
+    c.index-2.ensures)

@@ -1,22 +1,66 @@
-use Rattle.std.proofs.Common.{[], sym, subst, ◌∙◌}
+use Rattle.std.proofs.Common.{sym, subst, arith}
+use Rattle.sat_rows.specs.Tables.{AreKept}
 use Rattle.farm_model.specs.Packages.{pre_depends}
+use Rattle.sat_rows.specs.Entries.{IsNumberOf}
 use Rattle.sat_rows.specs.Rows.{entry_at}
-use Rattle.sat_rows.specs.Tables.{ArePreRows, no_pre_rows}
-use Rattle.sat_rows.proofs.Pairs.{paired_within, paired_at}
+use Rattle.sat_rows.proofs.TableLaws.{numbers_within, variant_within, pre_within, pre_numbers, row_within, row_at}
 use Rattle.sat_rows.proofs.tables.Tables.pre_depends.Goals as goal
+
+pub index-requires : goal.index-requires
+index-requires c =
+    let inside = c.self.inside in
+    let kept = subst
+    (λ u. AreKept u inside.names.items inside.needs.items inside.rows.items inside.others.items
+    inside.clashes.items inside.providers inside.empty) c.self.view_is c.self.invariant in
+    let within = numbers_within c.args.self.now inside.names.items inside.needs.items inside.rows.items kept.entries
+    c.args.variant c.requires.known in
+    omega (arith, within, inside.names.ok)
+
+pub variant-numbers-requires : goal.variant-numbers-requires
+variant-numbers-requires c =
+    let inside = c.self.inside in
+    let kept = subst
+    (λ u. AreKept u inside.names.items inside.needs.items inside.rows.items inside.others.items
+    inside.clashes.items inside.providers inside.empty) c.self.view_is c.self.invariant in
+    variant_within c.args.self.now inside.names.items inside.needs.items inside.rows.items kept.entries
+    c.args.variant c.requires.known c.index.result.now c.index.ensures
 
 pub pre_depends-requires : goal.pre_depends-requires
 pre_depends-requires c =
-    let u = c.args.self.now in
-    paired_within (ArePreRows u) (pre_depends u c.args.variant) c.rows.result.now.pre_depends
-    c.args.number c.rows.ensures.pre_depends c.requires.there
+    let inside = c.self.inside in
+    let kept = subst
+    (λ u. AreKept u inside.names.items inside.needs.items inside.rows.items inside.others.items
+    inside.clashes.items inside.providers inside.empty) c.self.view_is c.self.invariant in
+    pre_within c.args.self.now inside.names.items inside.needs.items inside.rows.items kept.entries
+    c.args.variant c.requires.known c.index.result.now c.index.ensures
+    c.variant-numbers.result.now c.variant-numbers.ensures c.args.number c.requires.there
+
+pub index-requires-2 : goal.index-requires-2
+index-requires-2 c =
+    let inside = c.self.inside in
+    let kept = subst
+    (λ u. AreKept u inside.names.items inside.needs.items inside.rows.items inside.others.items
+    inside.clashes.items inside.providers inside.empty) c.self.view_is c.self.invariant in
+    let e = entry_at (pre_depends c.args.self.now c.args.variant) c.args.number in
+    let pre = pre_numbers c.args.self.now inside.names.items inside.needs.items inside.rows.items kept.entries
+    c.args.variant c.requires.known c.index.result.now c.index.ensures
+    c.variant-numbers.result.now c.variant-numbers.ensures c.args.number c.pre_depends.result.now c.requires.there
+    c.pre_depends.ensures in
+    let within = row_within c.args.self.now inside.names.items inside.needs.items inside.rows.items kept.entries
+    e c.entry.result (subst (IsNumberOf kept.entries.entries e) (sym c.entry.ensures) pre.entry) in
+    omega (arith, within, inside.rows.ok)
 
 pub returns : goal.returns
 returns c =
-    let u = c.args.self.now in
-    let e = entry_at (pre_depends u c.args.variant) c.args.number in
-    let pre =
-    subst (ArePreRows u e) (sym (c.behind-rows.view_is ∙ c.pre_depends.ensures))
-    (paired_at (ArePreRows u) (pre_depends u c.args.variant) c.rows.result.now.pre_depends
-    c.args.number [] no_pre_rows c.rows.ensures.pre_depends c.requires.there) in
-    pre.entry
+    let inside = c.self.inside in
+    let kept = subst
+    (λ u. AreKept u inside.names.items inside.needs.items inside.rows.items inside.others.items
+    inside.clashes.items inside.providers inside.empty) c.self.view_is c.self.invariant in
+    let e = entry_at (pre_depends c.args.self.now c.args.variant) c.args.number in
+    let pre = pre_numbers c.args.self.now inside.names.items inside.needs.items inside.rows.items kept.entries
+    c.args.variant c.requires.known c.index.result.now c.index.ensures
+    c.variant-numbers.result.now c.variant-numbers.ensures c.args.number c.pre_depends.result.now c.requires.there
+    c.pre_depends.ensures in
+    row_at c.args.self.now inside.names.items inside.needs.items inside.rows.items kept.entries
+    e c.entry.result c.index-2.result.now
+    (subst (IsNumberOf kept.entries.entries e) (sym c.entry.ensures) pre.entry) c.index-2.ensures

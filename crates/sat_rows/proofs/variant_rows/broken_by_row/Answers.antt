@@ -1,7 +1,0 @@
-use Rattle.farm_model.specs.Packages.{breaks}
-use Rattle.sat_rows.proofs.variant_rows.broken_by_row.Goals as goal
-
-pub returns : goal.returns
-returns c =
-    c.in_ok-row_of_others.ensures (λ v. breaks c.args.universe.now v c.args.variant)
-    c.in_ok-found.ensures

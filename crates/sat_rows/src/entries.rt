@@ -1,0 +1,182 @@
+//! The distinct entries of a universe, by number, so that each has one row.
+
+ghost use Rattle.std.specs.Prelude.{◌≡◌, ◌<◌, [], IsTrue, IfOk, IfSome, OnOk, None, Some, length, slice_get};
+ghost use Rattle.deb_relation.specs.Relations as relations;
+ghost use Rattle.sat_rows.specs.Entries.{IsGrown};
+
+use deb_relation::{Atom, Op};
+use deb_version::Version;
+use std::alloc::{AllocError, Global};
+use std::marker::Model;
+
+fn is_same_relation(a: &Option<(Op, Version)>, b: &Option<(Op, Version)>) -> bool
+    ensures { IsTrue result → a.now ≡ b.now }
+{
+    match (a, b) {
+        (Some((op, bound)), Some((other, version))) => {
+            op == other && bound.text() == version.text()
+        }
+        (None, None) => true,
+        _ => false,
+    }
+}
+
+/// Tells whether an alternative has no qualifier and no restriction.
+fn is_plain(atom: &Atom) -> bool
+    ensures { IsTrue result → atom.now ≡ record {
+      name = atom.now.name;
+      qualifier = None;
+      relation = atom.now.relation;
+      archs = None;
+      profiles = [];
+    } }
+{
+    atom.qualifier.is_none() && atom.archs.is_none() && atom.profiles.is_empty()
+}
+
+fn is_same_atom(a: &Atom, b: &Atom) -> bool
+    ensures { IsTrue result → a.now ≡ b.now }
+{
+    a.name == b.name && is_same_relation(&a.relation, &b.relation) && is_plain(a) && is_plain(b)
+}
+
+/// Tells whether two entries have the same alternatives, none of them with a qualifier or a
+/// restriction.
+fn is_same_entry(a: &[Atom], b: &[Atom]) -> bool
+    ensures { IsTrue result → a.now ≡ b.now }
+{
+    if a.len() != b.len() {
+        return false;
+    }
+    for place in 0..a.len() {
+        if !is_same_atom(&a[place], &b[place]) {
+            return false;
+        }
+    }
+    true
+}
+
+/// A number of some bytes behind a number of others.
+fn mixed(number: u64, bytes: &[u8]) -> u64 {
+    let mut mixed = number;
+    for byte in bytes {
+        mixed = (mixed ^ *byte as u64).wrapping_mul(0x0100_0000_01b3);
+    }
+    mixed
+}
+
+/// A number of an entry, the same for entries that are the same.
+fn number_of(atoms: &[Atom]) -> u64 {
+    let mut number = 0xcbf2_9ce4_8422_2325;
+    for atom in atoms {
+        number = mixed(number, &atom.name);
+        if let Some((op, bound)) = &atom.relation {
+            number = mixed(number, &[*op as u8]);
+            number = mixed(number, bound.text());
+        }
+    }
+    number
+}
+
+/// One of the entries.
+#[derive(Debug, Drop)]
+struct Distinct<'a> {
+    atoms: &'a [Atom],
+    /// The entry before it under the same number of its text, or none's.
+    before: usize,
+}
+
+impl<'a> Model for Distinct<'a> {
+    ghost use Rattle.deb_relation.specs.Relations as relations;
+
+    ghost Value = { relations.Entry };
+
+    ghost view = { λ distinct. distinct.atoms.now };
+}
+
+/// The distinct entries. A contract sees their list.
+#[derive(Debug, Drop)]
+pub struct Entries<'a> {
+    entries: Vec<Distinct<'a>>,
+    /// The last entry under each number of a text.
+    last: Vec<usize>,
+}
+
+impl<'a> Model for Entries<'a> {
+    ghost use Rattle.std.specs.Prelude.{List};
+    ghost use Rattle.deb_relation.specs.Relations as relations;
+
+    ghost Value = { List relations.Entry };
+
+    ghost view = { λ entries. entries.entries.items };
+}
+
+impl<'a> Entries<'a> {
+    /// No entries, with a place for so many.
+    ///
+    /// # Errors
+    ///
+    /// [`AllocError`] where memory is refused.
+    pub fn new(alloc: Global, places: usize) -> Result<Entries<'a>, AllocError>
+        ensures { IfOk result (λ entries. entries ≡ []) }
+    {
+        Ok(Entries {
+            entries: Vec::new(alloc),
+            last: Vec::from_elem(alloc, usize::MAX, places)?,
+        })
+    }
+
+    /// How many entries there are.
+    pub fn len(&self) -> usize
+        ensures { result ≡ length self.now }
+    {
+        self.entries.len()
+    }
+
+    /// The alternatives of the entry with this number.
+    pub fn entry(&self, number: usize) -> &'a [Atom]
+        requires { number < length self.now }
+        ensures { slice_get self.now number ≡ Some result.now }
+    {
+        self.entries[number].atoms
+    }
+
+    /// The number of an entry among those behind a first one.
+    fn find(&self, first: usize, atoms: &[Atom]) -> Option<usize>
+        ensures { IfSome result (λ number. slice_get self.now number ≡ Some atoms.now) }
+    {
+        let mut number = first;
+        for _ in 0..self.entries.len() {
+            let distinct = self.entries.get(number)?;
+            if is_same_entry(distinct.atoms, atoms) {
+                return Some(number);
+            }
+            number = distinct.before;
+        }
+        None
+    }
+
+    /// The number of an entry, which is put behind the others where none of them is the same.
+    ///
+    /// # Errors
+    ///
+    /// [`AllocError`] where memory is refused.
+    pub fn number(&mut self, atoms: &'a [Atom]) -> Result<usize, AllocError>
+        ensures grown { OnOk result (IsGrown self.old self.new) }
+        ensures number { IfOk result (λ number. slice_get self.new number ≡ Some atoms.now) }
+    {
+        let place = (number_of(atoms) as usize)
+            .checked_rem(self.last.len())
+            .unwrap_or(0);
+        let before = self.last.get(place).copied().unwrap_or(usize::MAX);
+        if let Some(number) = self.find(before, atoms) {
+            return Ok(number);
+        }
+        let number = self.entries.len();
+        self.entries.push(Distinct { atoms, before })?;
+        if let Some(last) = self.last.get_mut(place) {
+            *last = number;
+        }
+        Ok(number)
+    }
+}

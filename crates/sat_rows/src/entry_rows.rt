@@ -1,0 +1,67 @@
+//! The rows of the distinct entries of a universe.
+
+ghost use Rattle.std.specs.Prelude.{◌≡◌, ◌<◌, ℕ, IfOk, OnOk, Some, length, slice_get};
+ghost use Rattle.farm_model.specs.Packages.{satisfies_entry};
+ghost use Rattle.sat_rows.specs.Index.{IsProviding};
+ghost use Rattle.sat_rows.specs.Rows.{IsRowOf};
+ghost use Rattle.sat_rows.specs.Entries.{AreRowsOf};
+ghost use Rattle.deb_relation.specs.Relations.{Entry};
+
+use crate::entries::Entries;
+use crate::found::satisfying;
+use crate::index::Index;
+use crate::row::row_of_found;
+use bit_rows::Row;
+use deb_relation::Atom;
+use farm_universe::Universe;
+use rayon::prelude::*;
+use std::alloc::{AllocError, Global};
+use std::thread::Threads;
+
+/// The row of an entry.
+///
+/// # Errors
+///
+/// [`AllocError`] where memory is refused.
+pub fn row_of_entry(
+    alloc: Global,
+    universe: &Universe,
+    providers: &Index,
+    entry: &[Atom],
+) -> Result<Row, AllocError>
+    requires { IsProviding universe.now providers.now }
+    ensures { IfOk result (IsRowOf universe.now (satisfies_entry universe.now entry.now)) }
+{
+    let found = satisfying(alloc, universe, providers, entry)?;
+    Ok(row_of_found(alloc, universe, &found)?)
+}
+
+/// Makes the row of each distinct entry, by as many threads as there are processors.
+///
+/// # Errors
+///
+/// [`AllocError`] where memory is refused. Nothing is left behind.
+pub fn all_entry_rows(
+    rt: &(impl Threads + Sync),
+    alloc: Global,
+    universe: &Universe,
+    providers: &Index,
+    entries: &Entries,
+) -> Result<Vec<Row>, AllocError>
+    requires { IsProviding universe.now providers.now }
+    ensures { IfOk result (λ rows. AreRowsOf universe.now entries.now rows.items) }
+{
+    let rows = (0..entries.len())
+        .into_par_iter()
+        .with_min_len(1)
+        .map(
+            move |number: usize| -> Result<Row, AllocError>
+                requires providers { IsProviding universe.now providers.now }
+                requires there { number < length entries.now }
+                ensures { IfOk result (λ row. (e : Entry) → slice_get entries.entry.now number ≡ Some e
+                    → IsRowOf universe.entry.now (satisfies_entry universe.entry.now e) row) }
+            { row_of_entry(alloc, universe, providers, entries.entry(number)) },
+        )
+        .collect::<Result<Vec<Row>, AllocError>>(rt, alloc)??;
+    Ok(rows)
+}

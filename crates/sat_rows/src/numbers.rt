@@ -1,0 +1,267 @@
+//! The numbers of the entries of each variant and of each recipe among the distinct ones.
+
+ghost use Rattle.std.specs.Prelude.{◌≡◌, ◌<◌, ◌∷◌, [], IfOk, OnOk, length, slice_index_or};
+ghost use Rattle.std.specs.List.{AllZip};
+ghost use Rattle.farm_model.specs.Packages.{names, recipe};
+ghost use Rattle.farm_model.specs.Sound.{IsKnown};
+ghost use Rattle.sat_rows.specs.Entries.{IsGrown, IsNumberOf, IsPreNumbers, AreNumbers, AreNumbered, AreNeeds, no_numbers, no_pre_numbers};
+ghost use Rattle.sat_rows.specs.ByVariant.{AreOfName};
+
+use crate::entries::Entries;
+use crate::word::variant_count;
+use deb_relation::{Entry, Relations};
+use farm_universe::{Universe, Variant};
+use std::alloc::{AllocError, Global};
+use std::marker::Model;
+use std::slice;
+
+/// The numbers of a Pre-Depends entry and of each of its alternatives by itself.
+#[derive(Debug, Drop)]
+pub struct PreNumbers {
+    entry: usize,
+    alternatives: Vec<usize>,
+}
+
+impl Model for PreNumbers {
+    ghost use Rattle.sat_rows.specs.Entries as entries;
+
+    ghost Value = { entries.PreNumbers };
+
+    ghost view = { λ numbers. record {
+      entry = numbers.entry;
+      alternatives = numbers.alternatives.items;
+    } };
+}
+
+impl PreNumbers {
+    pub fn entry(&self) -> usize
+        ensures { result ≡ self.now.entry }
+    {
+        self.entry
+    }
+
+    pub fn alternative(&self, number: usize) -> usize
+        requires { number < length self.now.alternatives }
+        ensures { result ≡ slice_index_or self.now.alternatives number 0 }
+    {
+        self.alternatives[number]
+    }
+}
+
+/// The numbers of the entries of a variant.
+#[derive(Debug, Drop)]
+pub struct Numbers {
+    pre_depends: Vec<PreNumbers>,
+    depends: Vec<usize>,
+}
+
+impl Model for Numbers {
+    ghost use Rattle.sat_rows.specs.Entries as entries;
+
+    ghost Value = { entries.Numbers };
+
+    ghost view = { λ numbers. record {
+      pre_depends = numbers.pre_depends.items;
+      depends = numbers.depends.items;
+    } };
+}
+
+impl Numbers {
+    pub fn pre_depends(&self, number: usize) -> &PreNumbers
+        requires { number < length self.now.pre_depends }
+        ensures { result.now ≡ slice_index_or self.now.pre_depends number no_pre_numbers }
+    {
+        &self.pre_depends[number]
+    }
+
+    pub fn depends(&self, number: usize) -> usize
+        requires { number < length self.now.depends }
+        ensures { result ≡ slice_index_or self.now.depends number 0 }
+    {
+        self.depends[number]
+    }
+}
+
+/// The numbers of the variants of one name.
+#[derive(Debug, Drop)]
+pub struct NameNumbers {
+    variants: Vec<Numbers>,
+}
+
+impl Model for NameNumbers {
+    ghost use Rattle.std.specs.Prelude.{List};
+    ghost use Rattle.sat_rows.specs.Entries as entries;
+
+    ghost Value = { List entries.Numbers };
+
+    ghost view = { λ numbers. numbers.variants.items };
+}
+
+impl NameNumbers {
+    pub fn variant(&self, bit: u32) -> &Numbers
+        requires { bit < length self.now }
+        ensures { result.now ≡ slice_index_or self.now bit no_numbers }
+    {
+        &self.variants[bit as usize]
+    }
+}
+
+/// The numbers of the needs of a recipe.
+#[derive(Debug, Drop)]
+pub struct Needs {
+    needs: Vec<usize>,
+}
+
+impl Model for Needs {
+    ghost use Rattle.std.specs.Prelude.{List, ℕ};
+
+    ghost Value = { List ℕ };
+
+    ghost view = { λ numbers. numbers.needs.items };
+}
+
+impl Needs {
+    pub fn need(&self, number: usize) -> usize
+        requires { number < length self.now }
+        ensures { result ≡ slice_index_or self.now number 0 }
+    {
+        self.needs[number]
+    }
+}
+
+impl<'a> Entries<'a> {
+    /// The numbers of the alternatives of an entry, each by itself.
+    fn alternatives(&mut self, alloc: Global, entry: &'a Entry) -> Result<Vec<usize>, AllocError>
+        ensures grown { OnOk result (IsGrown self.old self.new) }
+        ensures numbers { IfOk result (λ numbers. AllZip
+            (λ a n. IsNumberOf self.new (a ∷ []) n) entry.now numbers.items) }
+    {
+        let mut numbers = Vec::new(alloc);
+        for atom in entry.alternatives() {
+            numbers.push(self.number(slice::from_ref(atom))?)?;
+        }
+        Ok(numbers)
+    }
+
+    fn pre_entry(&mut self, alloc: Global, entry: &'a Entry) -> Result<PreNumbers, AllocError>
+        ensures grown { OnOk result (IsGrown self.old self.new) }
+        ensures numbers { IfOk result (IsPreNumbers self.new entry.now) }
+    {
+        let alternatives = self.alternatives(alloc, entry)?;
+        let entry = self.number(entry.alternatives())?;
+        Ok(PreNumbers {
+            entry,
+            alternatives,
+        })
+    }
+
+    /// The numbers of the entries of a Pre-Depends field.
+    fn pre_field(
+        &mut self,
+        alloc: Global,
+        field: &'a Relations,
+    ) -> Result<Vec<PreNumbers>, AllocError>
+        ensures grown { OnOk result (IsGrown self.old self.new) }
+        ensures numbers { IfOk result (λ numbers. AllZip
+            (IsPreNumbers self.new) field.now numbers.items) }
+    {
+        let mut numbers = Vec::new(alloc);
+        for entry in field.entries() {
+            numbers.push(self.pre_entry(alloc, entry)?)?;
+        }
+        Ok(numbers)
+    }
+
+    /// The numbers of the entries of a field.
+    fn field(&mut self, alloc: Global, field: &'a Relations) -> Result<Vec<usize>, AllocError>
+        ensures grown { OnOk result (IsGrown self.old self.new) }
+        ensures numbers { IfOk result (λ numbers. AllZip
+            (IsNumberOf self.new) field.now numbers.items) }
+    {
+        let mut numbers = Vec::new(alloc);
+        for entry in field.entries() {
+            numbers.push(self.number(entry.alternatives())?)?;
+        }
+        Ok(numbers)
+    }
+
+    fn variant(
+        &mut self,
+        alloc: Global,
+        universe: &'a Universe,
+        variant: Variant,
+    ) -> Result<Numbers, AllocError>
+        requires { IsKnown universe.now variant }
+        ensures grown { OnOk result (IsGrown self.old self.new) }
+        ensures numbers { IfOk result (AreNumbers universe.now self.new variant) }
+    {
+        let relations = universe.relations(variant);
+        let pre_depends = self.pre_field(alloc, &relations.pre_depends)?;
+        let depends = self.field(alloc, &relations.depends)?;
+        Ok(Numbers {
+            pre_depends,
+            depends,
+        })
+    }
+
+    fn name(
+        &mut self,
+        alloc: Global,
+        universe: &'a Universe,
+        name: u32,
+    ) -> Result<NameNumbers, AllocError>
+        requires { name < names universe.now }
+        ensures grown { OnOk result (IsGrown self.old self.new) }
+        ensures numbers { IfOk result
+            (AreOfName universe.now (AreNumbers universe.now self.new) no_numbers name) }
+    {
+        let mut variants = Vec::new(alloc);
+        for bit in 0..variant_count(universe, name) {
+            variants.push(self.variant(alloc, universe, Variant { name, bit })?)?;
+        }
+        Ok(NameNumbers { variants })
+    }
+
+    /// The numbers of the entries of Pre-Depends and Depends of each variant.
+    ///
+    /// # Errors
+    ///
+    /// [`AllocError`] where memory is refused.
+    pub fn names(
+        &mut self,
+        alloc: Global,
+        universe: &'a Universe,
+    ) -> Result<Vec<NameNumbers>, AllocError>
+        ensures grown { OnOk result (IsGrown self.old self.new) }
+        ensures numbers { IfOk result
+            (λ numbers. AreNumbered universe.now self.new numbers.items) }
+    {
+        let mut names = Vec::new(alloc);
+        for name in 0..universe.names() {
+            names.push(self.name(alloc, universe, name)?)?;
+        }
+        Ok(names)
+    }
+
+    /// The numbers of the needs of each recipe.
+    ///
+    /// # Errors
+    ///
+    /// [`AllocError`] where memory is refused.
+    pub fn recipes(
+        &mut self,
+        alloc: Global,
+        universe: &'a Universe,
+    ) -> Result<Vec<Needs>, AllocError>
+        ensures grown { OnOk result (IsGrown self.old self.new) }
+        ensures numbers { IfOk result
+            (λ numbers. AreNeeds universe.now self.new numbers.items) }
+    {
+        let mut recipes = Vec::new(alloc);
+        for number in 0..universe.recipes() {
+            let needs = self.field(alloc, universe.recipe(number).needs())?;
+            recipes.push(Needs { needs })?;
+        }
+        Ok(recipes)
+    }
+}
