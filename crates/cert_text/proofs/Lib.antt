@@ -1,3 +1,4 @@
+pub mod KeptRows
 pub mod LineRows
 pub mod PlaceLists
 pub mod RowLists

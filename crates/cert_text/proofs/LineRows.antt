@@ -1,9 +1,7 @@
 -- The rows of the first lines, line by line and lane by lane.
-use Rattle.std.proofs.Common.{◌≡◌, ℕ, ◌+◌, List, [], ◌∷◌, ◌++◌, drop, refl, sym, ap, ◌∙◌, Option, Result, Ok, Err}
-use Rattle.std.proofs.lemmas.List.{append-nil}
+use Rattle.std.proofs.Common.{◌≡◌, List, [], ◌∷◌, ◌++◌, sym, ◌∙◌, Option, Result, Ok}
 use Rattle.deb_text.specs.Answers.{Fails}
-use Rattle.deb_text.specs.Lines.{Line}
-use Rattle.deb_text.specs.Steps.{◌>>=◌, then_all, with_front}
+use Rattle.deb_text.specs.Steps.{then_all, with_front}
 use Rattle.deb_text.proofs.StepLaws.{fails-with, with_front-push}
 use Rattle.cert_text.specs.declared.fault.CertFault.{CertFault}
 

@@ -1,7 +1,6 @@
 -- A row as it is read, item by item.
-use Rattle.std.proofs.Common.{◌≡◌, ℕ, ◌<◌, ◌≤◌, Bool, true, false, ◌&&◌, ◌||◌, ◌==◌, List, [], ◌∷◌, ◌++◌, length, drop, get_or, refl, sym, ap, ◌∙◌, append_assoc, Option, Some, None, nat_lt, arith, eq-eqb, inl, inr, if◌then◌else◌}
-use Rattle.std.specs.List.{list_any}
-use Rattle.std.specs.Option.{option_map, option_and_then}
+use Rattle.std.proofs.Common.{◌≡◌, ℕ, ◌≤◌, Bool, true, false, ◌&&◌, ◌||◌, ◌==◌, List, [], ◌∷◌, ◌++◌, length, refl, sym, ap, ◌∙◌, append_assoc, Option, Some, None, nat_lt, arith, eq-eqb, inl, inr}
+use Rattle.std.specs.Option.{option_map}
 use Rattle.std.proofs.Math.Bool.{or-false}
 use Rattle.std.proofs.lemmas.Bool.{cases_Bool, eqb-true, eqb-false, ne_eqb, ltb-true, ltb-false}
 use Rattle.std.proofs.lemmas.List.{append-nil, get_or_past}
@@ -12,12 +11,12 @@ use Rattle.clause_kernel.proofs.Meanings.{same_from_bits}
 use Rattle.clause_kernel.proofs.Words.{word_has_zero}
 use Rattle.deb_relation.specs.Relations.{Entry, Relations}
 use Rattle.farm_model.specs.declared.types.Variant.{Variant}
-use Rattle.farm_model.specs.Packages.{names, variant, same, contains, has_bit}
+use Rattle.farm_model.specs.Packages.{variant, same, contains, has_bit}
 use Rattle.farm_model.specs.Universe.{Universe}
 use Rattle.farm_universe.proofs.ArchiveLaws.{length-words_of}
 use Rattle.farm_universe.proofs.ListLaws.{has_bit-words_of}
 use Rattle.farm_universe.specs.ListText.{words_of}
-use Rattle.cert_text.specs.Rows.{item_variant, comes_behind, ahead_of, variants_behind}
+use Rattle.cert_text.specs.Rows.{item_variant, comes_behind, variants_behind}
 
 -- a row of so many names that has these variants
 pub record IsSoFar (n : ℕ) (row : List ℕ) (vs : List Variant) : Type 0 where

@@ -1,6 +1,6 @@
 -- The first place in a list that passes a test: of a version among the packages of a name, and of a
 -- name among the lanes.
-use Rattle.std.proofs.Common.{◌≡◌, ℕ, ◌<◌, true, false, List, [], length, get_or, Bool, refl, ap, ◌∙◌, Some, None, position, arith}
+use Rattle.std.proofs.Common.{◌≡◌, ℕ, ◌<◌, true, false, List, [], length, get_or, Bool, refl, ap, Some, None, position, arith}
 use Rattle.std.proofs.lemmas.Bool.{lt-ltb, le-ltb}
 use Rattle.std.proofs.lemmas.List.Sums.{position_or_len_is}
 use Rattle.std.proofs.Math.ListN.{get_or-map}
@@ -8,7 +8,7 @@ use Rattle.std.specs.Option.{option_map}
 use Rattle.std.specs.Ordering.{is_eq}
 use Rattle.deb_version.specs.Grammar.{text_cmp}
 use Rattle.farm_model.specs.Packages.{variant, variants, package_of, no_package}
-use Rattle.farm_model.specs.Universe.{Package, Universe}
+use Rattle.farm_model.specs.Universe.{Universe}
 use Rattle.farm_universe.specs.ListText.{has_version}
 use Rattle.plan_model.specs.Plan.{Lane, Plan, lane, no_lane}
 use Rattle.cert_text.specs.CertLines.{lane_names}

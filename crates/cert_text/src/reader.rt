@@ -220,6 +220,20 @@ fn end_of(text: &[u8]) -> u32
     end
 }
 
+#[tactic(auto, unfolding(crate::specs::CertText::certificate_of))]
+fn read_text(
+    alloc: Global,
+    universe: &Universe,
+    plan: &Plan,
+    text: &[u8],
+) -> Result<Certificate, CertFault>
+    ensures { Gives refusal_of (λ certificate. certificate) result
+        (certificate_of universe.now plan.now.lanes text.now) }
+{
+    let lines = read_lines(alloc, text)?;
+    read_certificate(alloc, universe, plan, end_of(text), &lines)
+}
+
 /// Reads the certificate of a plan over a universe.
 ///
 /// Below a first line `cert 1` stand, for each lane and each of its waits and publishes in order,
@@ -232,16 +246,15 @@ fn end_of(text: &[u8]) -> u32
 /// [`CertFault::Text`]: line 0 for a text over 67,108,864 bytes; else the first line that is not
 /// what stands there, or the line past the last one where lines are missing. [`CertFault::Memory`]
 /// where memory ran out. Nothing is left behind.
-#[tactic(auto, unfolding(crate::specs::CertText::certificate_of))]
 pub fn read(
     alloc: Global,
     universe: &Universe,
     plan: &Plan,
     text: &[u8],
 ) -> Result<Certificate, CertFault>
-    ensures { Gives refusal_of (λ certificate. certificate) result
+    ensures certificate { Gives refusal_of (λ certificate. certificate) result
         (certificate_of universe.now plan.now.lanes text.now) }
+    ensures fits { IfOk result (IsCertificate universe.now plan.now.lanes) }
 {
-    let lines = read_lines(alloc, text)?;
-    read_certificate(alloc, universe, plan, end_of(text), &lines)
+    read_text(alloc, universe, plan, text)
 }

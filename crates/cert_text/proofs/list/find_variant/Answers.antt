@@ -1,6 +1,4 @@
-use Rattle.std.proofs.Common.{sym, ap, ◌∙◌, arith}
-use Rattle.std.specs.Ordering.{is_eq}
-use Rattle.deb_version.specs.Grammar.{text_cmp}
+use Rattle.std.proofs.Common.{sym, ◌∙◌, arith}
 use Rattle.cert_text.specs.Rows.{find_variant}
 use Rattle.cert_text.proofs.Searches.{variant-first, variant-none}
 use Rattle.cert_text.proofs.list.find_variant.Goals as goal

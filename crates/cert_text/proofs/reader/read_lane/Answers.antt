@@ -1,6 +1,5 @@
-use Rattle.std.proofs.Common.{◌≡◌, ◌≤◌, ◌+◌, ℕ, length, ap, ◌∙◌, subst, IfOk}
+use Rattle.std.proofs.Common.{◌≡◌, ◌≤◌, ◌+◌, length, ap, ◌∙◌, subst, IfOk}
 use Rattle.std.specs.Prelude.{OnOk}
-use Rattle.cert_text.specs.Certificates.{count_rows}
 use Rattle.cert_text.proofs.PlaceLists.{length-places}
 use Rattle.cert_text.proofs.reader.read_lane.Goals as goal
 

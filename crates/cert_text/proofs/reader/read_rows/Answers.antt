@@ -1,7 +1,5 @@
-use Rattle.std.proofs.Common.{◌≡◌, ◌<◌, ◌≤◌, ◌+◌, ℕ, List, ◌∷◌, [], length-append, drop, length, get_or, sym, ap, ◌∙◌, arith}
+use Rattle.std.proofs.Common.{◌≡◌, ◌+◌, ℕ, List, ◌∷◌, [], length-append, drop, length, get_or, ap, ◌∙◌, arith}
 use Rattle.std.proofs.lemmas.List.{at_drop_more, drop-drop}
-use Rattle.deb_text.specs.Lines.{Line}
-use Rattle.cert_text.specs.CertText.{first_row, rows_in}
 use Rattle.cert_text.proofs.LineRows.{front-goes}
 use Rattle.cert_text.proofs.reader.read_rows.Goals as goal
 
