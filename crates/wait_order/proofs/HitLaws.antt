@@ -57,20 +57,6 @@ lane_known u p h outs are sound k o at =
     subst (IsKnown u) (get_or_from_slice_get _ f.number o.variant o.variant f.output)
     (sound.outputs_known f.recipe f.number o.variant (slice_get_within _ f.number o.variant f.output))
 
--- a wait meets no more outputs of a lane than there are
-pub limit_within : (u : Universe) (p : Plan) (h l i own limit : ℕ) (outs : List Output)
-    → outs ≡ lane_outputs u p h (length (lane p h).instructions) → own ≡ count_before u p l i
-    → limit ≡ (if h == l then own else length outs) → limit ≤ length outs
-limit_within u p h l i own limit outs are own_is is =
-    elim (cases_eq h l) [
-      | inl same ↦
-          let a : limit ≡ own = is ∙ (rw (eq-eqb h l same) refl) in
-          let b = ap (λ g. count_before u p g i) same in
-          omega (arith, a, own_is, b, count-few u p h i, outs-long u p h outs are)
-      | inr other ↦
-          let a : limit ≡ length outs = is ∙ (rw (ne_eqb h l other) refl) in omega (arith, a)
-    ]
-
 module _ (u : Universe) (sound : IsUniverse u) (e : Entry) (archive row : List ℕ) (hit : Bool)
     (common : IsTrue hit ↔ HaveCommon (variants_of archive) (variants_of row))
     (archive_is : IsRowOf u (initial u) archive) (row_is : IsRowOf u (satisfies_entry u e) row) where

@@ -1,5 +1,5 @@
 -- A lane goes on.
-use Rattle.std.proofs.Common.{◌≡◌, inl, inr, ℕ, suc, ◌+◌, ◌<◌, ◌≤◌, Bool, true, List, [], ◌∷◌, ◌++◌, Option, length, map, take, drop, get_or, Some, None, nat_lt, slice_get, refl, sym, ap, subst, ◌∙◌, arith, append_assoc}
+use Rattle.std.proofs.Common.{◌≡◌, inl, inr, ℕ, suc, ◌+◌, ◌<◌, ◌≤◌, Bool, true, List, [], ◌∷◌, ◌++◌, length, map, take, drop, get_or, Some, nat_lt, slice_get, refl, sym, ap, subst, ◌∙◌, arith, append_assoc}
 use Rattle.std.proofs.Math.Seq.{take-suc}
 use Rattle.std.proofs.lemmas.Bool.{cases_eq, eq-eqb, ne_eqb, ltb-true, ltb-false, false≢true}
 use Rattle.std.proofs.lemmas.Option.{slice_get_read, slice_get_within}
@@ -12,13 +12,13 @@ use Rattle.farm_model.specs.Packages.{names, outputs}
 use Rattle.farm_model.specs.Sound.{IsKnown, IsUniverse}
 use Rattle.farm_laws.proofs.EventsLeft.{drop_some}
 use Rattle.plan_model.specs.declared.instructions.Instruction.{Instruction}
-use Rattle.plan_model.specs.declared.instructions.Instruction.TheVariants.{Unpack, Configure, Deconfigure, Remove, Build, Publish, Wait}
+use Rattle.plan_model.specs.declared.instructions.Instruction.TheVariants.{Wait}
 use Rattle.plan_model.specs.Plan.{Plan, lane, instruction_at}
 use Rattle.plan_model.specs.Turn as turn
 use Rattle.plan_model.specs.Order.{Item, Pass, Give, items_of, items}
 use Rattle.sat_rows.specs.Rows.{IsRowOf}
 use Rattle.wait_order.specs.declared.standing.Standing.{Standing}
-use Rattle.wait_order.specs.Standing.{items_at, with_left, Makes, IsHeldAt, IsRowFor, IsMade, IsStanding, Leads, IsAdvance}
+use Rattle.wait_order.specs.Standing.{items_at, with_left, Makes, IsHeldAt, IsMade, IsStanding, Leads, IsAdvance}
 use Rattle.wait_order.proofs.Boards.{reached_same, with_left-here, pass_one, give_one}
 
 -- what is left last is what is left
@@ -107,18 +107,9 @@ pub read_at : (p : Plan) (l : ℕ) (xs : List Instruction) (i : ℕ) (x : Instru
 read_at p l xs i x is lt at =
     ap (λ ys. slice_get ys i) (sym is) ∙ slice_get_read xs (length xs) i x refl lt at
 
-row_for_none : (u : Universe) (x : Instruction) → IsRowFor u x None
-row_for_none u (Unpack name wanted) = tt
-row_for_none u (Configure members) = tt
-row_for_none u (Deconfigure members) = tt
-row_for_none u (Remove members) = tt
-row_for_none u (Build r) = tt
-row_for_none u (Publish r) = tt
-row_for_none u (Wait e) = tt
-
 pub standing_at : (u : Universe) (p : Plan) (l i : ℕ) → i ≤ length (lane p l).instructions
-    → IsStanding u p l (record { place = i; wait = None })
-standing_at u p l i le = record { within = le; kept = λ x at. row_for_none u x }
+    → IsStanding u p l (record { place = i })
+standing_at u p l i le = record { within = le }
 
 -- the lane went on to a place at which it is held
 pub advance_done : (u : Universe) (p : Plan) (l : ℕ) (at next : Standing)
@@ -149,16 +140,15 @@ held_past u p l i there le x at = let lt = slice_get_within (lane p l).instructi
 
 -- a wait that passes is made
 pub made_wait : (u : Universe) (l : ℕ) (x : Instruction) (e : Entry)
-    (order there next_order : List ℕ) (wait : Option (List ℕ)) (b : Bool) → x ≡ Wait e
+    (order there next_order : List ℕ) (b : Bool) → x ≡ Wait e
     → length there ≡ names u
     → ((test : Variant → Bool) → IsRowOf u test there → b ≡ turn.passes u test e) → b ≡ true
-    → next_order ≡ order ++ l ∷ [] → IsMade u l x order there next_order there wait true
-made_wait u l x e order there next_order wait b is long passes passed next =
-    subst (λ y. IsMade u l y order there next_order there wait true) (sym is) (record {
+    → next_order ≡ order ++ l ∷ [] → IsMade u l x order there next_order there true
+made_wait u l x e order there next_order b is long passes passed next =
+    subst (λ y. IsMade u l y order there next_order there true) (sym is) (record {
       long = long;
       makes = λ t. subst (λ os. Makes u l (Pass e ∷ []) order there os there) (sym next)
           (makes_pass u l e order there (λ test row. sym (passes test row) ∙ passed));
       holds = λ f. absurd (false≢true (sym f));
       same = λ f. absurd (false≢true (sym f));
-      kept = λ f. absurd (false≢true (sym f));
     })

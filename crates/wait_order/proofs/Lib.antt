@@ -20,3 +20,6 @@ pub mod ColumnLaws
 pub mod ArchiveRows
 pub mod ClockRows
 pub mod PlaceLaws
+pub mod SameEntries
+pub mod KeptLaws
+pub mod MetSources

@@ -1,5 +1,5 @@
 -- The first output of a lane that a row has, and the sources of a wait so far.
-use Rattle.std.specs.Prelude.{◌≡◌, ◌⊎◌, ℕ, suc, ◌+◌, ◌<◌, true, false, List, [], ◌∷◌, ◌++◌, Some, slice_get}
+use Rattle.std.specs.Prelude.{◌≡◌, ◌⊎◌, ℕ, suc, ◌+◌, ◌<◌, Bool, true, false, ◌==◌, nat_le, List, [], ◌∷◌, ◌++◌, length, Some, slice_get, if◌then◌else◌}
 use Rattle.bit_rows.specs.Sets.{variants_of}
 use Rattle.deb_relation.specs.Relations.{Entry}
 use Rattle.farm_model.specs.declared.types.Variant.{Variant}
@@ -10,6 +10,7 @@ use Rattle.plan_model.specs.declared.instructions.Instruction.TheVariants.{Publi
 use Rattle.plan_model.specs.Plan.{Plan, instruction_at}
 use Rattle.clock_laws.specs.Clocks.{count_before}
 use Rattle.wait_order.specs.declared.column.Source.{Source}
+use Rattle.wait_order.specs.declared.column.Sources.{Sources}
 use Rattle.wait_order.specs.declared.column.Point.{Point}
 use Rattle.wait_order.specs.declared.marks.Mark.{Mark}
 use Rattle.wait_order.specs.declared.marks.Output.{Output}
@@ -70,3 +71,11 @@ pub record HasPointOf (u : Universe) (p : Plan) (ps : List Point) (k : ℕ) (mar
   pub point : Point
   pub at : slice_get ps k ≡ Some point
   pub is : IsPointOf u p mark point
+
+-- of its own lane a wait may meet an output before it alone
+abbrev pub may_meet : Mark → Source → Bool
+may_meet mark s = if s.lane == mark.lane then nat_le s.count mark.own else true
+
+-- the sources of a wait in no lane of the plan
+abbrev pub AreEntrySources : Universe → Plan → Entry → Sources → Type 0
+AreEntrySources u p e ss = AreSources u p (length p) 0 e ss.sources.items

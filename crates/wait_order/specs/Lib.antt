@@ -7,3 +7,4 @@ pub mod Marks
 pub mod Hits
 pub mod Columns
 pub mod PlaceRows
+pub mod Entries

@@ -7,11 +7,11 @@
 --   Holds, IsHeldAt             a lane waits, or has ended
 --   IsAdvance                   a lane goes on as far as it can
 --   AreStanding, IsRound        where all lanes stand; they go on in turn
-use Rattle.std.specs.Prelude.{◌≡◌, ℕ, ◌-◌, ◌<◌, ◌≤◌, Bool, true, false, ◌==◌, List, ◌++◌, length, drop, Option, Some, None, slice_index_or, if◌then◌else◌}
+use Rattle.std.specs.Prelude.{◌≡◌, ℕ, ◌-◌, ◌<◌, ◌≤◌, Bool, true, false, ◌==◌, List, ◌++◌, length, drop, Some, slice_index_or, if◌then◌else◌}
 use Rattle.farm_model.specs.declared.types.Variant.{Variant}
 use Rattle.farm_model.specs.Below.{sum_below}
 use Rattle.farm_model.specs.Universe.{Universe}
-use Rattle.farm_model.specs.Packages.{names, satisfies_entry}
+use Rattle.farm_model.specs.Packages.{names}
 use Rattle.plan_model.specs.declared.instructions.Instruction.{Instruction}
 use Rattle.plan_model.specs.declared.instructions.Instruction.TheVariants.{Wait}
 use Rattle.plan_model.specs.Plan.{Plan, lane, instruction_at}
@@ -53,24 +53,17 @@ Holds u there _ = ⊥
 abbrev pub IsHeldAt : Universe → Plan → ℕ → ℕ → List ℕ → Type 0
 IsHeldAt u p l i there = (x : Instruction) → instruction_at p l i ≡ Some x → Holds u there x
 
--- a row that is kept for an instruction is a wait's
-abbrev pub IsRowFor : Universe → Instruction → Option (List ℕ) → Type 0
-IsRowFor u (Wait e) (Some row) = IsRowOf u (satisfies_entry u e) row
-IsRowFor u _ _ = Unit {0}
-
 -- of an instruction: its items are made, or it waits and nothing changes
 pub record IsMade (u : Universe) (l : ℕ) (x : Instruction) (order there next_order : List ℕ)
-    (next_there : List ℕ) (wait : Option (List ℕ)) (made : Bool) : Type 0 where
+    (next_there : List ℕ) (made : Bool) : Type 0 where
   pub long : length next_there ≡ names u
   pub makes : made ≡ true → Makes u l (items_of u x) order there next_order next_there
   pub holds : made ≡ false → Holds u there x
   pub same : made ≡ false → (next_order ≡ order) × (next_there ≡ there)
-  pub kept : made ≡ false → IsRowFor u x wait
 
--- the place is one of the lane, and a row that is kept is its wait's
+-- the place is one of the lane
 pub record IsStanding (u : Universe) (p : Plan) (l : ℕ) (at : Standing) : Type 0 where
   pub within : at.place ≤ length (lane p l).instructions
-  pub kept : (x : Instruction) → instruction_at p l at.place ≡ Some x → IsRowFor u x at.wait
 
 -- where lane l stands at place i, it goes on to place j
 abbrev pub Leads : Universe → Plan → ℕ → ℕ → ℕ → List ℕ → List ℕ → List ℕ → List ℕ → Type 0
@@ -92,7 +85,7 @@ pub record IsAdvance (u : Universe) (p : Plan) (l : ℕ) (at next : Standing)
 
 -- what is read past the last lane
 abbrev pub no_standing : Standing
-no_standing = record { place = 0; wait = None }
+no_standing = record { place = 0 }
 
 -- the place of a lane
 abbrev pub place_of : List Standing → ℕ → ℕ

@@ -17,6 +17,12 @@ pub struct Source {
     pub count: u64,
 }
 
+/// The outputs that satisfy an entry, of each lane the first.
+#[derive(Debug, Drop)]
+pub struct Sources {
+    pub sources: Vec<Source>,
+}
+
 /// A wait: its lane and place, the outputs of the lane before it, the wait before it, and what
 /// satisfies it.
 #[derive(Debug, Drop)]

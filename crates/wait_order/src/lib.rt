@@ -4,6 +4,7 @@
 mod clock_row;
 mod column;
 mod columns;
+mod entries;
 mod known;
 mod lane_rows;
 mod marks;
@@ -12,6 +13,7 @@ mod points;
 mod rounds;
 mod standing;
 mod visit;
+mod wait_rows;
 
 pub use known::{Known, LanePlaces};
 pub use plan_rows::knowledge;

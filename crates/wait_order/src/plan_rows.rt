@@ -66,17 +66,18 @@ fn all_rows(
 pub fn knowledge(
     alloc: Global,
     universe: &Universe,
-    _tables: &Tables,
+    tables: &Tables,
     plan: &Plan,
 ) -> Result<Known, AllocError>
     requires sound { IsSound universe.now plan.now.lanes }
+    requires tables { tables.now ≡ universe.now }
     ensures universe { IfOk result (λ known. known.universe ≡ universe.now) }
     ensures plan { IfOk result (λ known. known.plan ≡ plan.now.lanes) }
     ensures greatest { IfOk result (λ known. IsGreatest universe.now plan.now.lanes
         (rows_of known)) }
 {
     let marks = walk(alloc, universe, plan)?;
-    let points = points(alloc, universe, plan, &marks)?;
+    let points = points(alloc, universe, tables, plan, &marks)?;
     let visit = visit(alloc, &points)?;
     let columns = columns(alloc, universe, plan, &marks.lanes, &points, &visit)?;
     let known = all_rows(alloc, universe, plan, &marks.lanes, &columns, &points)?;

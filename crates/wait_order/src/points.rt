@@ -1,6 +1,7 @@
 //! The waits of a plan as points of the columns: each with the outputs that satisfy it.
 
-ghost use Rattle.std.specs.Prelude.{◌≡◌, ℕ, ◌<◌, ◌≤◌, ◌==◌, length, Some, slice_get, if◌then◌else◌, IsNone, IfSome, IfOk, OnOk};
+ghost use Rattle.std.specs.Prelude.{◌≡◌, ℕ, ◌<◌, ◌≤◌, ◌++◌, ◌∷◌, [], length, Some, slice_get, if◌then◌else◌, IsNone, IfSome, IfOk, OnOk};
+ghost use Rattle.std.specs.List.{filter};
 ghost use Rattle.farm_model.specs.Packages.{names, initial, satisfies_entry};
 ghost use Rattle.farm_model.specs.Sound.{IsUniverse};
 ghost use Rattle.plan_model.specs.Plan as model;
@@ -10,16 +11,19 @@ ghost use Rattle.clock_laws.specs.Clocks.{count_before};
 ghost use Rattle.sat_rows.specs.Rows.{IsRowOf};
 ghost use Rattle.wait_order.specs.Waits.{AreSources, ArePoints};
 ghost use Rattle.wait_order.specs.Marks.{all_marks, AreLanes};
-ghost use Rattle.wait_order.specs.Hits.{HasNoHit, IsFirstHit, AreKnownOutputs, IsPushed, AreSourcesBelow, IsPointOf};
+ghost use Rattle.wait_order.specs.Hits as hits;
+ghost use Rattle.wait_order.specs.Hits.{HasNoHit, IsFirstHit, AreKnownOutputs, IsPushed, AreSourcesBelow, IsPointOf, AreEntrySources};
+ghost use Rattle.wait_order.specs.Entries.{AreFor};
 
-use crate::column::{Point, Source};
+use crate::column::{Point, Source, Sources};
+use crate::entries::Entries;
 use crate::marks::{LaneOutputs, Mark, Marks, Output};
 use crate::standing::initial_row;
 use bit_rows::Row;
 use deb_relation::Entry;
 use farm_universe::Universe;
 use plan_asm::{Instruction, Plan};
-use sat_rows::entry_row;
+use sat_rows::Tables;
 use std::alloc::{AllocError, Global};
 
 /// Finds the first of so many outputs that a row has.
@@ -93,37 +97,107 @@ fn initial_sources(
     Ok(sources)
 }
 
-/// How many outputs of a lane a wait may meet.
-fn limit_of(mark: Mark, number: usize, count: usize) -> usize
-    ensures { result ≡ (if number == mark.lane then mark.own else count) }
-{
-    if number == mark.lane { mark.own } else { count }
-}
-
-/// The sources of a wait.
+/// The sources of a wait of an entry that stands in no lane of the plan.
 fn sources_of(
     alloc: Global,
     universe: &Universe,
+    tables: &Tables,
     _plan: &Plan,
     archive: &Row,
     lanes: &[LaneOutputs],
-    mark: Mark,
     entry: &Entry,
 ) -> Result<Vec<Source>, AllocError>
     requires sound { IsSound universe.now _plan.now.lanes }
+    requires tables { tables.now ≡ universe.now }
     requires archive { IsRowOf universe.now (initial universe.now) archive.now }
     requires lanes { AreLanes universe.now _plan.now.lanes lanes.now }
-    requires own { mark.own ≡ count_before universe.now _plan.now.lanes mark.lane mark.place }
-    ensures { IfOk result (λ sources. AreSources universe.now _plan.now.lanes mark.lane mark.place
-        entry.now sources.items) }
+    ensures { IfOk result (λ sources. AreSources universe.now _plan.now.lanes
+        (length _plan.now.lanes) 0 entry.now sources.items) }
 {
-    let row = entry_row(alloc, universe, entry)?;
+    let row = tables.entry_row(alloc, universe, entry)?;
     let mut sources = initial_sources(alloc, universe, archive, &row, entry)?;
     for number in 0..lanes.len() {
         let outputs = lanes[number].outputs.as_slice();
-        let limit = limit_of(mark, number, outputs.len());
-        push_hit(universe, &row, number, outputs, limit, &mut sources)?;
+        push_hit(universe, &row, number, outputs, outputs.len(), &mut sources)?;
     }
+    Ok(sources)
+}
+
+/// Tells whether a wait may meet a source: of its own lane only an output before it.
+fn may_meet(mark: Mark, source: Source) -> bool
+    ensures { result ≡ hits.may_meet mark source }
+{
+    if source.lane == mark.lane {
+        source.count <= mark.own as u64
+    } else {
+        true
+    }
+}
+
+/// Puts a source that a wait may meet behind the others.
+fn push_met(source: Source, mark: Mark, sources: &mut Vec<Source>) -> Result<(), AllocError>
+    ensures { OnOk result (sources.new.items
+        ≡ sources.old.items ++ (if hits.may_meet mark source then source ∷ [] else [])) }
+{
+    if may_meet(mark, source) {
+        sources.push(source)?;
+    }
+    Ok(())
+}
+
+/// Those of some sources that a wait may meet.
+fn met_sources(alloc: Global, all: &[Source], mark: Mark) -> Result<Vec<Source>, AllocError>
+    ensures { IfOk result (λ sources. sources.items ≡ filter (hits.may_meet mark) all.now) }
+{
+    let mut sources = Vec::new(alloc);
+    for k in 0..all.len() {
+        push_met(all[k], mark, &mut sources)?;
+    }
+    Ok(sources)
+}
+
+/// What was found for the entries of waits, by the numbers of the entries.
+#[derive(Drop)]
+struct Found<'p> {
+    entries: Entries<'p>,
+    sources: Vec<Sources>,
+}
+
+/// The sources of a wait. What its entry has is looked for once.
+fn sources_at<'p>(
+    alloc: Global,
+    universe: &Universe,
+    tables: &Tables,
+    plan: &Plan,
+    archive: &Row,
+    lanes: &[LaneOutputs],
+    mark: Mark,
+    entry: &'p Entry,
+    found: &mut Found<'p>,
+) -> Result<Vec<Source>, AllocError>
+    requires sound { IsSound universe.now plan.now.lanes }
+    requires tables { tables.now ≡ universe.now }
+    requires archive { IsRowOf universe.now (initial universe.now) archive.now }
+    requires lanes { AreLanes universe.now plan.now.lanes lanes.now }
+    requires lane { mark.lane < length plan.now.lanes }
+    requires own { mark.own ≡ count_before universe.now plan.now.lanes mark.lane mark.place }
+    requires found { AreFor (AreEntrySources universe.now plan.now.lanes) found.old.entries
+        found.old.sources.items }
+    ensures sources { IfOk result (λ sources. AreSources universe.now plan.now.lanes mark.lane
+        mark.place entry.now sources.items) }
+    ensures found { OnOk result (AreFor (AreEntrySources universe.now plan.now.lanes)
+        found.new.entries found.new.sources.items) }
+{
+    let number = found.entries.number(entry)?;
+    if number < found.sources.len() {
+        return Ok(met_sources(alloc, &found.sources[number].sources, mark)?);
+    }
+    let all = sources_of(alloc, universe, tables, plan, archive, lanes, entry)?;
+    let sources = met_sources(alloc, &all, mark)?;
+    if number != found.sources.len() {
+        return Ok(sources);
+    }
+    found.sources.push(Sources { sources: all })?;
     Ok(sources)
 }
 
@@ -147,13 +221,15 @@ fn point_with(mark: Mark, sources: Vec<Source>) -> Point
 }
 
 /// A wait as a point.
-fn point_of(
+fn point_of<'p>(
     alloc: Global,
     universe: &Universe,
-    plan: &Plan,
+    tables: &Tables,
+    plan: &'p Plan,
     archive: &Row,
     lanes: &[LaneOutputs],
     mark: Mark,
+    found: &mut Found<'p>,
 ) -> Result<Point, AllocError>
     requires sound { IsSound universe.now plan.now.lanes }
     requires archive { IsRowOf universe.now (initial universe.now) archive.now }
@@ -161,11 +237,18 @@ fn point_of(
     requires own { mark.own ≡ count_before universe.now plan.now.lanes mark.lane mark.place }
     requires lane { mark.lane < length plan.now.lanes }
     requires place { mark.place < length (lane plan.now.lanes mark.lane).instructions }
-    ensures { IfOk result (IsPointOf universe.now plan.now.lanes mark) }
+    requires tables { tables.now ≡ universe.now }
+    requires found { AreFor (AreEntrySources universe.now plan.now.lanes) found.old.entries
+        found.old.sources.items }
+    ensures point { IfOk result (IsPointOf universe.now plan.now.lanes mark) }
+    ensures found { OnOk result (AreFor (AreEntrySources universe.now plan.now.lanes)
+        found.new.entries found.new.sources.items) }
 {
     match &plan.lane(mark.lane).instructions()[mark.place] {
         Instruction::Wait(entry) => {
-            let sources = sources_of(alloc, universe, plan, archive, lanes, mark, entry)?;
+            let sources = sources_at(
+                alloc, universe, tables, plan, archive, lanes, mark, entry, found,
+            )?;
             Ok(point_with(mark, sources))
         }
         Instruction::Unpack { .. }
@@ -181,10 +264,12 @@ fn point_of(
 pub fn points(
     alloc: Global,
     universe: &Universe,
+    tables: &Tables,
     plan: &Plan,
     marks: &Marks,
 ) -> Result<Vec<Point>, AllocError>
     requires sound { IsSound universe.now plan.now.lanes }
+    requires tables { tables.now ≡ universe.now }
     requires waits { marks.now.waits.items
         ≡ all_marks universe.now plan.now.lanes (length plan.now.lanes) }
     requires lanes { AreLanes universe.now plan.now.lanes marks.now.lanes.items }
@@ -192,9 +277,22 @@ pub fn points(
 {
     let archive = initial_row(alloc, universe)?;
     let waits = marks.waits.as_slice();
+    let mut found = Found {
+        entries: Entries::new(alloc)?,
+        sources: Vec::new(alloc),
+    };
     let mut points = Vec::new(alloc);
     for w in 0..waits.len() {
-        points.push(point_of(alloc, universe, plan, &archive, &marks.lanes, waits[w])?)?;
+        points.push(point_of(
+            alloc,
+            universe,
+            tables,
+            plan,
+            &archive,
+            &marks.lanes,
+            waits[w],
+            &mut found,
+        )?)?;
     }
     Ok(points)
 }

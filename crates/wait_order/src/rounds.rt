@@ -11,6 +11,7 @@ ghost use Rattle.wait_order.specs.Standing.{place_of, AreStanding, IsRound};
 ghost use Rattle.wait_order.specs.Answer.{IsWhyNone};
 
 use crate::standing::{Standing, advance, initial_row};
+use crate::wait_rows::WaitRows;
 use bit_rows::Row;
 use farm_universe::Universe;
 use plan_asm::Plan;
@@ -54,33 +55,45 @@ fn starts(alloc: Global, universe: &Universe, plan: &Plan) -> Result<Vec<Standin
 {
     let mut ats = Vec::new(alloc);
     for _number in 0..plan.lanes() {
-        ats.push(Standing {
-            place: 0,
-            wait: None,
-        })?;
+        ats.push(Standing { place: 0 })?;
     }
     Ok(ats)
 }
 
 /// Takes each lane on as far as it goes, in file order, and tells whether one moved.
-fn round(
+fn round<'p>(
     alloc: Global,
     universe: &Universe,
-    plan: &Plan,
+    tables: &Tables,
+    plan: &'p Plan,
     ats: &mut [Standing],
+    rows: &mut WaitRows<'p>,
     archive: &mut Row,
     order: &mut Vec<u32>,
 ) -> Result<bool, AllocError>
     requires sound { IsUniverse universe.now }
     requires archive { length archive.old ≡ names universe.now }
     requires standing { AreStanding universe.now plan.now.lanes ats.old }
-    ensures { IfOk result (IsRound universe.now plan.now.lanes ats.old ats.new order.old.items
-        archive.old order.new.items archive.new (length plan.now.lanes)) }
+    requires tables { tables.now ≡ universe.now }
+    requires rows { rows.old ≡ universe.now }
+    ensures round { IfOk result (IsRound universe.now plan.now.lanes ats.old ats.new
+        order.old.items archive.old order.new.items archive.new (length plan.now.lanes)) }
+    ensures rows { rows.new ≡ rows.old }
 {
     let mut moved = false;
     for number in 0..plan.lanes() {
         let at = &mut ats[number];
-        if advance(alloc, universe, plan, number as u32, at, archive, order)? {
+        if advance(
+            alloc,
+            universe,
+            tables,
+            plan,
+            number as u32,
+            at,
+            rows,
+            archive,
+            order,
+        )? {
             moved = true;
         }
     }
@@ -131,17 +144,28 @@ fn lanes_left(alloc: Global, plan: &Plan, ats: &[Standing]) -> Result<Vec<u32>, 
 pub fn order(
     alloc: Global,
     universe: &Universe,
-    _tables: &Tables,
+    tables: &Tables,
     plan: &Plan,
 ) -> Result<Vec<u32>, OrderError>
     requires sound { IsSound universe.now plan.now.lanes }
+    requires tables { tables.now ≡ universe.now }
     ensures order { IfOk result (λ order. IsOrder universe.now plan.now.lanes order.items) }
     ensures stuck { IfErr result (IsWhyNone universe.now plan.now.lanes) }
 {
     let mut archive = initial_row(alloc, universe)?;
     let mut ats = starts(alloc, universe, plan)?;
+    let mut rows = WaitRows::new(alloc, universe)?;
     let mut order = Vec::new(alloc);
-    while round(alloc, universe, plan, &mut ats, &mut archive, &mut order)? {}
+    while round(
+        alloc,
+        universe,
+        tables,
+        plan,
+        &mut ats,
+        &mut rows,
+        &mut archive,
+        &mut order,
+    )? {}
     let stuck = lanes_left(alloc, plan, &ats)?;
     if stuck.as_slice().is_empty() {
         Ok(order)

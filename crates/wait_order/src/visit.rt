@@ -1,6 +1,6 @@
 //! An order in which the waits of a plan may pass, for the first look of the columns at them.
 
-ghost use Rattle.std.specs.Prelude.{◌≡◌, ◌<◌, length, OnOk};
+ghost use Rattle.std.specs.Prelude.{◌≡◌, length, OnOk};
 
 use crate::column::{Point, Source};
 use std::alloc::{AllocError, Global};
@@ -23,46 +23,73 @@ fn is_there(passed: &[bool], sources: &[Source]) -> bool {
     false
 }
 
-/// Lets a wait pass where it is the next of its lane and has a source, and tells whether it did.
-fn step(
+/// The number of the first wait of each lane that has one.
+fn starts(alloc: Global, points: &[Point]) -> Result<Vec<usize>, AllocError> {
+    let mut starts = Vec::new(alloc);
+    for w in 0..points.len() {
+        if points[w].before.is_none() {
+            starts.push(w)?;
+        }
+    }
+    Ok(starts)
+}
+
+/// Takes a lane as far as it goes, from one of its waits on, and gives the wait at which it stops.
+fn advance(
     points: &[Point],
-    w: usize,
+    from: usize,
+    end: usize,
     passed: &mut [bool],
     visit: &mut Vec<usize>,
-) -> Result<bool, AllocError>
-    requires there { w < length points.now }
+) -> Result<usize, AllocError>
     requires long { length passed.old ≡ length points.now }
     ensures { OnOk result (length passed.new ≡ length points.now) }
 {
-    let point = &points[w];
-    if passed[w] || !has_passed(passed, point.before) || !is_there(passed, &point.sources) {
-        return Ok(false);
+    for w in from..end.min(points.len()) {
+        if !has_passed(passed, points[w].before) || !is_there(passed, &points[w].sources) {
+            return Ok(w);
+        }
+        passed[w] = true;
+        visit.push(w)?;
     }
-    passed[w] = true;
-    visit.push(w)?;
-    Ok(true)
+    Ok(end)
 }
 
 /// Takes each lane as far as it goes, and tells whether a wait passed.
-fn round(points: &[Point], passed: &mut [bool], visit: &mut Vec<usize>) -> Result<bool, AllocError>
+fn round(
+    points: &[Point],
+    starts: &[usize],
+    nexts: &mut [usize],
+    passed: &mut [bool],
+    visit: &mut Vec<usize>,
+) -> Result<bool, AllocError>
     requires long { length passed.old ≡ length points.now }
-    ensures { OnOk result (length passed.new ≡ length points.now) }
+    requires lanes { length nexts.old ≡ length starts.now }
+    ensures long { OnOk result (length passed.new ≡ length points.now) }
+    ensures lanes { OnOk result (length nexts.new ≡ length starts.now) }
 {
     let mut moved = false;
-    for w in 0..points.len() {
-        if step(points, w, passed, visit)? {
-            moved = true;
-        }
+    for lane in 0..starts.len() {
+        let end = if starts.len() - lane > 1 {
+            starts[lane + 1]
+        } else {
+            points.len()
+        };
+        let next = advance(points, nexts[lane], end, passed, visit)?;
+        moved |= next > nexts[lane];
+        nexts[lane] = next;
     }
     Ok(moved)
 }
 
 /// The waits that pass, in an order in which they do.
 pub fn visit(alloc: Global, points: &[Point]) -> Result<Vec<usize>, AllocError> {
+    let starts = starts(alloc, points)?;
+    let mut nexts = starts.clone()?;
     let mut passed = vec![in alloc; false; points.len()]?;
     let mut visit = Vec::new(alloc);
     for _turn in 0..points.len() {
-        if !round(points, &mut passed, &mut visit)? {
+        if !round(points, &starts, &mut nexts, &mut passed, &mut visit)? {
             return Ok(visit);
         }
     }

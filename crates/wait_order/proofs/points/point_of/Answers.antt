@@ -4,8 +4,8 @@ use Rattle.wait_order.specs.Hits.{IsPointOf}
 use Rattle.wait_order.proofs.PointLaws.{wait_here}
 use Rattle.wait_order.proofs.points.point_of.Goals as goal
 
-pub returns-in_ok-sources-in-Wait : goal.returns-in_ok-sources-in-Wait
-returns-in_ok-sources-in-Wait c =
+pub returns-in_ok-sources-in-Wait-clause-point : goal.returns-in_ok-sources-in-Wait-clause-point
+returns-in_ok-sources-in-Wait-clause-point c =
     let u = c.args.universe.now in
     let p = c.args.plan.now.lanes in
     let xs = c.instructions.ensures ∙ ap (λ of. of.instructions) c.lane.ensures in
@@ -21,5 +21,5 @@ returns-in_ok-sources-in-Wait c =
           (wait_here p c.args.mark.lane c.args.mark.place c.instructions.result.now
           c.index-instructions-mark.result _ f xs lt
           (sym c.index-instructions-mark.is ∙ c.in-Wait.is) at)
-          c.in_ok-sources-in-Wait.ensures;
+          c.in_ok-sources-in-Wait.ensures.sources;
     })

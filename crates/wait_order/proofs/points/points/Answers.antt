@@ -43,7 +43,8 @@ loop-w-preserved c =
           (points_next u p waits c.loop-w.points.items w
           (get_or waits w (record { lane = 0; place = 0; own = 0; before = None }))
           c.in_ok-point_of.field-0 c.loop-w.invariant.long c.loop-w.invariant.have at
-          c.in_ok-point_of.ensures k m lt at_k);
+          c.in_ok-point_of.ensures.point k m lt at_k);
+      found = c.in_ok-point_of.ensures.found;
     }
 
 pub returns : goal.returns

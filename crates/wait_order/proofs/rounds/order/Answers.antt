@@ -11,6 +11,7 @@ loop-order-init c =
     record {
       standing = c.in_ok-ats.ensures.standing;
       long = c.in_ok-archive.ensures.long;
+      rows = c.in_ok-rows.ensures;
       reached = subst
           (λ os. IsReached u p os c.in_ok-archive.archive (left_of u p c.in_ok-ats.ats.items))
           (sym c.new-order.ensures.items)
@@ -22,7 +23,7 @@ pub returns-then-is_empty-clause-order : goal.returns-then-is_empty-clause-order
 returns-then-is_empty-clause-order c =
     let u = c.args.universe.now in
     let p = c.args.plan.now.lanes in
-    let round = c.in_ok-round.ensures in
+    let round = c.in_ok-round.ensures.round in
     let reached = round.reached (subst
     (λ ats. IsReached u p c.loop-order.order.items c.loop-order.archive (left_of u p ats))
     (sym c.deref_mut.ensures.value) c.loop-order.invariant.reached) in
@@ -43,7 +44,7 @@ pub returns-clause-stuck : goal.returns-clause-stuck
 returns-clause-stuck c =
     let u = c.args.universe.now in
     let p = c.args.plan.now.lanes in
-    let round = c.in_ok-round.ensures in
+    let round = c.in_ok-round.ensures.round in
     let reached = round.reached (subst
     (λ ats. IsReached u p c.loop-order.order.items c.loop-order.archive (left_of u p ats))
     (sym c.deref_mut.ensures.value) c.loop-order.invariant.reached) in

@@ -9,6 +9,7 @@ invariant-loop-order l =
     record {
       standing : AreStanding l.universe l.plan.lanes l.ats.items;
       long : length l.archive ≡ names l.universe;
+      rows : l.rows ≡ l.universe;
       reached : IsReached l.universe l.plan.lanes l.order.items l.archive
           (left_of l.universe l.plan.lanes l.ats.items);
     }

@@ -1,3 +1,4 @@
+use Rattle.std.proofs.Common.{◌≡◌}
 use Rattle.wait_order.specs.Standing.{IsRound}
 use Rattle.wait_order.proofs.rounds.round.Given as goal
 
@@ -5,4 +6,4 @@ use Rattle.wait_order.proofs.rounds.round.Given as goal
 abbrev pub invariant-loop-number : goal.invariant-loop-number
 invariant-loop-number l =
     IsRound l.universe l.plan.lanes l.initial.ats l.ats l.initial.order.items l.initial.archive
-    l.order.items l.archive l.number l.moved
+    l.order.items l.archive l.number l.moved × (l.rows ≡ l.initial.rows)

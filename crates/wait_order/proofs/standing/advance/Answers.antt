@@ -19,19 +19,20 @@ loop-place-preserved c =
     record {
       standing = standing_at u p l (i + 1) below;
       place = refl;
-      long = c.in_ok-made.ensures.long;
+      rows = c.make.ensures.rows ∙ c.loop-place.invariant.rows;
+      long = c.in_ok-made.ensures.made.long;
       leads = subst
           (λ k. Leads u p l c.args.at.now.place k c.args.order.now.items c.args.archive.now
           c.make.new.order.items c.make.new.archive) (let e : suc i ≡ i + 1 = omega arith in e)
           (leads_more u p l c.args.at.now.place i c.index-instructions-place.result
           c.args.order.now.items c.args.archive.now c.loop-place.order.items c.loop-place.archive
           c.make.new.order.items c.make.new.archive c.requires.lane at c.loop-place.invariant.leads
-          (c.in_ok-made.ensures.makes c.if-not-made.false));
+          (c.in_ok-made.ensures.made.makes c.if-not-made.false));
       same = λ e. absurd (omega (arith, e, c.loop-place.auto.place));
     }
 
-pub returns : goal.returns
-returns c =
+pub returns-clause-advance : goal.returns-clause-advance
+returns-clause-advance c =
     let u = c.args.universe.now in
     let p = c.args.plan.now.lanes in
     let l = c.args.number in

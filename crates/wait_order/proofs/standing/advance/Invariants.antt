@@ -9,6 +9,7 @@ invariant-loop-place l =
     record {
       standing : IsStanding l.universe l.plan.lanes l.number l.at;
       place : l.at.place ≡ l.place;
+      rows : l.rows ≡ l.initial.rows;
       long : length l.archive ≡ names l.universe;
       leads : Leads l.universe l.plan.lanes l.number l.initial.at.place l.place
           l.initial.order.items l.initial.archive l.order.items l.archive;

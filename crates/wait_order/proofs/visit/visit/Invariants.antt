@@ -2,4 +2,5 @@ use Rattle.std.proofs.Common.{◌≡◌, length}
 use Rattle.wait_order.proofs.visit.visit.Given as goal
 
 abbrev pub invariant-loop-turn : goal.invariant-loop-turn
-invariant-loop-turn l = length l.passed.items ≡ length l.points
+invariant-loop-turn l =
+    (length l.passed.items ≡ length l.points) × (length l.nexts.items ≡ length l.starts.items)

@@ -1,5 +1,5 @@
 use Rattle.wait_order.proofs.Passes.{hit_passes}
-use Rattle.wait_order.proofs.standing.is_met.Goals as goal
+use Rattle.wait_order.proofs.wait_rows.is_met.Goals as goal
 
 pub returns : goal.returns
 returns c =

@@ -1,0 +1,72 @@
+use Rattle.std.proofs.Common.{◌≡◌, length, slice_get, refl, sym, ap, subst, ◌∙◌, arith}
+use Rattle.std.specs.List.{filter}
+use Rattle.std.proofs.lemmas.Option.{slice_get_read}
+use Rattle.wait_order.specs.Hits.{may_meet, AreEntrySources}
+use Rattle.wait_order.specs.Waits.{AreSources}
+use Rattle.wait_order.proofs.KeptLaws.{for_longer, for_push, for_at}
+use Rattle.wait_order.proofs.MetSources.{met_are}
+use Rattle.wait_order.proofs.points.sources_at.Goals as goal
+
+pub returns-then-number-len-clause-sources : goal.returns-then-number-len-clause-sources
+returns-then-number-len-clause-sources c =
+    let u = c.args.universe.now in
+    let p = c.args.plan.now.lanes in
+    let e = c.args.entry.now in
+    let mark = c.args.mark in
+    let kept = c.args.found.now.sources.items in
+    let n = c.in_ok-number.number in
+    let are =
+    for_at (AreEntrySources u p) c.number.new.self kept n e c.index.result.now
+    (for_longer (AreEntrySources u p) c.args.found.now.entries c.number.new.self kept
+    c.number.ensures.longer c.requires.found) c.in_ok-number.ensures.at
+    (slice_get_read kept (length kept) n c.index.result.now refl
+    (omega (arith, c.if-number-len.true, c.len.ensures)) c.index.ensures) in
+    subst (AreSources u p mark.lane mark.place e)
+    (sym (c.in_ok-met_sources.ensures ∙ ap (filter (may_meet mark)) c.deref.ensures.value))
+    (met_are u p e mark c.requires.lane c.requires.own c.index.result.now.sources.items are)
+
+pub returns-then-number-len-clause-found : goal.returns-then-number-len-clause-found
+returns-then-number-len-clause-found c =
+    for_longer (AreEntrySources c.args.universe.now c.args.plan.now.lanes)
+    c.args.found.now.entries c.number.new.self c.args.found.now.sources.items
+    c.number.ensures.longer c.requires.found
+
+pub returns-then-number-len-2-clause-sources : goal.returns-then-number-len-2-clause-sources
+returns-then-number-len-2-clause-sources c =
+    let u = c.args.universe.now in
+    let p = c.args.plan.now.lanes in
+    let e = c.args.entry.now in
+    let mark = c.args.mark in
+    subst (AreSources u p mark.lane mark.place e)
+    (sym (c.in_ok-sources.ensures ∙ ap (filter (may_meet mark)) c.deref-2.ensures.value))
+    (met_are u p e mark c.requires.lane c.requires.own c.in_ok-all.all.items c.in_ok-all.ensures)
+
+pub returns-then-number-len-2-clause-found : goal.returns-then-number-len-2-clause-found
+returns-then-number-len-2-clause-found c =
+    for_longer (AreEntrySources c.args.universe.now c.args.plan.now.lanes)
+    c.args.found.now.entries c.number.new.self c.args.found.now.sources.items
+    c.number.ensures.longer c.requires.found
+
+pub returns-clause-sources : goal.returns-clause-sources
+returns-clause-sources c =
+    let u = c.args.universe.now in
+    let p = c.args.plan.now.lanes in
+    let e = c.args.entry.now in
+    let mark = c.args.mark in
+    subst (AreSources u p mark.lane mark.place e)
+    (sym (c.in_ok-sources.ensures ∙ ap (filter (may_meet mark)) c.deref-2.ensures.value))
+    (met_are u p e mark c.requires.lane c.requires.own c.in_ok-all.all.items c.in_ok-all.ensures)
+
+pub returns-clause-found : goal.returns-clause-found
+returns-clause-found c =
+    let u = c.args.universe.now in
+    let p = c.args.plan.now.lanes in
+    let kept = c.args.found.now.sources.items in
+    for_push (AreEntrySources u p) c.number.new.self kept c.push.new.self.items c.args.entry.now
+    (record { sources = c.in_ok-all.all })
+    (for_longer (AreEntrySources u p) c.args.found.now.entries c.number.new.self kept
+    c.number.ensures.longer c.requires.found)
+    (let same : c.in_ok-number.number ≡ length kept =
+    omega (arith, c.if-number-len-2.false, c.len-2.ensures) in
+    ap (slice_get c.number.new.self) (sym same) ∙ c.in_ok-number.ensures.at)
+    c.in_ok-all.ensures c.in_ok-push.ensures.items
