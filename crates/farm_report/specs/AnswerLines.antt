@@ -34,3 +34,26 @@ stuck_words = concat (codes "refused " ∷ decimal STUCK ∷ codes " lanes" ∷ 
 -- `refused 402 lanes NAME NAME ..`
 abbrev pub stuck_line : List (List ℕ) → List ℕ
 stuck_line names = concat (stuck_words ∷ spaced names ∷ codes "\n" ∷ [])
+
+-- `trap STEP lane NAME instruction N TRAP`
+abbrev pub trap_line : ℕ → List ℕ → ℕ → List ℕ → List ℕ
+trap_line step lane instruction trap =
+    concat (codes "trap " ∷ decimal step ∷ codes " lane " ∷ lane ∷ codes " instruction "
+    ∷ decimal instruction ∷ codes " " ∷ trap ∷ codes "\n" ∷ [])
+
+-- `published SERIAL LANE NAME VERSION`
+abbrev pub published_line : ℕ → List ℕ → List ℕ → List ℕ → List ℕ
+published_line serial lane name version =
+    concat (codes "published " ∷ decimal serial ∷ codes " " ∷ lane ∷ codes " " ∷ name ∷ codes " "
+    ∷ version ∷ codes "\n" ∷ [])
+
+-- `lane NAME at N spent N used N`
+abbrev pub at_line : List ℕ → ℕ → ℕ → ℕ → List ℕ
+at_line name done spent used =
+    concat (codes "lane " ∷ name ∷ codes " at " ∷ decimal done ∷ codes " spent " ∷ decimal spent
+    ∷ codes " used " ∷ decimal used ∷ codes "\n" ∷ [])
+
+-- two spaces, and then `NAME VERSION PHASE`
+abbrev pub variant_line : List ℕ → List ℕ → List ℕ → List ℕ
+variant_line name version phase =
+    concat (codes "  " ∷ name ∷ codes " " ∷ version ∷ codes " " ∷ phase ∷ codes "\n" ∷ [])

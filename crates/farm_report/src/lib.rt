@@ -2,7 +2,12 @@
 #![tactic(auto)]
 
 mod lines;
+mod spelling;
+mod state;
+mod state_lines;
+mod step;
 mod verdict;
 
 pub use report_sink::{Sink, SinkFailed, WRITE_FAILED, WriteFailed, WriteSink, write_text};
+pub use step::write_step;
 pub use verdict::{verdict_text, write_check};
