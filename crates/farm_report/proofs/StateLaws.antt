@@ -22,7 +22,8 @@ unfolding names variants
 not_named u v past = rw (get_or_past u.packages v.name [] past) (omega arith)
 
 -- what is no variant has no version
-pub not_known : (u : Universe) (v : Variant) → variants u v.name ≤ v.bit → (package_of u v).version ≡ []
+pub not_known : (u : Universe) (v : Variant) → variants u v.name ≤ v.bit
+    → (package_of u v).version ≡ []
 unfolding variants package_of
 not_known u v past =
     ap (λ (q : Package). q.version)

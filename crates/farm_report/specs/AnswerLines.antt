@@ -3,7 +3,7 @@ use Rattle.std.specs.Prelude.{ℕ, List, [], ◌∷◌, codes}
 use Rattle.std.specs.List.{concat}
 use Rattle.std.specs.Fmt.{decimal}
 use Rattle.deb_text.specs.Words.{spaced}
-use Rattle.plan_verifier.specs.declared.refusal.TheConstants.{UNSAFE, STUCK}
+use Rattle.plan_verifier.specs.declared.refusal.TheConstants.{STUCK}
 
 -- `WORD N`
 abbrev pub counted_line : List ℕ → ℕ → List ℕ
@@ -21,11 +21,27 @@ fault_line code file line =
     concat (codes "refused " ∷ decimal code ∷ codes " " ∷ file ∷ codes " line " ∷ decimal line
     ∷ codes "\n" ∷ [])
 
--- `refused 401 lane NAME instruction N TRAP`, by the code `UNSAFE`
-abbrev pub unsafe_line : List ℕ → ℕ → List ℕ → List ℕ
-unsafe_line lane instruction trap =
-    concat (codes "refused " ∷ decimal UNSAFE ∷ codes " lane " ∷ lane ∷ codes " instruction "
+-- `refused CODE lane NAME instruction N TRAP`
+abbrev pub unsafe_line : ℕ → List ℕ → ℕ → List ℕ → List ℕ
+unsafe_line code lane instruction trap =
+    concat (codes "refused " ∷ decimal code ∷ codes " lane " ∷ lane ∷ codes " instruction "
     ∷ decimal instruction ∷ codes " " ∷ trap ∷ codes "\n" ∷ [])
+
+-- `refused CODE lane NAME instruction N`
+abbrev pub row_line : ℕ → List ℕ → ℕ → List ℕ
+row_line code lane instruction =
+    concat (codes "refused " ∷ decimal code ∷ codes " lane " ∷ lane ∷ codes " instruction "
+    ∷ decimal instruction ∷ codes "\n" ∷ [])
+
+-- `refused CODE WORD N`
+abbrev pub refused_at_line : ℕ → List ℕ → ℕ → List ℕ
+refused_at_line code word number =
+    concat (codes "refused " ∷ decimal code ∷ codes " " ∷ word ∷ codes " " ∷ decimal number
+    ∷ codes "\n" ∷ [])
+
+-- want of memory, which the program tells on standard error instead
+abbrev pub memory_line : List ℕ
+memory_line = codes "refused 900\n"
 
 -- `refused 402 lanes`, by the code `STUCK`
 abbrev pub stuck_words : List ℕ

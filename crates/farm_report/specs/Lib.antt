@@ -1,3 +1,4 @@
 pub mod AnswerLines
 pub mod VerdictText
 pub mod StateText
+pub mod CertText

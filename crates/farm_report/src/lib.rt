@@ -1,6 +1,7 @@
 //! The texts of answers, written to a sink.
 #![tactic(auto)]
 
+mod cert;
 mod lines;
 mod spelling;
 mod state;
@@ -8,6 +9,7 @@ mod state_lines;
 mod step;
 mod verdict;
 
+pub use cert::write_cert_verdict;
 pub use report_sink::{Sink, SinkFailed, WRITE_FAILED, WriteFailed, WriteSink, write_text};
 pub use step::write_step;
 pub use verdict::{verdict_text, write_check};

@@ -4,11 +4,11 @@
 ghost use Rattle.std.specs.Prelude.{◌≡◌, is_err};
 ghost use Rattle.deb_text.specs.Lists.{lists};
 ghost use Rattle.deb_text.specs.Words.{spaced};
-ghost use Rattle.farm_report.specs.AnswerLines.{counted_line, lane_line, fault_line, unsafe_line, stuck_line};
+ghost use Rattle.farm_report.specs.AnswerLines.{counted_line, lane_line, fault_line, unsafe_line, row_line, refused_at_line, memory_line, stuck_line};
 ghost use Rattle.report_sink.specs.Sinks.{IsWritten};
 
 use itoa::Buffer;
-use plan_verifier::{STUCK, UNSAFE};
+use plan_verifier::STUCK;
 use report_sink::{Sink, WriteFailed, whether_written, write_pieces, write_text};
 
 /// A line of a word and a number, as `lanes 2`.
@@ -89,6 +89,82 @@ pub fn write_fault<S: Sink>(
     )
 }
 
+/// The line of want of memory.
+///
+/// # Errors
+///
+/// [`WriteFailed`] where the sink has failed. It has then taken a first part of the line.
+pub fn write_memory<S: Sink>(out: &mut S) -> Result<(), WriteFailed>
+    ensures written { IsWritten (S.state out.old) (S.state out.new) memory_line }
+    ensures told { is_err result ≡ (S.state out.new).failed }
+{
+    write_text(out, b"refused 900\n")
+}
+
+/// The line of a refusal at a number, as `refused 454 item 2`.
+///
+/// # Errors
+///
+/// [`WriteFailed`] where the sink has failed. It has then taken a first part of the line.
+pub fn write_refused_at<S: Sink>(
+    out: &mut S,
+    code: u16,
+    word: &[u8],
+    number: u32,
+) -> Result<(), WriteFailed>
+    ensures written { IsWritten (S.state out.old) (S.state out.new)
+        (refused_at_line code word.now number) }
+    ensures told { is_err result ≡ (S.state out.new).failed }
+{
+    let (mut code_digits, mut digits) = (Buffer::new(), Buffer::new());
+    let refused = code_digits.format(code);
+    let number = digits.format(number);
+    write_pieces(
+        out,
+        &[
+            b"refused ",
+            refused.as_bytes(),
+            b" ",
+            word,
+            b" ",
+            number.as_bytes(),
+            b"\n",
+        ],
+    )
+}
+
+/// The line of a row, as `refused 452 lane a instruction 3`.
+///
+/// # Errors
+///
+/// [`WriteFailed`] where the sink has failed. It has then taken a first part of the line.
+pub fn write_row<S: Sink>(
+    out: &mut S,
+    code: u16,
+    lane: &[u8],
+    instruction: u32,
+) -> Result<(), WriteFailed>
+    ensures written { IsWritten (S.state out.old) (S.state out.new)
+        (row_line code lane.now instruction) }
+    ensures told { is_err result ≡ (S.state out.new).failed }
+{
+    let (mut code_digits, mut place_digits) = (Buffer::new(), Buffer::new());
+    let refused = code_digits.format(code);
+    let instruction = place_digits.format(instruction);
+    write_pieces(
+        out,
+        &[
+            b"refused ",
+            refused.as_bytes(),
+            b" lane ",
+            lane,
+            b" instruction ",
+            instruction.as_bytes(),
+            b"\n",
+        ],
+    )
+}
+
 /// The line of an unsafe instruction, as `refused 401 lane a instruction 3 X7 Depends`.
 ///
 /// # Errors
@@ -96,22 +172,23 @@ pub fn write_fault<S: Sink>(
 /// [`WriteFailed`] where the sink has failed. It has then taken a first part of the line.
 pub fn write_unsafe<S: Sink>(
     out: &mut S,
+    code: u16,
     lane: &[u8],
     instruction: u32,
     trap: &[u8],
 ) -> Result<(), WriteFailed>
     ensures written { IsWritten (S.state out.old) (S.state out.new)
-        (unsafe_line lane.now instruction trap.now) }
+        (unsafe_line code lane.now instruction trap.now) }
     ensures told { is_err result ≡ (S.state out.new).failed }
 {
     let (mut code_digits, mut place_digits) = (Buffer::new(), Buffer::new());
-    let code = code_digits.format(UNSAFE);
+    let refused = code_digits.format(code);
     let instruction = place_digits.format(instruction);
     write_pieces(
         out,
         &[
             b"refused ",
-            code.as_bytes(),
+            refused.as_bytes(),
             b" lane ",
             lane,
             b" instruction ",

@@ -5,9 +5,11 @@ ghost use Rattle.std.specs.List.{flat_map, range_with_len};
 ghost use Rattle.farm_report.specs.VerdictText as spec;
 ghost use Rattle.report_sink.specs.Sinks.{IsWritten};
 
-use crate::lines::{write_counted, write_fault, write_lane, write_stuck, write_unsafe};
+use crate::lines::{
+    write_counted, write_fault, write_lane, write_memory, write_stuck, write_unsafe,
+};
 use deb_text::files::{FARM, PACKAGES, PLAN, SOURCES};
-use plan_verifier::{Accepted, Refusal};
+use plan_verifier::{Accepted, Refusal, UNSAFE};
 use report_sink::{Sink, WriteFailed, WriteSink, whether_written, write_text};
 use std::alloc::{AllocError, Global};
 
@@ -65,9 +67,9 @@ fn write_refusal<S: Sink>(out: &mut S, refusal: &Refusal) -> Result<(), WriteFai
             lane,
             instruction,
             trap,
-        } => write_unsafe(out, lane, *instruction, trap.text().as_bytes()),
+        } => write_unsafe(out, UNSAFE, lane, *instruction, trap.text().as_bytes()),
         Refusal::Stuck { lanes } => write_stuck(out, lanes),
-        Refusal::Memory => write_text(out, b"refused 900\n"),
+        Refusal::Memory => write_memory(out),
     }
 }
 

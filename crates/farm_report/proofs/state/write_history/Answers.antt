@@ -15,7 +15,8 @@ loop-publication-preserved g c =
     no_publication
     (omega (arith, c.loop-publication-test.true, ap length c.history-publication-items.ensures))
     _ _ _ c.loop-publication.invariant
-    (subst (IsWritten (g.S.Sink.state c.loop-publication.out) (g.S.Sink.state c.write_publication.new.out))
+    (subst
+    (IsWritten (g.S.Sink.state c.loop-publication.out) (g.S.Sink.state c.write_publication.new.out))
     (published_is _ _ _ _ (get_or c.history-publication-items.result.now i no_publication) _
     c.universe.ensures (ap (λ (p : CountedPlan). p.lanes) c.plan.ensures)
     (ap (λ h. get_or h i no_publication) c.history-publication-items.ensures))
@@ -30,7 +31,8 @@ returns-in_err-write_publication-clause-written g c =
     no_publication
     (omega (arith, c.loop-publication-test.true, ap length c.history-publication-items.ensures))
     _ _ _ c.loop-publication.invariant
-    (subst (IsWritten (g.S.Sink.state c.loop-publication.out) (g.S.Sink.state c.write_publication.new.out))
+    (subst
+    (IsWritten (g.S.Sink.state c.loop-publication.out) (g.S.Sink.state c.write_publication.new.out))
     (published_is _ _ _ _ (get_or c.history-publication-items.result.now i no_publication) _
     c.universe.ensures (ap (λ (p : CountedPlan). p.lanes) c.plan.ensures)
     (ap (λ h. get_or h i no_publication) c.history-publication-items.ensures))

@@ -18,7 +18,8 @@ returns-in_err-write_history-clause-written g c =
 pub returns-clause-written : goal.returns-clause-written
 returns-clause-written g c =
     let f = c.args.core.now in
-    written_twice _ _ _ (flat_map (published_text f.universe f.plan.lanes) (numbered 0 f.state.published))
+    written_twice _ _ _
+    (flat_map (published_text f.universe f.plan.lanes) (numbered 0 f.state.published))
     (flat_map (λ l. lane_text f.universe (lane f.plan.lanes l) (lane_state f.state l))
     (range_with_len 0 (length f.plan.lanes)))
     c.write_history.ensures.written c.write_lanes.ensures.written
