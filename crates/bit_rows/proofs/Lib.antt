@@ -1,3 +1,15 @@
 pub mod NewestBit
 pub mod OneName
 pub mod SetLaws
+pub mod Places
+pub mod Placed
+pub mod RowWords
+pub mod Writes
+pub mod Walks
+pub mod Merges
+pub mod MetRows
+pub mod Inside
+pub mod OneForm
+pub mod Changes
+pub mod Joins
+pub mod ChangedRows

@@ -1,7 +1,10 @@
 //! Sets of variants as rows of words: one word for each name, its bits that name's variants.
 #![tactic(auto)]
 
+mod block;
+mod change;
 mod laws;
+mod meet;
 mod row;
 mod word;
 

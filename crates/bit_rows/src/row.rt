@@ -4,6 +4,9 @@ ghost use Rattle.std.specs.Prelude.{◌≡◌, ◌<◌, ◌↔◌, IsTrue, IfOk,
 ghost use Rattle.clause_kernel.specs.Kernels.{shares_bit, meets, lies_in, hits, met, within, same, joined, common, remaining};
 ghost use Rattle.bit_rows.specs.Sets.{variants_of, HasNone, HasSomeAt, HasAllAt, IsMetAt, IsWordOf, IsSubset, HaveSame, HaveCommon, HasNameInside, IsUnion, IsIntersection, IsDifference, ReplacesName, AddsVariant};
 
+use crate::block::{BLOCK, Block, are_same, find, put, words_there};
+use crate::change::{Keeps, TakesOut, change_each, join_each};
+use crate::meet::{IsMet, LeavesBit, SharesBit, has_each, some_met, some_piece_met};
 use std::alloc::{AllocError, Allocator, Global};
 use std::marker::Model;
 
@@ -14,7 +17,8 @@ use std::marker::Model;
 /// a row and a slice of words, one for each name, which stand for a set as a row's do.
 #[derive(Debug, Drop)]
 pub struct Row<A: Allocator = Global> {
-    words: Vec<u64, A>,
+    count: usize,
+    blocks: Vec<Block, A>,
 }
 
 impl<A: Allocator> Model for Row<A> {
@@ -22,7 +26,11 @@ impl<A: Allocator> Model for Row<A> {
 
     ghost Value = { List ℕ };
 
-    ghost view = { λ row. row.words.items };
+    ghost use Rattle.bit_rows.specs.Blocks.{words_of, AreRowBlocks};
+
+    ghost view = { λ row. words_of row.count row.blocks.items };
+
+    ghost invariant = { λ row. AreRowBlocks row.count row.blocks.items };
 }
 
 impl<A: Allocator> Row<A> {
@@ -37,7 +45,8 @@ impl<A: Allocator> Row<A> {
         ensures len { IfOk result (λ row. length row ≡ n) }
     {
         Ok(Row {
-            words: Vec::from_elem(alloc, 0, n)?,
+            count: n,
+            blocks: Vec::new(alloc),
         })
     }
 
@@ -45,7 +54,7 @@ impl<A: Allocator> Row<A> {
     pub fn len(&self) -> usize
         ensures { result ≡ length self.now }
     {
-        self.words.len()
+        self.count
     }
 
     /// Gives the word of a name.
@@ -54,7 +63,9 @@ impl<A: Allocator> Row<A> {
         ensures word { result ≡ slice_index self.now name }
         ensures set { IsWordOf (variants_of self.now) name result }
     {
-        self.words[name]
+        let place = name / BLOCK;
+        let at = find(&self.blocks, place);
+        words_there(&self.blocks, at, place)[name % BLOCK]
     }
 
     /// Tells whether a variant is in the row.
@@ -79,8 +90,11 @@ impl<A: Allocator> Row<A> {
         ensures len { length self.new ≡ length self.old }
         ensures unchanged { OnErr result (self.new ≡ self.old) }
     {
-        self.words[name] = word;
-        Ok(())
+        let place = name / BLOCK;
+        let at = find(&self.blocks, place);
+        let mut words = *words_there(&self.blocks, at, place);
+        words[name % BLOCK] = word;
+        put(&mut self.blocks, at, Block { place, words })
     }
 
     /// Adds a variant.
@@ -114,8 +128,7 @@ impl<A: Allocator> Row<A> {
         ensures len { length self.new ≡ length self.old }
         ensures unchanged { OnErr result (self.new ≡ self.old) }
     {
-        clause_kernel::or_into(&mut self.words, &other.words);
-        Ok(())
+        join_each(&mut self.blocks, &other.blocks)
     }
 
     /// Keeps the variants that another row has too.
@@ -126,7 +139,7 @@ impl<A: Allocator> Row<A> {
             (variants_of self.new) }
         ensures len { length self.new ≡ length self.old }
     {
-        clause_kernel::and_into(&mut self.words, &other.words);
+        change_each::<Keeps, A>(&mut self.blocks, &other.blocks);
     }
 
     /// Takes the variants of another row out.
@@ -137,7 +150,7 @@ impl<A: Allocator> Row<A> {
             (variants_of self.new) }
         ensures len { length self.new ≡ length self.old }
     {
-        clause_kernel::take_out(&mut self.words, &other.words);
+        change_each::<TakesOut, A>(&mut self.blocks, &other.blocks);
     }
 
     /// Tells whether some variant is in both rows.
@@ -146,7 +159,7 @@ impl<A: Allocator> Row<A> {
         ensures test { result ≡ hits self.now other.now }
         ensures set { IsTrue result ↔ HaveCommon (variants_of self.now) (variants_of other.now) }
     {
-        clause_kernel::hits(&self.words, &other.words)
+        some_met::<SharesBit>(&self.blocks, &other.blocks)
     }
 
     /// Tells whether some name has variants here, and all of them in the other row.
@@ -155,7 +168,7 @@ impl<A: Allocator> Row<A> {
         ensures test { result ≡ met self.now other.now }
         ensures set { IsTrue result ↔ HasNameInside (variants_of self.now) (variants_of other.now) }
     {
-        clause_kernel::met(&self.words, &other.words)
+        some_met::<IsMet>(&self.blocks, &other.blocks)
     }
 
     /// Tells whether each variant of this row is in the other.
@@ -164,7 +177,7 @@ impl<A: Allocator> Row<A> {
         ensures test { result ≡ within self.now other.now }
         ensures set { IsTrue result ↔ IsSubset (variants_of self.now) (variants_of other.now) }
     {
-        clause_kernel::within(&self.words, &other.words)
+        !some_met::<LeavesBit>(&other.blocks, &self.blocks)
     }
 
     /// Tells whether both rows have the same words, and so the same variants.
@@ -174,7 +187,7 @@ impl<A: Allocator> Row<A> {
         ensures equal { IsTrue result ↔ (self.now ≡ other.now) }
         ensures set { IsTrue result ↔ HaveSame (variants_of self.now) (variants_of other.now) }
     {
-        clause_kernel::same(&self.words, &other.words)
+        are_same(&self.blocks, &other.blocks)
     }
 
     /// Tells whether some variant of the words is in this row.
@@ -183,7 +196,7 @@ impl<A: Allocator> Row<A> {
         ensures test { result ≡ hits words.now self.now }
         ensures set { IsTrue result ↔ HaveCommon (variants_of words.now) (variants_of self.now) }
     {
-        clause_kernel::hits(words, &self.words)
+        some_piece_met::<SharesBit>(words, &self.blocks)
     }
 
     /// Tells whether some name has variants in the words, and all of them in this row.
@@ -192,7 +205,7 @@ impl<A: Allocator> Row<A> {
         ensures test { result ≡ met words.now self.now }
         ensures set { IsTrue result ↔ HasNameInside (variants_of words.now) (variants_of self.now) }
     {
-        clause_kernel::met(words, &self.words)
+        some_piece_met::<IsMet>(words, &self.blocks)
     }
 
     /// Tells whether each variant of the words is in this row.
@@ -201,7 +214,7 @@ impl<A: Allocator> Row<A> {
         ensures test { result ≡ within words.now self.now }
         ensures set { IsTrue result ↔ IsSubset (variants_of words.now) (variants_of self.now) }
     {
-        clause_kernel::within(words, &self.words)
+        has_each(&self.blocks, words)
     }
 
     /// Tells whether some variant of one name, as a word, is in this row.
@@ -237,7 +250,8 @@ impl<A: Allocator + Clone> Clone for Row<A> {
 
     fn clone(&self) -> Result<Row<A>, AllocError> {
         Ok(Row {
-            words: self.words.clone()?,
+            count: self.count,
+            blocks: self.blocks.clone()?,
         })
     }
 }

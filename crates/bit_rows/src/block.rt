@@ -1,0 +1,131 @@
+//! Blocks of eight words, and where they stand in a row.
+
+ghost use Rattle.std.specs.Prelude.{◌≡◌, ◌≤◌, ◌↔◌, length, take, IsTrue, OnOk, OnErr, vec_len, vec_capacity};
+ghost use Rattle.bit_rows.specs.Blocks.{IsAscending, AreBelow, StandsAt, words_at, no_words, placed};
+ghost use Rattle.clause_kernel.specs.Kernels.{same};
+
+use std::alloc::{AllocError, Allocator};
+
+/// How many words a block has.
+pub(crate) const BLOCK: usize = 8;
+
+/// The words of a place at which no block stands.
+pub(crate) const NO_WORDS: [u64; 8] = [0; 8];
+
+/// Eight words of a row, from word `8 * place` on.
+#[derive(Clone, Copy, Debug)]
+pub(crate) struct Block {
+    pub(crate) place: usize,
+    pub(crate) words: [u64; 8],
+}
+
+/// Finds where a place stands, or is to stand. The last block is looked at first, so a row that is
+/// built in order is not searched.
+pub(crate) fn find(blocks: &[Block], place: usize) -> usize
+    requires { IsAscending 0 blocks.now }
+    ensures { StandsAt result place blocks.now }
+{
+    let (mut low, mut high) = (0, blocks.len());
+    let mut middle = high.saturating_sub(1);
+    while low < high {
+        let here = blocks[middle].place;
+        if here == place {
+            return middle;
+        }
+        if here < place {
+            low = middle + 1;
+        } else {
+            high = middle;
+        }
+        middle = low + (high - low) / 2;
+    }
+    low
+}
+
+/// Finds the same by going over the blocks from an index on.
+pub(crate) fn seek(blocks: &[Block], from: usize, place: usize) -> usize
+    requires ascending { IsAscending 0 blocks.now }
+    requires bound { from ≤ length blocks.now }
+    requires below { AreBelow place (take from blocks.now) }
+    ensures { StandsAt result place blocks.now }
+{
+    let mut at = from;
+    while at < blocks.len() {
+        if blocks[at].place >= place {
+            return at;
+        }
+        at += 1;
+    }
+    at
+}
+
+/// Gives the words at a place that stands, or is to stand, at this index.
+pub(crate) fn words_there(blocks: &[Block], at: usize, place: usize) -> &[u64; 8]
+    requires { StandsAt at place blocks.now }
+    ensures { result.now ≡ words_at blocks.now place }
+{
+    if at == blocks.len() || blocks[at].place != place {
+        return &NO_WORDS;
+    }
+    &blocks[at].words
+}
+
+/// Tells whether words of a block are all 0.
+pub(crate) fn has_none(words: &[u64; 8]) -> bool
+    ensures { result ≡ same words.now no_words }
+{
+    clause_kernel::same(words, &NO_WORDS)
+}
+
+/// Puts a block in the place of the one that stands at its place, if any. A block whose words are
+/// all 0 is left out.
+///
+/// # Errors
+///
+/// [`AllocError`] where memory is refused. The blocks are then as they were.
+pub(crate) fn put<A: Allocator>(
+    blocks: &mut Vec<Block, A>,
+    at: usize,
+    block: Block,
+) -> Result<(), AllocError>
+    requires { StandsAt at block.place blocks.old.items }
+    ensures placed { OnOk result (blocks.new.items ≡ placed at block blocks.old.items) }
+    ensures unchanged { OnErr result (blocks.new.items ≡ blocks.old.items) }
+
+    // It fails only where there was no room for a block that did not stand there.
+    ensures full { OnErr result (vec_capacity blocks.old ≤ vec_len blocks.old) }
+    ensures absent { OnErr result (words_at blocks.old.items block.place ≡ no_words) }
+    ensures capacity { vec_capacity blocks.old ≤ vec_capacity blocks.new }
+{
+    let is_there = at < blocks.len() && blocks[at].place == block.place;
+    if has_none(&block.words) {
+        if is_there {
+            blocks.remove(at);
+        }
+    } else if is_there {
+        blocks[at] = block;
+    } else {
+        if blocks.is_empty() {
+            // most rows have one block
+            blocks.reserve_exact(1)?;
+        }
+        blocks.insert(at, block)?;
+    }
+    Ok(())
+}
+
+/// Tells whether the blocks are equal.
+pub(crate) fn are_same(blocks: &[Block], others: &[Block]) -> bool
+    ensures { IsTrue result ↔ (blocks.now ≡ others.now) }
+{
+    if blocks.len() != others.len() {
+        return false;
+    }
+    for at in 0..blocks.len() {
+        let is_same = clause_kernel::same(&blocks[at].words, &others[at].words);
+        if blocks[at].place != others[at].place || !is_same {
+            return false;
+        }
+    }
+    true
+}
