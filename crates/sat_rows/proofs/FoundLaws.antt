@@ -1,7 +1,11 @@
 -- Lists of variants that were found.
-use Rattle.std.proofs.Common.{◌≡◌, ℕ, ◌+◌, ◌<◌, ◌≤◌, get_or, take, Bool, true, false, not, ◌&&◌, ◌||◌, ◌==◌, cond, nat_lt, List, [], ◌∷◌, ◌++◌, filter, length, refl, sym, ap, ◌∙◌, inl, inr}
+use Rattle.std.proofs.Common.{◌≡◌, ℕ, ◌+◌, ◌<◌, ◌≤◌, get_or, take, Bool, true, false, not, ◌&&◌, ◌||◌, ◌==◌, cond, nat_lt, List, [], ◌∷◌, ◌++◌, filter, length, refl, sym, ap, ◌∙◌, inl, inr, arith}
 use Rattle.std.specs.List.{list_any}
-use Rattle.std.proofs.lemmas.Bool.{or_cases, or_left, or_right, and_parts, and_from, ltb-true, eqb-true, eq-eqb}
+use Rattle.std.specs.Option.{is_none}
+use Rattle.std.specs.Str.{bytes_eq}
+use Rattle.std.proofs.lemmas.Bool.{or_cases, or_left, or_right, and_parts, and_from, ltb-true, lt-ltb, eqb-true, eq-eqb, cases_lt, both_ways}
+use Rattle.std.proofs.lemmas.Slice.Eq.{bytes_eq-Decides}
+use Rattle.farm_universe.proofs.PlaceLaws.{named}
 use Rattle.std.proofs.lemmas.List.Folds.{list_any-append, list_any_more, Any-from_list_any}
 use Rattle.std.proofs.lemmas.List.{take_all}
 use Rattle.std.proofs.lemmas.Option.{slice_get_read}
@@ -12,11 +16,11 @@ use Rattle.bit_rows.specs.Sets.{variants_of, ReplacesName}
 use Rattle.deb_relation.specs.Relations.{Atom, Relations}
 use Rattle.farm_model.specs.declared.types.Variant.{Variant}
 use Rattle.farm_model.specs.Universe.{Package, Universe}
-use Rattle.farm_model.specs.Packages.{variant, names, variants, package_of, facts, satisfies, satisfies_entry}
+use Rattle.farm_model.specs.Packages.{variant, names, variants, package_of, facts, is_wanted, satisfies, satisfies_entry}
 use Rattle.sat_rows.proofs.IndexLaws.{goes_by}
 use Rattle.sat_rows.specs.Index.{listed, IsIn, IsListed, IsNaming, IsProviding}
 use Rattle.sat_rows.specs.Rows.{passes, IsRowOf, of_another_name}
-use Rattle.sat_rows.specs.Found.{among, is_passing, field_test, IsFound, Finds, GrowsBy, HasOf, HasOfField}
+use Rattle.sat_rows.specs.Found.{among, is_passing, field_test, IsFound, Finds, FindsOf, GrowsBy, HasOf, HasOfField, HasListed}
 
 -- tests
 and_false : (x : Bool) → (x && false) ≡ false
@@ -170,16 +174,153 @@ pub finds_none : (u : Universe) (vs : List Variant) → Finds u (λ v. false) vs
 finds_none u vs n b =
     sym (ap (λ x. among vs n b || x) (and_false (nat_lt b (variants u n))) ∙ or_false (among vs n b))
 
--- the variants that satisfy an alternative stand under its name
-pub finds_atom : (u : Universe) (a : Atom) (lists : List (List Variant)) (old : List Variant)
-    → IsProviding u lists
-    → Finds u (satisfies u a) old
-    (old ++ filter (is_passing u (satisfies u a)) (listed lists a.name))
-finds_atom u a lists old all =
-    finds_all u (satisfies u a) old (listed lists a.name)
-    (λ n b pass.
-    let both = and_parts (nat_lt b (variants u n)) _ pass in
-    all.all (variant n b) a (ltb-true b (variants u n) both.0) both.1)
+-- a variant that stands in the relation satisfies an alternative of its own name
+pub satisfies_if_wanted : (u : Universe) (a : Atom) (v : Variant)
+    → bytes_eq (get_or u.names v.name []) a.name ≡ true → is_wanted u a.relation v ≡ true
+    → is_none a.qualifier ≡ true → satisfies u a v ≡ true
+unfolding satisfies facts is_wanted
+satisfies_if_wanted u a v named wanted bare =
+    and_from _ _ bare (or_left _ _ (and_from _ _ named wanted))
+
+-- the variants of one name, one more
+own_core : (o t k e s q : Bool) → (t ≡ true → e ≡ true → q ≡ s)
+    → ((o || (t && (k && s))) || (q && (t && e))) ≡ (o || (t && ((k || e) && s)))
+own_core true t k e s q on = refl
+own_core false false k e s q on = and_false q
+own_core false true true e true q on = refl
+own_core false true true true false q on = and_true q ∙ on refl refl
+own_core false true true false false q on = and_false q
+own_core false true false true s q on = and_true q ∙ on refl refl
+own_core false true false false s q on = and_false q
+
+below_next_bit : (b bit : ℕ) → (nat_lt b bit || (b == bit)) ≡ nat_lt b (bit + 1)
+below_next_bit b bit =
+    same_tests (nat_lt b bit || (b == bit)) (nat_lt b (bit + 1))
+    (λ is. elim (or_cases (nat_lt b bit) _ is) [
+      | inl lt ↦ let h = ltb-true b bit lt in lt-ltb b (bit + 1) (omega arith)
+      | inr same ↦ let h = eqb-true b bit same in lt-ltb b (bit + 1) (omega arith)
+    ])
+    (λ is.
+    let h = ltb-true b (bit + 1) is in
+    elim (cases_lt b bit) [
+      | inl lt ↦ or_left (nat_lt b bit) _ (lt-ltb b bit lt)
+      | inr ge ↦ or_right (nat_lt b bit) _ (let same : b ≡ bit = omega arith in eq-eqb b bit same)
+    ])
+
+pub own_next : (p : Variant → Bool) (name bit : ℕ) (old mid new : ℕ → ℕ → Bool)
+    → ((n b : ℕ) → mid n b ≡ (old n b || ((n == name) && (nat_lt b bit && p (variant n b)))))
+    → ((n b : ℕ) → new n b ≡ (mid n b || (p (variant name bit) && ((n == name) && (b == bit)))))
+    → (n b : ℕ) → new n b ≡ (old n b || ((n == name) && (nat_lt b (bit + 1) && p (variant n b))))
+own_next p name bit old mid new so_far next n b =
+    next n b
+    ∙ ap (λ x. x || (p (variant name bit) && ((n == name) && (b == bit)))) (so_far n b)
+    ∙ own_core (old n b) (n == name) (nat_lt b bit) (b == bit) (p (variant n b))
+    (p (variant name bit))
+    (λ same it. ap (λ k. p (variant k bit)) (sym (eqb-true n name same))
+    ∙ ap (λ k. p (variant n k)) (sym (eqb-true b bit it)))
+    ∙ ap (λ x. old n b || ((n == name) && (x && p (variant n b)))) (below_next_bit b bit)
+
+own_end_core : (o t x y : Bool) → (t ≡ true → x ≡ y) → (o || (t && x)) ≡ (o || (t && y))
+own_end_core true t x y on = refl
+own_end_core false false x y on = refl
+own_end_core false true x y on = on refl
+
+-- all variants of one name
+pub own_end : (u : Universe) (p : Variant → Bool) (name bit : ℕ) (old new : ℕ → ℕ → Bool)
+    → bit ≡ variants u name
+    → ((n b : ℕ) → new n b ≡ (old n b || ((n == name) && (nat_lt b bit && p (variant n b)))))
+    → (n b : ℕ) → new n b ≡ (old n b || ((n == name) && passes u p n b))
+own_end u p name bit old new all each n b =
+    each n b
+    ∙ own_end_core (old n b) (n == name) _ _
+    (λ same. ap (λ k. nat_lt b k && p (variant n b))
+    (all ∙ ap (variants u) (sym (eqb-true n name same))))
+
+-- what an index lists
+module _ (u : Universe) (a : Atom) where
+  abbrev sat : Variant → Bool
+  sat = satisfies u a
+
+  pub own_grows : (name : ℕ) (old new : List Variant) → FindsOf u sat name old new
+      → GrowsBy u sat old new
+  own_grows name old new finds =
+      record {
+        kept = λ n b is. finds n b ∙ or_left (among old n b) _ is;
+        passing = λ n b is. back n b (sym (finds n b) ∙ is);
+      }
+    where
+      back : (n b : ℕ) → (among old n b || ((n == name) && passes u sat n b)) ≡ true
+          → (among old n b || passes u sat n b) ≡ true
+      back n b is =
+          elim (or_cases (among old n b) _ is) [
+            | inl before ↦ or_left (among old n b) _ before
+            | inr both ↦ or_right (among old n b) _ (and_parts (n == name) _ both).1
+          ]
+
+  pub own_has : (v : Variant) (old new : List Variant) → FindsOf u sat v.name old new
+      → HasListed u a v new
+  own_has v old new finds =
+      let all : (b : ℕ) → passes u sat v.name b ≡ true → among new v.name b ≡ true =
+      λ b pass. finds v.name b
+      ∙ or_right (among old v.name b) _ (and_from _ _ (eq-eqb v.name v.name refl) pass) in
+      (λ pass. all v.bit pass, λ same b pass. all b pass)
+
+  module _ (v : Variant) (old new : List Variant) (holds : Bool) (is : holds ≡ is_passing u sat v)
+      (put : (n b : ℕ) → among new n b
+      ≡ (among old n b || (holds && ((n == v.name) && (b == v.bit))))) where
+    pub put_grows : GrowsBy u sat old new
+    put_grows =
+        record {
+          kept = λ n b at. put n b ∙ or_left (among old n b) _ at;
+          passing = λ n b at. back n b (sym (put n b) ∙ at);
+        }
+      where
+        back : (n b : ℕ) → (among old n b || (holds && ((n == v.name) && (b == v.bit)))) ≡ true
+            → (among old n b || passes u sat n b) ≡ true
+        back n b at =
+            elim (or_cases (among old n b) _ at) [
+              | inl before ↦ or_left (among old n b) _ before
+              | inr both ↦
+                  let parts = and_parts holds _ both in
+                  let it = and_parts (n == v.name) _ parts.1 in
+                  or_right (among old n b) _
+                  (ap (λ k. passes u sat k b) (eqb-true n v.name it.0)
+                  ∙ ap (λ k. passes u sat v.name k) (eqb-true b v.bit it.1)
+                  ∙ sym is ∙ parts.0)
+            ]
+
+    pub put_has : (nat_lt v.name (names u) && bytes_eq (get_or u.names v.name []) a.name) ≡ false
+        → HasListed u a v new
+    put_has other = (
+      λ pass. put v.name v.bit
+          ∙ or_right (among old v.name v.bit) _ (and_from _ _ (is ∙ pass)
+          (and_from _ _ (eq-eqb v.name v.name refl) (eq-eqb v.bit v.bit refl))),
+      λ same b pass.
+          let known = ltb-true b (variants u v.name) (and_parts (nat_lt b (variants u v.name)) _ pass).0 in
+          absurd (both_ways _ other
+          (and_from _ _ (lt-ltb v.name (names u) (named u v.name b known))
+          ((bytes_eq-Decides (get_or u.names v.name []) a.name).1 same))),
+    )
+
+  pub listed_kept : (v : Variant) (old new : List Variant) → GrowsBy u sat old new
+      → HasListed u a v old → HasListed u a v new
+  listed_kept v old new grows has = (
+    λ pass. grows.kept v.name v.bit (has.0 pass),
+    λ same b pass. grows.kept v.name b (has.1 same b pass),
+  )
+
+  pub finds_listed : (lists : List (List Variant)) (old new : List Variant) → IsProviding u lists
+      → GrowsBy u sat old new
+      → ((v : Variant) → IsListed lists a.name v → HasListed u a v new) → Finds u sat old new
+  finds_listed lists old new all grows has = finds_from_grows u sat old new grows every
+    where
+      every : (n b : ℕ) → passes u sat n b ≡ true → among new n b ≡ true
+      every n b pass =
+          let both = and_parts (nat_lt b (variants u n)) _ pass in
+          elim (all.all (variant n b) a (ltb-true b (variants u n) both.0) both.1) [
+            | inl listed ↦ (has (variant n b) listed).0 pass
+            | inr own ↦ (has (variant n 0) own.1).1 own.0 b pass
+          ]
 
 -- the variants of whose field some entry is satisfied by v stand under the names that v goes by
 module _ (u : Universe) (field : Package → Relations) (v : Variant) (lists : List (List Variant))
@@ -197,7 +338,7 @@ module _ (u : Universe) (field : Package → Relations) (v : Variant) (lists : L
       (slice_get_read es (length es) e.0 e.1 refl e.2 (sym e.3)) a.0 a.1
       (slice_get_read e.1 (length e.1) a.0 a.1 refl a.2 (sym a.3)) in
       goes_by u v a.1 (λ text. IsListed lists text w → among vs n b ≡ true)
-      (λ is. own w is pass) (λ i e is j p at is_there. provided i e is j p at w is_there pass)
+      (λ i e is j p at is_there. provided i e is j p at w is_there pass) (λ is. own w is pass)
       a.4 names
 
 -- one more element

@@ -1,5 +1,5 @@
 -- Variants under names.
-use Rattle.std.proofs.Common.{◌≡◌, ℕ, ◌<◌, true, ◌&&◌, ◌++◌, List, [], ◌∷◌, length, length-append, length-set, get_or, Some, inl, inr, refl, sym, ap, subst, ◌∙◌, arith}
+use Rattle.std.proofs.Common.{◌≡◌, ℕ, ◌<◌, true, ◌&&◌, ◌++◌, List, [], ◌∷◌, length, length-append, length-set, get_or, Some, ◌⊎◌, inl, inr, refl, sym, ap, subst, ◌∙◌, arith}
 use Rattle.std.specs.List.{slice_get, list_any}
 use Rattle.std.specs.Option.{is_none}
 use Rattle.std.specs.Str.{bytes_eq}
@@ -14,9 +14,10 @@ use Rattle.deb_relation.specs.Relations.{Atom, Entry}
 use Rattle.deb_relation.specs.Satisfaction.{is_its_own, is_provided, provides_it}
 use Rattle.farm_model.specs.declared.types.Variant.{Variant}
 use Rattle.farm_model.specs.Universe.{Universe}
-use Rattle.farm_model.specs.Packages.{facts, satisfies}
+use Rattle.farm_model.specs.Packages.{variant, names, facts, satisfies}
+use Rattle.farm_universe.proofs.PlaceLaws.{named}
 use Rattle.farm_model.specs.Sound.{IsKnown}
-use Rattle.sat_rows.specs.Index.{number_behind, list_of, listed, with_listed, IsIn, IsListed, IsKept, AreNaming, AreOwn}
+use Rattle.sat_rows.specs.Index.{number_behind, list_of, listed, with_listed, IsIn, IsListed, IsKept, AreNaming, IsOwn}
 
 -- a list keeps its elements as one more comes
 pub is_in_more : (vs : List Variant) (w v : Variant) → IsIn vs v → IsIn (vs ++ w ∷ []) v
@@ -84,10 +85,8 @@ kept_trans a b c first next =
       kept = λ text v is. next.kept text v (first.kept text v is);
     }
 
--- a variant is listed under the names of the alternatives that it satisfies
 -- what holds of the names that a variant goes by holds of that of an alternative that it satisfies
 module _ (u : Universe) (v : Variant) (a : Atom) (P : List ℕ → Type 0)
-    (own : P (facts u v).name)
     (provided : (i : ℕ) (e : Entry) → slice_get (facts u v).provides i ≡ Some e
     → (j : ℕ) (p : Atom) → slice_get e j ≡ Some p → P p.name) where
   by_entry : (i : ℕ) (e : Entry) → slice_get (facts u v).provides i ≡ Some e
@@ -100,28 +99,41 @@ module _ (u : Universe) (v : Variant) (a : Atom) (P : List ℕ → Type 0)
       subst P ((bytes_eq-Decides p.name a.name).0 named.1)
       (provided i e is found.0 p (slice_get_read e (length e) found.0 p refl found.2 (sym found.3)))
 
-  by_provides : is_provided (facts u v).provides a ≡ true → P a.name
+  pub by_provides : is_provided (facts u v).provides a ≡ true → P a.name
   by_provides some =
       let es = (facts u v).provides in
       let found = Any-from_list_any (λ e. list_any (provides_it a) e) es some in
       by_entry found.0 found.1
       (slice_get_read es (length es) found.0 found.1 refl found.2 (sym found.3)) found.4
 
-  pub goes_by : satisfies u a v ≡ true → P a.name
+  pub goes_by : P (facts u v).name → satisfies u a v ≡ true → P a.name
   unfolding satisfies
-  goes_by sat =
+  goes_by own sat =
       elim (or_cases (is_its_own (facts u v) a) _ (and_parts (is_none a.qualifier) _ sat).1) [
         | inl it ↦ subst P ((bytes_eq-Decides (facts u v).name a.name).0
             (and_parts (bytes_eq (facts u v).name a.name) _ it).0) own
         | inr some ↦ by_provides some
       ]
 
--- a variant is listed under the names of the alternatives that it satisfies
+-- a variant is listed under the names of the alternatives that it satisfies, or has that name
 pub listed_if_satisfies : (u : Universe) (lists : List (List Variant))
-    → ((n : ℕ) → AreOwn u n lists)
+    → ((n : ℕ) → n < names u → IsOwn u n lists)
     → ((n : ℕ) → AreNaming u (λ binary. binary.provides) n lists)
-    → (v : Variant) (a : Atom) → IsKnown u v → satisfies u a v ≡ true → IsListed lists a.name v
-unfolding facts
-listed_if_satisfies u lists own names v a known sat =
-    goes_by u v a (λ text. IsListed lists text v) (own v.name v.bit known)
-    (names v.name v.bit known) sat
+    → (v : Variant) (a : Atom) → IsKnown u v → satisfies u a v ≡ true
+    → IsListed lists a.name v
+    ⊎ ((get_or u.names v.name [] ≡ a.name) × IsListed lists a.name (variant v.name 0))
+unfolding facts satisfies
+listed_if_satisfies u lists own provided v a known sat =
+    elim (or_cases (is_its_own (facts u v) a) _ (and_parts (is_none a.qualifier) _ sat).1) [
+      | inl it ↦
+          let same = (bytes_eq-Decides (facts u v).name a.name).0
+          (and_parts (bytes_eq (facts u v).name a.name) _ it).0 in
+          inr (
+            same,
+            subst (λ text. IsListed lists text (variant v.name 0)) same
+                (own v.name (named u v.name v.bit known)),
+          )
+      | inr some ↦
+          inl (by_provides u v a (λ text. IsListed lists text v)
+          (provided v.name v.bit known) some)
+    ]

@@ -2,16 +2,16 @@
 --
 --   among             the variant of this name and bit stands in the list
 --   IsFound           a list of the variants of a universe that pass a test
---   Finds             the variants that pass are put to those of a list
+--   Finds, FindsOf    the variants that pass are put to those of a list, or those of one name
 --   GrowsBy, HasOf    some that pass are put to them; among them those that stand in another list,
---                     or under the names of an entry or a field
+--                     or under the names of an entry or a field, or go by a name that is listed
 --   field_test        some entry of a field of a variant is satisfied by this one
-use Rattle.std.specs.Prelude.{◌≡◌, ℕ, Bool, true, ◌&&◌, ◌||◌, ◌==◌, List, Some, slice_get}
+use Rattle.std.specs.Prelude.{◌≡◌, ℕ, Bool, true, ◌&&◌, ◌||◌, ◌==◌, List, [], Some, slice_get, slice_index_or}
 use Rattle.std.specs.List.{list_any}
 use Rattle.deb_relation.specs.Relations.{Atom, Entry, Relations}
 use Rattle.farm_model.specs.declared.types.Variant.{Variant}
 use Rattle.farm_model.specs.Universe.{Package, Universe}
-use Rattle.farm_model.specs.Packages.{package_of, satisfies_any}
+use Rattle.farm_model.specs.Packages.{package_of, satisfies, satisfies_any}
 use Rattle.sat_rows.specs.Index.{IsIn, listed}
 use Rattle.sat_rows.specs.Rows.{passes}
 
@@ -30,6 +30,11 @@ IsFound u p vs = (n b : ℕ) → among vs n b ≡ passes u p n b
 -- those that pass are put to the old ones
 abbrev pub Finds : Universe → (Variant → Bool) → List Variant → List Variant → Type 0
 Finds u p old new = (n b : ℕ) → among new n b ≡ (among old n b || passes u p n b)
+
+-- those of one name that pass are put to the old ones
+abbrev pub FindsOf : Universe → (Variant → Bool) → ℕ → List Variant → List Variant → Type 0
+FindsOf u p name old new =
+    (n b : ℕ) → among new n b ≡ (among old n b || ((n == name) && passes u p n b))
 
 -- some that pass are put to the old ones
 pub record GrowsBy (u : Universe) (p : Variant → Bool) (old new : List Variant) : Type 0 where
@@ -51,6 +56,14 @@ abbrev pub HasOfField : Universe → (Variant → Bool) → List (List Variant) 
     → List Variant → Type 0
 HasOfField u p lists es vs =
     (i : ℕ) (e : Entry) → slice_get es i ≡ Some e → HasOfEntry u p lists e vs
+
+-- a variant that is listed stands in the list where it passes, and all that pass of its name where
+-- the alternative has that
+abbrev pub HasListed : Universe → Atom → Variant → List Variant → Type 0
+HasListed u a v vs =
+    (is_passing u (satisfies u a) v ≡ true → among vs v.name v.bit ≡ true)
+    × (slice_index_or u.names v.name [] ≡ a.name
+    → (b : ℕ) → passes u (satisfies u a) v.name b ≡ true → among vs v.name b ≡ true)
 
 -- the variant satisfies some entry of the field of another
 abbrev pub field_test : Universe → (Package → Relations) → Variant → Variant → Bool

@@ -4,10 +4,11 @@
 --   listed, IsListed       the variants under a name, among lists that a number of the text picks
 --   with_listed            one more variant under a name
 --   AreNaming, IsNaming    each variant is listed under the names of a field of it
---   AreOwn                 and under its own name
---   IsProviding            each variant is listed under the names that it goes by
+--   IsOwn                  the first variant of a name is listed under it
+--   IsProviding            each variant is listed under the names that it provides, and the first of
+--                          its name under its own
 --   AreIndexes             those of a universe
-use Rattle.std.specs.Prelude.{◌≡◌, ℕ, ◌+◌, ◌*◌, ◌%◌, ◌<◌, true, List, [], ◌∷◌, ◌++◌, length, Some, slice_get, slice_index_or, slice_set}
+use Rattle.std.specs.Prelude.{◌≡◌, ℕ, ◌+◌, ◌*◌, ◌%◌, ◌<◌, true, List, [], ◌∷◌, ◌++◌, ◌⊎◌, length, Some, slice_get, slice_index_or, slice_set}
 use Rattle.deb_relation.specs.Relations.{Atom, Entry, Relations}
 use Rattle.farm_model.specs.declared.types.Variant.{Variant}
 use Rattle.farm_model.specs.Universe.{Package, Universe}
@@ -51,14 +52,13 @@ NamesOfEntry lists e v = (i : ℕ) (a : Atom) → slice_get e i ≡ Some a → I
 abbrev pub NamesOfField : List (List Variant) → Relations → Variant → Type 0
 NamesOfField lists es v = (i : ℕ) (e : Entry) → slice_get es i ≡ Some e → NamesOfEntry lists e v
 
--- each variant of a name is listed under the names of the field, and under its own
+-- each variant of a name is listed under the names of the field, and the first under its own
 abbrev pub AreNaming : Universe → (Package → Relations) → ℕ → List (List Variant) → Type 0
 AreNaming u field n lists =
     (b : ℕ) → b < variants u n → NamesOfField lists (field (package_of u (variant n b))) (variant n b)
 
-abbrev pub AreOwn : Universe → ℕ → List (List Variant) → Type 0
-AreOwn u n lists =
-    (b : ℕ) → b < variants u n → IsListed lists (slice_index_or u.names n []) (variant n b)
+abbrev pub IsOwn : Universe → ℕ → List (List Variant) → Type 0
+IsOwn u n lists = IsListed lists (slice_index_or u.names n []) (variant n 0)
 
 -- each variant of the universe is listed under the names of the field
 pub record IsNaming (u : Universe) (field : Package → Relations) (lists : List (List Variant))
@@ -66,11 +66,13 @@ pub record IsNaming (u : Universe) (field : Package → Relations) (lists : List
   pub some : 0 < length lists
   pub names : (n : ℕ) → AreNaming u field n lists
 
--- each variant of the universe is listed under the names of the alternatives that it satisfies
+-- each variant of the universe is listed under the names of the alternatives that it satisfies, or
+-- these have its own name, and the first variant of that is listed under it
 pub record IsProviding (u : Universe) (lists : List (List Variant)) : Type 0 where
   pub some : 0 < length lists
   pub all : (v : Variant) (a : Atom) → IsKnown u v → satisfies u a v ≡ true
       → IsListed lists a.name v
+      ⊎ ((slice_index_or u.names v.name [] ≡ a.name) × IsListed lists a.name (variant v.name 0))
 
 -- the indexes of a universe
 pub record Indexes : Type 0 where

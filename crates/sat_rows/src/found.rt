@@ -1,10 +1,12 @@
 //! The variants that pass a test, looked for among those that an index lists.
 
-ghost use Rattle.std.specs.Prelude.{◌≡◌, ◌<◌, ◌++◌, [], IsTrue, IfOk, OnOk, length, filter};
-ghost use Rattle.farm_model.specs.Packages.{satisfies, satisfies_entry, satisfies_any, conflict, breaks};
+ghost use Rattle.std.specs.Prelude.{◌≡◌, ◌<◌, ◌==◌, ◌&&◌, ◌||◌, ◌++◌, [], ℕ, true, nat_lt, IsTrue, IfOk, OnOk, length, filter, slice_index_or};
+ghost use Rattle.std.specs.Option.{is_none};
+ghost use Rattle.std.specs.Str.{bytes_eq};
+ghost use Rattle.farm_model.specs.Packages.{names, is_wanted, satisfies, satisfies_entry, satisfies_any, conflict, breaks};
 ghost use Rattle.farm_model.specs.Sound.{IsKnown};
 ghost use Rattle.sat_rows.specs.Index.{IsNaming, IsProviding, AreIndexes};
-ghost use Rattle.sat_rows.specs.Found.{is_passing, IsFound, Finds, GrowsBy, HasOfEntry, HasOfField, field_test};
+ghost use Rattle.sat_rows.specs.Found.{among, is_passing, IsFound, Finds, FindsOf, GrowsBy, HasListed, HasOfEntry, HasOfField, field_test};
 
 use crate::index::{Breaks, Conflicts, Field, Index, Indexes};
 use crate::word::variant_count;
@@ -37,6 +39,41 @@ impl<F: Field> VariantTest for NamesIt<'_, F> {
     fn passes(&self, universe: &Universe, variant: Variant) -> bool {
         satisfies_any(universe, self.field.of(universe, variant), self.variant)
     }
+}
+
+/// Tells whether a name of the universe has this text.
+fn is_named(universe: &Universe, name: u32, text: &[u8]) -> bool
+    ensures { result ≡ (nat_lt name (names universe.now)
+        && bytes_eq (slice_index_or universe.now.names name []) text.now) }
+{
+    name < universe.names() && universe.name_text(name) == text
+}
+
+/// Tells whether the version of a variant stands in the relation of an alternative.
+fn is_wanted_by(universe: &Universe, atom: &Atom, variant: Variant) -> bool
+    requires { IsKnown universe.now variant }
+    ensures { result ≡ is_wanted universe.now atom.now.relation variant }
+{
+    universe.is_wanted(variant, atom.relation.as_ref())
+}
+
+/// Tells whether an alternative has no qualifier.
+fn is_bare(atom: &Atom) -> bool
+    ensures { result ≡ is_none atom.now.qualifier }
+{
+    atom.qualifier.is_none()
+}
+
+/// Tells whether a variant satisfies an alternative of its own name.
+fn satisfies_own(universe: &Universe, atom: &Atom, variant: Variant) -> bool
+    requires known { IsKnown universe.now variant }
+    requires named { bytes_eq (slice_index_or universe.now.names variant.name []) atom.now.name ≡ true }
+    ensures { result ≡ satisfies universe.now atom.now variant }
+{
+    if is_wanted_by(universe, atom, variant) && is_bare(atom) {
+        return true;
+    }
+    universe.satisfies(variant, atom)
 }
 
 /// Variants that were found, each perhaps more than once.
@@ -97,6 +134,50 @@ impl Found {
         Ok(())
     }
 
+    /// Puts a variant, if that holds.
+    fn add_if(&mut self, variant: Variant, holds: bool) -> Result<(), AllocError>
+        ensures { OnOk result ((n b : ℕ) → among self.new n b ≡ (among self.old n b
+            || (holds && ((n == variant.name) && (b == variant.bit))))) }
+    {
+        if holds {
+            self.variants.push(variant)?;
+        }
+        Ok(())
+    }
+
+    /// Puts the variants of a name that satisfy an alternative of that name.
+    fn add_own(&mut self, universe: &Universe, atom: &Atom, name: u32) -> Result<(), AllocError>
+        requires { bytes_eq (slice_index_or universe.now.names name []) atom.now.name ≡ true }
+        ensures { OnOk result
+            (FindsOf universe.now (satisfies universe.now atom.now) name self.old self.new) }
+    {
+        for bit in 0..variant_count(universe, name) {
+            let variant = Variant { name, bit };
+            self.add_if(variant, satisfies_own(universe, atom, variant))?;
+        }
+        Ok(())
+    }
+
+    /// Puts those that an index lists: the variant itself, and all of its name where the
+    /// alternative has that, as far as they satisfy it.
+    fn add_listed(
+        &mut self,
+        universe: &Universe,
+        atom: &Atom,
+        listed: Variant,
+    ) -> Result<(), AllocError>
+        ensures grows { OnOk result
+            (GrowsBy universe.now (satisfies universe.now atom.now) self.old self.new) }
+        ensures has { OnOk result (HasListed universe.now atom.now listed self.new) }
+    {
+        if is_named(universe, listed.name, &atom.name) {
+            return self.add_own(universe, atom, listed.name);
+        }
+        let holds = is_passing(universe, &SatisfiesAtom { atom }, listed);
+        self.add_if(listed, holds)?;
+        Ok(())
+    }
+
     /// Puts the variants that satisfy an alternative.
     fn add_atom(
         &mut self,
@@ -108,8 +189,10 @@ impl Found {
         ensures { OnOk result
             (Finds universe.now (satisfies universe.now atom.now) self.old self.new) }
     {
-        let others = providers.listed(&atom.name);
-        self.add_passing(universe, &SatisfiesAtom { atom }, others)
+        for listed in providers.listed(&atom.name) {
+            self.add_listed(universe, atom, *listed)?;
+        }
+        Ok(())
     }
 
     /// Puts the variants that satisfy some alternative of an entry.

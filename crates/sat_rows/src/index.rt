@@ -3,7 +3,7 @@
 ghost use Rattle.std.specs.Prelude.{◌≡◌, ◌<◌, ◌++◌, ◌∷◌, [], IfOk, OnOk, length};
 ghost use Rattle.farm_model.specs.Packages.{names, package_of};
 ghost use Rattle.farm_model.specs.Sound.{IsKnown};
-ghost use Rattle.sat_rows.specs.Index.{list_of, listed, with_listed, IsListed, IsKept, NamesOfEntry, NamesOfField, AreNaming, AreOwn, IsNaming, IsProviding, AreIndexes};
+ghost use Rattle.sat_rows.specs.Index.{list_of, listed, with_listed, IsListed, IsKept, NamesOfEntry, NamesOfField, AreNaming, IsOwn, IsNaming, IsProviding, AreIndexes};
 ghost use Rattle.deb_relation.specs.Relations.{Relations};
 ghost use Rattle.farm_model.specs.Universe.{Package};
 
@@ -220,19 +220,19 @@ impl Index {
         Ok(index)
     }
 
+    /// Lists the first variant of a name under it.
     fn add_own(&mut self, universe: &Universe, name: u32) -> Result<(), AllocError>
         requires some { 0 < length self.old }
         requires named { name < names universe.now }
         ensures kept { OnOk result (IsKept self.old self.new) }
-        ensures names { OnOk result (AreOwn universe.now name self.new) }
+        ensures names { OnOk result (IsOwn universe.now name self.new) }
     {
-        for bit in 0..universe.variants(name) {
-            self.add(universe.name_text(name), Variant { name, bit })?;
-        }
+        self.add(universe.name_text(name), Variant { name, bit: 0 })?;
         Ok(())
     }
 
-    /// Lists each variant of a universe under its own name and those that it provides.
+    /// Lists each variant of a universe under the names that it provides, and the first one of each
+    /// name under that.
     ///
     /// # Errors
     ///
