@@ -12,3 +12,6 @@ pub mod Configured
 pub mod Withdrawn
 pub mod MetAfter
 pub mod MetWords
+pub mod DependentRows
+pub mod NeededNames
+pub mod DependentNames

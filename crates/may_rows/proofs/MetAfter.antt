@@ -1,9 +1,9 @@
 -- A safe instruction leaves each entry of what is configured met, but for an unpack of a configured
 -- name.
-use Rattle.std.proofs.Common.{◌≡◌, ◌⊎◌, inl, inr, ℕ, ◌<◌, Bool, true, false, not, ◌&&◌, ◌||◌, ◌==◌, List, [], ◌∷◌, ◌++◌, Option, Some, None, refl, sym, ap, ◌∙◌, if◌then◌else◌}
+use Rattle.std.proofs.Common.{◌≡◌, ◌⊎◌, inl, inr, ℕ, ◌<◌, Bool, true, false, not, ◌&&◌, ◌||◌, ◌==◌, List, [], ◌∷◌, Option, Some, None, refl, sym, ap, ◌∙◌, if◌then◌else◌}
 use Rattle.std.specs.Prelude.{slice_index_or}
 use Rattle.std.specs.List.{list_any}
-use Rattle.std.proofs.lemmas.Bool.{cases_Bool, cases_eq, and_from, and_parts, or_cases, or_left, or_right, not-true, not_from_false, both_ways, eq-eqb, eqb-true, ne_eqb}
+use Rattle.std.proofs.lemmas.Bool.{cases_Bool, cases_eq, and_from, and_parts, or_cases, not-true, not_from_false, both_ways, eq-eqb, eqb-true, ne_eqb}
 use Rattle.std.proofs.lemmas.List.Folds.{list_any-append}
 use Rattle.std.proofs.lemmas.Option.{none-some}
 use Rattle.deb_relation.specs.declared.operator.Op.{Op}
@@ -68,7 +68,7 @@ configured_mono u n p q (MayConfigured current) to is =
     (λ b lt both. let parts = and_parts _ _ both in and_from _ _ parts.0 (to b parts.1)) is
 
 -- a variant that a slot may hold
-configured_found : (u : Universe) (n : ℕ) (p : Bits) (s : MaySlot)
+pub configured_found : (u : Universe) (n : ℕ) (p : Bits) (s : MaySlot)
     → may_hold_configured u n p s ≡ true
     → (b : ℕ) × (p b ≡ true) × ((q : Bits) → q b ≡ true → may_hold_configured u n q s ≡ true)
 configured_found u n p MayAbsent is = cc

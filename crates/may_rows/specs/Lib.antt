@@ -1,3 +1,4 @@
+pub mod Dependents
 pub mod Words
 pub mod Met
 pub mod Walk

@@ -14,6 +14,7 @@ ghost use Rattle.may_rows.specs.Walk.{Answers, IsOfLane};
 
 use crate::build::{build, publish};
 use crate::configure::configure;
+use crate::dependents::Dependents;
 use crate::state::MayHold;
 use crate::unpack::unpack;
 use crate::withdraw::{deconfigure, remove};
@@ -43,6 +44,7 @@ fn stays_met(_universe: &Universe, state: &MayHold, met: bool, instruction: &Ins
 fn go_on(
     universe: &Universe,
     tables: &Tables,
+    dependents: &Dependents,
     lane: &Lane,
     state: &mut MayHold,
     met: bool,
@@ -51,6 +53,7 @@ fn go_on(
     there: &Row,
 ) -> Result<(), Trap>
     requires same { tables.now ≡ universe.now }
+    requires same_dependents { dependents.now ≡ universe.now }
     requires instruction { IsInstruction universe.now instruction.now }
     requires of_lane { IsOfLane universe.now lane.now state.old }
     requires known_long { length known.now ≡ names universe.now }
@@ -79,10 +82,24 @@ fn go_on(
             configure(universe, tables, lane, state, members.as_slice())
         }
         Instruction::Deconfigure(members) => {
-            deconfigure(universe, tables, lane, state, members.as_slice())
+            deconfigure(
+                universe,
+                tables,
+                dependents,
+                lane,
+                state,
+                members.as_slice(),
+            )
         }
         Instruction::Remove(members) => {
-            remove(universe, tables, lane, state, members.as_slice())
+            remove(
+                universe,
+                tables,
+                dependents,
+                lane,
+                state,
+                members.as_slice(),
+            )
         }
         Instruction::Build(recipe) => build(universe, tables, lane, state, met, *recipe),
         Instruction::Publish(recipe) => publish(universe, lane, state, *recipe),
@@ -100,6 +117,7 @@ fn go_on(
 pub fn step(
     universe: &Universe,
     tables: &Tables,
+    dependents: &Dependents,
     lane: &Lane,
     state: &mut MayHold,
     met: &mut bool,
@@ -108,6 +126,7 @@ pub fn step(
     there: &Row,
 ) -> Result<(), Trap>
     requires same { tables.now ≡ universe.now }
+    requires same_dependents { dependents.now ≡ universe.now }
     requires instruction { IsInstruction universe.now instruction.now }
     requires of_lane { IsOfLane universe.now lane.now state.old }
     requires known_long { length known.now ≡ names universe.now }
@@ -129,6 +148,7 @@ pub fn step(
     go_on(
         universe,
         tables,
+        dependents,
         lane,
         state,
         was_met,

@@ -5,6 +5,7 @@ mod ahead;
 mod base;
 mod build;
 mod configure;
+mod dependents;
 mod entries;
 mod exclude;
 mod instruction;
@@ -20,5 +21,6 @@ mod unpack;
 mod withdraw;
 mod write;
 
+pub use dependents::Dependents;
 pub use instruction::step;
 pub use state::MayHold;

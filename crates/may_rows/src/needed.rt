@@ -1,6 +1,6 @@
 //! Whether a withdrawn member of a set may still be needed.
 
-ghost use Rattle.std.specs.Prelude.{◌≡◌, ◌<◌, ◌&&◌, not, length};
+ghost use Rattle.std.specs.Prelude.{◌≡◌, ◌<◌, ◌&&◌, ◌∷◌, [], not, length};
 ghost use Rattle.std.specs.List.{list_any};
 ghost use Rattle.farm_model.specs.Below.{some_below};
 ghost use Rattle.deb_relation.specs.Relations.{Entry};
@@ -14,6 +14,7 @@ ghost use Rattle.sat_rows.specs.Rows.{IsRowOf, entry_at};
 ghost use Rattle.may_rows.specs.Words.{AreWords, may_of};
 ghost use Rattle.may_rows.specs.Withdraws.{may_have_met, may_be_missed, needs_at};
 
+use crate::dependents::Dependents;
 use crate::members::may_hold_configured;
 use crate::numbers::{NumberTest, some_number};
 use crate::state::MayHold;
@@ -192,17 +193,72 @@ fn needs_at(
     may_hold_configured(universe, state, name, &test)
 }
 
-/// Tells whether a configured variant of some name may miss a withdrawn member.
-pub fn some_needs(universe: &Universe, tables: &Tables, state: &MayHold, members: &[u32]) -> bool
+/// Tells whether a configured variant of a name may miss a withdrawn name.
+fn needs_one(
+    universe: &Universe,
+    tables: &Tables,
+    dependents: &Dependents,
+    state: &MayHold,
+    member: u32,
+    name: u32,
+) -> bool
     requires same { tables.now ≡ universe.now }
+    requires same_dependents { dependents.now ≡ universe.now }
+    requires words { AreWords universe.now state.now }
+    requires member { member < packages.names universe.now }
+    requires named { name < packages.names universe.now }
+    ensures { result ≡ needs_at universe.now (member ∷ []) (may_of state.now) name }
+{
+    let row = dependents.of(member);
+    row.is_hit_at(name as usize, state.ready_word(name))
+        && needs_at(universe, tables, state, &[member], name)
+}
+
+/// Tells whether a configured variant of some name may miss a withdrawn name.
+fn is_needed(
+    universe: &Universe,
+    tables: &Tables,
+    dependents: &Dependents,
+    state: &MayHold,
+    member: u32,
+) -> bool
+    requires same { tables.now ≡ universe.now }
+    requires same_dependents { dependents.now ≡ universe.now }
+    requires words { AreWords universe.now state.now }
+    requires named { member < packages.names universe.now }
+    ensures { result ≡ some_below (packages.names universe.now)
+        (needs_at universe.now (member ∷ []) (may_of state.now)) }
+{
+    let row = dependents.of(member);
+    if !row.is_hit_by(&state.ready) {
+        return false;
+    }
+    let count = universe.names();
+    for name in 0..count {
+        if needs_one(universe, tables, dependents, state, member, name) {
+            return true;
+        }
+    }
+    false
+}
+
+/// Tells whether a configured variant of some name may miss a withdrawn member.
+pub fn some_needs(
+    universe: &Universe,
+    tables: &Tables,
+    dependents: &Dependents,
+    state: &MayHold,
+    members: &[u32],
+) -> bool
+    requires same { tables.now ≡ universe.now }
+    requires same_dependents { dependents.now ≡ universe.now }
     requires words { AreWords universe.now state.now }
     requires members { IsNameSet universe.now members.now }
     ensures { result ≡ some_below (packages.names universe.now)
         (needs_at universe.now members.now (may_of state.now)) }
 {
-    let count = universe.names();
-    for name in 0..count {
-        if needs_at(universe, tables, state, members, name) {
+    for place in 0..members.len() {
+        if is_needed(universe, tables, dependents, state, members[place]) {
             return true;
         }
     }

@@ -12,6 +12,7 @@ ghost use Rattle.may_rows.specs.Walk.{Answers, IsOfLane};
 ghost use Rattle.may_rows.specs.Configures.{slots_after};
 ghost use Rattle.may_rows.specs.Withdraws.{may_be_withdrawn, wrong_risks};
 
+use crate::dependents::Dependents;
 use crate::needed::some_needs;
 use crate::space::may_exceed;
 use crate::state::MayHold;
@@ -120,11 +121,13 @@ fn remove_risk(_universe: &Universe, lane: &Lane, state: &MayHold, members: &[u3
 pub fn deconfigure(
     universe: &Universe,
     tables: &Tables,
+    dependents: &Dependents,
     lane: &Lane,
     state: &mut MayHold,
     members: &[u32],
 ) -> Result<(), Trap>
     requires same { tables.now ≡ universe.now }
+    requires same_dependents { dependents.now ≡ universe.now }
     requires members { IsNameSet universe.now members.now }
     requires of_lane { IsOfLane universe.now lane.now state.old }
     ensures answer { (in_it may_be : Variant → Bool) → Answers universe.now lane.now in_it may_be
@@ -135,7 +138,7 @@ pub fn deconfigure(
         return Err(trap);
     }
     withdraw_members(universe, state, members);
-    if some_needs(universe, tables, state, members) {
+    if some_needs(universe, tables, dependents, state, members) {
         return Err(Trap::StillNeeded);
     }
     state.spend(universe, members.len() as u64);
@@ -151,11 +154,13 @@ pub fn deconfigure(
 pub fn remove(
     universe: &Universe,
     tables: &Tables,
+    dependents: &Dependents,
     lane: &Lane,
     state: &mut MayHold,
     members: &[u32],
 ) -> Result<(), Trap>
     requires same { tables.now ≡ universe.now }
+    requires same_dependents { dependents.now ≡ universe.now }
     requires members { IsNameSet universe.now members.now }
     requires of_lane { IsOfLane universe.now lane.now state.old }
     ensures answer { (in_it may_be : Variant → Bool) → Answers universe.now lane.now in_it may_be
@@ -166,7 +171,7 @@ pub fn remove(
         return Err(trap);
     }
     withdraw_members(universe, state, members);
-    if some_needs(universe, tables, state, members) {
+    if some_needs(universe, tables, dependents, state, members) {
         return Err(Trap::StillNeeded);
     }
     remove_members(universe, state, members);

@@ -10,6 +10,7 @@ ghost use Rattle.wait_order.specs.KnownRows.{rows_of};
 use crate::refusal::Refusal;
 use crate::walk::{WalkError, walk};
 use farm_universe::{Trap, Universe};
+use may_rows::Dependents;
 use plan_asm::Plan;
 use sat_rows::Tables;
 use std::alloc::Global;
@@ -36,9 +37,10 @@ pub fn walk_lanes(
     requires keeps { KeepsRows universe.now plan.now.lanes (rows_of known.now) }
     ensures { AreWalked universe.now plan.now.lanes (rows_of known.now) result }
 {
+    let dependents = Dependents::build(alloc, universe, tables)?;
     let mut costs = Vec::new(alloc);
     for number in 0..plan.lanes() {
-        match walk(alloc, universe, tables, plan, known, number) {
+        match walk(alloc, universe, tables, &dependents, plan, known, number) {
             Ok(cost) => costs.push(cost)?,
             Err(error) => return Err(error),
         }

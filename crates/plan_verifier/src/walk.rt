@@ -8,7 +8,7 @@ ghost use Rattle.wait_order.specs.KnownRows.{rows_of};
 
 use crate::possible::{add_outputs, possible_row};
 use farm_universe::{Trap, Universe};
-use may_rows::{MayHold, step};
+use may_rows::{Dependents, MayHold, step};
 use plan_asm::Plan;
 use sat_rows::Tables;
 use std::alloc::{AllocError, AllocFailed, Global};
@@ -53,6 +53,7 @@ pub fn walk(
     alloc: Global,
     universe: &Universe,
     tables: &Tables,
+    dependents: &Dependents,
     plan: &Plan,
     known: &Known,
     number: usize,
@@ -60,6 +61,7 @@ pub fn walk(
     requires lane { number < length plan.now.lanes }
     requires sound { IsSound universe.now plan.now.lanes }
     requires tables { tables.now ≡ universe.now }
+    requires dependents { dependents.now ≡ universe.now }
     requires of_universe { known.now.universe ≡ universe.now }
     requires of_plan { known.now.plan ≡ plan.now.lanes }
     requires keeps { KeepsRows universe.now plan.now.lanes (rows_of known.now) }
@@ -77,6 +79,7 @@ pub fn walk(
         let stepped = step(
             universe,
             tables,
+            dependents,
             lane,
             &mut state,
             &mut met,

@@ -1,4 +1,3 @@
-use Rattle.std.proofs.Common.{sym}
 use Rattle.may_rows.specs.Words.{may_of}
 use Rattle.may_rows.proofs.MetWords.{hold_some, met_answer}
 use Rattle.may_rows.proofs.instruction.step.Goals as goal

@@ -1,8 +1,14 @@
-use Rattle.std.proofs.Common.{◌≡◌, false}
+use Rattle.std.proofs.Common.{◌≡◌, false, [], ◌∷◌, take}
+use Rattle.std.specs.List.{list_any}
 use Rattle.farm_model.specs.Below.{some_below}
+use Rattle.farm_model.specs.Packages.{names}
 use Rattle.may_rows.specs.Words.{may_of}
 use Rattle.may_rows.specs.Withdraws.{needs_at}
 use Rattle.may_rows.proofs.needed.some_needs.Given as goal
 
-abbrev pub invariant-loop-name : goal.invariant-loop-name
-invariant-loop-name l = some_below l.name (needs_at l.universe l.members (may_of l.state)) ≡ false
+abbrev pub invariant-loop-place : goal.invariant-loop-place
+invariant-loop-place l =
+    list_any
+    (λ k. some_below (names l.universe) (needs_at l.universe (k ∷ []) (may_of l.state)))
+    (take l.place l.members)
+    ≡ false

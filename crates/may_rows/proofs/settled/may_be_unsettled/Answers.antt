@@ -1,8 +1,4 @@
-use Rattle.std.proofs.Common.{false, not, ◌||◌, sym, ap, ◌∙◌}
-use Rattle.std.proofs.Math.Bool.{or-false}
-use Rattle.farm_model.specs.Below.{some_below}
-use Rattle.farm_model.specs.Packages.{names}
-use Rattle.plan_model.specs.May.{is_surely_unpacked}
+use Rattle.std.proofs.Common.{not, ◌||◌, sym, ap, ◌∙◌}
 use Rattle.may_rows.specs.Met.{some_misses}
 use Rattle.may_rows.specs.Words.{may_of}
 use Rattle.may_rows.proofs.MetWords.{unsettled-is}
