@@ -1,8 +1,8 @@
 -- The first output that a row has, and the initial variants that satisfy a wait.
-use Rattle.std.proofs.Common.{◌≡◌, inl, inr, ℕ, zero, suc, ◌+◌, ◌<◌, ◌≤◌, Bool, true, false, ◌==◌, nat_lt, List, [], ◌∷◌, length, get_or, Some, None, slice_get, refl, sym, ap, subst, ◌∙◌, arith}
-use Rattle.std.specs.Prelude.{◌↔◌, IsTrue, if◌then◌else◌}
+use Rattle.std.proofs.Common.{◌≡◌, inl, inr, ℕ, zero, suc, ◌+◌, ◌<◌, ◌≤◌, Bool, true, false, nat_lt, List, [], ◌∷◌, length, get_or, Some, None, slice_get, refl, sym, ap, subst, ◌∙◌, arith}
+use Rattle.std.specs.Prelude.{◌↔◌, IsTrue}
 use Rattle.std.proofs.lemmas.Option.{none-some, same_Some, slice_get-get_or, slice_get_within, get_or_from_slice_get}
-use Rattle.std.proofs.lemmas.Bool.{cases_eq, and_parts, and_from, lt-ltb, both_ways, eq-eqb, ne_eqb}
+use Rattle.std.proofs.lemmas.Bool.{cases_eq, and_parts, and_from, lt-ltb, both_ways}
 use Rattle.bit_rows.specs.Sets.{variants_of, HaveCommon}
 use Rattle.deb_relation.specs.Relations.{Entry}
 use Rattle.farm_model.specs.declared.types.Variant.{Variant}
@@ -10,15 +10,13 @@ use Rattle.farm_model.specs.Universe.{Universe}
 use Rattle.farm_model.specs.Packages.{variant, variants, satisfies_entry, initial}
 use Rattle.farm_model.specs.Sound.{IsKnown, IsUniverse}
 use Rattle.plan_model.specs.Plan.{Plan, lane}
-use Rattle.clock_laws.specs.Clocks.{count_before}
 use Rattle.sat_rows.specs.Rows.{IsRowOf}
 use Rattle.wait_order.specs.declared.column.Source.{Source}
 use Rattle.wait_order.specs.declared.marks.Output.{Output}
 use Rattle.wait_order.specs.Marks.{lane_outputs}
 use Rattle.wait_order.specs.Waits.{IsNothing}
 use Rattle.wait_order.specs.Hits.{HasNoHit, IsFirstHit, AreKnownOutputs, AreSourcesBelow}
-use Rattle.wait_order.proofs.Numbering.{count-few}
-use Rattle.wait_order.proofs.Sources.{outs-long, comes_from, start_sources}
+use Rattle.wait_order.proofs.Sources.{comes_from, start_sources}
 
 pub out_known : (u : Universe) (outs : List Output) (n : ℕ) (d : Output) → AreKnownOutputs u outs
     → n < length outs → IsKnown u (get_or outs n d).variant

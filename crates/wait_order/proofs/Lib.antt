@@ -23,3 +23,4 @@ pub mod PlaceLaws
 pub mod SameEntries
 pub mod KeptLaws
 pub mod MetSources
+pub mod SameClock

@@ -2,11 +2,12 @@
 -- universe, p a plan, l a lane, i a place, rows the words of all rows so far.
 --
 --   known_rows                what the columns tell at each place
+--   AreSameCounts             two waits at which as much is known
 --   IsLastRow                 the last of the rows is this one
 --   IsExtended                more rows behind the same
 --   AreRowNumbers             the numbers of the rows of a lane's places
 --   ArePlaces                 those of the lanes below n
-use Rattle.std.specs.Prelude.{◌≡◌, ℕ, suc, ◌<◌, ◌≤◌, Bool, true, false, List, [], length, slice_index, slice_index_or, All}
+use Rattle.std.specs.Prelude.{◌≡◌, ℕ, suc, ◌<◌, ◌≤◌, Bool, true, false, List, [], length, Option, slice_index, slice_index_or, All}
 use Rattle.farm_model.specs.declared.types.Variant.{Variant}
 use Rattle.farm_model.specs.Universe.{Universe}
 use Rattle.plan_model.specs.declared.instructions.Instruction.{Instruction}
@@ -15,6 +16,7 @@ use Rattle.plan_model.specs.Plan.{Plan, lane}
 use Rattle.plan_model.specs.Known.{Rows}
 use Rattle.clock_laws.specs.Clocks.{clock_rows}
 use Rattle.sat_rows.specs.Rows.{IsRowOf}
+use Rattle.wait_order.specs.Column.{count_at}
 use Rattle.wait_order.specs.Columns.{counts_of}
 use Rattle.wait_order.specs.KnownRows.{IsRowIn}
 use Rattle.wait_order.specs.Waits.{clock_of}
@@ -28,6 +30,12 @@ abbrev pub teaches : Instruction → Bool
 teaches (Wait e) = true
 teaches (Publish r) = true
 teaches _ = false
+
+-- of the lanes below n, other than l, as many outputs are known at two waits
+abbrev pub AreSameCounts : List (List ℕ) → ℕ → Option ℕ → Option ℕ → ℕ → Type 0
+AreSameCounts columns l a b n =
+    (j : ℕ) → j < n → (j ≡ l → ⊥)
+    → count_at (counts_of columns j) a ≡ count_at (counts_of columns j) b
 
 pub record IsLastRow (u : Universe) (test : Variant → Bool) (rows : List (List ℕ)) : Type 0 where
   pub number : ℕ

@@ -1,6 +1,6 @@
 //! The rows of a lane: one for each place at which it may know something new.
 
-ghost use Rattle.std.specs.Prelude.{◌≡◌, ◌+◌, ◌<◌, ◌≤◌, Some, length, IfOk, OnOk};
+ghost use Rattle.std.specs.Prelude.{◌≡◌, ◌+◌, ◌<◌, ◌≤◌, true, Some, length, IfOk, OnOk};
 ghost use Rattle.farm_model.specs.Packages.{initial};
 ghost use Rattle.plan_model.specs.Plan.{lane, instruction_at};
 ghost use Rattle.plan_model.specs.Sound.{IsSound};
@@ -8,9 +8,10 @@ ghost use Rattle.clock_laws.specs.Clocks.{count_before};
 ghost use Rattle.sat_rows.specs.Rows.{IsRowOf};
 ghost use Rattle.wait_order.specs.Marks.{all_marks, AreLanes};
 ghost use Rattle.wait_order.specs.Waits.{last_wait, ArePoints};
+ghost use Rattle.wait_order.specs.Column.{of_list, count_at, IsIn};
 ghost use Rattle.wait_order.specs.Columns.{AreColumns};
 ghost use Rattle.wait_order.specs.PlaceRows as spec;
-ghost use Rattle.wait_order.specs.PlaceRows.{known_rows, IsLastRow, IsExtended, AreRowNumbers};
+ghost use Rattle.wait_order.specs.PlaceRows.{known_rows, IsLastRow, IsExtended, AreRowNumbers, AreSameCounts};
 
 use crate::clock_row::clock_row;
 use crate::column::Point;
@@ -72,6 +73,61 @@ fn push_row(
     Ok(())
 }
 
+/// Tells whether as many outputs of a lane are known at one wait as at another, or the lane is this one.
+fn is_same_count(
+    counts: &Counts,
+    other: usize,
+    number: usize,
+    before: Option<usize>,
+    last: Option<usize>,
+) -> bool
+    requires before { IsIn (length counts.now) before }
+    requires last { IsIn (length counts.now) last }
+    ensures { result ≡ true → (other ≡ number → ⊥)
+        → count_at (of_list counts.now) before ≡ count_at (of_list counts.now) last }
+{
+    if other == number {
+        return true;
+    }
+    counts.at(before) == counts.at(last)
+}
+
+/// Tells whether a lane knows as many outputs of each lane at two of its places. It has made `own`
+/// outputs at the one, and more at the other unless they are as many.
+fn is_same_clock(
+    _universe: &Universe,
+    _plan: &Plan,
+    columns: &[Counts],
+    _points: &[Point],
+    number: usize,
+    _place: usize,
+    _next: usize,
+    own_before: usize,
+    before: Option<usize>,
+    own: usize,
+    last: Option<usize>,
+) -> bool
+    requires points { ArePoints _universe.now _plan.now.lanes _points.now }
+    requires columns { AreColumns _universe.now _plan.now.lanes _points.now columns.now
+        (length _plan.now.lanes) }
+    requires number { number < length _plan.now.lanes }
+    requires before { before ≡ last_wait _plan.now.lanes number _place }
+    requires last { last ≡ last_wait _plan.now.lanes number _next }
+    ensures own { result ≡ true → own ≡ own_before }
+    ensures others { result ≡ true
+        → AreSameCounts columns.now number before last (length columns.now) }
+{
+    if own != own_before {
+        return false;
+    }
+    for other in 0..columns.len() {
+        if !is_same_count(&columns[other], other, number, before, last) {
+            return false;
+        }
+    }
+    true
+}
+
 /// Puts the row of the place behind an instruction behind the others, where it may be another one.
 fn renew(
     alloc: Global,
@@ -82,9 +138,11 @@ fn renew(
     columns: &[Counts],
     points: &[Point],
     number: usize,
-    _place: usize,
+    place: usize,
     next: usize,
     instruction: &Instruction,
+    own_before: usize,
+    before: Option<usize>,
     own: usize,
     last: Option<usize>,
     rows: &mut Vec<Row>,
@@ -96,18 +154,25 @@ fn renew(
     requires columns { AreColumns universe.now plan.now.lanes points.now columns.now
         (length plan.now.lanes) }
     requires lane { number < length plan.now.lanes }
-    requires at { instruction_at plan.now.lanes number _place ≡ Some instruction.now }
-    requires within { _place < length (lane plan.now.lanes number).instructions }
-    requires next { next ≡ _place + 1 }
+    requires at { instruction_at plan.now.lanes number place ≡ Some instruction.now }
+    requires within { place < length (lane plan.now.lanes number).instructions }
+    requires next { next ≡ place + 1 }
+    requires own_before { own_before ≡ count_before universe.now plan.now.lanes number place }
+    requires before { before ≡ last_wait plan.now.lanes number place }
     requires own { own ≡ count_before universe.now plan.now.lanes number next }
     requires last { last ≡ last_wait plan.now.lanes number next }
     requires row { IsLastRow universe.now
-        (known_rows universe.now plan.now.lanes columns.now number _place) rows.old.items }
+        (known_rows universe.now plan.now.lanes columns.now number place) rows.old.items }
     ensures more { OnOk result (IsExtended universe.now rows.old.items rows.new.items) }
     ensures row { OnOk result (IsLastRow universe.now
         (known_rows universe.now plan.now.lanes columns.now number next) rows.new.items) }
 {
     if !teaches(instruction) {
+        return Ok(());
+    }
+    if is_same_clock(
+        universe, plan, columns, points, number, place, next, own_before, before, own, last,
+    ) {
         return Ok(());
     }
     push_row(
@@ -153,6 +218,8 @@ pub fn lane_places(
     numbers.push(rows.len() - 1)?;
     for place in 0..instructions.len() {
         let instruction = &instructions[place];
+        let own_before = outputs.len();
+        let before = last;
         pass(
             universe,
             number,
@@ -174,6 +241,8 @@ pub fn lane_places(
             place,
             place + 1,
             instruction,
+            own_before,
+            before,
             outputs.len(),
             last,
             rows,

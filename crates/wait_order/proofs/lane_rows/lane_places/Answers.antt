@@ -17,6 +17,17 @@ renew-requires-clause-at c =
     (c.instructions-instructions.ensures ∙ ap (λ of. of.instructions) c.lane.ensures)
     c.loop-place-test.true c.index-instructions-place.is
 
+pub renew-requires-clause-own_before : goal.renew-requires-clause-own_before
+renew-requires-clause-own_before c =
+    let u = c.args.universe.now in
+    let p = c.args.plan.now.lanes in
+    let l = c.args.number in
+    let i = c.loop-place.place in
+    let xs = c.instructions-instructions.ensures ∙ ap (λ of. of.instructions) c.lane.ensures in
+    let long = lane_outputs-long u p l i (omega (arith, c.loop-place-test.true, ap length xs)) in
+    let are = ap length c.loop-place.invariant.passed.outputs_are in
+    omega (arith, c.len-own_before.ensures, are, long)
+
 pub renew-requires-clause-own : goal.renew-requires-clause-own
 renew-requires-clause-own c =
     let u = c.args.universe.now in
