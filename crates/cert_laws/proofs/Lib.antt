@@ -1,0 +1,6 @@
+mod Items
+mod Lists
+mod RowAgain
+mod RowVariants
+mod RowWords
+mod Variants

@@ -1,0 +1,33 @@
+-- The list that is printed of a row (the project's own format) is read again as that row: a law over
+-- texts and definitions, so that no variant can be dropped by reader and writer alike.
+--
+--   IsSpelled u         names and versions as Debian Policy 5.6.1 and 5.6.12 have them, each once
+--   RowIsReadAgain
+use Rattle.std.specs.Prelude.{◌≡◌, ℕ, ◌<◌, suc, true, List, length, Some}
+use Rattle.std.specs.declared.cmp.Ordering.TheVariants.{Less}
+use Rattle.std.specs.List.{list_all}
+use Rattle.std.specs.Result.{is_ok}
+use Rattle.std.specs.Str.{bytes_eq}
+use Rattle.deb_text.specs.Groups.{AllDistinct}
+use Rattle.deb_text.specs.Words.{is_name}
+use Rattle.deb_version.specs.Grammar.{version_at, text_cmp}
+use Rattle.farm_model.specs.Universe.{Universe}
+use Rattle.farm_model.specs.Packages.{variant, variants, package_of}
+use Rattle.cert_text.specs.Certificates.{IsNewRow}
+use Rattle.cert_text.specs.Printed.{list_text}
+use Rattle.cert_text.specs.Rows.{row_variants, row_at}
+
+pub record IsSpelled (u : Universe) : Type 0 where
+  pub names : list_all is_name u.names ≡ true
+  pub distinct : AllDistinct bytes_eq u.names
+  pub listed : length u.names ≡ length u.packages
+  pub versions : (n b : ℕ) → b < variants u n
+      → is_ok (version_at (package_of u (variant n b)).version) ≡ true
+  pub rising : (n b : ℕ) → suc b < variants u n
+      → text_cmp (package_of u (variant n b)).version (package_of u (variant n (suc b))).version
+      ≡ Less
+
+-- each row of variants that the initial archive does not have is the row of its list
+abbrev pub RowIsReadAgain : Type 0
+RowIsReadAgain = (u : Universe) (row : List ℕ) → IsSpelled u → IsNewRow u row
+    → row_at u (list_text u (row_variants u row)) ≡ Some row

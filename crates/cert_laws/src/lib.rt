@@ -1,0 +1,9 @@
+//! The law that what is printed of a row is read again as that row.
+#![tactic(auto)]
+
+ghost use Rattle.cert_laws.specs.Laws.{RowIsReadAgain};
+
+/// The list that is printed of a row is read again as that row.
+pub fn row_is_read_again()
+    ensures { RowIsReadAgain }
+{}
