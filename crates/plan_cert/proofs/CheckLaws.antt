@@ -1,0 +1,125 @@
+-- The verdict on a certificate, from what is known of the rows that it states.
+use Rattle.std.proofs.Common.{◌≡◌, ℕ, ◌+◌, ◌<◌, true, List, length, Err, sym, ◌∙◌, arith}
+use Rattle.cert_text.specs.Certificates.{Certificate, IsCertificate}
+use Rattle.cert_text.specs.declared.fault.CertFault.{CertFault}
+use Rattle.cert_text.specs.declared.fault.CertFault.TheVariants.{Text, Row, Unsafe, Order, Memory}
+use Rattle.farm_laws.proofs.LawsOfPlans.{every_interleaving}
+use Rattle.farm_model.specs.declared.types.Variant.{Variant}
+use Rattle.farm_model.specs.declared.types.Trap.{Trap}
+use Rattle.farm_model.specs.Universe.{Universe}
+use Rattle.farm_model.specs.Packages.{initial}
+use Rattle.farm_model.specs.Sound.{IsUniverse}
+use Rattle.plan_model.specs.Known.{Rows, KeepsRows}
+use Rattle.plan_model.specs.Order.{IsOrder}
+use Rattle.plan_model.specs.Plan.{Plan}
+use Rattle.plan_model.specs.Promise.{IsSafe}
+use Rattle.plan_model.specs.Safety.{IsSafeUnder, IsFirstUnsafe}
+use Rattle.plan_model.specs.Sound.{IsSound}
+use Rattle.row_laws.specs.Agreeing.{Agree}
+use Rattle.row_laws.specs.Places.{IsFirstUnjustified}
+use Rattle.row_laws.proofs.Alike.{agreeing_rows_are_alike}
+use Rattle.row_laws.proofs.ByPlace.{keeping_is_by_place}
+use Rattle.plan_cert.specs.Broken.{IsBrokenAt, IsOrderChecked, IsNumbered}
+use Rattle.plan_cert.specs.Certified.{Certifies, IsCertVerdict}
+use Rattle.plan_cert.specs.Checked.{AreChecked, AreSafe}
+use Rattle.plan_cert.specs.Places.{HaveKnown}
+use Rattle.plan_cert.specs.Stated.{stated_rows}
+use Rattle.plan_cert.proofs.StatedLaws.{stated-known, stated-start}
+
+pub told-broken : (u : Universe) (p : Plan) (order : List ℕ) (n : ℕ) (f : CertFault)
+    → IsNumbered n f → ((item : ℕ) → item ≡ n + 1 → IsBrokenAt u p order item)
+    → IsOrderChecked u p order (Err f)
+told-broken u p order n (Order item) numbered broken = broken item numbered
+told-broken u p order n Memory numbered broken = tt
+told-broken u p order n (Text line) numbered broken = absurd numbered
+told-broken u p order n (Row l number) numbered broken = absurd numbered
+told-broken u p order n (Unsafe l number trap) numbered broken = absurd numbered
+
+-- rows that agree keep alike, and are safe alike
+pub keeps-alike : (u : Universe) (p : Plan) (rows other : Rows) → Agree p rows other
+    → KeepsRows u p rows → KeepsRows u p other
+keeps-alike u p rows other same keeps =
+    let alike = agreeing_rows_are_alike u p rows other same in
+    (keeping_is_by_place u p other).1
+    (λ l i lt. (alike.justified l i lt).0 ((keeping_is_by_place u p rows).0 keeps l i lt))
+
+pub safe-alike : (u : Universe) (p : Plan) (rows other : Rows) → Agree p rows other
+    → IsSafeUnder u p rows → IsSafeUnder u p other
+safe-alike u p rows other same safe l i lt =
+    sym ((agreeing_rows_are_alike u p rows other same).risks l i lt) ∙ safe l i lt
+
+unjustified-alike : (u : Universe) (p : Plan) (rows other : Rows) (l i : ℕ) → Agree p rows other
+    → IsFirstUnjustified u p rows l i → IsFirstUnjustified u p other l i
+unjustified-alike u p rows other l i same first =
+    let alike = agreeing_rows_are_alike u p rows other same in
+    record {
+      in_plan = first.in_plan;
+      here = λ j. first.here ((alike.justified l i first.in_plan).1 j);
+      before = λ k lt. (alike.justified l k first.in_plan).0 (first.before k lt);
+      lanes_before = λ j k lt. (alike.justified j k (omega (arith, lt, first.in_plan))).0 (first.lanes_before j k lt);
+    }
+
+unsafe-alike : (u : Universe) (p : Plan) (rows other : Rows) (l i : ℕ) (trap : Trap)
+    → Agree p rows other → IsFirstUnsafe u p rows l i trap → IsFirstUnsafe u p other l i trap
+unsafe-alike u p rows other l i trap same first =
+    let alike = agreeing_rows_are_alike u p rows other same in
+    record {
+      in_plan = first.in_plan;
+      here = sym (alike.risks l i first.in_plan) ∙ first.here;
+      before = λ k lt. sym (alike.risks l k first.in_plan) ∙ first.before k lt;
+      lanes_before = λ j k lt. sym (alike.risks j k (omega (arith, lt, first.in_plan))) ∙ first.lanes_before j k lt;
+    }
+
+module _ (u : Universe) (p : Plan) (c : Certificate) (is : IsCertificate u p c) (sound : IsUniverse u)
+    (rows : Rows) (same : Agree p rows (stated_rows u p c)) where
+  pub have-known : HaveKnown u p rows
+  have-known l i v lt le e = stated-known u p c is sound l i v (sym (same l i v lt le) ∙ e)
+
+  pub starts : (l : ℕ) (v : Variant) → l < length p → rows l 0 v ≡ true → initial u v ≡ true
+  starts l v lt e = stated-start u p c is l v (sym (same l 0 v lt (omega arith)) ∙ e)
+
+  pub rows-verdict : (f : CertFault) → AreChecked u p rows (Err f) → IsCertVerdict u p c (Err f)
+  rows-verdict (Row l number) told = unjustified-alike u p rows (stated_rows u p c) l number same told
+  rows-verdict Memory told = tt
+  rows-verdict (Text line) told = absurd told
+  rows-verdict (Unsafe l number trap) told = absurd told
+  rows-verdict (Order item) told = absurd told
+
+  pub safety-verdict : KeepsRows u p rows → (f : CertFault) → AreSafe u p rows (Err f)
+      → IsCertVerdict u p c (Err f)
+  safety-verdict keeps (Unsafe l number trap) told = record {
+    keeps = keeps-alike u p rows (stated_rows u p c) same keeps;
+    place = told.0;
+    numbered = told.1;
+    first = unsafe-alike u p rows (stated_rows u p c) l told.0 trap same told.2;
+  }
+  safety-verdict keeps Memory told = tt
+  safety-verdict keeps (Text line) told = absurd told
+  safety-verdict keeps (Row l number) told = absurd told
+  safety-verdict keeps (Order item) told = absurd told
+
+  pub order-verdict : KeepsRows u p rows → IsSafeUnder u p rows → (f : CertFault)
+      → IsOrderChecked u p c.order (Err f) → IsCertVerdict u p c (Err f)
+  order-verdict keeps safe (Order item) told = record {
+    keeps = keeps-alike u p rows (stated_rows u p c) same keeps;
+    safe = safe-alike u p rows (stated_rows u p c) same safe;
+    broken = told;
+  }
+  order-verdict keeps safe Memory told = tt
+  order-verdict keeps safe (Text line) told = absurd told
+  order-verdict keeps safe (Row l number) told = absurd told
+  order-verdict keeps safe (Unsafe l number trap) told = absurd told
+
+  pub certified : KeepsRows u p rows → IsSafeUnder u p rows → IsOrder u p c.order → Certifies u p c
+  certified keeps safe order = record {
+    keeps = keeps-alike u p rows (stated_rows u p c) same keeps;
+    safe = safe-alike u p rows (stated_rows u p c) same safe;
+    order = order;
+  }
+
+-- a certified plan keeps the promise
+pub promise : (u : Universe) (p : Plan) (c : Certificate) → IsSound u p → Certifies u p c
+    → IsSafe u p
+promise u p c sound is =
+    every_interleaving u p (stated_rows u p c) c.order sound
+    (record { keeps = is.keeps; safe = is.safe }) is.order

@@ -1,0 +1,114 @@
+-- The rows that a certificate states, instruction by instruction.
+use Rattle.std.proofs.Common.{◌≡◌, ℕ, zero, suc, ◌+◌, ◌<◌, Bool, true, false, cond, ◌||◌, nat_lt, List, [], ◌∷◌, length, take, drop, get_or, Some, slice_index_or, count_by, inl, inr, refl, sym, ap, subst, ◌∙◌, arith, take-append-drop}
+use Rattle.std.proofs.lemmas.Bool.{or_cases, and_parts, and_from, cases_lt, lt-ltb, false≢true}
+use Rattle.std.proofs.lemmas.List.{get_or_past}
+use Rattle.std.proofs.lemmas.List.Sums.{sum_by-append}
+use Rattle.cert_text.specs.Certificates.{Certificate, lane_rows, learns, count_rows, IsNewRow, IsCertificate}
+use Rattle.clause_kernel.proofs.Words.{word_has_zero}
+use Rattle.farm_laws.proofs.Archive.{take_some}
+use Rattle.farm_model.proofs.TestLaws.{same_tests}
+use Rattle.farm_model.specs.declared.types.Variant.{Variant}
+use Rattle.farm_model.specs.Universe.{Universe}
+use Rattle.farm_model.specs.Packages.{variants, initial}
+use Rattle.farm_model.specs.Sound.{IsKnown, IsUniverse}
+use Rattle.plan_model.specs.declared.instructions.Instruction.{Instruction}
+use Rattle.plan_model.specs.Plan.{Plan, lane, instruction_at}
+use Rattle.sat_rows.specs.Rows.{IsRowOf}
+use Rattle.wait_order.proofs.ArchiveRows.{row_same}
+use Rattle.wait_order.specs.PlaceRows.{IsLastRow}
+use Rattle.plan_cert.specs.Stated.{rows_before, in_row, lists, stated_rows}
+
+module _ (p : Plan) (l i : ℕ) (x : Instruction) (at : instruction_at p l i ≡ Some x) where
+  abbrev one : Instruction → ℕ
+  one y = cond (learns y) 1 0
+
+  next : rows_before p l (i + 1) ≡ rows_before p l i + one x
+  next =
+      let e : i + 1 ≡ suc i = omega arith in
+      let split = sum_by-append one (take i (lane p l).instructions) (x ∷ []) in
+      ap (λ k. count_by learns (take k (lane p l).instructions)) e
+      ∙ ap (count_by learns) (take_some (lane p l).instructions i x at)
+      ∙ omega (arith, split)
+
+  pub next-quiet : learns x ≡ false → rows_before p l (i + 1) ≡ rows_before p l i
+  next-quiet e = let none : one x ≡ 0 = rw e refl in omega (arith, next, none)
+
+  pub next-learns : learns x ≡ true → rows_before p l (i + 1) ≡ rows_before p l i + 1
+  next-learns e = let some : one x ≡ 1 = rw e refl in omega (arith, next, some)
+
+  pub row-there : learns x ≡ true → rows_before p l i < count_rows (lane p l)
+  row-there e =
+      let is = (lane p l).instructions in
+      let split = sum_by-append one (take (i + 1) is) (drop (i + 1) is) in
+      let whole = ap (count_by learns) (take-append-drop (i + 1) is) in
+      omega (arith, next-learns e, split, whole)
+
+-- a certificate of the plan
+module _ (u : Universe) (p : Plan) (c : Certificate) (is : IsCertificate u p c) where
+  lists-known : (l k : ℕ) (v : Variant) → lists (lane_rows c l) k v ≡ true → IsKnown u v
+  lists-known l zero v e = absurd (false≢true e)
+  lists-known l (suc k) v e =
+      elim (cases_lt k (length (lane_rows c l))) [
+        | inl lt ↦ (is.rows l k [] lt).known v.name v.bit e
+        | inr past ↦
+            let none : in_row (slice_index_or (lane_rows c l) k []) v ≡ false =
+            ap (λ row. in_row row v) (get_or_past (lane_rows c l) k [] past) ∙ word_has_zero v.bit in
+            absurd (false≢true (sym none ∙ e))
+      ]
+
+  pub stated-known : IsUniverse u → (l i : ℕ) (v : Variant) → stated_rows u p c l i v ≡ true
+      → IsKnown u v
+  stated-known sound l i v e =
+      elim (or_cases (initial u v) _ e) [
+        | inl here ↦ sound.initial_known v here
+        | inr some ↦ lists-known l (rows_before p l i) v some
+      ]
+
+  -- a lane begins with the initial archive
+  pub stated-start : (l : ℕ) (v : Variant) → stated_rows u p c l 0 v ≡ true → initial u v ≡ true
+  stated-start l v e =
+      elim (or_cases (initial u v) _ e) [
+        | inl here ↦ here
+        | inr some ↦ absurd (false≢true some)
+      ]
+
+  stated-quiet : (l i j : ℕ) (v : Variant) → rows_before p l j ≡ rows_before p l i
+      → stated_rows u p c l i v ≡ stated_rows u p c l j v
+  stated-quiet l i j v e = ap (λ k. initial u v || lists (lane_rows c l) k v) (sym e)
+
+  pub last-quiet : (l i j : ℕ) (rows : List (List ℕ)) → rows_before p l j ≡ rows_before p l i
+      → IsLastRow u (stated_rows u p c l i) rows → IsLastRow u (stated_rows u p c l j) rows
+  last-quiet l i j rows e r = record {
+    number = r.number;
+    last = r.last;
+    row = row_same u (stated_rows u p c l i) (stated_rows u p c l j)
+        (slice_index_or rows r.number []) (λ v. stated-quiet l i j v e) r.row;
+  }
+
+  pub row-listed : (l j k : ℕ) (listed row : List ℕ) → rows_before p l j ≡ k + 1
+      → k < length (lane_rows c l) → listed ≡ get_or (lane_rows c l) k listed
+      → IsRowOf u (λ v. initial u v || in_row listed v) row
+      → IsRowOf u (stated_rows u p c l j) row
+  row-listed l j k listed row e lt at r =
+      let next : rows_before p l j ≡ suc k = omega (arith, e) in
+      let here : listed ≡ get_or (lane_rows c l) k [] = at ∙ same-at (lane_rows c l) k listed [] lt in
+      row_same u _ _ row
+      (λ v. ap (λ r. initial u v || in_row r v) here
+      ∙ ap (λ n. initial u v || lists (lane_rows c l) n v) (sym next)) r
+    where
+      same-at : (xs : List (List ℕ)) (i : ℕ) (a b : List ℕ) → i < length xs → get_or xs i a ≡ get_or xs i b
+      same-at [] i a b h = absurd (omega arith)
+      same-at (x ∷ xs) zero a b h = refl
+      same-at (x ∷ xs) (suc i) a b h = same-at xs i a b (omega arith)
+
+  pub listed-new : (l k : ℕ) (listed : List ℕ) → k < length (lane_rows c l)
+      → listed ≡ get_or (lane_rows c l) k listed → IsNewRow u listed
+  listed-new l k listed lt at = subst (IsNewRow u) (sym at) (is.rows l k listed lt)
+
+-- the row of a test of known variants has just those that pass
+pub row-has : (u : Universe) (test : Variant → Bool) (row : List ℕ) → IsRowOf u test row
+    → ((v : Variant) → test v ≡ true → IsKnown u v) → (v : Variant) → in_row row v ≡ test v
+row-has u test row r known v =
+    r.set v.name v.bit
+    ∙ same_tests _ _ (λ e. (and_parts (nat_lt v.bit (variants u v.name)) (test v) e).1)
+    (λ e. and_from _ _ (lt-ltb v.bit (variants u v.name) (known v e)) e)

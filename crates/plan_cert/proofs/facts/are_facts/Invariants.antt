@@ -1,0 +1,11 @@
+use Rattle.std.proofs.Common.{ℕ, ◌<◌}
+use Rattle.plan_cert.specs.Facts.{IsKnownAt}
+use Rattle.plan_cert.specs.Stated.{in_row}
+use Rattle.wait_order.specs.KnownRows.{rows_of}
+use Rattle.plan_cert.proofs.facts.are_facts.Given as goal
+
+-- the lanes so far
+abbrev pub invariant-loop-number : goal.invariant-loop-number
+invariant-loop-number l =
+    (j : ℕ) → j < l.number → (k : ℕ) → IsKnownAt l.universe l.plan.lanes (rows_of l.known)
+    (in_row l.sources) (in_row l.new) j k

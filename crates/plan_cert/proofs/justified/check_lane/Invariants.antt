@@ -1,0 +1,15 @@
+use Rattle.std.proofs.Common.{ℕ, suc, ◌<◌}
+use Rattle.plan_model.specs.Known.{possible}
+use Rattle.row_laws.specs.Places.{IsJustified}
+use Rattle.sat_rows.specs.Rows.{IsRowOf}
+use Rattle.wait_order.specs.KnownRows.{rows_of}
+use Rattle.plan_cert.proofs.justified.check_lane.Given as goal
+
+-- the places so far
+abbrev pub invariant-loop-place : goal.invariant-loop-place
+invariant-loop-place l =
+    record {
+      there : IsRowOf l.universe (possible l.universe l.plan.lanes l.number l.place) l.there;
+      justified : (k : ℕ) → k < l.place
+          → IsJustified l.universe l.plan.lanes (rows_of l.known) l.number (suc k);
+    }

@@ -1,0 +1,14 @@
+use Rattle.std.proofs.Common.{suc, inl, inr, sym, subst, arith}
+use Rattle.std.proofs.lemmas.Bool.{cases_eq}
+use Rattle.row_laws.specs.Places.{IsJustified}
+use Rattle.wait_order.specs.KnownRows.{rows_of}
+use Rattle.plan_cert.proofs.justified.check_rows.Goals as goal
+
+pub loop-number-preserved : goal.loop-number-preserved
+loop-number-preserved c = λ j k lt.
+    elim (cases_eq j c.loop-number.number) [
+      | inl here ↦
+          subst (λ n. IsJustified c.args.universe.now c.args.plan.now.lanes
+          (rows_of c.args.known.now) n (suc k)) (sym here) (c.in_ok-check_lane.ensures k)
+      | inr other ↦ c.loop-number.invariant j k (omega (arith, lt, other))
+    ]

@@ -1,0 +1,14 @@
+use Rattle.std.proofs.Common.{All}
+use Rattle.wait_order.specs.KnownRows.{IsRowIn}
+use Rattle.plan_cert.specs.Places.{AreRowsOf}
+use Rattle.plan_cert.specs.Stated.{stated_rows}
+use Rattle.plan_cert.proofs.stated.stated_known.Given as goal
+
+-- the lanes so far
+abbrev pub invariant-loop-number : goal.invariant-loop-number
+invariant-loop-number l =
+    record {
+      places : AreRowsOf l.universe l.plan.lanes (stated_rows l.universe l.plan.lanes l.certificate)
+          l.number l.places.items l.rows.items;
+      words : All (IsRowIn l.universe) l.rows.items;
+    }

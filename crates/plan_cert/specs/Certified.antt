@@ -1,0 +1,57 @@
+-- What a certificate certifies, and the first cause for which it does not. The project's own rules.
+-- Parameters: u a universe, p a plan, c a certificate.
+--
+--   Certifies            its rows keep to the inclusions, each instruction is safe under them, and
+--                        its list is an order
+--   IsFirstFault         the first cause: a row, else an instruction, else an item of the list
+--   IsCertVerdict        the verdict on a certificate
+use Rattle.std.specs.Prelude.{◌≡◌, ℕ, ◌+◌, Result, Ok, Err}
+use Rattle.cert_text.specs.Certificates.{Certificate}
+use Rattle.cert_text.specs.declared.fault.CertFault.{CertFault}
+use Rattle.cert_text.specs.declared.fault.CertFault.TheVariants.{Text, Row, Unsafe, Order, Memory}
+use Rattle.farm_model.specs.declared.types.Trap.{Trap}
+use Rattle.farm_model.specs.Universe.{Universe}
+use Rattle.plan_model.specs.Known.{Rows, KeepsRows}
+use Rattle.plan_model.specs.Order.{IsOrder}
+use Rattle.plan_model.specs.Plan.{Plan}
+use Rattle.plan_model.specs.Safety.{IsSafeUnder, IsFirstUnsafe}
+use Rattle.row_laws.specs.Places.{IsFirstUnjustified}
+use Rattle.plan_cert.specs.Broken.{IsBrokenAt}
+use Rattle.plan_cert.specs.Stated.{stated_rows}
+
+pub record Certifies (u : Universe) (p : Plan) (c : Certificate) : Type 0 where
+  pub keeps : KeepsRows u p (stated_rows u p c)
+  pub safe : IsSafeUnder u p (stated_rows u p c)
+  pub order : IsOrder u p c.order
+
+-- under rows that keep to the inclusions, this instruction, by its number from 1, is the first
+-- unsafe one of the first lane that has one, and this is the first trap that it may meet
+pub record IsUnsafeAt (u : Universe) (p : Plan) (rows : Rows) (l number : ℕ) (trap : Trap)
+    : Type 0 where
+  pub keeps : KeepsRows u p rows
+  pub place : ℕ
+  pub numbered : number ≡ place + 1
+  pub first : IsFirstUnsafe u p rows l place trap
+
+-- each instruction is safe under rows that keep to the inclusions, but the list is no order
+pub record IsNoOrder (u : Universe) (p : Plan) (c : Certificate) (item : ℕ) : Type 0 where
+  pub keeps : KeepsRows u p (stated_rows u p c)
+  pub safe : IsSafeUnder u p (stated_rows u p c)
+  pub broken : IsBrokenAt u p c.order item
+
+-- the row of a place is that behind the instruction of the same number, from 1
+abbrev pub IsFirstFault : Universe → Plan → Certificate → CertFault → Type 0
+IsFirstFault u p c (Row l number) = IsFirstUnjustified u p (stated_rows u p c) l number
+IsFirstFault u p c (Unsafe l number trap) = IsUnsafeAt u p (stated_rows u p c) l number trap
+IsFirstFault u p c (Order item) = IsNoOrder u p c item
+IsFirstFault u p c (Text line) = ⊥
+IsFirstFault u p c Memory = ⊥
+
+-- it certifies, or this is the first fault, unless memory ran out
+abbrev pub IsCertVerdict : Universe → Plan → Certificate → Result Unit CertFault → Type 0
+IsCertVerdict u p c (Ok done) = Certifies u p c
+IsCertVerdict u p c (Err Memory) = Unit {0}
+IsCertVerdict u p c (Err (Text line)) = ⊥
+IsCertVerdict u p c (Err (Row l number)) = IsFirstFault u p c (Row l number)
+IsCertVerdict u p c (Err (Unsafe l number trap)) = IsFirstFault u p c (Unsafe l number trap)
+IsCertVerdict u p c (Err (Order item)) = IsFirstFault u p c (Order item)

@@ -1,0 +1,88 @@
+//! The verdict on a certificate.
+
+ghost use Rattle.std.specs.Prelude.{◌≡◌, OnOk};
+ghost use Rattle.cert_text.specs.Certificates.{IsCertificate};
+ghost use Rattle.plan_model.specs.Known.{KeepsRows};
+ghost use Rattle.plan_model.specs.Promise.{IsSafe};
+ghost use Rattle.plan_model.specs.Sound.{IsSound};
+ghost use Rattle.wait_order.specs.KnownRows.{rows_of};
+ghost use Rattle.plan_cert.specs.Certified.{IsCertVerdict};
+ghost use Rattle.plan_cert.specs.Checked.{AreSafe};
+
+use crate::justified::check_rows;
+use crate::order::check_order;
+use crate::stated::stated_known;
+use cert_text::{CertFault, Certificate};
+use farm_universe::Universe;
+use plan_asm::Plan;
+use plan_verifier::{WalkError, walk_lanes};
+use sat_rows::Tables;
+use std::alloc::Global;
+use std::thread::Threads;
+use wait_order::Known;
+
+/// Checks that each instruction is safe under known rows.
+fn check_safety(
+    alloc: Global,
+    universe: &Universe,
+    tables: &Tables,
+    plan: &Plan,
+    known: &Known,
+) -> Result<(), CertFault>
+    requires sound { IsSound universe.now plan.now.lanes }
+    requires tables { tables.now ≡ universe.now }
+    requires of_universe { known.now.universe ≡ universe.now }
+    requires of_plan { known.now.plan ≡ plan.now.lanes }
+    requires keeps { KeepsRows universe.now plan.now.lanes (rows_of known.now) }
+    ensures { AreSafe universe.now plan.now.lanes (rows_of known.now) result }
+{
+    match walk_lanes(alloc, universe, tables, plan, known) {
+        Ok(_) => Ok(()),
+        Err(
+            WalkError::Unsafe {
+                lane,
+                instruction,
+                trap,
+            },
+        ) => Err(CertFault::Unsafe {
+            lane,
+            instruction,
+            trap,
+        }),
+        Err(WalkError::Memory) => Err(CertFault::Memory),
+    }
+}
+
+/// Checks a certificate of a plan over a universe, whoever made it: its rows, joined with the
+/// initial archive, are known at each place; under them each instruction is safe; and its list is an
+/// order of the waits and outputs.
+///
+/// Where it does not refuse it, no interleaving of the plan's lanes meets a trap, in every
+/// unfinished state some lane can step, and no run is longer than the plan's count of events.
+///
+/// # Errors
+///
+/// The first of these. [`CertFault::Row`] with the first row that is not justified, of the first
+/// lane that has one. [`CertFault::Unsafe`] with the first instruction that is not safe, of the
+/// first lane that has one, and the first trap that it may meet. [`CertFault::Order`] with the first
+/// item of the list that cannot step, or one more than their number where lanes are left.
+/// [`CertFault::Memory`] where memory ran out.
+pub fn check_certificate(
+    rt: &(impl Threads + Sync),
+    alloc: Global,
+    universe: &Universe,
+    plan: &Plan,
+    certificate: &Certificate,
+) -> Result<(), CertFault>
+    requires sound { IsSound universe.now plan.now.lanes }
+    requires certificate { IsCertificate universe.now plan.now.lanes certificate.now }
+    ensures verdict { IsCertVerdict universe.now plan.now.lanes certificate.now result }
+    ensures safe { OnOk result (IsSafe universe.now plan.now.lanes) }
+{
+    let known = stated_known(alloc, universe, plan, certificate)?;
+    let tables = Tables::build(rt, alloc, universe)?;
+    check_rows(alloc, universe, &tables, plan, &known)?;
+    check_safety(alloc, universe, &tables, plan, &known)?;
+    check_order(alloc, universe, &tables, plan, certificate.order())?;
+    Ok(())
+}

@@ -1,0 +1,157 @@
+//! The known rows that a certificate states.
+
+ghost use Rattle.std.specs.Prelude.{◌≡◌, ◌+◌, ◌<◌, ◌≤◌, ◌||◌, length, Some, IfOk, OnOk};
+ghost use Rattle.cert_text.specs.Certificates as spec;
+ghost use Rattle.cert_text.specs.Certificates.{IsNewRow, IsCertificate};
+ghost use Rattle.farm_model.specs.Packages.{initial};
+ghost use Rattle.farm_model.specs.Sound.{IsUniverse};
+ghost use Rattle.plan_model.specs.Plan.{lane, instruction_at};
+ghost use Rattle.row_laws.specs.Agreeing.{Agree};
+ghost use Rattle.sat_rows.specs.Rows.{IsRowOf};
+ghost use Rattle.wait_order.specs.KnownRows.{rows_of};
+ghost use Rattle.wait_order.specs.PlaceRows.{IsLastRow, IsExtended, AreRowNumbers};
+ghost use Rattle.plan_cert.specs.Stated.{rows_before, in_row, stated_rows};
+
+use bit_rows::Row;
+use cert_text::Certificate;
+use farm_universe::Universe;
+use plan_asm::{Instruction, Plan};
+use std::alloc::{AllocError, Global};
+use wait_order::{Known, LanePlaces, initial_row};
+
+/// Tells whether a row stands behind an instruction.
+pub fn learns(instruction: &Instruction) -> bool
+    ensures { result ≡ spec.learns instruction.now }
+{
+    match instruction {
+        Instruction::Wait(_) | Instruction::Publish(_) => true,
+        Instruction::Unpack { .. }
+        | Instruction::Configure(_)
+        | Instruction::Deconfigure(_)
+        | Instruction::Remove(_)
+        | Instruction::Build(_) => false,
+    }
+}
+
+/// A row of a certificate, and the initial archive.
+fn with_archive(_universe: &Universe, archive: &Row, listed: &Row) -> Result<Row, AllocError>
+    requires archive { IsRowOf _universe.now (initial _universe.now) archive.now }
+    requires listed { IsNewRow _universe.now listed.now }
+    ensures { IfOk result (IsRowOf _universe.now
+        (λ v. initial _universe.now v || in_row listed.now v)) }
+{
+    let mut row = archive.clone()?;
+    row.or_into(listed)?;
+    Ok(row)
+}
+
+/// Puts the row behind an instruction behind the others, where there is one, and gives how many
+/// rows of the lane there are by then.
+fn add_row(
+    universe: &Universe,
+    _plan: &Plan,
+    certificate: &Certificate,
+    archive: &Row,
+    number: usize,
+    _place: usize,
+    instruction: &Instruction,
+    used: usize,
+    rows: &mut Vec<Row>,
+) -> Result<usize, AllocError>
+    requires certificate { IsCertificate universe.now _plan.now.lanes certificate.now }
+    requires archive { IsRowOf universe.now (initial universe.now) archive.now }
+    requires lane { number < length _plan.now.lanes }
+    requires at { instruction_at _plan.now.lanes number _place ≡ Some instruction.now }
+    requires used { used ≡ rows_before _plan.now.lanes number _place }
+    requires row { IsLastRow universe.now
+        (stated_rows universe.now _plan.now.lanes certificate.now number _place) rows.old.items }
+    ensures used { IfOk result (λ next. next ≡ rows_before _plan.now.lanes number (_place + 1)) }
+    ensures more { OnOk result (IsExtended universe.now rows.old.items rows.new.items) }
+    ensures row { OnOk result (IsLastRow universe.now
+        (stated_rows universe.now _plan.now.lanes certificate.now number (_place + 1))
+        rows.new.items) }
+{
+    if !learns(instruction) {
+        return Ok(used);
+    }
+    let listed = &certificate.lane_rows(number)[used];
+    rows.push(with_archive(universe, archive, listed)?)?;
+    Ok(used + 1)
+}
+
+/// Puts the rows of a lane behind the others.
+fn lane_places(
+    alloc: Global,
+    universe: &Universe,
+    plan: &Plan,
+    certificate: &Certificate,
+    archive: &Row,
+    number: usize,
+    rows: &mut Vec<Row>,
+) -> Result<LanePlaces, AllocError>
+    requires certificate { IsCertificate universe.now plan.now.lanes certificate.now }
+    requires archive { IsRowOf universe.now (initial universe.now) archive.now }
+    requires lane { number < length plan.now.lanes }
+    ensures more { OnOk result (IsExtended universe.now rows.old.items rows.new.items) }
+    ensures numbers { IfOk result (λ places. AreRowNumbers universe.now
+        (stated_rows universe.now plan.now.lanes certificate.now number)
+        (length (lane plan.now.lanes number).instructions) places rows.new.items) }
+{
+    let instructions = plan.lane(number).instructions();
+    let mut numbers = Vec::new(alloc);
+    let mut used = 0;
+    rows.push(archive.clone()?)?;
+    numbers.push(rows.len() - 1)?;
+    for place in 0..instructions.len() {
+        let instruction = &instructions[place];
+        used = add_row(
+            universe,
+            plan,
+            certificate,
+            archive,
+            number,
+            place,
+            instruction,
+            used,
+            rows,
+        )?;
+        numbers.push(rows.len() - 1)?;
+    }
+    Ok(LanePlaces::new(numbers))
+}
+
+/// What the lanes of a plan know, as a certificate states it: at each place the initial archive, and
+/// the row that is listed behind the last wait or publish before the place.
+///
+/// # Errors
+///
+/// [`AllocError`] where memory is refused.
+pub fn stated_known(
+    alloc: Global,
+    universe: &Universe,
+    plan: &Plan,
+    certificate: &Certificate,
+) -> Result<Known, AllocError>
+    requires sound { IsUniverse universe.now }
+    requires certificate { IsCertificate universe.now plan.now.lanes certificate.now }
+    ensures universe { IfOk result (λ known. known.universe ≡ universe.now) }
+    ensures plan { IfOk result (λ known. known.plan ≡ plan.now.lanes) }
+    ensures rows { IfOk result (λ known. Agree plan.now.lanes (rows_of known)
+        (stated_rows universe.now plan.now.lanes certificate.now)) }
+{
+    let archive = initial_row(alloc, universe)?;
+    let mut rows = Vec::new(alloc);
+    let mut places = Vec::new(alloc);
+    for number in 0..plan.lanes() {
+        places.push(lane_places(
+            alloc,
+            universe,
+            plan,
+            certificate,
+            &archive,
+            number,
+            &mut rows,
+        )?)?;
+    }
+    Ok(Known::new(universe, plan, places, rows))
+}
