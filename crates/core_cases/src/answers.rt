@@ -5,25 +5,26 @@ ghost use Rattle.plan_model.specs.Plan.{count};
 ghost use Rattle.plan_model.specs.Sound.{IsPlan};
 
 use crate::schedule::read_schedule;
-use crate::state::{lane_name, push_state};
 use crate::turns::push_turns;
 use case_files::{Answers, Case};
 use deb_text::{Fault, cut_at_first};
 use farm_core::{Core, run_schedule};
 use farm_input::texts_of;
+use farm_report::{WriteFailed, WriteSink, write_step};
 use farm_universe::Universe;
 use plan_asm::{Plan, assemble};
 use std::alloc::{AllocError, Global};
 
 /// The refusal of a text, as `refused 303 plan line 2`.
-fn refusal_text(alloc: Global, fault: Fault) -> Result<String, AllocError> {
+fn refusal_text(alloc: Global, fault: Fault) -> Result<Vec<u8>, AllocError> {
     let file = match fault.file {
         1 => "packages",
         2 => "sources",
         3 => "farm",
         _ => "plan",
     };
-    format!(in alloc; "refused {} {file} line {}\n", fault.code, fault.line)
+    let text = format!(in alloc; "refused {} {file} line {}\n", fault.code, fault.line)?;
+    Ok(text.into_bytes())
 }
 
 /// What a schedule comes to: how many events ran, or the trap, and then the state.
@@ -32,25 +33,16 @@ fn step_text(
     universe: &Universe,
     plan: &Plan,
     schedule: &[u32],
-) -> Result<String, AllocError>
+) -> Result<Vec<u8>, AllocError>
     requires plan { IsPlan universe.now plan.now.lanes }
     requires counted { plan.now.count ≡ count universe.now plan.now.lanes }
 {
     let outcome = run_schedule(alloc, universe, plan, schedule)?;
-    let mut text = String::new(alloc);
-    match outcome.trap {
-        Some(stop) => writeln!(
-            text,
-            "trap {} lane {} instruction {} {}",
-            stop.step,
-            lane_name(plan, stop.lane).escape_ascii(),
-            stop.instruction,
-            stop.trap
-        )?,
-        None => writeln!(text, "ran {}", schedule.len())?,
+    let mut out = WriteSink::new(Vec::new(alloc));
+    match write_step(&mut out, &outcome, schedule.len()) {
+        Ok(()) => Ok(out.into_inner()),
+        Err(WriteFailed) => Err(AllocError),
     }
-    push_state(&mut text, &outcome.core)?;
-    Ok(text)
 }
 
 /// What each turn of a schedule comes to, and what is configured last then.
@@ -59,14 +51,14 @@ fn turns_text(
     universe: &Universe,
     plan: &Plan,
     schedule: &[u32],
-) -> Result<String, AllocError>
+) -> Result<Vec<u8>, AllocError>
     requires plan { IsPlan universe.now plan.now.lanes }
     requires counted { plan.now.count ≡ count universe.now plan.now.lanes }
 {
     let mut core = Core::open(alloc, universe, plan)?;
     let mut text = String::new(alloc);
     push_turns(&mut text, &mut core, schedule)?;
-    Ok(text)
+    Ok(text.into_bytes())
 }
 
 /// Answers a question about a schedule.
@@ -75,23 +67,23 @@ fn answer_on_plan(
     universe: &Universe,
     plan: &Plan,
     question: &[u8],
-) -> Result<String, AllocError>
+) -> Result<Vec<u8>, AllocError>
     requires plan { IsPlan universe.now plan.now.lanes }
     requires counted { plan.now.count ≡ count universe.now plan.now.lanes }
 {
     let (word, list) = cut_at_first(b' ', question).unwrap_or((question, b""));
     let Some(schedule) = read_schedule(alloc, list)? else {
-        return String::from_str(alloc, "no schedule\n");
+        return Vec::from_slice(alloc, b"no schedule\n");
     };
     match word {
         b"step" => step_text(alloc, universe, plan, &schedule),
         b"turns" => turns_text(alloc, universe, plan, &schedule),
-        _ => String::from_str(alloc, "no such question\n"),
+        _ => Vec::from_slice(alloc, b"no such question\n"),
     }
 }
 
 /// Answers a question about the farm of an input.
-fn answer_on_input(alloc: Global, input: &[u8], question: &[u8]) -> Result<String, AllocError> {
+fn answer_on_input(alloc: Global, input: &[u8], question: &[u8]) -> Result<Vec<u8>, AllocError> {
     let texts = texts_of(input);
     let universe = match Universe::read(alloc, texts.packages, texts.sources, texts.farm) {
         Ok(universe) => universe,
@@ -109,7 +101,6 @@ pub struct CoreAnswers;
 
 impl Answers for CoreAnswers {
     fn answer_to(&self, alloc: Global, case: &Case) -> Result<Vec<u8>, AllocError> {
-        let text = answer_on_input(alloc, &case.input, case.question)?;
-        Ok(text.into_bytes())
+        answer_on_input(alloc, &case.input, case.question)
     }
 }

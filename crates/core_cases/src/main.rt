@@ -6,7 +6,7 @@
 
 mod answers;
 mod schedule;
-mod state;
+mod spelling;
 mod turns;
 
 use crate::answers::CoreAnswers;

@@ -2,7 +2,7 @@
 
 ghost use Rattle.std.specs.Prelude.{◌<◌, length};
 
-use crate::state::{lane_name, name_text, push_version};
+use crate::spelling::{lane_name, name_text, push_version};
 use chroot_state::Chroot;
 use farm_core::{Core, Step};
 use farm_universe::Universe;
