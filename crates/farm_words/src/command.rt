@@ -4,6 +4,8 @@ use crate::help;
 use clap::{Arg, Command};
 use std::alloc::{AllocError, Global};
 
+const PORTFARM: &str = "portfarm";
+
 pub const CHECK: &str = "check";
 
 pub const LIST: &str = "list";
@@ -58,7 +60,8 @@ pub fn portfarm<'a>(alloc: Global) -> Result<Command<'a>, AllocError> {
     let check = on_files(alloc, CHECK, help::CHECK, help::CHECK_MORE)?;
     let list = on_files(alloc, LIST, help::LIST, help::LIST_MORE)?;
     let step = on_files(alloc, STEP, help::STEP, help::STEP_MORE)?;
-    Command::new(alloc, "portfarm")
+    Command::new(alloc, PORTFARM)
+        .bin_name(PORTFARM)?
         .version(help::VERSION)
         .about(help::PORTFARM)
         .after_long_help(help::PORTFARM_MORE)

@@ -1,6 +1,6 @@
 //! What the words ask for.
 
-ghost use Rattle.std.specs.Prelude.{◌≡◌, [], IsOkAnd};
+ghost use Rattle.std.specs.Prelude.{◌≡◌, IsOkAnd, length};
 
 use crate::command::{CHECK, FARM, LIST, PACKAGES, PLAN, SCHEDULE, SOURCES, STEP, portfarm};
 use crate::schedule::{ScheduleFault, read_schedule};
@@ -126,7 +126,7 @@ fn no_command(alloc: Global) -> WordsFault {
 /// are none of the program's, and [`WordsFault::BadSchedule`] for a schedule that is none;
 /// [`WordsFault::Memory`] where memory is refused.
 pub fn read_words<'a, S: AsStr>(alloc: Global, words: &'a [S]) -> Result<Request<'a>, WordsFault>
-    ensures { words.entry.now ≡ [] → IsOkAnd result (λ request. request ≡ Request.CheckInput) }
+    ensures { length words.entry.now ≡ 0 → IsOkAnd result (λ request. request ≡ Request.CheckInput) }
 {
     if words.is_empty() {
         return Ok(Request::CheckInput);
