@@ -1,97 +1,74 @@
-//! The program: reads the four texts of a farm from standard input and prints the verdict.
+//! The program: connects the commands with the words, the files and the streams of the machine.
 #![tactic(auto)]
 
-ghost use Rattle.std.specs.Prelude.{◌≡◌, ◌<◌, ◌≤◌, IfOk};
-ghost use Rattle.portfarm.specs.Answer as spec;
-ghost use Rattle.portfarm.specs.Answer.{IsAnswered};
-
-mod answer;
-mod outside;
-
-use crate::answer::{Answer, answer_to};
-use crate::outside::{MOST_INPUT, OutsideFault, has_words, read_input, write_text};
-use std::alloc::Global;
-use std::env::Env;
-use std::io::{self, Read, Write};
+use farm_commands::{OUTSIDE, Source, WRONG_WORDS, run_words};
+use report_sink::{Sink, WriteSink, write_text};
+use std::env::{self, Env};
+use std::fs::File;
+use std::io::{self, ErrorKind};
 use std::process::ExitCode;
-use std::thread::Threads;
+use std::rt::Files;
 
-/// The plan was accepted.
-const ACCEPTED: u8 = 0;
-
-/// A text or the plan was refused.
-const REFUSED: u8 = 1;
-
-/// The program was called with words that it does not know.
-const WRONG_WORDS: u8 = 2;
-
-/// What lies outside of the texts failed.
-const OUTSIDE: u8 = 3;
-
-/// The status of an answer.
-fn status_of(answer: &Answer) -> u8
-    ensures status { result ≡ spec.status_of answer.now }
-    ensures verdict { result ≤ REFUSED }
-{
-    if answer.accepted { ACCEPTED } else { REFUSED }
+/// The files and the standard input of a machine.
+#[derive(Drop)]
+struct Machine<'a, R> {
+    rt: &'a R,
 }
 
-/// Reads the four texts, writes the answer to them, and gives its status.
+impl<R: Files + Input> Source for Machine<'_, R> {
+    ghost use Rattle.std.specs.Prelude.{None};
+
+    ghost held = { λ _ _. None };
+
+    ghost given = { λ _. None };
+
+    type File = R::File;
+
+    type Input = R::Reader;
+
+    fn open(&self, path: &str) -> io::Result<R::File> {
+        File::open(self.rt, path)
+    }
+
+    fn input(&self) -> R::Reader {
+        self.rt.reader()
+    }
+}
+
+/// The words behind the program's name.
 ///
 /// # Errors
 ///
-/// [`OutsideFault::CannotRead`] where a read fails or there are more than [`MOST_INPUT`] bytes, and
-/// [`OutsideFault::OutOfMemory`] where memory is refused; nothing is written then. And
-/// [`OutsideFault::WriteFailed`] where a write fails. What was written before stays.
-fn answer_from<R: Read + Drop, W: Write>(
-    rt: &(impl Threads + Sync),
-    alloc: Global,
-    reader: R,
-    writer: &mut W,
-) -> Result<u8, OutsideFault>
-    ensures answered { IfOk result
-        (IsAnswered (R.remaining reader) (W.contents writer.old) (W.contents writer.new)) }
-    ensures verdict { IfOk result (λ status. status ≤ REFUSED) }
-{
-    let input = read_input(alloc, reader, MOST_INPUT)?;
-    let answer = answer_to(rt, alloc, &input)?;
-    write_text(writer, &answer.text)?;
-    Ok(status_of(&answer))
+/// Where a word is no text, or memory is refused.
+fn words_of(rt: &(impl Env + AllocGlobal)) -> io::Result<Vec<String>> {
+    let words = env::args(rt)?.skip(1).collect(rt.alloc())?;
+    Ok(words)
 }
 
-/// Does what the program was called for, and gives its status.
-///
-/// # Errors
-///
-/// The fault outside of the texts that ended it.
-fn run(
-    rt: &(impl Env + Input + Print + Eprint + AllocGlobal + Threads + Sync),
-) -> Result<u8, OutsideFault>
-    ensures { IfOk result (λ status. status < OUTSIDE) }
-{
-    if has_words(rt) {
-        let _written = eprintln!(rt; "portfarm: takes no words; the texts come by standard input");
-        return Ok(WRONG_WORDS);
+/// Says on the error output why there are no words, and gives the status.
+fn tell_no_words<E: Sink>(error: ErrorKind, errors: &mut E) -> u8 {
+    if error == ErrorKind::OutOfMemory {
+        let _written = write_text(errors, b"portfarm: out of memory\n");
+        return OUTSIDE;
     }
-    answer_from(rt, rt.alloc(), rt.reader(), &mut io::writer(rt))
-}
-
-/// Runs, and tells a fault outside of the texts by its line on standard error.
-fn run_or_tell(rt: &(impl Env + Input + Print + Eprint + AllocGlobal + Threads + Sync)) -> u8
-    ensures { result ≤ OUTSIDE }
-{
-    match run(rt) {
-        Ok(status) => status,
-        Err(fault) => {
-            let _written = eprintln!(rt; "portfarm: {fault}");
-            OUTSIDE
-        }
-    }
+    let _written = write_text(errors, b"portfarm: a word is not UTF-8 text\n");
+    WRONG_WORDS
 }
 
 fn main(rt: HostRuntime) -> ExitCode {
-    ExitCode::from(run_or_tell(&rt))
+    let stderr = rt.stderr();
+    let mut errors = WriteSink::new(io::writer(&stderr));
+    let words = match words_of(&rt) {
+        Ok(words) => words,
+        Err(error) => return ExitCode::from(tell_no_words(error.kind(), &mut errors)),
+    };
+    let status = run_words(
+        &rt,
+        rt.alloc(),
+        words.as_slice(),
+        &Machine { rt: &rt },
+        &mut WriteSink::new(io::writer(&rt)),
+        &mut errors,
+    );
+    ExitCode::from(status)
 }
-
-#[cfg(test)]
-mod tests;

@@ -1,0 +1,22 @@
+use Rattle.std.proofs.Common.{arith, subst}
+use Rattle.farm_commands.specs.Answers.{AnswersCheck}
+use Rattle.farm_commands.specs.Requests.{OnInput}
+use Rattle.farm_commands.proofs.AnswerLaws.{answered-by}
+use Rattle.farm_commands.proofs.request.check_input.Goals as goal
+use Rattle.farm_input.specs.Input.{texts_in}
+use Rattle.farm_input.specs.View.{texts_view}
+
+pub returns : goal.returns
+returns g c =
+    answered-by (AnswersCheck (texts_view c.texts_of.result))
+    (OnInput (g.F.Source.given c.args.source.now)) _ _ _
+    (λ text status is. (
+      c.in_ok-input.input.items,
+      (
+        c.in_ok-input.ensures.bytes,
+        omega (arith, c.in_ok-input.ensures.most, c.in_ok-input.input.ok.0),
+      ),
+      subst (λ bytes. AnswersCheck (texts_in bytes) text status) c.deref.ensures.value
+          (subst (λ texts. AnswersCheck texts text status) c.texts_of.ensures is),
+    ))
+    c.answer_check.ensures

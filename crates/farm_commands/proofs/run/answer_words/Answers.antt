@@ -1,0 +1,25 @@
+use Rattle.std.proofs.Common.{◌≡◌, inl, inr, subst}
+use Rattle.std.specs.Prelude.{IsOkAnd}
+use Rattle.farm_words.specs.declared.request.Request.TheVariants.{CheckInput}
+use Rattle.farm_commands.specs.Answers.{IsAnswered}
+use Rattle.farm_commands.specs.Requests.{AnswersRequest}
+use Rattle.farm_commands.proofs.run.answer_words.Goals as goal
+
+pub returns-in-Ok : goal.returns-in-Ok
+returns-in-Ok g c = record {
+  outcome = inl (c.in-Ok.request, c.answer_request.ensures);
+  no_word = λ none.
+      subst (λ request. IsAnswered (AnswersRequest (g.F.Source.held c.args.source.now)
+      (g.F.Source.given c.args.source.now) request) (g.S.Sink.state c.args.out.now)
+      (g.S.Sink.state c.answer_request.new.out) c.answer_request.result)
+      (subst (λ read. IsOkAnd read (λ request. request ≡ CheckInput)) c.in-Ok.is
+      (c.read_words.ensures none))
+      c.answer_request.ensures;
+}
+
+pub returns-in-Err : goal.returns-in-Err
+returns-in-Err g c = record {
+  outcome = inr c.tell_words.ensures;
+  no_word = λ none. absurd (subst (λ read. IsOkAnd read (λ request. request ≡ CheckInput))
+      c.in-Err.is (c.read_words.ensures none));
+}

@@ -1,0 +1,93 @@
+-- What the commands answer to four texts: a text and a status. The project's own rules.
+--
+--   AnswersCheck, AnswersList, AnswersStep
+--                                  that this text and this status are what a command answers
+--   IsAnswered                     an answer is written to a sink, and its status is told
+use Rattle.std.specs.Prelude.{◌≡◌, ◌≢◌, ℕ, Bool, true, false, List, length, Option, Result, Ok, Err, if◌then◌else◌}
+use Rattle.std.specs.Option.{is_none}
+use Rattle.std.specs.Result.{is_ok}
+use Rattle.deb_text.specs.declared.fault.Fault.{Fault}
+use Rattle.farm_core.specs.Endings.{ended}
+use Rattle.farm_core.specs.Farm.{Farm}
+use Rattle.farm_core.specs.declared.schedule.Stop.{Stop}
+use Rattle.farm_input.specs.Input.{Texts}
+use Rattle.farm_model.specs.Universe.{Universe}
+use Rattle.farm_report.specs.StateText.{step_text}
+use Rattle.farm_report.specs.VerdictText.{verdict_text}
+use Rattle.plan_asm.specs.Listing.{listing_of}
+use Rattle.plan_model.specs.Plan.{Plan}
+use Rattle.plan_model.specs.Run.{result_of}
+use Rattle.plan_verifier.specs.Accepted.{AcceptedPlan}
+use Rattle.plan_verifier.specs.declared.refusal.Refusal.{Refusal}
+use Rattle.plan_verifier.specs.declared.refusal.Refusal.TheVariants.{Text, Memory}
+use Rattle.plan_verifier.specs.Texts.{FarmPlan, planned_of}
+use Rattle.plan_verifier.specs.Verdict.{IsVerdict}
+use Rattle.report_sink.specs.Sinks.{SinkState, IsWritten}
+use Rattle.farm_commands.specs.declared.fault.OutsideFault.{OutsideFault}
+use Rattle.farm_commands.specs.declared.fault.OutsideFault.TheVariants.{CannotRead, OutOfMemory, WriteFailed}
+use Rattle.farm_commands.specs.declared.status.TheConstants.{FINE, REFUSED}
+
+-- what four texts stand for, or their first fault
+abbrev pub planned_in : Texts → Result FarmPlan Fault
+planned_in texts = planned_of texts.packages texts.sources texts.farm texts.plan
+
+abbrev pub status_of : Bool → ℕ
+status_of fine = if fine then FINE else REFUSED
+
+-- the text and the status of this verdict
+abbrev pub TellsVerdict : Result AcceptedPlan Refusal → List ℕ → ℕ → Type 0
+TellsVerdict verdict text status = (text ≡ verdict_text verdict) × (status ≡ status_of (is_ok verdict))
+
+-- the same, of a verdict that is not want of memory
+abbrev pub AnswersVerdict : Result AcceptedPlan Refusal → List ℕ → ℕ → Type 0
+AnswersVerdict verdict text status = (verdict ≢ Err Memory) × TellsVerdict verdict text status
+
+-- `check`: those of a verdict on the texts
+abbrev pub AnswersCheck : Texts → List ℕ → ℕ → Type 0
+AnswersCheck texts text status =
+    (verdict : Result AcceptedPlan Refusal) × IsVerdict (planned_in texts) verdict
+    × AnswersVerdict verdict text status
+
+-- the listing of a plan, or the first fault of the texts, told as a verdict tells it
+abbrev pub Lists : Result FarmPlan Fault → List ℕ → ℕ → Type 0
+Lists (Ok of) text status = (text ≡ listing_of of.universe of.plan) × (status ≡ FINE)
+Lists (Err fault) text status = TellsVerdict (Err (Text fault)) text status
+
+-- `list`
+abbrev pub AnswersList : Texts → List ℕ → ℕ → Type 0
+AnswersList texts text status = Lists (planned_in texts) text status
+
+-- Of a schedule over a plan, how it ended and the state that it led to; its status tells whether it
+-- met no trap:
+pub record ShowsRun (u : Universe) (p : Plan) (schedule : List ℕ) (text : List ℕ) (status : ℕ)
+    : Type 0 where
+  pub farm : Farm
+  pub stop : Option Stop
+  pub about : (farm.universe ≡ u) × (farm.plan.lanes ≡ p)
+  pub ending : ended farm.state stop ≡ result_of u p schedule
+  pub text_is : text ≡ step_text farm stop (length schedule)
+  pub status_is : status ≡ status_of (is_none stop)
+
+-- that, or the first fault of the texts
+abbrev pub Steps : List ℕ → Result FarmPlan Fault → List ℕ → ℕ → Type 0
+Steps schedule (Ok of) text status = ShowsRun of.universe of.plan schedule text status
+Steps schedule (Err fault) text status = TellsVerdict (Err (Text fault)) text status
+
+-- `step`
+abbrev pub AnswersStep : List ℕ → Texts → List ℕ → ℕ → Type 0
+AnswersStep schedule texts text status = Steps schedule (planned_in texts) text status
+
+-- this text and this status, and no others
+abbrev pub IsJust : List ℕ → ℕ → List ℕ → ℕ → Type 0
+IsJust just fine text status = (text ≡ just) × (status ≡ fine)
+
+-- Where a status is told, the text of its answer is written whole; where the sink fails, a first
+-- part of it. Where the texts cannot be read, or memory is refused, nothing is written.
+abbrev pub IsAnswered : (List ℕ → ℕ → Type 0) → SinkState → SinkState → Result ℕ OutsideFault → Type 0
+IsAnswered Answers old new (Ok status) =
+    (text : List ℕ) × Answers text status × IsWritten old new text × (new.failed ≡ false)
+IsAnswered Answers old new (Err WriteFailed) =
+    (text : List ℕ) × (status : ℕ) × Answers text status × IsWritten old new text
+    × (new.failed ≡ true)
+IsAnswered Answers old new (Err OutOfMemory) = new ≡ old
+IsAnswered Answers old new (Err (CannotRead name)) = new ≡ old

@@ -1,0 +1,4 @@
+pub mod Answers
+pub mod Requests
+pub mod Runs
+pub mod View

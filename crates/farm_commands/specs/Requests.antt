@@ -1,0 +1,46 @@
+-- What requests read, and what is answered to them. The project's own rules.
+--
+--   AreRead           the texts of files, each up to the limit
+--   AnswersRequest    that this text and this status are what is answered to a request
+use Rattle.std.specs.Prelude.{◌≡◌, ◌≤◌, ℕ, List, length, take, Option, IfSome}
+use Rattle.farm_input.specs.Input.{Texts, texts_in}
+use Rattle.farm_words.specs.declared.request.Paths.{Paths}
+use Rattle.farm_words.specs.declared.request.Request.{Request}
+use Rattle.farm_words.specs.declared.request.Request.TheVariants.{CheckInput, Check, List as ListPlan, Step}
+use Rattle.farm_commands.specs.Answers.{AnswersCheck, AnswersList, AnswersStep}
+use Rattle.farm_commands.specs.declared.source.TheConstants.{MOST_FILE, MOST_INPUT}
+
+-- a text is the first bytes of a file, where these are known
+abbrev pub IsRead : Option (List ℕ) → List ℕ → Type 0
+IsRead known text = IfSome known (λ bytes. text ≡ take MOST_FILE bytes)
+
+-- each text is that of its file
+pub record AreRead (held : List ℕ → Option (List ℕ)) (paths : Paths) (texts : Texts) : Type 0 where
+  pub packages : IsRead (held paths.packages.now) texts.packages
+  pub sources : IsRead (held paths.sources.now) texts.sources
+  pub farm : IsRead (held paths.farm.now) texts.farm
+  pub plan : IsRead (held paths.plan.now) texts.plan
+
+-- the whole of standard input, where it is known, and not over the limit
+abbrev pub IsInput : Option (List ℕ) → List ℕ → Type 0
+IsInput known input = IfSome known (λ bytes. input ≡ bytes) × (length input ≤ MOST_INPUT)
+
+-- the verdict on the texts that standard input is cut into
+abbrev pub OnInput : Option (List ℕ) → List ℕ → ℕ → Type 0
+OnInput given text status =
+    (input : List ℕ) × IsInput given input × AnswersCheck (texts_in input) text status
+
+-- what is answered to the texts of these files
+abbrev pub OnFiles : (List ℕ → Option (List ℕ)) → Paths → (Texts → List ℕ → ℕ → Type 0) → List ℕ → ℕ
+    → Type 0
+OnFiles held paths Answers text status =
+    (texts : Texts) × AreRead held paths texts × Answers texts text status
+
+-- what is answered, by the bytes that files and standard input are known to have
+abbrev pub AnswersRequest : (List ℕ → Option (List ℕ)) → Option (List ℕ) → Request → List ℕ → ℕ
+    → Type 0
+AnswersRequest held given CheckInput text status = OnInput given text status
+AnswersRequest held given (Check paths) text status = OnFiles held paths AnswersCheck text status
+AnswersRequest held given (ListPlan paths) text status = OnFiles held paths AnswersList text status
+AnswersRequest held given (Step schedule paths) text status =
+    OnFiles held paths (AnswersStep schedule.items) text status

@@ -1,0 +1,35 @@
+-- What words come to. The project's own rules.
+--
+--   status_told      the status of the program
+--   TellsWords       what is told of words that ask for no answer
+--   ComesTo          what is written to the output, and what is told
+use Rattle.std.specs.Prelude.{◌≡◌, ◌⊎◌, ℕ, List, Option, Result, Ok, Err}
+use Rattle.farm_words.specs.declared.request.Request.{Request}
+use Rattle.report_sink.specs.Sinks.{SinkState}
+use Rattle.farm_commands.specs.Answers.{IsAnswered}
+use Rattle.farm_commands.specs.Requests.{AnswersRequest, OnInput}
+use Rattle.farm_commands.specs.declared.fault.OutsideFault.{OutsideFault}
+use Rattle.farm_commands.specs.declared.status.TheConstants.{FINE, OUTSIDE, WRONG_WORDS}
+
+-- what is answered where words ask for help or the version: some text
+abbrev pub Shows : List ℕ → ℕ → Type 0
+Shows text status = status ≡ FINE
+
+-- the status that is told, or that of a fault outside of the texts
+abbrev pub status_told : Result ℕ OutsideFault → ℕ
+status_told (Ok status) = status
+status_told (Err fault) = OUTSIDE
+
+-- help is shown, or the words are wrong and nothing is written to the output
+abbrev pub TellsWords : SinkState → SinkState → Result ℕ OutsideFault → Type 0
+TellsWords old new told =
+    IsAnswered Shows old new told ⊎ ((new ≡ old) × (told ≡ Ok WRONG_WORDS))
+
+-- What words come to, this many, by what is known of the bytes of files and of standard input:
+pub record ComesTo (words : ℕ) (held : List ℕ → Option (List ℕ)) (given : Option (List ℕ))
+    (old new : SinkState) (told : Result ℕ OutsideFault) : Type 0 where
+  -- a request is answered, or the words ask for none;
+  pub outcome : ((request : Request) × IsAnswered (AnswersRequest held given request) old new told)
+      ⊎ TellsWords old new told
+  -- and no word at all asks for the verdict on standard input.
+  pub no_word : words ≡ 0 → IsAnswered (OnInput given) old new told

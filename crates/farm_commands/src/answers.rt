@@ -1,0 +1,152 @@
+//! What is answered to four texts.
+
+ghost use Rattle.std.specs.Prelude.{◌≡◌};
+ghost use Rattle.std.specs.Option.{is_none};
+ghost use Rattle.farm_commands.specs.Answers as spec;
+ghost use Rattle.farm_commands.specs.Answers.{AnswersCheck, AnswersList, AnswersStep, AnswersVerdict, IsAnswered, IsJust, ShowsRun};
+ghost use Rattle.farm_input.specs.View.{texts_view};
+ghost use Rattle.farm_report.specs.StateText.{step_text};
+ghost use Rattle.plan_model.specs.Plan.{count};
+ghost use Rattle.plan_model.specs.Sound.{IsSound};
+
+use crate::fault::OutsideFault;
+use crate::status::{FINE, REFUSED};
+use deb_text::Fault;
+use farm_core::{Outcome, run_schedule};
+use farm_input::Texts;
+use farm_report::{write_check, write_step};
+use plan_asm::listing;
+use plan_verifier::{Accepted, Planned, Refusal, check, read_texts};
+use report_sink::{Sink, write_text};
+use std::alloc::Global;
+use std::thread::Threads;
+
+fn status_of(fine: bool) -> u8
+    ensures { result ≡ spec.status_of fine }
+{
+    if fine { FINE } else { REFUSED }
+}
+
+/// Writes an answer, and gives its status.
+fn write_answer<'a, S: Sink>(out: &mut S, text: &[u8], status: u8) -> Result<u8, OutsideFault<'a>>
+    ensures { IsAnswered (IsJust text.now status) (S.state out.old) (S.state out.new) result }
+{
+    write_text(out, text)?;
+    Ok(status)
+}
+
+/// Answers with a verdict. Want of memory is none.
+fn answer_verdict<'a, S: Sink>(
+    verdict: Result<Accepted, Refusal>,
+    out: &mut S,
+) -> Result<u8, OutsideFault<'a>>
+    ensures { IsAnswered (AnswersVerdict verdict) (S.state out.old) (S.state out.new) result }
+{
+    if matches!(&verdict, Err(Refusal::Memory)) {
+        return Err(OutsideFault::OutOfMemory);
+    }
+    write_check(out, &verdict)?;
+    Ok(status_of(verdict.is_ok()))
+}
+
+/// Answers with the verdict on four texts, and gives its status.
+///
+/// # Errors
+///
+/// [`OutsideFault::OutOfMemory`] where memory is refused, and nothing is written then; and
+/// [`OutsideFault::WriteFailed`] where the sink fails, with a first part of the answer.
+pub fn answer_check<'a, S: Sink>(
+    rt: &(impl Threads + Sync),
+    alloc: Global,
+    texts: Texts<'_>,
+    out: &mut S,
+) -> Result<u8, OutsideFault<'a>>
+    ensures { IsAnswered (AnswersCheck (texts_view texts.entry)) (S.state out.old)
+        (S.state out.new) result }
+{
+    let verdict = check(
+        rt,
+        alloc,
+        texts.packages,
+        texts.sources,
+        texts.farm,
+        texts.plan,
+    );
+    answer_verdict(verdict, out)
+}
+
+/// Answers with the listing of the plan that four texts stand for, or with their first fault, and
+/// gives the status.
+///
+/// # Errors
+///
+/// [`OutsideFault::OutOfMemory`] where memory is refused, and nothing is written then; and
+/// [`OutsideFault::WriteFailed`] where the sink fails, with a first part of the answer.
+pub fn answer_list<'a, S: Sink>(
+    alloc: Global,
+    texts: Texts<'_>,
+    out: &mut S,
+) -> Result<u8, OutsideFault<'a>>
+    ensures { IsAnswered (AnswersList (texts_view texts.entry)) (S.state out.old)
+        (S.state out.new) result }
+{
+    let planned = match read_texts(alloc, texts.packages, texts.sources, texts.farm, texts.plan) {
+        Ok(planned) => planned,
+        Err(fault) => return answer_verdict(Err(Refusal::from(fault)), out),
+    };
+    let text = listing(alloc, &planned.universe, &planned.plan)?;
+    write_answer(out, &text, FINE)
+}
+
+/// Writes what a schedule of this length came to, and gives the status.
+fn write_run<'a, S: Sink>(
+    out: &mut S,
+    outcome: &Outcome<'_>,
+    count: usize,
+) -> Result<u8, OutsideFault<'a>>
+    ensures { IsAnswered (IsJust (step_text outcome.now.core outcome.now.trap count)
+        (spec.status_of (is_none outcome.now.trap))) (S.state out.old) (S.state out.new) result }
+{
+    write_step(out, outcome, count)?;
+    Ok(status_of(outcome.trap.is_none()))
+}
+
+/// Lets the lanes of a plan take the turns of a schedule, and answers with what it comes to.
+fn answer_run<'a, S: Sink>(
+    alloc: Global,
+    planned: &Planned,
+    schedule: &[u32],
+    out: &mut S,
+) -> Result<u8, OutsideFault<'a>>
+    requires counted { planned.now.plan.count ≡ count planned.now.universe planned.now.plan.lanes }
+    requires sound { IsSound planned.now.universe planned.now.plan.lanes }
+    ensures { IsAnswered
+        (ShowsRun planned.now.universe planned.now.plan.lanes schedule.now)
+        (S.state out.old) (S.state out.new) result }
+{
+    let outcome = run_schedule(alloc, &planned.universe, &planned.plan, schedule)?;
+    write_run(out, &outcome, schedule.len())
+}
+
+/// Answers with the state that a schedule of lanes comes to, or with its first trap and the state
+/// there, or with the first fault of the texts, and gives the status.
+///
+/// # Errors
+///
+/// [`OutsideFault::OutOfMemory`] where memory is refused, and nothing is written then; and
+/// [`OutsideFault::WriteFailed`] where the sink fails, with a first part of the answer.
+pub fn answer_step<'a, S: Sink>(
+    alloc: Global,
+    texts: Texts<'_>,
+    schedule: &[u32],
+    out: &mut S,
+) -> Result<u8, OutsideFault<'a>>
+    ensures { IsAnswered (AnswersStep schedule.now (texts_view texts.entry)) (S.state out.old)
+        (S.state out.new) result }
+{
+    let planned = match read_texts(alloc, texts.packages, texts.sources, texts.farm, texts.plan) {
+        Ok(planned) => planned,
+        Err(first) => return answer_verdict(Err(Refusal::from(first)), out),
+    };
+    answer_run(alloc, &planned, schedule, out)
+}

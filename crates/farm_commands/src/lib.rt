@@ -1,0 +1,16 @@
+//! What portfarm's commands read, and what they answer.
+#![tactic(auto)]
+
+mod answers;
+mod fault;
+mod request;
+mod run;
+mod source;
+mod status;
+
+pub use answers::{answer_check, answer_list, answer_step};
+pub use fault::OutsideFault;
+pub use request::answer_request;
+pub use run::run_words;
+pub use source::{MOST_FILE, MOST_INPUT, Source, read_file, read_input};
+pub use status::{FINE, OUTSIDE, REFUSED, WRONG_WORDS};

@@ -1,0 +1,140 @@
+//! What is answered to a request.
+
+ghost use Rattle.std.specs.Prelude.{IfErr, IfOk, ◌≡◌, ◌≢◌};
+ghost use Rattle.farm_commands.specs.Answers.{AnswersCheck, AnswersList, AnswersStep, IsAnswered};
+ghost use Rattle.farm_input.specs.View.{texts_view};
+ghost use Rattle.farm_commands.specs.Requests.{AnswersRequest, AreRead, OnFiles, OnInput};
+ghost use Rattle.farm_commands.specs.View.{texts_in_files};
+
+use crate::answers::{answer_check, answer_list, answer_step};
+use crate::fault::OutsideFault;
+use crate::source::{Source, read_file, read_input};
+use farm_input::{Texts, texts_of};
+use farm_words::{Paths, Request};
+use report_sink::Sink;
+use std::alloc::Global;
+use std::thread::Threads;
+
+/// The four texts of files.
+#[derive(Drop)]
+struct FileTexts {
+    packages: Vec<u8>,
+    sources: Vec<u8>,
+    farm: Vec<u8>,
+    plan: Vec<u8>,
+}
+
+impl FileTexts {
+    fn texts(&self) -> Texts<'_>
+        ensures { texts_view result ≡ texts_in_files self.now }
+    {
+        Texts {
+            packages: &self.packages,
+            sources: &self.sources,
+            farm: &self.farm,
+            plan: &self.plan,
+        }
+    }
+}
+
+/// Reads the files of the four texts, in the order of their names.
+fn read_files<'a, F: Source>(
+    alloc: Global,
+    source: &F,
+    paths: Paths<'a>,
+) -> Result<FileTexts, OutsideFault<'a>>
+    ensures read { IfOk result (λ files.
+        AreRead (F.held source.now) paths.entry (texts_in_files files)) }
+    ensures fault { IfErr result (λ fault. fault ≢ OutsideFault.WriteFailed) }
+{
+    Ok(FileTexts {
+        packages: read_file(alloc, source, paths.packages)?,
+        sources: read_file(alloc, source, paths.sources)?,
+        farm: read_file(alloc, source, paths.farm)?,
+        plan: read_file(alloc, source, paths.plan)?,
+    })
+}
+
+/// The verdict on standard input.
+fn check_input<'a, F: Source, S: Sink>(
+    rt: &(impl Threads + Sync),
+    alloc: Global,
+    source: &F,
+    out: &mut S,
+) -> Result<u8, OutsideFault<'a>>
+    ensures { IsAnswered (OnInput (F.given source.now)) (S.state out.old) (S.state out.new) result }
+{
+    let input = read_input(alloc, source)?;
+    answer_check(rt, alloc, texts_of(&input), out)
+}
+
+/// The verdict on the texts of files.
+fn check_files<'a, F: Source, S: Sink>(
+    rt: &(impl Threads + Sync),
+    alloc: Global,
+    source: &F,
+    paths: Paths<'a>,
+    out: &mut S,
+) -> Result<u8, OutsideFault<'a>>
+    ensures { IsAnswered (OnFiles (F.held source.now) paths.entry AnswersCheck)
+        (S.state out.old) (S.state out.new) result }
+{
+    let files = read_files(alloc, source, paths)?;
+    answer_check(rt, alloc, files.texts(), out)
+}
+
+/// The listing of the plan of files.
+fn list_files<'a, F: Source, S: Sink>(
+    alloc: Global,
+    source: &F,
+    paths: Paths<'a>,
+    out: &mut S,
+) -> Result<u8, OutsideFault<'a>>
+    ensures { IsAnswered (OnFiles (F.held source.now) paths.entry AnswersList)
+        (S.state out.old) (S.state out.new) result }
+{
+    let files = read_files(alloc, source, paths)?;
+    answer_list(alloc, files.texts(), out)
+}
+
+/// What a schedule comes to over the plan of files.
+fn step_files<'a, F: Source, S: Sink>(
+    alloc: Global,
+    source: &F,
+    paths: Paths<'a>,
+    schedule: &[u32],
+    out: &mut S,
+) -> Result<u8, OutsideFault<'a>>
+    ensures { IsAnswered (OnFiles (F.held source.now) paths.entry (AnswersStep schedule.now))
+        (S.state out.old) (S.state out.new) result }
+{
+    let files = read_files(alloc, source, paths)?;
+    answer_step(alloc, files.texts(), schedule, out)
+}
+
+/// Reads the texts that a request is about, all before the first is looked at, writes the answer to
+/// them, and gives its status: 0, or 1 for a refusal or a trap.
+///
+/// # Errors
+///
+/// [`OutsideFault::CannotRead`] where a file or standard input cannot be read, the first of them in
+/// the order of the words, and [`OutsideFault::OutOfMemory`] where memory is refused: nothing is
+/// written then. And [`OutsideFault::WriteFailed`] where the sink fails, with a first part of the
+/// answer.
+pub fn answer_request<'a, F: Source, S: Sink>(
+    rt: &(impl Threads + Sync),
+    alloc: Global,
+    request: Request<'a>,
+    source: &F,
+    out: &mut S,
+) -> Result<u8, OutsideFault<'a>>
+    ensures { IsAnswered (AnswersRequest (F.held source.now) (F.given source.now) request.entry)
+        (S.state out.old) (S.state out.new) result }
+{
+    match request {
+        Request::CheckInput => check_input(rt, alloc, source, out),
+        Request::Check(paths) => check_files(rt, alloc, source, paths, out),
+        Request::List(paths) => list_files(alloc, source, paths, out),
+        Request::Step { schedule, paths } => step_files(alloc, source, paths, &schedule, out),
+    }
+}

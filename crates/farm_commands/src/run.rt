@@ -1,0 +1,99 @@
+//! What words come to.
+
+ghost use Rattle.std.specs.Prelude.{◌≡◌, ℕ, Result, length};
+ghost use Rattle.farm_commands.specs.Runs.{ComesTo, TellsWords, status_told};
+
+use crate::fault::OutsideFault;
+use crate::request::answer_request;
+use crate::source::Source;
+use crate::status::{FINE, OUTSIDE, WRONG_WORDS};
+use farm_words::{WordsFault, read_words};
+use report_sink::{Sink, write_text};
+use std::alloc::Global;
+use std::convert::AsStr;
+use std::thread::Threads;
+
+/// Says on the error output why words ask for nothing.
+fn wrong_words<E: Sink>(errors: &mut E, text: &[u8]) -> u8
+    ensures { result ≡ WRONG_WORDS }
+{
+    let _written = write_text(errors, text);
+    WRONG_WORDS
+}
+
+/// Shows help, or says on the error output why words ask for nothing.
+fn tell_words<'a, S: Sink, E: Sink>(
+    fault: WordsFault,
+    out: &mut S,
+    errors: &mut E,
+) -> Result<u8, OutsideFault<'a>>
+    ensures { TellsWords (S.state out.old) (S.state out.new) result }
+{
+    match fault {
+        WordsFault::Help(text) => {
+            write_text(out, text.as_bytes())?;
+            Ok(FINE)
+        }
+        WordsFault::Wrong(text) => Ok(wrong_words(errors, text.as_bytes())),
+        WordsFault::BadSchedule => Ok(wrong_words(errors, b"portfarm: bad schedule\n")),
+        WordsFault::Memory => Err(OutsideFault::OutOfMemory),
+    }
+}
+
+/// Does what the words ask for, and gives its status.
+///
+/// # Errors
+///
+/// The fault outside of the texts that ended it.
+fn answer_words<'a, W: AsStr, F: Source, S: Sink, E: Sink>(
+    rt: &(impl Threads + Sync),
+    alloc: Global,
+    words: &'a [W],
+    source: &F,
+    out: &mut S,
+    errors: &mut E,
+) -> Result<u8, OutsideFault<'a>>
+    ensures { ComesTo (length words.entry.now) (F.held source.now) (F.given source.now)
+        (S.state out.old) (S.state out.new) result }
+{
+    match read_words(alloc, words) {
+        Ok(request) => answer_request(rt, alloc, request, source, out),
+        Err(fault) => tell_words(fault, out, errors),
+    }
+}
+
+/// Ends with a fault outside of the texts: says it on the error output.
+fn tell<E: Sink>(alloc: Global, fault: OutsideFault<'_>, errors: &mut E) -> u8
+    ensures { result ≡ OUTSIDE }
+{
+    if let Ok(line) = format!(in alloc; "portfarm: {fault}\n") {
+        let _written = write_text(errors, line.as_bytes());
+    }
+    OUTSIDE
+}
+
+/// Does what words ask for, those behind the program's name, and gives the status of the program.
+///
+/// The files that they name are read in the order of the words, each up to
+/// [`MOST_FILE`](crate::MOST_FILE) bytes, and all of them before anything is checked. With no word
+/// at all the four texts are those of standard input. The status is 0 where the texts are accepted
+/// or listed, the schedule meets no trap, or help is shown; 1 for a refusal or a trap; 2 for wrong
+/// words or a schedule that is none; and 3 where a file cannot be read, memory is refused, or the
+/// output fails. What is said of the last two stands on the error output.
+pub fn run_words<'a, W: AsStr, F: Source, S: Sink, E: Sink>(
+    rt: &(impl Threads + Sync),
+    alloc: Global,
+    words: &'a [W],
+    source: &F,
+    out: &mut S,
+    errors: &mut E,
+) -> u8
+    ensures { (told : Result ℕ OutsideFault) × (result ≡ status_told told)
+        × ComesTo (length words.entry.now) (F.held source.now) (F.given source.now)
+        (S.state out.old) (S.state out.new) told }
+{
+    match answer_words(rt, alloc, words, source, out, errors) {
+        Ok(status) => status,
+        Err(fault) => tell(alloc, fault, errors),
+    }
+}
