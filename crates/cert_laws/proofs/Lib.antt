@@ -1,4 +1,5 @@
 mod Items
+mod KnownLines
 mod Lists
 mod RowAgain
 mod RowVariants

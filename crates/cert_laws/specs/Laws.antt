@@ -2,18 +2,20 @@
 -- texts and definitions, so that no variant can be dropped by reader and writer alike.
 --
 --   IsSpelled u         names and versions as Debian Policy 5.6.1 and 5.6.12 have them, each once
---   RowIsReadAgain
-use Rattle.std.specs.Prelude.{◌≡◌, ℕ, ◌<◌, suc, true, List, length, Some}
+--   RowIsReadAgain, KnownLineIsReadAgain
+use Rattle.std.specs.Prelude.{◌≡◌, ℕ, ◌<◌, ◌^◌, suc, true, List, ◌++◌, codes, length, Some}
+use Rattle.std.specs.Fmt.{decimal}
 use Rattle.std.specs.declared.cmp.Ordering.TheVariants.{Less}
 use Rattle.std.specs.List.{list_all}
 use Rattle.std.specs.Result.{is_ok}
 use Rattle.std.specs.Str.{bytes_eq}
 use Rattle.deb_text.specs.Groups.{AllDistinct}
-use Rattle.deb_text.specs.Words.{is_name}
+use Rattle.deb_text.specs.Words.{is_name, is_run}
 use Rattle.deb_version.specs.Grammar.{version_at, text_cmp}
 use Rattle.farm_model.specs.Universe.{Universe}
 use Rattle.farm_model.specs.Packages.{variant, variants, package_of}
 use Rattle.cert_text.specs.Certificates.{IsNewRow}
+use Rattle.cert_text.specs.CertLines.{known_row}
 use Rattle.cert_text.specs.Printed.{list_text}
 use Rattle.cert_text.specs.Rows.{row_variants, row_at}
 
@@ -31,3 +33,15 @@ pub record IsSpelled (u : Universe) : Type 0 where
 abbrev pub RowIsReadAgain : Type 0
 RowIsReadAgain = (u : Universe) (row : List ℕ) → IsSpelled u → IsNewRow u row
     → row_at u (list_text u (row_variants u row)) ≡ Some row
+
+-- the line of a row, less its end
+abbrev pub known_text : Universe → List ℕ → ℕ → List ℕ → List ℕ
+known_text u name number row =
+    codes "known " ++ name ++ codes " " ++ decimal number ++ codes ":"
+    ++ list_text u (row_variants u row)
+
+-- and each line of one is a line of that row, behind a lane's name and a number
+abbrev pub KnownLineIsReadAgain : Type 0
+KnownLineIsReadAgain = (u : Universe) (name : List ℕ) (number : ℕ) (row : List ℕ) → IsSpelled u
+    → IsNewRow u row → is_run name ≡ true → number < 10 ^ 15
+    → known_row u name number (known_text u name number row) ≡ Some row

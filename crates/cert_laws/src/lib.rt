@@ -1,9 +1,14 @@
 //! The law that what is printed of a row is read again as that row.
 #![tactic(auto)]
 
-ghost use Rattle.cert_laws.specs.Laws.{RowIsReadAgain};
+ghost use Rattle.cert_laws.specs.Laws.{RowIsReadAgain, KnownLineIsReadAgain};
 
 /// The list that is printed of a row is read again as that row.
 pub fn row_is_read_again()
     ensures { RowIsReadAgain }
+{}
+
+/// The line that is printed of a row is read again as that row.
+pub fn known_line_is_read_again()
+    ensures { KnownLineIsReadAgain }
 {}
