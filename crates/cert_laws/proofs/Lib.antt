@@ -4,4 +4,6 @@ mod Lists
 mod RowAgain
 mod RowVariants
 mod RowWords
+mod SpelledTables
+mod SpelledUniverse
 mod Variants

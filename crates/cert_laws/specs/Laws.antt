@@ -2,8 +2,9 @@
 -- texts and definitions, so that no variant can be dropped by reader and writer alike.
 --
 --   IsSpelled u         names and versions as Debian Policy 5.6.1 and 5.6.12 have them, each once
+--   UniverseIsSpelled   every universe that was read is so
 --   RowIsReadAgain, KnownLineIsReadAgain
-use Rattle.std.specs.Prelude.{◌≡◌, ℕ, ◌<◌, ◌^◌, suc, true, List, ◌++◌, codes, length, Some}
+use Rattle.std.specs.Prelude.{◌≡◌, ℕ, ◌<◌, ◌^◌, suc, true, List, ◌++◌, codes, length, Some, Ok}
 use Rattle.std.specs.Fmt.{decimal}
 use Rattle.std.specs.declared.cmp.Ordering.TheVariants.{Less}
 use Rattle.std.specs.List.{list_all}
@@ -14,6 +15,7 @@ use Rattle.deb_text.specs.Words.{is_name, is_run}
 use Rattle.deb_version.specs.Grammar.{version_at, text_cmp}
 use Rattle.farm_model.specs.Universe.{Universe}
 use Rattle.farm_model.specs.Packages.{variant, variants, package_of}
+use Rattle.farm_universe.specs.UniverseText.{universe_of}
 use Rattle.cert_text.specs.Certificates.{IsNewRow}
 use Rattle.cert_text.specs.CertLines.{known_row}
 use Rattle.cert_text.specs.Printed.{list_text}
@@ -28,6 +30,13 @@ pub record IsSpelled (u : Universe) : Type 0 where
   pub rising : (n b : ℕ) → suc b < variants u n
       → text_cmp (package_of u (variant n b)).version (package_of u (variant n (suc b))).version
       ≡ Less
+
+-- every universe that texts stand for is spelled so
+abbrev pub UniverseIsSpelled : Type 0
+UniverseIsSpelled = (packages sources farm : List ℕ) (u : Universe)
+    → universe_of packages sources farm ≡ Ok u → IsSpelled u
+
+-- ---- rows
 
 -- each row of variants that the initial archive does not have is the row of its list
 abbrev pub RowIsReadAgain : Type 0
