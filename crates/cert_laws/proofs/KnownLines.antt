@@ -1,5 +1,5 @@
 -- A printed line of a row is read again.
-use Rattle.std.proofs.Common.{◌≡◌, ℕ, ◌+◌, ◌<◌, ◌^◌, Bool, true, false, not, ◌&&◌, List, [], ◌∷◌, ◌++◌, refl, sym, ap, ◌∙◌, append_assoc, Some, eq-eqb, true≢false}
+use Rattle.std.proofs.Common.{◌≡◌, ℕ, ◌<◌, ◌^◌, Bool, true, false, not, ◌&&◌, List, [], ◌∷◌, ◌++◌, refl, sym, ap, ◌∙◌, append_assoc, Some, eq-eqb, true≢false}
 use Rattle.std.specs.Prelude.{codes}
 use Rattle.std.proofs.lemmas.Bool.{and_parts, not-true, or_parts}
 use Rattle.std.specs.Fmt.{decimal}
@@ -9,7 +9,7 @@ use Rattle.deb_text.proofs.CutLaws.{front-again, behind-again}
 use Rattle.deb_text.proofs.ListLaws.{bytes-self}
 use Rattle.deb_text.proofs.TestLaws.{none-other}
 use Rattle.deb_text.specs.Bytes.{is_blank, is_solid, is_digit}
-use Rattle.deb_text.specs.Cuts.{is_nil, before, after, first_is, behind}
+use Rattle.deb_text.specs.Cuts.{is_nil, before, after, first_is}
 use Rattle.deb_text.specs.Words.{is_run}
 use Rattle.farm_model.specs.Universe.{Universe}
 use Rattle.cert_text.specs.Certificates.{IsNewRow}

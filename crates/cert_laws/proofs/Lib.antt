@@ -1,9 +1,15 @@
+mod CertAgain
 mod Items
+mod KeptLines
 mod KnownLines
+mod LaneLines
 mod Lists
+mod OrderLines
+mod ReadPlans
 mod RowAgain
 mod RowVariants
 mod RowWords
 mod SpelledTables
 mod SpelledUniverse
+mod TextLines
 mod Variants

@@ -23,7 +23,7 @@ name-at (k ∷ ks) zero are lt = (and_parts (is_name k) (list_all is_name ks) ar
 name-at (k ∷ ks) (suc n) are lt =
     name-at ks n (and_parts (is_name k) (list_all is_name ks) are).1 (omega (arith, lt))
 
-variant-spelled : (u : Universe) → IsSpelled u → (v : Variant) → IsIn u v → IsSpelledVariant u v
+pub variant-spelled : (u : Universe) → IsSpelled u → (v : Variant) → IsIn u v → IsSpelledVariant u v
 unfolding names
 variant-spelled u spelled v is = record {
   name = name-at u.names v.name spelled.names (omega (arith, is.name, spelled.listed));

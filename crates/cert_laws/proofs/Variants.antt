@@ -37,14 +37,18 @@ others (k ∷ ks) distinct (suc j) zero before lt = absurd (omega (arith, before
 others (k ∷ ks) distinct (suc j) (suc n) before lt =
     others ks distinct.1 j n (omega (arith, before)) (omega (arith, lt))
 
+-- each is found at its place
+pub place-again : (ks : List (List ℕ)) → AllDistinct bytes_eq ks → (n : ℕ) → n < length ks
+    → place_in bytes_eq ks (get_or ks n []) ≡ Some n
+place-again ks distinct n lt =
+    place-first ks (get_or ks n []) n lt (λ j before. others ks distinct j n before lt)
+    (bytes-self (get_or ks n []))
+
 module _ (u : Universe) (spelled : IsSpelled u) where
   name-place : (n : ℕ) → n < names u → place_in bytes_eq u.names (name_of u n) ≡ Some n
   unfolding names
   name-place n lt =
-      let within : n < length u.names = omega (arith, lt, spelled.listed) in
-      place-first u.names (name_of u n) n within
-      (λ j before. others u.names spelled.distinct j n before within)
-      (bytes-self (name_of u n))
+      place-again u.names spelled.distinct n (omega (arith, lt, spelled.listed))
 
   -- ---- versions
 
