@@ -1,4 +1,5 @@
-//! What the readers of control data share: faults, byte classes, cuts, lines, words and numbers.
+//! What the readers of control data share: faults, byte classes, cuts, lines, words, numbers and
+//! pieces.
 #![tactic(auto)]
 
 mod classes;
@@ -7,6 +8,7 @@ mod fault;
 pub mod files;
 mod lines;
 mod numbers;
+mod pieces;
 mod words;
 
 pub use classes::{Class, all_in, begins_with, has};
@@ -14,4 +16,5 @@ pub use cuts::{cut_at_first, cut_at_last, next_part, skip_front, split_front, tr
 pub use fault::{Fault, MEMORY};
 pub use lines::{Line, is_blank_line, is_comment, next_line};
 pub use numbers::{is_number, number_of, read_number};
+pub use pieces::push_pieces;
 pub use words::{is_name, is_word, next_word};

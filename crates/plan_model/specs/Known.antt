@@ -3,6 +3,7 @@
 --
 --   possible, publishing      what may be in the archive; the first outputs of a publish
 --   Rows, KeepsRows           a set for each lane and place; the inclusions that it keeps
+--   teaches                   behind the instruction a lane may know more
 --   IsFact                    what is in the archive whenever a given variant is
 --   IsGreatest                the greatest such family
 use Rattle.std.specs.Prelude.{◌≡◌, ◌⊎◌, ℕ, suc, ◌<◌, ◌≤◌, Bool, true, false, ◌||◌, ◌==◌, List, length, take, Option, Some, None, slice_get, if◌then◌else◌}
@@ -41,6 +42,12 @@ Rows = ℕ → ℕ → Variant → Bool
 -- the initial archive at each place of each lane
 abbrev pub initial_rows : Universe → Rows
 initial_rows u l i v = initial u v
+
+-- behind the instruction its lane may know more: it waits or publishes
+abbrev pub teaches : Instruction → Bool
+teaches (Publish r) = true
+teaches (Wait e) = true
+teaches _ = false
 
 -- v is in the archive whenever c is: with an initial c the initial archive; with an output, what is
 -- known ahead of its publish and the outputs of that publish up to it

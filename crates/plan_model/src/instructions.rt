@@ -1,6 +1,7 @@
 //! The instructions of a lane.
 
 ghost use Rattle.std.specs.Prelude.{◌≡◌};
+ghost use Rattle.plan_model.specs.Known.{teaches};
 
 use deb_relation::{Entry, Op};
 use deb_version::Version;
@@ -56,4 +57,20 @@ pub enum Instruction {
     Publish(u32),
     /// Waits until some variant in the archive satisfies the entry.
     Wait(Entry),
+}
+
+impl Instruction {
+    /// Tells whether a lane may know more behind the instruction: it waits or publishes.
+    pub fn teaches(&self) -> bool
+        ensures { result ≡ teaches self.now }
+    {
+        match self {
+            Instruction::Wait(_) | Instruction::Publish(_) => true,
+            Instruction::Unpack { .. }
+            | Instruction::Configure(_)
+            | Instruction::Deconfigure(_)
+            | Instruction::Remove(_)
+            | Instruction::Build(_) => false,
+        }
+    }
 }

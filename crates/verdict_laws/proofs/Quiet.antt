@@ -7,12 +7,12 @@ use Rattle.farm_model.specs.Packages.{initial}
 use Rattle.plan_model.specs.declared.instructions.Instruction.{Instruction}
 use Rattle.plan_model.specs.declared.instructions.Instruction.TheVariants.{Unpack, Configure, Deconfigure, Remove, Build, Publish, Wait}
 use Rattle.plan_model.specs.Plan.{Plan, lane, instruction_at}
-use Rattle.plan_model.specs.Known.{Rows, Adds, KeepsRows}
-use Rattle.verdict_laws.specs.Families.{waits_or_publishes, HasNoNews, InitialRowsAreGreatest}
+use Rattle.plan_model.specs.Known.{Rows, teaches, Adds, KeepsRows}
+use Rattle.verdict_laws.specs.Families.{HasNoNews, InitialRowsAreGreatest}
 
 -- such an instruction adds nothing
 adds_nothing : (u : Universe) (p : Plan) (rows : Rows) (l i : ℕ) (v : Variant) (x : Instruction)
-    → waits_or_publishes x ≡ false → Adds u p rows l i v x → ⊥
+    → teaches x ≡ false → Adds u p rows l i v x → ⊥
 adds_nothing u p rows l i v (Unpack name wanted) quiet add = add
 adds_nothing u p rows l i v (Configure members) quiet add = add
 adds_nothing u p rows l i v (Deconfigure members) quiet add = add

@@ -11,9 +11,8 @@ use Rattle.farm_model.specs.declared.types.Variant.{Variant}
 use Rattle.farm_model.specs.Universe.{Universe}
 use Rattle.farm_model.specs.Packages.{initial}
 use Rattle.plan_model.specs.declared.instructions.Instruction.{Instruction}
-use Rattle.plan_model.specs.declared.instructions.Instruction.TheVariants.{Publish, Wait}
 use Rattle.plan_model.specs.Plan.{Plan, lane, instruction_at}
-use Rattle.plan_model.specs.Known.{Rows, possible, KeepsRows, IsGreatest, initial_rows}
+use Rattle.plan_model.specs.Known.{Rows, possible, teaches, KeepsRows, IsGreatest, initial_rows}
 
 -- at the plan's places the first family has no more than the second
 abbrev pub IsWithin : Plan → Rows → Rows → Type 0
@@ -50,17 +49,11 @@ GreatestIsOne =
     → (l i : ℕ) (v : Variant) → l < length p → i ≤ length (lane p l).instructions
     → rows l i v ≡ more l i v
 
--- the instruction waits or publishes
-abbrev pub waits_or_publishes : Instruction → Bool
-waits_or_publishes (Publish r) = true
-waits_or_publishes (Wait e) = true
-waits_or_publishes _ = false
-
 -- no lane waits or publishes
 abbrev pub HasNoNews : Plan → Type 0
 HasNoNews p =
     (l i : ℕ) (x : Instruction) → l < length p → instruction_at p l i ≡ Some x
-    → waits_or_publishes x ≡ false
+    → teaches x ≡ false
 
 -- where no lane waits or publishes, each knows just the initial archive at each place
 abbrev pub InitialRowsAreGreatest : Type 0
