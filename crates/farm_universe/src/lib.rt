@@ -33,5 +33,6 @@ pub use error::{
     UNKNOWN_VARIANT, UNSETTLED_BASE,
 };
 pub use farm_model::{Slot, Trap, Variant};
+pub use list::pinned;
 pub use recipe::Recipe;
 pub use universe::Universe;

@@ -16,7 +16,7 @@ use Rattle.plan_asm.specs.Drafts.{Block, Open, Nothing, InBlock, InLane, Draft, 
 use Rattle.plan_asm.specs.Forms.{Wording, UnpackForm, ConfigureForm, DeconfigureForm, RemoveForm, BuildForm, PublishForm, WaitForm, Form, BlockForm, LaneForm, EndForm, UseForm, InstructionForm}
 use Rattle.plan_model.specs.Plan.{Lane}
 use Rattle.plan_model.specs.Sound.{has_double}
-use Rattle.plan_asm.proofs.Carried.{if-has, then-has, traverse-has}
+use Rattle.deb_text.proofs.CarriedLaws.{if-has, then-has, traverse-has}
 use Rattle.plan_asm.proofs.FormLaws.{IsForm}
 use Rattle.plan_asm.proofs.Places.{place-within}
 

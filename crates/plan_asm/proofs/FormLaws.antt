@@ -8,7 +8,7 @@ use Rattle.deb_text.specs.Numbers.{is_number, number_at}
 use Rattle.deb_text.specs.Steps.{◌>>=◌}
 use Rattle.deb_text.specs.Words.{words, is_word}
 use Rattle.plan_asm.specs.Forms.{Wording, Form, BlockForm, LaneForm, EndForm, UseForm, InstructionForm, lane_with, lane_form, one_word, wording_by, form_at, first_word, behind_word}
-use Rattle.plan_asm.proofs.Carried.{if-has}
+use Rattle.deb_text.proofs.CarriedLaws.{if-has}
 
 abbrev pub IsForm : Form → Type 0
 IsForm (BlockForm name) = Unit {0}

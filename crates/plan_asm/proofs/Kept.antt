@@ -1,30 +1,27 @@
 -- What is read without a fault keeps to the limits and is a plan of its universe.
-use Rattle.std.proofs.Common.{◌≡◌, ℕ, ◌<◌, ◌^◌, false, List, [], ◌∷◌, length, refl, subst, arith, Some, Result, Ok, Err, IfOk, All}
+use Rattle.std.proofs.Common.{◌≡◌, ℕ, ◌<◌, ◌^◌, false, List, length, refl, subst, arith, Some, Result, Ok, Err, IfOk, All}
 use Rattle.std.specs.Prelude.{slice_get}
 use Rattle.std.proofs.lemmas.List.Elements.{All-nil, All-weaker}
 use Rattle.std.proofs.lemmas.Option.{get_or_from_slice_get, slice_get_within}
-use Rattle.deb_stanza.specs.Plain.{plain_lines_at}
 use Rattle.deb_text.specs.declared.fault.Fault.{Fault}
 use Rattle.deb_text.specs.Answers.{Gives, refusal_of}
 use Rattle.deb_text.specs.Lines.{Line}
 use Rattle.farm_model.specs.Packages.{names}
 use Rattle.farm_model.specs.Sound.{IsUniverse}
-use Rattle.farm_universe.specs.Told.{in_file}
 use Rattle.farm_model.specs.Universe.{Universe}
-use Rattle.plan_asm.specs.declared.error.TheConstants.{FILE}
 use Rattle.plan_model.specs.declared.instructions.Instruction.{Instruction}
 use Rattle.plan_model.specs.declared.instructions.Instruction.TheVariants.{Unpack, Configure, Deconfigure, Remove, Build, Publish, Wait}
-use Rattle.plan_asm.specs.Drafts.{Block, Open, Nothing, InBlock, InLane, Draft, empty, all_lanes, instructions_of, published}
+use Rattle.plan_asm.specs.Drafts.{Draft, empty, all_lanes, instructions_of, published}
 use Rattle.plan_asm.specs.CountedPlan.{CountedPlan}
-use Rattle.plan_asm.specs.Ends.{finished, IsWithinLimits}
-use Rattle.plan_asm.specs.Forms.{form_at, is_head}
+use Rattle.plan_asm.specs.Ends.{IsWithinLimits}
 use Rattle.plan_model.specs.Plan.{Lane, Plan, lane, no_lane}
-use Rattle.plan_asm.specs.PlanText.{take_text, take_line, draft_of, plan_in, plan_of}
+use Rattle.plan_asm.specs.PlanText.{draft_of, plan_of}
 use Rattle.plan_model.specs.Sound.{has_double, IsInstruction, IsPlan}
-use Rattle.plan_asm.proofs.Carried.{if-has, then-has, steps-keep, placed-has, always, has-ok}
+use Rattle.deb_text.proofs.CarriedLaws.{has-ok}
 use Rattle.plan_asm.proofs.DraftLaws.{IsGood, IsGoodBlock, IsGoodLane, IsGoodDraft, take_form-has}
 use Rattle.plan_asm.proofs.FormLaws.{IsForm, form-has}
 use Rattle.plan_asm.proofs.Publishes.{once-in}
+use Rattle.plan_asm.proofs.TextLaws.{draft-has, plan-has}
 
 -- an instruction of a plan speaks of what there is
 good-instruction : (u : Universe) → length u.names ≡ names u → (x : Instruction) → IsGood u x
@@ -48,24 +45,14 @@ record IsGoodPlan (u : Universe) (p : Plan) : Type 0 where
 module _ (u : Universe) where
   -- ---- lines
 
-  line-has : (d : Draft) (line : Line) → IsGoodDraft u d → IfOk (take_line u d line) (IsGoodDraft u)
-  unfolding take_text
-  line-has d (number, line) good =
-      placed-has (IsGoodDraft u) FILE number _
-      (then-has IsForm (IsGoodDraft u) (form_at line) _ (form-has line)
-      (λ form small. take_form-has u number d form good small))
-
-  draft-has : (ls : List Line) → IfOk (draft_of u ls) (IsGoodDraft u)
-  unfolding draft_of
-  draft-has ls =
-      steps-keep (take_line u) (IsGoodDraft u) line-has ls empty
-      (record {
-        blocks = All-nil (IsGoodBlock u);
-        lanes = All-nil (IsGoodLane u);
-        few = omega arith;
-        small = omega arith;
-        once = refl;
-      })
+  empty-good : IsGoodDraft u empty
+  empty-good = record {
+    blocks = All-nil (IsGoodBlock u);
+    lanes = All-nil (IsGoodLane u);
+    few = omega arith;
+    small = omega arith;
+    once = refl;
+  }
 
   good-read : (d : Draft) → IsGoodDraft u d → IsWithinLimits (all_lanes d.lanes d.current)
   good-read d good = record {
@@ -78,30 +65,16 @@ module _ (u : Universe) where
   -- lines that were read without a fault
   pub draft-read : (ls : List Line) (d : Draft) → draft_of u ls ≡ Ok d
       → IsWithinLimits (all_lanes d.lanes d.current)
-  draft-read ls d is = good-read d (has-ok (IsGoodDraft u) (draft_of u ls) d (draft-has ls) is)
+  draft-read ls d is =
+      good-read d (has-ok (IsGoodDraft u) (draft_of u ls) d
+      (draft-has u IsForm (IsGoodDraft u) form-has (take_form-has u) empty-good ls) is)
 
   -- ---- a text
 
-  finished-has : (bs : List Block) (ls : List Lane) (o : Open)
-      → IsGoodDraft u (record { blocks = bs; lanes = ls; current = o })
-      → IfOk (finished ls o) (IsGoodPlan u)
-  finished-has bs ls Nothing good = record { lanes = good.lanes; once = good.once }
-  finished-has bs ls (InBlock line b) good = tt
-  finished-has bs ls (InLane line l) good = tt
-
-  lines-has : (ls : List Line) → IfOk (plan_in u ls) (IsGoodPlan u)
-  lines-has [] = tt
-  lines-has ((number, line) ∷ ls) =
-      if-has (IsGoodPlan u) (is_head line) _ _
-      (λ _. then-has (IsGoodDraft u) (IsGoodPlan u) (draft_of u ls) _ (draft-has ls)
-      (λ d good. finished-has d.blocks d.lanes d.current good))
-      (λ _. tt)
-
   text-has : (text : List ℕ) → IfOk (plan_of u text) (IsGoodPlan u)
-  unfolding plan_of
-  text-has text =
-      then-has (λ _. Unit {0}) (IsGoodPlan u) (in_file FILE (plain_lines_at text)) _
-      (always (in_file FILE (plain_lines_at text))) (λ ls _. lines-has ls)
+  text-has =
+      plan-has u IsForm (IsGoodDraft u) form-has (take_form-has u) empty-good (IsGoodPlan u)
+      (λ bs ls good. record { lanes = good.lanes; once = good.once })
 
   -- ---- a plan
 

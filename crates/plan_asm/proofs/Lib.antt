@@ -1,6 +1,5 @@
 pub mod AssemblyLaws
 pub mod BlockLaws
-pub mod Carried
 pub mod Counts
 pub mod Doubles
 pub mod DraftLaws
@@ -10,5 +9,6 @@ pub mod Places
 pub mod Publishes
 pub mod TableLaws
 pub mod Tallies
+pub mod TextLaws
 pub mod TurnLaws
 pub mod WriteLaws

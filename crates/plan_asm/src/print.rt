@@ -9,21 +9,11 @@ ghost use Rattle.plan_asm.specs.Listing.{name_of, names_text, instruction_text, 
 use crate::lane::Lane;
 use crate::plan::Plan;
 use deb_relation::{Atom, Entry, Op};
+use deb_text::push_pieces;
 use deb_version::Version;
 use farm_universe::Universe;
 use plan_model::Instruction;
 use std::alloc::{AllocError, Global};
-
-/// Puts pieces of text behind a text.
-fn push_pieces(text: &mut Vec<u8>, pieces: &[&[u8]]) -> Result<(), AllocError>
-    ensures { OnOk result
-        (text.new.items ≡ text.old.items ++ concat (map (λ piece. piece.now) pieces.now)) }
-{
-    for piece in pieces {
-        text.extend_from_slice(piece)?;
-    }
-    Ok(())
-}
 
 fn operator_text(op: Op) -> &'static [u8]
     ensures { result.now ≡ operator_text op }
