@@ -7,9 +7,9 @@ use Rattle.std.proofs.lemmas.List.{take_all, take_min, take-map}
 use Rattle.farm_model.specs.declared.types.Variant.{Variant}
 use Rattle.farm_model.specs.Below.{some_below}
 use Rattle.farm_model.specs.Universe.{Universe}
-use Rattle.farm_model.specs.Packages.{same, contains, initial}
+use Rattle.farm_model.specs.Packages.{same, contains}
 use Rattle.plan_model.specs.Plan.{Plan, lane}
-use Rattle.clock_laws.specs.Clocks.{made, lane_made, count_before, Clocks, clock_rows}
+use Rattle.clock_laws.specs.Clocks.{made, lane_made, count_before, Clocks}
 use Rattle.sat_rows.specs.Rows.{IsRowOf}
 use Rattle.wait_order.specs.declared.column.Point.{Point}
 use Rattle.wait_order.specs.declared.marks.Output.{Output}
@@ -50,10 +50,10 @@ module _ (u : Universe) (p : Plan) where
       ∙ ap (made u)
       (take_all (length (lane p j).instructions) (lane p j).instructions (omega arith)))
 
-  module _ (x : Clocks) (l i : ℕ) where
-    -- of the lanes so far
+  module _ (start : Variant → Bool) (x : Clocks) (l i : ℕ) where
+    -- what was there, and of the lanes so far
     abbrev pub so_far : ℕ → Variant → Bool
-    so_far n v = initial u v || some_below n (λ j. contains (take (x l i j) (lane_made u p j)) v)
+    so_far n v = start v || some_below n (λ j. contains (take (x l i j) (lane_made u p j)) v)
 
     swapped : (a b c : Bool) → ((a || b) || c) ≡ (a || (c || b))
     swapped true b c = refl
@@ -69,13 +69,13 @@ module _ (u : Universe) (p : Plan) where
         row_same u _ _ row
         (λ v. ap (λ b. so_far n v || b)
         (first-made n count os v are ∙ ap (λ k. contains (take k (lane_made u p n)) v) is)
-        ∙ swapped (initial u v) _ _
-        ∙ ap (λ k. initial u v || some_below k (λ j. contains (take (x l i j) (lane_made u p j)) v))
+        ∙ swapped (start v) _ _
+        ∙ ap (λ k. start v || some_below k (λ j. contains (take (x l i j) (lane_made u p j)) v))
         (sym (add-one n)))
         row_is
 
     pub all_lanes : (n : ℕ) (row : List ℕ) → n ≡ length p → IsRowOf u (so_far n) row
-        → IsRowOf u (clock_rows u p x l i) row
+        → IsRowOf u (so_far (length p)) row
     all_lanes n row end is = subst (λ k. IsRowOf u (so_far k) row) end is
 
   -- the last wait has a count in each column

@@ -19,6 +19,7 @@ pub mod RowSteps
 pub mod ColumnLaws
 pub mod ArchiveRows
 pub mod ClockRows
+pub mod LaterRows
 pub mod PlaceLaws
 pub mod SameEntries
 pub mod KeptLaws

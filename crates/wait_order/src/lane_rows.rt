@@ -13,7 +13,7 @@ ghost use Rattle.wait_order.specs.Columns.{AreColumns};
 ghost use Rattle.wait_order.specs.PlaceRows as spec;
 ghost use Rattle.wait_order.specs.PlaceRows.{known_rows, IsLastRow, IsExtended, AreRowNumbers, AreSameCounts};
 
-use crate::clock_row::clock_row;
+use crate::clock_row::{clock_row, later_row};
 use crate::column::Point;
 use crate::columns::Counts;
 use crate::known::LanePlaces;
@@ -68,6 +68,50 @@ fn push_row(
 {
     let row = clock_row(
         alloc, universe, plan, archive, lanes, columns, points, number, place, own, last,
+    )?;
+    rows.push(row)?;
+    Ok(())
+}
+
+/// Puts the row of a place behind the others, of which the last is that of an earlier place.
+fn push_later(
+    alloc: Global,
+    universe: &Universe,
+    plan: &Plan,
+    archive: &Row,
+    lanes: &[LaneOutputs],
+    columns: &[Counts],
+    points: &[Point],
+    number: usize,
+    place: usize,
+    next: usize,
+    own_before: usize,
+    before: Option<usize>,
+    own: usize,
+    last: Option<usize>,
+    rows: &mut Vec<Row>,
+) -> Result<(), AllocError>
+    requires sound { IsSound universe.now plan.now.lanes }
+    requires archive { IsRowOf universe.now (initial universe.now) archive.now }
+    requires lanes { AreLanes universe.now plan.now.lanes lanes.now }
+    requires points { ArePoints universe.now plan.now.lanes points.now }
+    requires columns { AreColumns universe.now plan.now.lanes points.now columns.now
+        (length plan.now.lanes) }
+    requires lane { number < length plan.now.lanes }
+    requires own_before { own_before ≡ count_before universe.now plan.now.lanes number place }
+    requires before { before ≡ last_wait plan.now.lanes number place }
+    requires own { own ≡ count_before universe.now plan.now.lanes number next }
+    requires last { last ≡ last_wait plan.now.lanes number next }
+    requires row { IsLastRow universe.now
+        (known_rows universe.now plan.now.lanes columns.now number place) rows.old.items }
+    ensures more { OnOk result (IsExtended universe.now rows.old.items rows.new.items) }
+    ensures row { OnOk result (IsLastRow universe.now
+        (known_rows universe.now plan.now.lanes columns.now number next) rows.new.items) }
+{
+    let earlier = &rows[rows.len() - 1];
+    let row = later_row(
+        alloc, universe, plan, archive, lanes, columns, points, number, place, next, own_before,
+        before, own, last, earlier,
     )?;
     rows.push(row)?;
     Ok(())
@@ -175,8 +219,9 @@ fn renew(
     ) {
         return Ok(());
     }
-    push_row(
-        alloc, universe, plan, archive, lanes, columns, points, number, next, own, last, rows,
+    push_later(
+        alloc, universe, plan, archive, lanes, columns, points, number, place, next, own_before,
+        before, own, last, rows,
     )
 }
 

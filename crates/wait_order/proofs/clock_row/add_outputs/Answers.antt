@@ -1,5 +1,4 @@
 use Rattle.std.proofs.Common.{◌||◌, None, get_or, length, take, refl, sym, ap, ◌∙◌, ◌<◌, arith}
-use Rattle.std.proofs.Math.Bool.{or-false}
 use Rattle.std.proofs.lemmas.List.{get_or_default}
 use Rattle.farm_model.specs.Packages.{variant, same}
 use Rattle.farm_universe.proofs.PlaceLaws.{named}
@@ -15,7 +14,11 @@ none = record { variant = variant 0 0; point = None }
 pub loop-n-init : goal.loop-n-init
 loop-n-init c = (
   c.requires.row,
-  λ test is. row_same c.args._universe.now test _ c.args.row.now (λ v. sym (or-false (test v))) is,
+  λ test is. row_same c.args._universe.now _ _ c.args.row.now
+      (λ v. ap (λ b. test v || b)
+      (sym (all-first c.args.outputs.now c.min-start.result c.args.from
+      (length c.args.outputs.now) v (omega (arith, c.min-start.ensures)) refl)))
+      (c.requires.given test is),
 )
 
 pub set_bit-requires-clause-named : goal.set_bit-requires-clause-named
@@ -62,5 +65,12 @@ returns-clause-added c =
     λ test is. row_same c.args._universe.now _ _ c.loop-n.row
     (λ v. ap (λ b. test v || b)
     (all-first outs c.loop-n.n c.args.count (length outs) v
-    (omega (arith, c.loop-n-test.false, c.loop-n.auto.n-end, c.min-limit.ensures)) refl))
+    (omega (
+      arith,
+      c.loop-n-test.false,
+      c.loop-n.auto.n-end,
+      c.min-limit.ensures,
+      c.min-start.ensures,
+      c.requires.order,
+    )) refl))
     (c.loop-n.invariant.1 test is)

@@ -61,16 +61,20 @@ loop-other-preserved c =
     ∙ get_or_default cs j c.index-columns-other.result []
     (omega (arith, lt, c.requires.columns.long)) in
     let x = clock_of u p (counts_of cs) in
-    with_lane u p x l c.args._place j c.known_of-count.result c.as_slice-outputs.result.now
+    with_lane u p (initial u) x l c.args._place j c.known_of-count.result c.as_slice-outputs.result.now
     c.add_outputs.new.row are
     (known_is u p cs l c.args._place j c.args.own c.args.last c.index-columns-other.result
     c.known_of-count.result here c.requires.own c.requires.last c.known_of-count.ensures)
-    (c.in_ok-add_outputs.ensures.added (so_far u p x l c.args._place j) c.loop-other.invariant)
+    (c.in_ok-add_outputs.ensures.added (so_far u p (initial u) x l c.args._place j) c.loop-other.invariant)
 
 pub returns : goal.returns
 returns c =
     let u = c.args.universe.now in
     let p = c.args._plan.now.lanes in
-    all_lanes u p (clock_of u p (counts_of c.args.columns.now)) c.args.number c.args._place
-    c.loop-other.other c.loop-other.row (omega (arith, c.requires.lanes.long))
+    all_lanes u p (initial u) (clock_of u p (counts_of c.args.columns.now)) c.args.number
+    c.args._place c.loop-other.other c.loop-other.row (omega (arith, c.requires.lanes.long))
     c.loop-other.invariant
+
+pub add_outputs-requires-clause-given : goal.add_outputs-requires-clause-given
+add_outputs-requires-clause-given c =
+    λ test is. row_same c.args.universe.now test _ c.loop-other.row (λ v. sym (or-false (test v))) is
