@@ -8,31 +8,32 @@ use Rattle.farm_model.specs.declared.types.Variant.{Variant}
 use Rattle.farm_model.specs.Universe.{Universe}
 use Rattle.farm_model.specs.Packages.{variant}
 use Rattle.sat_rows.specs.Rows.{IsSharedRow, of_another_name}
+use Rattle.sat_rows.specs.declared.found.NameWord.{NameWord}
 use Rattle.sat_rows.specs.Found.{IsFound}
 use Rattle.sat_rows.proofs.Gathered.{each_next}
 
--- two variants are the same where their names and bits are
-pub variant_decides : (v w : Variant)
-    → Decides ((v.name == w.name) && (v.bit == w.bit)) (v ≡ w)
-variant_decides v w = (
+-- two words of names are the same where both parts are
+pub name_word_decides : (v w : NameWord)
+    → Decides ((v.name == w.name) && (v.word == w.word)) (v ≡ w)
+name_word_decides v w = (
   λ both.
       let parts = and_parts (v.name == w.name) _ both in
       let name = eqb-true v.name w.name parts.0 in
-      let bit = eqb-true v.bit w.bit parts.1 in
-      (λ i. record { name = name i; bit = bit i }),
+      let word = eqb-true v.word w.word parts.1 in
+      (λ i. record { name = name i; word = word i }),
   λ same. and_from _ _ (eq-eqb v.name w.name (ap (λ v. v.name) same))
-      (eq-eqb v.bit w.bit (ap (λ v. v.bit) same)),
+      (eq-eqb v.word w.word (ap (λ v. v.word) same)),
 )
 
 -- the row at this number is that of the variants of other names among those found
-abbrev pub IsRowAt : Universe → ℕ → List (Option (List ℕ)) → ℕ → List Variant → Type 0
+abbrev pub IsRowAt : Universe → ℕ → List (Option (List ℕ)) → ℕ → List NameWord → Type 0
 IsRowAt u n rows k found =
     (b : ℕ) (p : Variant → Bool) → IsFound u p found
     → IsSharedRow u (of_another_name (variant n b) p) (get_or rows k None)
 
 -- one more variant has its row at the last number, and the other rows stay
 pub record Goes (u : Universe) (n : ℕ) (rows : List (Option (List ℕ))) (number : ℕ)
-    (found : List Variant) (rows' : List (Option (List ℕ))) (number' : ℕ) (last : List Variant)
+    (found : List NameWord) (rows' : List (Option (List ℕ))) (number' : ℕ) (last : List NameWord)
     : Type 0 where
   pub long : length rows' ≡ number' + 1
   pub up : number ≤ number'
@@ -42,7 +43,7 @@ pub record Goes (u : Universe) (n : ℕ) (rows : List (Option (List ℕ))) (numb
   pub row : IsRowAt u n rows' number' found
 
 module _ (u : Universe) (n : ℕ) (rows : List (Option (List ℕ))) (number : ℕ)
-    (found : List Variant) where
+    (found : List NameWord) where
   -- a row of its own
   pub goes_on : (row : Option (List ℕ)) → length rows ≡ number + 1
       → ((p : Variant → Bool) → IsFound u p found
@@ -63,7 +64,7 @@ module _ (u : Universe) (n : ℕ) (rows : List (Option (List ℕ))) (number : �
       }
 
   -- that of the one before
-  pub goes_to : (last : List Variant) → length rows ≡ number + 1 → IsRowAt u n rows number last
+  pub goes_to : (last : List NameWord) → length rows ≡ number + 1 → IsRowAt u n rows number last
       → found ≡ last → Goes u n rows number found rows number last
   goes_to last long is same =
       record {
@@ -77,7 +78,7 @@ module _ (u : Universe) (n : ℕ) (rows : List (Option (List ℕ))) (number : �
 
 -- what a column keeps
 abbrev pub Keeps : (u : Universe) (n : ℕ) (test : Variant → Variant → Bool) (bit : ℕ)
-    (rows : List (Option (List ℕ))) (number : ℕ) (numbers : List ℕ) (last : List Variant) → Type 0
+    (rows : List (Option (List ℕ))) (number : ℕ) (numbers : List ℕ) (last : List NameWord) → Type 0
 Keeps u n test bit rows number numbers last =
     (length rows ≡ number + 1)
     × (number ≤ bit)
@@ -88,8 +89,8 @@ Keeps u n test bit rows number numbers last =
     × IsRowAt u n rows number last
 
 pub columns_next : (u : Universe) (n : ℕ) (test : Variant → Variant → Bool) (bit : ℕ)
-    (rows : List (Option (List ℕ))) (number : ℕ) (numbers : List ℕ) (before found : List Variant)
-    (rows' : List (Option (List ℕ))) (number' : ℕ) (last : List Variant) (numbers' : List ℕ)
+    (rows : List (Option (List ℕ))) (number : ℕ) (numbers : List ℕ) (before found : List NameWord)
+    (rows' : List (Option (List ℕ))) (number' : ℕ) (last : List NameWord) (numbers' : List ℕ)
     → Keeps u n test bit rows number numbers before → Goes u n rows number found rows' number' last
     → IsFound u (test (variant n bit)) found → numbers' ≡ numbers ++ number' ∷ []
     → Keeps u n test (bit + 1) rows' number' numbers' last

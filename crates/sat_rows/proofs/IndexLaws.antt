@@ -14,10 +14,10 @@ use Rattle.deb_relation.specs.Relations.{Atom, Entry}
 use Rattle.deb_relation.specs.Satisfaction.{is_its_own, is_provided, provides_it}
 use Rattle.farm_model.specs.declared.types.Variant.{Variant}
 use Rattle.farm_model.specs.Universe.{Universe}
-use Rattle.farm_model.specs.Packages.{variant, names, facts, satisfies}
+use Rattle.farm_model.specs.Packages.{variant, names, facts, satisfies, is_wanted}
 use Rattle.farm_universe.proofs.PlaceLaws.{named}
 use Rattle.farm_model.specs.Sound.{IsKnown}
-use Rattle.sat_rows.specs.Index.{number_behind, list_of, listed, with_listed, IsIn, IsListed, IsKept, AreNaming, IsOwn}
+use Rattle.sat_rows.specs.Index.{number_behind, list_of, listed, with_listed, IsIn, IsListed, IsKept, AreNaming, IsOwn, IsOfOwnName}
 
 -- a list keeps its elements as one more comes
 pub is_in_more : (vs : List Variant) (w v : Variant) → IsIn vs v → IsIn (vs ++ w ∷ []) v
@@ -120,16 +120,16 @@ pub listed_if_satisfies : (u : Universe) (lists : List (List Variant))
     → ((n : ℕ) → n < names u → IsOwn u n lists)
     → ((n : ℕ) → AreNaming u (λ binary. binary.provides) n lists)
     → (v : Variant) (a : Atom) → IsKnown u v → satisfies u a v ≡ true
-    → IsListed lists a.name v
-    ⊎ ((get_or u.names v.name [] ≡ a.name) × IsListed lists a.name (variant v.name 0))
-unfolding facts satisfies
+    → IsListed lists a.name v ⊎ (IsOfOwnName u a v × IsListed lists a.name (variant v.name 0))
+unfolding facts satisfies is_wanted
 listed_if_satisfies u lists own provided v a known sat =
-    elim (or_cases (is_its_own (facts u v) a) _ (and_parts (is_none a.qualifier) _ sat).1) [
+    let bare = and_parts (is_none a.qualifier) _ sat in
+    elim (or_cases (is_its_own (facts u v) a) _ bare.1) [
       | inl it ↦
-          let same = (bytes_eq-Decides (facts u v).name a.name).0
-          (and_parts (bytes_eq (facts u v).name a.name) _ it).0 in
+          let both = and_parts (bytes_eq (facts u v).name a.name) _ it in
+          let same = (bytes_eq-Decides (facts u v).name a.name).0 both.0 in
           inr (
-            same,
+            record { named = same; bare = bare.0; wanted = both.1 },
             subst (λ text. IsListed lists text (variant v.name 0)) same
                 (own v.name (named u v.name v.bit known)),
           )

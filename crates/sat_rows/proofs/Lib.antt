@@ -1,4 +1,5 @@
 pub mod RowLaws
+pub mod RangeLaws
 pub mod ColumnLaws
 pub mod NumberLaws
 pub mod Gathered

@@ -5,14 +5,16 @@
 --   with_listed            one more variant under a name
 --   AreNaming, IsNaming    each variant is listed under the names of a field of it
 --   IsOwn                  the first variant of a name is listed under it
+--   IsOfOwnName            a variant satisfies an alternative by its own name
 --   IsProviding            each variant is listed under the names that it provides, and the first of
 --                          its name under its own
 --   AreIndexes             those of a universe
 use Rattle.std.specs.Prelude.{◌≡◌, ℕ, ◌+◌, ◌*◌, ◌%◌, ◌<◌, true, List, [], ◌∷◌, ◌++◌, ◌⊎◌, length, Some, slice_get, slice_index_or, slice_set}
+use Rattle.std.specs.Option.{is_none}
 use Rattle.deb_relation.specs.Relations.{Atom, Entry, Relations}
 use Rattle.farm_model.specs.declared.types.Variant.{Variant}
 use Rattle.farm_model.specs.Universe.{Package, Universe}
-use Rattle.farm_model.specs.Packages.{variant, variants, package_of, satisfies}
+use Rattle.farm_model.specs.Packages.{variant, variants, package_of, satisfies, is_wanted}
 use Rattle.farm_model.specs.Sound.{IsKnown}
 
 -- a number of the bytes that follow others
@@ -66,13 +68,18 @@ pub record IsNaming (u : Universe) (field : Package → Relations) (lists : List
   pub some : 0 < length lists
   pub names : (n : ℕ) → AreNaming u field n lists
 
+-- the variant satisfies the alternative by its own name and version
+pub record IsOfOwnName (u : Universe) (a : Atom) (v : Variant) : Type 0 where
+  pub named : slice_index_or u.names v.name [] ≡ a.name
+  pub bare : is_none a.qualifier ≡ true
+  pub wanted : is_wanted u a.relation v ≡ true
+
 -- each variant of the universe is listed under the names of the alternatives that it satisfies, or
 -- these have its own name, and the first variant of that is listed under it
 pub record IsProviding (u : Universe) (lists : List (List Variant)) : Type 0 where
   pub some : 0 < length lists
   pub all : (v : Variant) (a : Atom) → IsKnown u v → satisfies u a v ≡ true
-      → IsListed lists a.name v
-      ⊎ ((slice_index_or u.names v.name [] ≡ a.name) × IsListed lists a.name (variant v.name 0))
+      → IsListed lists a.name v ⊎ (IsOfOwnName u a v × IsListed lists a.name (variant v.name 0))
 
 -- the indexes of a universe
 pub record Indexes : Type 0 where

@@ -1,4 +1,5 @@
 pub mod Rows
+pub mod Ranges
 pub mod Index
 pub mod Found
 pub mod ByVariant

@@ -1,27 +1,34 @@
 //! The variants that pass a test, looked for among those that an index lists.
 
-ghost use Rattle.std.specs.Prelude.{◌≡◌, ◌<◌, ◌==◌, ◌&&◌, ◌||◌, ◌++◌, [], ℕ, true, nat_lt, IsTrue, IfOk, OnOk, length, filter, slice_index_or};
+ghost use Rattle.std.specs.Prelude.{◌≡◌, ◌<◌, ◌==◌, ◌&&◌, ◌||◌, [], ℕ, true, nat_lt, IsTrue, IfOk, OnOk, length, slice_index_or};
 ghost use Rattle.std.specs.Option.{is_none};
 ghost use Rattle.std.specs.Str.{bytes_eq};
+ghost use Rattle.clause_kernel.specs.Rows.{word_has};
 ghost use Rattle.farm_model.specs.Packages.{names, is_wanted, satisfies, satisfies_entry, satisfies_any, conflict, breaks};
 ghost use Rattle.farm_model.specs.Sound.{IsKnown};
 ghost use Rattle.sat_rows.specs.Index.{IsNaming, IsProviding, AreIndexes};
-ghost use Rattle.sat_rows.specs.Found.{among, is_passing, IsFound, Finds, FindsOf, GrowsBy, HasListed, HasOfEntry, HasOfField, field_test};
+ghost use Rattle.sat_rows.specs.Rows.{passes, IsWordFor};
+ghost use Rattle.sat_rows.specs.Found.{among, is_passing, is_first_named, IsFound, Finds, GrowsBy, HasOf, HasOwn, HasListed, HasOfEntry, HasOfField, field_test};
 
 use crate::index::{Breaks, Conflicts, Field, Index, Indexes};
-use crate::word::variant_count;
+use crate::word::{mask, variant_count, with_bit};
 use deb_relation::{Atom, Entry, Relations};
 use farm_universe::relations::{SatisfiesAtom, VariantTest, satisfies_any};
 use farm_universe::{Universe, Variant};
 use std::alloc::{AllocError, Global};
 use std::marker::Model;
 
-/// Tells whether the universe has a variant, and it passes.
-fn is_passing<T: VariantTest>(universe: &Universe, test: &T, variant: Variant) -> bool
+/// The bit of a variant, where the universe has it and it passes.
+fn passing_word<T: VariantTest>(universe: &Universe, test: &T, variant: Variant) -> u64
     requires { T.fits universe.now test.now }
-    ensures { result ≡ is_passing universe.now (T.test universe.now test.now) variant }
+    ensures { (b : ℕ) → word_has result b ≡
+        (is_passing universe.now (T.test universe.now test.now) variant && (b == variant.bit)) }
 {
-    variant.bit < variant_count(universe, variant.name) && test.passes(universe, variant)
+    if variant.bit < variant_count(universe, variant.name) {
+        with_bit(0, variant.bit, test.passes(universe, variant))
+    } else {
+        0
+    }
 }
 
 /// The variants of whose field some entry is satisfied by this one.
@@ -49,14 +56,6 @@ fn is_named(universe: &Universe, name: u32, text: &[u8]) -> bool
     name < universe.names() && universe.name_text(name) == text
 }
 
-/// Tells whether the version of a variant stands in the relation of an alternative.
-fn is_wanted_by(universe: &Universe, atom: &Atom, variant: Variant) -> bool
-    requires { IsKnown universe.now variant }
-    ensures { result ≡ is_wanted universe.now atom.now.relation variant }
-{
-    universe.is_wanted(variant, atom.relation.as_ref())
-}
-
 /// Tells whether an alternative has no qualifier.
 fn is_bare(atom: &Atom) -> bool
     ensures { result ≡ is_none atom.now.qualifier }
@@ -64,31 +63,55 @@ fn is_bare(atom: &Atom) -> bool
     atom.qualifier.is_none()
 }
 
-/// Tells whether a variant satisfies an alternative of its own name.
-fn satisfies_own(universe: &Universe, atom: &Atom, variant: Variant) -> bool
-    requires known { IsKnown universe.now variant }
-    requires named { bytes_eq (slice_index_or universe.now.names variant.name []) atom.now.name ≡ true }
-    ensures { result ≡ satisfies universe.now atom.now variant }
+/// The variants of a name whose version stands in the relation of an alternative.
+fn wanted_word(universe: &Universe, atom: &Atom, name: u32) -> u64
+    ensures { IsWordFor universe.now (is_wanted universe.now atom.now.relation) name result }
 {
-    if is_wanted_by(universe, atom, variant) && is_bare(atom) {
-        return true;
+    mask(universe, name, atom.relation.as_ref())
+}
+
+/// Tells whether a variant is the first of the name that an alternative has. One with a qualifier
+/// is satisfied by none.
+fn is_first_named(universe: &Universe, atom: &Atom, listed: Variant) -> bool
+    ensures { result ≡ is_first_named universe.now atom.now listed }
+{
+    listed.bit == 0 && is_bare(atom) && is_named(universe, listed.name, &atom.name)
+}
+
+/// The variants that satisfy an alternative by their own name and version. They are looked for
+/// under the first of their name.
+fn own_word(universe: &Universe, atom: &Atom, listed: Variant) -> u64
+    ensures only { (b : ℕ) → word_has result b ≡ true
+        → passes universe.now (satisfies universe.now atom.now) listed.name b ≡ true }
+    ensures has { HasOwn universe.now atom.now listed (word_has result) }
+{
+    if is_first_named(universe, atom, listed) {
+        wanted_word(universe, atom, listed.name)
+    } else {
+        0
     }
-    universe.satisfies(variant, atom)
+}
+
+/// Variants of one name, as the bits of a word.
+#[derive(Clone, Copy, Debug, PartialEq, Eq)]
+pub struct NameWord {
+    pub name: u32,
+    pub word: u64,
 }
 
 /// Variants that were found, each perhaps more than once.
 #[derive(Debug, Drop)]
 pub struct Found {
-    variants: Vec<Variant>,
+    words: Vec<NameWord>,
 }
 
 impl Model for Found {
     ghost use Rattle.std.specs.Prelude.{List};
-    ghost use Rattle.farm_model.specs.declared.types.Variant.{Variant};
+    ghost use Rattle.sat_rows.specs.declared.found.NameWord.{NameWord};
 
-    ghost Value = { List Variant };
+    ghost Value = { List NameWord };
 
-    ghost view = { λ found. found.variants.items };
+    ghost view = { λ found. found.words.items };
 }
 
 impl Found {
@@ -97,22 +120,33 @@ impl Found {
         ensures { result ≡ [] }
     {
         Found {
-            variants: Vec::new(alloc),
+            words: Vec::new(alloc),
         }
     }
 
     /// The variants in the order in which they were found.
-    pub fn variants(&self) -> &[Variant]
+    pub fn words(&self) -> &[NameWord]
         ensures { result.now ≡ self.now }
     {
-        &self.variants
+        &self.words
     }
 
     /// Tells whether the same variants were found in the same order.
     pub fn is_same(&self, other: &Found) -> bool
         ensures { IsTrue result → self.now ≡ other.now }
     {
-        self.variants == other.variants
+        self.words == other.words
+    }
+
+    /// Puts variants of a name, if there are any.
+    fn add(&mut self, name: u32, word: u64) -> Result<(), AllocError>
+        ensures { OnOk result ((n b : ℕ) → among self.new n b ≡ (among self.old n b
+            || ((n == name) && word_has word b))) }
+    {
+        if word != 0 {
+            self.words.push(NameWord { name, word })?;
+        }
+        Ok(())
     }
 
     /// Puts those of some variants that pass.
@@ -123,37 +157,13 @@ impl Found {
         others: &[Variant],
     ) -> Result<(), AllocError>
         requires { T.fits universe.now test.now }
-        ensures { OnOk result (self.new ≡ self.old
-            ++ filter (is_passing universe.now (T.test universe.now test.now)) others.now) }
+        ensures grows { OnOk result
+            (GrowsBy universe.now (T.test universe.now test.now) self.old self.new) }
+        ensures has { OnOk result
+            (HasOf universe.now (T.test universe.now test.now) others.now self.new) }
     {
         for variant in others {
-            if is_passing(universe, test, *variant) {
-                self.variants.push(*variant)?;
-            }
-        }
-        Ok(())
-    }
-
-    /// Puts a variant, if that holds.
-    fn add_if(&mut self, variant: Variant, holds: bool) -> Result<(), AllocError>
-        ensures { OnOk result ((n b : ℕ) → among self.new n b ≡ (among self.old n b
-            || (holds && ((n == variant.name) && (b == variant.bit))))) }
-    {
-        if holds {
-            self.variants.push(variant)?;
-        }
-        Ok(())
-    }
-
-    /// Puts the variants of a name that satisfy an alternative of that name.
-    fn add_own(&mut self, universe: &Universe, atom: &Atom, name: u32) -> Result<(), AllocError>
-        requires { bytes_eq (slice_index_or universe.now.names name []) atom.now.name ≡ true }
-        ensures { OnOk result
-            (FindsOf universe.now (satisfies universe.now atom.now) name self.old self.new) }
-    {
-        for bit in 0..variant_count(universe, name) {
-            let variant = Variant { name, bit };
-            self.add_if(variant, satisfies_own(universe, atom, variant))?;
+            self.add(variant.name, passing_word(universe, test, *variant))?;
         }
         Ok(())
     }
@@ -170,11 +180,8 @@ impl Found {
             (GrowsBy universe.now (satisfies universe.now atom.now) self.old self.new) }
         ensures has { OnOk result (HasListed universe.now atom.now listed self.new) }
     {
-        if is_named(universe, listed.name, &atom.name) {
-            return self.add_own(universe, atom, listed.name);
-        }
-        let holds = is_passing(universe, &SatisfiesAtom { atom }, listed);
-        self.add_if(listed, holds)?;
+        let itself = passing_word(universe, &SatisfiesAtom { atom }, listed);
+        self.add(listed.name, itself | own_word(universe, atom, listed))?;
         Ok(())
     }
 

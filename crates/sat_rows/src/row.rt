@@ -1,15 +1,16 @@
 //! The variants of a universe that pass a test, as a row.
 
-ghost use Rattle.std.specs.Prelude.{◌≡◌, ◌||◌, ◌&&◌, ◌==◌, ℕ, Bool, IfOk, OnOk, length, nat_lt};
+ghost use Rattle.std.specs.Prelude.{◌≡◌, ◌<◌, ◌||◌, ◌&&◌, ◌==◌, ℕ, Bool, IfOk, OnOk, length};
 ghost use Rattle.bit_rows.specs.Sets.{variants_of};
+ghost use Rattle.clause_kernel.specs.Rows.{word_has};
 ghost use Rattle.farm_model.specs.declared.types.Variant.{Variant};
-ghost use Rattle.farm_model.specs.Packages.{names, variants, satisfies_entry};
+ghost use Rattle.farm_model.specs.Packages.{names, satisfies_entry};
 ghost use Rattle.farm_model.specs.Sound.{IsKnown};
 ghost use Rattle.sat_rows.specs.Rows.{IsRowOf, IsSharedRow, of_another_name};
 ghost use Rattle.sat_rows.specs.Found.{IsFound};
 
 use crate::found::Found;
-use crate::word::{variant_count, word_for};
+use crate::word::word_for;
 use bit_rows::Row;
 use deb_relation::Entry;
 use farm_universe::relations::{SatisfiesEntry, VariantTest};
@@ -43,17 +44,15 @@ pub fn entry_row(alloc: Global, universe: &Universe, entry: &Entry) -> Result<Ro
     row_of(alloc, universe, &SatisfiesEntry { entry })
 }
 
-/// Adds a variant to a row, where the universe has it.
-#[tactic(auto, using(farm_universe::proofs::PlaceLaws::named))]
-fn add_known(row: &mut Row, universe: &Universe, variant: Variant) -> Result<(), AllocError>
-    requires { length row.old ≡ names universe.now }
-    ensures set { OnOk result ((n b : ℕ) → variants_of row.new n b ≡ (variants_of row.old n b
-        || (nat_lt variant.bit (variants universe.now variant.name)
-        && ((n == variant.name) && (b == variant.bit))))) }
+/// Adds variants of a name to a row, where that has a word for it.
+fn add_word(row: &mut Row, name: u32, word: u64) -> Result<(), AllocError>
+    ensures set { OnOk result ((n b : ℕ) → n < length row.old
+        → variants_of row.new n b ≡ (variants_of row.old n b || ((n == name) && word_has word b))) }
     ensures len { length row.new ≡ length row.old }
 {
-    if variant.bit < variant_count(universe, variant.name) {
-        row.set_bit(variant.name as usize, variant.bit)?;
+    let name = name as usize;
+    if name < row.len() {
+        row.set_word(name, row.word(name) | word)?;
     }
     Ok(())
 }
@@ -69,8 +68,8 @@ pub fn row_of_found(alloc: Global, universe: &Universe, found: &Found) -> Result
     ensures len { IfOk result (λ row. length row ≡ names universe.now) }
 {
     let mut row = Row::new(alloc, universe.names() as usize)?;
-    for variant in found.variants() {
-        add_known(&mut row, universe, *variant)?;
+    for found in found.words() {
+        add_word(&mut row, found.name, found.word)?;
     }
     Ok(row)
 }
@@ -88,7 +87,7 @@ pub fn shared_row(
     ensures { IfOk result (λ row. (p : Variant → Bool) → IsFound universe.now p found.now
         → IsSharedRow universe.now p row) }
 {
-    if found.variants().is_empty() {
+    if found.words().is_empty() {
         return Ok(None);
     }
     Ok(Some(row_of_found(alloc, universe, found)?))
@@ -109,7 +108,7 @@ pub fn row_of_others(
     ensures { IfOk result (λ row. (p : Variant → Bool) → IsFound universe.now p found.now
         → IsSharedRow universe.now (of_another_name variant p) row) }
 {
-    if found.variants().is_empty() {
+    if found.words().is_empty() {
         return Ok(None);
     }
     let mut row = row_of_found(alloc, universe, found)?;

@@ -1,15 +1,17 @@
 //! The variants of one name that pass a test, as a word.
 
-ghost use Rattle.std.specs.Prelude.{◌≡◌, ◌<◌, ◌≤◌, ◌==◌, ◌&&◌, ◌||◌, ℕ};
+ghost use Rattle.std.specs.Prelude.{◌≡◌, ◌<◌, ◌≤◌, ◌-◌, ◌^◌, ◌==◌, not, ◌&&◌, ◌||◌, ℕ, nat_lt, Some};
 ghost use Rattle.std.specs.Option.{option_copied};
 ghost use Rattle.clause_kernel.specs.Rows.{word_has};
 ghost use Rattle.farm_model.specs.Packages.{variants, is_wanted};
 ghost use Rattle.sat_rows.specs.Rows.{IsWordFor};
+ghost use Rattle.sat_rows.specs.Ranges.{is_before, IsCountBefore, IsRange};
 
 use deb_relation::Op;
 use deb_version::Version;
 use farm_universe::relations::VariantTest;
 use farm_universe::{Universe, Variant};
+use std::cmp::Ordering;
 
 /// How many variants a name has: none where the universe does not have the name.
 #[tactic(auto, using(farm_universe::proofs::PlaceLaws::no_variants))]
@@ -25,7 +27,7 @@ pub fn variant_count(universe: &Universe, name: u32) -> u32
 }
 
 /// The word, with a bit more if that holds.
-fn with_bit(word: u64, bit: u32, holds: bool) -> u64
+pub fn with_bit(word: u64, bit: u32, holds: bool) -> u64
     requires { bit < 64 }
     ensures { (b : ℕ) → word_has result b ≡ (word_has word b || (holds && (b == bit))) }
 {
@@ -46,17 +48,80 @@ pub fn word_for<T: VariantTest>(universe: &Universe, name: u32, test: &T) -> u64
     word
 }
 
-/// The variants whose version stands in a relation.
-#[derive(Drop)]
-struct IsWanted<'a> {
-    relation: Option<&'a (Op, Version)>,
+/// The bits below a number.
+fn bits_below(count: u32) -> u64
+    requires { count ≤ 64 }
+    ensures { result ≡ 2 ^ count - 1 }
+{
+    if count == 64 {
+        u64::MAX
+    } else {
+        (1 << count) - 1
+    }
 }
 
-impl VariantTest for IsWanted<'_> {
-    ghost test = { λ u t v. is_wanted u (option_copied t.relation) v };
+/// The bits from one up to another.
+fn bits_between(low: u32, high: u32) -> u64
+    requires order { low ≤ high }
+    requires within { high ≤ 64 }
+    ensures { (b : ℕ) → word_has result b ≡ (not (nat_lt b low) && nat_lt b high) }
+{
+    bits_below(high) - bits_below(low)
+}
 
-    fn passes(&self, universe: &Universe, variant: Variant) -> bool {
-        universe.is_wanted(variant, self.relation)
+/// Tells whether an order is that of an earlier version, or perhaps of one as early.
+fn is_before(order: Ordering, or_equal: bool) -> bool
+    ensures { result ≡ is_before or_equal order }
+{
+    if or_equal {
+        order.is_le()
+    } else {
+        order.is_lt()
+    }
+}
+
+/// How many variants of a name are earlier than a version, or perhaps as early. They stand in the
+/// order of their versions, so a few of them are looked at.
+fn count_before(universe: &Universe, name: u32, bound: &Version, or_equal: bool) -> u32
+    ensures { IsCountBefore universe.now name bound.now or_equal result }
+{
+    if name >= universe.names() {
+        return 0;
+    }
+    let mut low = 0;
+    let mut high = universe.variants(name);
+    while low < high {
+        let bit = low + (high - low) / 2;
+        let version = universe.version(Variant { name, bit });
+        if is_before(version.compare(bound), or_equal) {
+            low = bit + 1;
+        } else {
+            high = bit;
+        }
+    }
+    low
+}
+
+/// The first bit of the variants of a name whose version stands in a relation, and the one behind
+/// the last.
+fn range_of(universe: &Universe, name: u32, op: Op, bound: &Version) -> (u32, u32)
+    ensures { IsRange universe.now name (Some (op, bound.now)) result.0 result.1 }
+{
+    match op {
+        Op::Earlier => (0, count_before(universe, name, bound, false)),
+        Op::EarlierOrEqual => (0, count_before(universe, name, bound, true)),
+        Op::Equal => (
+            count_before(universe, name, bound, false),
+            count_before(universe, name, bound, true),
+        ),
+        Op::LaterOrEqual => (
+            count_before(universe, name, bound, false),
+            variant_count(universe, name),
+        ),
+        Op::Later => (
+            count_before(universe, name, bound, true),
+            variant_count(universe, name),
+        ),
     }
 }
 
@@ -66,5 +131,12 @@ pub fn mask(universe: &Universe, name: u32, relation: Option<&(Op, Version)>) ->
     ensures { IsWordFor universe.now (is_wanted universe.now (option_copied relation.entry))
         name result }
 {
-    word_for(universe, name, &IsWanted { relation })
+    let count = variant_count(universe, name);
+    match relation {
+        None => bits_between(0, count),
+        Some((op, bound)) => {
+            let (low, high) = range_of(universe, name, *op, bound);
+            bits_between(low, high)
+        }
+    }
 }

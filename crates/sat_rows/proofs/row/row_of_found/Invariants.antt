@@ -1,11 +1,11 @@
-use Rattle.std.proofs.Common.{◌≡◌, ℕ, ◌&&◌, nat_lt, length, take}
+use Rattle.std.proofs.Common.{◌≡◌, ℕ, ◌<◌, length, take}
 use Rattle.bit_rows.specs.Sets.{variants_of}
-use Rattle.farm_model.specs.Packages.{names, variants}
+use Rattle.farm_model.specs.Packages.{names}
 use Rattle.sat_rows.specs.Found.{among}
 use Rattle.sat_rows.proofs.row.row_of_found.Given as goal
 
-abbrev pub invariant-loop-variant : goal.invariant-loop-variant
-invariant-loop-variant l =
+abbrev pub invariant-loop-found : goal.invariant-loop-found
+invariant-loop-found l =
     (length l.row ≡ names l.universe)
-    × ((n b : ℕ) → variants_of l.row n b
-    ≡ (nat_lt b (variants l.universe n) && among (take l.variant-index l.variant-items) n b))
+    × ((n b : ℕ) → n < length l.row
+    → variants_of l.row n b ≡ among (take l.found-index l.found-items) n b)

@@ -1,10 +1,10 @@
-use Rattle.std.proofs.Common.{◌≡◌, ◌++◌, ◌∙◌, Some, filter, ap, sym, subst, arith}
+use Rattle.std.proofs.Common.{◌≡◌, ◌∙◌, Some, ap, sym, subst, arith}
 use Rattle.std.specs.List.{slice_get}
 use Rattle.deb_relation.specs.Relations.{Atom}
 use Rattle.sat_rows.specs.Index.{listed}
-use Rattle.sat_rows.specs.Found.{is_passing, GrowsBy, HasOf}
+use Rattle.sat_rows.specs.Found.{HasOf}
 use Rattle.sat_rows.proofs.Each.{before_next, before_end}
-use Rattle.sat_rows.proofs.FoundLaws.{grows_by_some, grows_trans, has_kept, has_of_some}
+use Rattle.sat_rows.proofs.FoundLaws.{grows_trans, has_kept}
 use Rattle.sat_rows.proofs.found.Found.add_named.Goals as goal
 
 pub loop-atom-preserved : goal.loop-atom-preserved
@@ -18,15 +18,12 @@ loop-atom-preserved g c =
     let name = ap (λ (a : Atom). a.name) c.atom.view_is in
     let text : c.deref.result.now ≡ c.atom-item.result.name = cc (name, c.deref.ensures.value) in
     let others = c.listed.ensures ∙ ap (listed lists) text in
-    let under = listed lists c.atom-item.result.name in
-    let is =
-    c.in_ok-add_passing.ensures ∙ ap (λ vs. old ++ filter (is_passing u p) vs) others in
-    let grows = subst (GrowsBy u p old) (sym is) (grows_by_some u p old under) in (
+    let grows = c.in_ok-add_passing.ensures.grows in (
       grows_trans u p c.args.self.now old new so_far.0 grows,
       before_next (λ a. HasOf u p (listed lists a.name) old) (λ a. HasOf u p (listed lists a.name) new)
           c.alternatives-atom-items.result.now c.loop-atom.atom-index c.atom-item.result c.atom-item.is
           (λ a has. has_kept u p (listed lists a.name) old new grows has) so_far.1
-          (subst (HasOf u p under) (sym is) (has_of_some u p old under)),
+          (subst (λ vs. HasOf u p vs new) others c.in_ok-add_passing.ensures.has),
     )
 
 pub returns-clause-has : goal.returns-clause-has

@@ -1,9 +1,9 @@
-use Rattle.std.proofs.Common.{◌++◌, ◌∙◌, filter, ap, sym, subst}
+use Rattle.std.proofs.Common.{◌∙◌, ap, subst}
 use Rattle.farm_model.specs.Packages.{facts}
 use Rattle.farm_universe.proofs.PlaceLaws.{named}
 use Rattle.sat_rows.specs.Index.{listed}
-use Rattle.sat_rows.specs.Found.{is_passing, field_test, GrowsBy, HasOf, HasOfField}
-use Rattle.sat_rows.proofs.FoundLaws.{grows_by_some, grows_trans, has_kept, has_of_some, finds_from_grows, all_namers}
+use Rattle.sat_rows.specs.Found.{field_test, HasOf, HasOfField}
+use Rattle.sat_rows.proofs.FoundLaws.{grows_trans, has_kept, finds_from_grows, all_namers}
 use Rattle.sat_rows.proofs.found.Found.add_naming.Goals as goal
 
 pub name_text-requires : goal.name_text-requires
@@ -21,10 +21,8 @@ returns g c =
     let new = c.add_provided.new.self in
     let under = listed lists (facts u v).name in
     let others = c.listed-own.ensures ∙ ap (listed lists) c.name_text.ensures in
-    let is =
-    c.in_ok-add_passing.ensures ∙ ap (λ vs. old ++ filter (is_passing u p) vs) others in
-    let first = subst (GrowsBy u p old) (sym is) (grows_by_some u p old under) in
-    let own = subst (HasOf u p under) (sym is) (has_of_some u p old under) in
+    let first = c.in_ok-add_passing.ensures.grows in
+    let own = subst (λ vs. HasOf u p vs mid) others c.in_ok-add_passing.ensures.has in
     let last = c.in_ok-add_provided.ensures in
     finds_from_grows u p old new (grows_trans u p old mid new first last.grows)
     (all_namers u g.F.Field.field v lists new c.requires.naming
