@@ -4,3 +4,7 @@ pub mod FactLaws
 pub mod JustifiedLaws
 pub mod EventLaws
 pub mod CheckLaws
+pub mod OrderLaws
+pub mod FaultLaws
+pub mod NewRows
+pub mod MadeLaws

@@ -5,6 +5,8 @@
 --                        its list is an order
 --   IsFirstFault         the first cause: a row, else an instruction, else an item of the list
 --   IsCertVerdict        the verdict on a certificate
+--   FaultsRefuse, FirstFaultIsOne
+--                        where there is a first fault it does not certify; there is one at most
 use Rattle.std.specs.Prelude.{◌≡◌, ℕ, ◌+◌, Result, Ok, Err}
 use Rattle.cert_text.specs.Certificates.{Certificate}
 use Rattle.cert_text.specs.declared.fault.CertFault.{CertFault}
@@ -55,3 +57,15 @@ IsCertVerdict u p c (Err (Text line)) = ⊥
 IsCertVerdict u p c (Err (Row l number)) = IsFirstFault u p c (Row l number)
 IsCertVerdict u p c (Err (Unsafe l number trap)) = IsFirstFault u p c (Unsafe l number trap)
 IsCertVerdict u p c (Err (Order item)) = IsFirstFault u p c (Order item)
+
+-- a certificate that has a first fault does not certify
+abbrev pub FaultsRefuse : Type 0
+FaultsRefuse =
+    (u : Universe) (p : Plan) (c : Certificate) (f : CertFault) → IsFirstFault u p c f
+    → ¬ Certifies u p c
+
+-- and it has no other first fault
+abbrev pub FirstFaultIsOne : Type 0
+FirstFaultIsOne =
+    (u : Universe) (p : Plan) (c : Certificate) (f g : CertFault) → IsFirstFault u p c f
+    → IsFirstFault u p c g → f ≡ g

@@ -5,3 +5,4 @@ pub mod Checked
 pub mod Events
 pub mod Broken
 pub mod Certified
+pub mod Made

@@ -5,8 +5,12 @@ mod checker;
 mod events;
 mod facts;
 mod justified;
+mod laws;
+mod maker;
 mod order;
 mod stated;
 
 pub use cert_text::{CertFault, Certificate};
 pub use checker::check_certificate;
+pub use laws::{faults_refuse, first_fault_is_one};
+pub use maker::certificate;

@@ -1,0 +1,154 @@
+-- The certificate of a plan by its greatest known rows: it has the shape of one, and certifies.
+use Rattle.std.proofs.Common.{◌≡◌, ℕ, zero, suc, ◌+◌, ◌<◌, ◌≤◌, Bool, true, false, not, ◌&&◌, ◌||◌, List, [], length, Some, All, count_by, inl, inr, refl, sym, ap, subst, ◌∙◌, arith}
+use Rattle.std.proofs.lemmas.Bool.{or_cases, or_left, cases_lt, cases_Bool, false≢true}
+use Rattle.std.proofs.lemmas.List.{get_or_past, take_all}
+use Rattle.std.proofs.lemmas.List.Elements.{All-nil}
+use Rattle.std.proofs.lemmas.Option.{slice_get_cases, slice_get_within}
+use Rattle.cert_text.specs.Certificates.{Certificate, lane_rows, learns, IsNewRow, IsCertificate}
+use Rattle.farm_model.proofs.TestLaws.{same_tests}
+use Rattle.farm_model.specs.declared.types.Variant.{Variant}
+use Rattle.farm_model.specs.Universe.{Universe}
+use Rattle.farm_model.specs.Packages.{initial}
+use Rattle.plan_model.specs.declared.instructions.Instruction.{Instruction}
+use Rattle.plan_model.specs.declared.instructions.Instruction.TheVariants.{Unpack, Configure, Deconfigure, Remove, Build, Publish, Wait}
+use Rattle.plan_model.specs.Known.{Rows, Adds, IsGreatest}
+use Rattle.plan_model.specs.Order.{IsOrder}
+use Rattle.plan_model.specs.Plan.{Plan, lane, instruction_at}
+use Rattle.plan_model.specs.Safety.{IsSafeUnder}
+use Rattle.plan_verifier.specs.Accepted.{AcceptedPlan, IsAccepted, known_rows}
+use Rattle.row_laws.proofs.Kept.{greatest_is_carried}
+use Rattle.row_laws.specs.Agreeing.{Agree}
+use Rattle.plan_cert.proofs.CheckLaws.{keeps-alike, safe-alike}
+use Rattle.plan_cert.proofs.OrderLaws.{order-in-plan}
+use Rattle.plan_cert.proofs.StatedLaws.{next-quiet, next-learns}
+use Rattle.plan_cert.specs.Certified.{Certifies}
+use Rattle.plan_cert.specs.Made.{IsCertificateOf, AreNewLanes}
+use Rattle.plan_cert.specs.Stated.{rows_before, lists, stated_rows}
+
+-- only a wait or a publish adds to what is known
+adds-learns : (u : Universe) (p : Plan) (known : Rows) (l i : ℕ) (v : Variant) (x : Instruction)
+    → learns x ≡ false → Adds u p known l i v x → ⊥
+adds-learns u p known l i v (Unpack name wanted) quiet adds = adds
+adds-learns u p known l i v (Configure members) quiet adds = adds
+adds-learns u p known l i v (Deconfigure members) quiet adds = adds
+adds-learns u p known l i v (Remove members) quiet adds = adds
+adds-learns u p known l i v (Build r) quiet adds = adds
+adds-learns u p known l i v (Publish r) quiet adds = false≢true (sym quiet)
+adds-learns u p known l i v (Wait e) quiet adds = false≢true (sym quiet)
+
+-- the initial archive, and what is known besides
+joined : (k s : Bool) → (s ≡ true → k ≡ true) → k ≡ (s || (k && not s))
+joined true true h = refl
+joined true false h = refl
+joined false true h = h refl
+joined false false h = refl
+
+module _ (u : Universe) (p : Plan) (known : Rows) (order : List ℕ) (lanes : List (List (List ℕ)))
+    (greatest : IsGreatest u p known) (safe : IsSafeUnder u p known)
+    (is_order : IsOrder u p order) (are : AreNewLanes u p known (length p) lanes) where
+  abbrev made : Certificate
+  made = record { rows = lanes; order = order }
+
+  pub made-shape : IsCertificate u p made
+  made-shape =
+      record {
+        lanes = are.long;
+        counts = λ l lt. (are.each l lt).counted
+            ∙ ap (count_by learns) (take_all (length (lane p l).instructions) (lane p l).instructions (omega arith));
+        rows = λ l. elim (cases_lt l (length p)) [
+          | inl lt ↦ (are.each l lt).new
+          | inr past ↦ subst (All (IsNewRow u))
+              (sym (get_or_past lanes l [] (omega (arith, past, are.long)))) (All-nil (IsNewRow u))
+        ];
+        order = order-in-plan u p order is_order;
+      }
+
+  pub made-exact : IsCertificateOf u p known order made
+  made-exact =
+      record {
+        greatest = greatest;
+        rows = λ l i x lt at learnt.
+            (are.each l lt).each i x (slice_get_within (lane p l).instructions i x at) at learnt;
+        order = refl;
+      }
+
+  -- what it states is what is known
+  quiet-same : (l i : ℕ) (v : Variant) (x : Instruction) → l < length p
+      → suc i ≤ length (lane p l).instructions → instruction_at p l i ≡ Some x → learns x ≡ false
+      → known l (suc i) v ≡ known l i v
+  quiet-same l i v x lt le at quiet =
+      same_tests (known l (suc i) v) (known l i v)
+      (λ e. elim (greatest.keeps.after l i x v lt at e) [
+        | inl old ↦ old
+        | inr new ↦ absurd (adds-learns u p known l i v x quiet new)
+      ])
+      ((greatest_is_carried u p known greatest).kept l i v lt le)
+
+  -- one instruction further, of its row or of none
+  next-same : (l i : ℕ) (v : Variant) (x : Instruction) → l < length p
+      → suc i ≤ length (lane p l).instructions → instruction_at p l i ≡ Some x
+      → known l i v ≡ stated_rows u p made l i v
+      → known l (suc i) v ≡ stated_rows u p made l (suc i) v
+  next-same l i v x lt le at same =
+      elim (cases_Bool (learns x)) [
+        | inl learnt ↦
+            let count : suc (rows_before p l i) ≡ rows_before p l (suc i) =
+            omega (arith, ap (rows_before p l) next, next-learns p l i x at learnt) in
+            joined (known l (suc i) v) (initial u v)
+            ((greatest_is_carried u p known greatest).initial_known l (suc i) v lt le)
+            ∙ ap (λ b. initial u v || b) (sym (made-exact.rows l i x lt at learnt v))
+            ∙ ap (λ k. initial u v || lists (lane_rows made l) k v) count
+        | inr quiet ↦
+            quiet-same l i v x lt le at quiet ∙ same
+            ∙ ap (λ k. initial u v || lists (lane_rows made l) k v)
+            (sym (ap (rows_before p l) next ∙ next-quiet p l i x at quiet))
+      ]
+    where
+      next : suc i ≡ i + 1
+      next = omega arith
+
+  stated-same : Agree p known (stated_rows u p made)
+  stated-same l zero v lt le =
+      same_tests (known l 0 v) (initial u v || false)
+      (λ e. or_left (initial u v) false (greatest.keeps.at_start l v lt e))
+      (λ e. elim (or_cases (initial u v) false e) [
+        | inl here ↦ (greatest_is_carried u p known greatest).initial_known l 0 v lt le here
+        | inr none ↦ absurd (false≢true none)
+      ])
+  stated-same l (suc i) v lt le =
+      elim (slice_get_cases (lane p l).instructions i).1 [
+        | inl there ↦
+            next-same l i v there.0 lt le there.2 (stated-same l i v lt (omega (arith, le)))
+        | inr past ↦ absurd (omega (arith, past.0, le))
+      ]
+
+  pub made-certifies : Certifies u p made
+  made-certifies =
+      record {
+        keeps = keeps-alike u p known (stated_rows u p made) stated-same greatest.keeps;
+        safe = safe-alike u p known (stated_rows u p made) stated-same safe;
+        order = is_order;
+      }
+
+-- that of an accepted plan
+module _ (a : AcceptedPlan) (is : IsAccepted a) (lanes : List (List (List ℕ)))
+    (are : AreNewLanes a.known.universe a.known.plan (known_rows a) (length a.known.plan) lanes) where
+  abbrev of : Certificate
+  of = record { rows = lanes; order = a.order }
+
+  about : AreNewLanes a.universe a.plan (known_rows a) (length a.plan) lanes
+  about =
+      subst (λ p. AreNewLanes a.universe p (known_rows a) (length p) lanes) is.about.1
+      (subst (λ u. AreNewLanes u a.known.plan (known_rows a) (length a.known.plan) lanes) is.about.0 are)
+
+  pub accepted-shape : IsCertificate a.universe a.plan of
+  accepted-shape =
+      made-shape a.universe a.plan (known_rows a) a.order lanes is.known is.safe is.order about
+
+  pub accepted-exact : IsCertificateOf a.universe a.plan (known_rows a) a.order of
+  accepted-exact =
+      made-exact a.universe a.plan (known_rows a) a.order lanes is.known is.safe is.order about
+
+  pub accepted-certifies : Certifies a.universe a.plan of
+  accepted-certifies =
+      made-certifies a.universe a.plan (known_rows a) a.order lanes is.known is.safe is.order about

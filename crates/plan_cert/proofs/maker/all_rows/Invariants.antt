@@ -1,0 +1,9 @@
+use Rattle.deb_text.specs.Lists.{lists}
+use Rattle.wait_order.specs.KnownRows.{rows_of}
+use Rattle.plan_cert.specs.Made.{AreNewLanes}
+use Rattle.plan_cert.proofs.maker.all_rows.Given as goal
+
+-- the lanes so far
+abbrev pub invariant-loop-number : goal.invariant-loop-number
+invariant-loop-number l =
+    AreNewLanes l.known.universe l.known.plan (rows_of l.known) l.number (lists l.lanes.items)

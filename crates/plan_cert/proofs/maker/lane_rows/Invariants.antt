@@ -1,0 +1,8 @@
+use Rattle.wait_order.specs.KnownRows.{rows_of}
+use Rattle.plan_cert.specs.Made.{AreNewRows}
+use Rattle.plan_cert.proofs.maker.lane_rows.Given as goal
+
+-- the rows so far
+abbrev pub invariant-loop-place : goal.invariant-loop-place
+invariant-loop-place l =
+    AreNewRows l.known.universe l.known.plan (rows_of l.known) l.number l.place l.rows.items

@@ -1,0 +1,16 @@
+use Rattle.std.proofs.Common.{sym, subst}
+use Rattle.sat_rows.specs.Rows.{IsRowOf}
+use Rattle.wait_order.specs.KnownRows.{rows_of}
+use Rattle.plan_cert.proofs.NewRows.{row-new-at}
+use Rattle.plan_cert.proofs.maker.new_row.Goals as goal
+
+pub returns-clause-exact : goal.returns-clause-exact
+returns-clause-exact c =
+    let u = c.args.known.now.universe in
+    let known = rows_of c.args.known.now in
+    let l = c.args.number in
+    let i = c.args.place in
+    row-new-at u c.args.known.now.plan known c.requires.sound c.requires.keeps l i c.requires.lane
+    c.requires.place c.in_ok-row.row c.args.archive.now c.take_out.new.self
+    (subst (IsRowOf u (known l i)) (sym c.in_ok-row.ensures.cases) c.row.ensures)
+    c.requires.archive c.take_out.ensures.set

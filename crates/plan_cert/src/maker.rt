@@ -1,0 +1,132 @@
+//! The certificate of an accepted plan.
+
+ghost use Rattle.std.specs.Prelude.{◌≡◌, ◌+◌, ◌<◌, ◌≤◌, length, IfOk, OnOk};
+ghost use Rattle.cert_text.specs.Certificates.{IsNewRow, IsCertificate};
+ghost use Rattle.deb_text.specs.Lists.{lists};
+ghost use Rattle.farm_model.specs.Packages.{initial};
+ghost use Rattle.farm_model.specs.Sound.{IsUniverse};
+ghost use Rattle.plan_model.specs.Known.{KeepsRows};
+ghost use Rattle.plan_model.specs.Plan.{lane};
+ghost use Rattle.plan_verifier.specs.Accepted.{known_rows};
+ghost use Rattle.sat_rows.specs.Rows.{IsRowOf};
+ghost use Rattle.wait_order.specs.KnownRows.{rows_of};
+ghost use Rattle.plan_cert.specs.Certified.{Certifies};
+ghost use Rattle.plan_cert.specs.Made.{IsNewAt, IsCertificateOf, AreNewRows, AreNewLanes};
+
+use crate::stated::learns;
+use bit_rows::Row;
+use cert_text::Certificate;
+use plan_asm::Plan;
+use plan_verifier::Accepted;
+use std::alloc::{AllocError, Global};
+use wait_order::{Known, initial_row};
+
+/// What a lane knows at a place, without the initial archive.
+fn new_row(known: &Known, archive: &Row, number: usize, place: usize) -> Result<Row, AllocError>
+    requires sound { IsUniverse known.now.universe }
+    requires keeps { KeepsRows known.now.universe known.now.plan (rows_of known.now) }
+    requires archive { IsRowOf known.now.universe (initial known.now.universe) archive.now }
+    requires lane { number < length known.now.plan }
+    requires place { place ≤ length (lane known.now.plan number).instructions }
+    ensures shape { IfOk result (IsNewRow known.now.universe) }
+    ensures exact { IfOk result
+        (IsNewAt known.now.universe (rows_of known.now) number place) }
+{
+    let mut row = known.row(number, place).clone()?;
+    row.take_out(archive);
+    Ok(row)
+}
+
+/// Puts the row behind the instruction at a place behind the others, where there is one.
+fn add_row(
+    plan: &Plan,
+    known: &Known,
+    archive: &Row,
+    number: usize,
+    place: usize,
+    rows: &mut Vec<Row>,
+) -> Result<(), AllocError>
+    requires sound { IsUniverse known.now.universe }
+    requires of_plan { known.now.plan ≡ plan.now.lanes }
+    requires keeps { KeepsRows known.now.universe known.now.plan (rows_of known.now) }
+    requires archive { IsRowOf known.now.universe (initial known.now.universe) archive.now }
+    requires lane { number < length known.now.plan }
+    requires place { place < length (lane known.now.plan number).instructions }
+    requires rows { AreNewRows known.now.universe known.now.plan (rows_of known.now) number place
+        rows.old.items }
+    ensures { OnOk result (AreNewRows known.now.universe known.now.plan (rows_of known.now) number
+        (place + 1) rows.new.items) }
+{
+    let instructions = plan.lane(number).instructions();
+    if !learns(&instructions[place]) {
+        return Ok(());
+    }
+    rows.push(new_row(known, archive, number, place + 1)?)?;
+    Ok(())
+}
+
+/// The rows of a lane, one behind each wait and publish.
+fn lane_rows(
+    alloc: Global,
+    plan: &Plan,
+    known: &Known,
+    archive: &Row,
+    number: usize,
+) -> Result<Vec<Row>, AllocError>
+    requires sound { IsUniverse known.now.universe }
+    requires of_plan { known.now.plan ≡ plan.now.lanes }
+    requires keeps { KeepsRows known.now.universe known.now.plan (rows_of known.now) }
+    requires archive { IsRowOf known.now.universe (initial known.now.universe) archive.now }
+    requires lane { number < length known.now.plan }
+    ensures { IfOk result (λ rows. AreNewRows known.now.universe known.now.plan
+        (rows_of known.now) number (length (lane known.now.plan number).instructions) rows.items) }
+{
+    let mut rows = Vec::new(alloc);
+    for place in 0..plan.lane(number).instructions().len() {
+        add_row(plan, known, archive, number, place, &mut rows)?;
+    }
+    Ok(rows)
+}
+
+/// The rows of each lane.
+fn all_rows(
+    alloc: Global,
+    plan: &Plan,
+    known: &Known,
+    archive: &Row,
+) -> Result<Vec<Vec<Row>>, AllocError>
+    requires sound { IsUniverse known.now.universe }
+    requires of_plan { known.now.plan ≡ plan.now.lanes }
+    requires keeps { KeepsRows known.now.universe known.now.plan (rows_of known.now) }
+    requires archive { IsRowOf known.now.universe (initial known.now.universe) archive.now }
+    ensures { IfOk result (λ lanes. AreNewLanes known.now.universe known.now.plan
+        (rows_of known.now) (length known.now.plan) (lists lanes.items)) }
+{
+    let mut lanes = Vec::new(alloc);
+    for number in 0..plan.lanes() {
+        lanes.push(lane_rows(alloc, plan, known, archive, number)?)?;
+    }
+    Ok(lanes)
+}
+
+/// Makes the certificate of an accepted plan: by lane a row behind each wait and publish, which is
+/// all that the lane knows there of the archive without the initial archive; and the order in which
+/// the plan was accepted.
+///
+/// [`check_certificate`](crate::check_certificate) does not refuse it.
+///
+/// # Errors
+///
+/// [`AllocError`] where memory is refused. Nothing is left behind.
+pub fn certificate(alloc: Global, accepted: &Accepted) -> Result<Certificate, AllocError>
+    ensures shape { IfOk result (IsCertificate accepted.now.universe accepted.now.plan) }
+    ensures exact { IfOk result (IsCertificateOf accepted.now.universe accepted.now.plan
+        (known_rows accepted.now) accepted.now.order) }
+    ensures certifies { IfOk result (Certifies accepted.now.universe accepted.now.plan) }
+{
+    accepted.keeps();
+    let archive = initial_row(alloc, accepted.universe())?;
+    let rows = all_rows(alloc, accepted.plan(), accepted.known(), &archive)?;
+    let order = Vec::from_slice(alloc, accepted.order())?;
+    Ok(Certificate::new(rows, order))
+}
