@@ -13,6 +13,9 @@ use farm_universe::{Universe, Variant};
 use std::alloc::{AllocError, Global};
 use std::marker::Model;
 
+/// How many lists there are for each name of a universe, so that few have those of several names.
+const LISTS: usize = 8;
+
 /// The variants of one list.
 #[derive(Debug, Drop)]
 struct VariantList {
@@ -87,7 +90,7 @@ impl Index {
     {
         let mut lists = Vec::new(alloc);
         lists.push(VariantList::new(alloc))?;
-        for _ in 0..names as usize * 2 {
+        for _ in 0..names as usize * LISTS {
             lists.push(VariantList::new(alloc))?;
         }
         Ok(Index { lists })
