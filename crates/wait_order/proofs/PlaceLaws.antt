@@ -7,11 +7,12 @@ use Rattle.farm_model.specs.Universe.{Universe}
 use Rattle.farm_model.specs.Packages.{variant, variants}
 use Rattle.plan_model.specs.declared.instructions.Instruction.{Instruction}
 use Rattle.plan_model.specs.declared.instructions.Instruction.TheVariants.{Unpack, Configure, Deconfigure, Remove, Build, Publish, Wait}
+use Rattle.plan_model.specs.Known.{teaches}
 use Rattle.plan_model.specs.Plan.{Plan, lane, instruction_at, outputs_of}
 use Rattle.sat_rows.specs.Rows.{IsRowOf}
 use Rattle.wait_order.specs.Columns.{counts_of}
 use Rattle.wait_order.specs.KnownRows.{IsRowIn, AreKept}
-use Rattle.wait_order.specs.PlaceRows.{known_rows, teaches, IsLastRow, IsExtended, AreRowNumbers, ArePlaces}
+use Rattle.wait_order.specs.PlaceRows.{known_rows, IsLastRow, IsExtended, AreRowNumbers, ArePlaces}
 use Rattle.wait_order.specs.Waits.{one_wait}
 use Rattle.wait_order.proofs.RowSteps.{clock-quiet}
 
@@ -172,7 +173,7 @@ numbers_next u test i numbers more_numbers rows more m items e so_far ext is =
     there_at : (k : ℕ) → k ≤ i → slice_index (numbers ++ m ∷ []) k ≡ slice_index numbers k
     there_at k le = get_or_append_left numbers (m ∷ []) 0 k (omega (arith, le, so_far.long))
 
-numbers_kept : (u : Universe) (test : ℕ → Variant → Bool) (i : ℕ) (numbers : List ℕ)
+pub numbers_kept : (u : Universe) (test : ℕ → Variant → Bool) (i : ℕ) (numbers : List ℕ)
     (rows more : List (List ℕ)) → IsExtended u rows more → AreRowNumbers u test i numbers rows
     → AreRowNumbers u test i numbers more
 numbers_kept u test i numbers rows more ext is =

@@ -7,11 +7,9 @@
 --   IsExtended                more rows behind the same
 --   AreRowNumbers             the numbers of the rows of a lane's places
 --   ArePlaces                 those of the lanes below n
-use Rattle.std.specs.Prelude.{◌≡◌, ℕ, suc, ◌<◌, ◌≤◌, Bool, true, false, List, [], length, Option, slice_index, slice_index_or, All}
+use Rattle.std.specs.Prelude.{◌≡◌, ℕ, suc, ◌<◌, ◌≤◌, Bool, List, [], length, Option, slice_index, slice_index_or, All}
 use Rattle.farm_model.specs.declared.types.Variant.{Variant}
 use Rattle.farm_model.specs.Universe.{Universe}
-use Rattle.plan_model.specs.declared.instructions.Instruction.{Instruction}
-use Rattle.plan_model.specs.declared.instructions.Instruction.TheVariants.{Publish, Wait}
 use Rattle.plan_model.specs.Plan.{Plan, lane}
 use Rattle.plan_model.specs.Known.{Rows}
 use Rattle.clock_laws.specs.Clocks.{clock_rows}
@@ -24,12 +22,6 @@ use Rattle.wait_order.specs.Waits.{clock_of}
 -- what the columns tell at each place
 abbrev pub known_rows : Universe → Plan → List (List ℕ) → Rows
 known_rows u p columns = clock_rows u p (clock_of u p (counts_of columns))
-
--- an instruction that may change what its lane knows
-abbrev pub teaches : Instruction → Bool
-teaches (Wait e) = true
-teaches (Publish r) = true
-teaches _ = false
 
 -- of the lanes below n, other than l, as many outputs are known at two waits
 abbrev pub AreSameCounts : List (List ℕ) → ℕ → Option ℕ → Option ℕ → ℕ → Type 0

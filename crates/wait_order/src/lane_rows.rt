@@ -10,7 +10,6 @@ ghost use Rattle.wait_order.specs.Marks.{all_marks, AreLanes};
 ghost use Rattle.wait_order.specs.Waits.{last_wait, ArePoints};
 ghost use Rattle.wait_order.specs.Column.{of_list, count_at, IsIn};
 ghost use Rattle.wait_order.specs.Columns.{AreColumns};
-ghost use Rattle.wait_order.specs.PlaceRows as spec;
 ghost use Rattle.wait_order.specs.PlaceRows.{known_rows, IsLastRow, IsExtended, AreRowNumbers, AreSameCounts};
 
 use crate::clock_row::{clock_row, later_row};
@@ -22,20 +21,6 @@ use bit_rows::Row;
 use farm_universe::Universe;
 use plan_asm::{Instruction, Plan};
 use std::alloc::{AllocError, Global};
-
-/// Tells whether an instruction may change what its lane knows.
-fn teaches(instruction: &Instruction) -> bool
-    ensures { result ≡ spec.teaches instruction.now }
-{
-    match instruction {
-        Instruction::Wait(_) | Instruction::Publish(_) => true,
-        Instruction::Unpack { .. }
-        | Instruction::Configure(_)
-        | Instruction::Deconfigure(_)
-        | Instruction::Remove(_)
-        | Instruction::Build(_) => false,
-    }
-}
 
 /// Puts the row of a place behind the others.
 fn push_row(
@@ -211,7 +196,7 @@ fn renew(
     ensures row { OnOk result (IsLastRow universe.now
         (known_rows universe.now plan.now.lanes columns.now number next) rows.new.items) }
 {
-    if !teaches(instruction) {
+    if !instruction.teaches() {
         return Ok(());
     }
     if is_same_clock(
