@@ -10,8 +10,8 @@ ghost use Rattle.std.specs.Prelude.{◌≡◌};
 use crate::answer::spelled;
 use crate::plain::first_difference;
 use crate::question::row_asked;
-use deb_text::read_number;
-use farm_input::texts_of;
+use deb_text::{Fault, read_number};
+use farm_input::{Texts, texts_of};
 use farm_universe::Universe;
 use sat_rows::Tables;
 use std::alloc::{AllocError, Global};
@@ -28,19 +28,64 @@ pub fn tell_file<W: Write>(
     text: &[u8],
 ) -> io::Result<()> {
     let texts = texts_of(text);
-    let universe = match Universe::read(rt.alloc(), texts.packages, texts.sources, texts.farm) {
-        Ok(universe) => universe,
-        Err(fault) => return writeln!(out, "{file}: {fault}"),
-    };
-    let tables = Tables::build(rt, rt.alloc(), &universe)?;
-    for (place, line) in texts.plan.split(|b| *b == b'\n').enumerate() {
-        if !matches!(line, [] | [b'#', ..]) {
+    match read_farm(rt.alloc(), &texts) {
+        Ok(universe) => tell_farm(rt, out, &universe, file, texts.plan),
+        Err(fault) => writeln!(out, "{file}: {fault}"),
+    }
+}
+
+fn read_farm(alloc: Global, texts: &Texts<'_>) -> Result<Universe, Fault> {
+    Universe::read(alloc, texts.packages, texts.sources, texts.farm)
+}
+
+fn tell_farm<W: Write>(
+    rt: &(impl Threads + Sync + AllocGlobal + Clock),
+    out: &mut W,
+    universe: &Universe,
+    file: &str,
+    cases: &[u8],
+) -> io::Result<()> {
+    let tables = Tables::build(rt, rt.alloc(), universe)?;
+    tell_cases(rt, out, universe, &tables, file, cases)
+}
+
+/// Tells of each case whether its answer is the wanted one.
+fn tell_cases<W: Write>(
+    rt: &(impl Threads + Sync + AllocGlobal + Clock),
+    out: &mut W,
+    universe: &Universe,
+    tables: &Tables,
+    file: &str,
+    cases: &[u8],
+) -> io::Result<()>
+    requires { tables.now ≡ universe.now }
+{
+    for (place, line) in cases.split(|b| *b == b'\n').enumerate() {
+        if !is_skipped(line) {
             write!(out, "{file}:{}: ", place + 1)?;
-            let columns: Vec<&[u8]> = line.split(|b| *b == b'\t').collect(rt.alloc())?;
-            tell_case(rt, out, &universe, &tables, &columns)?;
+            tell_line(rt, out, universe, tables, line)?;
         }
     }
     Ok(())
+}
+
+/// Tells whether a line is empty or a comment.
+fn is_skipped(line: &[u8]) -> bool {
+    matches!(line, [] | [b'#', ..])
+}
+
+/// Tells of the case of a line.
+fn tell_line<W: Write>(
+    rt: &(impl Threads + Sync + AllocGlobal + Clock),
+    out: &mut W,
+    universe: &Universe,
+    tables: &Tables,
+    line: &[u8],
+) -> io::Result<()>
+    requires { tables.now ≡ universe.now }
+{
+    let columns: Vec<&[u8]> = line.split(|b| *b == b'\t').collect(rt.alloc())?;
+    tell_case(rt, out, universe, tables, &columns)
 }
 
 /// Builds the tables some times, and tells the least time that it took, in nanoseconds.
