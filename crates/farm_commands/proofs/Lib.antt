@@ -1,2 +1,3 @@
 pub mod AnswerLaws
+pub mod CertLaws
 pub mod ReadLaws

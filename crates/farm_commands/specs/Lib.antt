@@ -1,4 +1,5 @@
 pub mod Answers
+pub mod CertAnswers
 pub mod Requests
 pub mod Runs
 pub mod View

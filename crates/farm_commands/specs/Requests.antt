@@ -6,8 +6,9 @@ use Rattle.std.specs.Prelude.{◌≡◌, ◌≤◌, ℕ, List, length, take, Opt
 use Rattle.farm_input.specs.Input.{Texts, texts_in}
 use Rattle.farm_words.specs.declared.request.Paths.{Paths}
 use Rattle.farm_words.specs.declared.request.Request.{Request}
-use Rattle.farm_words.specs.declared.request.Request.TheVariants.{CheckInput, Check, List as ListPlan, Step}
+use Rattle.farm_words.specs.declared.request.Request.TheVariants.{CheckInput, Check, List as ListPlan, VerifyCert, Step}
 use Rattle.farm_commands.specs.Answers.{AnswersCheck, AnswersList, AnswersStep}
+use Rattle.farm_commands.specs.CertAnswers.{AnswersVerifyCert}
 use Rattle.farm_commands.specs.declared.source.TheConstants.{MOST_FILE, MOST_INPUT}
 
 -- a text is the first bytes of a file, where these are known
@@ -36,11 +37,19 @@ abbrev pub OnFiles : (List ℕ → Option (List ℕ)) → Paths → (Texts → L
 OnFiles held paths Answers text status =
     (texts : Texts) × AreRead held paths texts × Answers texts text status
 
+-- what is answered to the texts of these files, and to the certificate in one more
+abbrev pub OnFilesAndCert : (List ℕ → Option (List ℕ)) → Paths → List ℕ → List ℕ → ℕ → Type 0
+OnFilesAndCert held paths name text status =
+    (cert : List ℕ) × IsRead (held name) cert
+    × OnFiles held paths (AnswersVerifyCert cert) text status
+
 -- what is answered, by the bytes that files and standard input are known to have
 abbrev pub AnswersRequest : (List ℕ → Option (List ℕ)) → Option (List ℕ) → Request → List ℕ → ℕ
     → Type 0
 AnswersRequest held given CheckInput text status = OnInput given text status
 AnswersRequest held given (Check paths) text status = OnFiles held paths AnswersCheck text status
 AnswersRequest held given (ListPlan paths) text status = OnFiles held paths AnswersList text status
+AnswersRequest held given (VerifyCert cert paths) text status =
+    OnFilesAndCert held paths cert.now text status
 AnswersRequest held given (Step schedule paths) text status =
     OnFiles held paths (AnswersStep schedule.items) text status

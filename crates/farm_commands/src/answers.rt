@@ -21,7 +21,8 @@ use report_sink::{Sink, write_text};
 use std::alloc::Global;
 use std::thread::Threads;
 
-fn status_of(fine: bool) -> u8
+/// The status of an answer that is fine, or a refusal.
+pub fn status_of(fine: bool) -> u8
     ensures { result ≡ spec.status_of fine }
 {
     if fine { FINE } else { REFUSED }
@@ -36,7 +37,12 @@ fn write_answer<'a, S: Sink>(out: &mut S, text: &[u8], status: u8) -> Result<u8,
 }
 
 /// Answers with a verdict. Want of memory is none.
-fn answer_verdict<'a, S: Sink>(
+///
+/// # Errors
+///
+/// [`OutsideFault::OutOfMemory`] where the verdict is want of memory, and nothing is written then;
+/// and [`OutsideFault::WriteFailed`] where the sink fails, with a first part of the answer.
+pub fn answer_verdict<'a, S: Sink>(
     verdict: Result<Accepted, Refusal>,
     out: &mut S,
 ) -> Result<u8, OutsideFault<'a>>

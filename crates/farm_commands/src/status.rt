@@ -1,9 +1,9 @@
 //! The statuses of the program.
 
-/// The texts were accepted or listed, the schedule met no trap, or help was shown.
+/// The texts were accepted, listed or certified, the schedule met no trap, or help was shown.
 pub const FINE: u8 = 0;
 
-/// The texts or the plan were refused, or the schedule met a trap.
+/// The texts, the plan or its certificate were refused, or the schedule met a trap.
 pub const REFUSED: u8 = 1;
 
 /// The words are wrong, or the schedule is none.

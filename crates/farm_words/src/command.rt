@@ -10,6 +10,8 @@ pub const CHECK: &str = "check";
 
 pub const LIST: &str = "list";
 
+pub const VERIFY_CERT: &str = "verify-cert";
+
 pub const STEP: &str = "step";
 
 pub const PACKAGES: &str = "packages";
@@ -19,6 +21,8 @@ pub const SOURCES: &str = "sources";
 pub const FARM: &str = "farm";
 
 pub const PLAN: &str = "plan";
+
+pub const CERTIFICATE: &str = "certificate";
 
 pub const SCHEDULE: &str = "schedule";
 
@@ -59,6 +63,12 @@ fn on_files<'a>(
 pub fn portfarm<'a>(alloc: Global) -> Result<Command<'a>, AllocError> {
     let check = on_files(alloc, CHECK, help::CHECK, help::CHECK_MORE)?;
     let list = on_files(alloc, LIST, help::LIST, help::LIST_MORE)?;
+    let verify = on_files(
+        alloc,
+        VERIFY_CERT,
+        help::VERIFY_CERT,
+        help::VERIFY_CERT_MORE,
+    )?;
     let step = on_files(alloc, STEP, help::STEP, help::STEP_MORE)?;
     Command::new(alloc, PORTFARM)
         .bin_name(PORTFARM)?
@@ -71,5 +81,6 @@ pub fn portfarm<'a>(alloc: Global) -> Result<Command<'a>, AllocError> {
         .disable_help_subcommand(true)
         .subcommand(check)?
         .subcommand(list)?
+        .subcommand(verify.arg(file(alloc, CERTIFICATE, "CERT", help::CERTIFICATE))?)?
         .subcommand(step.arg(schedule(alloc))?)
 }

@@ -15,7 +15,7 @@ Example:
   portfarm check packages sources farm plan
 
 Status:
-  0  accepted, listed, stepped without a trap, or help shown
+  0  accepted, listed, certified, stepped without a trap, or help shown
   1  refused or trapped: the answer tells where and why
   2  wrong words, or a schedule that is none
   3  a file cannot be read, memory ran out, or the answer cannot be written";
@@ -46,6 +46,24 @@ Example:
 
 Status: 0 listed, 1 refused, 2 wrong words, 3 nothing could be answered";
 
+pub const VERIFY_CERT: &str = "\
+Tells whether a certificate shows that the plan is safe, whoever made it";
+
+pub const VERIFY_CERT_MORE: &str = "\
+A certificate says what each lane knows of the archive behind each of its waits and publishes, and an
+order in which all of them can be made. It is checked by itself, and what it says is not trusted. The
+answer is `certified`: the plan is then safe in whatever order its lanes take turns. Or it is one line
+with the first fault: `refused 451 line 3` for a text that is no certificate of this plan,
+`refused 452 lane b instruction 5` where a lane need not know what it says,
+`refused 453 lane b instruction 2 X1 Missing` for an instruction that may trap as far as it tells, or
+`refused 454 item 2` for an item of its order that cannot be made. Where another text cannot be read,
+the answer is its first fault, as `refused 303 plan line 2`.
+
+Example:
+  portfarm verify-cert packages sources farm plan cert
+
+Status: 0 certified, 1 refused, 2 wrong words, 3 nothing could be answered";
+
 pub const STEP: &str = "\
 Lets lanes take turns in a given order, and shows what has come of it";
 
@@ -69,5 +87,7 @@ pub const SOURCES: &str = "Sources index: what each source package needs to be b
 pub const FARM: &str = "The farm: its architecture, its archive, recipes of builds, and chroots";
 
 pub const PLAN: &str = "The plan: lanes of instructions, and blocks that they use";
+
+pub const CERTIFICATE: &str = "The certificate of the plan";
 
 pub const SCHEDULE: &str = "Lanes in the order of their turns, as 0,0,1: 0 is the first lane";

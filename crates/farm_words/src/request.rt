@@ -2,7 +2,9 @@
 
 ghost use Rattle.std.specs.Prelude.{◌≡◌, IsOkAnd, length};
 
-use crate::command::{CHECK, FARM, LIST, PACKAGES, PLAN, SCHEDULE, SOURCES, STEP, portfarm};
+use crate::command::{
+    CERTIFICATE, CHECK, FARM, LIST, PACKAGES, PLAN, SCHEDULE, SOURCES, STEP, VERIFY_CERT, portfarm,
+};
 use crate::schedule::{ScheduleFault, read_schedule};
 use clap::error::ErrorKind;
 use clap::{ArgMatches, Error};
@@ -27,6 +29,11 @@ pub enum Request<'a> {
     Check(Paths<'a>),
     /// The listing of a plan.
     List(Paths<'a>),
+    /// The verdict on the certificate of a plan, which stands in a file too.
+    VerifyCert {
+        cert: &'a str,
+        paths: Paths<'a>,
+    },
     /// What a schedule of lanes comes to.
     Step {
         schedule: Vec<u32>,
@@ -101,6 +108,10 @@ fn request_of<'a>(
     match command {
         CHECK => Ok(Request::Check(paths)),
         LIST => Ok(Request::List(paths)),
+        VERIFY_CERT => Ok(Request::VerifyCert {
+            cert: word_of(matches, CERTIFICATE),
+            paths,
+        }),
         STEP => {
             let list = word_of(matches, SCHEDULE);
             let schedule = read_schedule(alloc, list.as_bytes())?;

@@ -1,0 +1,17 @@
+use Rattle.std.proofs.Common.{subst, sym}
+use Rattle.std.proofs.lemmas.Result.{err_from_is_err_and}
+use Rattle.farm_commands.specs.CertAnswers.{IsTextVerdict}
+use Rattle.farm_commands.proofs.CertLaws.{not_read}
+use Rattle.farm_commands.proofs.certificates.check_text.Goals as goal
+
+pub returns-in_err-read : goal.returns-in_err-read
+returns-in_err-read g c =
+    let e = err_from_is_err_and c.from_residual.result c.from_residual.ensures.1 in
+    rw (e.1, e.2) (not_read _ _ _ _ c.in_err-read.ensures)
+
+pub returns : goal.returns
+returns g c =
+    let planned = c.args.planned.now in
+    subst (λ of. IsTextVerdict planned.universe planned.plan.lanes of c.check_certificate.result)
+    (sym c.in_ok-certificate.ensures.certificate)
+    c.check_certificate.ensures.verdict

@@ -1,0 +1,25 @@
+use Rattle.std.proofs.Common.{subst}
+use Rattle.farm_commands.specs.CertAnswers.{AnswersVerifyCert}
+use Rattle.farm_commands.specs.Requests.{OnFilesAndCert}
+use Rattle.farm_commands.specs.View.{texts_in_files}
+use Rattle.farm_commands.proofs.AnswerLaws.{answered-by}
+use Rattle.farm_commands.proofs.request.verify_files.Goals as goal
+use Rattle.farm_input.specs.View.{texts_view}
+
+pub returns : goal.returns
+returns g c =
+    answered-by (AnswersVerifyCert c.deref.result.now (texts_view c.texts.result))
+    (OnFilesAndCert (g.F.Source.held c.args.source.now) c.args.paths c.args.cert.now) _ _ _
+    (λ text status is. (
+      c.in_ok-read.read.items,
+      c.in_ok-read.ensures.bytes,
+      (
+        texts_in_files c.in_ok-files.files,
+        c.in_ok-files.ensures.read,
+        subst (λ bytes. AnswersVerifyCert bytes (texts_in_files c.in_ok-files.files) text status)
+            c.deref.ensures.value
+            (subst (λ texts. AnswersVerifyCert c.deref.result.now texts text status)
+            c.texts.ensures is),
+      ),
+    ))
+    c.answer_verify_cert.ensures
