@@ -1,0 +1,97 @@
+//! The answers to the questions of cases.
+
+use crate::machine::{Parts, parts_of};
+use crate::outputs::{Failure, Manner};
+use crate::runs::{Run, push_cut, push_heads, push_run, run_on, words_of};
+use case_files::Case;
+use deb_text::cut_at_first;
+use std::alloc::{AllocError, Global};
+use std::thread::Threads;
+
+/// What words come to where outputs take bytes in these manners.
+fn run_text(
+    rt: &(impl Threads + Sync),
+    alloc: Global,
+    parts: &Parts,
+    words: &[&str],
+    output: Manner,
+    errors: Manner,
+) -> Result<Vec<u8>, AllocError> {
+    let mut text = Vec::new(alloc);
+    push_run(&mut text, &run_on(rt, alloc, parts, words, output, errors))?;
+    Ok(text)
+}
+
+/// The status, and the first line of each output.
+fn heads_text(
+    rt: &(impl Threads + Sync),
+    alloc: Global,
+    parts: &Parts,
+    words: &[&str],
+) -> Result<Vec<u8>, AllocError> {
+    let mut text = Vec::new(alloc);
+    let run = run_on(rt, alloc, parts, words, Manner::WHOLE, Manner::WHOLE);
+    push_heads(&mut text, &run)?;
+    Ok(text)
+}
+
+/// What one run after another comes to, each once where it comes again: with an output that fails
+/// from its first write on, then from its second, and so on up to one that fails in none.
+fn stops_text(
+    rt: &(impl Threads + Sync),
+    alloc: Global,
+    parts: &Parts,
+    words: &[&str],
+    failure: Failure,
+) -> Result<Vec<u8>, AllocError> {
+    let whole = run_on(rt, alloc, parts, words, Manner::WHOLE, Manner::WHOLE);
+    let mut text = Vec::new(alloc);
+    let mut last = Vec::new(alloc);
+    for writes in 0..u64::MAX {
+        let manner = Manner::stops_after(writes, failure);
+        let run = run_on(rt, alloc, parts, words, manner, Manner::WHOLE);
+        if !run.is_cut {
+            push_run(&mut text, &run)?;
+            return Ok(text);
+        }
+        let cut = cut_text(alloc, &run, &whole.output)?;
+        if cut != last {
+            text.extend_from_slice(&cut)?;
+            last = cut;
+        }
+    }
+    Ok(text)
+}
+
+fn cut_text(alloc: Global, run: &Run, whole: &[u8]) -> Result<Vec<u8>, AllocError> {
+    let mut text = Vec::new(alloc);
+    push_cut(&mut text, run, whole)?;
+    Ok(text)
+}
+
+/// Answers the question of a case; where it is not known, by a line that says so.
+///
+/// # Errors
+///
+/// [`AllocError`] where memory is refused.
+pub fn answer_to(
+    rt: &(impl Threads + Sync),
+    alloc: Global,
+    case: &Case,
+) -> Result<Vec<u8>, AllocError> {
+    let parts = &parts_of(alloc, &case.input)?;
+    let (question, words) = cut_at_first(b' ', case.question).unwrap_or((case.question, b""));
+    let words = &words_of(alloc, words)?;
+    match question {
+        b"run" => run_text(rt, alloc, parts, words, Manner::WHOLE, Manner::WHOLE),
+        b"narrow" => run_text(rt, alloc, parts, words, Manner::NARROW, Manner::NARROW),
+        b"mute" => {
+            let mute = Manner::stops_after(0, Failure::Error);
+            run_text(rt, alloc, parts, words, Manner::WHOLE, mute)
+        }
+        b"heads" => heads_text(rt, alloc, parts, words),
+        b"failing" => stops_text(rt, alloc, parts, words, Failure::Error),
+        b"stuck" => stops_text(rt, alloc, parts, words, Failure::Nothing),
+        _ => Vec::from_slice(alloc, b"no such question\n"),
+    }
+}
