@@ -1,25 +1,55 @@
 -- What the commands on certificates answer: a text and a status. The project's own rules.
 -- Parameters: u a universe, p a plan.
 --
+--   AnswersCert           that this text and this status are what `cert` answers
 --   IsTextVerdict         the verdict on the text of a certificate
 --   AnswersVerifyCert     that this text and this status are what `verify-cert` answers
 use Rattle.std.specs.Prelude.{◌≡◌, ◌≢◌, ℕ, List, Result, Ok, Err}
 use Rattle.std.specs.Result.{is_ok}
-use Rattle.cert_text.specs.Certificates.{Certificate}
+use Rattle.cert_text.specs.Certificates.{Certificate, IsCertificate}
 use Rattle.cert_text.specs.CertText.{certificate_of}
 use Rattle.cert_text.specs.declared.fault.CertFault.{CertFault}
 use Rattle.cert_text.specs.declared.fault.CertFault.TheVariants.{Memory}
 use Rattle.cert_text.specs.Faults.{refusal_of}
+use Rattle.cert_text.specs.Printed.{certificate_text}
 use Rattle.deb_text.specs.Answers.{Gives}
 use Rattle.deb_text.specs.declared.fault.Fault.{Fault}
 use Rattle.farm_input.specs.Input.{Texts}
 use Rattle.farm_model.specs.Universe.{Universe}
 use Rattle.farm_report.specs.CertText.{cert_text}
-use Rattle.plan_cert.specs.Certified.{IsCertVerdict}
+use Rattle.plan_cert.specs.Certified.{Certifies, IsCertVerdict}
+use Rattle.plan_cert.specs.Made.{IsCertificateOf}
 use Rattle.plan_model.specs.Plan.{Plan}
+use Rattle.plan_verifier.specs.Accepted.{AcceptedPlan, known_rows}
+use Rattle.plan_verifier.specs.declared.refusal.Refusal.{Refusal}
 use Rattle.plan_verifier.specs.declared.refusal.Refusal.TheVariants.{Text}
 use Rattle.plan_verifier.specs.Texts.{FarmPlan}
-use Rattle.farm_commands.specs.Answers.{TellsVerdict, planned_in, status_of}
+use Rattle.plan_verifier.specs.Verdict.{IsVerdict}
+use Rattle.farm_commands.specs.Answers.{AnswersVerdict, TellsVerdict, planned_in, status_of}
+use Rattle.farm_commands.specs.declared.status.TheConstants.{FINE}
+
+-- Of an accepted plan, the text of a certificate:
+pub record ShowsCert (a : AcceptedPlan) (text : List ℕ) (status : ℕ) : Type 0 where
+  pub certificate : Certificate
+  -- it has the rows and the lanes of the plan;
+  pub shape : IsCertificate a.universe a.plan certificate
+  -- its rows are what the lanes know, and its list is the order of the verdict;
+  pub made : IsCertificateOf a.universe a.plan (known_rows a) a.order certificate
+  -- it passes its check.
+  pub certifies : Certifies a.universe a.plan certificate
+  pub text_is : text ≡ certificate_text a.universe a.plan certificate
+  pub status_is : status ≡ FINE
+
+-- the certificate of an accepted plan, or the refusal
+abbrev pub Prints : Result AcceptedPlan Refusal → List ℕ → ℕ → Type 0
+Prints (Ok a) text status = ShowsCert a text status
+Prints (Err refusal) text status = AnswersVerdict (Err refusal) text status
+
+-- `cert`
+abbrev pub AnswersCert : Texts → List ℕ → ℕ → Type 0
+AnswersCert texts text status =
+    (verdict : Result AcceptedPlan Refusal) × IsVerdict (planned_in texts) verdict
+    × Prints verdict text status
 
 -- the verdict on the certificate that a text is, or the fault of a text that is none, unless memory
 -- ran out

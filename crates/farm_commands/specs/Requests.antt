@@ -6,9 +6,9 @@ use Rattle.std.specs.Prelude.{◌≡◌, ◌≤◌, ℕ, List, length, take, Opt
 use Rattle.farm_input.specs.Input.{Texts, texts_in}
 use Rattle.farm_words.specs.declared.request.Paths.{Paths}
 use Rattle.farm_words.specs.declared.request.Request.{Request}
-use Rattle.farm_words.specs.declared.request.Request.TheVariants.{CheckInput, Check, List as ListPlan, VerifyCert, Step}
+use Rattle.farm_words.specs.declared.request.Request.TheVariants.{CheckInput, Check, List as ListPlan, Cert, VerifyCert, Step}
 use Rattle.farm_commands.specs.Answers.{AnswersCheck, AnswersList, AnswersStep}
-use Rattle.farm_commands.specs.CertAnswers.{AnswersVerifyCert}
+use Rattle.farm_commands.specs.CertAnswers.{AnswersCert, AnswersVerifyCert}
 use Rattle.farm_commands.specs.declared.source.TheConstants.{MOST_FILE, MOST_INPUT}
 
 -- a text is the first bytes of a file, where these are known
@@ -49,6 +49,7 @@ abbrev pub AnswersRequest : (List ℕ → Option (List ℕ)) → Option (List �
 AnswersRequest held given CheckInput text status = OnInput given text status
 AnswersRequest held given (Check paths) text status = OnFiles held paths AnswersCheck text status
 AnswersRequest held given (ListPlan paths) text status = OnFiles held paths AnswersList text status
+AnswersRequest held given (Cert paths) text status = OnFiles held paths AnswersCert text status
 AnswersRequest held given (VerifyCert cert paths) text status =
     OnFilesAndCert held paths cert.now text status
 AnswersRequest held given (Step schedule paths) text status =

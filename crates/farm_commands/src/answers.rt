@@ -29,7 +29,15 @@ pub fn status_of(fine: bool) -> u8
 }
 
 /// Writes an answer, and gives its status.
-fn write_answer<'a, S: Sink>(out: &mut S, text: &[u8], status: u8) -> Result<u8, OutsideFault<'a>>
+///
+/// # Errors
+///
+/// [`OutsideFault::WriteFailed`] where the sink fails, with a first part of the answer.
+pub fn write_answer<'a, S: Sink>(
+    out: &mut S,
+    text: &[u8],
+    status: u8,
+) -> Result<u8, OutsideFault<'a>>
     ensures { IsAnswered (IsJust text.now status) (S.state out.old) (S.state out.new) result }
 {
     write_text(out, text)?;

@@ -2,21 +2,66 @@
 
 ghost use Rattle.cert_text.specs.CertText.{certificate_of};
 ghost use Rattle.farm_commands.specs.Answers.{IsAnswered};
-ghost use Rattle.farm_commands.specs.CertAnswers.{AnswersVerifyCert, IsTextVerdict, TellsCert};
+ghost use Rattle.farm_commands.specs.CertAnswers.{AnswersCert, AnswersVerifyCert, IsTextVerdict, ShowsCert, TellsCert};
 ghost use Rattle.farm_input.specs.View.{texts_view};
 ghost use Rattle.plan_model.specs.Sound.{IsSound};
 
-use crate::answers::{answer_verdict, status_of};
+use crate::answers::{answer_verdict, status_of, write_answer};
 use crate::fault::OutsideFault;
-use cert_text::{CertFault, read};
+use crate::status::FINE;
+use cert_text::{CertFault, print, read};
 use farm_input::Texts;
 use farm_report::write_cert_verdict;
 use plan_asm::Plan;
-use plan_cert::check_certificate;
-use plan_verifier::{Planned, Refusal, read_texts};
+use plan_cert::{certificate, check_certificate};
+use plan_verifier::{Accepted, Planned, Refusal, check, read_texts};
 use report_sink::Sink;
 use std::alloc::Global;
 use std::thread::Threads;
+
+/// Answers with the certificate of an accepted plan.
+fn answer_accepted<'a, S: Sink>(
+    alloc: Global,
+    accepted: &Accepted,
+    out: &mut S,
+) -> Result<u8, OutsideFault<'a>>
+    ensures { IsAnswered (ShowsCert accepted.now) (S.state out.old) (S.state out.new) result }
+{
+    let made = certificate(alloc, accepted)?;
+    let text = print(alloc, accepted.universe(), accepted.plan(), &made)?;
+    write_answer(out, &text, FINE)
+}
+
+/// Answers with a certificate of the plan that four texts stand for where it is accepted, else with
+/// the refusal, and gives the status. The certificate of a plan at the limits may be longer than a
+/// text that is read may be.
+///
+/// # Errors
+///
+/// [`OutsideFault::OutOfMemory`] where memory is refused, and nothing is written then; and
+/// [`OutsideFault::WriteFailed`] where the sink fails, with a first part of the answer.
+pub fn answer_cert<'a, S: Sink>(
+    rt: &(impl Threads + Sync),
+    alloc: Global,
+    texts: Texts<'_>,
+    out: &mut S,
+) -> Result<u8, OutsideFault<'a>>
+    ensures { IsAnswered (AnswersCert (texts_view texts.entry)) (S.state out.old)
+        (S.state out.new) result }
+{
+    let verdict = check(
+        rt,
+        alloc,
+        texts.packages,
+        texts.sources,
+        texts.farm,
+        texts.plan,
+    );
+    match verdict {
+        Ok(accepted) => answer_accepted(alloc, &accepted, out),
+        Err(refusal) => answer_verdict(Err(refusal), out),
+    }
+}
 
 /// Reads the certificate of a plan, and checks it.
 ///

@@ -10,7 +10,7 @@ mod source;
 mod status;
 
 pub use answers::{answer_check, answer_list, answer_step};
-pub use certificates::answer_verify_cert;
+pub use certificates::{answer_cert, answer_verify_cert};
 pub use fault::OutsideFault;
 pub use request::answer_request;
 pub use run::run_words;

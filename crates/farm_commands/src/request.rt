@@ -2,12 +2,13 @@
 
 ghost use Rattle.std.specs.Prelude.{IfErr, IfOk, ◌≡◌, ◌≢◌};
 ghost use Rattle.farm_commands.specs.Answers.{AnswersCheck, AnswersList, AnswersStep, IsAnswered};
+ghost use Rattle.farm_commands.specs.CertAnswers.{AnswersCert};
 ghost use Rattle.farm_input.specs.View.{texts_view};
 ghost use Rattle.farm_commands.specs.Requests.{AnswersRequest, AreRead, OnFiles, OnFilesAndCert, OnInput};
 ghost use Rattle.farm_commands.specs.View.{texts_in_files};
 
 use crate::answers::{answer_check, answer_list, answer_step};
-use crate::certificates::answer_verify_cert;
+use crate::certificates::{answer_cert, answer_verify_cert};
 use crate::fault::OutsideFault;
 use crate::source::{Source, read_file, read_input};
 use farm_input::{Texts, texts_of};
@@ -98,6 +99,21 @@ fn list_files<'a, F: Source, S: Sink>(
     answer_list(alloc, files.texts(), out)
 }
 
+/// The certificate of the plan of files.
+fn cert_files<'a, F: Source, S: Sink>(
+    rt: &(impl Threads + Sync),
+    alloc: Global,
+    source: &F,
+    paths: Paths<'a>,
+    out: &mut S,
+) -> Result<u8, OutsideFault<'a>>
+    ensures { IsAnswered (OnFiles (F.held source.now) paths.entry AnswersCert)
+        (S.state out.old) (S.state out.new) result }
+{
+    let files = read_files(alloc, source, paths)?;
+    answer_cert(rt, alloc, files.texts(), out)
+}
+
 /// The verdict on a certificate of the plan of files, which is read behind these.
 fn verify_files<'a, F: Source, S: Sink>(
     rt: &(impl Threads + Sync),
@@ -153,6 +169,7 @@ pub fn answer_request<'a, F: Source, S: Sink>(
         Request::CheckInput => check_input(rt, alloc, source, out),
         Request::Check(paths) => check_files(rt, alloc, source, paths, out),
         Request::List(paths) => list_files(alloc, source, paths, out),
+        Request::Cert(paths) => cert_files(rt, alloc, source, paths, out),
         Request::VerifyCert { cert, paths } => { verify_files(rt, alloc, source, paths, cert, out) }
         Request::Step { schedule, paths } => step_files(alloc, source, paths, &schedule, out),
     }

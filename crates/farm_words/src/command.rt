@@ -10,6 +10,8 @@ pub const CHECK: &str = "check";
 
 pub const LIST: &str = "list";
 
+pub const CERT: &str = "cert";
+
 pub const VERIFY_CERT: &str = "verify-cert";
 
 pub const STEP: &str = "step";
@@ -63,6 +65,7 @@ fn on_files<'a>(
 pub fn portfarm<'a>(alloc: Global) -> Result<Command<'a>, AllocError> {
     let check = on_files(alloc, CHECK, help::CHECK, help::CHECK_MORE)?;
     let list = on_files(alloc, LIST, help::LIST, help::LIST_MORE)?;
+    let cert = on_files(alloc, CERT, help::CERT, help::CERT_MORE)?;
     let verify = on_files(
         alloc,
         VERIFY_CERT,
@@ -81,6 +84,7 @@ pub fn portfarm<'a>(alloc: Global) -> Result<Command<'a>, AllocError> {
         .disable_help_subcommand(true)
         .subcommand(check)?
         .subcommand(list)?
+        .subcommand(cert)?
         .subcommand(verify.arg(file(alloc, CERTIFICATE, "CERT", help::CERTIFICATE))?)?
         .subcommand(step.arg(schedule(alloc))?)
 }

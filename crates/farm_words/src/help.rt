@@ -46,6 +46,20 @@ Example:
 
 Status: 0 listed, 1 refused, 2 wrong words, 3 nothing could be answered";
 
+pub const CERT: &str = "\
+Prints a certificate of the plan, by which anyone can check that it is safe";
+
+pub const CERT_MORE: &str = "\
+The answer is the certificate of a plan that `check` accepts: `cert 1`, then a line for what each lane
+knows of the archive behind each of its waits and publishes, and then an order in which all of them
+can be made. `verify-cert` checks it without having to find it. Where `check` refuses the plan, the
+answer is that refusal.
+
+Example:
+  portfarm cert packages sources farm plan > cert
+
+Status: 0 certified, 1 refused, 2 wrong words, 3 nothing could be answered";
+
 pub const VERIFY_CERT: &str = "\
 Tells whether a certificate shows that the plan is safe, whoever made it";
 
@@ -88,6 +102,6 @@ pub const FARM: &str = "The farm: its architecture, its archive, recipes of buil
 
 pub const PLAN: &str = "The plan: lanes of instructions, and blocks that they use";
 
-pub const CERTIFICATE: &str = "The certificate of the plan";
+pub const CERTIFICATE: &str = "The certificate of the plan, as `cert` prints it";
 
 pub const SCHEDULE: &str = "Lanes in the order of their turns, as 0,0,1: 0 is the first lane";

@@ -3,7 +3,8 @@
 ghost use Rattle.std.specs.Prelude.{◌≡◌, IsOkAnd, length};
 
 use crate::command::{
-    CERTIFICATE, CHECK, FARM, LIST, PACKAGES, PLAN, SCHEDULE, SOURCES, STEP, VERIFY_CERT, portfarm,
+    CERT, CERTIFICATE, CHECK, FARM, LIST, PACKAGES, PLAN, SCHEDULE, SOURCES, STEP, VERIFY_CERT,
+    portfarm,
 };
 use crate::schedule::{ScheduleFault, read_schedule};
 use clap::error::ErrorKind;
@@ -29,6 +30,8 @@ pub enum Request<'a> {
     Check(Paths<'a>),
     /// The listing of a plan.
     List(Paths<'a>),
+    /// A certificate of a plan.
+    Cert(Paths<'a>),
     /// The verdict on the certificate of a plan, which stands in a file too.
     VerifyCert {
         cert: &'a str,
@@ -108,6 +111,7 @@ fn request_of<'a>(
     match command {
         CHECK => Ok(Request::Check(paths)),
         LIST => Ok(Request::List(paths)),
+        CERT => Ok(Request::Cert(paths)),
         VERIFY_CERT => Ok(Request::VerifyCert {
             cert: word_of(matches, CERTIFICATE),
             paths,
