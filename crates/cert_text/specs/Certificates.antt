@@ -11,7 +11,7 @@ use Rattle.bit_rows.specs.Sets.{variants_of}
 use Rattle.farm_model.specs.Universe.{Universe}
 use Rattle.farm_model.specs.Packages.{names, variant, variants, initial}
 use Rattle.plan_model.specs.declared.instructions.Instruction.{Instruction}
-use Rattle.plan_model.specs.declared.instructions.Instruction.TheVariants.{Publish, Wait}
+use Rattle.plan_model.specs.Known.{teaches}
 use Rattle.plan_model.specs.Plan.{Plan, Lane, lane}
 
 -- by lane a row of words behind each wait and publish, and lanes by number, one for each wait
@@ -24,11 +24,9 @@ pub record Certificate : Type 0 where
 abbrev pub lane_rows : Certificate → ℕ → List (List ℕ)
 lane_rows c l = slice_index_or c.rows l []
 
--- behind a wait or a publish its lane may know more
+-- a row stands behind what teaches its lane
 abbrev pub learns : Instruction → Bool
-learns (Publish r) = true
-learns (Wait e) = true
-learns _ = false
+learns = teaches
 
 -- the numbers of such instructions, where the first has this number
 abbrev pub places_from : ℕ → List Instruction → List ℕ

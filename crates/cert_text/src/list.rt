@@ -32,21 +32,13 @@ fn find_variant(universe: &Universe, name: &[u8], version: &Version) -> Option<V
 }
 
 /// The variant of an item `NAME (= VERSION)`.
-#[tactic(auto, unfolding(crate::specs::Rows::item_variant, farm_universe::specs::ListText::pinned))]
+#[tactic(auto, unfolding(crate::specs::Rows::item_variant))]
 fn item_variant(universe: &Universe, item: &Entry) -> Option<Variant>
     ensures found { result ≡ item_variant universe.now item.now }
     ensures known { IfSome result (IsIn universe.now) }
 {
-    let [atom] = item.alternatives() else {
-        return None;
-    };
-    if atom.qualifier.is_some() {
-        return None;
-    }
-    match &atom.relation {
-        Some((_, version)) => find_variant(universe, &atom.name, version),
-        None => None,
-    }
+    let (name, version) = farm_universe::pinned(item)?;
+    find_variant(universe, name, version)
 }
 
 /// Tells whether a variant has a later name than the last one or, of the same name, a higher bit.

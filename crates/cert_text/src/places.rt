@@ -1,24 +1,10 @@
 //! The instructions of a lane behind which a certificate has a row.
 
 ghost use Rattle.std.specs.Prelude.{◌≡◌, ◌≤◌, length, IfOk};
-ghost use Rattle.cert_text.specs.Certificates.{learns, row_places};
+ghost use Rattle.cert_text.specs.Certificates.{row_places};
 
-use plan_asm::{Instruction, Lane};
+use plan_asm::Lane;
 use std::alloc::{AllocError, Global};
-
-/// Tells whether a lane may know more behind an instruction.
-fn learns(instruction: &Instruction) -> bool
-    ensures { result ≡ learns instruction.now }
-{
-    match instruction {
-        Instruction::Publish(_) | Instruction::Wait(_) => true,
-        Instruction::Unpack { .. }
-        | Instruction::Configure(_)
-        | Instruction::Deconfigure(_)
-        | Instruction::Remove(_)
-        | Instruction::Build(_) => false,
-    }
-}
 
 /// The numbers of the waits and publishes of a lane, whose first instruction has the number 1.
 pub fn row_places(alloc: Global, lane: &Lane) -> Result<Vec<u32>, AllocError>
@@ -28,7 +14,7 @@ pub fn row_places(alloc: Global, lane: &Lane) -> Result<Vec<u32>, AllocError>
     let instructions = lane.instructions();
     let mut places = Vec::new(alloc);
     for number in 0..instructions.len() {
-        if learns(&instructions[number]) {
+        if instructions[number].teaches() {
             places.push(number as u32 + 1)?;
         }
     }

@@ -1,7 +1,7 @@
 //! The text of a certificate.
 
-ghost use Rattle.std.specs.Prelude.{◌≡◌, ◌<◌, ◌≤◌, ◌++◌, codes, map, length, All, IfOk, OnOk};
-ghost use Rattle.std.specs.List.{concat, flat_map, zip};
+ghost use Rattle.std.specs.Prelude.{◌≡◌, ◌<◌, ◌≤◌, ◌++◌, codes, length, All, IfOk, OnOk};
+ghost use Rattle.std.specs.List.{flat_map, zip};
 ghost use Rattle.cert_text.specs.Certificates.{IsCertificate, IsNewRow, count_rows};
 ghost use Rattle.cert_text.specs.Printed.{name_of, variant_text, more_text, list_text, known_line, known_lines, order_line, certificate_text};
 ghost use Rattle.cert_text.specs.Rows.{IsIn, row_variants, named_in_row};
@@ -12,21 +12,11 @@ ghost use Rattle.plan_asm.specs.Ends.{IsWithinLimits};
 use crate::certificate::Certificate;
 use crate::places::row_places;
 use bit_rows::Row;
+use deb_text::push_pieces;
 use farm_model::Variant;
 use farm_universe::Universe;
 use plan_asm::{Lane, Plan};
 use std::alloc::{AllocError, Global};
-
-/// Puts pieces of text behind a text.
-fn push_pieces(text: &mut Vec<u8>, pieces: &[&[u8]]) -> Result<(), AllocError>
-    ensures { OnOk result
-        (text.new.items ≡ text.old.items ++ concat (map (λ piece. piece.now) pieces.now)) }
-{
-    for piece in pieces {
-        text.extend_from_slice(piece)?;
-    }
-    Ok(())
-}
 
 /// Puts the variants of a name that a row has behind others.
 fn push_named(

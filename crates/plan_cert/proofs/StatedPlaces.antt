@@ -1,27 +1,15 @@
 -- The rows of the places of a plan, lane by lane.
-use Rattle.std.proofs.Common.{◌≡◌, ℕ, ◌+◌, ◌<◌, Bool, List, [], ◌∷◌, ◌++◌, length, get_or, slice_index, slice_index_or, All, inl, inr, sym, ap, subst, ◌∙◌, arith}
+use Rattle.std.proofs.Common.{◌≡◌, ℕ, ◌+◌, ◌<◌, List, [], ◌∷◌, ◌++◌, length, get_or, slice_index_or, All, inl, inr, sym, ap, subst, ◌∙◌, arith}
 use Rattle.std.proofs.lemmas.Bool.{cases_eq}
 use Rattle.std.proofs.lemmas.List.{length-append, get_or_append_left}
 use Rattle.std.proofs.Math.Seq.{get_or-append_seam}
-use Rattle.farm_model.specs.declared.types.Variant.{Variant}
 use Rattle.farm_model.specs.Universe.{Universe}
 use Rattle.plan_model.specs.Known.{Rows}
 use Rattle.plan_model.specs.Plan.{Plan, lane}
 use Rattle.wait_order.specs.KnownRows.{IsRowIn, AreKept}
 use Rattle.wait_order.specs.PlaceRows.{IsExtended, AreRowNumbers}
-use Rattle.sat_rows.specs.Rows.{IsRowOf}
+use Rattle.wait_order.proofs.PlaceLaws.{numbers_kept}
 use Rattle.plan_cert.specs.Places.{AreRowsOf}
-
-numbers_kept : (u : Universe) (test : ℕ → Variant → Bool) (i : ℕ) (numbers : List ℕ)
-    (rows more : List (List ℕ)) → IsExtended u rows more → AreRowNumbers u test i numbers rows
-    → AreRowNumbers u test i numbers more
-numbers_kept u test i numbers rows more ext is =
-    record {
-      long = is.long;
-      within = λ k le. let w = is.within k le in omega (arith, w, ext.longer);
-      are = λ k le. subst (λ (row : List ℕ). IsRowOf u (test k) row)
-          (sym (ext.same (slice_index numbers k) (is.within k le))) (is.are k le);
-    }
 
 -- one more lane
 pub rows_next : (u : Universe) (p : Plan) (known : Rows) (n : ℕ)
