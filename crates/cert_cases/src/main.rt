@@ -5,14 +5,16 @@
 #![tactic(auto)]
 
 mod answers;
+mod replaced;
 
-use crate::answers::TextAnswers;
+use crate::answers::CertAnswers;
 use case_files::run_file;
 use std::{env, io};
 
 fn main(rt: HostRuntime) -> io::Result<()> {
+    let answers = CertAnswers { rt: &rt };
     for word in env::args(&rt)?.skip(1) {
-        run_file(&rt, &TextAnswers, word.as_str())?;
+        run_file(&rt, &answers, word.as_str())?;
     }
     Ok(())
 }

@@ -1,0 +1,123 @@
+//! The answers to the questions of cases.
+
+ghost use Rattle.plan_model.specs.Sound.{IsSound};
+
+use crate::replaced::answer_replaced;
+use case_files::{Answers, Case};
+use cert_text::{CertFault, print, read};
+use deb_text::{cut_at_first, cut_at_last, read_number};
+use farm_input::texts_of;
+use farm_report::{WriteFailed, WriteSink, verdict_text, write_cert_verdict};
+use plan_asm::Plan;
+use plan_cert::check_certificate;
+use plan_verifier::{Planned, Refusal, read_texts};
+use std::alloc::{AllocError, Global};
+use std::thread::Threads;
+
+/// What the checker of a certificate answers, as it is printed.
+fn cert_verdict_text(
+    alloc: Global,
+    plan: &Plan,
+    verdict: &Result<(), CertFault>,
+) -> Result<Vec<u8>, AllocError> {
+    let mut out = WriteSink::new(Vec::new(alloc));
+    match write_cert_verdict(&mut out, plan, verdict) {
+        Ok(()) => Ok(out.into_inner()),
+        Err(WriteFailed) => Err(AllocError),
+    }
+}
+
+/// Reads a certificate and checks it.
+fn check_text(
+    rt: &(impl Threads + Sync),
+    alloc: Global,
+    planned: &Planned,
+    text: &[u8],
+) -> Result<(), CertFault>
+    requires sound { IsSound planned.now.universe planned.now.plan.lanes }
+{
+    let Planned { universe, plan } = planned;
+    let certificate = read(alloc, universe, plan, text)?;
+    check_certificate(rt, alloc, universe, plan, &certificate)
+}
+
+/// Answers to the text of a certificate: `certified`, or its refusal.
+///
+/// # Errors
+///
+/// [`AllocError`] where memory is refused.
+pub fn answer_checked(
+    rt: &(impl Threads + Sync),
+    alloc: Global,
+    planned: &Planned,
+    text: &[u8],
+) -> Result<Vec<u8>, AllocError>
+    requires sound { IsSound planned.now.universe planned.now.plan.lanes }
+{
+    cert_verdict_text(alloc, &planned.plan, &check_text(rt, alloc, planned, text))
+}
+
+/// The certificate of a text as it is printed, or its refusal.
+fn answer_printed(alloc: Global, planned: &Planned, text: &[u8]) -> Result<Vec<u8>, AllocError> {
+    let Planned { universe, plan } = planned;
+    match read(alloc, universe, plan, text) {
+        Ok(certificate) => print(alloc, universe, plan, &certificate),
+        Err(fault) => cert_verdict_text(alloc, plan, &Err(fault)),
+    }
+}
+
+/// How long that answer is.
+fn answer_length(alloc: Global, planned: &Planned, text: &[u8]) -> Result<Vec<u8>, AllocError> {
+    let length = answer_printed(alloc, planned, text)?.len();
+    Ok(format!(in alloc; "{length} bytes\n")?.into_bytes())
+}
+
+/// Answers a question about the text of a certificate.
+fn answer_on_plan(
+    rt: &(impl Threads + Sync),
+    alloc: Global,
+    planned: &Planned,
+    question: &[u8],
+    text: &[u8],
+) -> Result<Vec<u8>, AllocError>
+    requires sound { IsSound planned.now.universe planned.now.plan.lanes }
+{
+    let (word, rest) = cut_at_first(b' ', question).unwrap_or((question, b""));
+    match (word, read_number(rest)) {
+        (b"", None) => answer_checked(rt, alloc, planned, text),
+        (b"print", None) => answer_printed(alloc, planned, text),
+        (b"length", None) => answer_length(alloc, planned, text),
+        (b"replaced", Some(byte)) => answer_replaced(rt, alloc, planned, text, byte as u8),
+        _ => Vec::from_slice(alloc, b"no such question\n"),
+    }
+}
+
+/// Cuts an input at its last line `%%`, behind which the certificate stands. A certificate in a
+/// case has no `%`.
+fn cut_certificate(input: &[u8]) -> (&[u8], &[u8]) {
+    let Some((farm, text)) = cut_at_last(b'%', input) else {
+        return (input, b"");
+    };
+    (
+        farm.strip_suffix(b"%").unwrap_or(farm),
+        text.strip_prefix(b"\n").unwrap_or(text),
+    )
+}
+
+/// The answers to the questions of cases.
+#[derive(Drop)]
+pub struct CertAnswers<'a, R> {
+    pub rt: &'a R,
+}
+
+impl<'a, R: Threads + Sync> Answers for CertAnswers<'a, R> {
+    fn answer_to(&self, alloc: Global, case: &Case) -> Result<Vec<u8>, AllocError> {
+        let (farm, certificate) = cut_certificate(&case.input);
+        let texts = texts_of(farm);
+        let read = read_texts(alloc, texts.packages, texts.sources, texts.farm, texts.plan);
+        match read {
+            Ok(planned) => answer_on_plan(self.rt, alloc, &planned, case.question, certificate),
+            Err(fault) => verdict_text(alloc, &Err(Refusal::from(fault))),
+        }
+    }
+}
