@@ -1,4 +1,3 @@
-use Rattle.std.proofs.Common.{sym, subst}
 use Rattle.farm_commands.specs.Answers.{IsJust}
 use Rattle.farm_commands.specs.CertAnswers.{ShowsCert}
 use Rattle.farm_commands.proofs.AnswerLaws.{answered-by}
@@ -12,7 +11,7 @@ returns g c =
       shape = c.in_ok-made.ensures.shape;
       made = c.in_ok-made.ensures.exact;
       certifies = c.in_ok-made.ensures.certifies;
-      text_is = rw (is.0, c.deref.ensures.value, c.in_ok-text.ensures, c.universe.ensures, c.plan.ensures);
+      text_is = rw (is.0, c.deref.ensures.value, c.in_ok-text.ensures, c.universe.ensures, c.plan.ensures.lanes);
       status_is = is.1;
     })
     c.write_answer.ensures

@@ -4,10 +4,10 @@ use Rattle.farm_commands.specs.CertAnswers.{IsTextVerdict}
 use Rattle.farm_commands.proofs.CertLaws.{not_read}
 use Rattle.farm_commands.proofs.certificates.check_text.Goals as goal
 
-pub returns-in_err-read : goal.returns-in_err-read
-returns-in_err-read g c =
+pub returns-in_err-certificate : goal.returns-in_err-certificate
+returns-in_err-certificate g c =
     let e = err_from_is_err_and c.from_residual.result c.from_residual.ensures.1 in
-    rw (e.1, e.2) (not_read _ _ _ _ c.in_err-read.ensures)
+    rw (e.1, e.2) (not_read _ _ _ _ c.in_err-certificate.ensures.certificate)
 
 pub returns : goal.returns
 returns g c =
