@@ -3,7 +3,7 @@
 ghost use Rattle.plan_model.specs.Sound.{IsSound};
 
 use crate::replaced::answer_replaced;
-use case_files::{Answers, Case};
+use case_files::Case;
 use cert_text::{CertFault, print, read};
 use deb_text::{cut_at_first, cut_at_last, read_number};
 use farm_input::texts_of;
@@ -87,7 +87,7 @@ fn answer_on_plan(
         (b"", None) => answer_checked(rt, alloc, planned, text),
         (b"print", None) => answer_printed(alloc, planned, text),
         (b"length", None) => answer_length(alloc, planned, text),
-        (b"replaced", Some(byte)) => answer_replaced(rt, alloc, planned, text, byte as u8),
+        (b"replaced", Some(byte)) => answer_replaced(rt, alloc, planned, text, (byte % 256) as u8),
         _ => Vec::from_slice(alloc, b"no such question\n"),
     }
 }
@@ -104,20 +104,21 @@ fn cut_certificate(input: &[u8]) -> (&[u8], &[u8]) {
     )
 }
 
-/// The answers to the questions of cases.
-#[derive(Drop)]
-pub struct CertAnswers<'a, R> {
-    pub rt: &'a R,
-}
-
-impl<'a, R: Threads + Sync> Answers for CertAnswers<'a, R> {
-    fn answer_to(&self, alloc: Global, case: &Case) -> Result<Vec<u8>, AllocError> {
-        let (farm, certificate) = cut_certificate(&case.input);
-        let texts = texts_of(farm);
-        let read = read_texts(alloc, texts.packages, texts.sources, texts.farm, texts.plan);
-        match read {
-            Ok(planned) => answer_on_plan(self.rt, alloc, &planned, case.question, certificate),
-            Err(fault) => verdict_text(alloc, &Err(Refusal::from(fault))),
-        }
+/// Answers to a case.
+///
+/// # Errors
+///
+/// [`AllocError`] where memory is refused.
+pub fn answer_to(
+    rt: &(impl Threads + Sync),
+    alloc: Global,
+    case: &Case,
+) -> Result<Vec<u8>, AllocError> {
+    let (farm, certificate) = cut_certificate(&case.input);
+    let texts = texts_of(farm);
+    let read = read_texts(alloc, texts.packages, texts.sources, texts.farm, texts.plan);
+    match read {
+        Ok(planned) => answer_on_plan(rt, alloc, &planned, case.question, certificate),
+        Err(fault) => verdict_text(alloc, &Err(Refusal::from(fault))),
     }
 }

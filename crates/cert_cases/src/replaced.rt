@@ -40,18 +40,18 @@ pub fn answer_replaced(
 {
     let mut text = Vec::new(alloc);
     let mut replaced = Vec::from_slice(alloc, certificate)?;
-    let mut first = 0;
+    let mut first = 1;
     let mut answer = Vec::new(alloc);
     for at in 0..certificate.len() {
         replaced[at] = byte;
         let next = answer_checked(rt, alloc, planned, &replaced)?;
         replaced[at] = certificate[at];
         if next != answer {
-            push_answer(&mut text, first + 1, at, &answer)?;
-            first = at;
+            push_answer(&mut text, first, at, &answer)?;
+            first = at + 1;
             answer = next;
         }
     }
-    push_answer(&mut text, first + 1, certificate.len(), &answer)?;
+    push_answer(&mut text, first, certificate.len(), &answer)?;
     Ok(text)
 }
