@@ -9,11 +9,10 @@ use Rattle.deb_stanza.specs.declared.error.TheConstants.{MOST_BYTES}
 use Rattle.deb_stanza.specs.Plain.{plain_lines_at}
 use Rattle.deb_text.specs.Lines.{lines_of, plain_lines}
 use Rattle.deb_text.specs.Steps.{◌>>=◌, traverse}
-use Rattle.deb_text.specs.Words.{words, text_of}
+use Rattle.deb_text.specs.Words.{words, is_head, text_of}
 use Rattle.farm_model.specs.Universe.{Universe}
 use Rattle.plan_model.specs.Plan.{Plan}
 use Rattle.cert_text.specs.Certificates.{Certificate, IsCertificate, count_rows}
-use Rattle.cert_text.specs.CertLines.{is_head}
 use Rattle.cert_text.specs.CertText.{lanes_in, order_at, rest_in, certificate_in, in_text, certificate_of}
 use Rattle.cert_text.specs.Printed.{known_lines, order_line, certificate_text}
 use Rattle.cert_laws.specs.Laws.{IsSpelled, order_text}
@@ -21,7 +20,7 @@ use Rattle.cert_laws.proofs.LaneLines.{lane_lines, lanes-text, AreCounted, count
 use Rattle.cert_laws.proofs.OrderLines.{IsReadPlan, orders-text, orders-kept, orders-again}
 use Rattle.cert_laws.proofs.TextLines.{is_kept, lines-again, drop-lines}
 
-head-is : is_head (codes "cert 1") ≡ true
+head-is : is_head (codes "cert") (codes "cert 1") ≡ true
 unfolding is_head words
 head-is = refl
 

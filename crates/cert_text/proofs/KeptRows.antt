@@ -3,7 +3,7 @@ use Rattle.std.proofs.Common.{◌≡◌, ℕ, zero, suc, ◌+◌, ◌<◌, ◌�
 use Rattle.std.specs.Prelude.{codes, IfSome}
 use Rattle.std.specs.List.{list_any, sum_by, AllZip}
 use Rattle.std.specs.Str.{bytes_eq}
-use Rattle.deb_text.specs.Words.{words}
+use Rattle.deb_text.specs.Words.{words, is_head}
 use Rattle.deb_stanza.specs.Plain.{plain_lines_at}
 use Rattle.std.specs.Option.{option_map, option_and_then}
 use Rattle.std.proofs.lemmas.Bool.{and_parts, ltb-true, ltb-false}
@@ -32,7 +32,7 @@ use Rattle.farm_universe.specs.ListText.{has_version, pinned, words_of}
 use Rattle.plan_asm.proofs.Places.{place-within}
 use Rattle.plan_model.specs.Plan.{Lane, Plan, lane}
 use Rattle.cert_text.specs.declared.fault.CertFault.{CertFault}
-use Rattle.cert_text.specs.CertLines.{is_head, first_word, behind_word, is_colon, is_number_of, numbered_row, known_row, lane_names, order_words, order_lane}
+use Rattle.cert_text.specs.CertLines.{first_word, behind_word, is_colon, is_number_of, numbered_row, known_row, lane_names, order_words, order_lane}
 use Rattle.cert_text.specs.CertText.{told_at, first_row, rows_in, lanes_in, order_at, rest_in, certificate_in, in_text, certificate_of}
 use Rattle.cert_text.specs.Certificates.{Certificate, IsNewRow, IsCertificate, row_places, count_rows}
 use Rattle.cert_text.specs.Faults.{refusal_of}
@@ -267,7 +267,7 @@ module _ (u : Universe) where
   in-is : (p : Plan) (end : ℕ) (ls : List Line) → IfOk (certificate_in u p end ls) (IsCertificate u p)
   in-is p end [] = tt
   in-is p end ((number, line) ∷ ls) =
-      if-has (IsCertificate u p) (is_head line) _ _ (λ _. rest-is p end ls) (λ _. tt)
+      if-has (IsCertificate u p) (is_head (codes "cert") line) _ _ (λ _. rest-is p end ls) (λ _. tt)
 
   -- what a text stands for
   pub certificate-is : (p : Plan) (text : List ℕ) → IfOk (certificate_of u p text) (IsCertificate u p)

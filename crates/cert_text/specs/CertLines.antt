@@ -1,7 +1,6 @@
 -- A line of a certificate by itself (the project's own format): words stand between blanks, and
 -- blanks at both ends mean nothing.
 --
---   is_head line                  whether it is `cert 1`
 --   known_row u name number line  the row of `known NAME NUMBER: ..`
 --   order_lane p line             the lane of `order LANE`
 use Rattle.std.specs.Prelude.{ℕ, Bool, false, ◌==◌, ◌&&◌, List, [], ◌∷◌, map, codes, Option, Some, None, if◌then◌else◌}
@@ -15,14 +14,6 @@ use Rattle.deb_text.specs.Words.{words}
 use Rattle.farm_model.specs.Universe.{Universe}
 use Rattle.plan_model.specs.Plan.{Plan, Lane}
 use Rattle.cert_text.specs.Rows.{row_at}
-
--- the words `cert` and `1`, and no others
-abbrev pub head_words : List (List ℕ) → Bool
-head_words (word ∷ version ∷ []) = bytes_eq word (codes "cert") && bytes_eq version (codes "1")
-head_words _ = false
-
-unfoldable pub is_head : List ℕ → Bool
-is_head line = head_words (words line)
 
 -- ---- what a lane knows
 

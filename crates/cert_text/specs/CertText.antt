@@ -6,17 +6,18 @@
 --
 --   rows_in u end name places ls     the rows of a lane, by the first lines
 --   certificate_of u p text          the certificate of a text, or its first fault
-use Rattle.std.specs.Prelude.{ℕ, ◌+◌, List, [], ◌∷◌, length, drop, Option, Result, Ok, Err, ok_or, if◌then◌else◌}
+use Rattle.std.specs.Prelude.{ℕ, ◌+◌, List, [], ◌∷◌, length, drop, Option, Result, Ok, Err, ok_or, codes, if◌then◌else◌}
 use Rattle.std.specs.List.{sum_by}
 use Rattle.deb_stanza.specs.Plain.{plain_lines_at}
 use Rattle.deb_text.specs.declared.fault.Fault.{Fault}
 use Rattle.deb_text.specs.Lines.{Line, lines_of}
 use Rattle.deb_text.specs.Steps.{◌>>=◌, then_all, traverse}
+use Rattle.deb_text.specs.Words.{is_head}
 use Rattle.farm_model.specs.Universe.{Universe}
 use Rattle.plan_model.specs.Plan.{Plan}
 use Rattle.cert_text.specs.declared.fault.CertFault.{CertFault}
 use Rattle.cert_text.specs.declared.fault.CertFault.TheVariants.{Text}
-use Rattle.cert_text.specs.CertLines.{is_head, known_row, order_lane}
+use Rattle.cert_text.specs.CertLines.{known_row, order_lane}
 use Rattle.cert_text.specs.Certificates.{Certificate, row_places, count_rows}
 
 -- what a line says, or that it may not stand there
@@ -55,7 +56,7 @@ rest_in u p end ls = do
 abbrev pub certificate_in : Universe → Plan → ℕ → List Line → Result Certificate CertFault
 certificate_in u p end [] = Err (Text end)
 certificate_in u p end ((number, line) ∷ ls) =
-    if is_head line then rest_in u p end ls else Err (Text number)
+    if is_head (codes "cert") line then rest_in u p end ls else Err (Text number)
 
 -- the fault of a text is told at its line
 abbrev pub in_text : {X : Type 0} → Result X Fault → Result X CertFault

@@ -1,7 +1,7 @@
 //! A line of a certificate by itself.
 
 ghost use Rattle.std.specs.Prelude.{◌≡◌, ◌<◌, length, IfOk, IfSome};
-ghost use Rattle.cert_text.specs.CertLines.{is_head, numbered_row, known_row, lane_names, order_lane};
+ghost use Rattle.cert_text.specs.CertLines.{numbered_row, known_row, lane_names, order_lane};
 ghost use Rattle.deb_text.specs.Groups.{place_in};
 ghost use Rattle.std.specs.Str.{bytes_eq};
 
@@ -11,20 +11,6 @@ use deb_text::{Class, cut_at_first, next_word, read_number, skip_front, split_fr
 use farm_universe::Universe;
 use plan_asm::Plan;
 use std::alloc::{AllocError, Global};
-
-/// Tells whether a line is `cert 1`.
-#[tactic(auto, unfolding(crate::specs::CertLines::is_head))]
-pub fn is_head(line: &[u8]) -> bool
-    ensures { result ≡ is_head line.now }
-{
-    let Some((word, rest)) = next_word(line) else {
-        return false;
-    };
-    let Some((version, rest)) = next_word(rest) else {
-        return false;
-    };
-    next_word(rest).is_none() && word == b"cert".as_slice() && version == b"1".as_slice()
-}
 
 /// The row behind this number and its colon.
 #[tactic(auto, unfolding(crate::specs::CertLines::numbered_row))]

@@ -16,11 +16,11 @@ ghost use Rattle.deb_text.specs.Steps.{traverse};
 
 use crate::certificate::Certificate;
 use crate::fault::CertFault;
-use crate::line::{is_head, read_known, read_order};
+use crate::line::{read_known, read_order};
 use crate::places::row_places;
 use bit_rows::Row;
 use deb_stanza::{Lines, plain_lines};
-use deb_text::{Fault, next_line};
+use deb_text::{Fault, is_head, next_line};
 use farm_universe::Universe;
 use plan_asm::{Lane, Plan};
 use std::alloc::Global;
@@ -178,7 +178,7 @@ fn read_certificate(
     if lines.count() == 0 {
         return Err(CertFault::Text { line: end });
     }
-    if !is_head(lines.line(0)) {
+    if !is_head(b"cert".as_slice(), lines.line(0)) {
         return Err(CertFault::Text {
             line: lines.number(0),
         });

@@ -1,6 +1,7 @@
 -- Words and names.
-use Rattle.std.specs.Prelude.{ℕ, Bool, not, ◌&&◌, nat_le, List, [], ◌∷◌, ◌++◌, length, filter}
+use Rattle.std.specs.Prelude.{ℕ, Bool, false, not, ◌&&◌, nat_le, List, [], ◌∷◌, ◌++◌, length, filter, codes}
 use Rattle.std.specs.List.{list_all, flat_map, slice_split}
+use Rattle.std.specs.Str.{bytes_eq}
 use Rattle.deb_text.specs.Bytes.{is_blank, is_solid, is_lower, is_name_byte, is_word_byte}
 use Rattle.deb_text.specs.Cuts.{is_nil, first_is}
 
@@ -20,6 +21,15 @@ is_word text = not (is_nil text) && list_all is_word_byte text
 -- least two characters long and must start with an alphanumeric character" (Policy 5.6.1)
 abbrev pub is_name : List ℕ → Bool
 is_name text = nat_le 2 (length text) && first_is is_lower text && list_all is_name_byte text
+
+-- this name and `1`, and no other words
+abbrev pub head_words : List ℕ → List (List ℕ) → Bool
+head_words name (word ∷ version ∷ []) = bytes_eq word name && bytes_eq version (codes "1")
+head_words name _ = false
+
+-- whether a line says that a text is of this kind and of version 1, as `plan 1` does
+unfoldable pub is_head : List ℕ → List ℕ → Bool
+is_head name line = head_words name (words line)
 
 -- ---- how words and lines are written
 

@@ -17,4 +17,4 @@ pub use fault::{Fault, MEMORY};
 pub use lines::{Line, is_blank_line, is_comment, next_line};
 pub use numbers::{is_number, number_of, read_number};
 pub use pieces::push_pieces;
-pub use words::{is_name, is_word, next_word};
+pub use words::{is_head, is_name, is_word, next_word};

@@ -1,7 +1,7 @@
 //! Words and names.
 
 ghost use Rattle.std.specs.Prelude.{◌≡◌, ◌<◌, [], ◌∷◌, IfSome, IfNone, length};
-ghost use Rattle.deb_text.specs.Words.{words, is_word, is_name};
+ghost use Rattle.deb_text.specs.Words.{words, is_head, is_word, is_name};
 
 use crate::classes::{Class, all_in, begins_with};
 use crate::cuts::{skip_front, split_front};
@@ -17,6 +17,21 @@ pub fn next_word(text: &[u8]) -> Option<(&[u8], &[u8])>
         return None;
     }
     Some(split_front(Class::Solid, rest))
+}
+
+/// Tells whether a line says that a text is of this kind and of version 1, as `plan 1` does: the
+/// kind's name and `1` between blanks, and nothing else.
+#[tactic(auto, unfolding(crate::specs::Words::is_head))]
+pub fn is_head(name: &[u8], line: &[u8]) -> bool
+    ensures { result ≡ is_head name.now line.now }
+{
+    let Some((word, rest)) = next_word(line) else {
+        return false;
+    };
+    let Some((version, rest)) = next_word(rest) else {
+        return false;
+    };
+    next_word(rest).is_none() && word == name && version == b"1".as_slice()
 }
 
 /// Tells whether a text is a word: bytes without blanks and without `< > ! , | ( ) [ ]`.

@@ -13,13 +13,14 @@ use Rattle.deb_text.proofs.LineLaws.{lines_kept-ends, lines_of-nil}
 use Rattle.deb_text.specs.declared.fault.Fault.{Fault}
 use Rattle.deb_text.specs.Lines.{Line, is_skipped, plain_lines}
 use Rattle.deb_text.specs.Steps.{steps}
-use Rattle.deb_text.specs.Words.{words, is_run, spaced}
+use Rattle.deb_text.specs.Words.{words, is_head, is_run, spaced}
 use Rattle.farm_model.specs.Chroot.{member}
 use Rattle.farm_model.specs.Packages.{base}
 use Rattle.farm_model.specs.Universe.{Universe}
 use Rattle.plan_asm.specs.declared.error.TheConstants.{MOST_LANES, MOST_INSTRUCTIONS}
-use Rattle.plan_asm.specs.Drafts.{Nothing, InLane, Draft, empty, instructions_of, published_by, published, add, take_form}
-use Rattle.plan_asm.specs.Forms.{LaneForm, form_at, is_head}
+use Rattle.plan_asm.specs.Drafts.{Nothing, InLane, Draft, empty, instructions_of, published, add, take_form}
+use Rattle.plan_model.specs.Known.{published_by}
+use Rattle.plan_asm.specs.Forms.{LaneForm, form_at}
 use Rattle.plan_asm.specs.Listing.{instruction_line, lane_text, listing_of}
 use Rattle.plan_asm.specs.PlanText.{take_text, take_line, draft_of, plan_in, plan_of}
 use Rattle.plan_model.specs.declared.instructions.Instruction.{Instruction}
@@ -250,7 +251,7 @@ module _ (u : Universe) where
 
   -- ---- a text
 
-  head-is : is_head (codes "plan 1") ≡ true
+  head-is : is_head (codes "plan") (codes "plan 1") ≡ true
   unfolding is_head words
   head-is = refl
 

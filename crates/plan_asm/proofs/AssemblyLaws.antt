@@ -6,7 +6,8 @@ use Rattle.plan_asm.specs.declared.assembly.Section.{Section}
 use Rattle.plan_asm.specs.declared.assembly.Section.TheVariants.{Outside, Block, Lane}
 use Rattle.plan_asm.specs.declared.error.TheConstants.{OVER_LIMIT, MOST_INSTRUCTIONS}
 use Rattle.plan_asm.specs.BlockTable.{BlockList}
-use Rattle.plan_asm.specs.Drafts.{Block as BlockRecord, InLane, is_open, instructions_of, published_by, published, with_instructions, published_once, add}
+use Rattle.plan_asm.specs.Drafts.{Block as BlockRecord, InLane, is_open, instructions_of, published, with_instructions, published_once, add}
+use Rattle.plan_model.specs.Known.{published_by}
 use Rattle.plan_asm.specs.SectionView.{open_of, IsTallied, IsAssembled}
 use Rattle.plan_asm.proofs.Doubles.{double-front}
 use Rattle.plan_asm.proofs.DraftLaws.{instructions_of-push}

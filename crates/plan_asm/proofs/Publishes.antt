@@ -5,7 +5,8 @@ use Rattle.std.proofs.lemmas.Bool.{or_parts, eqb-true, eq-eqb}
 use Rattle.std.proofs.lemmas.List.Concat.{flat_map-append}
 use Rattle.std.proofs.lemmas.List.Folds.{list_any-append}
 use Rattle.farm_model.specs.Chroot.{member}
-use Rattle.plan_asm.specs.Drafts.{instructions_of, published_by, published}
+use Rattle.plan_asm.specs.Drafts.{instructions_of, published}
+use Rattle.plan_model.specs.Known.{published_by}
 use Rattle.plan_asm.proofs.Doubles.{or-true, double-front}
 use Rattle.plan_model.specs.declared.instructions.Instruction.{Instruction}
 use Rattle.plan_model.specs.declared.instructions.Instruction.TheVariants.{Publish}

@@ -1,13 +1,15 @@
 -- A fact of drafts, carried along the lines of a text to its plan.
 use Rattle.std.proofs.Common.{ℕ, List, [], ◌∷◌, IfOk}
+use Rattle.std.specs.Prelude.{codes}
 use Rattle.deb_stanza.specs.Plain.{plain_lines_at}
 use Rattle.deb_text.specs.Lines.{Line}
+use Rattle.deb_text.specs.Words.{is_head}
 use Rattle.farm_model.specs.Universe.{Universe}
 use Rattle.farm_universe.specs.Told.{in_file}
 use Rattle.plan_asm.specs.declared.error.TheConstants.{FILE}
 use Rattle.plan_asm.specs.Drafts.{Block, Open, Nothing, InBlock, InLane, Draft, empty, take_form}
 use Rattle.plan_asm.specs.Ends.{finished}
-use Rattle.plan_asm.specs.Forms.{Form, form_at, is_head}
+use Rattle.plan_asm.specs.Forms.{Form, form_at}
 use Rattle.plan_asm.specs.PlanText.{take_text, take_line, draft_of, plan_in, plan_of}
 use Rattle.plan_model.specs.Plan.{Lane, Plan}
 use Rattle.deb_text.proofs.CarriedLaws.{if-has, then-has, steps-keep, placed-has, always}
@@ -41,7 +43,7 @@ module _ (u : Universe) (F : Form → Type 0) (D : Draft → Type 0)
     lines-has : (ls : List Line) → IfOk (plan_in u ls) P
     lines-has [] = tt
     lines-has ((number, line) ∷ ls) =
-        if-has P (is_head line) _ _
+        if-has P (is_head (codes "plan") line) _ _
         (λ _. then-has D P (draft_of u ls) _ (draft-has ls)
         (λ d is. finished-has d.blocks d.lanes d.current is))
         (λ _. tt)

@@ -18,6 +18,7 @@ use Rattle.farm_model.specs.Universe.{Base, Recipe, Universe}
 use Rattle.plan_asm.specs.declared.error.TheConstants.{BAD_LINE, UNKNOWN_NAME, NAME_TWICE, UNKNOWN_BLOCK, PUBLISHED_TWICE, NAME_TAKEN, OVER_LIMIT, MOST_LANES, MOST_INSTRUCTIONS}
 use Rattle.plan_model.specs.declared.instructions.Instruction.{Instruction}
 use Rattle.plan_model.specs.declared.instructions.Instruction.TheVariants.{Unpack, Configure, Deconfigure, Remove, Build, Publish, Wait}
+use Rattle.plan_model.specs.Known.{published_by}
 use Rattle.plan_asm.specs.Forms.{Wording, UnpackForm, ConfigureForm, DeconfigureForm, RemoveForm, BuildForm, PublishForm, WaitForm, Form, BlockForm, LaneForm, EndForm, UseForm, InstructionForm}
 use Rattle.plan_model.specs.Plan.{Lane}
 use Rattle.plan_model.specs.Sound.{has_double}
@@ -64,11 +65,6 @@ all_lanes ls (InLane line lane) = ls ++ lane ∷ []
 -- the instructions of these lanes, lane by lane
 abbrev pub instructions_of : List Lane → List Instruction
 instructions_of ls = flat_map (λ (l : Lane). l.instructions) ls
-
--- the recipe that an instruction publishes
-abbrev pub published_by : Instruction → List ℕ
-published_by (Publish r) = r ∷ []
-published_by _ = []
 
 -- the recipes that these instructions publish
 abbrev pub published : List Instruction → List ℕ

@@ -3,7 +3,6 @@
 --
 --   Wording, Form   what the line of an instruction says; what a line says
 --   form_at line    the form of a line, or BAD_LINE
---   is_head line    whether it is the line `plan 1`
 use Rattle.std.specs.Prelude.{ℕ, Bool, false, not, ◌&&◌, List, [], ◌∷◌, Option, Some, None, Result, Ok, Err, codes, if◌then◌else◌}
 use Rattle.std.specs.List.{list_all}
 use Rattle.std.specs.Option.{is_none}
@@ -126,12 +125,3 @@ form_by word rest =
 -- the form of a line, or BAD_LINE
 unfoldable pub form_at : List ℕ → Result Form ℕ
 form_at line = form_by (first_word line) (behind_word line)
-
--- the words `plan` and `1`, and no others
-abbrev pub head_words : List (List ℕ) → Bool
-head_words (word ∷ version ∷ []) = bytes_eq word (codes "plan") && bytes_eq version (codes "1")
-head_words _ = false
-
--- whether a line is `plan 1`
-unfoldable pub is_head : List ℕ → Bool
-is_head line = head_words (words line)

@@ -3,18 +3,19 @@
 --
 --   take_line u d line     the draft with one more line, or the line's fault
 --   plan_of u text         the plan of a text, or its first fault
-use Rattle.std.specs.Prelude.{ℕ, List, [], ◌∷◌, Result, Err, if◌then◌else◌}
+use Rattle.std.specs.Prelude.{ℕ, List, [], ◌∷◌, Result, Err, codes, if◌then◌else◌}
 use Rattle.deb_stanza.specs.Plain.{plain_lines_at}
 use Rattle.deb_text.specs.declared.fault.Fault.{Fault}
 use Rattle.deb_text.specs.Answers.{fault_at, placed}
 use Rattle.deb_text.specs.Lines.{Line}
 use Rattle.deb_text.specs.Steps.{◌>>=◌, steps}
+use Rattle.deb_text.specs.Words.{is_head}
 use Rattle.farm_universe.specs.Told.{in_file}
 use Rattle.farm_model.specs.Universe.{Universe}
 use Rattle.plan_asm.specs.declared.error.TheConstants.{FILE, NO_PLAN}
 use Rattle.plan_asm.specs.Drafts.{Draft, empty, take_form}
 use Rattle.plan_asm.specs.Ends.{finished}
-use Rattle.plan_asm.specs.Forms.{form_at, is_head}
+use Rattle.plan_asm.specs.Forms.{form_at}
 use Rattle.plan_model.specs.Plan.{Plan}
 
 -- the draft with one more line, or the code of the line's fault
@@ -33,7 +34,7 @@ draft_of u ls = steps (take_line u) empty ls
 abbrev pub plan_in : Universe → List Line → Result Plan Fault
 plan_in u [] = Err (fault_at FILE 0 NO_PLAN)
 plan_in u ((number, line) ∷ ls) =
-    if is_head line then (draft_of u ls >>= λ d. finished d.lanes d.current)
+    if is_head (codes "plan") line then (draft_of u ls >>= λ d. finished d.lanes d.current)
     else Err (fault_at FILE number NO_PLAN)
 
 -- the plan of a text, or its first fault

@@ -1,10 +1,11 @@
 //! What the lines of a plan say so far.
 
-ghost use Rattle.std.specs.Prelude.{◌≡◌, ◌∷◌, ◌++◌, [], true, false, IfOk, IfSome, IfNone};
+ghost use Rattle.std.specs.Prelude.{◌≡◌, ◌∷◌, ◌++◌, [], true, false, IfOk};
 ghost use Rattle.std.specs.List.{list_any};
 ghost use Rattle.std.specs.Str.{bytes_eq};
 ghost use Rattle.deb_text.specs.Answers.{Gives, refusal_of};
-ghost use Rattle.plan_asm.specs.Drafts.{empty, is_open, all_lanes, published_by, published_once};
+ghost use Rattle.plan_asm.specs.Drafts.{empty, is_open, all_lanes, published_once};
+ghost use Rattle.plan_model.specs.Known.{published_by};
 ghost use Rattle.plan_asm.specs.Drafts.{open_block, open_lane, end_open, published as recipes_of, add, add_use};
 ghost use Rattle.plan_asm.specs.Ends.{finished, IsWithinLimits};
 ghost use Rattle.plan_asm.specs.LineErrors.{refusal_of_line};
@@ -67,22 +68,6 @@ fn has_lane(lanes: &[Lane], name: &[u8]) -> bool
     lanes.iter().any(|lane| lane.name() == name)
 }
 
-/// The recipe that an instruction publishes.
-fn published_by(instruction: &Instruction) -> Option<u32>
-    ensures recipe { IfSome result (λ recipe. published_by instruction.now ≡ recipe ∷ []) }
-    ensures none { IfNone result (published_by instruction.now ≡ []) }
-{
-    match instruction {
-        Instruction::Publish(recipe) => Some(*recipe),
-        Instruction::Unpack { .. }
-        | Instruction::Configure(_)
-        | Instruction::Deconfigure(_)
-        | Instruction::Remove(_)
-        | Instruction::Build(_)
-        | Instruction::Wait(_) => None,
-    }
-}
-
 /// Notes a recipe that is published, where each one so far is published once.
 fn note_recipe(published: &mut IndexSet<u32>, recipe: u32) -> Result<(), LineError>
     requires { has_double published.old.keys ≡ false }
@@ -101,7 +86,7 @@ fn note_published(published: &mut IndexSet<u32>, instruction: &Instruction) -> R
     ensures { Gives refusal_of_line (λ _. published.new.keys) result
         (published_once (published.old.keys ++ published_by instruction.now)) }
 {
-    match published_by(instruction) {
+    match instruction.published() {
         Some(recipe) => note_recipe(published, recipe),
         None => Ok(()),
     }

@@ -7,7 +7,7 @@ ghost use Rattle.std.specs.Option.{option_map};
 ghost use Rattle.deb_text.specs.Answers.{Gives, refusal_code};
 ghost use Rattle.deb_text.specs.Words.{words, is_word};
 ghost use Rattle.plan_asm.specs.declared.error.TheConstants.{BAD_LINE};
-ghost use Rattle.plan_asm.specs.Forms.{form_at, wording_by, is_head, lane_form, end_form, unpack_of};
+ghost use Rattle.plan_asm.specs.Forms.{form_at, wording_by, lane_form, end_form, unpack_of};
 ghost use Rattle.plan_asm.specs.Forms.{in_line, one_word, some_words};
 ghost use Rattle.plan_asm.specs.LineErrors.{refusal_of_line};
 ghost use Rattle.plan_asm.specs.View.{wording_of, form_of};
@@ -223,18 +223,4 @@ pub fn read_form(alloc: Global, line: &[u8]) -> Result<Form<'_>, LineError>
     } else {
         Ok(Form::Instruction(read_wording(alloc, word, rest)?))
     }
-}
-
-/// Tells whether a line is `plan 1`.
-#[tactic(auto, unfolding(crate::specs::Forms::is_head))]
-pub fn is_head(line: &[u8]) -> bool
-    ensures { result ≡ is_head line.now }
-{
-    let Some((word, rest)) = next_word(line) else {
-        return false;
-    };
-    let Some((version, rest)) = next_word(rest) else {
-        return false;
-    };
-    next_word(rest).is_none() && word == b"plan".as_slice() && version == b"1".as_slice()
 }

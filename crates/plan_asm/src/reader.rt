@@ -16,11 +16,11 @@ ghost use Rattle.plan_asm.specs.View.{form_of};
 
 use crate::assembly::Assembly;
 use crate::error::{FILE, LineError, NO_PLAN};
-use crate::form::{Form, is_head, read_form};
+use crate::form::{Form, read_form};
 use crate::names::{known_base, read_instruction};
 use crate::plan::Plan;
 use deb_stanza::{Lines, plain_lines};
-use deb_text::Fault;
+use deb_text::{Fault, is_head};
 use farm_universe::Universe;
 use plan_model::Instruction;
 use std::alloc::Global;
@@ -143,7 +143,7 @@ fn read_plan(alloc: Global, universe: &Universe, lines: &Lines) -> Result<Plan, 
     if lines.count() == 0 {
         return Err(no_plan(0));
     }
-    if !is_head(lines.line(0)) {
+    if !is_head(b"plan".as_slice(), lines.line(0)) {
         return Err(no_plan(lines.number(0)));
     }
     let so_far = read_sections(alloc, universe, lines)?;

@@ -1,5 +1,5 @@
 -- Rows behind instructions, by subsets of rows.
-use Rattle.std.proofs.Common.{◌≡◌, ◌≢◌, ℕ, zero, suc, ◌<◌, ◌≤◌, Bool, true, false, not, ◌||◌, nat_lt, List, length, take, Some, inl, inr, refl, sym, ap, subst, ◌∙◌, arith}
+use Rattle.std.proofs.Common.{◌≡◌, ◌≢◌, ℕ, zero, suc, ◌<◌, ◌≤◌, Bool, true, false, not, ◌||◌, nat_lt, List, [], length, take, Some, inl, inr, refl, sym, ap, subst, ◌∙◌, arith}
 use Rattle.std.specs.Prelude.{◌↔◌, IsTrue}
 use Rattle.std.proofs.lemmas.Bool.{cases_Bool, or_cases, or_left, or_right, and_parts, and_from, both_ways, lt-ltb, not-true, not_from_false, false≢true}
 use Rattle.std.proofs.lemmas.List.{take_all}
@@ -12,7 +12,7 @@ use Rattle.farm_model.specs.Packages.{variant, variants, contains, outputs, init
 use Rattle.farm_model.specs.Sound.{IsUniverse}
 use Rattle.plan_model.specs.declared.instructions.Instruction.{Instruction}
 use Rattle.plan_model.specs.declared.instructions.Instruction.TheVariants.{Unpack, Configure, Deconfigure, Remove, Build, Publish, Wait}
-use Rattle.plan_model.specs.Known.{Rows, possible, Adds, KeepsRows}
+use Rattle.plan_model.specs.Known.{Rows, published_by, possible, Adds, KeepsRows}
 use Rattle.plan_model.specs.Plan.{Plan, lane, instruction_at}
 use Rattle.row_laws.specs.Places.{IsJustified, IsFirstUnjustified}
 use Rattle.sat_rows.specs.Rows.{IsRowOf}
@@ -151,14 +151,14 @@ module _ (u : Universe) (p : Plan) (rows : Rows) (l i : ℕ) (lt : l < length p)
 
 -- an instruction that neither publishes nor waits adds nothing
 pub adds-nothing : (u : Universe) (p : Plan) (rows : Rows) (l i : ℕ) (x : Instruction)
-    → ((r : ℕ) → x ≢ Publish r) → ((e : Entry) → x ≢ Wait e) → (v : Variant)
+    → published_by x ≡ [] → ((e : Entry) → x ≢ Wait e) → (v : Variant)
     → Adds u p rows l i v x → ⊥
 adds-nothing u p rows l i (Unpack name wanted) no_publish no_wait v add = add
 adds-nothing u p rows l i (Configure members) no_publish no_wait v add = add
 adds-nothing u p rows l i (Deconfigure members) no_publish no_wait v add = add
 adds-nothing u p rows l i (Remove members) no_publish no_wait v add = add
 adds-nothing u p rows l i (Build r) no_publish no_wait v add = add
-adds-nothing u p rows l i (Publish r) no_publish no_wait v add = no_publish r refl
+adds-nothing u p rows l i (Publish r) no_publish no_wait v add = cc
 adds-nothing u p rows l i (Wait e) no_publish no_wait v add = no_wait e refl
 
 -- all places of a lane

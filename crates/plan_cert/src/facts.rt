@@ -1,10 +1,9 @@
 //! What is in the archive whenever some variant of a set is.
 
-ghost use Rattle.std.specs.Prelude.{◌≡◌, ◌≢◌, ◌↔◌, ◌<◌, ◌≤◌, ◌||◌, ℕ, Bool, true, IsTrue, length, take, All, IfOk, IsNone, IfSome};
+ghost use Rattle.std.specs.Prelude.{◌≡◌, ◌↔◌, ◌<◌, ◌≤◌, ◌||◌, ℕ, Bool, true, IsTrue, length, take, All, IfOk, IsNone, IfSome};
 ghost use Rattle.farm_model.specs.declared.types.Variant.{Variant};
 ghost use Rattle.farm_model.specs.Packages.{names, outputs, contains, initial};
 ghost use Rattle.farm_model.specs.Sound.{IsUniverse, IsKnown};
-ghost use Rattle.plan_model.specs.declared.instructions.Instruction as model;
 ghost use Rattle.plan_model.specs.Plan.{lane};
 ghost use Rattle.plan_model.specs.Sound.{IsSound};
 ghost use Rattle.sat_rows.specs.Rows.{IsRowOf};
@@ -89,22 +88,6 @@ fn is_known_with(
     Ok(new.within(&row))
 }
 
-/// The recipe that an instruction publishes, if it publishes one.
-pub fn published(instruction: &Instruction) -> Option<u32>
-    ensures some { IfSome result (λ recipe. instruction.now ≡ model.Instruction.Publish recipe) }
-    ensures none { IsNone result → (r : ℕ) → instruction.now ≢ model.Instruction.Publish r }
-{
-    match instruction {
-        Instruction::Publish(recipe) => Some(*recipe),
-        Instruction::Unpack { .. }
-        | Instruction::Configure(_)
-        | Instruction::Deconfigure(_)
-        | Instruction::Remove(_)
-        | Instruction::Build(_)
-        | Instruction::Wait(_) => None,
-    }
-}
-
 /// Tells so of the publish at a place, if there is one.
 fn is_known_at(
     universe: &Universe,
@@ -126,7 +109,7 @@ fn is_known_at(
     ensures { IfOk result (λ yes. IsTrue yes ↔ IsKnownAt universe.now plan.now.lanes
         (rows_of known.now) (in_row sources.now) (in_row new.now) number place) }
 {
-    let Some(recipe) = published(&plan.lane(number).instructions()[place]) else {
+    let Some(recipe) = plan.lane(number).instructions()[place].published() else {
         return Ok(true);
     };
     let before = known.row(number, place);

@@ -16,7 +16,7 @@ ghost use Rattle.plan_cert.specs.Stated.{in_row};
 ghost use Rattle.plan_cert.specs.Places.{HaveKnown};
 ghost use Rattle.plan_cert.specs.Checked.{IsLaneChecked, AreChecked};
 
-use crate::facts::{are_facts, published, with_outputs};
+use crate::facts::{are_facts, with_outputs};
 use bit_rows::Row;
 use cert_text::CertFault;
 use deb_relation::Entry;
@@ -108,7 +108,7 @@ fn is_justified(
     let before = known.row(number, place);
     let after = known.row(number, place + 1);
     let instruction = &plan.lane(number).instructions()[place];
-    if let Some(recipe) = published(instruction) {
+    if let Some(recipe) = instruction.published() {
         let count = universe.outputs(recipe).len();
         let row = with_outputs(universe, before, recipe, count)?;
         return Ok(after.within(&row));

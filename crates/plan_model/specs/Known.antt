@@ -3,10 +3,10 @@
 --
 --   possible, publishing      what may be in the archive; the first outputs of a publish
 --   Rows, KeepsRows           a set for each lane and place; the inclusions that it keeps
---   teaches                   behind the instruction a lane may know more
+--   teaches, published_by     behind the instruction a lane may know more; the recipe it publishes
 --   IsFact                    what is in the archive whenever a given variant is
 --   IsGreatest                the greatest such family
-use Rattle.std.specs.Prelude.{◌≡◌, ◌⊎◌, ℕ, suc, ◌<◌, ◌≤◌, Bool, true, false, ◌||◌, ◌==◌, List, length, take, Option, Some, None, slice_get, if◌then◌else◌}
+use Rattle.std.specs.Prelude.{◌≡◌, ◌⊎◌, ℕ, suc, ◌<◌, ◌≤◌, Bool, true, false, ◌||◌, ◌==◌, List, [], ◌∷◌, length, take, Option, Some, None, slice_get, if◌then◌else◌}
 use Rattle.std.specs.List.{list_any}
 use Rattle.farm_model.specs.declared.types.Variant.{Variant}
 use Rattle.farm_model.specs.Below.{some_below}
@@ -48,6 +48,11 @@ abbrev pub teaches : Instruction → Bool
 teaches (Publish r) = true
 teaches (Wait e) = true
 teaches _ = false
+
+-- the recipe that the instruction publishes, if it does
+abbrev pub published_by : Instruction → List ℕ
+published_by (Publish r) = r ∷ []
+published_by _ = []
 
 -- v is in the archive whenever c is: with an initial c the initial archive; with an output, what is
 -- known ahead of its publish and the outputs of that publish up to it

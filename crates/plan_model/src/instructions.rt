@@ -1,7 +1,8 @@
 //! The instructions of a lane.
 
-ghost use Rattle.std.specs.Prelude.{◌≡◌};
-ghost use Rattle.plan_model.specs.Known.{teaches};
+ghost use Rattle.std.specs.Prelude.{◌≡◌, [], IfSome, IfNone};
+ghost use Rattle.plan_model.specs.Known.{teaches, published_by};
+ghost use Rattle.plan_model.specs.declared.instructions.Instruction.TheVariants.{Publish};
 
 use deb_relation::{Entry, Op};
 use deb_version::Version;
@@ -71,6 +72,22 @@ impl Instruction {
             | Instruction::Deconfigure(_)
             | Instruction::Remove(_)
             | Instruction::Build(_) => false,
+        }
+    }
+
+    /// The recipe that the instruction publishes, if it publishes one.
+    pub fn published(&self) -> Option<u32>
+        ensures some { IfSome result (λ recipe. self.now ≡ Publish recipe) }
+        ensures none { IfNone result (published_by self.now ≡ []) }
+    {
+        match self {
+            Instruction::Publish(recipe) => Some(*recipe),
+            Instruction::Unpack { .. }
+            | Instruction::Configure(_)
+            | Instruction::Deconfigure(_)
+            | Instruction::Remove(_)
+            | Instruction::Build(_)
+            | Instruction::Wait(_) => None,
         }
     }
 }

@@ -90,5 +90,5 @@ returns c =
     c.requires.of_universe c.row-after.ensures) in
     quiet-justified u p rows l i c.requires.lane c.requires.place c.requires.known
     c.row-before.result.now c.row-after.result.now before_is after_is x at
-    (adds-nothing u p rows l i x (c.in_default.ensures.none refl) (c.in_default-waited.ensures.none refl))
+    (adds-nothing u p rows l i x c.in_default.ensures.none (c.in_default-waited.ensures.none refl))
     c.within-2.result c.within-2.ensures.set
