@@ -13,3 +13,4 @@ pub mod OneForm
 pub mod Changes
 pub mod Joins
 pub mod ChangedRows
+pub mod Skips

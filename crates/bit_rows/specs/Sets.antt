@@ -2,14 +2,14 @@
 -- two numbers. A row stands for the set of the variants whose bit is set.
 --
 --   variants_of row                            the set of a row
---   HasNone                                    the set without variants
+--   HasNone, HasNoneFrom                       no variants at all; none of the names from one up to another
 --   IsWordOf                                   one name of a set as a word
 --   HasSomeAt, HasAllAt, IsMetAt               tests of a set by a word of one name
 --   IsSubset, HaveSame, HaveCommon,
 --   HasNameInside                              tests of two sets
 --   IsUnion, IsIntersection, IsDifference,
 --   ReplacesName, AddsVariant                  sets made of others
-use Rattle.std.specs.Prelude.{◌≡◌, ◌==◌, not, ◌&&◌, ◌||◌, ℕ, Bool, false, IsTrue, List, if◌then◌else◌}
+use Rattle.std.specs.Prelude.{◌≡◌, ◌==◌, not, ◌&&◌, ◌||◌, ℕ, ◌<◌, ◌≤◌, Bool, false, IsTrue, List, if◌then◌else◌}
 use Rattle.clause_kernel.specs.Rows.{word_has, row_has}
 
 -- a set of variants, by name and bit
@@ -23,6 +23,10 @@ variants_of row name bit = row_has row name bit
 -- no variant is in the set
 abbrev pub HasNone : Variants → Type 0
 HasNone s = (name bit : ℕ) → s name bit ≡ false
+
+-- no variant of the names from one up to another is in the set
+abbrev pub HasNoneFrom : Variants → ℕ → ℕ → Type 0
+HasNoneFrom s from to = (name bit : ℕ) → from ≤ name → name < to → s name bit ≡ false
 
 -- the bits of the word are the variants of this name in s
 abbrev pub IsWordOf : Variants → ℕ → ℕ → Type 0

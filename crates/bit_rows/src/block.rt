@@ -1,7 +1,7 @@
 //! Blocks of eight words, and where they stand in a row.
 
-ghost use Rattle.std.specs.Prelude.{◌≡◌, ◌≤◌, ◌↔◌, length, take, IsTrue, OnOk, OnErr, vec_len, vec_capacity};
-ghost use Rattle.bit_rows.specs.Blocks.{IsAscending, AreBelow, StandsAt, words_at, no_words, placed};
+ghost use Rattle.std.specs.Prelude.{◌≡◌, ◌<◌, ◌≤◌, ◌↔◌, ℕ, length, take, IsTrue, OnOk, OnErr, vec_len, vec_capacity};
+ghost use Rattle.bit_rows.specs.Blocks.{IsAscending, AreBelow, AreRowBlocks, StandsAt, words_at, word_at, no_words, placed};
 ghost use Rattle.clause_kernel.specs.Kernels.{same};
 
 use std::alloc::{AllocError, Allocator};
@@ -57,6 +57,26 @@ pub(crate) fn seek(blocks: &[Block], from: usize, place: usize) -> usize
         at += 1;
     }
     at
+}
+
+/// Gives a word at or behind this one such that those between them are 0, or the number of words
+/// where those behind it are.
+pub(crate) fn skip_to(blocks: &[Block], from: usize, count: usize) -> usize
+    requires blocks { AreRowBlocks count blocks.now }
+    requires inside { from ≤ count }
+    ensures behind { from ≤ result }
+    ensures inside { result ≤ count }
+    ensures none { (name : ℕ) → from ≤ name → name < result → word_at blocks.now name ≡ 0 }
+{
+    let place = from / BLOCK;
+    let at = find(blocks, place);
+    if at == blocks.len() {
+        return count;
+    }
+    if blocks[at].place == place {
+        return from;
+    }
+    BLOCK * blocks[at].place
 }
 
 /// Gives the words at a place that stands, or is to stand, at this index.

@@ -1,10 +1,10 @@
 //! A row of words, and what it does with other rows.
 
-ghost use Rattle.std.specs.Prelude.{◌≡◌, ◌<◌, ◌↔◌, IsTrue, IfOk, OnOk, OnErr, length, replicate, slice_index, slice_set};
+ghost use Rattle.std.specs.Prelude.{◌≡◌, ◌<◌, ◌≤◌, ◌↔◌, IsTrue, IfOk, OnOk, OnErr, length, replicate, slice_index, slice_set};
 ghost use Rattle.clause_kernel.specs.Kernels.{shares_bit, meets, lies_in, hits, met, within, same, joined, common, remaining};
-ghost use Rattle.bit_rows.specs.Sets.{variants_of, HasNone, HasSomeAt, HasAllAt, IsMetAt, IsWordOf, IsSubset, HaveSame, HaveCommon, HasNameInside, IsUnion, IsIntersection, IsDifference, ReplacesName, AddsVariant};
+ghost use Rattle.bit_rows.specs.Sets.{variants_of, HasNone, HasSomeAt, HasAllAt, IsMetAt, IsWordOf, IsSubset, HaveSame, HaveCommon, HasNameInside, IsUnion, IsIntersection, IsDifference, ReplacesName, AddsVariant, HasNoneFrom};
 
-use crate::block::{BLOCK, Block, are_same, find, put, words_there};
+use crate::block::{BLOCK, Block, are_same, find, put, skip_to, words_there};
 use crate::change::{Keeps, TakesOut, change_each, join_each};
 use crate::meet::{IsMet, LeavesBit, SharesBit, has_each, some_met, some_piece_met};
 use std::alloc::{AllocError, Allocator, Global};
@@ -66,6 +66,18 @@ impl<A: Allocator> Row<A> {
         let place = name / BLOCK;
         let at = find(&self.blocks, place);
         words_there(&self.blocks, at, place)[name % BLOCK]
+    }
+
+    /// Gives a name at or behind this one such that no name between them has a variant, or the
+    /// number of words where none behind it has. So a loop goes over what a row has, and not over
+    /// all names.
+    pub fn skip(&self, from: usize) -> usize
+        requires { from ≤ length self.now }
+        ensures behind { from ≤ result }
+        ensures inside { result ≤ length self.now }
+        ensures none { HasNoneFrom (variants_of self.now) from result }
+    {
+        skip_to(&self.blocks, from, self.count)
     }
 
     /// Tells whether a variant is in the row.
