@@ -15,3 +15,4 @@ pub mod MetWords
 pub mod DependentRows
 pub mod NeededNames
 pub mod DependentNames
+pub mod NamesOver

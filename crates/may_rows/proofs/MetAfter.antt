@@ -1,6 +1,6 @@
--- A safe instruction leaves each entry of what is configured met, but for an unpack of a configured
--- name.
-use Rattle.std.proofs.Common.{◌≡◌, ◌⊎◌, inl, inr, ℕ, ◌<◌, Bool, true, false, not, ◌&&◌, ◌||◌, ◌==◌, List, [], ◌∷◌, Option, Some, None, refl, sym, ap, ◌∙◌, if◌then◌else◌}
+-- After a safe instruction a name misses an entry only where it missed one before, or where it may
+-- need the configured name that was unpacked over.
+use Rattle.std.proofs.Common.{◌≡◌, ◌⊎◌, inl, inr, ℕ, ◌<◌, ◌≢◌, Bool, true, false, not, ◌&&◌, ◌||◌, ◌==◌, List, [], ◌∷◌, Option, Some, None, refl, sym, ap, ◌∙◌, subst, if◌then◌else◌}
 use Rattle.std.specs.Prelude.{slice_index_or}
 use Rattle.std.specs.List.{list_any}
 use Rattle.std.proofs.lemmas.Bool.{cases_Bool, cases_eq, and_from, and_parts, or_cases, not-true, not_from_false, both_ways, eq-eqb, eqb-true, ne_eqb}
@@ -10,31 +10,23 @@ use Rattle.deb_relation.specs.declared.operator.Op.{Op}
 use Rattle.deb_relation.specs.Relations.{Entry, Relations}
 use Rattle.farm_model.specs.declared.types.Variant.{Variant}
 use Rattle.farm_model.specs.declared.types.Trap.{Trap}
-use Rattle.farm_model.specs.Below.{some_below}
 use Rattle.farm_model.specs.Chroot.{member, unmet, entries}
 use Rattle.farm_model.specs.Traps.{first_trap}
 use Rattle.farm_model.specs.Universe.{Universe}
-use Rattle.farm_model.specs.Packages.{variant, names, variants, pre_depends, depends, satisfies_entry}
+use Rattle.farm_model.specs.Packages.{variant, names, variants, pre_depends, depends, satisfies_entry, satisfies_any}
 use Rattle.farm_model.proofs.BelowLaws.{some_below-at, some_below-found, some_below-mono, every_below-at}
 use Rattle.plan_model.specs.Plan.{Lane}
 use Rattle.plan_model.specs.May.{Bits, MaySlot, MayAbsent, MayUnpacked, MayConfigured, May, may_hold, may_hold_configured, surely_configured, surely_met, surely_met_with, is_surely_configured}
 use Rattle.plan_model.specs.MayAt.{may_be_configured, may_unpack, may_change}
 use Rattle.plan_model.specs.Risk.{some_may_member, configure_risks, withdraw_risks, may_meet, surely_met_outside, may_be_needed}
 use Rattle.may_rows.specs.Configures.{slots_after}
-use Rattle.may_rows.specs.Met.{misses_at, some_misses}
+use Rattle.may_rows.specs.Dependents.{may_serve}
+use Rattle.may_rows.specs.Met.{misses_at, may_need}
 use Rattle.may_rows.proofs.ByNumber.{any-found, any-at}
 use Rattle.may_rows.proofs.Configured.{unmet-after}
 use Rattle.may_rows.proofs.MetAhead.{any-same}
 
 -- ---- tests that imply others
-
-none_below : (n : ℕ) (p q : ℕ → Bool) → ((k : ℕ) → k < n → p k ≡ true → q k ≡ true)
-    → some_below n q ≡ false → some_below n p ≡ false
-none_below n p q to none =
-    elim (cases_Bool (some_below n p)) [
-      | inl is ↦ absurd (both_ways _ none (some_below-mono n p q to is))
-      | inr is ↦ is
-    ]
 
 pub implied : (a b : Bool) → (a ≡ true → b ≡ true) → b ≡ false → a ≡ false
 implied true b to none = absurd (both_ways _ none (to refl))
@@ -71,6 +63,7 @@ configured_mono u n p q (MayConfigured current) to is =
 pub configured_found : (u : Universe) (n : ℕ) (p : Bits) (s : MaySlot)
     → may_hold_configured u n p s ≡ true
     → (b : ℕ) × (p b ≡ true) × ((q : Bits) → q b ≡ true → may_hold_configured u n q s ≡ true)
+    × (b < variants u n)
 configured_found u n p MayAbsent is = cc
 configured_found u n p (MayUnpacked current last) is = cc
 configured_found u n p (MayConfigured current) is =
@@ -80,6 +73,7 @@ configured_found u n p (MayConfigured current) is =
       parts.1,
       λ q passing. some_below-at (variants u n) (λ b. current b && q b) f.0 f.1
           (and_from _ _ parts.0 passing),
+      f.1,
     )
 
 hold_found : (u : Universe) (n : ℕ) (p : Bits) (s : MaySlot) → may_hold u n p s ≡ true
@@ -109,7 +103,32 @@ not_configured u n p MayAbsent is = (refl, refl)
 not_configured u n p (MayUnpacked current last) is = (refl, refl)
 not_configured u n p (MayConfigured current) is = cc
 
+-- what surely satisfies an entry may satisfy it
+may_satisfy : (u : Universe) (n : ℕ) (p : Bits) (s : MaySlot)
+    → (is_surely_configured s ≡ true → may_hold_configured u n (λ b. true) s ≡ true)
+    → surely_configured u n p s ≡ true → may_hold_configured u n p s ≡ true
+may_satisfy u n p MayAbsent some is = cc
+may_satisfy u n p (MayUnpacked current last) some is = cc
+may_satisfy u n p (MayConfigured current) some is =
+    let at = some_below-found (variants u n) (λ b. current b && true) (some refl) in
+    let has = (and_parts (current at.0) true at.2).0 in
+    some_below-at (variants u n) (λ b. current b && p b) at.0 at.1 (and_from _ _ has
+    (elim (or_cases (not (current at.0)) (p at.0) (every_below-at (variants u n) (λ b. not (current b) || p b) at.0 at.1 is)) [
+      | inl lacks ↦ absurd (both_ways _ (not-true _ lacks) has)
+      | inr passes ↦ passes
+    ]))
+
+-- each surely configured name may hold something
+abbrev pub HoldSome : Universe → May → Type 0
+HoldSome u m = (n : ℕ) → is_surely_configured (m.slots n) ≡ true
+    → may_hold_configured u n (λ b. true) (m.slots n) ≡ true
+
 -- ---- slots that change
+
+-- what misses an entry missed one before
+abbrev pub KeepsMet : Universe → (m after : May) → Type 0
+KeepsMet u m after =
+    (n : ℕ) → n < names u → misses_at u after n ≡ true → misses_at u m n ≡ true
 
 module _ (u : Universe) (m after : May) where
   met_more : ((n : ℕ) (p : Bits) → surely_configured u n p (m.slots n) ≡ true
@@ -122,60 +141,113 @@ module _ (u : Universe) (m after : May) where
   met_after : ((n : ℕ) (p : Bits) → surely_configured u n p (m.slots n) ≡ true
       → surely_configured u n p (after.slots n) ≡ true)
       → ((n : ℕ) → (after.slots n ≡ m.slots n) ⊎ (misses_at u after n ≡ false))
-      → some_misses u m ≡ false → some_misses u after ≡ false
-  met_after more each = none_below (names u) (misses_at u after) (misses_at u m) by
-    where
-      by : (n : ℕ) → n < names u → misses_at u after n ≡ true → misses_at u m n ≡ true
-      by n lt is = elim (each n) [
-        | inl same ↦
-            configured_mono u n _ _ (m.slots n)
-            (λ b. unmet_less (surely_met u m) (surely_met u after) (entries u (variant n b))
-            (met_more more))
-            (ap (may_hold_configured u n
-            (λ b. unmet (surely_met u after) (entries u (variant n b)))) (sym same) ∙ is)
-        | inr none ↦ absurd (both_ways _ none is)
-      ]
+      → KeepsMet u m after
+  met_after more each n lt is = elim (each n) [
+    | inl same ↦
+        configured_mono u n _ _ (m.slots n)
+        (λ b. unmet_less (surely_met u m) (surely_met u after) (entries u (variant n b))
+        (met_more more))
+        (ap (may_hold_configured u n
+        (λ b. unmet (surely_met u after) (entries u (variant n b)))) (sym same) ∙ is)
+    | inr none ↦ absurd (both_ways _ none is)
+  ]
 
 pub met_same : (u : Universe) (m after : May) → ((n : ℕ) → after.slots n ≡ m.slots n)
-    → some_misses u m ≡ false → some_misses u after ≡ false
+    → KeepsMet u m after
 met_same u m after same =
     met_after u m after (λ n p is. ap (surely_configured u n p) (same n) ∙ is) (λ n. inl (same n))
 
 -- ---- an unpack
 
 module _ (u : Universe) (there : Variant → Bool) (m : May) (name : ℕ)
-    (wanted : Option (Op × List ℕ)) (highest : ℕ)
-    (free : is_surely_configured (m.slots name) ≡ false) where
+    (wanted : Option (Op × List ℕ)) (highest : ℕ) where
   abbrev unpacked : May
   unpacked = may_unpack u there m name wanted (Some highest)
 
-  more_unpacked : (n : ℕ) (p : Bits) → surely_configured u n p (m.slots n) ≡ true
-      → surely_configured u n p (unpacked.slots n) ≡ true
-  more_unpacked n p is = elim (cases_eq n name) [
-    | inl same ↦ absurd (both_ways _
-        (not_configured u n p (m.slots n) (ap (λ k. is_surely_configured (m.slots k)) same ∙ free)).0
-        is)
-    | inr other ↦ rw (ne_eqb n name other) is
-  ]
+  slot_kept : (n : ℕ) → n ≢ name → unpacked.slots n ≡ m.slots n
+  slot_kept n other = rw (ne_eqb n name other) refl
 
-  each_unpacked : (n : ℕ) → (unpacked.slots n ≡ m.slots n) ⊎ (misses_at u unpacked n ≡ false)
-  each_unpacked n = elim (cases_eq n name) [
-    | inl same ↦ inr (not_configured u n
-        (λ b. unmet (surely_met u unpacked) (entries u (variant n b))) (unpacked.slots n)
-        (rw (eq-eqb n name same) refl)).1
-    | inr other ↦ inl (rw (ne_eqb n name other) refl)
-  ]
+  none_unpacked : (n : ℕ) → n ≡ name → misses_at u unpacked n ≡ false
+  none_unpacked n same = (not_configured u n
+      (λ b. unmet (surely_met u unpacked) (entries u (variant n b))) (unpacked.slots n)
+      (rw (eq-eqb n name same) refl)).1
 
-  met_once : some_misses u m ≡ false → some_misses u unpacked ≡ false
-  met_once = met_after u m unpacked more_unpacked each_unpacked
+  met_once : is_surely_configured (m.slots name) ≡ false → KeepsMet u m unpacked
+  met_once free = met_after u m unpacked more each
+    where
+      more : (n : ℕ) (p : Bits) → surely_configured u n p (m.slots n) ≡ true
+          → surely_configured u n p (unpacked.slots n) ≡ true
+      more n p is = elim (cases_eq n name) [
+        | inl same ↦ absurd (both_ways _
+            (not_configured u n p (m.slots n)
+            (ap (λ k. is_surely_configured (m.slots k)) same ∙ free)).0 is)
+        | inr other ↦ ap (surely_configured u n p) (slot_kept n other) ∙ is
+      ]
+
+      each : (n : ℕ) → (unpacked.slots n ≡ m.slots n) ⊎ (misses_at u unpacked n ≡ false)
+      each n = elim (cases_eq n name) [
+        | inl same ↦ inr (none_unpacked n same)
+        | inr other ↦ inl (slot_kept n other)
+      ]
+
+  -- an entry that was met, and is not where the name is unpacked over
+  lost_name : HoldSome u m → (e : Entry) → surely_met u m e ≡ true → surely_met u unpacked e ≡ false
+      → (c : ℕ) × (c < variants u name) × (satisfies_entry u e (variant name c) ≡ true)
+  unfolding surely_met
+  lost_name hold e was gone =
+      let p : ℕ → Bits = λ n b. satisfies_entry u e (variant n b) in
+      let k = some_below-found (names u) (λ n. surely_configured u n (p n) (m.slots n)) was in
+      elim (cases_eq k.0 name) [
+        | inl same ↦
+            let c = configured_found u name (p name) (m.slots name)
+            (may_satisfy u name (p name) (m.slots name) (hold name)
+            (subst (λ n. surely_configured u n (p n) (m.slots n) ≡ true) same k.2)) in
+            (c.0, c.3, c.1)
+        | inr other ↦ absurd (both_ways _ gone (some_below-at (names u)
+            (λ n. surely_configured u n (p n) (unpacked.slots n)) k.0 k.1
+            (ap (surely_configured u k.0 (p k.0)) (slot_kept k.0 other) ∙ k.2)))
+      ]
+
+  met_over : HoldSome u m → (n : ℕ) → misses_at u unpacked n ≡ true
+      → (misses_at u m n ≡ true) ⊎ (may_need u n name ≡ true)
+  met_over hold n is = elim (cases_eq n name) [
+    | inl same ↦ absurd (both_ways _ (none_unpacked n same) is)
+    | inr other ↦
+        let b = configured_found u n (λ d. unmet (surely_met u unpacked) (entries u (variant n d)))
+        (m.slots n)
+        (ap (may_hold_configured u n (λ d. unmet (surely_met u unpacked) (entries u (variant n d))))
+        (sym (slot_kept n other)) ∙ is) in
+        let es = entries u (variant n b.0) in
+        let i = any-found (λ e. not (surely_met u unpacked e)) [] es b.1 in
+        let e : Entry = slice_index_or es i.0 [] in
+        elim (cases_Bool (surely_met u m e)) [
+          | inr missed ↦ inl (b.2 (λ d. unmet (surely_met u m) (entries u (variant n d)))
+              (any-at (λ d. not (surely_met u m d)) [] es i.0 i.1 (not_from_false _ missed)))
+          | inl was ↦
+              let c = lost_name hold e was (not-true _ i.2) in
+              inr (some_below-at (variants u name)
+              (λ d. may_serve u n (variants u n) (variant name d)) c.0 c.1
+              (some_below-at (variants u n)
+              (λ d. satisfies_any u (entries u (variant n d)) (variant name c.0)) b.0 b.3
+              (any-at (λ x. satisfies_entry u x (variant name c.0)) [] es i.0 i.1 c.2)))
+        ]
+  ]
 
 pub met_unpacked : (u : Universe) (there : Variant → Bool) (m : May) (name : ℕ)
     (wanted : Option (Op × List ℕ)) (highest : Option ℕ)
-    → is_surely_configured (m.slots name) ≡ false → some_misses u m ≡ false
-    → some_misses u (may_unpack u there m name wanted highest) ≡ false
-met_unpacked u there m name wanted None free met = met
-met_unpacked u there m name wanted (Some highest) free met =
-    met_once u there m name wanted highest free met
+    → is_surely_configured (m.slots name) ≡ false
+    → KeepsMet u m (may_unpack u there m name wanted highest)
+met_unpacked u there m name wanted None free = λ n lt is. is
+met_unpacked u there m name wanted (Some highest) free =
+    met_once u there m name wanted highest free
+
+pub met_upgraded : (u : Universe) (there : Variant → Bool) (m : May) (name : ℕ)
+    (wanted : Option (Op × List ℕ)) (highest : Option ℕ) → HoldSome u m → (n : ℕ)
+    → misses_at u (may_unpack u there m name wanted highest) n ≡ true
+    → (misses_at u m n ≡ true) ⊎ (may_need u n name ≡ true)
+met_upgraded u there m name wanted None hold n is = inl is
+met_upgraded u there m name wanted (Some highest) hold n is =
+    met_over u there m name wanted highest hold n is
 
 -- ---- the first trap
 
@@ -224,8 +296,7 @@ module _ (u : Universe) (of : Lane) (m : May) (ms : List ℕ) where
   configured_hold n p (MayUnpacked current last) = refl
   configured_hold n p (MayConfigured current) = refl
 
-  pub met_configured : first_trap (configure_risks u of m ms) ≡ None → some_misses u m ≡ false
-      → some_misses u configured ≡ false
+  pub met_configured : first_trap (configure_risks u of m ms) ≡ None → KeepsMet u m configured
   met_configured none = met_after u m configured more_configured each
     where
       pre : some_may_member u ms m (λ v. unmet (surely_met u m) (pre_depends u v)) ≡ false
@@ -268,15 +339,9 @@ module _ (u : Universe) (of : Lane) (m : May) (ms : List ℕ) where
 
 -- ---- a deconfigure and a remove
 
--- each surely configured name may hold something
-abbrev pub HoldSome : Universe → May → Type 0
-HoldSome u m = (n : ℕ) → is_surely_configured (m.slots n) ≡ true
-    → may_hold_configured u n (λ b. true) (m.slots n) ≡ true
-
 module _ (u : Universe) (of : Lane) (m : May) (ms : List ℕ) (f : MaySlot → MaySlot)
     (off : (s : MaySlot) → is_surely_configured (f s) ≡ false) (hold : HoldSome u m)
-    (right : MaySlot → Bool) (none : first_trap (withdraw_risks u right of m ms) ≡ None)
-    (met : some_misses u m ≡ false) where
+    (right : MaySlot → Bool) (none : first_trap (withdraw_risks u right of m ms) ≡ None) where
   abbrev withdrawn : May
   withdrawn = may_change f m ms
 
@@ -288,21 +353,6 @@ module _ (u : Universe) (of : Lane) (m : May) (ms : List ℕ) (f : MaySlot → M
 
   slot_in : (n : ℕ) → member ms n ≡ true → withdrawn.slots n ≡ f (m.slots n)
   slot_in n is = ap (λ t. if t then f (m.slots n) else m.slots n) is
-
-  -- what surely satisfies an entry may satisfy it
-  may_satisfy : (n : ℕ) (p : Bits) (s : MaySlot)
-      → (is_surely_configured s ≡ true → may_hold_configured u n (λ b. true) s ≡ true)
-      → surely_configured u n p s ≡ true → may_hold_configured u n p s ≡ true
-  may_satisfy n p MayAbsent some is = cc
-  may_satisfy n p (MayUnpacked current last) some is = cc
-  may_satisfy n p (MayConfigured current) some is =
-      let at = some_below-found (variants u n) (λ b. current b && true) (some refl) in
-      let has = (and_parts (current at.0) true at.2).0 in
-      some_below-at (variants u n) (λ b. current b && p b) at.0 at.1 (and_from _ _ has
-      (elim (or_cases (not (current at.0)) (p at.0) (every_below-at (variants u n) (λ b. not (current b) || p b) at.0 at.1 is)) [
-        | inl lacks ↦ absurd (both_ways _ (not-true _ lacks) has)
-        | inr passes ↦ passes
-      ]))
 
   -- what is met no more was met by a member, and is met by no other name
   outside_stays : (e : Entry) → surely_met_outside u ms m e ≡ true → surely_met u withdrawn e ≡ true
@@ -322,16 +372,16 @@ module _ (u : Universe) (of : Lane) (m : May) (ms : List ℕ) (f : MaySlot → M
       elim (cases_Bool (member ms k.0)) [
         | inl is ↦ some_below-at (names u)
             (λ n. member ms n && may_hold_configured u n (p n) (m.slots n)) k.0 k.1
-            (and_from _ _ is (may_satisfy k.0 (p k.0) (m.slots k.0) (hold k.0) k.2))
+            (and_from _ _ is (may_satisfy u k.0 (p k.0) (m.slots k.0) (hold k.0) k.2))
         | inr out ↦ absurd (both_ways _ gone (some_below-at (names u)
             (λ n. surely_configured u n (p n) (withdrawn.slots n)) k.0 k.1
             (ap (surely_configured u k.0 (p k.0)) (slot_out k.0 out) ∙ k.2)))
       ]
 
-  needed : (n : ℕ) → n < names u → member ms n ≡ false → misses_at u withdrawn n ≡ true
-      → may_be_needed u ms m ≡ true
+  needed : (n : ℕ) → n < names u → member ms n ≡ false → misses_at u m n ≡ false
+      → misses_at u withdrawn n ≡ true → may_be_needed u ms m ≡ true
   unfolding may_be_needed
-  needed n lt out misses =
+  needed n lt out met misses =
       let b = configured_found u n (λ k. unmet (surely_met u withdrawn) (entries u (variant n k)))
       (m.slots n)
       (ap (may_hold_configured u n (λ k. unmet (surely_met u withdrawn) (entries u (variant n k))))
@@ -342,9 +392,9 @@ module _ (u : Universe) (of : Lane) (m : May) (ms : List ℕ) (f : MaySlot → M
       let gone = not-true _ i.2 in
       let was : surely_met u m e ≡ true = elim (cases_Bool (surely_met u m e)) [
         | inl is ↦ is
-        | inr missed ↦ absurd (both_ways _ met (some_below-at (names u) (misses_at u m) n lt
+        | inr missed ↦ absurd (both_ways _ met
             (b.2 (λ k. unmet (surely_met u m) (entries u (variant n k)))
-            (any-at (λ d. not (surely_met u m d)) [] es i.0 i.1 (not_from_false _ missed)))))
+            (any-at (λ d. not (surely_met u m d)) [] es i.0 i.1 (not_from_false _ missed))))
       ] in
       some_below-at (names u)
       (λ k. not (member ms k) && may_hold_configured u k (λ d. list_any
@@ -357,16 +407,14 @@ module _ (u : Universe) (of : Lane) (m : May) (ms : List ℕ) (f : MaySlot → M
       (and_from _ _ (lost e was gone)
       (not_from_false _ (implied _ _ (outside_stays e) gone))))))
 
-  pub met_withdrawn : some_misses u withdrawn ≡ false
-  met_withdrawn = elim (cases_Bool (some_misses u withdrawn)) [
-    | inr is ↦ is
-    | inl some ↦
-        let at = some_below-found (names u) (misses_at u withdrawn) some in
-        absurd (elim (cases_Bool (member ms at.0)) [
-          | inl is ↦ both_ways _
-              (not_configured u at.0 (λ b. true) (withdrawn.slots at.0)
-              (ap is_surely_configured (slot_in at.0 is) ∙ off (m.slots at.0))).1
-              (configured_mono u at.0 _ _ (withdrawn.slots at.0) (λ b passes. refl) at.2)
-          | inr out ↦ both_ways _ not_needed (needed at.0 at.1 out at.2)
-        ])
+  pub met_withdrawn : KeepsMet u m withdrawn
+  met_withdrawn n lt is = elim (cases_Bool (misses_at u m n)) [
+    | inl missed ↦ missed
+    | inr met ↦ absurd (elim (cases_Bool (member ms n)) [
+      | inl among ↦ both_ways _
+          (not_configured u n (λ b. true) (withdrawn.slots n)
+          (ap is_surely_configured (slot_in n among) ∙ off (m.slots n))).1
+          (configured_mono u n _ _ (withdrawn.slots n) (λ b passes. refl) is)
+      | inr out ↦ both_ways _ not_needed (needed n lt out met is)
+    ])
   ]

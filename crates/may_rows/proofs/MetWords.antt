@@ -1,13 +1,14 @@
 -- What is unpacked, and what is configured, by the words.
-use Rattle.std.proofs.Common.{◌≡◌, ◌↔◌, ◌⊎◌, inl, inr, ℕ, Bool, true, false, not, ◌&&◌, ◌||◌, ◌==◌, slice_index, None, Result, Ok, Err, OnOk, refl, sym, ap, ◌∙◌, arith}
-use Rattle.std.proofs.lemmas.Bool.{cases_Bool, and_from, and_parts, or_cases, or_left, or_right, not-true, not_from_false, both_ways, eq-eqb, eqb-true}
+use Rattle.std.proofs.Common.{◌≡◌, ◌↔◌, ◌⊎◌, inl, inr, ℕ, Bool, true, false, not, ◌&&◌, ◌||◌, ◌==◌, slice_index, None, [], ◌∷◌, Ok, ◌<◌, refl, sym, ap, subst, ◌∙◌, arith}
+use Rattle.std.specs.List.{list_any}
+use Rattle.std.proofs.lemmas.List.Folds.{list_any-append}
+use Rattle.std.proofs.lemmas.Bool.{cases_Bool, and_from, or_cases, or_left, or_right, not-true, not_from_false, both_ways, eq-eqb, eqb-true}
 use Rattle.std.proofs.lemmas.Grind.{same_number_lists}
 use Rattle.clause_kernel.specs.Rows.{word_has}
 use Rattle.clause_kernel.proofs.Words.{some_bit}
 use Rattle.farm_model.specs.Below.{some_below}
 use Rattle.farm_model.specs.Chroot.{unmet, entries}
 use Rattle.farm_model.specs.Universe.{Universe, Recipe}
-use Rattle.farm_model.specs.declared.types.Trap.{Trap}
 use Rattle.farm_model.specs.declared.types.Variant.{Variant}
 use Rattle.farm_model.specs.Traps.{first_trap}
 use Rattle.farm_model.specs.Packages.{variant, names, variants, recipe}
@@ -17,14 +18,15 @@ use Rattle.plan_model.specs.May.{MaySlot, MayAbsent, MayUnpacked, MayConfigured,
 use Rattle.plan_model.specs.MayAt.{may_be_deconfigured, may_after}
 use Rattle.plan_model.specs.Plan.{Lane}
 use Rattle.plan_model.specs.Risk.{may_be_unsettled, build_risks, risk}
+use Rattle.plan_model.specs.Sound.{IsInstruction}
 use Rattle.plan_model.specs.Turn.{newest}
 use Rattle.plan_model.specs.declared.instructions.Instruction.{Instruction}
 use Rattle.plan_model.specs.declared.instructions.Instruction.TheVariants.{Unpack, Configure, Deconfigure, Remove, Build, Publish, Wait}
-use Rattle.may_rows.specs.Met.{misses_at, some_misses, stays_met}
+use Rattle.may_rows.specs.Met.{misses_at, some_misses, may_need, Doubt, AreDoubts, settled, upgrades, IsDoubted, IsDoubtAfter}
 use Rattle.may_rows.specs.Walk.{Answers}
 use Rattle.may_rows.specs.Words.{Words, slot_of, may_of, AreOfName, AreWords}
 use Rattle.may_rows.proofs.Bridges.{configured-is, ready_known}
-use Rattle.may_rows.proofs.MetAfter.{HoldSome, implied, no_trap, met_same, met_unpacked, met_configured, met_withdrawn}
+use Rattle.may_rows.proofs.MetAfter.{HoldSome, KeepsMet, implied, no_trap, met_same, met_unpacked, met_upgraded, met_configured, met_withdrawn}
 
 -- ---- words of one name
 
@@ -146,37 +148,73 @@ built_met u of m r none =
     implied _ _ (λ some. unsettled-is u m ∙ or_right
     (some_below (names u) (λ n. is_surely_unpacked (m.slots n))) _ some) told
 
-pub met_step : (u : Universe) (of : Lane) (known there : Variant → Bool) (m : May)
-    → HoldSome u m → (met : Bool) → (met ≡ true → some_misses u m ≡ false)
-    → (x : Instruction) → risk u of known there m x ≡ None → stays_met met m x ≡ true
-    → some_misses u (may_after u known there m x) ≡ false
-met_step u of known there m hold met is (Unpack name wanted) none stays =
-    let parts = and_parts _ _ stays in
-    met_unpacked u there m name wanted (newest u known name wanted) (not-true _ parts.1) (is parts.0)
-met_step u of known there m hold met is (Configure members) none stays =
-    met_configured u of m members none (is stays)
-met_step u of known there m hold met is (Deconfigure members) none stays =
-    met_withdrawn u of m members may_be_deconfigured off hold is_surely_configured none (is stays)
+-- what is in doubt stays so, where nothing more misses an entry
+doubts_kept : (u : Universe) (m after : May) (d new : Doubt) → KeepsMet u m after → AreDoubts u m d
+    → new ≡ d → AreDoubts u after new
+doubts_kept u m after d new keeps are same = subst (AreDoubts u after) (sym same) (record {
+  named = are.named;
+  among = λ known n lt is. are.among known n lt (keeps n lt is);
+})
+
+-- one name more
+doubts_more : (u : Universe) (m after : May) (old new : Doubt) (k : ℕ) → k < names u
+    → ((n : ℕ) → misses_at u after n ≡ true → (misses_at u m n ≡ true) ⊎ (may_need u n k ≡ true))
+    → AreDoubts u m old → IsDoubted old k new → AreDoubts u after new
+doubts_more u m after old new k within either are more = record {
+  named = more.named u within are.named;
+  among = λ known n lt is.
+      ap (list_any (may_need u n)) (more.over known)
+      ∙ (list_any-append (may_need u n) old.over (k ∷ [])
+      ∙ elim (either n is) [
+        | inl before ↦ or_left _ _ (are.among (more.known known) n lt before)
+        | inr needs ↦ or_right (list_any (may_need u n) old.over) _ (or_left _ false needs)
+      ]);
+}
+
+doubts_settled : (u : Universe) (m after : May) (new : Doubt) → KeepsMet u m after
+    → some_misses u m ≡ false → new ≡ settled → AreDoubts u after new
+doubts_settled u m after new keeps met same = subst (AreDoubts u after) (sym same) (record {
+  named = λ k d lt. absurd (omega (arith, lt));
+  among = λ known n lt is. absurd (both_ways _ met
+      (some_below-at (names u) (misses_at u m) n lt (keeps n lt is)));
+})
+
+pub doubts_step : (u : Universe) (of : Lane) (known there : Variant → Bool) (m : May)
+    → HoldSome u m → (old new : Doubt) → AreDoubts u m old → (x : Instruction) → IsInstruction u x
+    → risk u of known there m x ≡ None → (upgraded : Bool) → upgraded ≡ upgrades m x
+    → IsDoubtAfter upgraded x old new → AreDoubts u (may_after u known there m x) new
+doubts_step u of known there m hold old new are (Unpack name wanted) is none true same after =
+    doubts_more u m _ old new name is
+    (met_upgraded u there m name wanted (newest u known name wanted) hold) are (after.0 refl)
+doubts_step u of known there m hold old new are (Unpack name wanted) is none false same after =
+    doubts_kept u m _ old new
+    (met_unpacked u there m name wanted (newest u known name wanted) (sym same)) are (after.1 refl)
+doubts_step u of known there m hold old new are (Configure members) is none upgraded same after =
+    doubts_kept u m _ old new (met_configured u of m members none) are after
+doubts_step u of known there m hold old new are (Deconfigure members) is none upgraded same after =
+    doubts_kept u m _ old new
+    (met_withdrawn u of m members may_be_deconfigured off hold is_surely_configured none) are after
   where
     off : (s : MaySlot) → is_surely_configured (may_be_deconfigured s) ≡ false
     off MayAbsent = refl
     off (MayUnpacked current last) = refl
     off (MayConfigured current) = refl
-met_step u of known there m hold met is (Remove members) none stays =
-    met_withdrawn u of m members (λ s. MayAbsent) (λ s. refl) hold is_surely_present none (is stays)
-met_step u of known there m hold met is (Build r) none stays =
-    met_same u m _ (λ n. refl) (built_met u of m (recipe u r) none)
-met_step u of known there m hold met is (Publish r) none stays = met_same u m _ (λ n. refl) (is stays)
-met_step u of known there m hold met is (Wait e) none stays = is stays
+doubts_step u of known there m hold old new are (Remove members) is none upgraded same after =
+    doubts_kept u m _ old new
+    (met_withdrawn u of m members (λ s. MayAbsent) (λ s. refl) hold is_surely_present none) are after
+doubts_step u of known there m hold old new are (Build r) is none upgraded same after =
+    doubts_settled u m _ new (met_same u m _ (λ n. refl)) (built_met u of m (recipe u r) none) after
+doubts_step u of known there m hold old new are (Publish r) is none upgraded same after =
+    doubts_kept u m _ old new (met_same u m _ (λ n. refl)) are after
+doubts_step u of known there m hold old new are (Wait e) is none upgraded same after =
+    doubts_kept u m _ old new (λ n lt missing. missing) are after
 
 -- what is answered to it
-pub met_answer : (u : Universe) (of : Lane) (known there : Variant → Bool) (m : May)
-    → HoldSome u m → (met : Bool) → (met ≡ true → some_misses u m ≡ false)
-    → (x : Instruction) (next : May) (result : Result (Unit {0}) Trap)
-    → Answers u of known there m x next result
-    → (stays : Bool) → stays ≡ stays_met met m x
-    → OnOk result (stays ≡ true → some_misses u next ≡ false)
-met_answer u of known there m hold met is x next (Ok done) answer stays same =
-    λ stayed. ap (some_misses u) (sym answer.1)
-    ∙ met_step u of known there m hold met is x answer.0 (sym same ∙ stayed)
-met_answer u of known there m hold met is x next (Err trap) answer stays same = tt
+pub doubts_answer : (u : Universe) (of : Lane) (known there : Variant → Bool) (m : May)
+    → HoldSome u m → (old new : Doubt) → AreDoubts u m old → (x : Instruction) → IsInstruction u x
+    → (next : May) → Answers u of known there m x next (Ok tt)
+    → (upgraded : Bool) → upgraded ≡ upgrades m x → IsDoubtAfter upgraded x old new
+    → AreDoubts u next new
+doubts_answer u of known there m hold old new are x is next answer upgraded same after =
+    subst (λ map. AreDoubts u map new) answer.1
+    (doubts_step u of known there m hold old new are x is answer.0 upgraded same after)

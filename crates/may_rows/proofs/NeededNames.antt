@@ -1,9 +1,9 @@
 -- What is needed, member by member and name by name.
-use Rattle.std.proofs.Common.{◌≡◌, ℕ, ◌<◌, Bool, true, false, not, ◌&&◌, List, [], ◌∷◌, sym, ◌∙◌}
+use Rattle.std.proofs.Common.{◌≡◌, inl, inr, ℕ, ◌<◌, Bool, true, false, not, ◌&&◌, List, [], ◌∷◌, sym, ◌∙◌}
 use Rattle.std.specs.Prelude.{slice_index, slice_index_or}
 use Rattle.std.specs.List.{list_any}
 use Rattle.std.proofs.Math.Bool.{or-false}
-use Rattle.std.proofs.lemmas.Bool.{and_from, and_parts, or_left}
+use Rattle.std.proofs.lemmas.Bool.{cases_Bool, and_from, and_parts, or_left, both_ways}
 use Rattle.bit_rows.specs.Sets.{variants_of, HasSomeAt, HaveCommon}
 use Rattle.clause_kernel.specs.Rows.{word_has}
 use Rattle.deb_relation.specs.Relations.{Entry}
@@ -100,3 +100,10 @@ module _ (u : Universe) (w : Words) (are : AreWords u w) (k : ℕ) (row : List �
   pub needs_common : (n : ℕ) → n < names u → needs_at u (k ∷ []) m n ≡ true
       → HaveCommon (variants_of w.ready) (variants_of row)
   needs_common n lt needs = let at = needs_hit n lt needs in (n, at.0, at.1, at.2)
+
+  pub needs_none : (n : ℕ) → n < names u → ((b : ℕ) → variants_of row n b ≡ false)
+      → needs_at u (k ∷ []) m n ≡ false
+  needs_none n lt none = elim (cases_Bool (needs_at u (k ∷ []) m n)) [
+    | inr free ↦ free
+    | inl needs ↦ let at = needs_hit n lt needs in absurd (both_ways _ (none at.0) at.2)
+  ]

@@ -10,9 +10,11 @@ ghost use Rattle.plan_model.specs.Risk.{build_risks, publish_risks};
 ghost use Rattle.plan_model.specs.Turn.{was_built};
 ghost use Rattle.sat_rows.specs.Rows.{entry_at};
 ghost use Rattle.may_rows.specs.Words.{AreWords, may_of};
-ghost use Rattle.may_rows.specs.Met.{some_misses};
+ghost use Rattle.may_rows.specs.Met.{AreDoubts};
 ghost use Rattle.may_rows.specs.Walk.{Answers, IsOfLane};
 
+use crate::dependents::Dependents;
+use crate::doubts::Doubts;
 use crate::numbers::{NumberTest, some_number};
 use crate::settled::may_be_unsettled;
 use crate::space::{may_exceed, may_overflow};
@@ -77,21 +79,22 @@ fn may_clash(_universe: &Universe, tables: &Tables, state: &MayHold, recipe: u32
     state.may_hit(tables.clashes(recipe))
 }
 
-/// The first trap that a build may meet. `met` tells that each entry of what is configured is known
-/// to be met.
+/// The first trap that a build may meet.
 #[tactic(auto, unfolding(farm_model::specs::Traps::first_trap))]
 fn build_risk(
     universe: &Universe,
     tables: &Tables,
+    dependents: &Dependents,
     lane: &Lane,
     state: &MayHold,
-    met: bool,
+    doubts: &Doubts,
     recipe: u32,
 ) -> Option<Trap>
     requires same { tables.now ≡ universe.now }
     requires known { recipe < length universe.now.recipes }
     requires of_lane { IsOfLane universe.now lane.now state.now }
-    requires met { met ≡ true → some_misses universe.now (may_of state.now) ≡ false }
+    requires same_dependents { dependents.now ≡ universe.now }
+    requires doubts { AreDoubts universe.now (may_of state.now) doubts.now }
     ensures { result ≡ first_trap (build_risks universe.now lane.now (may_of state.now)
         (packages.recipe universe.now recipe)) }
 {
@@ -100,7 +103,7 @@ fn build_risk(
     if may_exceed(lane.budget(), state, costs.steps()) {
         return Some(Trap::OverBudget);
     }
-    if may_be_unsettled(universe, tables, state, met) {
+    if may_be_unsettled(universe, tables, dependents, state, doubts) {
         return Some(Trap::Unsettled);
     }
     if misses_needs(universe, tables, state, recipe) {
@@ -115,8 +118,8 @@ fn build_risk(
     None
 }
 
-/// Builds a recipe, or tells the first trap that this may meet. `met` tells that each entry of what
-/// is configured is known to be met.
+/// Builds a recipe, or tells the first trap that this may meet. `doubts` tells which entries of what
+/// is configured are not known to be met.
 ///
 /// # Errors
 ///
@@ -124,20 +127,22 @@ fn build_risk(
 pub fn build(
     universe: &Universe,
     tables: &Tables,
+    dependents: &Dependents,
     lane: &Lane,
     state: &mut MayHold,
-    met: bool,
+    doubts: &Doubts,
     recipe: u32,
 ) -> Result<(), Trap>
     requires same { tables.now ≡ universe.now }
     requires known { recipe < length universe.now.recipes }
     requires of_lane { IsOfLane universe.now lane.now state.old }
-    requires met { met ≡ true → some_misses universe.now (may_of state.old) ≡ false }
+    requires same_dependents { dependents.now ≡ universe.now }
+    requires doubts { AreDoubts universe.now (may_of state.old) doubts.now }
     ensures answer { (in_it may_be : Variant → Bool) → Answers universe.now lane.now in_it may_be
         (may_of state.old) (Instruction.Build recipe) (may_of state.new) result }
     ensures of_lane { OnOk result (IsOfLane universe.now lane.now state.new) }
 {
-    if let Some(trap) = build_risk(universe, tables, lane, state, met, recipe) {
+    if let Some(trap) = build_risk(universe, tables, dependents, lane, state, doubts, recipe) {
         return Err(trap);
     }
     state.spend(universe, universe.recipe(recipe).steps());

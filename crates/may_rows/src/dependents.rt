@@ -143,8 +143,10 @@ fn note(rows: &mut Vec<Row>, universe: &Universe, row: &Row, name: u32) -> Resul
     ensures noted { OnOk result ((k c : ℕ) → k < names universe.now
         → variants_of row.now k c ≡ true → HasName universe.now rows.new.items k name) }
 {
-    for place in 0..row.len() {
+    let mut place = row.skip(0);
+    while place < row.len() {
         note_at(rows, universe, row, place, name)?;
+        place = row.skip(place + 1);
     }
     Ok(())
 }

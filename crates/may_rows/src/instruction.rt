@@ -6,8 +6,7 @@ ghost use Rattle.farm_model.specs.declared.types.Variant.{Variant};
 ghost use Rattle.farm_model.specs.Packages.{names};
 ghost use Rattle.plan_model.specs.Sound.{IsInstruction};
 ghost use Rattle.sat_rows.specs.Rows.{IsRowOf};
-ghost use Rattle.may_rows.specs.Met.{some_misses};
-ghost use Rattle.may_rows.specs.Met as spec;
+ghost use Rattle.may_rows.specs.Met.{AreDoubts};
 ghost use Rattle.may_rows.specs.Picks.{AreOfArchive};
 ghost use Rattle.may_rows.specs.Words.{AreWords, may_of};
 ghost use Rattle.may_rows.specs.Walk.{Answers, IsOfLane};
@@ -15,6 +14,7 @@ ghost use Rattle.may_rows.specs.Walk.{Answers, IsOfLane};
 use crate::build::{build, publish};
 use crate::configure::configure;
 use crate::dependents::Dependents;
+use crate::doubts::{Doubts, upgrades};
 use crate::state::MayHold;
 use crate::unpack::unpack;
 use crate::withdraw::{deconfigure, remove};
@@ -23,23 +23,6 @@ use farm_universe::{Trap, Universe};
 use plan_asm::{Instruction, Lane};
 use sat_rows::Tables;
 
-/// Tells whether it is known after a safe instruction that each entry of what is configured is met,
-/// where `met` tells whether it was known.
-fn stays_met(_universe: &Universe, state: &MayHold, met: bool, instruction: &Instruction) -> bool
-    requires { AreWords _universe.now state.now }
-    ensures { result ≡ spec.stays_met met (may_of state.now) instruction.now }
-{
-    match instruction {
-        Instruction::Unpack { name, relation: _ } => met && !state.is_configured(*name),
-        Instruction::Build(_) => true,
-        Instruction::Configure(_)
-        | Instruction::Deconfigure(_)
-        | Instruction::Remove(_)
-        | Instruction::Publish(_)
-        | Instruction::Wait(_) => met,
-    }
-}
-
 /// Goes on by an instruction, where it is safe.
 fn go_on(
     universe: &Universe,
@@ -47,7 +30,7 @@ fn go_on(
     dependents: &Dependents,
     lane: &Lane,
     state: &mut MayHold,
-    met: bool,
+    doubts: &Doubts,
     instruction: &Instruction,
     known: &Row,
     there: &Row,
@@ -60,7 +43,7 @@ fn go_on(
     requires there_long { length there.now ≡ names universe.now }
     requires known_there { (n b : ℕ) → variants_of known.now n b ≡ true
         → variants_of there.now n b ≡ true }
-    requires met { met ≡ true → some_misses universe.now (may_of state.old) ≡ false }
+    requires doubts { AreDoubts universe.now (may_of state.old) doubts.now }
     ensures answer { (in_it may_be : Variant → Bool) → AreOfArchive universe.now in_it may_be
         → IsRowOf universe.now in_it known.now → IsRowOf universe.now may_be there.now
         → Answers universe.now lane.now in_it may_be (may_of state.old) instruction.now
@@ -101,15 +84,17 @@ fn go_on(
                 members.as_slice(),
             )
         }
-        Instruction::Build(recipe) => build(universe, tables, lane, state, met, *recipe),
+        Instruction::Build(recipe) => {
+            build(universe, tables, dependents, lane, state, doubts, *recipe)
+        }
         Instruction::Publish(recipe) => publish(universe, lane, state, *recipe),
         Instruction::Wait(_) => Ok(()),
     }
 }
 
 /// Goes on by an instruction, where it is safe. `known` is what is surely in the archive, and
-/// `there` what may be. `met` tells whether it is known that each entry of what is configured is
-/// met, and is kept so: a build then looks at no entry.
+/// `there` what may be. `doubts` tells which entries of what is configured are not known to be met,
+/// and is kept so: a build looks at no others.
 ///
 /// # Errors
 ///
@@ -120,7 +105,7 @@ pub fn step(
     dependents: &Dependents,
     lane: &Lane,
     state: &mut MayHold,
-    met: &mut bool,
+    doubts: &mut Doubts,
     instruction: &Instruction,
     known: &Row,
     there: &Row,
@@ -133,27 +118,28 @@ pub fn step(
     requires there_long { length there.now ≡ names universe.now }
     requires known_there { (n b : ℕ) → variants_of known.now n b ≡ true
         → variants_of there.now n b ≡ true }
-    requires met { met.old ≡ true → some_misses universe.now (may_of state.old) ≡ false }
+    requires doubts { AreDoubts universe.now (may_of state.old) doubts.old }
     ensures answer { (in_it may_be : Variant → Bool) → AreOfArchive universe.now in_it may_be
         → IsRowOf universe.now in_it known.now → IsRowOf universe.now may_be there.now
         → Answers universe.now lane.now in_it may_be (may_of state.old) instruction.now
         (may_of state.new) result }
     ensures of_lane { OnOk result (IsOfLane universe.now lane.now state.new) }
-    ensures met { (in_it may_be : Variant → Bool) → AreOfArchive universe.now in_it may_be
+    ensures doubts { (in_it may_be : Variant → Bool) → AreOfArchive universe.now in_it may_be
         → IsRowOf universe.now in_it known.now → IsRowOf universe.now may_be there.now
-        → OnOk result (met.new ≡ true → some_misses universe.now (may_of state.new) ≡ false) }
+        → OnOk result (AreDoubts universe.now (may_of state.new) doubts.new) }
 {
-    let was_met = *met;
-    *met = stays_met(universe, state, was_met, instruction);
+    let upgraded = upgrades(universe, state, instruction);
     go_on(
         universe,
         tables,
         dependents,
         lane,
         state,
-        was_met,
+        doubts,
         instruction,
         known,
         there,
-    )
+    )?;
+    doubts.pass(instruction, upgraded);
+    Ok(())
 }

@@ -6,6 +6,7 @@ mod base;
 mod build;
 mod configure;
 mod dependents;
+mod doubts;
 mod entries;
 mod exclude;
 mod instruction;
@@ -22,5 +23,6 @@ mod withdraw;
 mod write;
 
 pub use dependents::Dependents;
+pub use doubts::Doubts;
 pub use instruction::step;
 pub use state::MayHold;

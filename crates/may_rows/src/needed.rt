@@ -233,11 +233,13 @@ fn is_needed(
     if !row.is_hit_by(&state.ready) {
         return false;
     }
-    let count = universe.names();
-    for name in 0..count {
-        if needs_one(universe, tables, dependents, state, member, name) {
+    let names = universe.names() as usize;
+    let mut name = row.skip(0);
+    while name < names {
+        if needs_one(universe, tables, dependents, state, member, name as u32) {
             return true;
         }
+        name = row.skip(name + 1);
     }
     false
 }

@@ -8,7 +8,7 @@ ghost use Rattle.wait_order.specs.KnownRows.{rows_of};
 
 use crate::possible::{add_outputs, possible_row};
 use farm_universe::{Trap, Universe};
-use may_rows::{Dependents, MayHold, step};
+use may_rows::{Dependents, Doubts, MayHold, step};
 use plan_asm::Plan;
 use sat_rows::Tables;
 use std::alloc::{AllocError, AllocFailed, Global};
@@ -72,7 +72,7 @@ pub fn walk(
     let instructions = lane.instructions();
     let mut there = possible_row(alloc, universe, plan, number)?;
     let mut state = MayHold::of_base(alloc, universe, lane.base())?;
-    let mut met = false;
+    let mut doubts = Doubts::new(alloc);
     for place in 0..instructions.len() {
         let instruction = &instructions[place];
         let known = known.row(number, place);
@@ -82,7 +82,7 @@ pub fn walk(
             dependents,
             lane,
             &mut state,
-            &mut met,
+            &mut doubts,
             instruction,
             known,
             &there,

@@ -1,4 +1,4 @@
-use Rattle.std.proofs.Common.{not, ◌||◌, sym, ap, ◌∙◌}
+use Rattle.std.proofs.Common.{◌||◌, sym, ap, ◌∙◌}
 use Rattle.may_rows.specs.Met.{some_misses}
 use Rattle.may_rows.specs.Words.{may_of}
 use Rattle.may_rows.proofs.MetWords.{unsettled-is}
@@ -12,19 +12,10 @@ returns-then-some_unpacked c =
     ∙ sym (unsettled-is u m
     ∙ ap (λ t. t || some_misses u m) (sym c.some_unpacked.ensures ∙ c.if-some_unpacked.true))
 
-pub returns-then-not-met : goal.returns-then-not-met
-returns-then-not-met c =
+pub returns-else-some_unpacked : goal.returns-else-some_unpacked
+returns-else-some_unpacked c =
     let u = c.args.universe.now in
     let m = may_of c.args.state.now in
-    c.some_misses.ensures
+    c.some_doubted.ensures
     ∙ sym (unsettled-is u m
     ∙ ap (λ t. t || some_misses u m) (sym c.some_unpacked.ensures ∙ c.if-some_unpacked.false))
-
-pub returns-else-not-met : goal.returns-else-not-met
-returns-else-not-met c =
-    let u = c.args.universe.now in
-    let m = may_of c.args.state.now in
-    ap not c.if-not-met.false
-    ∙ sym (unsettled-is u m
-    ∙ ap (λ t. t || some_misses u m) (sym c.some_unpacked.ensures ∙ c.if-some_unpacked.false)
-    ∙ c.requires.met c.if-not-met.false)

@@ -1,6 +1,7 @@
-use Rattle.std.proofs.Common.{◌≡◌, ◌<◌, ◌^◌, None, Some, length, inl, inr, refl, sym, ap, subst, ◌∙◌, add-one, arith}
+use Rattle.std.proofs.Common.{◌≡◌, ◌<◌, ◌^◌, All, None, Some, length, inl, inr, refl, sym, ap, subst, ◌∙◌, add-one, arith}
 use Rattle.std.proofs.lemmas.Bool.{cases_eq, cases_lt}
 use Rattle.std.proofs.lemmas.Option.{slice_get_past}
+use Rattle.farm_model.specs.Packages.{names}
 use Rattle.farm_model.specs.Universe.{Universe}
 use Rattle.may_rows.specs.Words.{may_of}
 use Rattle.plan_model.specs.Known.{possible}
@@ -36,7 +37,11 @@ loop-place-init c =
         words = c.in_ok-state.ensures.words;
         within = omega (arith, free);
       };
-      met = λ known. cc known;
+      doubts = record {
+        named = subst (All (λ k. k < names u)) (sym c.new-doubts.ensures.none)
+            (λ k d lt. absurd (omega (arith, lt)));
+        among = λ known. cc (known, c.new-doubts.ensures.unknown);
+      };
       there = c.in_ok-there.ensures;
     }
 
@@ -76,7 +81,7 @@ loop-place-preserved c =
         | inr other ↦ c.loop-place.invariant.safe k (omega arith)
       ];
       of_lane = c.in_default.ensures.of_lane;
-      met = c.in_default.ensures.met (rows l i) (possible u p l i) archive known
+      doubts = c.in_default.ensures.doubts (rows l i) (possible u p l i) archive known
           c.loop-place.invariant.there;
       there =
           rw add-one

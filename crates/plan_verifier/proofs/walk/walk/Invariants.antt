@@ -1,5 +1,5 @@
-use Rattle.std.proofs.Common.{◌≡◌, ℕ, ◌<◌, true, false, None}
-use Rattle.may_rows.specs.Met.{some_misses}
+use Rattle.std.proofs.Common.{◌≡◌, ℕ, ◌<◌, None}
+use Rattle.may_rows.specs.Met.{AreDoubts}
 use Rattle.may_rows.specs.Walk.{IsOfLane}
 use Rattle.may_rows.specs.Words.{may_of}
 use Rattle.plan_model.specs.Known.{possible}
@@ -15,6 +15,6 @@ invariant-loop-place l = record {
   safe : (k : ℕ) → k < l.place
       → risk_at l.universe l.plan.lanes (rows_of l.fn.known) l.number k ≡ None;
   of_lane : IsOfLane l.universe l.lane l.state;
-  met : l.met ≡ true → some_misses l.universe (may_of l.state) ≡ false;
+  doubts : AreDoubts l.universe (may_of l.state) l.doubts;
   there : IsRowOf l.universe (possible l.universe l.plan.lanes l.number l.place) l.there;
 }
