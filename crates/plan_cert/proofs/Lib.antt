@@ -8,3 +8,4 @@ pub mod OrderLaws
 pub mod FaultLaws
 pub mod NewRows
 pub mod MadeLaws
+pub mod OriginLaws

@@ -8,10 +8,12 @@ ghost use Rattle.plan_model.specs.Plan.{lane};
 ghost use Rattle.plan_model.specs.Sound.{IsSound};
 ghost use Rattle.sat_rows.specs.Rows.{IsRowOf};
 ghost use Rattle.wait_order.specs.KnownRows.{rows_of};
+ghost use Rattle.plan_cert.specs.Origins.{AreLanePublishes, AreOrigins};
 ghost use Rattle.plan_cert.specs.Stated.{in_row};
 ghost use Rattle.plan_cert.specs.Places.{HaveKnown};
 ghost use Rattle.plan_cert.specs.Facts.{HasNoSource, IsFirstSource, IsKnownWith, IsKnownAt, AreFacts};
 
+use crate::origins::Origins;
 use bit_rows::Row;
 use farm_universe::{Universe, Variant};
 use plan_asm::{Instruction, Plan};
@@ -77,13 +79,13 @@ fn is_known_with(
         → ((v : Variant) → known v ≡ true → IsKnown universe.now v) → IsTrue yes
         ↔ IsKnownWith universe.now (in_row sources.now) (in_row new.now) known recipe) }
 {
-    if new.within(before) {
-        return Ok(true);
-    }
     let outputs = universe.outputs(recipe);
     let Some(first) = first_source(universe, sources, outputs) else {
         return Ok(true);
     };
+    if new.within(before) {
+        return Ok(true);
+    }
     let row = with_outputs(universe, before, recipe, first + 1)?;
     Ok(new.within(&row))
 }
@@ -117,12 +119,13 @@ fn is_known_at(
     Ok(yes)
 }
 
-/// Tells so of all publishes of a lane.
+/// Tells so of all publishes of a lane, which stand at these places.
 fn is_known_in(
     universe: &Universe,
     plan: &Plan,
     known: &Known,
     number: usize,
+    places: &[usize],
     sources: &Row,
     new: &Row,
 ) -> Result<bool, AllocError>
@@ -133,11 +136,12 @@ fn is_known_in(
     requires sources { length sources.now ≡ names universe.now }
     requires new { length new.now ≡ names universe.now }
     requires lane { number < length plan.now.lanes }
+    requires places { AreLanePublishes plan.now.lanes number places.now }
     ensures { IfOk result (λ yes. IsTrue yes ↔ ((k : ℕ) → IsKnownAt universe.now plan.now.lanes
         (rows_of known.now) (in_row sources.now) (in_row new.now) number k)) }
 {
-    for place in 0..plan.lane(number).instructions().len() {
-        if !is_known_at(universe, plan, known, number, place, sources, new)? {
+    for n in 0..places.len() {
+        if !is_known_at(universe, plan, known, number, places[n], sources, new)? {
             return Ok(false);
         }
     }
@@ -165,7 +169,7 @@ pub fn are_facts(
     universe: &Universe,
     plan: &Plan,
     known: &Known,
-    archive: &Row,
+    origins: &Origins,
     sources: &Row,
     new: &Row,
 ) -> Result<bool, AllocError>
@@ -173,17 +177,18 @@ pub fn are_facts(
     requires of_universe { known.now.universe ≡ universe.now }
     requires of_plan { known.now.plan ≡ plan.now.lanes }
     requires known { HaveKnown universe.now plan.now.lanes (rows_of known.now) }
-    requires archive { IsRowOf universe.now (initial universe.now) archive.now }
+    requires origins { AreOrigins universe.now plan.now.lanes origins.now }
     requires sources { length sources.now ≡ names universe.now }
     requires new { length new.now ≡ names universe.now }
     ensures { IfOk result (λ yes. IsTrue yes ↔ AreFacts universe.now plan.now.lanes
         (rows_of known.now) (in_row sources.now) (in_row new.now)) }
 {
-    if !is_initial(universe, archive, sources, new) {
+    if !is_initial(universe, &origins.archive, sources, new) {
         return Ok(false);
     }
     for number in 0..plan.lanes() {
-        if !is_known_in(universe, plan, known, number, sources, new)? {
+        let places = origins.publishes[number].places.as_slice();
+        if !is_known_in(universe, plan, known, number, places, sources, new)? {
             return Ok(false);
         }
     }

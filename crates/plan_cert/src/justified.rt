@@ -12,11 +12,13 @@ ghost use Rattle.plan_model.specs.Sound.{IsSound};
 ghost use Rattle.row_laws.specs.Places.{IsJustified};
 ghost use Rattle.sat_rows.specs.Rows.{IsRowOf};
 ghost use Rattle.wait_order.specs.KnownRows.{rows_of};
+ghost use Rattle.plan_cert.specs.Origins.{AreOrigins};
 ghost use Rattle.plan_cert.specs.Stated.{in_row};
 ghost use Rattle.plan_cert.specs.Places.{HaveKnown};
 ghost use Rattle.plan_cert.specs.Checked.{IsLaneChecked, AreChecked};
 
 use crate::facts::{are_facts, with_outputs};
+use crate::origins::{Origins, find_origins};
 use bit_rows::Row;
 use cert_text::CertFault;
 use deb_relation::Entry;
@@ -25,7 +27,7 @@ use plan_asm::{Instruction, Plan};
 use plan_verifier::{add_outputs, possible_row};
 use sat_rows::Tables;
 use std::alloc::{AllocError, Global};
-use wait_order::{Known, initial_row};
+use wait_order::Known;
 
 /// Tells whether a wait may add all of `new` to what its lane knows.
 fn may_add(
@@ -34,7 +36,7 @@ fn may_add(
     tables: &Tables,
     plan: &Plan,
     known: &Known,
-    archive: &Row,
+    origins: &Origins,
     there: &Row,
     entry: &Entry,
     new: &Row,
@@ -46,7 +48,7 @@ fn may_add(
     requires of_universe { known.now.universe ≡ universe.now }
     requires of_plan { known.now.plan ≡ plan.now.lanes }
     requires known { HaveKnown universe.now plan.now.lanes (rows_of known.now) }
-    requires archive { IsRowOf universe.now (initial universe.now) archive.now }
+    requires origins { AreOrigins universe.now plan.now.lanes origins.now }
     requires there { IsRowOf universe.now (possible universe.now plan.now.lanes _number _place)
         there.now }
     requires new { length new.now ≡ names universe.now }
@@ -59,7 +61,7 @@ fn may_add(
     }
     let mut sources = tables.entry_row(alloc, universe, entry)?;
     sources.and_into(there);
-    let yes = are_facts(universe, plan, known, archive, &sources, new)?;
+    let yes = are_facts(universe, plan, known, origins, &sources, new)?;
     Ok(yes)
 }
 
@@ -86,7 +88,7 @@ fn is_justified(
     tables: &Tables,
     plan: &Plan,
     known: &Known,
-    archive: &Row,
+    origins: &Origins,
     there: &Row,
     number: usize,
     place: usize,
@@ -96,7 +98,7 @@ fn is_justified(
     requires of_universe { known.now.universe ≡ universe.now }
     requires of_plan { known.now.plan ≡ plan.now.lanes }
     requires known { HaveKnown universe.now plan.now.lanes (rows_of known.now) }
-    requires archive { IsRowOf universe.now (initial universe.now) archive.now }
+    requires origins { AreOrigins universe.now plan.now.lanes origins.now }
     requires there { IsRowOf universe.now (possible universe.now plan.now.lanes number place)
         there.now }
     requires lane { number < length plan.now.lanes }
@@ -117,7 +119,7 @@ fn is_justified(
         let mut new = after.clone()?;
         new.take_out(before);
         let yes = may_add(
-            alloc, universe, tables, plan, known, archive, there, entry, &new, number, place,
+            alloc, universe, tables, plan, known, origins, there, entry, &new, number, place,
         )?;
         return Ok(yes);
     }
@@ -131,7 +133,7 @@ fn check_lane(
     tables: &Tables,
     plan: &Plan,
     known: &Known,
-    archive: &Row,
+    origins: &Origins,
     number: usize,
 ) -> Result<(), CertFault>
     requires sound { IsUniverse universe.now }
@@ -139,7 +141,7 @@ fn check_lane(
     requires of_universe { known.now.universe ≡ universe.now }
     requires of_plan { known.now.plan ≡ plan.now.lanes }
     requires known { HaveKnown universe.now plan.now.lanes (rows_of known.now) }
-    requires archive { IsRowOf universe.now (initial universe.now) archive.now }
+    requires origins { AreOrigins universe.now plan.now.lanes origins.now }
     requires lane { number < length plan.now.lanes }
     ensures { IsLaneChecked universe.now plan.now.lanes (rows_of known.now) number result }
 {
@@ -148,7 +150,7 @@ fn check_lane(
     let mut there = possible_row(alloc, universe, plan, number)?;
     for place in 0..instructions.len() {
         let justified = is_justified(
-            alloc, universe, tables, plan, known, archive, &there, number, place,
+            alloc, universe, tables, plan, known, origins, &there, number, place,
         )?;
         if !justified {
             return Err(CertFault::Row {
@@ -183,9 +185,9 @@ pub fn check_rows(
         → rows_of known.now l 0 v ≡ true → initial universe.now v ≡ true }
     ensures { AreChecked universe.now plan.now.lanes (rows_of known.now) result }
 {
-    let archive = initial_row(alloc, universe)?;
+    let origins = find_origins(alloc, universe, plan)?;
     for number in 0..plan.lanes() {
-        check_lane(alloc, universe, tables, plan, known, &archive, number)?;
+        check_lane(alloc, universe, tables, plan, known, &origins, number)?;
     }
     Ok(())
 }

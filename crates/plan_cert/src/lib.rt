@@ -8,6 +8,7 @@ mod justified;
 mod laws;
 mod maker;
 mod order;
+mod origins;
 mod stated;
 
 pub use cert_text::{CertFault, Certificate};
