@@ -61,30 +61,65 @@ fn on_files<'a>(
         .arg(file(alloc, PLAN, "PLAN", help::PLAN))
 }
 
-/// The commands of the program, whose words begin behind its name.
-pub fn portfarm<'a>(alloc: Global) -> Result<Command<'a>, AllocError> {
-    let check = on_files(alloc, CHECK, help::CHECK, help::CHECK_MORE)?;
-    let list = on_files(alloc, LIST, help::LIST, help::LIST_MORE)?;
-    let cert = on_files(alloc, CERT, help::CERT, help::CERT_MORE)?;
-    let verify = on_files(
+/// The program's name, version and help.
+fn described<'a>(alloc: Global) -> Result<Command<'a>, AllocError> {
+    let program = Command::new(alloc, PORTFARM)
+        .bin_name(PORTFARM)?
+        .version(help::VERSION)
+        .about(help::PORTFARM)
+        .after_long_help(help::PORTFARM_MORE);
+    Ok(program)
+}
+
+/// The program without its commands. Its words begin behind its name.
+fn program<'a>(alloc: Global) -> Result<Command<'a>, AllocError> {
+    let program = described(alloc)?
+        .no_binary_name(true)
+        .propagate_version(true)
+        .subcommand_required(true)
+        .disable_help_subcommand(true);
+    Ok(program)
+}
+
+/// The command that checks a certificate.
+fn verify_cert<'a>(alloc: Global) -> Result<Command<'a>, AllocError> {
+    on_files(
         alloc,
         VERIFY_CERT,
         help::VERIFY_CERT,
         help::VERIFY_CERT_MORE,
-    )?;
-    let step = on_files(alloc, STEP, help::STEP, help::STEP_MORE)?;
-    Command::new(alloc, PORTFARM)
-        .bin_name(PORTFARM)?
-        .version(help::VERSION)
-        .about(help::PORTFARM)
-        .after_long_help(help::PORTFARM_MORE)
-        .no_binary_name(true)
-        .propagate_version(true)
-        .subcommand_required(true)
-        .disable_help_subcommand(true)
-        .subcommand(check)?
-        .subcommand(list)?
-        .subcommand(cert)?
-        .subcommand(verify.arg(file(alloc, CERTIFICATE, "CERT", help::CERTIFICATE))?)?
-        .subcommand(step.arg(schedule(alloc))?)
+    )?
+    .arg(file(alloc, CERTIFICATE, "CERT", help::CERTIFICATE))
+}
+
+/// The command that lets lanes take turns.
+fn step<'a>(alloc: Global) -> Result<Command<'a>, AllocError> {
+    on_files(alloc, STEP, help::STEP, help::STEP_MORE)?.arg(schedule(alloc))
+}
+
+/// Adds a command over the files of the four texts.
+fn with_files<'a>(
+    alloc: Global,
+    program: Command<'a>,
+    name: &'a str,
+    about: &'a str,
+    more: &'a str,
+) -> Result<Command<'a>, AllocError> {
+    let command = on_files(alloc, name, about, more)?;
+    program.subcommand(command)
+}
+
+/// The program with the commands that ask for the four texts alone.
+fn with_plain_commands<'a>(alloc: Global) -> Result<Command<'a>, AllocError> {
+    let program = program(alloc)?;
+    let program = with_files(alloc, program, CHECK, help::CHECK, help::CHECK_MORE)?;
+    let program = with_files(alloc, program, LIST, help::LIST, help::LIST_MORE)?;
+    with_files(alloc, program, CERT, help::CERT, help::CERT_MORE)
+}
+
+/// The commands of the program, whose words begin behind its name.
+pub fn portfarm<'a>(alloc: Global) -> Result<Command<'a>, AllocError> {
+    let program = with_plain_commands(alloc)?;
+    let program = program.subcommand(verify_cert(alloc)?)?;
+    program.subcommand(step(alloc)?)
 }
