@@ -3,7 +3,6 @@
 ghost use Rattle.std.specs.Prelude.{◌≡◌, ◌<◌, length, IfOk};
 
 use crate::answer::Answer;
-use crate::spelling::read_number;
 use crate::two_rows::{row_of, words_of};
 use bit_rows::Row;
 use std::alloc::{AllocError, Global};
@@ -23,57 +22,46 @@ pub fn answer(
     question: &[u8],
     words: &[u64],
     name: u64,
-    value: &[u8],
+    value: u64,
 ) -> Result<Answer, AllocError> {
     if name >= words.len() as u64 {
         return Ok(Answer::None);
     }
     let name = name as usize;
     let row = row_of(alloc, words)?;
-    let bit = read_number(value);
-    match question {
-        b"has" | b"set_bit" if bit < 64 => of_bit(alloc, question, row, name, bit as u32),
-        _ => of_word(alloc, question, row, name, read_number(value)),
+    match said_of(question, &row, name, value) {
+        Some(said) => Ok(Answer::Say(vec![in alloc; said]?)),
+        None => change(alloc, question, row, name, value),
     }
 }
 
-/// Answers `has` and `set_bit`.
-fn of_bit(
-    alloc: Global,
-    question: &[u8],
-    mut row: Row,
-    name: usize,
-    bit: u32,
-) -> Result<Answer, AllocError>
-    requires named { name < length row }
-    requires within { bit < 64 }
+/// What the row says to `has`, `is_hit_at`, `is_met_at` and `has_all_at`.
+fn said_of(question: &[u8], row: &Row, name: usize, value: u64) -> Option<bool>
+    requires { name < length row.now }
 {
-    if question == b"has".as_slice() {
-        return Ok(Answer::Say(vec![in alloc; row.has(name, bit)]?));
+    match question {
+        b"has" if value < 64 => Some(row.has(name, value as u32)),
+        b"is_hit_at" => Some(row.is_hit_at(name, value)),
+        b"is_met_at" => Some(row.is_met_at(name, value)),
+        b"has_all_at" => Some(row.has_all_at(name, value)),
+        _ => None,
     }
-    row.set_bit(name, bit)?;
-    Ok(Answer::Row(words_of(alloc, &row)?))
 }
 
-/// Answers `is_hit_at`, `is_met_at`, `has_all_at`, `set_word` and `word`, which adds a word to it.
-fn of_word(
+/// Answers `set_bit` and `set_word`.
+fn change(
     alloc: Global,
     question: &[u8],
     mut row: Row,
     name: usize,
-    word: u64,
+    value: u64,
 ) -> Result<Answer, AllocError>
     requires { name < length row }
 {
-    let said = match question {
-        b"is_hit_at" => row.is_hit_at(name, word),
-        b"is_met_at" => row.is_met_at(name, word),
-        b"has_all_at" => row.has_all_at(name, word),
-        b"set_word" => {
-            row.set_word(name, word)?;
-            return Ok(Answer::Row(words_of(alloc, &row)?));
-        }
+    match question {
+        b"set_bit" if value < 64 => row.set_bit(name, value as u32)?,
+        b"set_word" => row.set_word(name, value)?,
         _ => return Ok(Answer::None),
-    };
-    Ok(Answer::Say(vec![in alloc; said]?))
+    }
+    Ok(Answer::Row(words_of(alloc, &row)?))
 }

@@ -36,21 +36,26 @@ pub fn read_row(alloc: Global, text: &[u8]) -> Result<Vec<u64>, AllocError> {
 
 /// The text of a row, with each run of equal words written once.
 pub fn spelled_row(alloc: Global, words: &[u64]) -> Result<String, AllocError> {
+    if words.is_empty() {
+        return String::from_str(alloc, "-");
+    }
     let mut text = String::new(alloc);
     let mut rest = words;
     while let [word, ..] = rest {
         let run = rest.iter().take_while(|other| *other == word).count();
-        if !text.is_empty() {
-            text.push_str(",")?;
-        }
-        if run > 1 {
-            text.push_str(&format!(in alloc; "{run}*")?)?;
-        }
-        text.push_str(&format!(in alloc; "{word}")?)?;
+        push_run(&mut text, run, *word)?;
         rest = &rest[run.max(1)..];
     }
-    if text.is_empty() {
-        text.push_str("-")?;
-    }
     Ok(text)
+}
+
+/// Adds a word that stands so many times.
+fn push_run(text: &mut String, run: usize, word: u64) -> Result<(), AllocError> {
+    if !text.is_empty() {
+        text.push_str(",")?;
+    }
+    if run > 1 {
+        write!(text, "{run}*")?;
+    }
+    write!(text, "{word}")
 }

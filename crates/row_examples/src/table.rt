@@ -33,7 +33,11 @@ fn tell_case<W: Write>(alloc: Global, out: &mut W, columns: &[&[u8]]) -> io::Res
     };
     let answer = answer(alloc, question, args)?;
     let got = spelled(alloc, &answer)?;
-    if got.as_bytes() == *wanted {
+    tell_judged(out, wanted, &got)
+}
+
+fn tell_judged<W: Write>(out: &mut W, wanted: &[u8], got: &str) -> io::Result<()> {
+    if got.as_bytes() == wanted {
         return writeln!(out, "ok");
     }
     out.write_all(b"wanted ")?;
@@ -45,19 +49,26 @@ fn tell_case<W: Write>(alloc: Global, out: &mut W, columns: &[&[u8]]) -> io::Res
 fn answer(alloc: Global, question: &[u8], args: &[&[u8]]) -> Result<Answer, AllocError> {
     match args {
         [n] if question == b"new".as_slice() => one_name::new_row(alloc, read_number(n)),
-        [word, mask] if question == b"newest".as_slice() => {
-            Ok(Answer::Bit(newest(read_number(word), read_number(mask))))
-        }
-        [a, b] => two_rows::answer(alloc, question, &read_row(alloc, a)?, &read_row(alloc, b)?),
+        [a, b] => of_two(alloc, question, a, b),
         [row, name, value] => {
-            one_name::answer(
-                alloc,
-                question,
-                &read_row(alloc, row)?,
-                read_number(name),
-                value,
-            )
+            let (name, value) = (read_number(name), read_number(value));
+            one_name::answer(alloc, question, &read_row(alloc, row)?, name, value)
         }
         _ => Ok(Answer::None),
+    }
+}
+
+/// Answers `newest WORD MASK`, and questions about two rows.
+fn of_two(alloc: Global, question: &[u8], a: &[u8], b: &[u8]) -> Result<Answer, AllocError> {
+    match question {
+        b"newest" => Ok(newest_of(read_number(a), read_number(b))),
+        _ => two_rows::answer(alloc, question, &read_row(alloc, a)?, &read_row(alloc, b)?),
+    }
+}
+
+fn newest_of(word: u64, mask: u64) -> Answer {
+    match newest(word, mask) {
+        Some(bit) => Answer::Number(Some(u64::from(bit))),
+        None => Answer::Number(None),
     }
 }

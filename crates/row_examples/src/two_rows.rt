@@ -29,14 +29,33 @@ pub fn answer(alloc: Global, question: &[u8], a: &[u64], b: &[u64]) -> Result<An
         return Ok(Answer::None);
     }
     let (x, y) = (row_of(alloc, a)?, row_of(alloc, b)?);
+    match said_of(alloc, question, a, &x, b, &y)? {
+        Some(said) => Ok(Answer::Say(said)),
+        None => change(alloc, question, x, &y),
+    }
+}
+
+/// What kernels say to `hits`, `met`, `within` and `same` over words, and rows over the same words.
+fn said_of(
+    alloc: Global,
+    question: &[u8],
+    a: &[u64],
+    x: &Row,
+    b: &[u64],
+    y: &Row,
+) -> Result<Option<Vec<bool>>, AllocError>
+    requires words { length a.now ≡ length b.now }
+    requires first { length x.now ≡ length a.now }
+    requires second { length y.now ≡ length b.now }
+{
     let said = match question {
-        b"hits" => vec![in alloc; kernel::hits(a, b), x.hits(&y), y.is_hit_by(a)]?,
-        b"met" => vec![in alloc; kernel::met(a, b), x.met(&y), y.is_met_by(a)]?,
-        b"within" => vec![in alloc; kernel::within(a, b), x.within(&y), y.has_all(a)]?,
-        b"same" => vec![in alloc; kernel::same(a, b), x.same(&y)]?,
-        _ => return change(alloc, question, x, &y),
+        b"hits" => vec![in alloc; kernel::hits(a, b), x.hits(y), y.is_hit_by(a)]?,
+        b"met" => vec![in alloc; kernel::met(a, b), x.met(y), y.is_met_by(a)]?,
+        b"within" => vec![in alloc; kernel::within(a, b), x.within(y), y.has_all(a)]?,
+        b"same" => vec![in alloc; kernel::same(a, b), x.same(y)]?,
+        _ => return Ok(None),
     };
-    Ok(Answer::Say(said))
+    Ok(Some(said))
 }
 
 /// Answers `or_into`, `and_into` and `take_out`.
