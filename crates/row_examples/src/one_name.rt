@@ -16,6 +16,15 @@ pub fn new_row(alloc: Global, n: u64) -> Result<Answer, AllocError> {
     Ok(Answer::Row(words_of(alloc, &row)?))
 }
 
+/// Answers `skip`.
+pub fn skip(alloc: Global, words: &[u64], from: u64) -> Result<Answer, AllocError> {
+    if from > words.len() as u64 {
+        return Ok(Answer::None);
+    }
+    let row = row_of(alloc, words)?;
+    Ok(Answer::Number(Some(row.skip(from as usize) as u64)))
+}
+
 /// Answers questions about a name, and a bit or a word of it.
 pub fn answer(
     alloc: Global,

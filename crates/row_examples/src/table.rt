@@ -58,10 +58,11 @@ fn answer(alloc: Global, question: &[u8], args: &[&[u8]]) -> Result<Answer, Allo
     }
 }
 
-/// Answers `newest WORD MASK`, and questions about two rows.
+/// Answers `newest WORD MASK`, `skip ROW NAME`, and questions about two rows.
 fn of_two(alloc: Global, question: &[u8], a: &[u8], b: &[u8]) -> Result<Answer, AllocError> {
     match question {
         b"newest" => Ok(newest_of(read_number(a), read_number(b))),
+        b"skip" => one_name::skip(alloc, &read_row(alloc, a)?, read_number(b)),
         _ => two_rows::answer(alloc, question, &read_row(alloc, a)?, &read_row(alloc, b)?),
     }
 }
