@@ -1,6 +1,7 @@
 //! What a question is answered with: a text, or why there is none.
 
-use deb_relation::RelationError;
+use crate::spelling::push_field;
+use deb_relation::{RelationError, Relations};
 use deb_text::Fault;
 use deb_version::VersionError;
 use std::alloc::{AllocError, AllocFailed, Global};
@@ -75,6 +76,13 @@ pub fn yes_or_no(alloc: Global, holds: bool) -> Answer {
 /// A number.
 pub fn number(alloc: Global, number: u64) -> Answer {
     Ok(format!(in alloc; "{number}")?.into_bytes())
+}
+
+/// A relation field in one spelling.
+pub fn spelled_field(alloc: Global, field: &Relations) -> Answer {
+    let mut answer = Vec::new(alloc);
+    push_field(&mut answer, field)?;
+    Ok(answer)
 }
 
 /// The text of an answer or of a refusal.

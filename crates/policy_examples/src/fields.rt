@@ -1,7 +1,7 @@
 //! Questions about relation fields, and about which package satisfies an alternative.
 
-use crate::answer::{Answer, Refusal, yes_or_no};
-use crate::spelling::{push_atom, push_entry, push_field};
+use crate::answer::{Answer, Refusal, spelled_field, yes_or_no};
+use crate::spelling::{push_atom, push_entry};
 use deb_relation::{Atom, Entry, Facts, Kind, RelationError, Relations, in_relation, satisfies};
 use deb_text::read_number;
 use deb_version::Version;
@@ -36,24 +36,49 @@ fn kind_of(word: &[u8]) -> Result<Kind, Refusal> {
 }
 
 fn read(alloc: Global, question: &[u8], kind: Kind, text: &[u8]) -> Answer {
-    let mut answer = Vec::new(alloc);
     match question {
-        b"field" => push_field(&mut answer, &Relations::parse(alloc, text, kind)?.clone()?)?,
-        b"entry" => {
-            let entry = Entry::parse(alloc, text, kind)?;
-            push_field(&mut answer, &Relations::from_entries(only(alloc, entry)?))?;
-        }
-        b"alternative" => {
-            let atom = Atom::parse(alloc, text, kind)?;
-            push_entry(&mut answer, &Entry::from_alternatives(only(alloc, atom)?))?;
-        }
-        b"unrestricted" => {
-            let atom = Atom::parse(alloc, text, kind)?;
-            push_atom(&mut answer, &atom.clone_unrestricted()?)?;
-        }
-        b"sizes" => push_sizes(alloc, &mut answer, &Relations::parse(alloc, text, kind)?)?,
-        _ => return Err(Refusal::NoQuestion),
+        b"field" => spell_field(alloc, kind, text),
+        b"entry" => spell_entry(alloc, kind, text),
+        b"alternative" => spell_alternative(alloc, kind, text),
+        b"unrestricted" => spell_unrestricted(alloc, kind, text),
+        b"sizes" => spell_sizes(alloc, kind, text),
+        _ => Err(Refusal::NoQuestion),
     }
+}
+
+/// The copy of a field.
+fn spell_field(alloc: Global, kind: Kind, text: &[u8]) -> Answer {
+    let field = Relations::parse(alloc, text, kind)?;
+    spelled_field(alloc, &field.clone()?)
+}
+
+/// The field of one entry.
+fn spell_entry(alloc: Global, kind: Kind, text: &[u8]) -> Answer {
+    let entry = Entry::parse(alloc, text, kind)?;
+    spelled_field(alloc, &Relations::from_entries(only(alloc, entry)?))
+}
+
+/// The entry of one alternative.
+fn spell_alternative(alloc: Global, kind: Kind, text: &[u8]) -> Answer {
+    let atom = Atom::parse(alloc, text, kind)?;
+    let entry = Entry::from_alternatives(only(alloc, atom)?);
+    let mut answer = Vec::new(alloc);
+    push_entry(&mut answer, &entry)?;
+    Ok(answer)
+}
+
+/// An alternative without its restrictions.
+fn spell_unrestricted(alloc: Global, kind: Kind, text: &[u8]) -> Answer {
+    let atom = Atom::parse(alloc, text, kind)?.clone_unrestricted()?;
+    let mut answer = Vec::new(alloc);
+    push_atom(&mut answer, &atom)?;
+    Ok(answer)
+}
+
+fn spell_sizes(alloc: Global, kind: Kind, text: &[u8]) -> Answer {
+    let field = Relations::parse(alloc, text, kind)?;
+    let mut answer = Vec::new(alloc);
+    push_sizes(alloc, &mut answer, &field)?;
     Ok(answer)
 }
 

@@ -1,7 +1,6 @@
 //! Questions about restrictions. The text above them has the names of the architecture.
 
-use crate::answer::{Answer, Refusal, yes_or_no};
-use crate::spelling::push_field;
+use crate::answer::{Answer, Refusal, spelled_field, yes_or_no};
 use deb_profile::{ArchNames, ProfileSet, keeps, reduce};
 use deb_relation::{Atom, Entry, Facts, Kind, Relations, satisfies};
 use deb_version::Version;
@@ -67,10 +66,8 @@ fn reduced(
 }
 
 fn spell_reduced(alloc: Global, names: &[u8], active: &[u8], field: &[u8]) -> Answer {
-    let mut answer = Vec::new(alloc);
     let left = reduced(alloc, names, active, Kind::BuildNeed, field)?;
-    push_field(&mut answer, &left)?;
-    Ok(answer)
+    spelled_field(alloc, &left)
 }
 
 fn is_satisfied(
