@@ -33,12 +33,23 @@ fn verdict(rt: &(impl Threads + Sync), alloc: Global, texts: Texts) -> Result<Ve
     verdict_text(alloc, &verdict_on(rt, alloc, texts))
 }
 
+fn refusal_text(alloc: Global, refusal: &Refusal) -> Result<Vec<u8>, AllocError> {
+    Ok(format!(in alloc; "{refusal}\n")?.into_bytes())
+}
+
 /// The message of the verdict's refusal, or nothing.
 fn message(rt: &(impl Threads + Sync), alloc: Global, texts: Texts) -> Result<Vec<u8>, AllocError> {
     match verdict_on(rt, alloc, texts) {
         Ok(_) => Ok(Vec::new(alloc)),
-        Err(refusal) => Ok(format!(in alloc; "{refusal}\n")?.into_bytes()),
+        Err(refusal) => refusal_text(alloc, &refusal),
     }
+}
+
+fn accepted_text(alloc: Global, accepted: &Accepted) -> Result<Vec<u8>, AllocError> {
+    let mut text = String::new(alloc);
+    push_universe(&mut text, accepted.universe())?;
+    push_plan(&mut text, accepted.universe(), accepted.plan())?;
+    Ok(text.into_bytes())
 }
 
 /// The universe and the plan that an accepted plan keeps, or nothing.
@@ -47,12 +58,10 @@ fn accepted(
     alloc: Global,
     texts: Texts,
 ) -> Result<Vec<u8>, AllocError> {
-    let mut text = String::new(alloc);
-    if let Ok(accepted) = verdict_on(rt, alloc, texts) {
-        push_universe(&mut text, accepted.universe())?;
-        push_plan(&mut text, accepted.universe(), accepted.plan())?;
+    match verdict_on(rt, alloc, texts) {
+        Ok(accepted) => accepted_text(alloc, &accepted),
+        Err(_) => Ok(Vec::new(alloc)),
     }
-    Ok(text.into_bytes())
 }
 
 fn read_universe(alloc: Global, texts: Texts) -> Result<Universe, Fault> {
@@ -152,6 +161,25 @@ fn traps(alloc: Global) -> Result<Vec<u8>, AllocError> {
     Ok(text.into_bytes())
 }
 
+/// Answers a question about a universe, and a plan over it.
+fn answer_on(
+    alloc: Global,
+    read: &Universe,
+    plan_text: &[u8],
+    word: &[u8],
+    rest: &[u8],
+) -> Result<Vec<u8>, AllocError> {
+    match word {
+        b"universe" => universe(alloc, read),
+        b"plan" => plan(alloc, read, plan_text),
+        b"listing" => listed(alloc, read, plan_text),
+        b"find" => find(alloc, read, rest),
+        b"satisfies" => passing(alloc, read, rest, Test::Satisfies),
+        b"wanted" => passing(alloc, read, rest, Test::IsWanted),
+        _ => Vec::from_slice(alloc, b"no such question\n"),
+    }
+}
+
 /// Answers a question about the first three texts, of which the plan's alone is read besides.
 fn answer_on_universe(
     alloc: Global,
@@ -159,18 +187,9 @@ fn answer_on_universe(
     word: &[u8],
     rest: &[u8],
 ) -> Result<Vec<u8>, AllocError> {
-    let read = match read_universe(alloc, texts) {
-        Ok(read) => read,
-        Err(fault) => return fault_text(alloc, fault),
-    };
-    match word {
-        b"universe" => universe(alloc, &read),
-        b"plan" => plan(alloc, &read, texts.plan),
-        b"listing" => listed(alloc, &read, texts.plan),
-        b"find" => find(alloc, &read, rest),
-        b"satisfies" => passing(alloc, &read, rest, Test::Satisfies),
-        b"wanted" => passing(alloc, &read, rest, Test::IsWanted),
-        _ => Vec::from_slice(alloc, b"no such question\n"),
+    match read_universe(alloc, texts) {
+        Ok(read) => answer_on(alloc, &read, texts.plan, word, rest),
+        Err(fault) => fault_text(alloc, fault),
     }
 }
 
