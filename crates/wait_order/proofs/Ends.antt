@@ -1,8 +1,8 @@
 -- Where no lane moves in a round, the board is at rest.
-use Rattle.std.proofs.Common.{inl, inr, ℕ, zero, suc, ◌+◌, ◌<◌, ◌≤◌, ◌≡◌, ◌≢◌, Bool, true, false, ◌==◌, ◌&&◌, nat_lt, cond, List, [], ◌∷◌, ◌++◌, length, map, take, drop, get_or, Some, None, slice_get, refl, sym, ap, subst, ◌∙◌, arith}
+use Rattle.std.proofs.Common.{inl, inr, ℕ, zero, suc, ◌+◌, ◌<◌, ◌≤◌, ◌≡◌, ◌≢◌, Bool, true, false, ◌==◌, ◌&&◌, nat_lt, cond, List, [], ◌∷◌, ◌++◌, length, map, drop, get_or, Some, None, slice_get, refl, sym, ap, subst, ◌∙◌, arith}
 use Rattle.std.specs.List.{filter, range_with_len}
 use Rattle.std.proofs.lemmas.Bool.{cases_lt, lt-ltb, le-ltb, false≢true}
-use Rattle.std.proofs.lemmas.List.{get_or_past, length-map, append-nil, take_all}
+use Rattle.std.proofs.lemmas.List.{get_or_past, length-map}
 use Rattle.farm_model.specs.Universe.{Universe}
 use Rattle.farm_model.specs.Packages.{variant, variants, initial}
 use Rattle.farm_laws.proofs.Archive.{or-false}
@@ -16,6 +16,7 @@ use Rattle.sat_rows.specs.Rows.{IsRowOf}
 use Rattle.verdict_laws.specs.Stuck.{is_left, lanes_left, AreLeft}
 use Rattle.verdict_laws.proofs.AtRest.{each_rest_is_exact, lanes_left_are_left}
 use Rattle.verdict_laws.proofs.Unions.{there}
+use Rattle.wait_order.proofs.Written.{drop-past}
 use Rattle.wait_order.specs.declared.standing.Standing.{Standing}
 use Rattle.wait_order.specs.Standing.{items_at, IsReached, Holds, IsHeldAt, place_of, AreStanding, left_of}
 
@@ -25,12 +26,6 @@ items-wait : (u : Universe) (is : List Instruction) (j : ℕ) (x : Instruction)
     → items u (drop j is) ≡ items_of u x ++ items u (drop (suc j) is)
 unfolding items
 items-wait u is j x at = ap (items u) (drop_some is j x at)
-
-drop-past : {X : Type 0} (xs : List X) (i : ℕ) → length xs ≤ i → drop i xs ≡ []
-drop-past [] zero le = refl
-drop-past [] (suc i) le = refl
-drop-past (x ∷ xs) zero le = absurd (omega (arith, le))
-drop-past (x ∷ xs) (suc i) le = drop-past xs i (omega (arith, le))
 
 items-end : (u : Universe) (is : List Instruction) (i : ℕ) → length is ≤ i
     → items u (drop i is) ≡ []
@@ -136,15 +131,6 @@ pub some_lanes : (xs ys : List ℕ) → ys ≡ xs → (length ys == 0) ≡ false
 some_lanes xs ys is e none =
     let empty : (length ys == 0) ≡ true = ap (λ zs. length zs == 0) (is ∙ none) in
     absurd (false≢true (sym e ∙ empty))
-
--- a list that was written through a slice
-pub seen_same : (n : ℕ) (seen new old first : List Standing)
-    → seen ≡ take n (new ++ drop (length new) old) → first ≡ old → length first ≡ n
-    → length new ≡ length first → seen ≡ new
-seen_same n seen new old first is e long same =
-    is ∙ ap (λ xs. take n (new ++ xs)) (drop-past old (length new) (omega
-    (arith, ap length e, same)))
-    ∙ ap (take n) (append-nil new) ∙ take_all n new (omega (arith, long, same))
 
 -- what the lanes that are left say
 module _ (u : Universe) (p : Plan) (order t : List ℕ) (ats seen : List Standing)

@@ -1,8 +1,8 @@
 -- The first output that a row has, and the initial variants that satisfy a wait.
-use Rattle.std.proofs.Common.{◌≡◌, inl, inr, ℕ, zero, suc, ◌+◌, ◌<◌, ◌≤◌, Bool, true, false, nat_lt, List, [], ◌∷◌, length, get_or, Some, None, slice_get, refl, sym, ap, subst, ◌∙◌, arith}
+use Rattle.std.proofs.Common.{◌≡◌, ℕ, zero, suc, ◌<◌, Bool, true, false, nat_lt, List, [], ◌∷◌, length, get_or, Some, None, slice_get, refl, sym, ap, subst, ◌∙◌}
 use Rattle.std.specs.Prelude.{◌↔◌, IsTrue}
 use Rattle.std.proofs.lemmas.Option.{none-some, same_Some, slice_get-get_or, slice_get_within, get_or_from_slice_get}
-use Rattle.std.proofs.lemmas.Bool.{cases_eq, and_parts, and_from, lt-ltb, both_ways}
+use Rattle.std.proofs.lemmas.Bool.{and_parts, and_from, lt-ltb, both_ways}
 use Rattle.bit_rows.specs.Sets.{variants_of, HaveCommon}
 use Rattle.deb_relation.specs.Relations.{Entry}
 use Rattle.farm_model.specs.declared.types.Variant.{Variant}
@@ -13,38 +13,16 @@ use Rattle.plan_model.specs.Plan.{Plan, lane}
 use Rattle.sat_rows.specs.Rows.{IsRowOf}
 use Rattle.wait_order.specs.declared.column.Source.{Source}
 use Rattle.wait_order.specs.declared.marks.Output.{Output}
-use Rattle.wait_order.specs.Marks.{lane_outputs}
+use Rattle.wait_order.specs.declared.marks.LaneOutputs.{LaneOutputs}
+use Rattle.wait_order.specs.Marks.{lane_outputs, AreLanes}
+use Rattle.wait_order.specs.ByName.{AreKnownLanes}
 use Rattle.wait_order.specs.Waits.{IsNothing}
-use Rattle.wait_order.specs.Hits.{HasNoHit, IsFirstHit, AreKnownOutputs, AreSourcesBelow}
+use Rattle.wait_order.specs.Hits.{AreKnownOutputs, AreSourcesBelow}
 use Rattle.wait_order.proofs.Sources.{comes_from, start_sources}
 
 pub out_known : (u : Universe) (outs : List Output) (n : ℕ) (d : Output) → AreKnownOutputs u outs
     → n < length outs → IsKnown u (get_or outs n d).variant
 out_known u outs n d known lt = known n (get_or outs n d) (slice_get-get_or outs n d lt)
-
-pub first_found : (row : List ℕ) (outs : List Output) (limit n : ℕ) (d : Output) (hit : Bool)
-    → n < limit → limit ≤ length outs
-    → hit ≡ variants_of row (get_or outs n d).variant.name (get_or outs n d).variant.bit
-    → hit ≡ true → HasNoHit row outs n → IsFirstHit row outs limit n
-first_found row outs limit n d hit lt le is here none =
-    record {
-      below = lt;
-      hit = λ o at.
-          let same : get_or outs n d ≡ o = get_or_from_slice_get outs n o d at in
-          ap (λ (w : Output). variants_of row w.variant.name w.variant.bit) (sym same) ∙ sym is ∙ here;
-      none = none;
-    }
-
-pub no_hit_next : (row : List ℕ) (outs : List Output) (n : ℕ) (d : Output) (hit : Bool)
-    → hit ≡ variants_of row (get_or outs n d).variant.name (get_or outs n d).variant.bit
-    → hit ≡ false → HasNoHit row outs n → HasNoHit row outs (n + 1)
-no_hit_next row outs n d hit is miss none k o lt at =
-    elim (cases_eq k n) [
-      | inl same ↦
-          let found : get_or outs n d ≡ o = get_or_from_slice_get outs n o d (ap (slice_get outs) (sym same) ∙ at) in
-          ap (λ (w : Output). variants_of row w.variant.name w.variant.bit) (sym found) ∙ sym is ∙ miss
-      | inr other ↦ none k o (omega (arith, lt, other)) at
-    ]
 
 -- the outputs of a lane are known
 pub lane_known : (u : Universe) (p : Plan) (h : ℕ) (outs : List Output)
@@ -54,6 +32,11 @@ lane_known u p h outs are sound k o at =
     let f = comes_from u p h outs are k o at in
     subst (IsKnown u) (get_or_from_slice_get _ f.number o.variant o.variant f.output)
     (sound.outputs_known f.recipe f.number o.variant (slice_get_within _ f.number o.variant f.output))
+
+pub lanes_known : (u : Universe) (p : Plan) (lanes : List LaneOutputs) → AreLanes u p lanes
+    → IsUniverse u → AreKnownLanes u lanes
+lanes_known u p lanes are sound l of at =
+    lane_known u p l of.outputs.items (are.each l of at) sound
 
 module _ (u : Universe) (sound : IsUniverse u) (e : Entry) (archive row : List ℕ) (hit : Bool)
     (common : IsTrue hit ↔ HaveCommon (variants_of archive) (variants_of row))

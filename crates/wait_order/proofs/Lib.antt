@@ -3,6 +3,7 @@ pub mod Passes
 pub mod Boards
 pub mod Leading
 pub mod Turns
+pub mod Written
 pub mod Ends
 pub mod Falls
 pub mod Numbering
@@ -14,6 +15,8 @@ pub mod MarkPlaces
 pub mod Sources
 pub mod PointLaws
 pub mod HitLaws
+pub mod NameLists
+pub mod FirstHits
 pub mod KnownLaws
 pub mod RowSteps
 pub mod ColumnLaws

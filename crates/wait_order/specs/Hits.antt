@@ -1,5 +1,5 @@
 -- The first output of a lane that a row has, and the sources of a wait so far.
-use Rattle.std.specs.Prelude.{◌≡◌, ◌⊎◌, ℕ, suc, ◌+◌, ◌<◌, Bool, true, false, ◌==◌, nat_le, List, [], ◌∷◌, ◌++◌, length, Some, slice_get, if◌then◌else◌}
+use Rattle.std.specs.Prelude.{◌≡◌, ◌⊎◌, ℕ, suc, ◌+◌, ◌<◌, ◌≤◌, Bool, true, false, ◌==◌, nat_le, List, [], ◌∷◌, ◌++◌, length, Some, slice_get, if◌then◌else◌}
 use Rattle.bit_rows.specs.Sets.{variants_of}
 use Rattle.deb_relation.specs.Relations.{Entry}
 use Rattle.farm_model.specs.declared.types.Variant.{Variant}
@@ -28,6 +28,11 @@ pub record IsFirstHit (row : List ℕ) (outs : List Output) (limit n : ℕ) : Ty
   pub hit : (o : Output) → slice_get outs n ≡ Some o
       → variants_of row o.variant.name o.variant.bit ≡ true
   pub none : HasNoHit row outs n
+
+-- n is the number of the first output that the row has, or of none where it has none
+pub record IsFirst (row : List ℕ) (outs : List Output) (n : ℕ) : Type 0 where
+  pub hit : n < length outs → IsFirstHit row outs (length outs) n
+  pub none : length outs ≤ n → HasNoHit row outs (length outs)
 
 abbrev pub AreKnownOutputs : Universe → List Output → Type 0
 AreKnownOutputs u outs = (k : ℕ) (o : Output) → slice_get outs k ≡ Some o → IsKnown u o.variant

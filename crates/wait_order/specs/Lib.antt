@@ -5,6 +5,7 @@ pub mod Column
 pub mod Waits
 pub mod Marks
 pub mod Hits
+pub mod ByName
 pub mod Columns
 pub mod PlaceRows
 pub mod Entries

@@ -1,10 +1,12 @@
 //! What the lanes of a plan know of the archive at each place, and an order of their waits.
 #![tactic(auto)]
 
+mod by_name;
 mod clock_row;
 mod column;
 mod columns;
 mod entries;
+mod first_hits;
 mod known;
 mod lane_rows;
 mod marks;

@@ -12,11 +12,14 @@ ghost use Rattle.sat_rows.specs.Rows.{IsRowOf};
 ghost use Rattle.wait_order.specs.Waits.{AreSources, ArePoints};
 ghost use Rattle.wait_order.specs.Marks.{all_marks, AreLanes};
 ghost use Rattle.wait_order.specs.Hits as hits;
-ghost use Rattle.wait_order.specs.Hits.{HasNoHit, IsFirstHit, AreKnownOutputs, IsPushed, AreSourcesBelow, IsPointOf, AreEntrySources};
+ghost use Rattle.wait_order.specs.ByName.{AreListed};
+ghost use Rattle.wait_order.specs.Hits.{IsFirst, IsPushed, AreSourcesBelow, IsPointOf, AreEntrySources};
 ghost use Rattle.wait_order.specs.Entries.{AreFor};
 
+use crate::by_name::ByName;
 use crate::column::{Point, Source, Sources};
 use crate::entries::Entries;
+use crate::first_hits::first_hits;
 use crate::marks::{LaneOutputs, Mark, Marks, Output};
 use crate::standing::initial_row;
 use bit_rows::Row;
@@ -26,47 +29,25 @@ use plan_asm::{Instruction, Plan};
 use sat_rows::Tables;
 use std::alloc::{AllocError, Global};
 
-/// Finds the first of so many outputs that a row has.
-fn first_hit(universe: &Universe, row: &Row, outputs: &[Output], limit: usize) -> Option<usize>
-    requires sound { IsUniverse universe.now }
-    requires long { length row.now ≡ names universe.now }
-    requires limit { limit ≤ length outputs.now }
-    requires known { AreKnownOutputs universe.now outputs.now }
-    ensures found { IfSome result (IsFirstHit row.now outputs.now limit) }
-    ensures none { IsNone result → HasNoHit row.now outputs.now limit }
-{
-    for n in 0..limit {
-        let variant = outputs[n].variant;
-        if row.has(variant.name as usize, variant.bit) {
-            return Some(n);
-        }
-    }
-    None
-}
-
-/// Puts the first such output of a lane behind the sources, where there is one.
+/// Puts the first output of a lane that a row has behind the sources, where there is one.
 fn push_hit(
-    universe: &Universe,
-    row: &Row,
+    _row: &Row,
     number: usize,
     outputs: &[Output],
-    limit: usize,
+    first: usize,
     sources: &mut Vec<Source>,
 ) -> Result<(), AllocError>
-    requires sound { IsUniverse universe.now }
-    requires long { length row.now ≡ names universe.now }
-    requires limit { limit ≤ length outputs.now }
-    requires known { AreKnownOutputs universe.now outputs.now }
-    ensures { OnOk result
-        (IsPushed row.now outputs.now limit number sources.old.items sources.new.items) }
+    requires { IsFirst _row.now outputs.now first }
+    ensures { OnOk result (IsPushed _row.now outputs.now (length outputs.now) number
+        sources.old.items sources.new.items) }
 {
-    let Some(n) = first_hit(universe, row, outputs, limit) else {
+    if first >= outputs.len() {
         return Ok(());
-    };
+    }
     sources.push(Source {
-        point: outputs[n].point,
+        point: outputs[first].point,
         lane: number,
-        count: n as u64 + 1,
+        count: first as u64 + 1,
     })?;
     Ok(())
 }
@@ -105,20 +86,24 @@ fn sources_of(
     _plan: &Plan,
     archive: &Row,
     lanes: &[LaneOutputs],
+    by_name: &ByName,
     entry: &Entry,
 ) -> Result<Vec<Source>, AllocError>
     requires sound { IsSound universe.now _plan.now.lanes }
     requires tables { tables.now ≡ universe.now }
     requires archive { IsRowOf universe.now (initial universe.now) archive.now }
     requires lanes { AreLanes universe.now _plan.now.lanes lanes.now }
+    requires lists { length by_name.now ≡ names universe.now }
+    requires listed { AreListed by_name.now lanes.now (length lanes.now) }
     ensures { IfOk result (λ sources. AreSources universe.now _plan.now.lanes
         (length _plan.now.lanes) 0 entry.now sources.items) }
 {
     let row = tables.entry_row(alloc, universe, entry)?;
     let mut sources = initial_sources(alloc, universe, archive, &row, entry)?;
+    let firsts = first_hits(alloc, universe, &row, lanes, by_name)?;
     for number in 0..lanes.len() {
         let outputs = lanes[number].outputs.as_slice();
-        push_hit(universe, &row, number, outputs, outputs.len(), &mut sources)?;
+        push_hit(&row, number, outputs, firsts[number], &mut sources)?;
     }
     Ok(sources)
 }
@@ -171,6 +156,7 @@ fn sources_at<'p>(
     plan: &Plan,
     archive: &Row,
     lanes: &[LaneOutputs],
+    by_name: &ByName,
     mark: Mark,
     entry: &'p Entry,
     found: &mut Found<'p>,
@@ -179,6 +165,8 @@ fn sources_at<'p>(
     requires tables { tables.now ≡ universe.now }
     requires archive { IsRowOf universe.now (initial universe.now) archive.now }
     requires lanes { AreLanes universe.now plan.now.lanes lanes.now }
+    requires lists { length by_name.now ≡ names universe.now }
+    requires listed { AreListed by_name.now lanes.now (length lanes.now) }
     requires lane { mark.lane < length plan.now.lanes }
     requires own { mark.own ≡ count_before universe.now plan.now.lanes mark.lane mark.place }
     requires found { AreFor (AreEntrySources universe.now plan.now.lanes) found.old.entries
@@ -192,7 +180,9 @@ fn sources_at<'p>(
     if number < found.sources.len() {
         return Ok(met_sources(alloc, &found.sources[number].sources, mark)?);
     }
-    let all = sources_of(alloc, universe, tables, plan, archive, lanes, entry)?;
+    let all = sources_of(
+        alloc, universe, tables, plan, archive, lanes, by_name, entry,
+    )?;
     let sources = met_sources(alloc, &all, mark)?;
     if number != found.sources.len() {
         return Ok(sources);
@@ -228,12 +218,15 @@ fn point_of<'p>(
     plan: &'p Plan,
     archive: &Row,
     lanes: &[LaneOutputs],
+    by_name: &ByName,
     mark: Mark,
     found: &mut Found<'p>,
 ) -> Result<Point, AllocError>
     requires sound { IsSound universe.now plan.now.lanes }
     requires archive { IsRowOf universe.now (initial universe.now) archive.now }
     requires lanes { AreLanes universe.now plan.now.lanes lanes.now }
+    requires lists { length by_name.now ≡ names universe.now }
+    requires listed { AreListed by_name.now lanes.now (length lanes.now) }
     requires own { mark.own ≡ count_before universe.now plan.now.lanes mark.lane mark.place }
     requires lane { mark.lane < length plan.now.lanes }
     requires place { mark.place < length (lane plan.now.lanes mark.lane).instructions }
@@ -247,7 +240,7 @@ fn point_of<'p>(
     match &plan.lane(mark.lane).instructions()[mark.place] {
         Instruction::Wait(entry) => {
             let sources = sources_at(
-                alloc, universe, tables, plan, archive, lanes, mark, entry, found,
+                alloc, universe, tables, plan, archive, lanes, by_name, mark, entry, found,
             )?;
             Ok(point_with(mark, sources))
         }
@@ -276,6 +269,7 @@ pub fn points(
     ensures { IfOk result (λ points. ArePoints universe.now plan.now.lanes points.items) }
 {
     let archive = initial_row(alloc, universe)?;
+    let by_name = ByName::of(alloc, universe, &marks.lanes)?;
     let waits = marks.waits.as_slice();
     let mut found = Found {
         entries: Entries::new(alloc)?,
@@ -290,6 +284,7 @@ pub fn points(
             plan,
             &archive,
             &marks.lanes,
+            &by_name,
             waits[w],
             &mut found,
         )?)?;

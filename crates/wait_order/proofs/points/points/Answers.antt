@@ -2,12 +2,20 @@ use Rattle.std.proofs.Common.{◌+◌, ◌≤◌, ◌∷◌, [], length, get_or,
 use Rattle.std.proofs.lemmas.List.{length-append}
 use Rattle.std.proofs.lemmas.Option.{slice_get-get_or, slice_get_within}
 use Rattle.wait_order.specs.declared.marks.Mark.{Mark}
+use Rattle.wait_order.specs.ByName.{AreKnownLanes}
 use Rattle.wait_order.specs.Hits.{HasPointOf}
+use Rattle.wait_order.proofs.HitLaws.{lanes_known}
 use Rattle.wait_order.proofs.PointLaws.{mark_facts, points_next, points_are}
 use Rattle.wait_order.proofs.points.points.Goals as goal
 
 none : Mark
 none = record { lane = 0; place = 0; own = 0; before = None }
+
+pub of-requires : goal.of-requires
+of-requires c =
+    subst (AreKnownLanes c.args.universe.now) (sym c.deref.ensures.value)
+    (lanes_known c.args.universe.now c.args.plan.now.lanes c.args.marks.now.lanes.items
+    c.requires.lanes c.requires.sound.universe)
 
 pub point_of-requires-clause-own : goal.point_of-requires-clause-own
 unfolding none

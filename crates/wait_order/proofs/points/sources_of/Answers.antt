@@ -1,24 +1,35 @@
-use Rattle.std.proofs.Common.{◌≡◌, ◌==◌, ◌<◌, length, get_or, refl, subst, ◌∙◌, arith}
+use Rattle.std.proofs.Common.{◌≡◌, ◌==◌, ◌<◌, length, get_or, refl, sym, subst, ◌∙◌, arith}
 use Rattle.std.proofs.lemmas.Bool.{ne_eqb}
+use Rattle.std.proofs.lemmas.List.{get_or_default}
 use Rattle.farm_model.specs.Packages.{satisfies_entry}
 use Rattle.clock_laws.specs.Clocks.{count_before}
 use Rattle.sat_rows.specs.Rows.{IsRowOf}
 use Rattle.std.specs.Prelude.{if◌then◌else◌}
 use Rattle.std.proofs.lemmas.Option.{slice_get-get_or}
-use Rattle.wait_order.proofs.HitLaws.{lane_known}
+use Rattle.wait_order.specs.Hits.{IsFirst}
+use Rattle.wait_order.proofs.HitLaws.{lanes_known}
 use Rattle.wait_order.proofs.Sources.{pushed}
 use Rattle.wait_order.proofs.points.sources_of.Goals as goal
 
-pub push_hit-requires-clause-known : goal.push_hit-requires-clause-known
-push_hit-requires-clause-known c =
+pub first_hits-requires-clause-known : goal.first_hits-requires-clause-known
+first_hits-requires-clause-known c =
+    lanes_known c.args.universe.now c.args._plan.now.lanes c.args.lanes.now c.requires.lanes
+    c.requires.sound.universe
+
+pub push_hit-requires : goal.push_hit-requires
+push_hit-requires c =
     let lanes = c.args.lanes.now in
-    let of = get_or lanes c.loop-number.number c.index-lanes-number.result in
-    let are =
-    c.as_slice-outputs.ensures.value ∙ c.requires.lanes.each c.loop-number.number of
-    (slice_get-get_or lanes c.loop-number.number c.index-lanes-number.result
-    c.loop-number-test.true) in
-    lane_known c.args.universe.now c.args._plan.now.lanes c.loop-number.number
-    c.as_slice-outputs.result.now are c.requires.sound.universe
+    let h = c.loop-number.number in
+    let of = get_or lanes h c.index-lanes-number.result in
+    let firsts = c.in_ok-firsts.firsts.items in
+    let within : h < length firsts =
+    omega (arith, c.loop-number-test.true, c.in_ok-firsts.ensures.long) in
+    let first = c.index.ensures ∙ get_or_default firsts h c.index.result.now 0 within in
+    subst (IsFirst c.in_ok-row.row c.as_slice-outputs.result.now) (sym first)
+    (subst (λ outs. IsFirst c.in_ok-row.row outs (get_or firsts h 0))
+    (sym c.as_slice-outputs.ensures.value)
+    (c.in_ok-firsts.ensures.each h of
+    (slice_get-get_or lanes h c.index-lanes-number.result c.loop-number-test.true)))
 
 pub loop-number-preserved : goal.loop-number-preserved
 loop-number-preserved c =

@@ -1,7 +1,8 @@
 use Rattle.std.proofs.Common.{◌≡◌, [], length, sym, ap, subst, ◌∙◌}
 use Rattle.std.proofs.lemmas.Bool.{eqb-true}
 use Rattle.wait_order.specs.Standing.{IsReached, left_of}
-use Rattle.wait_order.proofs.Ends.{start_reached, seen_same, no_lanes, some_lanes, order_found, stuck_found}
+use Rattle.wait_order.proofs.Ends.{start_reached, no_lanes, some_lanes, order_found, stuck_found}
+use Rattle.wait_order.proofs.Written.{written}
 use Rattle.wait_order.proofs.rounds.order.Goals as goal
 
 pub loop-order-init : goal.loop-order-init
@@ -30,7 +31,7 @@ returns-then-is_empty-clause-order c =
     let old : length c.deref_mut.result.now ≡ length p = ap length c.deref_mut.ensures.value
     ∙ c.loop-order.invariant.standing.long in
     let same =
-    seen_same c.loop-order.ats.len c.deref.result.now c.round.new.ats c.loop-order.ats.items
+    written c.loop-order.ats.len c.deref.result.now c.round.new.ats c.loop-order.ats.items
     c.deref_mut.result.now c.deref.ensures.value c.deref_mut.ensures.value
     c.deref_mut.ensures.len (round.standing.long ∙ sym old) in
     let none : c.in_ok-stuck.stuck.items ≡ [] =
@@ -51,7 +52,7 @@ returns-clause-stuck c =
     let old : length c.deref_mut.result.now ≡ length p = ap length c.deref_mut.ensures.value
     ∙ c.loop-order.invariant.standing.long in
     let same =
-    seen_same c.loop-order.ats.len c.deref.result.now c.round.new.ats c.loop-order.ats.items
+    written c.loop-order.ats.len c.deref.result.now c.round.new.ats c.loop-order.ats.items
     c.deref_mut.result.now c.deref.ensures.value c.deref_mut.ensures.value
     c.deref_mut.ensures.len (round.standing.long ∙ sym old) in
     let some =

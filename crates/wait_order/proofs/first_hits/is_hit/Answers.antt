@@ -1,0 +1,41 @@
+use Rattle.std.proofs.Common.{None, get_or, arith}
+use Rattle.farm_model.specs.Packages.{variant}
+use Rattle.farm_universe.proofs.PlaceLaws.{named}
+use Rattle.wait_order.specs.declared.marks.Output.{Output}
+use Rattle.wait_order.proofs.FirstHits.{known_at, hit_at}
+use Rattle.wait_order.proofs.first_hits.is_hit.Goals as goal
+
+none : Output
+none = record { variant = variant 0 0; point = None }
+
+pub has-requires-clause-named : goal.has-requires-clause-named
+unfolding none
+has-requires-clause-named c =
+    let outs = c.as_slice-outputs.result.now in
+    let n = c.args.place.number in
+    let known =
+    known_at c.args.lanes.now c.args.place.lane n c.index-lanes-place.result outs none
+    c.as_slice-outputs.ensures.value (omega (arith, c.if-place-lanes.false)) c.args._universe.now
+    c.requires.known (omega (arith, c.if-place-outputs.false)) in
+    let there =
+    named c.args._universe.now (get_or outs n none).variant.name (get_or outs n none).variant.bit
+    known in
+    omega (arith, there, c.requires.long)
+
+pub has-requires-clause-within : goal.has-requires-clause-within
+unfolding none
+has-requires-clause-within c =
+    let outs = c.as_slice-outputs.result.now in
+    let n = c.args.place.number in
+    let known =
+    known_at c.args.lanes.now c.args.place.lane n c.index-lanes-place.result outs none
+    c.as_slice-outputs.ensures.value (omega (arith, c.if-place-lanes.false)) c.args._universe.now
+    c.requires.known (omega (arith, c.if-place-outputs.false)) in
+    omega (arith, known, c.requires.sound.few (get_or outs n none).variant.name)
+
+pub returns : goal.returns
+unfolding none
+returns c =
+    hit_at c.args.lanes.now c.args.place.lane c.args.place.number c.index-lanes-place.result
+    c.as_slice-outputs.result.now none c.as_slice-outputs.ensures.value
+    (omega (arith, c.if-place-lanes.false)) c.args.row.now c.has.result c.has.ensures
