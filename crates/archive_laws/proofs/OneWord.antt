@@ -41,5 +41,5 @@ each_word_decides u of st there =
           (newest-same u there other name wanted h);
       wait =
           λ entry v known here sat. cond-true (passes u there entry)
-          (Goes (past st 0 st.chroot)) Waits (passes-by u there entry v known here sat);
+          (Goes (past of st 0 st.chroot)) Waits (passes-by u there entry v known here sat);
     }

@@ -22,7 +22,7 @@ pub record OneWordDecides (u : Universe) (of : Lane) (st : LaneState)
   -- a wait passes where one variant that is there satisfies it.
   pub wait : (entry : Entry) (v : Variant) → IsKnown u v → there v ≡ true
       → satisfies_entry u entry v ≡ true
-      → turn_of u there of st (Some (Wait entry)) ≡ Goes (past st 0 st.chroot)
+      → turn_of u there of st (Some (Wait entry)) ≡ Goes (past of st 0 st.chroot)
 
 abbrev pub EachWordDecides : Type 0
 EachWordDecides =

@@ -65,16 +65,16 @@ module _ (u : Universe) (of : Lane) (r : LaneRun) (run : IsRun u of r) (cost : �
       → (c : Held) → None ≡ first_trap traps → c ≡ with_slots u r.chroot slots → IsHeld u c
       → (new : LaneRun) → new ≡ passed (record r { chroot = c }) paid
       → IsTurn u of r new Goes
-      (unless_trapped of (shown r) cost traps (turn.Goes (past (shown r) cost slots)))
+      (unless_trapped of (shown r) cost traps (turn.Goes (past of (shown r) cost slots)))
   gone slots b test within c none is held new passes =
-      let goes : turn.Turn = turn.Goes (past (shown r) cost slots) in
+      let goes : turn.Turn = turn.Goes (past of (shown r) cost slots) in
       let turned : IsTurn u of r (passed (record r { chroot = c }) paid) Goes
       (unless_trapped of (shown r) cost traps goes) = record {
         told =
             then_first of (shown r) cost traps goes (paid_test b test within)
             ∙ (ap (λ o. unless o goes) (sym none)
-            ∙ (ap (λ xs. turn.Goes (past (shown r) cost xs)) (sym (ap (λ (h : Held). h.slots) is))
-            ∙ ap (λ n. turn.Goes (past (shown r) n c.slots)) (sym is_cost)));
+            ∙ (ap (λ xs. turn.Goes (past of (shown r) cost xs)) (sym (ap (λ (h : Held). h.slots) is))
+            ∙ ap (λ n. turn.Goes (past of (shown r) n c.slots)) (sym is_cost)));
         run = record {
           chroot = held;
           base = ap (λ (h : Held). h.base) is ∙ run.base;
@@ -92,9 +92,9 @@ pub built_on : (u : Universe) (of : Lane) (r : LaneRun) (run : IsRun u of r) (co
     → b ≡ over_budget of (shown r) paid → b ≡ false → None ≡ first_trap traps → (new : LaneRun)
     → new ≡ passed r paid
     → IsTurn u of r (record new { built = with_item new.built recipe true }) Goes
-    (unless_trapped of (shown r) cost traps (turn.Goes (past_build (shown r) cost recipe)))
+    (unless_trapped of (shown r) cost traps (turn.Goes (past_build of (shown r) cost recipe)))
 built_on u of r run cost traps paid is_cost recipe b test within none new passes =
-    let goes : turn.Turn = turn.Goes (past_build (shown r) cost recipe) in
+    let goes : turn.Turn = turn.Goes (past_build of (shown r) cost recipe) in
     let turned : IsTurn u of r
     (record (passed r paid) { built = with_item r.built recipe true }) Goes
     (unless_trapped of (shown r) cost traps goes) = record {
@@ -102,7 +102,7 @@ built_on u of r run cost traps paid is_cost recipe b test within none new passes
           then_first of (shown r) cost traps goes
           (paid_test u of r run cost traps paid is_cost b test within)
           ∙ (ap (λ o. unless o goes) (sym none)
-          ∙ ap (λ n. turn.Goes (past_build (shown r) n recipe)) (sym is_cost));
+          ∙ ap (λ n. turn.Goes (past_build of (shown r) n recipe)) (sym is_cost));
       run = record {
         chroot = run.chroot;
         base = run.base;

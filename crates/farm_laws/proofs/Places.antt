@@ -63,29 +63,30 @@ unpacks_place u there of st name wanted None = tt
 unpacks_place u there of st name wanted (Some b) =
     quiet_place u there st (Unpack name wanted) _ _ tt refl refl
 
-given_place : (n : ℕ) (st : LaneState) (cost : ℕ)
-    → ((suc st.made < n) × ((given n st cost).done ≡ st.done)
-    × ((given n st cost).made ≡ suc st.made))
-    ⊎ ((n ≤ suc st.made) × ((given n st cost).done ≡ suc st.done) × ((given n st cost).made ≡ 0))
-given_place n st cost =
+given_place : (of : Lane) (n : ℕ) (st : LaneState) (cost : ℕ)
+    → ((suc st.made < n) × ((given of n st cost).done ≡ st.done)
+    × ((given of n st cost).made ≡ suc st.made))
+    ⊎ ((n ≤ suc st.made) × ((given of n st cost).done ≡ suc st.done)
+    × ((given of n st cost).made ≡ 0))
+given_place of n st cost =
     elim (cases_lt (suc st.made) n) [
       | inl lt ↦ let e = lt-ltb (suc st.made) n lt in inl (lt, rw e, rw e)
       | inr ge ↦ let e = le-ltb (suc st.made) n ge in inr (ge, rw e, rw e)
     ]
 
-output_place : (u : Universe) (there : Variant → Bool) (st : LaneState) (r : ℕ) (v : Variant)
-    (o : Option Trap) (cost : ℕ) → slice_get (outputs u r) st.made ≡ Some v
+output_place : (u : Universe) (there : Variant → Bool) (of : Lane) (st : LaneState) (r : ℕ)
+    (v : Variant) (o : Option Trap) (cost : ℕ) → slice_get (outputs u r) st.made ≡ Some v
     → PlaceMove u there st (Some (Publish r))
-    (unless o (Gives (given (length (outputs u r)) st cost) v))
-output_place u there st r v None cost e =
-    record { recipe = r; is = refl; output = e; place = given_place _ st _ }
-output_place u there st r v (Some t) cost e = tt
+    (unless o (Gives (given of (length (outputs u r)) st cost) v))
+output_place u there of st r v None cost e =
+    record { recipe = r; is = refl; output = e; place = given_place of _ st _ }
+output_place u there of st r v (Some t) cost e = tt
 
 publishes_place : (u : Universe) (there : Variant → Bool) (of : Lane) (st : LaneState) (r : ℕ)
     (o : Option Variant) → slice_get (outputs u r) st.made ≡ o
     → PlaceMove u there st (Some (Publish r)) (publishes u of st r o)
 publishes_place u there of st r None e = tt
-publishes_place u there of st r (Some v) e = output_place u there st r v _ _ e
+publishes_place u there of st r (Some v) e = output_place u there of st r v _ _ e
 
 -- what a lane's turn makes of its place
 pub turn_place : (u : Universe) (there : Variant → Bool) (of : Lane) (st : LaneState)

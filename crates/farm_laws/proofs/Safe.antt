@@ -111,7 +111,7 @@ module _ (u : Universe) (p : Plan) (rows : Rows) where
         → AllowsAll u (may_after u (rows l st.done) may_be here x) c
         → st.spent + cost ≤ (may_after u (rows l st.done) may_be here x).cost
         → (may_after u (rows l st.done) may_be here x).built ≡ here.built
-        → Agrees l (past st cost c)
+        → Agrees l (past (lane p l) st cost c)
     past_agrees x cost c e a b same =
         let next = next_map x e in
         record {
@@ -139,7 +139,7 @@ module _ (u : Universe) (p : Plan) (rows : Rows) where
         let paid : st.spent + unpack_cost u (variant name b)
         ≤ here.cost + greatest_cost u name cur = omega (arith, spent_here z, bound) in
         rw is.newest_is
-        (unless_agrees l _ (Goes (past st (unpack_cost u (variant name b))
+        (unless_agrees l _ (Goes (past (lane p l) st (unpack_cost u (variant name b))
         (unpacked st.chroot (variant name b)))) (no_trap covers safe)
         (past_agrees (Unpack name wanted) _ _ e
         (subst (λ o. AllowsAll u (may_unpack u may_be here name wanted o)
@@ -167,7 +167,7 @@ module _ (u : Universe) (p : Plan) (rows : Rows) where
         → AgreesAfter l (turn_of u there (lane p l) st (Some (Configure ms)))
     configure_agrees ms e z safe =
         let low = spent_here z in
-        unless_agrees l _ (Goes (past st (length ms) (configured st.chroot ms)))
+        unless_agrees l _ (Goes (past (lane p l) st (length ms) (configured st.chroot ms)))
         (no_trap (configure_covers u here st.chroot agrees.allows
         (lane p l) st.spent ms low) safe)
         (past_agrees (Configure ms) _ _ e
@@ -179,7 +179,7 @@ module _ (u : Universe) (p : Plan) (rows : Rows) where
         → AgreesAfter l (turn_of u there (lane p l) st (Some (Deconfigure ms)))
     deconfigure_agrees ms e z safe =
         let low = spent_here z in
-        unless_agrees l _ (Goes (past st (length ms) (deconfigured st.chroot ms)))
+        unless_agrees l _ (Goes (past (lane p l) st (length ms) (deconfigured st.chroot ms)))
         (no_trap (withdraw_covers u here st.chroot agrees.allows is_configured is_surely_configured
         (λ k n t a. is_configured-may a) deconfigured_slot refl (lane p l) st.spent ms low) safe)
         (past_agrees (Deconfigure ms) _ _ e
@@ -191,7 +191,7 @@ module _ (u : Universe) (p : Plan) (rows : Rows) where
         → AgreesAfter l (turn_of u there (lane p l) st (Some (Remove ms)))
     remove_agrees ms e z safe =
         let low = spent_here z in
-        unless_agrees l _ (Goes (past st (length ms) (removed st.chroot ms)))
+        unless_agrees l _ (Goes (past (lane p l) st (length ms) (removed st.chroot ms)))
         (no_trap (withdraw_covers u here st.chroot agrees.allows is_present is_surely_present
         (λ k n t a. is_present-may a) (λ s. Absent) refl (lane p l) st.spent ms low) safe)
         (past_agrees (Remove ms) _ _ e
@@ -204,7 +204,7 @@ module _ (u : Universe) (p : Plan) (rows : Rows) where
     build_agrees r e z safe =
         let low = spent_here z in
         let next = next_map (Build r) e in
-        unless_agrees l _ (Goes (past_build st (recipe u r).steps r))
+        unless_agrees l _ (Goes (past_build (lane p l) st (recipe u r).steps r))
         (no_trap (build_covers u here st.chroot agrees.allows (lane p l) st.spent
         (recipe u r) low) safe)
         (record {
@@ -230,7 +230,7 @@ module _ (u : Universe) (p : Plan) (rows : Rows) where
 
     given_agrees : (r : ℕ) (cost : ℕ) → instruction_at p l st.done ≡ Some (Publish r)
         → st.spent + cost ≤ (may_at u p rows l (suc st.done)).cost
-        → Agrees l (given (length (outputs u r)) st cost)
+        → Agrees l (given (lane p l) (length (outputs u r)) st cost)
     given_agrees r cost e paid =
         elim (cases_lt (suc st.made) (length (outputs u r))) [
           | inl lt ↦ rw (lt-ltb (suc st.made) (length (outputs u r)) lt)
@@ -260,7 +260,7 @@ module _ (u : Universe) (p : Plan) (rows : Rows) where
         → AgreesAfter l (publishes u (lane p l) st r o)
     publishes_agrees r None e safe = tt
     publishes_agrees r (Some v) e safe =
-        unless_agrees l _ (Gives (given (length (outputs u r)) st
+        unless_agrees l _ (Gives (given (lane p l) (length (outputs u r)) st
         (first_only st.made (length (outputs u r)))) v) (no_trap (publish_covers r) safe)
         (given_agrees r _ e (paid_agrees r e st.made refl))
 

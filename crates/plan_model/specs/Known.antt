@@ -14,7 +14,7 @@ use Rattle.farm_model.specs.Universe.{Universe}
 use Rattle.farm_model.specs.Packages.{contains, satisfies_entry, initial, outputs}
 use Rattle.plan_model.specs.declared.instructions.Instruction.{Instruction}
 use Rattle.plan_model.specs.declared.instructions.Instruction.TheVariants.{Publish, Wait}
-use Rattle.plan_model.specs.Plan.{Plan, lane, instruction_at, outputs_of}
+use Rattle.plan_model.specs.Plan.{Plan, lane, instruction_at, next_place, outputs_of}
 
 -- the variant is an output of the instruction
 abbrev pub gives : Universe → Variant → Instruction → Bool
@@ -77,7 +77,7 @@ Adds u p rows l i v _ = ⊥
 pub record KeepsRows (u : Universe) (p : Plan) (rows : Rows) : Type 0 where
   pub at_start : (l : ℕ) (v : Variant) → l < length p → rows l 0 v ≡ true → initial u v ≡ true
   pub after : (l i : ℕ) (x : Instruction) (v : Variant) → l < length p
-      → instruction_at p l i ≡ Some x → rows l (suc i) v ≡ true
+      → instruction_at p l i ≡ Some x → rows l (next_place (lane p l) i) v ≡ true
       → (rows l i v ≡ true) ⊎ Adds u p rows l i v x
 
 -- they keep to the inclusions, and at the plan's places have all that any such rows have

@@ -4,9 +4,10 @@
 --
 --   Lane, Plan                        what a plan's text says
 --   lane, instruction_at              a lane, and the instruction at a place, by number
+--   next_place                        the place behind an instruction
 --   outputs_of, events_of, count      what an instruction publishes; its events; the plan's events
 --   unpack_cost, set_cost, ..         what an instruction costs
-use Rattle.std.specs.Prelude.{ℕ, ◌+◌, ◌/◌, List, [], length, take, Option, slice_get, slice_index_or}
+use Rattle.std.specs.Prelude.{ℕ, suc, ◌+◌, ◌/◌, List, [], length, take, Option, slice_get, slice_index_or}
 use Rattle.std.specs.List.{sum_by, flat_map}
 use Rattle.farm_model.specs.declared.types.Variant.{Variant}
 use Rattle.farm_model.specs.Below.{sum_below}
@@ -38,6 +39,10 @@ lane p l = slice_index_or p l no_lane
 -- the instruction at a place of a lane, none past the end
 abbrev pub instruction_at : Plan → ℕ → ℕ → Option Instruction
 instruction_at p l i = slice_get (lane p l).instructions i
+
+-- where a lane stands once the instruction at a place is done: the next place
+abbrev pub next_place : Lane → ℕ → ℕ
+next_place of i = suc i
 
 -- the KiB that the lane's chroot can hold
 unfoldable pub capacity : Universe → Lane → ℕ

@@ -17,7 +17,7 @@ use Rattle.farm_model.specs.Chroot.{Chroot, base_chroot}
 use Rattle.farm_model.specs.Traps.{first_trap, unpack_traps, unpacked, configure_traps, configured, deconfigure_traps, deconfigured, remove_traps, removed, build_traps}
 use Rattle.plan_model.specs.declared.instructions.Instruction.{Instruction}
 use Rattle.plan_model.specs.declared.instructions.Instruction.TheVariants.{Unpack, Configure, Deconfigure, Remove, Build, Publish, Wait}
-use Rattle.plan_model.specs.Plan.{Lane, capacity, unpack_cost, set_cost, build_cost, publish_cost, wait_cost}
+use Rattle.plan_model.specs.Plan.{Lane, next_place, capacity, unpack_cost, set_cost, build_cost, publish_cost, wait_cost}
 
 -- a lane: the instructions that are done, the outputs that are made of the publish it stands at,
 -- its chroot, what it has spent, and for each recipe, by number, whether it has built it
@@ -69,9 +69,9 @@ pub data Turn : Type 0 where
   Fails : (trap : Trap) → Turn
 
 -- the lane behind its instruction
-abbrev pub past : LaneState → ℕ → Chroot → LaneState
-past st cost chroot = record {
-  done = suc st.done;
+abbrev pub past : Lane → LaneState → ℕ → Chroot → LaneState
+past of st cost chroot = record {
+  done = next_place of st.done;
   made = 0;
   chroot = chroot;
   spent =
@@ -80,9 +80,9 @@ past st cost chroot = record {
 }
 
 -- the lane behind a build
-abbrev pub past_build : LaneState → ℕ → ℕ → LaneState
-past_build st cost r = record {
-  done = suc st.done;
+abbrev pub past_build : Lane → LaneState → ℕ → ℕ → LaneState
+past_build of st cost r = record {
+  done = next_place of st.done;
   made = 0;
   chroot = st.chroot;
   spent =
@@ -110,11 +110,11 @@ unpacks u of st name None = Fails Missing
 unpacks u of st name (Some b) =
     let v = variant name b in
     unless_trapped of st (unpack_cost u v) (unpack_traps u (capacity u of) st.chroot v)
-    (Goes (past st (unpack_cost u v) (unpacked st.chroot v)))
+    (Goes (past of st (unpack_cost u v) (unpacked st.chroot v)))
 
 -- the lane behind one more of so many outputs: the last one ends the publish
-abbrev pub given : ℕ → LaneState → ℕ → LaneState
-given count st cost =
+abbrev pub given : Lane → ℕ → LaneState → ℕ → LaneState
+given of count st cost =
     if nat_lt (suc st.made) count
     then record {
       done = st.done;
@@ -124,7 +124,7 @@ given count st cost =
           st.spent + cost;
       built = st.built;
     }
-    else past st cost st.chroot
+    else past of st cost st.chroot
 
 -- a publish is charged whole with its first output
 abbrev pub first_only : ℕ → ℕ → ℕ
@@ -142,7 +142,7 @@ abbrev pub publishes : Universe → Lane → LaneState → ℕ → Option Varian
 publishes u of st r None = Waits
 publishes u of st r (Some v) =
     unless (first_trap (publish_traps u of st r))
-    (Gives (given (length (outputs u r)) st (first_only st.made (publish_cost u r))) v)
+    (Gives (given of (length (outputs u r)) st (first_only st.made (publish_cost u r))) v)
 
 -- a lane's turn, at the instruction it stands at, over the archive that is there
 abbrev pub turn_of : Universe → (Variant → Bool) → Lane → LaneState → Option Instruction → Turn
@@ -151,17 +151,17 @@ turn_of u there of st (Some (Unpack name wanted)) =
     unpacks u of st name (newest u there name wanted)
 turn_of u there of st (Some (Configure members)) =
     unless_trapped of st (set_cost members) (configure_traps u st.chroot members)
-    (Goes (past st (set_cost members) (configured st.chroot members)))
+    (Goes (past of st (set_cost members) (configured st.chroot members)))
 turn_of u there of st (Some (Deconfigure members)) =
     unless_trapped of st (set_cost members) (deconfigure_traps u st.chroot members)
-    (Goes (past st (set_cost members) (deconfigured st.chroot members)))
+    (Goes (past of st (set_cost members) (deconfigured st.chroot members)))
 turn_of u there of st (Some (Remove members)) =
     unless_trapped of st (set_cost members) (remove_traps u st.chroot members)
-    (Goes (past st (set_cost members) (removed st.chroot members)))
+    (Goes (past of st (set_cost members) (removed st.chroot members)))
 turn_of u there of st (Some (Build r)) =
     unless_trapped of st (build_cost (recipe u r))
     (build_traps u (capacity u of) st.chroot (recipe u r))
-    (Goes (past_build st (build_cost (recipe u r)) r))
+    (Goes (past_build of st (build_cost (recipe u r)) r))
 turn_of u there of st (Some (Publish r)) = publishes u of st r (slice_get (outputs u r) st.made)
 turn_of u there of st (Some (Wait e)) =
-    if passes u there e then Goes (past st wait_cost st.chroot) else Waits
+    if passes u there e then Goes (past of st wait_cost st.chroot) else Waits
