@@ -6,11 +6,11 @@ use crate::replaced::answer_replaced;
 use case_files::Case;
 use cert_text::{CertFault, print, read};
 use deb_text::{cut_at_first, cut_at_last, read_number};
-use farm_input::texts_of;
+use farm_input::{Planned, read_texts, texts_of};
 use farm_report::{WriteFailed, WriteSink, verdict_text, write_cert_verdict};
 use plan_asm::Plan;
 use plan_cert::check_certificate;
-use plan_verifier::{Planned, Refusal, read_texts};
+use plan_verifier::Refusal;
 use std::alloc::{AllocError, Global};
 use std::thread::Threads;
 

@@ -3,7 +3,7 @@
 ghost use Rattle.plan_model.specs.Sound.{IsSound};
 
 use crate::answers::answer_checked;
-use plan_verifier::Planned;
+use farm_input::Planned;
 use std::alloc::{AllocError, Global};
 use std::thread::Threads;
 

@@ -20,7 +20,7 @@ use Rattle.plan_model.specs.Run.{result_of}
 use Rattle.plan_verifier.specs.Accepted.{AcceptedPlan}
 use Rattle.plan_verifier.specs.declared.refusal.Refusal.{Refusal}
 use Rattle.plan_verifier.specs.declared.refusal.Refusal.TheVariants.{Text, Memory}
-use Rattle.plan_verifier.specs.Texts.{FarmPlan, planned_of}
+use Rattle.farm_input.specs.Planned.{FarmPlan, planned_of}
 use Rattle.plan_verifier.specs.Verdict.{IsVerdict}
 use Rattle.report_sink.specs.Sinks.{SinkState, IsWritten}
 use Rattle.farm_commands.specs.declared.fault.OutsideFault.{OutsideFault}

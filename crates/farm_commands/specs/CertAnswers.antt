@@ -23,7 +23,7 @@ use Rattle.plan_model.specs.Plan.{Plan}
 use Rattle.plan_verifier.specs.Accepted.{AcceptedPlan, known_rows}
 use Rattle.plan_verifier.specs.declared.refusal.Refusal.{Refusal}
 use Rattle.plan_verifier.specs.declared.refusal.Refusal.TheVariants.{Text}
-use Rattle.plan_verifier.specs.Texts.{FarmPlan}
+use Rattle.farm_input.specs.Planned.{FarmPlan}
 use Rattle.plan_verifier.specs.Verdict.{IsVerdict}
 use Rattle.farm_commands.specs.Answers.{AnswersVerdict, TellsVerdict, planned_in, status_of}
 use Rattle.farm_commands.specs.declared.status.TheConstants.{FINE}

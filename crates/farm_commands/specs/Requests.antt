@@ -4,9 +4,9 @@
 --   AnswersRequest    that this text and this status are what is answered to a request
 use Rattle.std.specs.Prelude.{◌≡◌, ◌≤◌, ℕ, List, length, take, Option, IfSome}
 use Rattle.farm_input.specs.Input.{Texts, texts_in}
-use Rattle.farm_words.specs.declared.request.Paths.{Paths}
-use Rattle.farm_words.specs.declared.request.Request.{Request}
-use Rattle.farm_words.specs.declared.request.Request.TheVariants.{CheckInput, Check, List as ListPlan, Cert, VerifyCert, Step}
+use Rattle.command_line.specs.declared.request.Paths.{Paths}
+use Rattle.command_line.specs.declared.request.Request.{Request}
+use Rattle.command_line.specs.declared.request.Request.TheVariants.{CheckInput, Check, List as ListPlan, Cert, VerifyCert, Step}
 use Rattle.farm_commands.specs.Answers.{AnswersCheck, AnswersList, AnswersStep}
 use Rattle.farm_commands.specs.CertAnswers.{AnswersCert, AnswersVerifyCert}
 use Rattle.farm_commands.specs.declared.source.TheConstants.{MOST_FILE, MOST_INPUT}

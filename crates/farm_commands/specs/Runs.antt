@@ -1,14 +1,17 @@
 -- What words come to. The project's own rules.
 --
 --   status_told      the status of the program
+--   fault_line, TellsFault
+--                    the line of a fault outside of the texts, written to the error output
 --   TellsWords       what is told of words that ask for no answer
 --   ComesTo          what is written to the output, and what is told
-use Rattle.std.specs.Prelude.{◌≡◌, ◌⊎◌, ℕ, List, Option, Result, Ok, Err}
-use Rattle.farm_words.specs.declared.request.Request.{Request}
-use Rattle.report_sink.specs.Sinks.{SinkState}
+use Rattle.std.specs.Prelude.{◌≡◌, ◌⊎◌, ℕ, List, ◌++◌, codes, Option, Result, Ok, Err}
+use Rattle.command_line.specs.declared.request.Request.{Request}
+use Rattle.report_sink.specs.Sinks.{SinkState, IsWritten}
 use Rattle.farm_commands.specs.Answers.{IsAnswered}
 use Rattle.farm_commands.specs.Requests.{AnswersRequest, OnInput}
 use Rattle.farm_commands.specs.declared.fault.OutsideFault.{OutsideFault}
+use Rattle.farm_commands.specs.declared.fault.OutsideFault.TheVariants.{CannotRead, OutOfMemory, WriteFailed}
 use Rattle.farm_commands.specs.declared.status.TheConstants.{FINE, OUTSIDE, WRONG_WORDS}
 
 -- what is answered where words ask for help or the version: some text
@@ -19,6 +22,17 @@ Shows text status = status ≡ FINE
 abbrev pub status_told : Result ℕ OutsideFault → ℕ
 status_told (Ok status) = status
 status_told (Err fault) = OUTSIDE
+
+-- the line that is said of a fault outside of the texts
+abbrev pub fault_line : OutsideFault → List ℕ
+fault_line (CannotRead name) = codes "portfarm: cannot read " ++ (name.now ++ codes "\n")
+fault_line OutOfMemory = codes "portfarm: out of memory\n"
+fault_line WriteFailed = codes "portfarm: write failed\n"
+
+-- a fault outside of the texts is said on the error output
+abbrev pub TellsFault : SinkState → SinkState → Result ℕ OutsideFault → Type 0
+TellsFault old new (Ok status) = Unit {0}
+TellsFault old new (Err fault) = IsWritten old new (fault_line fault)
 
 -- help is shown, or the words are wrong and nothing is written to the output
 abbrev pub TellsWords : SinkState → SinkState → Result ℕ OutsideFault → Type 0

@@ -1,14 +1,15 @@
 //! What words come to.
 
-ghost use Rattle.std.specs.Prelude.{◌≡◌, ℕ, Result, length};
-ghost use Rattle.farm_commands.specs.Runs.{ComesTo, TellsWords, status_told};
+ghost use Rattle.std.specs.Prelude.{◌≡◌, ℕ, Result, OnErr, length};
+ghost use Rattle.farm_commands.specs.Runs.{ComesTo, TellsFault, TellsWords, fault_line, status_told};
+ghost use Rattle.report_sink.specs.Sinks.{IsWritten};
 
 use crate::fault::OutsideFault;
 use crate::request::answer_request;
 use crate::source::Source;
 use crate::status::{FINE, OUTSIDE, WRONG_WORDS};
-use farm_words::{WordsFault, read_words};
-use report_sink::{Sink, write_text};
+use command_line::{WordsFault, read_words};
+use report_sink::{Sink, write_pieces, write_text};
 use std::alloc::Global;
 use std::convert::AsStr;
 use std::thread::Threads;
@@ -27,7 +28,8 @@ fn tell_words<'a, S: Sink, E: Sink>(
     out: &mut S,
     errors: &mut E,
 ) -> Result<u8, OutsideFault<'a>>
-    ensures { TellsWords (S.state out.old) (S.state out.new) result }
+    ensures told { TellsWords (S.state out.old) (S.state out.new) result }
+    ensures quiet { OnErr result (E.state errors.new ≡ E.state errors.old) }
 {
     match fault {
         WordsFault::Help(text) => {
@@ -53,8 +55,9 @@ fn answer_words<'a, W: AsStr, F: Source, S: Sink, E: Sink>(
     out: &mut S,
     errors: &mut E,
 ) -> Result<u8, OutsideFault<'a>>
-    ensures { ComesTo (length words.entry.now) (F.held source.now) (F.given source.now)
+    ensures answer { ComesTo (length words.entry.now) (F.held source.now) (F.given source.now)
         (S.state out.old) (S.state out.new) result }
+    ensures quiet { OnErr result (E.state errors.new ≡ E.state errors.old) }
 {
     match read_words(alloc, words) {
         Ok(request) => answer_request(rt, alloc, request, source, out),
@@ -62,13 +65,23 @@ fn answer_words<'a, W: AsStr, F: Source, S: Sink, E: Sink>(
     }
 }
 
-/// Ends with a fault outside of the texts: says it on the error output.
-fn tell<E: Sink>(alloc: Global, fault: OutsideFault<'_>, errors: &mut E) -> u8
-    ensures { result ≡ OUTSIDE }
+/// Ends with a fault outside of the texts: says it on the error output, without memory of its own.
+fn tell<E: Sink>(fault: OutsideFault<'_>, errors: &mut E) -> u8
+    ensures status { result ≡ OUTSIDE }
+    ensures line { IsWritten (E.state errors.old) (E.state errors.new) (fault_line fault) }
 {
-    if let Ok(line) = format!(in alloc; "portfarm: {fault}\n") {
-        let _written = write_text(errors, line.as_bytes());
-    }
+    let _written = match fault {
+        OutsideFault::CannotRead(name) => {
+            let pieces = [
+                b"portfarm: cannot read ".as_slice(),
+                name.as_bytes(),
+                b"\n".as_slice(),
+            ];
+            write_pieces(errors, &pieces)
+        }
+        OutsideFault::OutOfMemory => write_text(errors, b"portfarm: out of memory\n"),
+        OutsideFault::WriteFailed => write_text(errors, b"portfarm: write failed\n"),
+    };
     OUTSIDE
 }
 
@@ -79,7 +92,7 @@ fn tell<E: Sink>(alloc: Global, fault: OutsideFault<'_>, errors: &mut E) -> u8
 /// at all the four texts are those of standard input. The status is 0 where the texts are accepted
 /// or listed, the schedule meets no trap, or help is shown; 1 for a refusal or a trap; 2 for wrong
 /// words or a schedule that is none; and 3 where a file cannot be read, memory is refused, or the
-/// output fails. What is said of the last two stands on the error output.
+/// output fails. What is said of wrong words, and of the last three, stands on the error output.
 pub fn run_words<'a, W: AsStr, F: Source, S: Sink, E: Sink>(
     rt: &(impl Threads + Sync),
     alloc: Global,
@@ -90,10 +103,11 @@ pub fn run_words<'a, W: AsStr, F: Source, S: Sink, E: Sink>(
 ) -> u8
     ensures { (told : Result ℕ OutsideFault) × (result ≡ status_told told)
         × ComesTo (length words.entry.now) (F.held source.now) (F.given source.now)
-        (S.state out.old) (S.state out.new) told }
+        (S.state out.old) (S.state out.new) told
+        × TellsFault (E.state errors.old) (E.state errors.new) told }
 {
     match answer_words(rt, alloc, words, source, out, errors) {
         Ok(status) => status,
-        Err(fault) => tell(alloc, fault, errors),
+        Err(fault) => tell(fault, errors),
     }
 }

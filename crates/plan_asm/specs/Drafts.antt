@@ -197,17 +197,30 @@ add bs ls (InLane line lane) xs =
 abbrev pub add_use : List Block → List Lane → Open → List ℕ → Result Draft ℕ
 add_use bs ls o name = block_named bs name >>= λ xs. add bs ls o xs
 
--- first whether the line may stand here, then its names, then what it changes
-unfoldable pub take_form : Universe → ℕ → Draft → Form → Result Draft ℕ
-take_form u number d (BlockForm name) =
-    if is_open d.current then Err BAD_LINE else open_block number d name
-take_form u number d (LaneForm name chroot budget) =
+-- a line opens a block, or a lane, where nothing is open
+abbrev pub take_block : ℕ → Draft → List ℕ → Result Draft ℕ
+take_block number d name = if is_open d.current then Err BAD_LINE else open_block number d name
+
+abbrev pub take_lane : Universe → ℕ → Draft → List ℕ → List ℕ → ℕ → Result Draft ℕ
+take_lane u number d name chroot budget =
     if is_open d.current then Err BAD_LINE
     else (known_base u chroot >>= open_lane number d name budget)
-take_form u number d EndForm = end_open d.blocks d.lanes d.current
-take_form u number d (UseForm name) =
+
+-- a use, or an instruction, comes into what is open
+abbrev pub take_use : Draft → List ℕ → Result Draft ℕ
+take_use d name =
     if is_open d.current then add_use d.blocks d.lanes d.current name else Err BAD_LINE
-take_form u number d (InstructionForm wording) =
+
+abbrev pub take_instruction : Universe → Draft → Wording → Result Draft ℕ
+take_instruction u d wording =
     if is_open d.current
     then (instruction_of u wording >>= λ x. add d.blocks d.lanes d.current (x ∷ []))
     else Err BAD_LINE
+
+-- first whether the line may stand here, then its names, then what it changes
+unfoldable pub take_form : Universe → ℕ → Draft → Form → Result Draft ℕ
+take_form u number d (BlockForm name) = take_block number d name
+take_form u number d (LaneForm name chroot budget) = take_lane u number d name chroot budget
+take_form u number d EndForm = end_open d.blocks d.lanes d.current
+take_form u number d (UseForm name) = take_use d name
+take_form u number d (InstructionForm wording) = take_instruction u d wording

@@ -17,7 +17,7 @@ wording_of (Wait entry) = spec.WaitForm entry
 
 abbrev pub form_of : Form → spec.Form
 form_of (Block name) = spec.BlockForm name.now
-form_of (Lane name chroot budget) = spec.LaneForm name.now chroot.now budget
+form_of (Lane head) = spec.LaneForm head.name.now head.chroot.now head.budget
 form_of End = spec.EndForm
 form_of (Use block) = spec.UseForm block.now
 form_of (Instruction wording) = spec.InstructionForm (wording_of wording)

@@ -40,17 +40,22 @@ pub enum Wording<'a> {
     Wait(Entry),
 }
 
+/// What the first line of a lane says, its names as they stand there.
+#[derive(Clone, Copy, Debug)]
+pub struct LaneHead<'a> {
+    pub name: &'a [u8],
+    pub chroot: &'a [u8],
+    /// What the lane may spend, in steps.
+    pub budget: u64,
+}
+
 /// What a line says.
 #[derive(Debug, Drop)]
 pub enum Form<'a> {
     /// `block NAME`
     Block(&'a [u8]),
     /// `lane NAME chroot CHROOT budget NUMBER`
-    Lane {
-        name: &'a [u8],
-        chroot: &'a [u8],
-        budget: u64,
-    },
+    Lane(LaneHead<'a>),
     /// `end`
     End,
     /// `use BLOCK`
@@ -86,11 +91,11 @@ fn read_lane(text: &[u8]) -> Result<Form<'_>, LineError>
         return Err(LineError::BadLine);
     }
     match read_number(budget) {
-        Some(budget) => Ok(Form::Lane {
+        Some(budget) => Ok(Form::Lane(LaneHead {
             name,
             chroot,
             budget,
-        }),
+        })),
         None => Err(LineError::BadLine),
     }
 }

@@ -6,17 +6,17 @@ ghost use Rattle.deb_stanza.specs.Plain.{plain_lines_at};
 ghost use Rattle.deb_text.specs.Answers.{Gives, fault_at, refusal_of};
 ghost use Rattle.farm_model.specs.Sound.{IsUniverse};
 ghost use Rattle.farm_universe.specs.Told.{in_file};
-ghost use Rattle.plan_asm.specs.Drafts.{take_form};
+ghost use Rattle.plan_asm.specs.Drafts.{take_block, take_form, take_instruction, take_lane, take_use};
 ghost use Rattle.plan_asm.specs.PlanText.{take_text, take_line, draft_of};
 ghost use Rattle.plan_asm.specs.PlanText.{plan_in, plan_of};
 ghost use Rattle.plan_model.specs.Plan.{count};
 ghost use Rattle.plan_model.specs.Sound.{IsPlan};
 ghost use Rattle.plan_asm.specs.LineErrors.{refusal_of_line};
-ghost use Rattle.plan_asm.specs.View.{form_of};
+ghost use Rattle.plan_asm.specs.View.{form_of, wording_of};
 
 use crate::assembly::Assembly;
 use crate::error::{FILE, LineError, NO_PLAN};
-use crate::form::{Form, read_form};
+use crate::form::{Form, LaneHead, Wording, read_form};
 use crate::names::{known_base, read_instruction};
 use crate::plan::Plan;
 use deb_stanza::{Lines, plain_lines};
@@ -24,6 +24,68 @@ use deb_text::{Fault, is_head};
 use farm_universe::Universe;
 use plan_model::Instruction;
 use std::alloc::Global;
+
+/// Opens a block, where nothing is open.
+fn take_block(
+    alloc: Global,
+    number: u32,
+    before: Assembly,
+    name: &[u8],
+) -> Result<Assembly, LineError>
+    ensures { Gives refusal_of_line (λ next. next) result
+        (take_block number before name.now) }
+{
+    if before.is_open() {
+        return Err(LineError::BadLine);
+    }
+    before.open_block(alloc, number, name)
+}
+
+/// Opens a lane over the base chroot of a name, where nothing is open.
+fn take_lane(
+    alloc: Global,
+    universe: &Universe,
+    number: u32,
+    before: Assembly,
+    head: LaneHead<'_>,
+) -> Result<Assembly, LineError>
+    ensures { Gives refusal_of_line (λ next. next) result
+        (take_lane universe.now number before head.entry.name.now head.entry.chroot.now
+        head.entry.budget) }
+{
+    if before.is_open() {
+        return Err(LineError::BadLine);
+    }
+    let base = known_base(universe, head.chroot)?;
+    before.open_lane(alloc, number, head.name, head.budget, base)
+}
+
+/// Puts what a block stands for into what is open.
+fn take_use(alloc: Global, before: Assembly, name: &[u8]) -> Result<Assembly, LineError>
+    ensures { Gives refusal_of_line (λ next. next) result
+        (take_use before name.now) }
+{
+    if !before.is_open() {
+        return Err(LineError::BadLine);
+    }
+    before.add_use(alloc, name)
+}
+
+/// Puts an instruction into what is open.
+fn take_instruction(
+    alloc: Global,
+    universe: &Universe,
+    before: Assembly,
+    wording: Wording<'_>,
+) -> Result<Assembly, LineError>
+    ensures { Gives refusal_of_line (λ next. next) result
+        (take_instruction universe.now before (wording_of wording.entry)) }
+{
+    if !before.is_open() {
+        return Err(LineError::BadLine);
+    }
+    before.add(read_instruction(alloc, universe, wording)?)
+}
 
 #[tactic(auto, unfolding(crate::specs::Drafts::take_form))]
 fn take_form(
@@ -37,36 +99,11 @@ fn take_form(
         (take_form universe.now number before (form_of form.entry)) }
 {
     match form {
-        Form::Block(name) => {
-            if before.is_open() {
-                return Err(LineError::BadLine);
-            }
-            before.open_block(alloc, number, name)
-        }
-        Form::Lane {
-            name,
-            chroot,
-            budget,
-        } => {
-            if before.is_open() {
-                return Err(LineError::BadLine);
-            }
-            let base = known_base(universe, chroot)?;
-            before.open_lane(alloc, number, name, budget, base)
-        }
+        Form::Block(name) => take_block(alloc, number, before, name),
+        Form::Lane(head) => take_lane(alloc, universe, number, before, head),
         Form::End => before.end_open(alloc),
-        Form::Use(name) => {
-            if !before.is_open() {
-                return Err(LineError::BadLine);
-            }
-            before.add_use(alloc, name)
-        }
-        Form::Instruction(wording) => {
-            if !before.is_open() {
-                return Err(LineError::BadLine);
-            }
-            before.add(read_instruction(alloc, universe, wording)?)
-        }
+        Form::Use(name) => take_use(alloc, before, name),
+        Form::Instruction(wording) => take_instruction(alloc, universe, before, wording),
     }
 }
 

@@ -15,10 +15,10 @@ use Rattle.plan_model.specs.Plan.{Plan}
 use Rattle.plan_model.specs.Promise.{IsSafe}
 use Rattle.plan_model.specs.Safety.{IsSafeUnder, IsFirstUnsafe}
 use Rattle.plan_model.specs.Sound.{IsSound}
-use Rattle.row_laws.specs.Agreeing.{Agree}
-use Rattle.row_laws.specs.Places.{IsFirstUnjustified}
-use Rattle.row_laws.proofs.Alike.{agreeing_rows_are_alike}
-use Rattle.row_laws.proofs.ByPlace.{keeping_is_by_place}
+use Rattle.verdict_laws.specs.Agreeing.{Agree}
+use Rattle.verdict_laws.specs.Places.{IsFirstUnjustified}
+use Rattle.verdict_laws.proofs.Alike.{agreeing_rows_are_alike}
+use Rattle.verdict_laws.proofs.ByPlace.{keeping_is_by_place}
 use Rattle.plan_cert.specs.Broken.{IsBrokenAt, IsOrderChecked, IsNumbered}
 use Rattle.plan_cert.specs.Certified.{Certifies, IsCertVerdict}
 use Rattle.plan_cert.specs.Checked.{AreChecked, AreSafe}

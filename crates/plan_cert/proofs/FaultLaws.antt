@@ -7,8 +7,8 @@ use Rattle.farm_model.specs.Universe.{Universe}
 use Rattle.plan_model.specs.Known.{Rows, KeepsRows}
 use Rattle.plan_model.specs.Plan.{Plan}
 use Rattle.plan_model.specs.Safety.{IsSafeUnder}
-use Rattle.row_laws.proofs.ByPlace.{keeping_is_by_place, first_unjustified_is_one}
-use Rattle.row_laws.specs.Places.{IsFirstUnjustified}
+use Rattle.verdict_laws.proofs.ByPlace.{keeping_is_by_place, first_unjustified_is_one}
+use Rattle.verdict_laws.specs.Places.{IsFirstUnjustified}
 use Rattle.verdict_laws.proofs.FirstOne.{first_unsafe_is_one}
 use Rattle.plan_cert.proofs.OrderLaws.{order-unbroken, broken-once}
 use Rattle.plan_cert.specs.Certified.{IsUnsafeAt, FaultsRefuse, FirstFaultIsOne}

@@ -14,7 +14,7 @@ use Rattle.plan_model.specs.declared.instructions.Instruction.{Instruction}
 use Rattle.plan_model.specs.declared.instructions.Instruction.TheVariants.{Unpack, Configure, Deconfigure, Remove, Build, Publish, Wait}
 use Rattle.plan_model.specs.Known.{Rows, published_by, possible, Adds, KeepsRows}
 use Rattle.plan_model.specs.Plan.{Plan, lane, instruction_at}
-use Rattle.row_laws.specs.Places.{IsJustified, IsFirstUnjustified}
+use Rattle.verdict_laws.specs.Places.{IsJustified, IsFirstUnjustified}
 use Rattle.sat_rows.specs.Rows.{IsRowOf}
 use Rattle.verdict_laws.proofs.Inclusions.{possible-known}
 use Rattle.plan_cert.specs.Facts.{AreFacts}

@@ -16,8 +16,8 @@ use Rattle.plan_model.specs.Order.{IsOrder}
 use Rattle.plan_model.specs.Plan.{Plan, lane, instruction_at}
 use Rattle.plan_model.specs.Safety.{IsSafeUnder}
 use Rattle.plan_verifier.specs.Accepted.{AcceptedPlan, IsAccepted, known_rows}
-use Rattle.row_laws.proofs.Kept.{greatest_is_carried}
-use Rattle.row_laws.specs.Agreeing.{Agree}
+use Rattle.verdict_laws.proofs.Kept.{greatest_is_carried}
+use Rattle.verdict_laws.specs.Agreeing.{Agree}
 use Rattle.plan_cert.proofs.CheckLaws.{keeps-alike, safe-alike}
 use Rattle.plan_cert.proofs.OrderLaws.{order-in-plan}
 use Rattle.plan_cert.proofs.StatedLaws.{next-quiet, next-learns}

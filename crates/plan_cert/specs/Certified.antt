@@ -17,7 +17,7 @@ use Rattle.plan_model.specs.Known.{Rows, KeepsRows}
 use Rattle.plan_model.specs.Order.{IsOrder}
 use Rattle.plan_model.specs.Plan.{Plan}
 use Rattle.plan_model.specs.Safety.{IsSafeUnder, IsFirstUnsafe}
-use Rattle.row_laws.specs.Places.{IsFirstUnjustified}
+use Rattle.verdict_laws.specs.Places.{IsFirstUnjustified}
 use Rattle.plan_cert.specs.Broken.{IsBrokenAt}
 use Rattle.plan_cert.specs.Stated.{stated_rows}
 

@@ -7,7 +7,7 @@ use Rattle.farm_model.specs.Universe.{Universe}
 use Rattle.plan_model.specs.Known.{Rows, KeepsRows}
 use Rattle.plan_model.specs.Plan.{Plan}
 use Rattle.plan_model.specs.Safety.{IsSafeUnder, IsFirstUnsafe}
-use Rattle.row_laws.specs.Places.{IsJustified, IsFirstUnjustified}
+use Rattle.verdict_laws.specs.Places.{IsJustified, IsFirstUnjustified}
 
 -- the first row behind an instruction of the lane that is not justified
 pub record IsLaneFault (u : Universe) (p : Plan) (rows : Rows) (l told number : ℕ) : Type 0 where

@@ -9,7 +9,7 @@ ghost use Rattle.plan_model.specs.declared.instructions.Instruction as model;
 ghost use Rattle.plan_model.specs.Known.{possible, Adds};
 ghost use Rattle.plan_model.specs.Plan.{lane, instruction_at};
 ghost use Rattle.plan_model.specs.Sound.{IsSound};
-ghost use Rattle.row_laws.specs.Places.{IsJustified};
+ghost use Rattle.verdict_laws.specs.Places.{IsJustified};
 ghost use Rattle.sat_rows.specs.Rows.{IsRowOf};
 ghost use Rattle.wait_order.specs.KnownRows.{rows_of};
 ghost use Rattle.plan_cert.specs.Origins.{AreOrigins};

@@ -11,7 +11,7 @@ mod order;
 mod origins;
 mod stated;
 
-pub use cert_text::{CertFault, Certificate};
+pub use cert_text::{CertFault, Certificate, print, read};
 pub use checker::check_certificate;
 pub use laws::{faults_refuse, first_fault_is_one};
 pub use maker::certificate;

@@ -6,7 +6,7 @@ ghost use Rattle.cert_text.specs.Certificates.{IsNewRow, IsCertificate};
 ghost use Rattle.farm_model.specs.Packages.{initial};
 ghost use Rattle.farm_model.specs.Sound.{IsUniverse};
 ghost use Rattle.plan_model.specs.Plan.{lane, instruction_at};
-ghost use Rattle.row_laws.specs.Agreeing.{Agree};
+ghost use Rattle.verdict_laws.specs.Agreeing.{Agree};
 ghost use Rattle.sat_rows.specs.Rows.{IsRowOf};
 ghost use Rattle.wait_order.specs.KnownRows.{rows_of};
 ghost use Rattle.wait_order.specs.PlaceRows.{IsLastRow, IsExtended, AreRowNumbers};

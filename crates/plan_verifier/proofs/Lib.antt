@@ -3,3 +3,4 @@ pub mod Steps
 pub mod Walks
 pub mod Promises
 pub mod Messages
+mod OneVerdict

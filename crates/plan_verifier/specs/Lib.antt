@@ -1,7 +1,7 @@
 pub mod Walk
-pub mod Texts
 pub mod Accepted
 pub mod Verdict
 pub mod Costs
 pub mod Messages
 pub mod Stuck
+pub mod OneVerdict

@@ -15,7 +15,7 @@ use Rattle.plan_model.specs.Safety.{IsSafeUnder, IsFirstUnsafe}
 use Rattle.plan_verifier.specs.declared.refusal.Refusal.{Refusal}
 use Rattle.plan_verifier.specs.declared.refusal.Refusal.TheVariants.{Text, Unsafe, Stuck, Memory}
 use Rattle.plan_verifier.specs.Accepted.{AcceptedPlan, IsAccepted}
-use Rattle.plan_verifier.specs.Texts.{FarmPlan}
+use Rattle.farm_input.specs.Planned.{FarmPlan}
 
 -- Under the greatest known rows, this instruction of the lane of this name, by its number from 1,
 -- is the first unsafe one of the first lane that has one, and this is the first trap that it may

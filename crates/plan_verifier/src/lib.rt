@@ -3,18 +3,18 @@
 
 mod accepted;
 mod costs;
+mod laws;
 mod message;
 mod possible;
 mod refusal;
 mod stuck;
-mod texts;
 mod verdict;
 mod walk;
 
 pub use accepted::Accepted;
 pub use costs::{check_lanes, walk_lanes};
+pub use laws::{refusals_are_right, verdicts_are_one};
 pub use possible::{add_outputs, possible_row};
 pub use refusal::{Refusal, STUCK, UNSAFE};
-pub use texts::{Planned, read_texts};
 pub use verdict::check;
 pub use walk::WalkError;

@@ -5,14 +5,14 @@ ghost use Rattle.plan_model.specs.Promise.{IsSafe};
 ghost use Rattle.plan_model.specs.Plan.{count};
 ghost use Rattle.plan_model.specs.Sound.{IsSound};
 ghost use Rattle.plan_verifier.specs.Accepted.{StaysForeseen};
-ghost use Rattle.plan_verifier.specs.Texts.{planned_of};
+ghost use Rattle.farm_input.specs.Planned.{planned_of};
 ghost use Rattle.plan_verifier.specs.Verdict.{IsVerdict, IsVerdictOn};
 
 use crate::accepted::Accepted;
 use crate::costs::check_lanes;
 use crate::refusal::Refusal;
 use crate::stuck::stuck_refusal;
-use crate::texts::{Planned, read_texts};
+use farm_input::{Planned, read_texts};
 use sat_rows::Tables;
 use std::alloc::Global;
 use std::thread::Threads;

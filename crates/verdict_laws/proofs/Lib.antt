@@ -9,3 +9,7 @@ pub mod Narrower
 pub mod NarrowMaps
 pub mod Candidates
 pub mod MoreSafe
+pub mod ByPlace
+pub mod Alike
+pub mod Kept
+pub mod StuckOne

@@ -3,6 +3,8 @@
 --
 --   AreLeft, lanes_left     the lanes that have something left on it
 --   RestIsExact             what such a board says of the plan
+--   StuckAreOne, OrdersLeaveNoneStuck
+--                           the stuck lanes are one list, and none where there is an order
 use Rattle.std.specs.Prelude.{◌≡◌, ◌≢◌, ℕ, Bool, true, false, List, [], ◌∷◌, length, None, All, Contains}
 use Rattle.std.specs.List.{filter, range_with_len}
 use Rattle.std.specs.List.Sorted.{IsStrictlyIncreasing}
@@ -55,3 +57,15 @@ pub record ComesToRest (u : Universe) (b : Board) : Type 0 where
 -- so each plan has an order, or stuck lanes
 abbrev pub PlansComeToRest : Type 0
 PlansComeToRest = (u : Universe) (p : Plan) → ComesToRest u (start_board u p)
+
+-- two lists of a plan's stuck lanes are the same
+abbrev pub StuckAreOne : Type 0
+StuckAreOne =
+    (u : Universe) (p : Plan) (lanes others : List ℕ) → AreStuck u p lanes → AreStuck u p others
+    → lanes ≡ others
+
+-- where the waits and outputs have an order, no lane is stuck
+abbrev pub OrdersLeaveNoneStuck : Type 0
+OrdersLeaveNoneStuck =
+    (u : Universe) (p : Plan) (order lanes : List ℕ) → IsOrder u p order → AreStuck u p lanes
+    → lanes ≡ []

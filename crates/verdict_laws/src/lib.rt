@@ -2,5 +2,6 @@
 #![tactic(auto)]
 
 pub mod known;
+pub mod rows;
 pub mod safety;
 pub mod stuck;

@@ -1,6 +1,6 @@
 //! Laws of stuck lanes.
 
-ghost use Rattle.verdict_laws.specs.Stuck.{PlansComeToRest, EachRestIsExact, LanesLeftAreLeft};
+ghost use Rattle.verdict_laws.specs.Stuck.{PlansComeToRest, EachRestIsExact, LanesLeftAreLeft, StuckAreOne, OrdersLeaveNoneStuck};
 
 /// Some list of waits and outputs leads each plan to a board on which nothing more goes.
 pub fn plans_come_to_rest()
@@ -17,4 +17,14 @@ pub fn each_rest_is_exact()
 /// The lanes that have something left on a board, by a test of each.
 pub fn lanes_left_are_left()
     ensures { LanesLeftAreLeft }
+{}
+
+/// Two lists of a plan's stuck lanes are the same.
+pub fn stuck_are_one()
+    ensures { StuckAreOne }
+{}
+
+/// Where the waits and outputs of a plan have an order, no lane is stuck.
+pub fn orders_leave_none_stuck()
+    ensures { OrdersLeaveNoneStuck }
 {}

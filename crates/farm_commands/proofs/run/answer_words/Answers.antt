@@ -1,6 +1,6 @@
 use Rattle.std.proofs.Common.{◌≡◌, inl, inr, subst}
 use Rattle.std.specs.Prelude.{IsOkAnd}
-use Rattle.farm_words.specs.declared.request.Request.TheVariants.{CheckInput}
+use Rattle.command_line.specs.declared.request.Request.TheVariants.{CheckInput}
 use Rattle.farm_commands.specs.Answers.{IsAnswered}
 use Rattle.farm_commands.specs.Requests.{AnswersRequest}
 use Rattle.farm_commands.proofs.run.answer_words.Goals as goal

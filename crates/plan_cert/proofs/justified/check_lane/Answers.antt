@@ -4,7 +4,7 @@ use Rattle.plan_model.specs.Known.{possible}
 use Rattle.plan_model.specs.Plan.{instruction_at}
 use Rattle.plan_verifier.proofs.Reach.{possible_after}
 use Rattle.plan_verifier.proofs.Steps.{lane-short}
-use Rattle.row_laws.specs.Places.{IsJustified}
+use Rattle.verdict_laws.specs.Places.{IsJustified}
 use Rattle.wait_order.proofs.Leading.{read_at}
 use Rattle.wait_order.specs.KnownRows.{rows_of}
 use Rattle.plan_cert.proofs.JustifiedLaws.{past-justified}

@@ -1,6 +1,6 @@
 use Rattle.std.proofs.Common.{suc, inl, inr, sym, subst, arith}
 use Rattle.std.proofs.lemmas.Bool.{cases_eq}
-use Rattle.row_laws.specs.Places.{IsJustified}
+use Rattle.verdict_laws.specs.Places.{IsJustified}
 use Rattle.wait_order.specs.KnownRows.{rows_of}
 use Rattle.plan_cert.proofs.justified.check_rows.Goals as goal
 

@@ -1,5 +1,5 @@
 use Rattle.std.proofs.Common.{ℕ, suc, ◌<◌}
-use Rattle.row_laws.specs.Places.{IsJustified}
+use Rattle.verdict_laws.specs.Places.{IsJustified}
 use Rattle.wait_order.specs.KnownRows.{rows_of}
 use Rattle.plan_cert.proofs.justified.check_rows.Given as goal
 

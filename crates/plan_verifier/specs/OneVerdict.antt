@@ -1,0 +1,61 @@
+-- The verdicts on one plan: where it is refused nothing shows it safe, and there is one answer.
+--
+--   RefusalsAreRight     a refused plan has no annotation together with an order
+--   IsSameAnswer         two verdicts that say the same, memory apart
+--   VerdictsAreOne       the verdicts on the same texts say the same
+use Rattle.std.specs.Prelude.{◌≡◌, ◌≢◌, ℕ, List, Result, Ok, Err}
+use Rattle.deb_text.specs.declared.fault.Fault.{Fault}
+use Rattle.deb_text.specs.Lists.{lists}
+use Rattle.farm_input.specs.Planned.{FarmPlan}
+use Rattle.farm_model.specs.Universe.{Universe}
+use Rattle.plan_model.specs.Known.{Rows}
+use Rattle.plan_model.specs.Order.{IsOrder}
+use Rattle.plan_model.specs.Plan.{Plan}
+use Rattle.plan_model.specs.Safety.{IsAnnotation}
+use Rattle.plan_verifier.specs.Accepted.{AcceptedPlan}
+use Rattle.plan_verifier.specs.Verdict.{IsVerdictOn, IsVerdict}
+use Rattle.plan_verifier.specs.declared.refusal.Refusal.{Refusal}
+use Rattle.plan_verifier.specs.declared.refusal.Refusal.TheVariants.{Text, Unsafe, Stuck, Memory}
+
+-- a plan that is refused, for another cause than memory, has no annotation together with an order
+abbrev pub RefusalsAreRight : Type 0
+RefusalsAreRight =
+    (u : Universe) (p : Plan) (refusal : Refusal) → refusal ≢ Memory → IsVerdictOn u p (Err refusal)
+    → (rows : Rows) (order : List ℕ) → IsAnnotation u p rows → IsOrder u p order → ⊥
+
+-- the two refusals tell the same; one that tells of memory alone goes with each
+abbrev pub IsSameRefusal : Refusal → Refusal → Type 0
+IsSameRefusal Memory other = Unit {0}
+IsSameRefusal (Text fault) Memory = Unit {0}
+IsSameRefusal (Text fault) (Text told) = fault ≡ told
+IsSameRefusal (Text fault) (Unsafe name number trap) = ⊥
+IsSameRefusal (Text fault) (Stuck names) = ⊥
+IsSameRefusal (Unsafe name number trap) Memory = Unit {0}
+IsSameRefusal (Unsafe name number trap) (Text told) = ⊥
+IsSameRefusal (Unsafe name number trap) (Unsafe other place cause) =
+    (name.items ≡ other.items) × (number ≡ place) × (trap ≡ cause)
+IsSameRefusal (Unsafe name number trap) (Stuck names) = ⊥
+IsSameRefusal (Stuck names) Memory = Unit {0}
+IsSameRefusal (Stuck names) (Text told) = ⊥
+IsSameRefusal (Stuck names) (Unsafe name number trap) = ⊥
+IsSameRefusal (Stuck names) (Stuck others) = lists names.items ≡ lists others.items
+
+-- one is an acceptance and the other a refusal: for want of memory alone
+abbrev pub IsForMemory : Refusal → Type 0
+IsForMemory Memory = Unit {0}
+IsForMemory (Text fault) = ⊥
+IsForMemory (Unsafe name number trap) = ⊥
+IsForMemory (Stuck names) = ⊥
+
+-- both accept the same plan, at the same costs; or both refuse it alike; memory apart
+abbrev pub IsSameAnswer : Result AcceptedPlan Refusal → Result AcceptedPlan Refusal → Type 0
+IsSameAnswer (Ok a) (Ok b) = (a.universe ≡ b.universe) × (a.plan ≡ b.plan) × (a.costs ≡ b.costs)
+IsSameAnswer (Ok a) (Err refusal) = IsForMemory refusal
+IsSameAnswer (Err refusal) (Ok b) = IsForMemory refusal
+IsSameAnswer (Err refusal) (Err other) = IsSameRefusal refusal other
+
+-- two verdicts on the same texts are one answer
+abbrev pub VerdictsAreOne : Type 0
+VerdictsAreOne =
+    (of : Result FarmPlan Fault) (one other : Result AcceptedPlan Refusal) → IsVerdict of one
+    → IsVerdict of other → IsSameAnswer one other

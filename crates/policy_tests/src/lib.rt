@@ -1,8 +1,0 @@
-//! What no table can ask of the Debian layers: what they answer where memory is refused, and that a
-//! paragraph of many fields is read in no more time than its length takes.
-#![tactic(auto)]
-
-#[cfg(test)]
-mod long_texts;
-#[cfg(test)]
-mod refused_memory;

@@ -1,0 +1,62 @@
+//! Numbers and rows, as tables spell them. A row is words divided by commas, where `8*0` is the
+//! word 0 eight times. The row without words is `-`.
+
+use std::alloc::{AllocError, Global};
+
+/// The longest run of equal words that is read.
+const LONGEST_RUN: u64 = 65_536;
+
+/// The number of a text of digits, up to multiples of 2 to the 64th.
+pub fn read_number(digits: &[u8]) -> u64 {
+    let mut number = 0u64;
+    for digit in digits {
+        number = number
+            .wrapping_mul(10)
+            .wrapping_add(u64::from(digit.wrapping_sub(b'0')));
+    }
+    number
+}
+
+pub fn read_row(alloc: Global, text: &[u8]) -> Result<Vec<u64>, AllocError> {
+    let mut words = Vec::new(alloc);
+    if text == b"-".as_slice() {
+        return Ok(words);
+    }
+    for piece in text.split(|b| *b == b',') {
+        match piece.iter().position(|b| *b == b'*') {
+            Some(star) => {
+                for _ in 0..read_number(&piece[..star]).min(LONGEST_RUN) {
+                    words.push(read_number(&piece[star + 1..]))?;
+                }
+            }
+            None => words.push(read_number(piece))?,
+        }
+    }
+    Ok(words)
+}
+
+/// The text of a row, with each run of equal words written once.
+pub fn spelled_row(alloc: Global, words: &[u64]) -> Result<String, AllocError> {
+    if words.is_empty() {
+        return String::from_str(alloc, "-");
+    }
+    let mut text = String::new(alloc);
+    let mut rest = words;
+    while let [word, ..] = rest {
+        let run = rest.iter().take_while(|other| *other == word).count();
+        push_run(&mut text, run, *word)?;
+        rest = &rest[run.max(1)..];
+    }
+    Ok(text)
+}
+
+/// Adds a word that stands so many times.
+fn push_run(text: &mut String, run: usize, word: u64) -> Result<(), AllocError> {
+    if !text.is_empty() {
+        text.push_str(",")?;
+    }
+    if run > 1 {
+        write!(text, "{run}*")?;
+    }
+    write!(text, "{word}")
+}

@@ -1,3 +1,0 @@
-pub mod ByPlace
-pub mod Alike
-pub mod Kept

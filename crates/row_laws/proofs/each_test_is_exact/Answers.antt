@@ -1,5 +1,0 @@
-use Rattle.row_laws.proofs.ByPlace as law
-use Rattle.row_laws.proofs.each_test_is_exact.Goals as goal
-
-pub returns : goal.returns
-returns c = law.each_test_is_exact

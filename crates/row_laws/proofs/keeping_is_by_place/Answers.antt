@@ -1,5 +1,0 @@
-use Rattle.row_laws.proofs.ByPlace as law
-use Rattle.row_laws.proofs.keeping_is_by_place.Goals as goal
-
-pub returns : goal.returns
-returns c = law.keeping_is_by_place

@@ -1,5 +1,0 @@
-//! Tests of rows whose memory is refused.
-#![tactic(auto)]
-
-#[cfg(test)]
-mod tests;
