@@ -1,12 +1,14 @@
 -- Alternatives of relation fields, listed under the names in them. The project's own words.
 --
+--   any_atom               some alternative of a field passes a test
 --   item, item_of          the place of an alternative, and the alternative of a field there
 --   listed, IsListed       the items under a name, among lists that a number of the text picks
 --   with_listed            one more item under a name
 --   IsKept                 what was listed still is
 --   IsListedEntry, IsListedField
 --                          each alternative of an entry, and of a field, is listed under its name
-use Rattle.std.specs.Prelude.{◌≡◌, ℕ, ◌+◌, ◌*◌, ◌%◌, List, [], ◌∷◌, ◌++◌, length, Option, Some, slice_get, slice_index_or, slice_set}
+use Rattle.std.specs.Prelude.{◌≡◌, ℕ, Bool, ◌+◌, ◌*◌, ◌%◌, List, [], ◌∷◌, ◌++◌, length, Option, Some, slice_get, slice_index_or, slice_set}
+use Rattle.std.specs.List.{list_any}
 use Rattle.deb_relation.specs.Relations.{Atom, Entry, Relations}
 use Rattle.item_index.specs.declared.item.Item.{Item}
 
@@ -18,6 +20,10 @@ number_behind number (b ∷ bs) = number_behind ((number * 31 + b) % 4294967296)
 -- the list of a text among so many
 abbrev pub list_of : ℕ → List ℕ → ℕ
 list_of count text = number_behind 0 text % count
+
+-- some alternative of some entry passes
+abbrev pub any_atom : (Atom → Bool) → Relations → Bool
+any_atom test field = list_any (λ e. list_any test e) field
 
 module _ {O : Type 0} where
   -- the alternative of this number, of the entry of that
