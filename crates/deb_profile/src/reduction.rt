@@ -59,7 +59,7 @@ fn alternatives_left(
 ) -> Result<Vec<Atom>, AllocError>
     ensures { IfOk result (λ left. left.items ≡ reduced_entry names.now active.now entry.now) }
 {
-    let mut left = Vec::new(alloc);
+    let mut left = Vec::with_capacity(alloc, entry.alternatives().len())?;
     for atom in entry.alternatives() {
         if keeps(atom, names, active) {
             left.push(bare(names, atom)?)?;

@@ -116,7 +116,8 @@ fn read_alternatives(alloc: Global, kind: Kind, text: &[u8]) -> Result<Vec<Atom>
     ensures { Gives refusal_of (λ atoms. atoms.items) result
         (traverse (alternative_at kind) (slice_split (is_byte bar) text.now)) }
 {
-    let mut alternatives = Vec::new(alloc);
+    // most entries have one alternative
+    let mut alternatives = Vec::with_capacity(alloc, 1)?;
     let mut left = Some(text);
     while let Some(rest) = left {
         let (piece, after) = next_part(b'|', rest);

@@ -24,5 +24,5 @@ pub use kind::Kind;
 pub use operator::Op;
 pub use relations::{Entry, Relations};
 pub use restriction::{ArchList, Item, ProfileList, Word};
-pub use satisfaction::{Facts, in_relation, satisfies};
+pub use satisfaction::{Facts, in_relation, provides_it, satisfies};
 pub use words::{WordRule, read_words};

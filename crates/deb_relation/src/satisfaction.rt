@@ -65,7 +65,9 @@ fn entry_provides(entry: &Entry, atom: &Atom) -> bool
         .any(|provided| provides_it(atom, provided))
 }
 
-fn provides_it(atom: &Atom, provided: &Atom) -> bool
+/// Tells whether one item of a Provides field provides an alternative, whatever qualifier that has
+/// (Debian Policy 7.5). The call takes no memory.
+pub fn provides_it(atom: &Atom, provided: &Atom) -> bool
     ensures { result ≡ provides_it atom.now provided.now }
 {
     provided.qualifier.is_none()

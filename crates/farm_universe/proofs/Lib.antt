@@ -13,3 +13,5 @@ pub mod KeptLaws
 pub mod PlaceLaws
 pub mod SizeLaws
 pub mod OutputLaws
+pub mod AmongLaws
+pub mod OnceLaws

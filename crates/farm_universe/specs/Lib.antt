@@ -12,6 +12,7 @@ pub mod ListText
 pub mod Land
 pub mod RecipeText
 pub mod BaseText
+pub mod Among
 pub mod FarmText
 pub mod FarmSteps
 pub mod FarmView

@@ -1,6 +1,7 @@
 //! The universe of a port's farm: its packages, recipes, base chroots and initial archive.
 #![tactic(auto)]
 
+mod among;
 mod base;
 mod bases;
 mod binary;
@@ -12,6 +13,7 @@ mod keyed;
 mod land;
 pub mod limits;
 mod list;
+mod member;
 mod package_table;
 mod packages;
 mod paragraph;

@@ -1,7 +1,7 @@
 use Rattle.std.proofs.Common.{◌≡◌, map, take}
 use Rattle.farm_universe.specs.BaseText.{member_of}
 use Rattle.farm_universe.specs.TableView.{table_view}
-use Rattle.farm_universe.proofs.settled.members_of.Given as goal
+use Rattle.farm_universe.proofs.among.members_of.Given as goal
 
 abbrev pub invariant-loop-variant : goal.invariant-loop-variant
 invariant-loop-variant l =
