@@ -4,3 +4,8 @@ pub mod Recorded
 pub mod Foreseen
 pub mod OneWord
 pub mod AfterSteps
+pub mod OutputPlaces
+pub mod Counted
+pub mod LoadReaches
+pub mod OutputReaches
+pub mod AllReady

@@ -1,2 +1,4 @@
 pub mod Shown
 pub mod Loads
+pub mod LaneMoves
+pub mod Reaching

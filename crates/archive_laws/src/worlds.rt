@@ -1,6 +1,7 @@
 //! Laws of the worlds that are reached.
 
 ghost use Rattle.archive_laws.specs.Loads.{EachWordDecides};
+ghost use Rattle.archive_laws.specs.Reaching.{LoadsReach, OutputsReach, AllLanesReady, EndsAreFinished};
 ghost use Rattle.archive_laws.specs.Shown.{StartIsReached, EachLaneSteps, LanesStandAfterSteps, WordsAreRecorded, WorldsAreForeseen, WorldsAreReady};
 
 /// The initial archive and the lanes at their beginnings show the start.
@@ -43,4 +44,26 @@ pub fn worlds_are_foreseen()
 /// and that step meets no trap.
 pub fn worlds_are_ready()
     ensures { WorldsAreReady }
+{}
+
+/// A load of any name's word leaves its lane in a world that shows a reachable state: behind its
+/// unpack of that name, behind its wait that the word satisfies, or where it was.
+pub fn loads_reach()
+    ensures { LoadsReach }
+{}
+
+/// The next output of a lane leads to such a world, in an annotated plan. It is the lane's next one
+/// by number.
+pub fn outputs_reach()
+    ensures { OutputsReach }
+{}
+
+/// The local instructions of all lanes lead to such a world, with the same words.
+pub fn all_lanes_ready()
+    ensures { AllLanesReady }
+{}
+
+/// Where each lane of such a world is at its end, the state shown is finished.
+pub fn ends_are_finished()
+    ensures { EndsAreFinished }
 {}

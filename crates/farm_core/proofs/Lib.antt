@@ -1,4 +1,3 @@
-pub mod Picked
 pub mod Waits
 pub mod Taken
 pub mod Stepped

@@ -2,7 +2,7 @@ use Rattle.std.proofs.Common.{◌≡◌, false}
 use Rattle.std.specs.Prelude.{◌&&◌}
 use Rattle.farm_model.specs.Below.{some_below}
 use Rattle.farm_model.specs.Packages.{variant, word_has, satisfies_entry}
-use Rattle.farm_core.proofs.wait.some_satisfies.Given as goal
+use Rattle.word_picks.proofs.wait.some_satisfies.Given as goal
 
 abbrev pub invariant-loop-bit : goal.invariant-loop-bit
 invariant-loop-bit l =

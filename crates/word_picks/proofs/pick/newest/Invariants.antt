@@ -2,7 +2,7 @@ use Rattle.std.proofs.Common.{◌≡◌, ◌≤◌}
 use Rattle.std.specs.Prelude.{◌&&◌}
 use Rattle.farm_model.specs.Below.{highest_below}
 use Rattle.farm_model.specs.Packages.{variant, variants, is_wanted, word_has}
-use Rattle.farm_core.proofs.pick.newest.Given as goal
+use Rattle.word_picks.proofs.pick.newest.Given as goal
 
 abbrev pub invariant-loop-bit : goal.invariant-loop-bit
 invariant-loop-bit l = record {

@@ -2,7 +2,7 @@ use Rattle.std.proofs.Common.{sym, ◌∙◌, arith}
 use Rattle.std.specs.Prelude.{◌&&◌}
 use Rattle.farm_model.specs.Packages.{variant, variants, word_has, satisfies_entry}
 use Rattle.farm_model.proofs.BelowLaws.{some_below-at}
-use Rattle.farm_core.proofs.wait.some_satisfies.Goals as goal
+use Rattle.word_picks.proofs.wait.some_satisfies.Goals as goal
 
 pub returns-then-has_satisfying : goal.returns-then-has_satisfying
 returns-then-has_satisfying c =

@@ -1,0 +1,4 @@
+pub mod Ways
+pub mod Safe
+pub mod Bounded
+pub mod NextOutput

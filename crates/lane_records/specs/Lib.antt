@@ -1,0 +1,3 @@
+pub mod Records
+pub mod Bounds
+pub mod Laws

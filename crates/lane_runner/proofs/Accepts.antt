@@ -1,0 +1,192 @@
+-- Archive steps of a runner of an accepted plan, as the calls of its end tell them.
+use Rattle.std.proofs.Common.{◌≡◌, ◌⊎◌, ℕ, suc, ◌+◌, ◌<◌, ◌≤◌, Bool, true, false, ◌&&◌, List, length, Option, Some, None, slice_get, sym, ap, subst, ◌∙◌, arith}
+use Rattle.std.proofs.lemmas.Option.{slice_get_within}
+use Rattle.archive_laws.specs.LaneMoves.{outputs_made}
+use Rattle.chroot_state.specs.Held.{Held, IsHeld, room, with_slots}
+use Rattle.deb_relation.specs.declared.operator.Op.{Op}
+use Rattle.deb_relation.specs.Relations.{Entry}
+use Rattle.farm_model.specs.declared.types.Variant.{Variant}
+use Rattle.farm_model.specs.Below.{highest_below}
+use Rattle.farm_model.specs.Packages.{base, outputs, variant, variants, is_wanted, word_has}
+use Rattle.farm_model.specs.Traps.{first_trap, unpack_traps, unpacked}
+use Rattle.farm_model.specs.Universe.{Universe}
+use Rattle.lane_records.specs.Bounds.{IsInBounds}
+use Rattle.lane_records.specs.Records.{Record, next_output, after_load, after_draw, after_publish}
+use Rattle.plan_asm.specs.declared.error.TheConstants.{MOST_INSTRUCTIONS}
+use Rattle.plan_model.specs.declared.instructions.Instruction.{Instruction}
+use Rattle.plan_model.specs.declared.instructions.Instruction.TheVariants.{Unpack, Publish, Wait}
+use Rattle.plan_model.specs.Plan.{lane, instruction_at, capacity, unpack_cost}
+use Rattle.plan_model.specs.Safety.{IsAnnotation}
+use Rattle.plan_model.specs.Turn.{LaneState, first_only}
+use Rattle.plan_verifier.specs.Accepted.{AcceptedPlan, IsAccepted, known_rows}
+use Rattle.lane_runner.specs.Calls.{IsRunning}
+use Rattle.lane_runner.specs.OnWay.{passed, given_one, CanPass}
+use Rattle.lane_runner.specs.declared.runner.Runner.{Runner}
+use Rattle.lane_runner.proofs.Unpacks.{some_newest, unpack_free, unpack_goes}
+use Rattle.lane_runner.proofs.Waits.{one_word, waits_on, passes_on}
+use Rattle.lane_runner.proofs.Publishes.{given_lane, output_left, output_next, one_drawn, output_paid, publishes_on}
+
+-- an accepted plan is annotated
+pub annotated : (a : AcceptedPlan) → IsAccepted a
+    → IsAnnotation a.universe a.plan (known_rows a)
+annotated a accepted = record { keeps = accepted.known.keeps; safe = accepted.safe }
+
+-- what an end tells of a load, of the runner's plan and lane
+pub loaded : (a b : AcceptedPlan) (l m : ℕ) → b ≡ a → m ≡ l → (name found : ℕ) (r q : Record)
+    → q ≡ after_load b.universe b.plan m name found r
+    → q ≡ after_load a.universe a.plan l name found r
+loaded a b l m e f name found r q h =
+    subst (λ (x : AcceptedPlan × ℕ). q ≡ after_load x.0.universe x.0.plan x.1 name found r)
+    (λ i. (e i, f i)) h
+
+pub bounded : (a b : AcceptedPlan) (l m : ℕ) → b ≡ a → m ≡ l → (name found : ℕ) (r : Record)
+    → IsInBounds b.universe b.plan (known_rows b) m r.at name found
+    → IsInBounds a.universe a.plan (known_rows a) l r.at name found
+bounded a b l m e f name found r h =
+    subst (λ (x : AcceptedPlan × ℕ).
+    IsInBounds x.0.universe x.0.plan (known_rows x.0) x.1 r.at name found) (λ i. (e i, f i)) h
+
+module _ (a : AcceptedPlan) (accepted : IsAccepted a) (w : Runner) (c : Held) (b : AcceptedPlan)
+    (l : ℕ) (r : Record) (run : IsRunning a w c b l r) where
+  abbrev u : Universe
+  u = a.universe
+
+  -- the place of an instruction is below the limit
+  pub place_below : (x : Instruction) → instruction_at a.plan w.lane w.done ≡ Some x
+      → length (lane a.plan w.lane).instructions ≤ MOST_INSTRUCTIONS → w.done < MOST_INSTRUCTIONS
+  place_below x here short =
+      let lt = slice_get_within (lane a.plan w.lane).instructions w.done x here in omega arith
+
+  module _ (name : ℕ) (wanted : Option (Op × List ℕ))
+      (here : instruction_at a.plan w.lane w.done ≡ Some (Unpack name wanted)) (found : ℕ)
+      (bounds : IsInBounds b.universe b.plan (known_rows b) l r.at name found) (o : Option ℕ)
+      (picked : o ≡ highest_below (variants u name)
+      (λ k. word_has found k && is_wanted u wanted (variant name k))) where
+    within : IsInBounds u a.plan (known_rows a) w.lane r.at name found
+    within = bounded a b w.lane l run.about_is run.lane_is name found r bounds
+
+    pub takes_some : o ≡ None → ⊥
+    takes_some none =
+        some_newest u a.plan (known_rows a) accepted.sound (annotated a accepted) w c r run.on name
+        wanted here found within o picked none
+
+    module _ (k : ℕ) (some : o ≡ Some k) where
+      pub can_take : length (lane a.plan w.lane).instructions ≤ MOST_INSTRUCTIONS
+          → CanPass (lane a.plan w.lane) w (unpack_cost u (variant name k))
+          (unpack_traps u (room u c) c.slots (variant name k))
+      unfolding capacity
+      can_take short =
+          let free = unpack_free u a.plan (known_rows a) accepted.sound (annotated a accepted) w c r
+          run.on name wanted here found within o picked k some in
+          record {
+            next = place_below (Unpack name wanted) here short;
+            free = ap (λ n. first_trap (unpack_traps u (base u n).capacity c.slots (variant name k)))
+                run.on.base
+                ∙ free.none;
+            fits = free.fits;
+          }
+
+      pub takes : (v : Runner) (d : Held) (q : Record) (b' : AcceptedPlan) (l' : ℕ)
+          → v ≡ passed w (unpack_cost u (variant name k))
+          → d ≡ with_slots u c (unpacked c.slots (variant name k)) → IsHeld u d
+          → q ≡ after_load b.universe b.plan l name found r → b' ≡ b → l' ≡ l
+          → IsRunning a v d b' l' q
+      takes v d q b' l' v_is d_is held q_is same_plan same_lane = record {
+        about_is = same_plan ∙ run.about_is;
+        lane_is = same_lane ∙ run.lane_is ∙ sym (ap (λ (x : Runner). x.lane) v_is);
+        on = unpack_goes u a.plan (known_rows a) accepted.sound (annotated a accepted) w c r run.on
+            name wanted here found within o picked k some v d q v_is
+            (ap (λ (x : Held). x.slots) d_is) (ap (λ (x : Held). x.base) d_is) held
+            (loaded a b w.lane l run.about_is run.lane_is name found r q q_is);
+      }
+
+  module _ (e : Entry) (here : instruction_at a.plan w.lane w.done ≡ Some (Wait e))
+      (name found : ℕ) (q : Record) (b' : AcceptedPlan) (l' : ℕ)
+      (q_is : q ≡ after_load b.universe b.plan l name found r) (same_plan : b' ≡ b)
+      (same_lane : l' ≡ l) where
+    q_told : q ≡ after_load a.universe a.plan w.lane name found r
+    q_told = loaded a b w.lane l run.about_is run.lane_is name found r q q_is
+
+    -- whether some variant of the name in its word satisfies the entry
+    abbrev pub word_passes : Bool
+    word_passes =
+        one_word u a.plan (known_rows a) accepted.sound (annotated a accepted) w c r run.on e here
+        name found
+
+    pub waits : word_passes ≡ false → IsRunning a w c b' l' q
+    waits fails = record {
+      about_is = same_plan ∙ run.about_is;
+      lane_is = same_lane ∙ run.lane_is;
+      on = waits_on u a.plan (known_rows a) accepted.sound (annotated a accepted) w c r run.on e here
+          name found q q_told fails;
+    }
+
+    pub passes : (v : Runner) → v ≡ passed w 0
+        → IsInBounds b.universe b.plan (known_rows b) l r.at name found → word_passes ≡ true
+        → IsRunning a v c b' l' q
+    passes v v_is bounds found_one =
+        subst (λ x. IsRunning a x c b' l' q) (sym v_is) (record {
+          about_is = same_plan ∙ run.about_is;
+          lane_is = same_lane ∙ run.lane_is;
+          on = passes_on u a.plan (known_rows a) accepted.sound (annotated a accepted) w c r run.on e
+              here name found (bounded a b w.lane l run.about_is run.lane_is name found r bounds) found_one
+              q q_told;
+        })
+
+  module _ (recipe : ℕ) (here : instruction_at a.plan w.lane w.done ≡ Some (Publish recipe)) where
+    -- an output comes next, also once its serial is drawn
+    pub some_output : (b' : AcceptedPlan) (l' : ℕ) (q : Record) → b' ≡ b → l' ≡ l → q.at ≡ r.at
+        → (v : Variant) × (next_output b'.universe b'.plan l' q.at ≡ Some v)
+    some_output b' l' q same_plan same_lane at =
+        subst (λ (x : AcceptedPlan × ℕ × LaneState).
+        (v : Variant) × (next_output x.0.universe x.0.plan x.1 x.2 ≡ Some v))
+        (λ i. (sym (same_plan ∙ run.about_is) i, sym (same_lane ∙ run.lane_is) i, sym at i))
+        (output_next u a.plan (known_rows a) accepted.sound (annotated a accepted) w c r run.on recipe
+        here)
+
+    pub all_used : length r.serials ≡ outputs_made b.universe (lane b.plan l) r.at
+    all_used =
+        subst (λ (x : AcceptedPlan × ℕ).
+        length r.serials ≡ outputs_made x.0.universe (lane x.0.plan x.1) r.at)
+        (λ i. (sym run.about_is i, sym run.lane_is i)) run.on.drawn
+
+    module _ (serial : ℕ) (q : Record) (drawn : q ≡ after_draw serial r) (b' : AcceptedPlan)
+        (l' : ℕ) (same_plan : b' ≡ b) (same_lane : l' ≡ l) where
+      pub one_unused : (length q.serials ≡ suc (outputs_made b'.universe (lane b'.plan l') q.at))
+          × (slice_get q.serials (outputs_made b'.universe (lane b'.plan l') q.at) ≡ Some serial)
+      one_unused =
+          subst (λ (x : AcceptedPlan × ℕ).
+          (length q.serials ≡ suc (outputs_made x.0.universe (lane x.0.plan x.1) q.at))
+          × (slice_get q.serials (outputs_made x.0.universe (lane x.0.plan x.1) q.at) ≡ Some serial))
+          (λ i. (sym (same_plan ∙ run.about_is) i, sym (same_lane ∙ run.lane_is) i))
+          (one_drawn u a.plan (known_rows a) accepted.sound (annotated a accepted) w c r run.on recipe
+          here serial q drawn)
+
+      pub publishes : (q' : Record) (b'' : AcceptedPlan) (l'' : ℕ)
+          → q' ≡ after_publish b'.universe b'.plan l' q → b'' ≡ b' → l'' ≡ l' → (v : Runner)
+          → v ≡ given_one (length (outputs u recipe)) w
+          (first_only w.made (length (outputs u recipe))) → IsRunning a v c b'' l'' q'
+      publishes q' b'' l'' q_is next_plan next_lane v v_is =
+          let plan_is = same_plan ∙ run.about_is in
+          let lane_is = same_lane ∙ run.lane_is in
+          let told : q' ≡ after_publish a.universe a.plan w.lane q =
+          subst (λ (x : AcceptedPlan × ℕ). q' ≡ after_publish x.0.universe x.0.plan x.1 q)
+          (λ i. (plan_is i, lane_is i)) q_is in
+          record {
+            about_is = next_plan ∙ plan_is;
+            lane_is = next_lane ∙ lane_is ∙ sym (given_lane (length (outputs u recipe)) w _ v v_is);
+            on = publishes_on u a.plan (known_rows a) accepted.sound (annotated a accepted) w c r
+                run.on recipe here serial q q' drawn told v v_is;
+          }
+
+    -- what the output costs is within the budget, or nothing
+    pub can_give : (w.spent + first_only w.made (length (outputs u recipe))
+        ≤ (lane a.plan w.lane).budget) ⊎ (first_only w.made (length (outputs u recipe)) ≡ 0)
+    can_give =
+        output_paid u a.plan (known_rows a) accepted.sound (annotated a accepted) w c r run.on recipe
+        here
+
+    pub more_left : w.made < length (outputs u recipe)
+    more_left =
+        output_left u a.plan (known_rows a) accepted.sound (annotated a accepted) w c r run.on recipe
+        here

@@ -1,0 +1,9 @@
+pub mod Traps
+pub mod LocalSteps
+pub mod LocalKinds
+pub mod AtStep
+pub mod Unpacks
+pub mod Waits
+pub mod Publishes
+pub mod Ends
+pub mod Accepts

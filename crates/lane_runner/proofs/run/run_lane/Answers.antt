@@ -1,0 +1,38 @@
+use Rattle.std.proofs.Common.{refl, sym, ap, subst}
+use Rattle.lane_runner.specs.Calls.{IsRunning}
+use Rattle.lane_runner.specs.OnWay.{IsEnded}
+use Rattle.lane_runner.specs.declared.runner.Runner.{Runner}
+use Rattle.plan_verifier.specs.Accepted.{known_rows}
+use Rattle.lane_runner.proofs.Accepts.{annotated}
+use Rattle.lane_runner.proofs.Ends.{starts, ends}
+use Rattle.lane_runner.proofs.run.run_lane.Goals as goal
+
+pub loop-init : goal.loop-init
+loop-init g c =
+    let a = c.args.accepted.now in
+    let fresh = c.requires.fresh in
+    record {
+      can = tt;
+      finite = tt;
+      same = record { home_is = refl; about_is = refl; lane_is = refl };
+      unhalted = fresh.unhalted;
+      number = ap (λ (w : Runner). w.lane) c.new-runner.ensures;
+      running = subst (λ w. IsRunning a w c.args.chroot.now
+          (g.A.LaneArchive.about c.args.archive.now) (g.A.LaneArchive.lane c.args.archive.now)
+          (g.A.LaneArchive.log c.args.archive.now)) (sym c.new-runner.ensures) (record {
+            about_is = c.requires.ours.0;
+            lane_is = c.requires.ours.1;
+            on = starts a.universe a.plan (known_rows a) c.keeps.ensures.sound
+                (annotated a c.keeps.ensures) c.args.lane c.requires.lane c.args.chroot.now _
+                c.requires.chroot.0 c.requires.chroot.1 fresh.at fresh.undrawn;
+          });
+    }
+
+pub returns-then-has_ended-clause-ended : goal.returns-then-has_ended-clause-ended
+returns-then-has_ended-clause-ended g c =
+    let a = c.args.accepted.now in
+    let w = c.loop.runner in
+    subst (λ l. IsEnded a.universe a.plan l w.spent c.loop.chroot (g.A.LaneArchive.log c.loop.archive))
+    c.loop.invariant.number
+    (ends a.universe a.plan (known_rows a) w c.loop.chroot _ c.loop.invariant.running.on
+    (c.has_ended.ensures.ends c.if-has_ended.true))

@@ -1,0 +1,55 @@
+//! Where a lane's runner stands.
+
+ghost use Rattle.std.specs.Prelude.{◌≡◌, ◌<◌, ◌≤◌, ◌+◌, ◌^◌, length};
+ghost use Rattle.lane_runner.specs.OnWay.{passed, started};
+ghost use Rattle.plan_asm.specs.declared.error.TheConstants.{MOST_INSTRUCTIONS};
+ghost use Rattle.plan_model.specs.Plan.{lane};
+
+use plan_asm::Lane;
+use plan_verifier::Accepted;
+
+/// Where a lane's runner stands: the lane's number, how many of its instructions are done, how many
+/// outputs are made of the publish that it stands at, and what it has spent, in steps.
+#[derive(Clone, Copy, Debug, PartialEq, Eq)]
+pub struct Runner {
+    pub lane: u32,
+    pub done: u32,
+    pub made: usize,
+    pub spent: u64,
+}
+
+impl Runner {
+    /// A runner at the beginning of a lane.
+    pub fn new(lane: u32) -> Runner
+        ensures { result ≡ started lane }
+    {
+        Runner {
+            lane,
+            done: 0,
+            made: 0,
+            spent: 0,
+        }
+    }
+
+    /// Goes behind the instruction at this cost.
+    pub(crate) fn pass(&mut self, cost: u64)
+        requires next { self.old.done < MOST_INSTRUCTIONS }
+        requires fits { self.old.spent + cost < 2 ^ 64 }
+        ensures { self.new ≡ passed self.old cost }
+    {
+        self.done += 1;
+        self.made = 0;
+        self.spent += cost;
+    }
+}
+
+/// The lane of a number.
+pub(crate) fn lane_of(accepted: &Accepted, number: u32) -> &Lane
+    requires { number < length accepted.now.plan }
+    ensures lane { result.now ≡ lane accepted.now.plan number }
+    ensures short { length result.now.instructions ≤ MOST_INSTRUCTIONS }
+{
+    let plan = accepted.plan();
+    let _lanes = plan.lanes();
+    plan.lane(number as usize)
+}

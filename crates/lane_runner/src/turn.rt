@@ -1,0 +1,116 @@
+//! One turn of a lane.
+
+ghost use Rattle.std.specs.Prelude.{◌≡◌, ◌<◌, ◌≤◌, ℕ, true, false, Some, length};
+ghost use Rattle.lane_records.specs.Records.{Record};
+ghost use Rattle.lane_runner.specs.Calls.{HasKept, IsRunning, IsSameEnd};
+ghost use Rattle.lane_runner.specs.OnWay.{IsOnWay};
+ghost use Rattle.lane_runner.specs.declared.turn.Turn.TheVariants.{Waits};
+ghost use Rattle.plan_asm.specs.declared.error.TheConstants.{MOST_INSTRUCTIONS};
+ghost use Rattle.plan_model.specs.Plan.{instruction_at, lane};
+ghost use Rattle.plan_model.specs.World.{is_archive_step};
+ghost use Rattle.plan_verifier.specs.Accepted.{known_rows};
+
+use crate::archive::LaneArchive;
+use crate::runner::{Runner, lane_of};
+use chroot_state::Chroot;
+use plan_asm::Instruction;
+use plan_verifier::Accepted;
+
+/// What a lane did at its turn.
+#[derive(Clone, Copy, Debug, PartialEq, Eq)]
+pub enum Turn {
+    /// It is behind its instruction.
+    Moved,
+    /// It has made an output of the publish that it stands at.
+    Published,
+    /// It waits for the archive.
+    Waits,
+}
+
+impl Runner {
+    /// Tells whether the lane has no instruction left.
+    pub fn has_ended(&self, accepted: &Accepted) -> bool
+        requires { self.now.lane < length accepted.now.plan }
+        ensures ends { result ≡ true
+            → length (lane accepted.now.plan self.now.lane).instructions ≤ self.now.done }
+        ensures left { result ≡ false
+            → self.now.done < length (lane accepted.now.plan self.now.lane).instructions }
+        ensures few { result ≡ false → self.now.done < MOST_INSTRUCTIONS }
+    {
+        self.done as usize >= lane_of(accepted, self.lane).instructions().len()
+    }
+
+    /// Carries out an instruction that does not look at the archive.
+    fn local(&mut self, accepted: &Accepted, chroot: &mut Chroot, instruction: &Instruction)
+        requires local { is_archive_step instruction.now ≡ false }
+        requires here { instruction_at accepted.now.plan self.old.lane self.old.done
+            ≡ Some instruction.now }
+        requires on { (r : Record) × IsOnWay accepted.now.universe accepted.now.plan
+            (known_rows accepted.now) self.old chroot.old r }
+        ensures lane { self.new.lane ≡ self.old.lane }
+        ensures on { (r : Record) → IsOnWay accepted.now.universe accepted.now.plan
+            (known_rows accepted.now) self.old chroot.old r
+            → IsOnWay accepted.now.universe accepted.now.plan (known_rows accepted.now) self.new
+            chroot.new r }
+    {
+        accepted.keeps();
+        let universe = accepted.universe();
+        let lane = lane_of(accepted, self.lane);
+        match instruction {
+            Instruction::Configure(members) => {
+                self.configure(universe, lane, chroot, members.as_slice());
+            }
+            Instruction::Deconfigure(members) => {
+                self.deconfigure(universe, lane, chroot, members.as_slice());
+            }
+            Instruction::Remove(members) => {
+                self.remove(universe, lane, chroot, members.as_slice());
+            }
+            Instruction::Build(recipe) => self.build(universe, lane, *recipe),
+            _ => {}
+        }
+    }
+
+    /// Takes the lane's turn: carries out an instruction, makes the next output of a publish, or
+    /// looks whether a wait passes. No trap is met.
+    pub fn turn<A: LaneArchive>(
+        &mut self,
+        accepted: &Accepted,
+        chroot: &mut Chroot,
+        archive: &mut A,
+    ) -> Turn
+        requires running { IsRunning accepted.now self.old chroot.old (A.about archive.old)
+            (A.lane archive.old) (A.log archive.old) }
+        requires left { self.old.done
+            < length (lane accepted.now.plan self.old.lane).instructions }
+        ensures same { IsSameEnd (A.home archive.old) (A.about archive.old) (A.lane archive.old)
+            (A.home archive.new) (A.about archive.new) (A.lane archive.new) }
+        ensures kept { HasKept (A.log archive.old) (A.log archive.new) }
+        ensures running { IsRunning accepted.now self.new chroot.new (A.about archive.new)
+            (A.lane archive.new) (A.log archive.new) }
+        ensures waits { result ≡ Waits → self.new ≡ self.old }
+    {
+        let instruction = &lane_of(accepted, self.lane).instructions()[self.done as usize];
+        match instruction {
+            Instruction::Unpack { name, relation } => {
+                self.unpack(accepted, chroot, archive, *name, relation);
+                Turn::Moved
+            }
+            Instruction::Publish(recipe) => {
+                self.publish(accepted, chroot, archive, *recipe);
+                Turn::Published
+            }
+            Instruction::Wait(entry) => {
+                if self.wait(accepted, chroot, archive, entry) {
+                    Turn::Moved
+                } else {
+                    Turn::Waits
+                }
+            }
+            _ => {
+                self.local(accepted, chroot, instruction);
+                Turn::Moved
+            }
+        }
+    }
+}
