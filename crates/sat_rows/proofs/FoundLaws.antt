@@ -1,27 +1,27 @@
 -- Variants that were found.
-use Rattle.std.proofs.Common.{◌≡◌, ℕ, ◌+◌, ◌<◌, ◌≤◌, get_or, take, Bool, true, false, not, ◌&&◌, ◌||◌, ◌==◌, cond, nat_lt, bit_or, List, [], length, refl, sym, ap, ◌∙◌, inl, inr, arith}
+use Rattle.std.proofs.Common.{◌≡◌, ℕ, ◌+◌, ◌<◌, ◌≤◌, get_or, take, Bool, true, false, not, ◌&&◌, ◌||◌, ◌==◌, cond, nat_lt, bit_or, List, length, Option, None, Some, refl, sym, ap, subst, ◌∙◌, inl, inr, arith}
+use Rattle.std.specs.Cmp.{both_ways as both_tests}
 use Rattle.std.specs.List.{list_any}
 use Rattle.std.specs.Option.{is_none}
-use Rattle.std.specs.Str.{bytes_eq}
-use Rattle.std.proofs.lemmas.Bool.{or_cases, or_left, or_right, and_parts, and_from, ltb-true, lt-ltb, eqb-true, eq-eqb, both_ways}
-use Rattle.std.proofs.lemmas.Slice.Eq.{bytes_eq-Decides}
-use Rattle.farm_universe.proofs.PlaceLaws.{named}
-use Rattle.std.proofs.lemmas.List.Folds.{list_any_more, Any-from_list_any}
+use Rattle.std.proofs.lemmas.Bool.{or_cases, or_left, or_right, and_parts, and_from, ltb-true, eqb-true, eq-eqb}
+use Rattle.std.proofs.lemmas.List.Folds.{list_any_more}
 use Rattle.std.proofs.lemmas.List.{take_all}
-use Rattle.std.proofs.lemmas.Option.{slice_get_read}
 use Rattle.clause_kernel.specs.Rows.{word_has}
 use Rattle.clause_kernel.proofs.Words.{word_has_zero, word_has-or}
 use Rattle.bit_rows.specs.Sets.{variants_of, ReplacesName}
 use Rattle.deb_relation.specs.Relations.{Atom, Relations}
+use Rattle.deb_relation.specs.Satisfaction.{is_its_own, is_provided, provides_it}
 use Rattle.farm_model.specs.declared.types.Variant.{Variant}
 use Rattle.farm_model.specs.Universe.{Package, Universe}
-use Rattle.farm_model.specs.Packages.{variant, names, variants, package_of, facts, is_wanted, satisfies, satisfies_entry}
-use Rattle.sat_rows.proofs.IndexLaws.{goes_by}
+use Rattle.farm_model.specs.Packages.{variant, names, variants, package_of, facts, satisfies}
+use Rattle.item_index.specs.declared.item.Item.{Item}
+use Rattle.item_index.specs.Items.{item, item_of, listed, IsIn}
+use Rattle.item_index.proofs.ItemLaws.{any_atom-at, any_atom-found}
 use Rattle.sat_rows.proofs.RowLaws.{row_from_names}
 use Rattle.sat_rows.specs.declared.found.NameWord.{NameWord}
-use Rattle.sat_rows.specs.Index.{listed, IsListed, IsNaming, IsProviding}
-use Rattle.sat_rows.specs.Rows.{passes, IsWordFor, IsRowOf, of_another_name}
-use Rattle.sat_rows.specs.Found.{among, is_passing, is_first_named, field_test, IsFound, Finds, GrowsBy, HasOf, HasOfField, HasOwn, HasListed}
+use Rattle.sat_rows.specs.Index.{IsNaming}
+use Rattle.sat_rows.specs.Rows.{passes, IsRowOf, of_another_name}
+use Rattle.sat_rows.specs.Found.{among, IsFound, Finds, GrowsBy, holds, some_atom, passes_there, HasItems, named_as, provided_by, items_test, field_test}
 
 -- tests
 and_false : (x : Bool) → (x && false) ≡ false
@@ -31,11 +31,6 @@ and_false false = refl
 pub or_false : (x : Bool) → (x || false) ≡ x
 or_false true = refl
 or_false false = refl
-
-pub same_tests : (x y : Bool) → (x ≡ true → y ≡ true) → (y ≡ true → x ≡ true) → x ≡ y
-same_tests true y on back = sym (on refl)
-same_tests false true on back = back refl
-same_tests false false on back = refl
 
 or_spread : (a k p q : Bool) → ((a || (k && p)) || (k && q)) ≡ (a || (k && (p || q)))
 or_spread true k p q = refl
@@ -68,17 +63,6 @@ module _ (u : Universe) (p : Variant → Bool) where
     put_has b has =
         put name b ∙ or_right (among old name b) _ (and_from _ _ (eq-eqb name name refl) has)
 
-  -- the bit of a variant that passes
-  module _ (v : Variant) (word : ℕ)
-      (is : (b : ℕ) → word_has word b ≡ (is_passing u p v && (b == v.bit))) where
-    pub only_itself : (b : ℕ) → word_has word b ≡ true → passes u p v.name b ≡ true
-    only_itself b has =
-        let parts = and_parts (is_passing u p v) _ (sym (is b) ∙ has) in
-        ap (passes u p v.name) (eqb-true b v.bit parts.1) ∙ parts.0
-
-    pub has_itself : is_passing u p v ≡ true → word_has word v.bit ≡ true
-    has_itself pass = is v.bit ∙ and_from _ _ pass (eq-eqb v.bit v.bit refl)
-
   pub grows_trans : (a b c : List NameWord) → GrowsBy u p a b → GrowsBy u p b c → GrowsBy u p a c
   grows_trans a b c first next =
       record {
@@ -94,15 +78,11 @@ module _ (u : Universe) (p : Variant → Bool) where
             | inr pass ↦ or_right (among a n k) _ pass
           ]
 
-  pub has_kept : (others : List Variant) (a b : List NameWord) → GrowsBy u p a b → HasOf u p others a
-      → HasOf u p others b
-  has_kept others a b grows has v is pass = grows.kept v.name v.bit (has v is pass)
-
   -- all that pass were found
   pub finds_from_grows : (old new : List NameWord) → GrowsBy u p old new
       → ((n b : ℕ) → passes u p n b ≡ true → among new n b ≡ true) → Finds u p old new
   finds_from_grows old new grows all n b =
-      same_tests (among new n b) _ (grows.passing n b)
+      both_tests (among new n b) _ (grows.passing n b)
       (λ is. elim (or_cases (among old n b) _ is) [
         | inl before ↦ grows.kept n b before
         | inr pass ↦ all n b pass
@@ -119,110 +99,121 @@ pub finds_none : (u : Universe) (vs : List NameWord) → Finds u (λ v. false) v
 finds_none u vs n b =
     sym (ap (λ x. among vs n b || x) (and_false (nat_lt b (variants u n))) ∙ or_false (among vs n b))
 
--- a variant that stands in the relation satisfies an alternative of its own name
-pub satisfies_if_wanted : (u : Universe) (a : Atom) (v : Variant)
-    → bytes_eq (get_or u.names v.name []) a.name ≡ true → is_wanted u a.relation v ≡ true
-    → is_none a.qualifier ≡ true → satisfies u a v ≡ true
-unfolding satisfies facts is_wanted
-satisfies_if_wanted u a v named wanted bare =
-    and_from _ _ bare (or_left _ _ (and_from _ _ named wanted))
+-- where none passes, nothing is found
+pub finds_never : (u : Universe) (p : Variant → Bool) (vs : List NameWord)
+    → ((v : Variant) → p v ≡ false) → Finds u p vs vs
+finds_never u p vs never n b =
+    sym (ap (λ x. among vs n b || (nat_lt b (variants u n) && x)) (never (variant n b))
+    ∙ ap (λ x. among vs n b || x) (and_false (nat_lt b (variants u n))) ∙ or_false (among vs n b))
 
 -- what an index lists
-module _ (u : Universe) (a : Atom) where
-  abbrev sat : Variant → Bool
-  sat = satisfies u a
+module _ (u : Universe) (field : Package → Relations) (test : Atom → Bool) where
+  abbrev some : Variant → Bool
+  some = some_atom u field test
 
-  -- those of a name that have the name of the alternative, and a version in its relation
-  pub only_own : (n : ℕ) (word : ℕ)
-      → IsWordFor u (is_wanted u a.relation) n word → bytes_eq (get_or u.names n []) a.name ≡ true
-      → is_none a.qualifier ≡ true → (b : ℕ) → word_has word b ≡ true → passes u sat n b ≡ true
-  only_own n word is named bare b has =
-      let parts = and_parts (nat_lt b (variants u n)) _ (sym (is b) ∙ has) in
-      and_from _ _ parts.0 (satisfies_if_wanted u a (variant n b) named parts.1 bare)
+  -- the bit of the owner of an item
+  module _ (at : Item Variant) (word : ℕ)
+      (is : (b : ℕ) → word_has word b ≡ (passes_there u field test at && (b == at.owner.bit))) where
+    told : (o : Option Atom) → item_of at (field (package_of u at.owner)) ≡ o → holds test o ≡ true
+        → some at.owner ≡ true
+    told None e is = absurd cc
+    told (Some a) e is =
+        any_atom-at test (field (package_of u at.owner)) at.entry at.alternative a e is
 
-  -- what the test of the first of a name tells
-  pub first_parts : (v : Variant) → is_first_named u a v ≡ true
-      → (bytes_eq (get_or u.names v.name []) a.name ≡ true) × (is_none a.qualifier ≡ true)
-  first_parts v is =
-      let rest = and_parts (is_none a.qualifier) _ (and_parts (v.bit == 0) _ is).1 in
-      ((and_parts (nat_lt v.name (names u)) _ rest.1).1, rest.0)
+    pub item_only : (b : ℕ) → word_has word b ≡ true → passes u some at.owner.name b ≡ true
+    item_only b has =
+        let parts = and_parts (passes_there u field test at) _ (sym (is b) ∙ has) in
+        let there = and_parts (nat_lt at.owner.bit (variants u at.owner.name)) _ parts.0 in
+        ap (passes u some at.owner.name) (eqb-true b at.owner.bit parts.1)
+        ∙ and_from _ _ there.0
+        (told (item_of at (field (package_of u at.owner))) refl there.1)
 
-  pub no_first : (v : Variant) → is_first_named u a v ≡ false → HasOwn u a v (word_has 0)
-  no_first v other at same bare b pass =
-      let known = ltb-true b (variants u v.name) (and_parts (nat_lt b (variants u v.name)) _ pass).0 in
-      absurd (both_ways _ other
-      (and_from _ _ (eq-eqb v.bit 0 at)
-      (and_from _ _ bare
-      (and_from _ _ (lt-ltb v.name (names u) (named u v.name b known))
-      ((bytes_eq-Decides (get_or u.names v.name []) a.name).1 same)))))
+    pub item_has : passes_there u field test at ≡ true → word_has word at.owner.bit ≡ true
+    item_has pass =
+        is at.owner.bit ∙ and_from _ _ pass (eq-eqb at.owner.bit at.owner.bit refl)
 
-  -- a variant that is listed, and those of its name
-  module _ (v : Variant) (itself own : ℕ) (old new : List NameWord)
-      (is : (b : ℕ) → word_has itself b ≡ (is_passing u sat v && (b == v.bit)))
-      (only : (b : ℕ) → word_has own b ≡ true → passes u sat v.name b ≡ true)
-      (has : HasOwn u a v (word_has own))
-      (put : (n b : ℕ) → among new n b
-      ≡ (among old n b || ((n == v.name) && word_has (bit_or itself own) b))) where
-    pub listed_grows : GrowsBy u sat old new
-    listed_grows =
-        put_grows u sat v.name (bit_or itself own) old new put
-        (λ b at. elim (or_cases (word_has itself b) _ (sym (word_has-or itself own b) ∙ at)) [
-          | inl one ↦ only_itself u sat v itself is b one
-          | inr more ↦ only b more
-        ])
-
-    pub listed_has : HasListed u a v new
-    listed_has =
-        record {
-          itself = λ pass.
-              put_has u sat v.name (bit_or itself own) old new put v.bit
-              (word_has-or itself own v.bit
-              ∙ or_left _ _ (has_itself u sat v itself is pass));
-          own = λ first named bare b pass.
-              put_has u sat v.name (bit_or itself own) old new put b
-              (word_has-or itself own b ∙ or_right (word_has itself b) _ (has first named bare b pass));
-        }
-
-  pub listed_kept : (v : Variant) (old new : List NameWord) → GrowsBy u sat old new
-      → HasListed u a v old → HasListed u a v new
-  listed_kept v old new grows has =
-      record {
-        itself = λ pass. grows.kept v.name v.bit (has.itself pass);
-        own = λ first named bare b pass. grows.kept v.name b (has.own first named bare b pass);
-      }
-
-  pub finds_listed : (lists : List (List Variant)) (old new : List NameWord) → IsProviding u lists
-      → GrowsBy u sat old new
-      → ((v : Variant) → IsListed lists a.name v → HasListed u a v new) → Finds u sat old new
-  finds_listed lists old new all grows has = finds_from_grows u sat old new grows every
+  -- those under a name are all, where what passes has that name
+  pub finds_listed : (lists : List (List (Item Variant))) (name : List ℕ) (old new : List NameWord)
+      → IsNaming u field lists → ((a : Atom) → test a ≡ true → a.name ≡ name)
+      → GrowsBy u some old new → HasItems u field test (listed lists name) new
+      → Finds u some old new
+  finds_listed lists name old new naming same grows has = finds_from_grows u some old new grows every
     where
-      every : (n b : ℕ) → passes u sat n b ≡ true → among new n b ≡ true
+      every : (n b : ℕ) → passes u some n b ≡ true → among new n b ≡ true
       every n b pass =
+          let v = variant n b in
           let both = and_parts (nat_lt b (variants u n)) _ pass in
-          elim (all.all (variant n b) a (ltb-true b (variants u n) both.0) both.1) [
-            | inl listed ↦ (has (variant n b) listed).itself pass
-            | inr own ↦ (has (variant n 0) own.1).own refl own.0.named own.0.bare b
-                (and_from _ _ both.0 own.0.wanted)
-          ]
+          let found = any_atom-found test (field (package_of u v)) both.1 in
+          let at : Item Variant = item v found.0 found.2 in
+          let there =
+          naming.names n b (ltb-true b (variants u n) both.0) found.0 found.1 found.4 found.2 found.3
+          found.5 in
+          has at (subst (λ text. IsIn (listed lists text) at) (same found.3 found.7) there)
+          (and_from _ _ both.0 (ap (holds test) found.6 ∙ found.7))
 
--- the variants of whose field some entry is satisfied by v stand under the names that v goes by
-module _ (u : Universe) (field : Package → Relations) (v : Variant) (lists : List (List Variant))
-    (vs : List NameWord) (naming : IsNaming u field lists)
-    (own : HasOf u (field_test u field v) (listed lists (facts u v).name) vs)
-    (provided : HasOfField u (field_test u field v) lists (facts u v).provides vs) where
-  pub all_namers : (n b : ℕ) → passes u (field_test u field v) n b ≡ true → among vs n b ≡ true
-  all_namers n b pass =
-      let w = variant n b in
-      let es = field (package_of u w) in
-      let both = and_parts (nat_lt b (variants u n)) _ pass in
-      let e = Any-from_list_any (λ e. satisfies_entry u e v) es both.1 in
-      let a = Any-from_list_any (λ a. satisfies u a v) e.1 e.4 in
-      let names = naming.names n b (ltb-true b (variants u n) both.0) e.0 e.1
-      (slice_get_read es (length es) e.0 e.1 refl e.2 (sym e.3)) a.0 a.1
-      (slice_get_read e.1 (length e.1) a.0 a.1 refl a.2 (sym a.3)) in
-      goes_by u v a.1 (λ text. IsListed lists text w → among vs n b ≡ true)
-      (λ i e is j p at is_there. provided i e is j p at w is_there pass) (λ is. own w is pass)
-      a.4 names
+-- an alternative is satisfied by a variant's own name, or by an item that it provides
+module _ (u : Universe) (v : Variant) where
+  abbrev by_item : Atom → Bool
+  by_item a = is_provided (facts u v).provides a
+
+  pub satisfies-bare : (a : Atom) → is_none a.qualifier ≡ true
+      → satisfies u a v ≡ (is_its_own (facts u v) a || by_item a)
+  unfolding satisfies
+  satisfies-bare a bare = ap (λ b. b && (is_its_own (facts u v) a || by_item a)) bare
+
+  pub satisfies-qualified : (a : Atom) → is_none a.qualifier ≡ false → satisfies u a v ≡ false
+  unfolding satisfies
+  satisfies-qualified a named = ap (λ b. b && (is_its_own (facts u v) a || by_item a)) named
+
+  -- so is one of a field
+  pub field-satisfied : (field : Package → Relations) (w : Variant)
+      → field_test u field v w
+      ≡ (some_atom u field (named_as u v) w || items_test u field (facts u v).provides w)
+  unfolding satisfies
+  field-satisfied field w = both_tests _ _ on back where
+    es : Relations
+    es = field (package_of u w)
+
+    provides : Relations
+    provides = (facts u v).provides
+
+    on : field_test u field v w ≡ true
+        → (some_atom u field (named_as u v) w || items_test u field provides w) ≡ true
+    on is =
+        let found = any_atom-found (λ a. satisfies u a v) es is in
+        let a = found.3 in
+        let both = and_parts (is_none a.qualifier) _ found.7 in
+        elim (or_cases (is_its_own (facts u v) a) _ both.1) [
+          | inl own ↦
+              or_left _ _
+              (any_atom-at (named_as u v) es found.0 found.2 a found.6 (and_from _ _ both.0 own))
+          | inr some ↦
+              let given = any_atom-found (provides_it a) provides some in
+              or_right (some_atom u field (named_as u v) w) _
+              (any_atom-at (λ p. some_atom u field (provided_by p) w) provides given.0 given.2 given.3
+              given.6
+              (any_atom-at (provided_by given.3) es found.0 found.2 a found.6
+              (and_from _ _ both.0 given.7)))
+        ]
+
+    back : (some_atom u field (named_as u v) w || items_test u field provides w) ≡ true
+        → field_test u field v w ≡ true
+    back is =
+        elim (or_cases (some_atom u field (named_as u v) w) _ is) [
+          | inl own ↦
+              let found = any_atom-found (named_as u v) es own in
+              let both = and_parts (is_none found.3.qualifier) _ found.7 in
+              any_atom-at (λ a. satisfies u a v) es found.0 found.2 found.3 found.6
+              (and_from _ _ both.0 (or_left _ _ both.1))
+          | inr some ↦
+              let given = any_atom-found (λ p. some_atom u field (provided_by p) w) provides some in
+              let found = any_atom-found (provided_by given.3) es given.7 in
+              let a = found.3 in
+              let both = and_parts (is_none a.qualifier) _ found.7 in
+              any_atom-at (λ a. satisfies u a v) es found.0 found.2 a found.6
+              (and_from _ _ both.0 (or_right (is_its_own (facts u v) a) _
+              (any_atom-at (provides_it a) provides given.0 given.2 given.3 given.6 both.1)))
+        ]
 
 -- one more element
 pub any_next : {X : Type 0} (p : X → Bool) (xs : List X) (i : ℕ) (x : X) → i < length xs
@@ -231,8 +222,8 @@ any_next p xs i x lt is =
     list_any_more p xs i x lt ∙ ap (λ y. list_any p (take i xs) || p y) (sym is)
 
 -- what is read past the end of a list
-abbrev pub first : Variant
-first = variant 0 0
+abbrev pub first : Item Variant
+first = item (variant 0 0) 0 0
 
 abbrev pub no_word : NameWord
 no_word = record { name = 0; word = 0 }

@@ -6,5 +6,5 @@ pub mod Gathered
 pub mod Pairs
 pub mod TableLaws
 pub mod Each
-pub mod IndexLaws
 pub mod FoundLaws
+pub mod NameLaws

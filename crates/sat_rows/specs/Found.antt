@@ -3,32 +3,31 @@
 --   among             the variant of this name and bit is one of those found
 --   IsFound           those found are the variants of a universe that pass a test
 --   Finds             the variants that pass are put to those found
---   GrowsBy, HasOf    some that pass are put to them; among them those that stand in another list,
---                     or under the names of an entry or a field
---   is_first_named    a variant is the first of an alternative's name
---   HasOwn            those of a name that is listed, where an alternative has that
---   HasListed         what is found of a variant that is listed
+--   GrowsBy           some that pass are put to them
+--   holds             a test of what may be there
+--   some_atom         some alternative of a field of a variant passes
+--   passes_there      the universe has the owner of an item, and the alternative there passes
+--   HasItems          the owners of items whose alternative passes were found
+--   named_as          a variant satisfies an alternative by its own name
+--   provided_by       an item of Provides satisfies an alternative
 --   field_test        some entry of a field of a variant is satisfied by this one
-use Rattle.std.specs.Prelude.{◌≡◌, ℕ, nat_lt, Bool, true, ◌&&◌, ◌||◌, ◌==◌, List, [], Some, slice_get, slice_index_or}
+use Rattle.std.specs.Prelude.{◌≡◌, ℕ, nat_lt, Bool, true, false, ◌&&◌, ◌||◌, ◌==◌, List, Option, None, Some}
 use Rattle.std.specs.List.{list_any}
 use Rattle.std.specs.Option.{is_none}
-use Rattle.std.specs.Str.{bytes_eq}
 use Rattle.clause_kernel.specs.Rows.{word_has}
 use Rattle.deb_relation.specs.Relations.{Atom, Entry, Relations}
+use Rattle.deb_relation.specs.Satisfaction.{is_its_own, provides_it}
 use Rattle.farm_model.specs.declared.types.Variant.{Variant}
 use Rattle.farm_model.specs.Universe.{Package, Universe}
-use Rattle.farm_model.specs.Packages.{names, package_of, satisfies, satisfies_any, is_wanted}
-use Rattle.sat_rows.specs.Index.{IsIn, listed}
+use Rattle.farm_model.specs.Packages.{variants, package_of, facts, satisfies_any}
+use Rattle.item_index.specs.declared.item.Item.{Item}
+use Rattle.item_index.specs.Items.{any_atom, item_of, IsIn}
 use Rattle.sat_rows.specs.Rows.{passes}
 use Rattle.sat_rows.specs.declared.found.NameWord.{NameWord}
 
 -- the variant of this name and bit is one of those found
 abbrev pub among : List NameWord → ℕ → ℕ → Bool
 among vs n b = list_any (λ w. (n == w.name) && word_has w.word b) vs
-
--- the universe has the variant, and it passes
-abbrev pub is_passing : Universe → (Variant → Bool) → Variant → Bool
-is_passing u p v = passes u p v.name v.bit
 
 -- the variants of the universe that pass, and no others
 abbrev pub IsFound : Universe → (Variant → Bool) → List NameWord → Type 0
@@ -43,38 +42,42 @@ pub record GrowsBy (u : Universe) (p : Variant → Bool) (old new : List NameWor
   pub kept : (n b : ℕ) → among old n b ≡ true → among new n b ≡ true
   pub passing : (n b : ℕ) → among new n b ≡ true → (among old n b || passes u p n b) ≡ true
 
--- those of the others that pass were found
-abbrev pub HasOf : Universe → (Variant → Bool) → List Variant → List NameWord → Type 0
-HasOf u p others vs =
-    (v : Variant) → IsIn others v → is_passing u p v ≡ true → among vs v.name v.bit ≡ true
+-- what is there passes; what is not there does not
+abbrev pub holds : (Atom → Bool) → Option Atom → Bool
+holds test None = false
+holds test (Some a) = test a
 
--- those under the names of an entry, and of a field
-abbrev pub HasOfEntry : Universe → (Variant → Bool) → List (List Variant) → Entry → List NameWord
-    → Type 0
-HasOfEntry u p lists e vs =
-    (i : ℕ) (a : Atom) → slice_get e i ≡ Some a → HasOf u p (listed lists a.name) vs
+-- some alternative of the field of the variant passes
+abbrev pub some_atom : Universe → (Package → Relations) → (Atom → Bool) → Variant → Bool
+some_atom u field test v = any_atom test (field (package_of u v))
 
-abbrev pub HasOfField : Universe → (Variant → Bool) → List (List Variant) → Relations
+-- the universe has the item's owner, and the alternative at its place passes
+abbrev pub passes_there : Universe → (Package → Relations) → (Atom → Bool) → Item Variant → Bool
+passes_there u field test at =
+    nat_lt at.owner.bit (variants u at.owner.name)
+    && holds test (item_of at (field (package_of u at.owner)))
+
+-- the owners of the items whose alternative passes were found
+abbrev pub HasItems : Universe → (Package → Relations) → (Atom → Bool) → List (Item Variant)
     → List NameWord → Type 0
-HasOfField u p lists es vs =
-    (i : ℕ) (e : Entry) → slice_get es i ≡ Some e → HasOfEntry u p lists e vs
+HasItems u field test items vs =
+    (at : Item Variant) → IsIn items at → passes_there u field test at ≡ true
+    → among vs at.owner.name at.owner.bit ≡ true
 
--- the variant is the first of the name that the alternative has
-abbrev pub is_first_named : Universe → Atom → Variant → Bool
-is_first_named u a v =
-    (v.bit == 0) && (is_none a.qualifier
-    && (nat_lt v.name (names u) && bytes_eq (slice_index_or u.names v.name []) a.name))
+-- the variant has the name of the alternative, and a version in its relation
+abbrev pub named_as : Universe → Variant → Atom → Bool
+named_as u v a = is_none a.qualifier && is_its_own (facts u v) a
 
--- the variants of the name of one that is its first, where the alternative has that name
-abbrev pub HasOwn : Universe → Atom → Variant → (ℕ → Bool) → Type 0
-HasOwn u a v has =
-    v.bit ≡ 0 → slice_index_or u.names v.name [] ≡ a.name → is_none a.qualifier ≡ true
-    → (b : ℕ) → passes u (is_wanted u a.relation) v.name b ≡ true → has b ≡ true
+-- the item of a Provides field satisfies the alternative
+abbrev pub provided_by : Atom → Atom → Bool
+provided_by p a = is_none a.qualifier && provides_it a p
 
--- a variant that is listed was found where it passes, and so were those of its name
-pub record HasListed (u : Universe) (a : Atom) (v : Variant) (vs : List NameWord) : Type 0 where
-  pub itself : is_passing u (satisfies u a) v ≡ true → among vs v.name v.bit ≡ true
-  pub own : HasOwn u a v (among vs v.name)
+-- some item of the entry, and of the field, satisfies some alternative of the field of the variant
+abbrev pub entry_test : Universe → (Package → Relations) → Entry → Variant → Bool
+entry_test u field e w = list_any (λ p. some_atom u field (provided_by p) w) e
+
+abbrev pub items_test : Universe → (Package → Relations) → Relations → Variant → Bool
+items_test u field provides w = list_any (λ e. entry_test u field e w) provides
 
 -- the variant satisfies some entry of the field of another
 abbrev pub field_test : Universe → (Package → Relations) → Variant → Variant → Bool

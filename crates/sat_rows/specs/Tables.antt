@@ -8,6 +8,7 @@ use Rattle.deb_relation.specs.Relations.{Entry}
 use Rattle.farm_model.specs.declared.types.Variant.{Variant}
 use Rattle.farm_model.specs.Universe.{Universe}
 use Rattle.farm_model.specs.Packages.{names}
+use Rattle.item_index.specs.declared.item.Item.{Item}
 use Rattle.sat_rows.specs.Clashes.{AreClashes}
 use Rattle.sat_rows.specs.Entries.{Numbers, AreNumbered, AreNeeds, AreRowsOf}
 use Rattle.sat_rows.specs.Index.{IsProviding}
@@ -24,7 +25,7 @@ pub record AreEntryRows (u : Universe) (by_name : List (List Numbers)) (by_recip
 -- all rows, the index of those who provide, and a row without variants
 pub record AreKept (u : Universe) (by_name : List (List Numbers)) (by_recipe : List (List ℕ))
     (rows : List (List ℕ)) (by_other : List Others) (by_clash : List (Option (List ℕ)))
-    (lists : List (List Variant)) (empty : List ℕ) : Type 0 where
+    (lists : List (List (Item Variant))) (empty : List ℕ) : Type 0 where
   pub entries : AreEntryRows u by_name by_recipe rows
   pub others : AreAllOthers u by_other
   pub clashes : AreClashes u by_clash

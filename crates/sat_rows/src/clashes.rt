@@ -7,10 +7,10 @@ ghost use Rattle.sat_rows.specs.Rows.{IsSharedRow};
 ghost use Rattle.sat_rows.specs.Clashes.{AreClashes};
 
 use crate::found::satisfying_any;
-use crate::index::Index;
 use crate::row::shared_row;
 use bit_rows::Row;
-use farm_universe::Universe;
+use farm_universe::{Universe, Variant};
+use item_index::ItemIndex;
 use rayon::prelude::*;
 use std::alloc::{AllocError, Global};
 use std::thread::Threads;
@@ -18,7 +18,7 @@ use std::thread::Threads;
 fn clashes_row(
     alloc: Global,
     universe: &Universe,
-    providers: &Index,
+    providers: &ItemIndex<Variant>,
     number: u32,
 ) -> Result<Option<Row>, AllocError>
     requires providers { IsProviding universe.now providers.now }
@@ -41,7 +41,7 @@ pub fn all_clashes(
     rt: &(impl Threads + Sync),
     alloc: Global,
     universe: &Universe,
-    providers: &Index,
+    providers: &ItemIndex<Variant>,
 ) -> Result<Vec<Option<Row>>, AllocError>
     requires { IsProviding universe.now providers.now }
     ensures { IfOk result (λ rows. AreClashes universe.now rows.items) }

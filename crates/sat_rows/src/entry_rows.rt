@@ -9,11 +9,11 @@ ghost use Rattle.deb_relation.specs.Relations.{Entry};
 
 use crate::entries::Entries;
 use crate::found::satisfying;
-use crate::index::Index;
 use crate::row::row_of_found;
 use bit_rows::Row;
 use deb_relation::Atom;
-use farm_universe::Universe;
+use farm_universe::{Universe, Variant};
+use item_index::ItemIndex;
 use rayon::prelude::*;
 use std::alloc::{AllocError, Global};
 use std::thread::Threads;
@@ -26,7 +26,7 @@ use std::thread::Threads;
 pub fn row_of_entry(
     alloc: Global,
     universe: &Universe,
-    providers: &Index,
+    providers: &ItemIndex<Variant>,
     entry: &[Atom],
 ) -> Result<Row, AllocError>
     requires { IsProviding universe.now providers.now }
@@ -45,7 +45,7 @@ pub fn all_entry_rows(
     rt: &(impl Threads + Sync),
     alloc: Global,
     universe: &Universe,
-    providers: &Index,
+    providers: &ItemIndex<Variant>,
     entries: &Entries,
 ) -> Result<Vec<Row>, AllocError>
     requires { IsProviding universe.now providers.now }

@@ -1,66 +1,44 @@
 //! The variants that pass a test, looked for among those that an index lists.
 
-ghost use Rattle.std.specs.Prelude.{◌≡◌, ◌<◌, ◌==◌, ◌&&◌, ◌||◌, [], ℕ, true, nat_lt, IsTrue, IfOk, OnOk, length, slice_index_or};
-ghost use Rattle.std.specs.Option.{is_none};
-ghost use Rattle.std.specs.Str.{bytes_eq};
+ghost use Rattle.std.specs.Prelude.{◌≡◌, ◌==◌, ◌&&◌, ◌||◌, [], ℕ, true, IsTrue, IfOk, OnOk};
 ghost use Rattle.clause_kernel.specs.Rows.{word_has};
-ghost use Rattle.farm_model.specs.Packages.{names, is_wanted, satisfies, satisfies_entry, satisfies_any, conflict, breaks};
+ghost use Rattle.deb_relation.specs.Relations.{Atom};
+ghost use Rattle.deb_relation.specs.Satisfaction.{is_its_own};
+ghost use Rattle.farm_model.specs.Packages.{facts, is_wanted, satisfies, satisfies_entry, satisfies_any, conflict, breaks};
 ghost use Rattle.farm_model.specs.Sound.{IsKnown};
 ghost use Rattle.sat_rows.specs.Index.{IsNaming, IsProviding, AreIndexes};
-ghost use Rattle.sat_rows.specs.Rows.{passes, IsWordFor};
-ghost use Rattle.sat_rows.specs.Found.{among, is_passing, is_first_named, IsFound, Finds, GrowsBy, HasOf, HasOwn, HasListed, HasOfEntry, HasOfField, field_test};
+ghost use Rattle.sat_rows.specs.Rows.{IsWordFor};
+ghost use Rattle.sat_rows.specs.Found.{among, IsFound, Finds, GrowsBy, HasItems, some_atom, passes_there, named_as, provided_by, entry_test, items_test, field_test};
 
-use crate::index::{Breaks, Conflicts, Field, Index, Indexes};
+use crate::atom_test::{AtomTest, NamedAs, ProvidedBy, ProvidesIt, is_bare, passes_at};
+use crate::index::{Breaks, Conflicts, Field, Indexes, Provides};
 use crate::word::{mask, variant_count, with_bit};
 use deb_relation::{Atom, Entry, Relations};
-use farm_universe::relations::{SatisfiesAtom, VariantTest, satisfies_any};
 use farm_universe::{Universe, Variant};
+use item_index::{Item, ItemIndex};
 use std::alloc::{AllocError, Global};
 use std::marker::Model;
 
-/// The bit of a variant, where the universe has it and it passes.
-fn passing_word<T: VariantTest>(universe: &Universe, test: &T, variant: Variant) -> u64
-    requires { T.fits universe.now test.now }
+/// The bit of the owner of an item, where the universe has it and the alternative there passes.
+fn item_word<F: Field, T: AtomTest>(
+    universe: &Universe,
+    field: &F,
+    test: &T,
+    item: &Item<Variant>,
+) -> u64
     ensures { (b : ℕ) → word_has result b ≡
-        (is_passing universe.now (T.test universe.now test.now) variant && (b == variant.bit)) }
+        (passes_there universe.now F.field (T.test test.now) item.now && (b == item.now.owner.bit)) }
 {
-    if variant.bit < variant_count(universe, variant.name) {
-        with_bit(0, variant.bit, test.passes(universe, variant))
+    let owner = item.owner;
+    if owner.bit < variant_count(universe, owner.name) {
+        with_bit(
+            0,
+            owner.bit,
+            passes_at(field.of(universe, owner), test, item),
+        )
     } else {
         0
     }
-}
-
-/// The variants of whose field some entry is satisfied by this one.
-#[derive(Drop)]
-struct NamesIt<'a, F: Field> {
-    field: &'a F,
-    variant: Variant,
-}
-
-impl<F: Field> VariantTest for NamesIt<'_, F> {
-    ghost fits = { λ u t. IsKnown u t.variant };
-
-    ghost test = { λ u t v. field_test u F.field t.variant v };
-
-    fn passes(&self, universe: &Universe, variant: Variant) -> bool {
-        satisfies_any(universe, self.field.of(universe, variant), self.variant)
-    }
-}
-
-/// Tells whether a name of the universe has this text.
-fn is_named(universe: &Universe, name: u32, text: &[u8]) -> bool
-    ensures { result ≡ (nat_lt name (names universe.now)
-        && bytes_eq (slice_index_or universe.now.names name []) text.now) }
-{
-    name < universe.names() && universe.name_text(name) == text
-}
-
-/// Tells whether an alternative has no qualifier.
-fn is_bare(atom: &Atom) -> bool
-    ensures { result ≡ is_none atom.now.qualifier }
-{
-    atom.qualifier.is_none()
 }
 
 /// The variants of a name whose version stands in the relation of an alternative.
@@ -68,28 +46,6 @@ fn wanted_word(universe: &Universe, atom: &Atom, name: u32) -> u64
     ensures { IsWordFor universe.now (is_wanted universe.now atom.now.relation) name result }
 {
     mask(universe, name, atom.relation.as_ref())
-}
-
-/// Tells whether a variant is the first of the name that an alternative has. One with a qualifier
-/// is satisfied by none.
-fn is_first_named(universe: &Universe, atom: &Atom, listed: Variant) -> bool
-    ensures { result ≡ is_first_named universe.now atom.now listed }
-{
-    listed.bit == 0 && is_bare(atom) && is_named(universe, listed.name, &atom.name)
-}
-
-/// The variants that satisfy an alternative by their own name and version. They are looked for
-/// under the first of their name.
-fn own_word(universe: &Universe, atom: &Atom, listed: Variant) -> u64
-    ensures only { (b : ℕ) → word_has result b ≡ true
-        → passes universe.now (satisfies universe.now atom.now) listed.name b ≡ true }
-    ensures has { HasOwn universe.now atom.now listed (word_has result) }
-{
-    if is_first_named(universe, atom, listed) {
-        wanted_word(universe, atom, listed.name)
-    } else {
-        0
-    }
 }
 
 /// Variants of one name, as the bits of a word.
@@ -149,39 +105,53 @@ impl Found {
         Ok(())
     }
 
-    /// Puts those of some variants that pass.
-    fn add_passing<T: VariantTest>(
+    /// Puts the owners of some items whose alternative passes.
+    fn add_items<F: Field, T: AtomTest>(
         &mut self,
         universe: &Universe,
+        field: &F,
         test: &T,
-        others: &[Variant],
+        items: &[Item<Variant>],
     ) -> Result<(), AllocError>
-        requires { T.fits universe.now test.now }
-        ensures grows { OnOk result
-            (GrowsBy universe.now (T.test universe.now test.now) self.old self.new) }
+        ensures grows { OnOk result (GrowsBy universe.now
+            (some_atom universe.now F.field (T.test test.now)) self.old self.new) }
         ensures has { OnOk result
-            (HasOf universe.now (T.test universe.now test.now) others.now self.new) }
+            (HasItems universe.now F.field (T.test test.now) items.now self.new) }
     {
-        for variant in others {
-            self.add(variant.name, passing_word(universe, test, *variant))?;
+        for item in items {
+            self.add(item.owner.name, item_word(universe, field, test, item))?;
         }
         Ok(())
     }
 
-    /// Puts those that an index lists: the variant itself, and all of its name where the
-    /// alternative has that, as far as they satisfy it.
-    fn add_listed(
+    /// Puts the variants of whose field some alternative passes, where each that passes has this
+    /// name.
+    fn add_listed<F: Field, T: AtomTest>(
         &mut self,
         universe: &Universe,
-        atom: &Atom,
-        listed: Variant,
+        index: &ItemIndex<Variant>,
+        field: &F,
+        test: &T,
+        name: &[u8],
     ) -> Result<(), AllocError>
-        ensures grows { OnOk result
-            (GrowsBy universe.now (satisfies universe.now atom.now) self.old self.new) }
-        ensures has { OnOk result (HasListed universe.now atom.now listed self.new) }
+        requires index { IsNaming universe.now F.field index.now }
+        requires named { (a : Atom) → T.test test.now a ≡ true → a.name ≡ name.now }
+        ensures { OnOk result (Finds universe.now
+            (some_atom universe.now F.field (T.test test.now)) self.old self.new) }
     {
-        let itself = passing_word(universe, &SatisfiesAtom { atom }, listed);
-        self.add(listed.name, itself | own_word(universe, atom, listed))?;
+        self.add_items(universe, field, test, index.listed(name))?;
+        Ok(())
+    }
+
+    /// Puts the variants that have the name of an alternative, and a version in its relation.
+    fn add_own(&mut self, universe: &Universe, atom: &Atom) -> Result<(), AllocError>
+        ensures { OnOk result (Finds universe.now
+            (λ v. is_its_own (facts universe.now v) atom.now) self.old self.new) }
+    {
+        let _names = universe.names();
+        if let Some(name) = universe.find(&atom.name) {
+            self.add(name, wanted_word(universe, atom, name))?;
+        }
         Ok(())
     }
 
@@ -189,16 +159,19 @@ impl Found {
     fn add_atom(
         &mut self,
         universe: &Universe,
-        providers: &Index,
+        providers: &ItemIndex<Variant>,
         atom: &Atom,
     ) -> Result<(), AllocError>
         requires { IsProviding universe.now providers.now }
         ensures { OnOk result
             (Finds universe.now (satisfies universe.now atom.now) self.old self.new) }
     {
-        for listed in providers.listed(&atom.name) {
-            self.add_listed(universe, atom, *listed)?;
+        if !is_bare(atom) {
+            return Ok(());
         }
+        self.add_own(universe, atom)?;
+        let test = ProvidesIt { atom };
+        self.add_listed(universe, providers, &Provides {}, &test, &atom.name)?;
         Ok(())
     }
 
@@ -206,7 +179,7 @@ impl Found {
     pub fn add_entry(
         &mut self,
         universe: &Universe,
-        providers: &Index,
+        providers: &ItemIndex<Variant>,
         entry: &[Atom],
     ) -> Result<(), AllocError>
         requires { IsProviding universe.now providers.now }
@@ -223,7 +196,7 @@ impl Found {
     pub fn add_field(
         &mut self,
         universe: &Universe,
-        providers: &Index,
+        providers: &ItemIndex<Variant>,
         field: &Relations,
     ) -> Result<(), AllocError>
         requires { IsProviding universe.now providers.now }
@@ -236,44 +209,77 @@ impl Found {
         Ok(())
     }
 
-    /// Puts those under the names of an entry that pass.
-    fn add_named<T: VariantTest>(
+    /// Puts the variants of whose field some alternative names this variant.
+    fn add_namers<F: Field>(
         &mut self,
         universe: &Universe,
-        index: &Index,
-        test: &T,
+        index: &ItemIndex<Variant>,
+        field: &F,
+        variant: Variant,
+    ) -> Result<(), AllocError>
+        requires index { IsNaming universe.now F.field index.now }
+        requires known { IsKnown universe.now variant }
+        ensures { OnOk result (Finds universe.now
+            (some_atom universe.now F.field (named_as universe.now variant)) self.old self.new) }
+    {
+        let name = universe.name_text(variant.name);
+        let test = NamedAs {
+            name,
+            version: universe.version(variant),
+        };
+        self.add_listed(universe, index, field, &test, name)?;
+        Ok(())
+    }
+
+    /// Puts the variants of whose field an item of Provides provides some alternative.
+    fn add_item<F: Field>(
+        &mut self,
+        universe: &Universe,
+        index: &ItemIndex<Variant>,
+        field: &F,
+        provided: &Atom,
+    ) -> Result<(), AllocError>
+        requires { IsNaming universe.now F.field index.now }
+        ensures { OnOk result (Finds universe.now
+            (some_atom universe.now F.field (provided_by provided.now)) self.old self.new) }
+    {
+        let test = ProvidedBy { provided };
+        self.add_listed(universe, index, field, &test, &provided.name)?;
+        Ok(())
+    }
+
+    /// Puts the variants of whose field an entry of Provides provides some alternative.
+    fn add_provided<F: Field>(
+        &mut self,
+        universe: &Universe,
+        index: &ItemIndex<Variant>,
+        field: &F,
         entry: &Entry,
     ) -> Result<(), AllocError>
-        requires fits { T.fits universe.now test.now }
-        requires some { 0 < length index.now }
-        ensures grows { OnOk result
-            (GrowsBy universe.now (T.test universe.now test.now) self.old self.new) }
-        ensures has { OnOk result (HasOfEntry universe.now (T.test universe.now test.now)
-            index.now entry.now self.new) }
+        requires { IsNaming universe.now F.field index.now }
+        ensures { OnOk result
+            (Finds universe.now (entry_test universe.now F.field entry.now) self.old self.new) }
     {
-        for atom in entry.alternatives() {
-            self.add_passing(universe, test, index.listed(&atom.name))?;
+        for provided in entry.alternatives() {
+            self.add_item(universe, index, field, provided)?;
         }
         Ok(())
     }
 
-    /// Puts those under the names that a variant provides that pass.
-    fn add_provided<T: VariantTest>(
+    /// Puts the variants of whose field a Provides field provides some alternative.
+    fn add_all_provided<F: Field>(
         &mut self,
         universe: &Universe,
-        index: &Index,
-        test: &T,
+        index: &ItemIndex<Variant>,
+        field: &F,
         provides: &Relations,
     ) -> Result<(), AllocError>
-        requires fits { T.fits universe.now test.now }
-        requires some { 0 < length index.now }
-        ensures grows { OnOk result
-            (GrowsBy universe.now (T.test universe.now test.now) self.old self.new) }
-        ensures has { OnOk result (HasOfField universe.now (T.test universe.now test.now)
-            index.now provides.now self.new) }
+        requires { IsNaming universe.now F.field index.now }
+        ensures { OnOk result
+            (Finds universe.now (items_test universe.now F.field provides.now) self.old self.new) }
     {
         for entry in provides.entries() {
-            self.add_named(universe, index, test, entry)?;
+            self.add_provided(universe, index, field, entry)?;
         }
         Ok(())
     }
@@ -282,24 +288,18 @@ impl Found {
     pub fn add_naming<F: Field>(
         &mut self,
         universe: &Universe,
-        naming: &Index,
+        index: &ItemIndex<Variant>,
         field: &F,
         variant: Variant,
     ) -> Result<(), AllocError>
-        requires naming { IsNaming universe.now F.field naming.now }
+        requires index { IsNaming universe.now F.field index.now }
         requires known { IsKnown universe.now variant }
         ensures { OnOk result
             (Finds universe.now (field_test universe.now F.field variant) self.old self.new) }
     {
-        let test = NamesIt { field, variant };
-        let own = naming.listed(universe.name_text(variant.name));
-        self.add_passing(universe, &test, own)?;
-        self.add_provided(
-            universe,
-            naming,
-            &test,
-            &universe.relations(variant).provides,
-        )?;
+        self.add_namers(universe, index, field, variant)?;
+        let provides = &universe.relations(variant).provides;
+        self.add_all_provided(universe, index, field, provides)?;
         Ok(())
     }
 }
@@ -312,7 +312,7 @@ impl Found {
 pub fn satisfying(
     alloc: Global,
     universe: &Universe,
-    providers: &Index,
+    providers: &ItemIndex<Variant>,
     entry: &[Atom],
 ) -> Result<Found, AllocError>
     requires { IsProviding universe.now providers.now }
@@ -331,7 +331,7 @@ pub fn satisfying(
 pub fn satisfying_any(
     alloc: Global,
     universe: &Universe,
-    providers: &Index,
+    providers: &ItemIndex<Variant>,
     field: &Relations,
 ) -> Result<Found, AllocError>
     requires { IsProviding universe.now providers.now }
@@ -373,7 +373,7 @@ pub fn in_conflict(
 pub fn broken(
     alloc: Global,
     universe: &Universe,
-    providers: &Index,
+    providers: &ItemIndex<Variant>,
     variant: Variant,
 ) -> Result<Found, AllocError>
     requires providers { IsProviding universe.now providers.now }

@@ -1,6 +1,7 @@
 //! Which variants of a universe satisfy which entries, and which exclude each other, as rows.
 #![tactic(auto)]
 
+mod atom_test;
 mod clashes;
 mod entries;
 mod entry_rows;

@@ -11,12 +11,13 @@ ghost use Rattle.sat_rows.specs.Others.{AreOthers};
 use crate::clashes::all_clashes;
 use crate::entries::Entries;
 use crate::entry_rows::{all_entry_rows, row_of_entry};
-use crate::index::{Index, Indexes};
+use crate::index::Indexes;
 use crate::numbers::{NameNumbers, Needs};
 use crate::others::{Others, all_others};
 use bit_rows::Row;
 use deb_relation::Entry;
 use farm_universe::{Universe, Variant};
+use item_index::ItemIndex;
 use std::alloc::{AllocError, Global};
 use std::marker::Model;
 use std::snapshot::Snapshot;
@@ -34,7 +35,7 @@ pub struct Tables {
     rows: Vec<Row>,
     others: Vec<Others>,
     clashes: Vec<Option<Row>>,
-    providers: Index,
+    providers: ItemIndex<Variant>,
     /// The row without variants, for all that have none.
     empty: Row,
 }

@@ -1,14 +1,15 @@
-use Rattle.sat_rows.proofs.FoundLaws.{listed_grows, listed_has}
+use Rattle.std.proofs.Common.{subst}
+use Rattle.sat_rows.specs.Found.{HasItems}
+use Rattle.sat_rows.proofs.FoundLaws.{finds_listed}
 use Rattle.sat_rows.proofs.found.Found.add_listed.Goals as goal
 
-pub returns-clause-grows : goal.returns-clause-grows
-returns-clause-grows c =
-    listed_grows c.args.universe.now c.args.atom.now c.args.listed c.passing_word-itself.result
-    c.own_word.result c.args.self.now c.add.new.self c.passing_word-itself.ensures
-    c.own_word.ensures.only c.own_word.ensures.has c.in_ok-add.ensures
-
-pub returns-clause-has : goal.returns-clause-has
-returns-clause-has c =
-    listed_has c.args.universe.now c.args.atom.now c.args.listed c.passing_word-itself.result
-    c.own_word.result c.args.self.now c.add.new.self c.passing_word-itself.ensures
-    c.own_word.ensures.only c.own_word.ensures.has c.in_ok-add.ensures
+pub returns : goal.returns
+returns g c =
+    let u = c.args.universe.now in
+    let field = g.F.Field.field in
+    let test = g.T.AtomTest.test c.args.test.now in
+    let new = c.add_items.new.self in
+    let put = c.in_ok-add_items.ensures in
+    finds_listed u field test c.args.index.now c.args.name.now c.args.self.now new c.requires.index
+    c.requires.named put.grows
+    (subst (λ items. HasItems u field test items new) c.listed.ensures put.has)

@@ -1,32 +1,23 @@
-use Rattle.std.proofs.Common.{◌≡◌, Some, sym, subst, arith}
-use Rattle.std.specs.List.{slice_get}
-use Rattle.sat_rows.specs.Index.{listed}
-use Rattle.sat_rows.specs.Found.{HasOfEntry}
-use Rattle.sat_rows.proofs.Each.{before_next, before_end}
-use Rattle.sat_rows.proofs.FoundLaws.{grows_trans, has_kept}
+use Rattle.std.proofs.Common.{◌+◌, take}
+use Rattle.std.specs.List.{list_any}
+use Rattle.sat_rows.specs.Found.{some_atom, provided_by}
+use Rattle.sat_rows.proofs.FoundLaws.{finds_none, finds_next, any_next}
 use Rattle.sat_rows.proofs.found.Found.add_provided.Goals as goal
 
-pub loop-entry-preserved : goal.loop-entry-preserved
-loop-entry-preserved g c =
-    let so_far = c.loop-entry.invariant in
-    let u = c.args.universe.now in
-    let p = g.T.VariantTest.test u c.args.test.now in
-    let lists = c.args.index.now in
-    let old = c.loop-entry.self in
-    let new = c.add_named.new.self in
-    let grows = c.in_ok-add_named.ensures.grows in (
-      grows_trans u p c.args.self.now old new so_far.0 grows,
-      before_next (λ e. HasOfEntry u p lists e old) (λ e. HasOfEntry u p lists e new)
-          c.entries-entry-items.result.now c.loop-entry.entry-index c.entry-item.result c.entry-item.is
-          (λ e has i a is. has_kept u p (listed lists a.name) old new grows (has i a is)) so_far.1
-          c.in_ok-add_named.ensures.has,
-    )
+pub loop-provided-init : goal.loop-provided-init
+loop-provided-init g c = finds_none c.args.universe.now c.args.self.now
 
-pub returns-clause-has : goal.returns-clause-has
-returns-clause-has g c i e is =
+pub loop-provided-preserved : goal.loop-provided-preserved
+loop-provided-preserved g c =
     let u = c.args.universe.now in
-    let p = g.T.VariantTest.test u c.args.test.now in
-    before_end (λ e. HasOfEntry u p c.args.index.now e c.loop-entry.self)
-    c.entries-entry-items.result.now c.loop-entry.entry-index (omega arith)
-    c.loop-entry.invariant.1 i e
-    (subst (λ xs. slice_get xs i ≡ Some e) (sym c.entries-entry-items.ensures) is)
+    let field = g.F.Field.field in
+    let xs = c.alternatives-provided-items.result.now in
+    let i = c.loop-provided.provided-index in
+    let p = c.provided-item.result in
+    finds_next u (λ w. list_any (λ p. some_atom u field (provided_by p) w) (take i xs))
+    (some_atom u field (provided_by p))
+    (λ w. list_any (λ p. some_atom u field (provided_by p) w) (take (i + 1) xs))
+    c.args.self.now c.loop-provided.self c.add_item.new.self
+    (λ w. any_next (λ p. some_atom u field (provided_by p) w) xs i p c.loop-provided-test.true
+    c.provided-item.is)
+    c.loop-provided.invariant c.in_ok-add_item.ensures

@@ -1,8 +1,0 @@
-use Rattle.std.proofs.Common.{ℕ, ◌<◌, length}
-use Rattle.sat_rows.specs.Index.{AreNaming}
-use Rattle.sat_rows.proofs.index.Index.naming.Given as goal
-
-abbrev pub invariant-loop-name : goal.invariant-loop-name
-invariant-loop-name g l =
-    (0 < length l.index)
-    × ((n : ℕ) → n < l.name → AreNaming l.universe g.F.Field.field n l.index)

@@ -1,8 +1,0 @@
-use Rattle.std.proofs.Common.{◌≡◌, ◌<◌, drop}
-use Rattle.sat_rows.specs.Index.{number_behind}
-use Rattle.sat_rows.proofs.index.list_of.Given as goal
-
-abbrev pub invariant-loop-byte : goal.invariant-loop-byte
-invariant-loop-byte l =
-    (l.number < 4294967296)
-    × (number_behind l.number (drop l.byte-index l.text) ≡ number_behind 0 l.text)
