@@ -1,0 +1,36 @@
+-- What is kept of a lane's record.
+use Rattle.std.proofs.Common.{Bool, List, Some, arith, length, slice_get, subst, ℕ, ◌<◌, ◌≡◌}
+use Rattle.plan_model.specs.Plan.{lane}
+use Rattle.plan_model.specs.Safety.{IsAnnotation}
+use Rattle.plan_model.specs.Turn.{LaneState}
+use Rattle.farm_laws.proofs.EventsLeft.{InPlace}
+use Rattle.archive_laws.proofs.Counted.{in_place}
+use Rattle.lane_records.specs.Bounds.{IsRecord}
+use Rattle.lane_records.specs.Records.{Record}
+use Rattle.plan_verifier.specs.Accepted.{AcceptedPlan, IsAccepted, known_rows}
+use Rattle.word_archive.specs.Rule.{AreWordsOf, shown}
+use Rattle.word_archive.proofs.Lists.{some_length}
+use Rattle.word_archive.proofs.Moves.{lane_shown}
+use Rattle.word_archive.proofs.SerialsKept.{few_at}
+
+-- an accepted plan is annotated
+pub annotated : (a : AcceptedPlan) → IsAccepted a → IsAnnotation a.universe a.plan (known_rows a)
+annotated a h = record { keeps = h.known.keeps; safe = h.safe }
+
+-- the rule says so of each record
+pub record_holds : (a : AcceptedPlan) → IsAccepted a → (words : List ℕ) (records : List Record)
+    (stopped : Bool) → AreWordsOf a words records stopped → (l : ℕ) (r : Record)
+    → slice_get records l ≡ Some r → IsRecord a.universe a.plan l r
+record_holds a accepted words records stopped st l r here =
+    let inside : l < length a.plan = omega (arith, some_length records l r here, st.lanes) in
+    let owed = st.serials.owed l r here in
+    record {
+      in_plan = inside;
+      place = subst (λ (x : LaneState). InPlace a.universe (lane a.plan l).instructions x.done
+          x.made)
+          (lane_shown a words records l r here)
+          (in_place a.universe a.plan accepted.sound (shown a words records) st.reached l inside);
+      made = owed.0;
+      one = owed.1;
+      few = few_at a.universe records a.plan l r here st.serials.few;
+    }

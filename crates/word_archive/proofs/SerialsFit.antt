@@ -1,0 +1,32 @@
+-- The serials of a plan fit in a word.
+use Rattle.std.proofs.Common.{[], arith, length, refl, suc, zero, ℕ, ◌+◌, ◌<◌, ◌^◌, ◌∷◌, ◌≡◌}
+use Rattle.std.specs.Prelude.{slice_index_or}
+use Rattle.farm_model.specs.Below.{sum_below}
+use Rattle.farm_model.specs.Universe.{Universe}
+use Rattle.plan_model.specs.Plan.{Plan, count, lane_outputs, no_lane}
+use Rattle.farm_archive.proofs.Outputs.{outputs-counted}
+use Rattle.farm_archive.specs.Room.{outputs_in}
+use Rattle.plan_verifier.specs.Accepted.{AcceptedPlan}
+use Rattle.word_archive.specs.Serials.{SerialsFit, all_outputs}
+
+-- a sum over the numbers, from the front
+sum_front : (n : ℕ) (f : ℕ → ℕ) → sum_below (suc n) f ≡ f 0 + sum_below n (λ k. f (suc k))
+sum_front zero f = omega arith
+sum_front (suc n) f = let h = sum_front n f in omega arith
+
+outputs_below : (u : Universe) (p : Plan)
+    → all_outputs u p ≡ sum_below (length p) (λ l. length
+    (lane_outputs u (slice_index_or p l no_lane)))
+outputs_below u [] = refl
+outputs_below u (of ∷ ofs) =
+    let f = sum_front (length ofs) (λ l. length
+    (lane_outputs u (slice_index_or (of ∷ ofs) l no_lane))) in
+    let h = outputs_below u ofs in
+    omega arith
+
+all_in : (u : Universe) (p : Plan) → all_outputs u p ≡ outputs_in u p
+unfolding outputs_in
+all_in u p = outputs_below u p
+
+pub is_small : (a : AcceptedPlan) → count a.universe a.plan < 2 ^ 64 → SerialsFit a
+is_small a lt = omega (arith, lt, all_in a.universe a.plan, outputs-counted a.universe a.plan)
