@@ -1,5 +1,5 @@
 -- Names, versions and slots, as a state tells them.
-use Rattle.std.proofs.Common.{◌≡◌, ◌≤◌, ℕ, List, [], slice_index_or, refl, ap, ◌∙◌, option_map, Some, None, arith}
+use Rattle.std.proofs.Common.{◌≡◌, ◌≤◌, ℕ, List, [], slice_index_or, refl, ap, option_map, Some, None, arith}
 use Rattle.std.proofs.lemmas.List.{get_or_past}
 use Rattle.std.specs.List.{flat_map, range_with_len}
 use Rattle.chroot_state.specs.Held.{Held}
@@ -8,13 +8,11 @@ use Rattle.farm_archive.specs.declared.publication.Publication.{Publication}
 use Rattle.farm_model.specs.declared.types.Variant.{Variant}
 use Rattle.farm_model.specs.declared.types.Slot.{Slot}
 use Rattle.farm_model.specs.declared.types.Slot.TheVariants.{Absent, Unpacked, Configured}
-use Rattle.farm_model.specs.Chroot.{slot, used}
+use Rattle.farm_model.specs.Chroot.{slot}
 use Rattle.farm_model.specs.Packages.{names, variant, variants, package_of, no_package}
 use Rattle.farm_model.specs.Universe.{Universe, Package}
-use Rattle.plan_model.specs.Plan.{Plan, Lane}
-use Rattle.plan_model.specs.Turn.{LaneState}
-use Rattle.farm_report.specs.AnswerLines.{at_line}
-use Rattle.farm_report.specs.StateText.{published_text, variant_text, held_text, at_text}
+use Rattle.plan_model.specs.Plan.{Plan}
+use Rattle.farm_report.specs.StateText.{published_text, variant_text, held_text, lane_lines}
 
 -- a number past the last name has no variants
 pub not_named : (u : Universe) (v : Variant) → names u ≤ v.name → variants u v.name ≤ v.bit
@@ -47,26 +45,20 @@ present_is u n (Configured b) v is =
     let same : v ≡ variant n b = cc in
     rw same refl
 
--- the line of this lane's name, and of this state of it
-pub at_is : (u : Universe) (of : Lane) (st : LaneState) (name : List ℕ) (done spent kib : ℕ)
-    → name ≡ of.name → done ≡ st.done → spent ≡ st.spent → kib ≡ used u st.chroot
-    → at_line name done spent kib ≡ at_text u of st
-at_is u of st name done spent kib n d s k = rw (n, d, s, k) refl
-
 -- what a chroot holds
 abbrev pub chroot_text : Universe → Held → List ℕ
 chroot_text u h = flat_map (λ n. held_text u n (slot h.slots n)) (range_with_len 0 (names u))
 
-pub chroot_is : (u v : Universe) (h k : Held) → u ≡ v → h ≡ k → chroot_text u h ≡ chroot_text v k
-chroot_is u v h k universe held =
-    ap (λ x. chroot_text x h) universe ∙ ap (λ x. chroot_text v x) held
+-- the lines of a lane whose parts are these
+pub lane_is : (u v : Universe) (n m : List ℕ) (d e s t : ℕ) (h k : Held) → u ≡ v → n ≡ m → d ≡ e
+    → s ≡ t → h ≡ k → lane_lines u n d s h.slots ≡ lane_lines v m e t k.slots
+lane_is u v n m d e s t h k uv nm de st hk =
+    λ i. lane_lines (uv i) (nm i) (de i) (st i) (hk i).slots
 
 -- what is read past the last publication
 abbrev pub no_publication : Publication
 no_publication = record { serial = 0; lane = 0; variant = variant 0 0 }
 
-pub published_is : (u v : Universe) (p q : Plan) (x y : Publication) → u ≡ v → p ≡ q → x ≡ y
-    → published_text u p x ≡ published_text v q y
-published_is u v p q x y universe plan same =
-    ap (λ w. published_text w p x) universe
-    ∙ (ap (λ o. published_text v o x) plan ∙ ap (λ z. published_text v q z) same)
+pub publications_are : (u v : Universe) (p q : Plan) (h k : List Publication) → u ≡ v → p ≡ q → h ≡ k
+    → flat_map (published_text u p) h ≡ flat_map (published_text v q) k
+publications_are u v p q h k uv pq hk = λ i. flat_map (published_text (uv i) (pq i)) (hk i)

@@ -1,7 +1,8 @@
 -- The state of a farm as it is printed, and what a schedule comes to. The project's own format.
 --
 --   published_text, held_text     a publication; what a chroot holds of a name
---   lane_text, state_text         a lane, with its chroot; a state
+--   lane_lines                    a lane by its parts: place, cost, chroot
+--   lane_text, state_text         a lane in its state; a state
 --   step_text                     what a schedule comes to
 use Rattle.std.specs.Prelude.{ℕ, List, [], ◌++◌, length, codes, Option, Some, None, slice_index_or}
 use Rattle.std.specs.List.{flat_map, range_with_len}
@@ -14,7 +15,7 @@ use Rattle.farm_core.specs.declared.schedule.Stop.{Stop}
 use Rattle.farm_model.specs.declared.types.Variant.{Variant}
 use Rattle.farm_model.specs.declared.types.Slot.{Slot}
 use Rattle.farm_model.specs.declared.types.Slot.TheVariants.{Absent, Unpacked, Configured}
-use Rattle.farm_model.specs.Chroot.{slot, used}
+use Rattle.farm_model.specs.Chroot.{Chroot, slot, used}
 use Rattle.farm_model.specs.Packages.{names, variant, package_of}
 use Rattle.farm_model.specs.TrapText.{trap_text}
 use Rattle.farm_model.specs.Universe.{Universe}
@@ -52,16 +53,16 @@ held_text u n Absent = []
 held_text u n (Unpacked b last) = variant_text u (variant n b) IsUnpacked
 held_text u n (Configured b) = variant_text u (variant n b) IsConfigured
 
--- how many instructions of a lane are done, what they have cost, and the disk space that is taken,
--- in KiB
-abbrev pub at_text : Universe → Lane → LaneState → List ℕ
-at_text u of st = at_line of.name st.done st.spent (used u st.chroot)
+-- how many instructions of a lane of this name are done, what they have cost, and the disk space
+-- that its chroot takes, in KiB; then what the chroot holds, by the number of the name
+abbrev pub lane_lines : Universe → List ℕ → ℕ → ℕ → Chroot → List ℕ
+lane_lines u name done spent chroot =
+    at_line name done spent (used u chroot)
+    ++ flat_map (λ n. held_text u n (slot chroot n)) (range_with_len 0 (names u))
 
--- that line, and those of its chroot, by the number of the name
+-- a lane in this state
 abbrev pub lane_text : Universe → Lane → LaneState → List ℕ
-lane_text u of st =
-    at_text u of st
-    ++ flat_map (λ n. held_text u n (slot st.chroot n)) (range_with_len 0 (names u))
+lane_text u of st = lane_lines u of.name st.done st.spent st.chroot
 
 -- what was published, by serial, and then the lanes in file order
 abbrev pub state_text : Universe → Plan → State → List ℕ

@@ -2,8 +2,7 @@
 
 ghost use Rattle.std.specs.Prelude.{◌≡◌, ◌<◌, is_err, length};
 ghost use Rattle.std.specs.List.{flat_map, range_with_len};
-ghost use Rattle.farm_archive.specs.Kept.{numbered};
-ghost use Rattle.farm_model.specs.Chroot.{slot};
+ghost use Rattle.farm_model.specs.Chroot.{slot, used};
 ghost use Rattle.farm_model.specs.Packages.{names};
 ghost use Rattle.farm_report.specs.StateText as spec;
 ghost use Rattle.plan_model.specs.Plan.{lane};
@@ -35,14 +34,23 @@ fn write_publication<S: Sink>(
     write_published(out, publication.serial, lane, name, version)
 }
 
-fn write_history<S: Sink>(out: &mut S, core: &Core<'_>) -> Result<(), WriteFailed>
+/// Writes publications, each with its serial.
+///
+/// # Errors
+///
+/// [`WriteFailed`] where the sink has failed. It has then taken a first part of the lines.
+pub fn write_publications<S: Sink>(
+    out: &mut S,
+    universe: &Universe,
+    plan: &Plan,
+    history: &[Publication],
+) -> Result<(), WriteFailed>
     ensures written { IsWritten (S.state out.old) (S.state out.new)
-        (flat_map (spec.published_text core.now.universe core.now.plan.lanes)
-        (numbered 0 core.now.state.published)) }
+        (flat_map (spec.published_text universe.now plan.now.lanes) history.now) }
     ensures told { is_err result ≡ (S.state out.new).failed }
 {
-    for publication in core.history() {
-        write_publication(out, core.universe(), core.plan(), publication)?;
+    for publication in history {
+        write_publication(out, universe, plan, publication)?;
     }
     whether_written(out)
 }
@@ -93,7 +101,29 @@ fn write_chroot<S: Sink>(
     whether_written(out)
 }
 
-/// How far a lane has come, and what its chroot holds.
+/// Writes how far a lane of this name has come, what it has spent, in steps, and what its chroot
+/// holds.
+///
+/// # Errors
+///
+/// [`WriteFailed`] where the sink has failed. It has then taken a first part of the lines.
+pub fn write_lane_lines<S: Sink>(
+    out: &mut S,
+    universe: &Universe,
+    name: &[u8],
+    done: u32,
+    spent: u64,
+    chroot: &Chroot,
+) -> Result<(), WriteFailed>
+    requires { chroot.now.used ≡ used universe.now chroot.now.slots }
+    ensures written { IsWritten (S.state out.old) (S.state out.new)
+        (spec.lane_lines universe.now name.now done spent chroot.now.slots) }
+    ensures told { is_err result ≡ (S.state out.new).failed }
+{
+    write_at(out, name, done, spent, chroot.used())?;
+    write_chroot(out, universe, chroot)
+}
+
 fn write_lane_state<S: Sink>(out: &mut S, core: &Core<'_>, number: u32) -> Result<(), WriteFailed>
     requires { number < length core.now.plan.lanes }
     ensures written { IsWritten (S.state out.old) (S.state out.new)
@@ -104,8 +134,7 @@ fn write_lane_state<S: Sink>(out: &mut S, core: &Core<'_>, number: u32) -> Resul
     let name = lane_name(core.plan(), number);
     let (done, spent) = (core.done(number), core.spent(number));
     let chroot = core.chroot(number);
-    write_at(out, name, done, spent, chroot.used())?;
-    write_chroot(out, core.universe(), chroot)
+    write_lane_lines(out, core.universe(), name, done, spent, chroot)
 }
 
 fn write_lanes<S: Sink>(out: &mut S, core: &Core<'_>) -> Result<(), WriteFailed>
@@ -130,6 +159,6 @@ pub fn write_state<S: Sink>(out: &mut S, core: &Core<'_>) -> Result<(), WriteFai
         (spec.state_text core.now.universe core.now.plan.lanes core.now.state) }
     ensures told { is_err result ≡ (S.state out.new).failed }
 {
-    write_history(out, core)?;
+    write_publications(out, core.universe(), core.plan(), core.history())?;
     write_lanes(out, core)
 }

@@ -53,11 +53,12 @@ pub record CanPass (of : Lane) (w : Runner) (cost : ℕ) (traps : List (Bool × 
   pub free : first_trap traps ≡ None
   pub fits : w.spent + cost ≤ of.budget
 
--- A lane that has not begun, of which nothing has halted:
+-- A lane that has not begun, whose end has neither halted nor been told of a halt:
 pub record IsFresh (u : Universe) (of : Lane) (r : Record) : Type 0 where
   pub at : r.at ≡ start_lane u of
   pub undrawn : r.serials ≡ []
   pub unhalted : r.halted ≡ false
+  pub unseen : r.saw ≡ false
 
 -- A runner on its lane's way:
 pub record IsOnWay (u : Universe) (p : Plan) (rows : Rows) (w : Runner) (c : Held) (r : Record)

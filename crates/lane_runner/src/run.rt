@@ -78,7 +78,8 @@ pub fn run_lane<A: LaneArchive, G: Gate>(
     ensures code { IfErr result (λ s. ((s.code ≡ GAVE_UP) × G.may_give_up gate.now
         × ((A.log archive.new).halted ≡ true)) ⊎ ((s.code ≡ HALTED)
         × ((A.log archive.new).saw ≡ true) × ((A.log archive.new).halted ≡ false))) }
-    ensures quiet { IfOk result (λ spent. (A.log archive.new).halted ≡ false) }
+    ensures quiet { IfOk result (λ spent. ((A.log archive.new).halted ≡ false)
+        × ((A.log archive.new).saw ≡ false)) }
 {
     accepted.keeps();
     let mut runner = Runner::new(lane);

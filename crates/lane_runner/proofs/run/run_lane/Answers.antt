@@ -16,6 +16,7 @@ loop-init g c =
       finite = tt;
       same = record { home_is = refl; about_is = refl; lane_is = refl };
       unhalted = fresh.unhalted;
+      unseen = fresh.unseen;
       number = ap (λ (w : Runner). w.lane) c.new-runner.ensures;
       running = subst (λ w. IsRunning a w c.args.chroot.now
           (g.A.LaneArchive.about c.args.archive.now) (g.A.LaneArchive.lane c.args.archive.now)
