@@ -68,7 +68,7 @@ fn answer_words<'a, W: AsStr, F: Source, S: Sink, E: Sink>(
 /// Ends with a fault outside of the texts: says it on the error output, without memory of its own.
 fn tell<E: Sink>(fault: OutsideFault<'_>, errors: &mut E) -> u8
     ensures status { result ≡ OUTSIDE }
-    ensures line { IsWritten (E.state errors.old) (E.state errors.new) (fault_line fault) }
+    ensures line { IsWritten (E.state errors.old) (E.state errors.new) (fault_line fault.entry) }
 {
     let _written = match fault {
         OutsideFault::CannotRead(name) => {

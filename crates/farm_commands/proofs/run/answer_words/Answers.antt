@@ -5,8 +5,8 @@ use Rattle.farm_commands.specs.Answers.{IsAnswered}
 use Rattle.farm_commands.specs.Requests.{AnswersRequest}
 use Rattle.farm_commands.proofs.run.answer_words.Goals as goal
 
-pub returns-in-Ok : goal.returns-in-Ok
-returns-in-Ok g c = record {
+pub returns-in-Ok-clause-answer : goal.returns-in-Ok-clause-answer
+returns-in-Ok-clause-answer g c = record {
   outcome = inl (c.in-Ok.request, c.answer_request.ensures);
   no_word = λ none.
       subst (λ request. IsAnswered (AnswersRequest (g.F.Source.held c.args.source.now)
@@ -17,9 +17,9 @@ returns-in-Ok g c = record {
       c.answer_request.ensures;
 }
 
-pub returns-in-Err : goal.returns-in-Err
-returns-in-Err g c = record {
-  outcome = inr c.tell_words.ensures;
+pub returns-in-Err-clause-answer : goal.returns-in-Err-clause-answer
+returns-in-Err-clause-answer g c = record {
+  outcome = inr c.tell_words.ensures.told;
   no_word = λ none. absurd (subst (λ read. IsOkAnd read (λ request. request ≡ CheckInput))
       c.in-Err.is (c.read_words.ensures none));
 }
