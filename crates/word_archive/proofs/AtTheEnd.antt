@@ -35,6 +35,7 @@ times_found x (y ∷ ys) le =
           (suc r.0, r.1)
     ]
 
+-- that was drawn at all
 drawn_found : (x : ℕ) (rs : List Record) → 1 ≤ drawn x rs
     → (l : ℕ) × (r : Record) × (slice_get rs l ≡ Some r) × (j : ℕ)
     × (slice_get r.serials j ≡ Some x)
@@ -49,6 +50,7 @@ drawn_found x (r ∷ rs) le =
           (suc t.0, t.1, t.2, t.3, t.4)
     ]
 
+-- a number below n counts once
 once_one : (x n : ℕ) → x < n → once_below x n ≡ 1
 once_one x n lt = grind (arith, nat_tests)
 
@@ -98,6 +100,7 @@ module _ (a : AcceptedPlan) (accepted : IsAccepted a) (words : List ℕ) (record
       (λ m. contains (recorded u (lane a.plan m) (world_lane (shown a words records) m)) v) h.lane
       (omega (arith, some_length records h.lane o.told o.there, st.lanes)) mine)
 
+  -- what the words have is initial or stands in the history
   has_words : (v : Variant) → has_bit (shown a words records).words v ≡ true
       → (initial a.universe v ≡ true) ⊎ HasOne history (λ h. h.variant ≡ v)
   has_words v there =
@@ -106,6 +109,7 @@ module _ (a : AcceptedPlan) (accepted : IsAccepted a) (words : List ℕ) (record
         | inr p ↦ let g = in_history v _ p in inr (g.0, g.1, g.2, g.3.0)
       ]
 
+  -- they have the initial archive
   has_initial : (v : Variant) → initial a.universe v ≡ true
       → has_bit (shown a words records).words v ≡ true
   has_initial v start =
@@ -143,6 +147,7 @@ module _ (a : AcceptedPlan) (accepted : IsAccepted a) (words : List ℕ) (record
             )
       ]
 
+  -- so all is told that IsClosed says
   pub is_closed : IsClosed a words records stopped history
   is_closed = record {
     stands = st;
