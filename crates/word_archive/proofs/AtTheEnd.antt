@@ -19,9 +19,10 @@ use Rattle.plan_verifier.specs.Accepted.{AcceptedPlan, IsAccepted}
 use Rattle.word_archive.specs.History.{HasOne, IsClosed, IsHistory, IsUnused, entry}
 use Rattle.word_archive.specs.Rule.{AreWordsOf, serial_word, shown}
 use Rattle.word_archive.specs.Serials.{IsPublishedBelow, drawn, made_by, once_below, times}
-use Rattle.word_archive.proofs.KnownPublished.{words_published}
+use Rattle.word_archive.proofs.KnownPublished.{all_below, words_published}
 use Rattle.word_archive.proofs.Lists.{some_length}
 use Rattle.word_archive.proofs.Moves.{lane_shown}
+use Rattle.word_archive.proofs.SerialsDrawn.{less_at}
 
 -- a serial that was drawn stands in the record of some lane
 times_found : (x : ℕ) (xs : List ℕ) → 1 ≤ times x xs → (j : ℕ) × (slice_get xs j ≡ Some x)
@@ -159,6 +160,10 @@ module _ (a : AcceptedPlan) (accepted : IsAccepted a) (words : List ℕ) (record
     above = λ k i h o v here of known new.
         in_history v h.serial
         (st.serials.above h.lane i o.place h.serial o.told v o.there o.drawn_as of known new);
+    below = λ k h here.
+        let o = told.each k h here in
+        less_at (serial_word a words) o.told.serials o.place h.serial
+        (all_below a accepted words records stopped st h.lane o.told o.there) o.drawn_as;
     missing = used_or_last;
     halts = λ l r here saw. st.halts.set.0 (st.halts.sights l r here saw);
   }
