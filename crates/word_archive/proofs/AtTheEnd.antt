@@ -19,9 +19,10 @@ use Rattle.plan_verifier.specs.Accepted.{AcceptedPlan, IsAccepted}
 use Rattle.word_archive.specs.History.{HasOne, IsClosed, IsHistory, IsUnused, entry}
 use Rattle.word_archive.specs.Rule.{AreWordsOf, serial_word, shown}
 use Rattle.word_archive.specs.Serials.{IsPublishedBelow, drawn, made_by, once_below, times}
-use Rattle.word_archive.proofs.KnownPublished.{words_published}
+use Rattle.word_archive.proofs.KnownPublished.{all_below, words_published}
 use Rattle.word_archive.proofs.Lists.{some_length}
 use Rattle.word_archive.proofs.Moves.{lane_shown}
+use Rattle.word_archive.proofs.SerialsDrawn.{less_at}
 
 -- a serial that was drawn stands in the record of some lane
 times_found : (x : ℕ) (xs : List ℕ) → 1 ≤ times x xs → (j : ℕ) × (slice_get xs j ≡ Some x)
@@ -35,6 +36,7 @@ times_found x (y ∷ ys) le =
           (suc r.0, r.1)
     ]
 
+-- that was drawn at all
 drawn_found : (x : ℕ) (rs : List Record) → 1 ≤ drawn x rs
     → (l : ℕ) × (r : Record) × (slice_get rs l ≡ Some r) × (j : ℕ)
     × (slice_get r.serials j ≡ Some x)
@@ -49,6 +51,7 @@ drawn_found x (r ∷ rs) le =
           (suc t.0, t.1, t.2, t.3, t.4)
     ]
 
+-- a number below n counts once
 once_one : (x n : ℕ) → x < n → once_below x n ≡ 1
 once_one x n lt = grind (arith, nat_tests)
 
@@ -98,6 +101,7 @@ module _ (a : AcceptedPlan) (accepted : IsAccepted a) (words : List ℕ) (record
       (λ m. contains (recorded u (lane a.plan m) (world_lane (shown a words records) m)) v) h.lane
       (omega (arith, some_length records h.lane o.told o.there, st.lanes)) mine)
 
+  -- what the words have is initial or stands in the history
   has_words : (v : Variant) → has_bit (shown a words records).words v ≡ true
       → (initial a.universe v ≡ true) ⊎ HasOne history (λ h. h.variant ≡ v)
   has_words v there =
@@ -106,6 +110,7 @@ module _ (a : AcceptedPlan) (accepted : IsAccepted a) (words : List ℕ) (record
         | inr p ↦ let g = in_history v _ p in inr (g.0, g.1, g.2, g.3.0)
       ]
 
+  -- they have the initial archive
   has_initial : (v : Variant) → initial a.universe v ≡ true
       → has_bit (shown a words records).words v ≡ true
   has_initial v start =
@@ -143,6 +148,7 @@ module _ (a : AcceptedPlan) (accepted : IsAccepted a) (words : List ℕ) (record
             )
       ]
 
+  -- so all is told that IsClosed says
   pub is_closed : IsClosed a words records stopped history
   is_closed = record {
     stands = st;
@@ -154,6 +160,10 @@ module _ (a : AcceptedPlan) (accepted : IsAccepted a) (words : List ℕ) (record
     above = λ k i h o v here of known new.
         in_history v h.serial
         (st.serials.above h.lane i o.place h.serial o.told v o.there o.drawn_as of known new);
+    below = λ k h here.
+        let o = told.each k h here in
+        less_at (serial_word a words) o.told.serials o.place h.serial
+        (all_below a accepted words records stopped st h.lane o.told o.there) o.drawn_as;
     missing = used_or_last;
     halts = λ l r here saw. st.halts.set.0 (st.halts.sights l r here saw);
   }

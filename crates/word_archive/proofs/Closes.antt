@@ -14,6 +14,7 @@ abbrev pub numbered : ℕ → List Record → List (ℕ × Record)
 numbered n [] = []
 numbered n (r ∷ rs) = (n, r) ∷ numbered (suc n) rs
 
+-- the records that stand in the view are those of the lanes
 pub known : (owner : ℕ → ℕ) (all : List Record) (id n : ℕ) (rs : List Record)
     → Entries owner all id (numbered n rs) → (k : ℕ) → k < length rs
     → slice_get all (n + k) ≡ slice_get rs k
@@ -24,6 +25,7 @@ known owner all id n (r ∷ rs) h (suc k) lt =
     let e : n + suc k ≡ suc n + k = omega arith in
     ap (slice_get all) e ∙ known owner all id (suc n) rs h.1 k (omega arith)
 
+-- lists that are alike at each place are one
 same_list : (xs ys : List Record) → length xs ≡ length ys
     → ((k : ℕ) → k < length ys → slice_get xs k ≡ slice_get ys k) → xs ≡ ys
 same_list [] [] e h = refl
@@ -61,6 +63,7 @@ closes_as S p q id next stopped records words slots v is same long f =
     ∙ ap (λ x. length x.plan) same) (subst
     (λ (u : SeatView). Final (Seen (Kept {S = S} p) id u) words slots) is f))
 
+-- the first words and one more
 pub take_elem : (xs : List ℕ) (n x : ℕ) → get_elem? xs n ≡ some x
     → take (n + 1) xs ≡ take n xs ++ x ∷ []
 take_elem [] n x e = absurd (some-ne-none x (sym e))

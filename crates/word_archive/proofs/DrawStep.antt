@@ -46,6 +46,7 @@ draws_one a slots id l r v accepted few next room s h homes at small =
       ),
     )
 
+-- the same, where the seat and the word are known by equations
 pub draws_as : {S : Type 0} (a : AcceptedPlan) (slots id l n : ℕ) (r : Record) (v : Variant)
     (me : Me S SeatView) → IsAccepted a → SerialsFit a
     → next_output a.universe a.plan l r.at ≡ Some v

@@ -38,6 +38,7 @@ module _ (a : AcceptedPlan) (accepted : IsAccepted a) (words : List ℕ) (record
   abbrev place : ℕ
   place = (ready_in a.universe a.plan l r.at).done
 
+  -- the world has the lane where its record says
   abbrev at_is : world_lane w l ≡ r.at
   at_is = stands_at a accepted words records stopped st l r here
 
@@ -46,9 +47,11 @@ module _ (a : AcceptedPlan) (accepted : IsAccepted a) (words : List ℕ) (record
       (ready_in a.universe a.plan l r.at) (next_of a.universe a.plan l r.at))
   given = given_next a accepted words records stopped st l r here v next
 
+  -- as many serials were drawn as outputs made
   made_is : made_by a l (world_lane w l) ≡ length r.serials
   made_is = ap (λ (x : LaneState). made_by a l x) at_is ∙ sym room
 
+  -- so the lane has an output without a serial
   has_room : length r.serials < length (lane_outputs a.universe (lane a.plan l))
   has_room =
       omega (
@@ -64,12 +67,14 @@ module _ (a : AcceptedPlan) (accepted : IsAccepted a) (words : List ℕ) (record
       subst (λ (y : LaneState × ℕ). IsOutputOf a.universe (lane a.plan l) y.0.done y.1)
       (λ i. (ready a.universe (lane a.plan l) (at_is i), made_is i)) given.there
 
+  -- the words with one more serial drawn
   abbrev pub drawn_words : List ℕ
   drawn_words = set words (names a.universe) (serial_word a words + 1)
 
   abbrev r' : Record
   r' = after_draw (serial_word a words) r
 
+  -- no lane has too many serials then
   few_after : AreFew a.universe (set records l r') a.plan
   few_after =
       few_set a.universe records a.plan l r'
@@ -84,6 +89,7 @@ module _ (a : AcceptedPlan) (accepted : IsAccepted a) (words : List ℕ) (record
       let count = st.serials.count in
       mod-eq_of_lt (omega arith)
 
+  -- the serials drawn are those below the serial word then
   serials_after : IsSerials a (serial_word a words + 1) (set records l r')
   serials_after =
       let found = serial_word a words in

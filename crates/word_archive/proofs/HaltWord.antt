@@ -48,6 +48,7 @@ halts_stay word records stopped l r r' h here halted saw = record {
         (l, r, here, sym halted ∙ (ap (λ (y : Record). y.halted) (sym same) ∙ t.3))
     was t (inr apart) = (t.0, t.1, sym (get_set_other records l t.0 r' apart) ∙ t.2, t.3)
 
+-- a record whose lane stays where it is shows the same world
 pub same_world : (a : AcceptedPlan) (words : List ℕ) (records : List Record) (l : ℕ)
     (r r' : Record)
     → slice_get records l ≡ Some r → r'.at ≡ r.at
@@ -61,10 +62,12 @@ same_world a words records l r r' here at h =
     ∙ set_same (map (λ (q : Record). q.at) records) l r.at
     (get_map (λ (q : Record). q.at) records l r here)))) h
 
+-- a lane that was told before or now has seen the word set
 pub saw_true : (b : Bool) (n : ℕ) → (b || not (eqb n 0)) ≡ true → (b ≡ true → n ≢ 0) → n ≢ 0
 saw_true true n e h = h refl
 saw_true false n e h = λ z. absurd (both_ways (eqb n 0) (not-true (eqb n 0) e) (eq-eqb n 0 z))
 
+-- a word with bit 0 set is not 0
 or_one : (x : ℕ) → bit_or x 1 ≢ 0
 or_one x z =
     let m = bit_at_or x 1 0 in
@@ -77,22 +80,27 @@ or_one x z =
 -- the words with the halt word set, and what they keep of records that change in no other way
 module _ (a : AcceptedPlan) (words : List ℕ) (records : List Record) (stopped : Bool)
     (st : AreWordsOf a words records stopped) where
+  -- the halt word before
   abbrev pub found : ℕ
   found = slice_index words (names a.universe + 1)
 
+  -- the words with the halt word set
   abbrev pub words_after : List ℕ
   words_after = set words (names a.universe + 1) (bit_or found 1)
 
+  -- it is set then
   pub is_set : halt_word a words_after ≢ 0
   is_set z =
       or_one found (sym (index_set words (names a.universe + 1) (bit_or found 1)
       (omega (arith, st.long))) ∙ z)
 
+  -- the other words are as they were
   pub other_words : (n : ℕ) → n < names a.universe + 1
       → slice_index words_after n ≡ slice_index words n
   other_words n lt =
       index_set_other words (names a.universe + 1) n (bit_or found 1) (λ e. omega arith)
 
+  -- so the world shown is the same
   pub reached_after : (rs : List Record) → IsReached a.universe a.plan (shown a words rs)
       → IsReached a.universe a.plan (shown a words_after rs)
   reached_after rs h =

@@ -100,6 +100,7 @@ halts_one a slots id l r accepted s h homes at small =
       ),
     )
 
+-- the same look, where the seat and the word are known by equations
 pub looks_as : {S : Type 0} (a : AcceptedPlan) (slots id l n : ℕ) (r : Record)
     (me : Me S SeatView)
     → IsAccepted a → n ≡ names a.universe + 1 → me ≡ (lane_view a l r, [])
@@ -111,6 +112,7 @@ looks_as {S} a slots id l n r me accepted at is =
     (Looked (step slots m.1 0 0 none) m.0)) (λ i. (sym is i, sym at i))
     (looks a slots id l r accepted)
 
+-- and the same halt
 pub halts_as : {S : Type 0} (a : AcceptedPlan) (slots id l n : ℕ) (r : Record)
     (me : Me S SeatView)
     → IsAccepted a → n ≡ names a.universe + 1 → me ≡ (lane_view a l r, [])

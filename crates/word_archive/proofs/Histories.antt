@@ -19,6 +19,7 @@ use Rattle.word_archive.proofs.Published.{in_all, in_has, in_sum}
 use Rattle.word_archive.proofs.Records.{record_holds}
 use Rattle.word_archive.proofs.SerialSums.{at_most_one, drawn_front, is_under, one_if, output_at, same_under, two_in}
 
+-- a list of what the lanes have published, by serial, is the history of the records
 pub history_is : (a : AcceptedPlan) → IsAccepted a → (words : List ℕ) (records : List Record)
     (stopped : Bool) → AreWordsOf a words records stopped → (all : List (Option Record))
     → all ≡ map (λ r. Some r) records → (history : List Publication)

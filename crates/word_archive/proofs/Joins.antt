@@ -1,6 +1,6 @@
 -- The base seat takes another in.
-use Rattle.std.proofs.Common.{Bool, List, Some, [], ap, cond, eqb, false, inl, inr, length, refl, set, slice_get, subst, sym, true, true≢false, ℕ, ⊎_elim, ◌++◌, ◌<◌, ◌∙◌, ◌∷◌, ◌≡◌, ◌≢◌, ◌≤◌, ◌⊎◌}
-use Rattle.std.proofs.lemmas.Bool.{cases_lt, eq-eqb, ne_eqb}
+use Rattle.std.proofs.Common.{Bool, List, Some, [], ap, cond, eqb, inl, inr, length, refl, set, slice_get, subst, sym, ℕ, ⊎_elim, ◌++◌, ◌<◌, ◌∙◌, ◌∷◌, ◌≡◌, ◌≢◌, ◌≤◌, ◌⊎◌}
+use Rattle.std.proofs.lemmas.Bool.{cases_lt, eq-eqb, ne_eqb, false≢true}
 use mathlib.Core.Option.{some}
 use lib.ListN.{get_elem?}
 use Rattle.atomic_table.proofs.Lists.{at_set}
@@ -12,20 +12,20 @@ use Rattle.word_archive.specs.Rule.{AllBelow, Entries, Fits, Kept}
 use Rattle.word_archive.specs.Views.{SeatView, base_view, joined, spent}
 use Rattle.word_archive.proofs.Lists.{some_length}
 
-off : false ≡ true → ⊥
-off e = true≢false (sym e)
-
 -- who has the lanes of a seat once they went to another
 abbrev taken_over : (ℕ → ℕ) → ℕ → ℕ → ℕ → ℕ
 taken_over owner other id k = cond (eqb (owner k) other) id (owner k)
 
+-- a lane of the other seat went over
 over_here : (owner : ℕ → ℕ) (other id k : ℕ) → owner k ≡ other → taken_over owner other id k ≡ id
 over_here owner other id k e = ap (λ b. cond b id (owner k)) (eq-eqb (owner k) other e)
 
+-- and no other lane did
 over_else : (owner : ℕ → ℕ) (other id k : ℕ) → owner k ≢ other
     → taken_over owner other id k ≡ owner k
 over_else owner other id k n = ap (λ b. cond b id (owner k)) (ne_eqb (owner k) other n)
 
+-- the records of a third view stay its own
 entries_stay : (owner : ℕ → ℕ) (records : List Record) (j other id : ℕ) (es : List (ℕ × Record))
     → j ≢ other → Entries owner records j es → Entries (taken_over owner other id) records j es
 entries_stay owner records j other id [] n h = tt
@@ -34,24 +34,27 @@ entries_stay owner records j other id (e ∷ es) n h = (
   entries_stay owner records j other id es n h.1,
 )
 
+-- those of the other seat are the taker's
 entries_over : (owner : ℕ → ℕ) (records : List Record) (other id : ℕ) (es : List (ℕ × Record))
     → Entries owner records other es → Entries (taken_over owner other id) records id es
 entries_over owner records other id [] h = tt
 entries_over owner records other id (e ∷ es) h =
     ((over_here owner other id e.0 h.0.0, h.0.1), entries_over owner records other id es h.1)
 
+-- two lists of records of one view
 entries_both : (owner : ℕ → ℕ) (records : List Record) (id : ℕ) (es fs : List (ℕ × Record))
     → Entries owner records id es → Entries owner records id fs
     → Entries owner records id (es ++ fs)
 entries_both owner records id [] fs h k = k
 entries_both owner records id (e ∷ es) fs h k = (h.0, entries_both owner records id es fs h.1 k)
 
+-- two lists of lanes below n
 below_both : (n : ℕ) (es fs : List (ℕ × Record)) → AllBelow n es → AllBelow n fs
     → AllBelow n (es ++ fs)
 below_both n [] fs h k = k
 below_both n (e ∷ es) fs h k = (h.0, below_both n es fs h.1 k)
 
--- another seat's lanes were split off the base seat
+-- another seat's lanes were split false≢true the base seat
 all_split : (owner : ℕ → ℕ) (records : List Record) (n id other : ℕ) (es : List (ℕ × Record))
     → other ≢ id → ((l : ℕ) → n ≤ l → l < length records → owner l ≡ id)
     → Entries owner records other es → AllBelow n es
@@ -86,7 +89,7 @@ joins p id next stopped mine other w s h at apart there =
           (λ (t : (j ≡ other) × (spent ≡ u)). subst
           (λ (y : ℕ × SeatView). Fits p (taken_over h.owner other id) h.records h.stopped y.0
           y.1) (λ i. (sym t.0 i, t.1 i)) (record
-          { entries = tt; spare = λ b. absurd (off b); first = λ b. absurd (off b) }))
+          { entries = tt; spare = λ b. absurd (false≢true b); first = λ b. absurd (false≢true b) }))
           (λ (t : (j ≢ other) × (get_elem? (set s.views id both) j ≡ some u)). ⊎_elim
           (λ (q : (j ≡ id) × (both ≡ u)). subst
           (λ (y : ℕ × SeatView). Fits p (taken_over h.owner other id) h.records h.stopped y.0
@@ -133,6 +136,7 @@ joins p id next stopped mine other w s h at apart there =
       first = f.first;
     }
 
+-- the same, where the base seat's view is known by an equation
 pub joins_as : {S : Type 0} (p : AcceptedPlan) (id next : ℕ) (stopped : Bool)
     (mine : List (ℕ × Record)) (other : ℕ) (v w : SeatView) → v ≡ base_view p next stopped mine
     → Joins {S = S} {V = SeatView} (Kept p) id v other w (joined v w) spent

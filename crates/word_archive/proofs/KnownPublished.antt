@@ -25,6 +25,7 @@ use Rattle.word_archive.proofs.Moves.{lane_shown}
 use Rattle.word_archive.proofs.Records.{annotated}
 use Rattle.word_archive.proofs.SerialsDrawn.{all_less, found_at, less_at, times_drawn}
 
+-- what is read past the last record
 no_record : Record
 no_record = record { at = no_state; serials = []; loaded = []; halted = false; saw = false }
 

@@ -39,6 +39,7 @@ module _ (a : AcceptedPlan) (accepted : IsAccepted a) (words : List ℕ) (record
   pub in_plan : l < length a.plan
   in_plan = omega (arith, some_length records l r here, st.lanes)
 
+  -- the world has the lane where its record says
   pub stands_at : world_lane w l ≡ r.at
   stands_at = lane_shown a words records l r here
 
@@ -48,6 +49,7 @@ module _ (a : AcceptedPlan) (accepted : IsAccepted a) (words : List ℕ) (record
       moved_by a.universe (lane a.plan l) n found x (ready a.universe (lane a.plan l) x)
       (instruction_at a.plan l (ready a.universe (lane a.plan l) x).done)
 
+  -- a load leaves the lane in a world that is reached
   left : (n : ℕ) → n < names a.universe
       → LoadReaches a.universe a.plan w l (goes_to n (slice_index words n) r.at)
   left n lt =
@@ -143,6 +145,7 @@ loads a slots id l n r accepted lt s h homes at small =
       ),
     )
 
+-- the same, where the seat is known by an equation
 pub loads_as : {S : Type 0} (a : AcceptedPlan) (slots id l n : ℕ) (r : Record)
     (me : Me S SeatView)
     → IsAccepted a → n < names a.universe → me ≡ (lane_view a l r, [])

@@ -1,6 +1,6 @@
 -- One lane's record changes, in its seat's view.
-use Rattle.std.proofs.Common.{List, Some, [], ap, arith, false, inl, inr, length-set, set, slice_get, subst, suc, sym, true, true≢false, zero, ℕ, ⊎_elim, ◌∙◌, ◌∷◌, ◌≡◌, ◌≢◌, ◌⊎◌}
-use Rattle.std.proofs.lemmas.Bool.{cases_eq}
+use Rattle.std.proofs.Common.{List, Some, [], ap, arith, inl, inr, length-set, set, slice_get, subst, suc, sym, zero, ℕ, ⊎_elim, ◌∙◌, ◌∷◌, ◌≡◌, ◌≢◌, ◌⊎◌}
+use Rattle.std.proofs.lemmas.Bool.{cases_eq, false≢true}
 use Rattle.std.proofs.lemmas.Option.{same_Some}
 use mathlib.Core.Option.{some}
 use lib.ListN.{get_elem?}
@@ -12,6 +12,7 @@ use Rattle.word_archive.specs.Rule.{AreWordsOf, Entries, Fits, Keeps, shown}
 use Rattle.word_archive.specs.Views.{SeatView, lane_view}
 use Rattle.word_archive.proofs.Lists.{get_set, get_set_other}
 
+-- the records of a view that does not have the lane
 entries_kept : (owner : ℕ → ℕ) (records : List Record) (id l : ℕ) (r : Record)
     (es : List (ℕ × Record)) → owner l ≢ id → Entries owner records id es
     → Entries owner (set records l r) id es
@@ -21,9 +22,6 @@ entries_kept owner records id l r (e ∷ es) n h =
       (h.0.0, get_set_other records l e.0 r apart ∙ h.0.1),
       entries_kept owner records id l r es n h.1,
     )
-
-off : false ≡ true → ⊥
-off e = true≢false (sym e)
 
 -- one lane's record changes, in its seat's view
 pub lane_moves : (p : AcceptedPlan) (words words' : List ℕ) (views : List SeatView) (id l : ℕ)
@@ -46,8 +44,8 @@ lane_moves p words words' views id l r r' h at stands =
           (set h.records l r') h.stopped y.0 y.1) (λ i. (sym t.0 i, t.1 i))
           (record {
             entries = ((owned, get_set h.records l r r' here), tt);
-            spare = λ b. absurd (off b);
-            first = λ b. absurd (off b);
+            spare = λ b. absurd (false≢true b);
+            first = λ b. absurd (false≢true b);
           }))
           (λ (t : (j ≢ id) × (get_elem? views j ≡ some v)). other j v t.0 (h.fits j v t.1) owned)
           (at_set views id j w v e);

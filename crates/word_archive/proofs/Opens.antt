@@ -1,5 +1,6 @@
 -- The archive at its beginning.
-use Rattle.std.proofs.Common.{List, Some, [], ap, arith, false, get_or, length, length-append, map, refl, slice_get, subst, suc, sym, take, true, true≢false, zero, ℕ, ⊎_elim, ◌++◌, ◌+◌, ◌<◌, ◌∙◌, ◌∷◌, ◌≡◌, ◌≤◌}
+use Rattle.std.proofs.lemmas.Bool.{false≢true}
+use Rattle.std.proofs.Common.{List, Some, [], ap, arith, false, get_or, length, length-append, map, refl, slice_get, subst, suc, sym, take, true, zero, ℕ, ⊎_elim, ◌++◌, ◌+◌, ◌<◌, ◌∙◌, ◌∷◌, ◌≡◌, ◌≤◌}
 use Rattle.std.proofs.lemmas.Bool.Decides.{nat_tests}
 use Rattle.std.proofs.lemmas.List.{length-map}
 use Rattle.std.specs.Int.{bit_at}
@@ -20,42 +21,46 @@ use Rattle.word_archive.specs.Rule.{Fits, HasHalted, Keeps, Kept}
 use Rattle.word_archive.specs.Serials.{AreFew, drawn, draws, made_by, once_below}
 use Rattle.word_archive.specs.Views.{SeatView, base_view}
 
-off : false ≡ true → ⊥
-off e = true≢false (sym e)
-
 -- at the start each lane's record is blank
 abbrev blanks : Universe → Plan → List Record
 blanks u ofs = map (blank u) ofs
 
+-- each lane has a blank record
 blank_at : (u : Universe) (ofs : Plan) (l : ℕ) → l < length ofs
     → slice_get (blanks u ofs) l ≡ Some (blank u (slice_index_or ofs l no_lane))
 blank_at u [] l h = absurd (omega arith)
 blank_at u (c ∷ cs) zero h = refl
 blank_at u (c ∷ cs) (suc l) h = blank_at u cs l (omega arith)
 
+-- and no other
 is_blank : (u : Universe) (ofs : Plan) (l : ℕ) (r : Record) → slice_get (blanks u ofs) l ≡ Some r
     → blank u (slice_index_or ofs l no_lane) ≡ r
 is_blank u [] l r e = absurd (cc)
 is_blank u (c ∷ cs) zero r e = cc
 is_blank u (c ∷ cs) (suc l) r e = is_blank u cs l r e
 
+-- no serial was drawn
 none_drawn : (u : Universe) (ofs : Plan) (x : ℕ) → drawn x (blanks u ofs) ≡ 0
 none_drawn u [] x = refl
 none_drawn u (c ∷ cs) x = let r = none_drawn u cs x in omega arith
 
+-- none at all
 no_draws : (u : Universe) (ofs : Plan) → draws (blanks u ofs) ≡ 0
 no_draws u [] = refl
 no_draws u (c ∷ cs) = let r = no_draws u cs in omega arith
 
+-- so none has too many
 few_blanks : (u : Universe) (ofs : Plan) → AreFew u (blanks u ofs) ofs
 few_blanks u [] = tt
 few_blanks u (c ∷ cs) = (omega arith, few_blanks u cs)
 
+-- a word of the first list
 front_index : (xs ys : List ℕ) (n : ℕ) → n < length xs → get_or (xs ++ ys) n 0 ≡ get_or xs n 0
 front_index [] ys n h = absurd (omega arith)
 front_index (x ∷ xs) ys zero h = refl
 front_index (x ∷ xs) ys (suc n) h = front_index xs ys n (omega arith)
 
+-- the two words behind it
 tail_index : (xs : List ℕ) (a b : ℕ) → (get_or (xs ++ a ∷ b ∷ []) (length xs) 0 ≡ a)
     × (get_or (xs ++ a ∷ b ∷ []) (length xs + 1) 0 ≡ b)
 tail_index [] a b = (refl, refl)
@@ -64,15 +69,18 @@ tail_index (x ∷ xs) a b =
     let e : suc (length xs) + 1 ≡ suc (length xs + 1) = omega arith in
     (r.0, ap (λ n. get_or (x ∷ xs ++ a ∷ b ∷ []) n 0) e ∙ r.1)
 
+-- the first list itself
 take_front : (xs ys : List ℕ) → take (length xs) (xs ++ ys) ≡ xs
 take_front [] ys = refl
 take_front (x ∷ xs) ys = ap (λ l. x ∷ l) (take_front xs ys)
 
+-- blank records stand at the lanes' beginnings
 begun : (u : Universe) (ofs : Plan)
     → map (λ (r : Record). r.at) (blanks u ofs) ≡ map (start_lane u) ofs
 begun u [] = refl
 begun u (c ∷ cs) = ap (λ l. start_lane u c ∷ l) (begun u cs)
 
+-- no number is below 0
 once_zero : (x : ℕ) → once_below x 0 ≡ 0
 once_zero x = grind (arith, nat_tests)
 
@@ -82,6 +90,7 @@ pub long_initial : (a : AcceptedPlan) → IsSound a.universe a.plan
 unfolding names
 long_initial a sound = sound.universe.words
 
+-- the rule holds of the initial words
 pub opens : (S : Type 0) (a : AcceptedPlan) (words : List ℕ) → IsSound a.universe a.plan
     → words ≡ a.universe.initial ++ 0 ∷ 0 ∷ []
     → Kept {S = S} a (opening words [] (base_view a 0 false []))
@@ -113,12 +122,13 @@ opens S a words sound is =
         halts = record {
           set = (
             (λ ne. absurd (ne at_halt)),
-            (λ s. ⊎_elim (λ (t : false ≡ true). absurd (off t))
+            (λ s. ⊎_elim (λ (t : false ≡ true). absurd (false≢true t))
                 (λ (t : HasHalted (blanks u a.plan)). absurd
-                (off (ap (λ (q : Record). q.halted) (is_blank u a.plan t.0 t.1 t.2) ∙ t.3))) s),
+                (false≢true (ap (λ (q : Record). q.halted) (is_blank u a.plan t.0 t.1 t.2)
+                ∙ t.3))) s),
           );
           sights = λ l r e saw. absurd
-              (off (ap (λ (q : Record). q.saw) (is_blank u a.plan l r e) ∙ saw));
+              (false≢true (ap (λ (q : Record). q.saw) (is_blank u a.plan l r e) ∙ saw));
         };
         reached = subst (λ (y : List ℕ × List LaneState). IsReached u a.plan
             (record { words = y.0; lanes = y.1 }))

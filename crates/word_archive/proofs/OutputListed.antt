@@ -15,9 +15,11 @@ use Rattle.word_archive.proofs.Lists.{get_some}
 
 module _ {S : Type 0} (me : Me S SeatView) (l : ℕ) (outs : List Variant) (serials : List ℕ)
     (room made : ℕ) (seat : IsSeat me l outs serials room made) where
+  -- the plan that the seat is about
   abbrev a : AcceptedPlan
   a = me.0.about
 
+  -- its lane's record
   abbrev r : Record
   r = record_in me.0
 

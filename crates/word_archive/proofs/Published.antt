@@ -13,6 +13,7 @@ use Rattle.word_archive.specs.Serials.{drawn, made_by}
 use Rattle.word_archive.proofs.Lists.{get_map, there_is}
 use Rattle.word_archive.proofs.SerialSums.{by_sum, drawn_take, is_under, output_at, times_front}
 
+-- what holds of each output of a lane holds of its list
 by_all : (P : Publication → Type 0) (l : ℕ) (outs : List Variant) (serials : List ℕ) (m : ℕ)
     → ((i : ℕ) → i < m → P (output_at l outs serials i))
     → All P (first_published l outs serials m)
@@ -21,6 +22,7 @@ by_all P l outs serials (suc m) h =
     All-push P (first_published l outs serials m) (output_at l outs serials m)
     (by_all P l outs serials m (λ i lt. h i (omega arith))) (h m (omega arith))
 
+-- the list has each output that was made
 by_has : (l : ℕ) (outs : List Variant) (serials : List ℕ) (m i : ℕ) → i < m
     → Contains (first_published l outs serials m) (output_at l outs serials i)
 by_has l outs serials zero i lt = absurd (omega arith)
@@ -38,18 +40,23 @@ by_has l outs serials (suc m) i lt =
 module _ (a : AcceptedPlan) (records : List Record)
     (fits : (l : ℕ) (r : Record) → slice_get records l ≡ Some r
     → made_by a l r.at ≤ length r.serials) where
+  -- the records, as those of seats that are in
   abbrev logs : List (Option Record)
   logs = map (λ r. Some r) records
 
+  -- what a lane publishes
   abbrev outs : ℕ → List Variant
   outs l = lane_outputs a.universe (lane a.plan l)
 
+  -- one of its outputs, as a publication
   abbrev item : ℕ → Record → ℕ → Publication
   item l r i = output_at l (outs l) r.serials i
 
+  -- the record of a lane whose seat is in
   log_is : (l : ℕ) (r : Record) → slice_get records l ≡ Some r → slice_get logs l ≡ Some (Some r)
   log_is l r e = get_map (λ r. Some r) records l r e
 
+  -- a serial stands in the list at most as often as it was drawn
   pub in_sum : (x n : ℕ) → n ≤ length records
       → sum_by (is_under x) (lanes_published a logs n) ≤ drawn x (take n records)
   in_sum x zero le = omega arith
@@ -65,6 +72,7 @@ module _ (a : AcceptedPlan) (records : List Record)
       let d = drawn_take x records n r at.1 in
       omega arith
 
+  -- what holds of each output of each lane holds of the list
   pub in_all : (P : Publication → Type 0) (n : ℕ) → n ≤ length records
       → ((l i : ℕ) (r : Record) → slice_get records l ≡ Some r → i < made_by a l r.at
       → P (item l r i))
@@ -78,6 +86,7 @@ module _ (a : AcceptedPlan) (records : List Record)
       (subst (λ o. All P (lane_published a n o)) (sym (log_is n r at.1))
       (by_all P n (outs n) r.serials (made_by a n r.at) (λ i lt. h n i r at.1 lt)))
 
+  -- the list has each output that some lane has made
   pub in_has : (n l i : ℕ) (r : Record) → l < n → slice_get records l ≡ Some r
       → i < made_by a l r.at
       → Contains (lanes_published a logs n) (item l r i)

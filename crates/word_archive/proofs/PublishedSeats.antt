@@ -14,6 +14,7 @@ seat_there : (items : List (Option LaneSeatOf)) (k : ℕ) (o : Option LaneSeatOf
     → o ≡ get_or items k o → slice_get items k ≡ Some o
 seat_there items k o lt e = get_some items k o lt ∙ ap (λ (x : Option LaneSeatOf). Some x) (sym e)
 
+-- it is its place's
 pub seat_is : (t : TableId) (a : AcceptedPlan) (items : List (Option LaneSeatOf)) (k : ℕ)
     (o : Option LaneSeatOf) (q : LaneSeatOf) → SeatsInPlace t a 0 items → k < length items
     → o ≡ get_or items k o → o ≡ Some q → q ≡ seat_of t a k q.log
@@ -23,6 +24,7 @@ seat_is t a items k o q h lt e is =
     (seat_there items k o lt e ∙ ap (λ (x : Option LaneSeatOf). Some x) is)
     ∙ ap (λ l. seat_of t a l q.log) z
 
+-- one lane more, whose seat is in
 pub more_published : (t : TableId) (a : AcceptedPlan) (items : List (Option LaneSeatOf)) (k : ℕ)
     (o : Option LaneSeatOf) (q : LaneSeatOf) (old new : List Publication)
     → SeatsInPlace t a 0 items
@@ -42,6 +44,7 @@ more_published t a items k o q old new h lt e is was more =
     ∙ (ap (λ x. lanes_published a all k ++ lane_published a k x) (sym log)
     ∙ ap (lanes_published a all) z))
 
+-- one lane more, whose seat is out
 pub none_published : (a : AcceptedPlan) (items : List (Option LaneSeatOf)) (k : ℕ)
     (o : Option LaneSeatOf) (old : List Publication) → k < length items
     → o ≡ get_or items k o → o ≡ None → old ≡ lanes_published a (map log_of items) k

@@ -38,17 +38,21 @@ module _ (a : AcceptedPlan) (accepted : IsAccepted a) (words : List ℕ) (record
   abbrev w : World
   w = shown a words records
 
+  -- the lane is one of the plan
   abbrev inside : l < length a.plan
   inside = in_plan a accepted words records stopped st l r here
 
+  -- the lane behind its next output
   abbrev behind : LaneState → LaneState
   behind x = behind_output a.universe (lane a.plan l) (ready a.universe (lane a.plan l) x)
       (instruction_at a.plan l (ready a.universe (lane a.plan l) x).done)
 
+  -- the output that comes next
   abbrev comes : LaneState → Option Variant
   comes x = output_of a.universe (ready a.universe (lane a.plan l) x).made
       (instruction_at a.plan l (ready a.universe (lane a.plan l) x).done)
 
+  -- the world has the lane where its record says
   abbrev at_is : world_lane w l ≡ r.at
   at_is = stands_at a accepted words records stopped st l r here
 
@@ -64,6 +68,7 @@ module _ (a : AcceptedPlan) (accepted : IsAccepted a) (words : List ℕ) (record
       ≡ suc (made_by a l r.at)
   made_rises = given_next.made ∙ ap (λ x. suc (made_by a l x)) at_is
 
+  -- the output has a known name
   pub named : v.name < names a.universe
   named = variants_name a.universe v.name v.bit given_next.known
 
@@ -175,6 +180,7 @@ publishes {S} a slots id l k r v accepted next drawn power s h homes at small =
       ),
     )
 
+-- the same, where the seat and the word are known by equations
 pub publishes_as : {S : Type 0} (a : AcceptedPlan) (slots id l n k : ℕ) (r : Record) (v : Variant)
     (me : Me S SeatView) → IsAccepted a → next_output a.universe a.plan l r.at ≡ Some v
     → length r.serials ≡ suc (made_by a l r.at) → k ≡ 2 ^ v.bit → n ≡ v.name

@@ -24,6 +24,7 @@ seat_holds {S} me a l r outs serials room made e h o s c n =
 
 module _ {S : Type 0} (me : Me S SeatView) (l : ℕ) (outs : List Variant) (serials : List ℕ)
     (room made : ℕ) (seat : IsSeat me l outs serials room made) where
+  -- the view is that of the seat's lane
   pub is_lane : lane_in me.0 ≡ l
   is_lane = ap (λ m. lane_in m.0) seat.0
 

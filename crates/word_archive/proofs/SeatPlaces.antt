@@ -8,6 +8,7 @@ use Rattle.plan_verifier.specs.Accepted.{AcceptedPlan}
 use Rattle.word_archive.specs.Seats.{LaneSeatOf, LaneSeatsOf, SeatsInPlace, log_of, seat_of}
 use Rattle.word_archive.proofs.Lists.{get_map, map_set, set_same}
 
+-- a seat that comes back to its place
 pub in_place_put : (t : TableId) (p : AcceptedPlan) (n : ℕ) (xs : List (Option LaneSeatOf))
     (k : ℕ) (q : LaneSeatOf) → q ≡ seat_of t p (n + k) q.log → SeatsInPlace t p n xs
     → SeatsInPlace t p n (set xs k (Some q))
@@ -23,6 +24,7 @@ in_place_put t p n (Some x ∷ xs) (suc k) q e h =
     let z : n + suc k ≡ suc n + k = omega arith in
     (h.0, in_place_put t p (suc n) xs k q (e ∙ ap (λ l. seat_of t p l q.log) z) h.1)
 
+-- a seat that is taken
 pub in_place_out : (t : TableId) (p : AcceptedPlan) (n : ℕ) (xs : List (Option LaneSeatOf))
     (k : ℕ) → SeatsInPlace t p n xs → SeatsInPlace t p n (set xs k None)
 in_place_out t p n [] k h = tt
@@ -31,6 +33,7 @@ in_place_out t p n (Some x ∷ xs) zero h = h.1
 in_place_out t p n (None ∷ xs) (suc k) h = in_place_out t p (suc n) xs k h
 in_place_out t p n (Some x ∷ xs) (suc k) h = (h.0, in_place_out t p (suc n) xs k h.1)
 
+-- a seat that is in is its place's
 pub in_place_at : (t : TableId) (p : AcceptedPlan) (n : ℕ) (xs : List (Option LaneSeatOf))
     (k : ℕ) (q : LaneSeatOf) → SeatsInPlace t p n xs → slice_get xs k ≡ Some (Some q)
     → q ≡ seat_of t p (n + k) q.log
@@ -46,6 +49,7 @@ in_place_at t p n (Some x ∷ xs) (suc k) q h e =
     let z : suc n + k ≡ n + suc k = omega arith in
     in_place_at t p (suc n) xs k q h.1 e ∙ ap (λ l. seat_of t p l q.log) z
 
+-- one lane's seat more
 pub in_place_more : (t : TableId) (p : AcceptedPlan) (n : ℕ) (xs : List (Option LaneSeatOf))
     (q : LaneSeatOf) → q ≡ seat_of t p (n + length xs) q.log → SeatsInPlace t p n xs
     → SeatsInPlace t p n (xs ++ Some q ∷ [])
@@ -58,15 +62,18 @@ in_place_more t p n (Some x ∷ xs) q e h =
     let z : n + suc (length xs) ≡ suc n + length xs = omega arith in
     (h.0, in_place_more t p (suc n) xs q (e ∙ ap (λ l. seat_of t p l q.log) z) h.1)
 
+-- the seat at one place, alone
 pub in_place_one : (t : TableId) (p : AcceptedPlan) (n : ℕ) (xs : List (Option LaneSeatOf))
     (k : ℕ) (o : Option LaneSeatOf) → SeatsInPlace t p n xs → slice_get xs k ≡ Some o
     → SeatsInPlace t p (n + k) (o ∷ [])
 in_place_one t p n xs k None h e = tt
 in_place_one t p n xs k (Some q) h e = (in_place_at t p n xs k q h e, tt)
 
+-- all seats, as callers see them
 abbrev pub seats_of : TableId → AcceptedPlan → Bool → List (Option Record) → LaneSeatsOf
 seats_of t p stopped logs = record { table = t; about = p; stopped = stopped; logs = logs }
 
+-- the seat that is taken, and those that stay
 pub took : (t : TableId) (p : AcceptedPlan) (stopped : Bool) (items : List (Option LaneSeatOf))
     (lane : ℕ) (o new : Option LaneSeatOf) → SeatsInPlace t p 0 items
     → slice_get items lane ≡ Some o → new ≡ None
@@ -83,6 +90,7 @@ took t p stopped items lane (Some q) new h e out =
           ∙ map_set log_of items lane None),
     )
 
+-- where a seat is out, nothing changes
 pub none_there : (t : TableId) (p : AcceptedPlan) (stopped : Bool)
     (items : List (Option LaneSeatOf)) (lane : ℕ) (o new : Option LaneSeatOf)
     → slice_get items lane ≡ Some o → new ≡ None → IsNone o
@@ -96,6 +104,7 @@ none_there t p stopped items lane None new e out is = (
   get_map log_of items lane None e,
 )
 
+-- the seats with one that came back
 pub gave : (t : TableId) (p : AcceptedPlan) (stopped : Bool) (items : List (Option LaneSeatOf))
     (lane : ℕ) (q : LaneSeatOf)
     → seats_of t p stopped (map log_of (set items lane (Some q)))

@@ -14,6 +14,7 @@ sum_front : (n : ℕ) (f : ℕ → ℕ) → sum_below (suc n) f ≡ f 0 + sum_be
 sum_front zero f = omega arith
 sum_front (suc n) f = let h = sum_front n f in omega arith
 
+-- all outputs, as a sum over the lanes
 outputs_below : (u : Universe) (p : Plan)
     → all_outputs u p ≡ sum_below (length p) (λ l. length
     (lane_outputs u (slice_index_or p l no_lane)))
@@ -24,9 +25,11 @@ outputs_below u (of ∷ ofs) =
     let h = outputs_below u ofs in
     omega arith
 
+-- these are the outputs of the plan
 all_in : (u : Universe) (p : Plan) → all_outputs u p ≡ outputs_in u p
 unfolding outputs_in
 all_in u p = outputs_below u p
 
+-- a plan has no more outputs than events, which fit
 pub is_small : (a : AcceptedPlan) → count a.universe a.plan < 2 ^ 64 → SerialsFit a
 is_small a lt = omega (arith, lt, all_in a.universe a.plan, outputs-counted a.universe a.plan)

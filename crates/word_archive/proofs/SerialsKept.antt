@@ -13,6 +13,7 @@ use Rattle.word_archive.specs.Serials.{AreFew, IsPublishedBelow, IsSerials, all_
 use Rattle.word_archive.proofs.Lists.{get_set, get_set_other}
 use Rattle.word_archive.proofs.Moves.{changed, same_record}
 
+-- how often x is drawn once a lane's record has changed
 pub drawn_set : (x : ℕ) (rs : List Record) (l : ℕ) (r r' : Record) → slice_get rs l ≡ Some r
     → drawn x (set rs l r') + times x r.serials ≡ drawn x rs + times x r'.serials
 drawn_set x [] l r r' e = absurd (cc)
@@ -20,6 +21,7 @@ drawn_set x (q ∷ rs) zero r r' e =
     let s : q ≡ r = cc in let t = ap (λ (y : Record). times x y.serials) s in omega arith
 drawn_set x (q ∷ rs) (suc l) r r' e = let d = drawn_set x rs l r r' e in omega arith
 
+-- how many are drawn then
 pub draws_set : (rs : List Record) (l : ℕ) (r r' : Record) → slice_get rs l ≡ Some r
     → draws (set rs l r') + length r.serials ≡ draws rs + length r'.serials
 draws_set [] l r r' e = absurd (cc)
@@ -27,6 +29,7 @@ draws_set (q ∷ rs) zero r r' e =
     let s : q ≡ r = cc in let t = ap (λ (y : Record). length y.serials) s in omega arith
 draws_set (q ∷ rs) (suc l) r r' e = let d = draws_set rs l r r' e in omega arith
 
+-- no lane has too many serials
 pub few_at : (u : Universe) (rs : List Record) (ofs : Plan) (l : ℕ) (r : Record)
     → slice_get rs l ≡ Some r → AreFew u rs ofs
     → length r.serials ≤ length (lane_outputs u (slice_index_or ofs l no_lane))
@@ -39,6 +42,7 @@ few_at u (q ∷ rs) (c ∷ cs) zero r e h =
     omega arith
 few_at u (q ∷ rs) (c ∷ cs) (suc l) r e h = few_at u rs cs l r e h.1
 
+-- nor one whose record has changed
 pub few_set : (u : Universe) (rs : List Record) (ofs : Plan) (l : ℕ) (r : Record)
     → length r.serials ≤ length (lane_outputs u (slice_index_or ofs l no_lane)) → AreFew u rs ofs
     → AreFew u (set rs l r) ofs
@@ -47,6 +51,7 @@ few_set u (q ∷ rs) [] l r le h = absurd h
 few_set u (q ∷ rs) (c ∷ cs) zero r le h = (le, h.1)
 few_set u (q ∷ rs) (c ∷ cs) (suc l) r le h = (h.0, few_set u rs cs l r le h.1)
 
+-- all have at most as many as there are outputs
 pub draws_few : (u : Universe) (rs : List Record) (ofs : Plan) → AreFew u rs ofs
     → draws rs ≤ all_outputs u ofs
 draws_few u [] ofs h = omega arith

@@ -19,11 +19,13 @@ pub record SplitOff (t : TableId) (p : AcceptedPlan) (n : ℕ)
   pub long : length items ≡ n
   pub logs : map log_of items ≡ map (blank_log p.universe) (take n p.plan)
 
+-- at first no lane has
 pub split_none : (t : TableId) (p : AcceptedPlan) (items : List (Option LaneSeatOf)) → items ≡ []
     → SplitOff t p 0 items
 split_none t p items e =
     subst (SplitOff t p 0) (sym e) (record { places = tt; long = refl; logs = refl })
 
+-- the first lanes and one more
 take_more : (xs : Plan) (n : ℕ) → n < length xs
     → take (n + 1) xs ≡ take n xs ++ slice_index_or xs n no_lane ∷ []
 take_more [] n lt = absurd (omega arith)
@@ -32,11 +34,13 @@ take_more (x ∷ xs) (suc n) lt =
     let e : suc n + 1 ≡ suc (n + 1) = omega arith in
     ap (λ m. take m (x ∷ xs)) e ∙ ap (λ l. x ∷ l) (take_more xs n (omega arith))
 
+-- a map over one element more
 map_more : {A B : Type 0} (f : A → B) (xs : List A) (y : A)
     → map f (xs ++ y ∷ []) ≡ map f xs ++ f y ∷ []
 map_more f [] y = refl
 map_more f (x ∷ xs) y = ap (λ l. f x ∷ l) (map_more f xs y)
 
+-- one lane more has its seat
 pub split_more : (t : TableId) (p : AcceptedPlan) (n : ℕ) (items more : List (Option LaneSeatOf))
     (q : LaneSeatOf) → n < length p.plan → q ≡ seat_of t p n (blank p.universe (lane p.plan n))
     → more ≡ items ++ Some q ∷ []
@@ -57,10 +61,12 @@ split_more t p n items more q lt e is s =
     } in
     subst (SplitOff t p (n + 1)) (sym is) all
 
+-- all lanes
 take_whole : (xs : Plan) → take (length xs) xs ≡ xs
 take_whole [] = refl
 take_whole (x ∷ xs) = ap (λ l. x ∷ l) (take_whole xs)
 
+-- once all have, the seats keep what they keep
 pub seats_fit : {S : Type 0} (t u : TableId) (p : AcceptedPlan) (n : ℕ) (me : Me S SeatView)
     (items : List (Option LaneSeatOf)) → me ≡ (base_view p n false [], []) → n ≡ length p.plan
     → u ≡ t → SplitOff t p n items
@@ -74,6 +80,7 @@ seats_fit {S} t u p n me items is all same s =
       s.long ∙ all,
     )
 
+-- and are those of an archive that was opened
 pub seats_shown : {S : Type 0} (t u : TableId) (p : AcceptedPlan) (n : ℕ) (me : Me S SeatView)
     (items : List (Option LaneSeatOf)) → me ≡ (base_view p n false [], []) → n ≡ length p.plan
     → u ≡ t → SplitOff t p n items

@@ -1,6 +1,6 @@
--- The next lane's seat is split off the base seat.
-use Rattle.std.proofs.Common.{Bool, List, Some, [], ap, arith, cond, eqb, false, inl, inr, length, refl, set, slice_get, subst, suc, sym, true, true≢false, zero, ℕ, ⊎_elim, ◌++◌, ◌<◌, ◌∙◌, ◌∷◌, ◌≡◌, ◌≢◌, ◌≤◌, ◌⊎◌}
-use Rattle.std.proofs.lemmas.Bool.{eq-eqb, ne_eqb}
+-- The next lane's seat is split false≢true the base seat.
+use Rattle.std.proofs.Common.{Bool, List, Some, [], ap, arith, cond, eqb, inl, inr, length, refl, set, slice_get, subst, suc, sym, zero, ℕ, ⊎_elim, ◌++◌, ◌<◌, ◌∙◌, ◌∷◌, ◌≡◌, ◌≢◌, ◌≤◌, ◌⊎◌}
+use Rattle.std.proofs.lemmas.Bool.{eq-eqb, ne_eqb, false≢true}
 use mathlib.Core.Option.{some, some-injective, some-ne-none}
 use lib.ListN.{get_elem?}
 use Rattle.atomic_table.proofs.Lists.{at_set}
@@ -11,19 +11,19 @@ use Rattle.plan_verifier.specs.Accepted.{AcceptedPlan}
 use Rattle.word_archive.specs.Rule.{AllBelow, Entries, Fits, Kept}
 use Rattle.word_archive.specs.Views.{SeatView, base_view, split_left, split_right}
 
-off : false ≡ true → ⊥
-off e = true≢false (sym e)
-
 -- who has a lane once it went to another seat
 abbrev given : (ℕ → ℕ) → ℕ → ℕ → ℕ → ℕ
 given owner l id k = cond (eqb k l) id (owner k)
 
+-- the lane itself went over
 given_here : (owner : ℕ → ℕ) (l id : ℕ) → given owner l id l ≡ id
 given_here owner l id = ap (λ b. cond b id (owner l)) (eq-eqb l l refl)
 
+-- and no other lane did
 given_else : (owner : ℕ → ℕ) (l id k : ℕ) → k ≢ l → given owner l id k ≡ owner k
 given_else owner l id k n = ap (λ b. cond b id (owner k)) (ne_eqb k l n)
 
+-- the records of another view stay its own
 entries_given : (owner : ℕ → ℕ) (records : List Record) (j l id : ℕ) (es : List (ℕ × Record))
     → ((k : ℕ) (r : Record) → owner k ≡ j → k ≢ l) → Entries owner records j es
     → Entries (given owner l id) records j es
@@ -33,6 +33,7 @@ entries_given owner records j l id (e ∷ es) n h = (
   entries_given owner records j l id es n h.1,
 )
 
+-- so do those of the lanes before it
 entries_below : (owner : ℕ → ℕ) (records : List Record) (j l id : ℕ) (es : List (ℕ × Record))
     → AllBelow l es → Entries owner records j es → Entries (given owner l id) records j es
 entries_below owner records j l id [] b h = tt
@@ -42,11 +43,12 @@ entries_below owner records j l id (e ∷ es) b h =
       entries_below owner records j l id es b.1 h.1,
     )
 
+-- lanes below n are below the next number
 below_more : (n : ℕ) (es : List (ℕ × Record)) → AllBelow n es → AllBelow (suc n) es
 below_more n [] h = tt
 below_more n (e ∷ es) h = let lt = h.0 in (omega arith, below_more n es h.1)
 
--- the next lane's seat is split off the base seat
+-- the next lane's seat is split false≢true the base seat
 pub splits : {S : Type 0} (p : AcceptedPlan) (id next : ℕ) (stopped : Bool)
     (mine : List (ℕ × Record)) → next < length p.plan
     → Splits {S = S} {V = SeatView} (Kept p) id (base_view p next stopped mine)
@@ -76,8 +78,8 @@ splits p id next stopped mine lt s h at =
           (λ i. (sym t.0 i, t.1 i))
           (record {
             entries = ((given_here h.owner next new, own.1), tt);
-            spare = λ b. absurd (off b);
-            first = λ b. absurd (off b);
+            spare = λ b. absurd (false≢true b);
+            first = λ b. absurd (false≢true b);
           }))
           (at_end (set s.views id (split_left v)) (split_right v) u j e);
     }
@@ -128,6 +130,7 @@ splits p id next stopped mine lt s h at =
         ⊎_elim (λ t. inl t) (λ (t : (j ≡ length vs) × (a ≡ u)). inr (ap suc t.0, t.1))
         (at_end vs a u j e)
 
+-- the same, where the base seat's view is known by an equation
 pub splits_as : {S : Type 0} (p : AcceptedPlan) (id next : ℕ) (stopped : Bool)
     (mine : List (ℕ × Record)) (v : SeatView) → next < length p.plan
     → v ≡ base_view p next stopped mine

@@ -1,5 +1,5 @@
 -- A halt by the base seat.
-use Rattle.std.proofs.Common.{Bool, List, [], ap, arith, bit_or, false, inl, length-set, refl, set, subst, sym, true, true≢false, ℕ, ⊎_elim, ◌+◌, ◌∙◌, ◌≡◌, ◌≢◌}
+use Rattle.std.proofs.Common.{Bool, List, [], ap, arith, bit_or, inl, length-set, refl, set, subst, sym, true, ℕ, ⊎_elim, ◌+◌, ◌∙◌, ◌≡◌, ◌≢◌}
 use Rattle.std.specs.Int.{bit_at}
 use mathlib.Core.Option.{none, some}
 use lib.ListN.{get_elem?}
@@ -13,9 +13,6 @@ use Rattle.word_archive.specs.Serials.{IsSerials}
 use Rattle.word_archive.specs.Steps.{Stopped}
 use Rattle.word_archive.specs.Views.{SeatView, base_view}
 use Rattle.word_archive.proofs.HaltWord.{is_set, other_words, reached_after, words_after}
-
-off : false ≡ true → ⊥
-off e = true≢false (sym e)
 
 -- the halt word set by the base seat
 pub stops_one : {S : Type 0} (a : AcceptedPlan) (slots id next : ℕ) (stopped : Bool)
@@ -73,6 +70,7 @@ stops_one a slots id next stopped mine s h homes at small =
       first = f.first;
     }
 
+-- the same, where the seat and the word are known by equations
 pub stops_as : {S : Type 0} (a : AcceptedPlan) (slots id next n : ℕ) (stopped : Bool)
     (mine : List (ℕ × Record)) (me : Me S SeatView) → n ≡ names a.universe + 1
     → me ≡ (base_view a next stopped mine, [])

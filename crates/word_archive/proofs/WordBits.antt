@@ -15,6 +15,7 @@ set_bits (x ∷ xs) (suc i) v k one = set_bits xs i v k one
 pub or_grows : (a b : ℕ) → IsWithinBits a (bit_or a b)
 or_grows a b k one = let m = bit_at_or a b k in let x = bit_at-lt b k in omega arith
 
+-- a word within another stays so where both get the same bits
 pub or_both : (a b c : ℕ) → IsWithinBits a b → IsWithinBits (bit_or a c) (bit_or b c)
 or_both a b c h k one =
     let m = bit_at_or a c k in

@@ -92,7 +92,10 @@ pub record IsClosed (a : AcceptedPlan) (words : List ℕ) (records : List Record
       → slice_get history k ≡ Some h → IsOutputOf a.universe (lane a.plan h.lane) i o.place
       → known_rows a h.lane i v ≡ true → initial a.universe v ≡ false
       → HasOne history (λ g. (g.variant ≡ v) × (g.serial < h.serial))
-  -- below the serial word a serial is missing only where a lane has drawn it and not used it;
+  -- each serial is below the serial word, and below it one is missing only where a lane has drawn
+  -- it and not used it;
+  pub below : (k : ℕ) (h : Publication) → slice_get history k ≡ Some h
+      → h.serial < serial_word a words
   pub missing : (x : ℕ) → x < serial_word a words
       → HasOne history (λ h. h.serial ≡ x) ⊎ IsUnused a records x
   -- and a lane was told of a halt only where some seat has halted.

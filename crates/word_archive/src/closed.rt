@@ -67,7 +67,11 @@ impl LaneSeat {
 
 impl SharedArchive<'_> {
     /// Closes the archive, with the seats that are in. Where all are in, the words and the history
-    /// are those of the records that were given back.
+    /// are those of the records that were given back; where one is out, nothing is told of them.
+    ///
+    /// # Errors
+    ///
+    /// Where memory is refused. The archive and the seats are gone.
     pub fn close(self, alloc: Global, seats: LaneSeats) -> Result<Closed, AllocError>
         requires table { seats.table ≡ self.table.shared.table_id }
         requires about { seats.about ≡ self.accepted.now }

@@ -61,6 +61,10 @@ fn outputs_of(alloc: Global, universe: &Universe, lane: &Lane) -> Result<Vec<Var
 impl<'a> SharedArchive<'a> {
     /// Opens the archive of a plan, with a seat for each lane. No other call but `close` takes
     /// memory.
+    ///
+    /// # Errors
+    ///
+    /// Where memory is refused. Nothing is left behind.
     pub fn open(
         alloc: Global,
         accepted: &'a Accepted,
