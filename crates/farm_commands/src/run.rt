@@ -72,12 +72,8 @@ fn tell<E: Sink>(fault: OutsideFault<'_>, errors: &mut E) -> u8
 {
     let _written = match fault {
         OutsideFault::CannotRead(name) => {
-            let pieces = [
-                b"portfarm: cannot read ".as_slice(),
-                name.as_bytes(),
-                b"\n".as_slice(),
-            ];
-            write_pieces(errors, &pieces)
+            let head: &[u8] = b"portfarm: cannot read ";
+            write_pieces(errors, &[head, name.as_bytes(), b"\n"])
         }
         OutsideFault::OutOfMemory => write_text(errors, b"portfarm: out of memory\n"),
         OutsideFault::WriteFailed => write_text(errors, b"portfarm: write failed\n"),
