@@ -6,6 +6,7 @@ mod bell;
 mod causes;
 mod judged;
 mod lanes;
+mod link;
 mod scope;
 
 pub use base::Base;
@@ -13,4 +14,5 @@ pub use bell::Bell;
 pub use causes::{NOT_STARTED, cause};
 pub use judged::Judged;
 pub use lanes::{EndOf, LaneEnd, LaneJob, Started};
+pub use link::Link;
 pub use scope::in_scope;
