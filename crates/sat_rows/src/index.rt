@@ -16,9 +16,6 @@ use item_index::ItemIndex;
 use std::alloc::{AllocError, Global};
 use std::marker::Model;
 
-/// How many lists there are for each name of a universe, so that few have items of several names.
-const LISTS: usize = 8;
-
 /// A field of relations.
 pub trait Field {
     ghost field: { Package → Relations };
@@ -78,7 +75,19 @@ fn add_name<F: Field>(
     Ok(())
 }
 
-/// Lists a field of each variant of a universe.
+/// How many entries a field has in all variants of a universe.
+fn entries<F: Field>(universe: &Universe, field: &F) -> usize {
+    let mut count = 0usize;
+    for name in 0..universe.names() {
+        for bit in 0..variant_count(universe, name) {
+            let relations = field.of(universe, Variant { name, bit });
+            count = count.saturating_add(relations.entries().len());
+        }
+    }
+    count
+}
+
+/// Lists a field of each variant of a universe, by as many lists as there are entries.
 ///
 /// # Errors
 ///
@@ -90,7 +99,7 @@ pub fn naming<F: Field>(
 ) -> Result<ItemIndex<Variant>, AllocError>
     ensures { IfOk result (IsNaming universe.now F.field) }
 {
-    let mut index = ItemIndex::new(alloc, universe.names() as usize * LISTS)?;
+    let mut index = ItemIndex::new(alloc, entries(universe, field))?;
     for name in 0..universe.names() {
         add_name(&mut index, universe, field, name)?;
     }
