@@ -1,0 +1,284 @@
+#!/usr/bin/env python3
+"""Answers the case files of crates/*_cases/data by the model, and tells where an answer is not the wanted one.
+
+  model/cases.py [FILE..]     all files of farm_cases, core_cases, cert_cases and command_cases where none is named
+
+The form of a case file is said in crates/farm_cases/data/README and in the README beside each file.
+"""
+
+import re
+import sys
+from pathlib import Path
+
+import certificates
+from core import TRAPS, Farm, step
+from plans import read_plan
+from portfarm import FILES, answer, cut_input, read_schedule
+from relations import NEED, read_field
+from texts import Fault
+from universe import read_universe
+
+CRATES = Path(__file__).resolve().parent.parent / "crates"
+# What these ask for is the parser's own text, or how an output fails: no rule of a farm.
+NOT_OF_FARMS = ("failing", "heads", "mute", "narrow", "stuck")
+
+
+class Case:
+    def __init__(self, name):
+        self.name, self.input, self.question, self.wanted = name, "", "", ""
+
+
+def unescaped(line, number=0):
+    """What a line of a case file stands for."""
+    found, rest = "", line
+    while rest:
+        if rest == "\\":
+            return found
+        if rest.startswith("\\x"):
+            found, rest = found + chr(int(rest[2:4], 16)), rest[4:]
+        elif rest[0] == "\\":
+            found += {"n": "\n", "t": "\t", "r": "\r", "#": str(number)}.get(rest[1], rest[1])
+            rest = rest[2:]
+        else:
+            found, rest = found + rest[0], rest[1:]
+    return found + "\n"
+
+
+def text_of_line(line, givens):
+    if line.startswith("\\^"):
+        return givens[line[2:]]
+    if line.startswith("\\*"):
+        count, _, repeated = line[2:].partition(" ")
+        return "".join(unescaped(repeated, number) for number in range(1, int(count) + 1))
+    return unescaped(line)
+
+
+def read_cases(text):
+    """The cases of a file."""
+    found, givens, part, case = [], {}, None, None
+    for line in text.split("\n")[:-1]:
+        if line.startswith("=== ") or line.startswith("+++ "):
+            part, case = line[:3], Case(line[4:])
+            if part == "===":
+                found.append(case)
+        elif part in ("===", "+++") and (line == "---" or line.startswith("--- ")):
+            if part == "+++":
+                givens[case.name], part = case.input, None
+            else:
+                case.question, part = line[4:], "answer"
+        elif part in ("===", "+++"):
+            case.input += text_of_line(line, givens)
+        elif part == "answer" and line and not line.startswith("#"):
+            case.wanted += text_of_line(line, givens)
+    return found
+
+
+def printable(text):
+    """A text as Rust's `escape_ascii` has it."""
+    special = {"\t": "\\t", "\n": "\\n", "\r": "\\r", "'": "\\'", '"': '\\"', "\\": "\\\\"}
+    return "".join(special.get(it) or (it if " " <= it <= "~" else f"\\x{ord(it):02x}") for it in text)
+
+
+def entry_text(entry):
+    return " | ".join(str(alternative) for alternative in entry)
+
+
+def universe_lines(universe):
+    written = []
+    for name, variants in universe.variants.items():
+        written.append(f"package {name}")
+        for variant in variants:
+            archived = " archived" if variant in universe.archive else ""
+            line = f"  {variant.version.text}{archived} size {variant.size}"
+            for field in ("Pre-Depends", "Depends", "Conflicts", "Breaks", "Provides"):
+                line += "".join(f", {field.lower()} {entry_text(entry)}" for entry in variant.relations[field])
+            written.append(line)
+    for base in universe.chroots.values():
+        written.append(f"chroot {base.name} capacity {base.capacity} packages {len(base.packages)}")
+    return [*written, f"architecture names {len(universe.architectures)}"]
+
+
+def plan_lines(universe, plan):
+    recipes = list(universe.recipes.values())
+    events = sum(len(it.recipe.outputs) if it.verb == "publish" else 1 for lane in plan for it in lane.instructions)
+    written = [f"count {events}"]
+    for lane in plan:
+        written.append(f"lane {printable(lane.name)} chroot {lane.chroot.name} budget {lane.budget}")
+        for it in lane.instructions:
+            written.append(f"  {it.verb} {recipes.index(it.recipe)}" if it.recipe else f"  {it}")
+    return written
+
+
+def passing(universe, field, test):
+    try:
+        entries = read_field(field, NEED)
+    except Fault:
+        return ["no field"]
+    found = [(variant, it) for entry in entries for it in entry for variant in universe.all_variants()]
+    return [f"{variant.name} {variant.version.text}" for variant, it in found if test(variant, it)]
+
+
+def turns(universe, plan, schedule):
+    """What each turn comes to, and then what each lane holds and had configured last."""
+    farm, written = Farm(universe, plan), []
+    for number in schedule:
+        if number >= len(plan):
+            written.append("unknown")
+        elif farm.lanes[number].next() is None:
+            written.append("finished")
+        elif farm.is_blocked(farm.lanes[number]):
+            written.append("blocked")
+        else:
+            trap = farm.turn(farm.lanes[number])
+            written.append(f"{trap} {TRAPS[trap]}" if trap else "moved")
+    written.append("not finished" if any(standing.next() for standing in farm.lanes) else "all finished")
+    for standing in farm.lanes:
+        written.append(f"lane {printable(standing.lane.name)}")
+        for name in universe.variants:
+            if name in standing.slots:
+                slot = standing.slots[name]
+                last = slot.last.version.text if slot.last else "none"
+                written.append(f"  {name} {slot.variant.version.text}, last {last}")
+    return written
+
+
+def on_farm(texts, question):
+    """Answers a question of farm_cases, or None where the model has no answer to its kind."""
+    word, _, rest = question.partition(" ")
+    if word == "":
+        return answer("check", texts)[0]
+    if word == "texts":
+        return [f'{file} "{printable(texts[file])}"' for file in FILES]
+    if word == "traps":
+        return [f"{trap} {text}" for trap, text in TRAPS.items()]
+    if word == "accepted" and answer("check", texts)[1]:
+        return []
+    try:
+        universe = read_universe(texts)
+        if word in ("plan", "listing", "accepted"):
+            plan = read_plan(universe, texts["plan"])
+    except Fault as fault:
+        return [f"code {fault.code} at line {fault.line} of file {FILES.index(fault.file) + 1}"]
+    return {
+        "universe": lambda: universe_lines(universe),
+        "plan": lambda: plan_lines(universe, plan),
+        "accepted": lambda: universe_lines(universe) + plan_lines(universe, plan),
+        "listing": lambda: answer("list", texts)[0],
+        "find": lambda: [str(list(universe.variants).index(rest)) if rest in universe.variants else "none"],
+        "satisfies": lambda: passing(universe, rest, lambda variant, it: variant.is_one(it)),
+        "wanted": lambda: passing(universe, rest, lambda variant, it: it.in_relation(variant.version)),
+    }.get(word, lambda: None)()
+
+
+def on_schedule(texts, question):
+    word, _, rest = question.partition(" ")
+    try:
+        universe = read_universe(texts)
+        plan = read_plan(universe, texts["plan"])
+    except Fault as fault:
+        return [f"refused {fault.code} {fault.file} line {fault.line}"]
+    schedule = read_schedule(rest)
+    return step(universe, plan, schedule)[0] if word == "step" else turns(universe, plan, schedule)
+
+
+def replaced(universe, plan, text, byte):
+    """What the checker answers to a certificate with each byte in turn replaced."""
+    found = []
+    for place in range(len(text)):
+        line = certificates.check(universe, plan, text[:place] + chr(byte) + text[place + 1 :])[0]
+        if found and found[-1][2] == line:
+            found[-1][1] = place + 1
+        else:
+            found.append([place + 1, place + 1, line])
+    return [f"{first} to {last}: {line}" for first, last, line in found]
+
+
+def on_certificate(texts, text, question):
+    word, _, rest = question.partition(" ")
+    try:
+        universe = read_universe(texts)
+        plan = read_plan(universe, texts["plan"])
+    except Fault as fault:
+        return [f"refused {fault.code} {fault.file} line {fault.line}"]
+    if word == "":
+        return [certificates.check(universe, plan, text)[0]]
+    if word == "replaced":
+        return replaced(universe, plan, text, int(rest))
+    try:
+        listed, order = certificates.read(universe, plan, text)
+    except Fault as fault:
+        return [f"refused 451 line {fault.line}"]
+    written = certificates.certificate(universe, plan, certificates.rows_of(universe, plan, listed), order)
+    return written if word == "print" else [f"{sum(len(line) + 1 for line in written)} bytes"]
+
+
+def on_words(machine, question):
+    """Answers `run WORDS`, where the words name files that are there; else None."""
+    word, *words = question.split(" ")
+    files, broken, current = {"": ""}, [], ""
+    for line in re.findall("[^\n]*\n|[^\n]+", machine):
+        if line.startswith("%% "):
+            current = line[3:].removesuffix("\n").removeprefix("broken ").removeprefix("file ").removeprefix("input")
+            broken += [current] if line.startswith("%% broken") else []
+            files[current] = ""
+        else:
+            files[current] += line
+    words = [it for it in words if it]
+    schedule = words.pop(2) if words[:2] == ["step", "--schedule"] and len(words) > 2 else None
+    paths = [it for it in words[1:] if it != "--schedule"]
+    wanted = {"check": 4, "list": 4, "cert": 4, "verify-cert": 5, "step": 4}.get(words[0] if words else "")
+    if word != "run" or broken or not all(path in files for path in paths) or words and len(paths) != wanted:
+        return None
+    if not words:
+        written, status = answer("check", cut_input(files[""]))
+    else:
+        more = files[paths[4]] if words[0] == "verify-cert" else None
+        if words[0] == "step":
+            more = read_schedule("" if schedule in (None, '""') else schedule)
+            if schedule is None or more is None:
+                return None
+        written, status = answer(words[0], dict(zip(FILES, (files[path] for path in paths))), more)
+    return [f"status {status}", *(f"| {line}" for line in written)]
+
+
+def cut_certificate(text):
+    """The four texts, and the certificate behind one more line of `%%`."""
+    texts = cut_input(text)
+    plan, _, certificate = texts["plan"].partition("\n%%\n")
+    if texts["plan"].startswith("%%\n"):
+        plan, certificate = "", texts["plan"][3:]
+    texts["plan"] = plan + "\n" if plan else plan
+    return texts, certificate
+
+
+def answer_case(crate, case):
+    if case.question.split(" ")[0] in NOT_OF_FARMS or case.question == "message":
+        return None
+    if crate == "command_cases":
+        return on_words(case.input, case.question)
+    if crate == "cert_cases":
+        return on_certificate(*cut_certificate(case.input), case.question)
+    texts = cut_input(case.input)
+    return on_schedule(texts, case.question) if crate == "core_cases" else on_farm(texts, case.question)
+
+
+def main(names):
+    crates = ("farm_cases", "core_cases", "cert_cases", "command_cases")
+    files = [Path(name) for name in names] or [it for crate in crates for it in sorted(CRATES.glob(f"{crate}/data/*.cases"))]
+    same = passed_over = other = 0
+    for file in files:
+        for case in read_cases(file.read_bytes().decode("latin-1")):
+            found = answer_case(file.resolve().parent.parent.name, case)
+            if found is None:
+                passed_over += 1
+                continue
+            text = "".join(f"{line}\n" for line in found)
+            same, other = same + (text == case.wanted), other + (text != case.wanted)
+            if text != case.wanted:
+                print(f"{file.name} {case.name}: wanted\n{case.wanted}the model says\n{text}")
+    print(f"{same} as the model says, {other} not, {passed_over} not asked of the model")
+    return 1 if other else 0
+
+
+if __name__ == "__main__":
+    sys.exit(main(sys.argv[1:]))

@@ -1,0 +1,252 @@
+"""The packages, sources and farm texts: FORMATS, sections 6 to 10. What satisfies what: RULES, section 1."""
+
+from functools import cmp_to_key
+
+from relations import BUILD_CLASH, BUILD_NEED, CLASH, NEED, PROVIDE, read_field, reduce_field
+from texts import Fault, is_name, number, paragraphs, words
+from versions import Version
+
+NAMES, ENTRIES, VARIANTS, SOURCES, RECIPES, CHROOTS = 4_096, 65_536, 64, 4_096, 1_024, 64
+LARGEST = 4_294_967_295
+RELATIONS = [("Pre-Depends", NEED), ("Depends", NEED), ("Conflicts", CLASH), ("Breaks", CLASH), ("Provides", PROVIDE)]
+BUILD_RELATIONS = [
+    (field + mode, kind)
+    for field, kind in (("Build-Depends", BUILD_NEED), ("Build-Conflicts", BUILD_CLASH))
+    for mode in ("", "-Arch", "-Indep")
+]
+MODES = {"full": ("", "-Arch", "-Indep"), "arch": ("", "-Arch"), "indep": ("", "-Indep")}
+
+
+class Variant:
+    """A package name with a version. `relations` maps each of the five fields to its entries."""
+
+    def __init__(self, name, version, size, relations):
+        self.name, self.version, self.size, self.relations = name, version, size, relations
+
+    def provides(self, alternative):
+        items = (item for [item] in self.relations["Provides"] if item.name == alternative.name)
+        items = [item for item in items if item.qualifier is None]
+        if alternative.operator is None:
+            return bool(items)
+        return any(item.operator is not None and alternative.in_relation(item.version) for item in items)
+
+    def satisfies(self, entry):
+        """Whether the variant satisfies one of the entry's alternatives."""
+        return any(self.is_one(alternative) for alternative in entry)
+
+    def is_one(self, alternative):
+        if alternative.qualifier is not None:
+            return False
+        return self.name == alternative.name and alternative.in_relation(self.version) or self.provides(alternative)
+
+    def needs(self):
+        return self.relations["Pre-Depends"] + self.relations["Depends"]
+
+    def breaks(self, other):
+        return self.name != other.name and any(other.satisfies(entry) for entry in self.relations["Breaks"])
+
+    def conflicts(self, other):
+        pairs = ((self, other), (other, self))
+        if self.name == other.name:
+            return False
+        return any(that.satisfies(entry) for this, that in pairs for entry in this.relations["Conflicts"])
+
+
+class Recipe:
+    def __init__(self, name, steps, scratch, needs, clashes, outputs):
+        self.name, self.steps, self.scratch = name, steps, scratch
+        self.needs, self.clashes, self.outputs = needs, clashes, outputs
+
+
+class Chroot:
+    def __init__(self, name, capacity, packages):
+        self.name, self.capacity, self.packages = name, capacity, packages
+
+
+class Universe:
+    """What the packages, sources and farm texts stand for. `variants` maps a name to its variants, lowest first."""
+
+    def __init__(self):
+        self.variants, self.sources, self.recipes, self.chroots = {}, {}, {}, {}
+        self.architectures, self.archive, self.entries = [], [], 0
+        self.build_entries, self.published = 0, set()
+
+    def all_variants(self):
+        return [variant for name in self.variants for variant in self.variants[name]]
+
+    def find(self, name, version):
+        return next((it for it in self.variants.get(name, []) if it.version.compare(version) == 0), None)
+
+
+def read_universe(texts):
+    """The universe of three texts, or the first fault."""
+    universe = Universe()
+    for read, file in ((read_package, "packages"), (read_source, "sources"), (read_farm, "farm")):
+        found = paragraphs(texts[file], file)
+        if file == "farm" and not found:
+            raise Fault(201, 0, file)
+        for place, paragraph in enumerate(found):
+            try:
+                read(universe, paragraph, place)
+            except Fault as fault:
+                raise Fault(fault.code, paragraph.line, file) from None
+    return universe
+
+
+def required(paragraph, field):
+    value = paragraph.get(field)
+    if value is None:
+        raise Fault(201)
+    return value
+
+
+def read_name(text):
+    if not is_name(text):
+        raise Fault(121)
+    return text
+
+
+def read_number(text, most):
+    value = number(text, most)
+    if value is None:
+        raise Fault(202)
+    return value
+
+
+def read_relations(paragraph, fields):
+    return {field: read_field(paragraph.get(field) or "", kind) for field, kind in fields}
+
+
+def read_package(universe, paragraph, _place):
+    name = read_name(required(paragraph, "Package"))
+    version = Version(required(paragraph, "Version"))
+    size = paragraph.get("Installed-Size")
+    size = read_number("0" if size is None else size, LARGEST)
+    relations = read_relations(paragraph, RELATIONS)
+    if universe.find(name, version):
+        raise Fault(203)
+    same = universe.variants.setdefault(name, [])
+    same.append(Variant(name, version, size, relations))
+    same.sort(key=cmp_to_key(lambda one, other: one.version.compare(other.version)))
+    if len(same) > VARIANTS:
+        raise Fault(204)
+    universe.entries += sum(map(len, relations.values()))
+    if len(universe.variants) > NAMES or universe.entries > ENTRIES:
+        raise Fault(210)
+
+
+def read_source(universe, paragraph, _place):
+    name = paragraph.get("Package")
+    name = read_name(required(paragraph, "Source") if name is None else name)
+    version = Version(required(paragraph, "Version"))
+    relations = read_relations(paragraph, BUILD_RELATIONS)
+    same = universe.sources.setdefault(name, [])
+    if any(version.compare(other) == 0 for other, _ in same):
+        raise Fault(203)
+    same.append((version, relations))
+    if sum(map(len, universe.sources.values())) > SOURCES:
+        raise Fault(210)
+
+
+def read_variants(universe, value):
+    """A list of variants: the relation faults of the whole, then 205 and 203 item by item."""
+    found = []
+    for [item] in read_field(value, PROVIDE):
+        variant = item.version and universe.find(item.name, item.version)
+        if variant is None or item.qualifier is not None:
+            raise Fault(205)
+        if variant in found:
+            raise Fault(203)
+        found.append(variant)
+    return found
+
+
+def read_farm(universe, paragraph, place):
+    if place == 0:
+        read_head(universe, paragraph)
+    elif paragraph.get("Recipe") is not None:
+        read_recipe(universe, paragraph)
+    else:
+        read_chroot(universe, paragraph)
+
+
+def read_head(universe, paragraph):
+    universe.architectures = words(required(paragraph, "Architecture-Names"), 131)
+    for variant in universe.all_variants():
+        for field, entries in variant.relations.items():
+            variant.relations[field] = reduce_field(entries, universe.architectures)
+    universe.archive = read_variants(universe, paragraph.get("Archive") or "")
+
+
+def read_source_item(universe, paragraph):
+    """The build relations of a recipe's source."""
+    items = read_field(required(paragraph, "Source"), PROVIDE)
+    if len(items) != 1 or items[0][0].version is None or items[0][0].qualifier is not None:
+        raise Fault(206)
+    [[item]] = items
+    for version, relations in universe.sources.get(item.name, []):
+        if version.compare(item.version) == 0:
+            return relations
+    raise Fault(206)
+
+
+def read_outputs(universe, paragraph):
+    value = paragraph.get("Outputs")
+    if value is None or not read_field(value, PROVIDE):
+        raise Fault(208)
+    outputs = read_variants(universe, value)
+    if any(variant in universe.published or variant in universe.archive for variant in outputs):
+        raise Fault(207)
+    universe.published |= set(outputs)
+    return outputs
+
+
+def read_recipe(universe, paragraph):
+    name = read_name(required(paragraph, "Recipe"))
+    if name in universe.recipes:
+        raise Fault(203)
+    relations = read_source_item(universe, paragraph)
+    mode = paragraph.get("Mode")
+    mode = "full" if mode is None else mode
+    if mode not in MODES:
+        raise Fault(202)
+    profiles = words(paragraph.get("Profiles") or "", 131)
+    steps = read_number(required(paragraph, "Steps"), LARGEST)
+    scratch = paragraph.get("Scratch")
+    scratch = read_number("0" if scratch is None else scratch, LARGEST)
+    outputs = read_outputs(universe, paragraph)
+    needs, clashes = (
+        [
+            entry
+            for part in MODES[mode]
+            for entry in reduce_field(relations[field + part], universe.architectures, profiles)
+        ]
+        for field in ("Build-Depends", "Build-Conflicts")
+    )
+    universe.recipes[name] = Recipe(name, steps, scratch, needs, clashes, outputs)
+    universe.build_entries += len(needs) + len(clashes)
+    if len(universe.recipes) > RECIPES or universe.build_entries > ENTRIES:
+        raise Fault(210)
+
+
+def read_chroot(universe, paragraph):
+    name = read_name(required(paragraph, "Chroot"))
+    if name in universe.chroots:
+        raise Fault(203)
+    capacity = read_number(required(paragraph, "Capacity"), 999_999_999_999_999)
+    packages = read_variants(universe, paragraph.get("Packages") or "")
+    if not is_settled(packages) or sum(variant.size for variant in packages) > capacity:
+        raise Fault(209)
+    universe.chroots[name] = Chroot(name, capacity, packages)
+    if len(universe.chroots) > CHROOTS:
+        raise Fault(210)
+
+
+def is_settled(packages):
+    """One variant of each name, every dependency met, no conflict, no break."""
+    if len({variant.name for variant in packages}) < len(packages):
+        return False
+    needs = [entry for variant in packages for entry in variant.needs()]
+    if not all(any(variant.satisfies(entry) for variant in packages) for entry in needs):
+        return False
+    return not any(one.conflicts(other) or one.breaks(other) for one in packages for other in packages)
