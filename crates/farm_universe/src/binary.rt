@@ -90,24 +90,26 @@ impl Package {
         &self.relations
     }
 
-    /// The package with other relations.
-    pub fn with_relations(self, relations: PackageRelations) -> Package
-        ensures { result ≡ record {
-          version = self.version;
-          size = self.size;
-          pre_depends = relations.pre_depends;
-          depends = relations.depends;
-          conflicts = relations.conflicts;
-          breaks = relations.breaks;
-          provides = relations.provides;
-        } }
+    /// Its version, its Installed-Size in KiB, and its relations.
+    pub fn into_parts(self) -> (Version, u64, PackageRelations)
+        ensures { result ≡ (
+          self.version,
+          self.size,
+          record {
+            pre_depends = self.pre_depends;
+            depends = self.depends;
+            conflicts = self.conflicts;
+            breaks = self.breaks;
+            provides = self.provides;
+          },
+        ) }
     {
-        let Package { version, size, .. } = self;
-        Package {
+        let Package {
             version,
             size,
             relations,
-        }
+        } = self;
+        (version, size, relations)
     }
 
     /// Tells whether its relation fields have at most this many entries.

@@ -11,15 +11,38 @@ use deb_profile::{ArchNames, ProfileSet, reduce};
 use deb_relation::Relations;
 use std::alloc::{AllocError, Global};
 
+/// Reduces a field where it stands.
 #[tactic(auto, unfolding(crate::specs::Land::reduced_field))]
 fn reduce_field(
     alloc: Global,
-    field: &Relations,
+    field: &mut Relations,
     architectures: &ArchNames,
-) -> Result<Relations, AllocError>
-    ensures { IfOk result (λ left. left ≡ reduced_field architectures.now field.now) }
+) -> Result<(), AllocError>
+    ensures { IfOk result (λ _. field.new ≡ reduced_field architectures.now field.old) }
 {
-    reduce(alloc, field, architectures, &ProfileSet::none(alloc))
+    *field = reduce(alloc, field, architectures, &ProfileSet::none(alloc))?;
+    Ok(())
+}
+
+/// Reduces the fields of a package where they stand, so that an early return has nothing to drop.
+fn reduce_relations(
+    alloc: Global,
+    relations: &mut PackageRelations,
+    architectures: &ArchNames,
+) -> Result<(), AllocError>
+    ensures { IfOk result (λ _. relations.new ≡ record {
+      pre_depends = reduced_field architectures.now relations.old.pre_depends;
+      depends = reduced_field architectures.now relations.old.depends;
+      conflicts = reduced_field architectures.now relations.old.conflicts;
+      breaks = reduced_field architectures.now relations.old.breaks;
+      provides = reduced_field architectures.now relations.old.provides;
+    }) }
+{
+    reduce_field(alloc, &mut relations.pre_depends, architectures)?;
+    reduce_field(alloc, &mut relations.depends, architectures)?;
+    reduce_field(alloc, &mut relations.conflicts, architectures)?;
+    reduce_field(alloc, &mut relations.breaks, architectures)?;
+    reduce_field(alloc, &mut relations.provides, architectures)
 }
 
 #[tactic(auto, unfolding(crate::specs::Land::reduced_package))]
@@ -30,15 +53,9 @@ fn reduce_package(
 ) -> Result<Package, AllocError>
     ensures { IfOk result (λ left. left ≡ reduced_package architectures.now binary) }
 {
-    let field = binary.relations();
-    let relations = PackageRelations {
-        pre_depends: reduce_field(alloc, &field.pre_depends, architectures)?,
-        depends: reduce_field(alloc, &field.depends, architectures)?,
-        conflicts: reduce_field(alloc, &field.conflicts, architectures)?,
-        breaks: reduce_field(alloc, &field.breaks, architectures)?,
-        provides: reduce_field(alloc, &field.provides, architectures)?,
-    };
-    Ok(binary.with_relations(relations))
+    let (version, size, mut relations) = binary.into_parts();
+    reduce_relations(alloc, &mut relations, architectures)?;
+    Ok(Package::new(version, size, relations))
 }
 
 fn reduce_packages(
