@@ -1,5 +1,5 @@
 -- Variants that were found.
-use Rattle.std.proofs.Common.{◌≡◌, ℕ, ◌+◌, ◌<◌, ◌≤◌, get_or, take, Bool, true, false, not, ◌&&◌, ◌||◌, ◌==◌, cond, nat_lt, bit_or, List, length, Option, None, Some, refl, sym, ap, subst, ◌∙◌, inl, inr, arith}
+use Rattle.std.proofs.Common.{◌≡◌, ℕ, ◌+◌, ◌<◌, ◌≤◌, get_or, take, Bool, true, false, ◌&&◌, ◌||◌, ◌==◌, cond, nat_lt, bit_or, zero, suc, [], ◌∷◌, slice_set, List, length, Option, None, Some, refl, sym, ap, subst, ◌∙◌, inl, inr, arith}
 use Rattle.std.specs.Cmp.{both_ways as both_tests}
 use Rattle.std.specs.List.{list_any}
 use Rattle.std.specs.Option.{is_none}
@@ -7,10 +7,10 @@ use Rattle.std.proofs.lemmas.Bool.{or_cases, or_left, or_right, and_parts, and_f
 use Rattle.std.proofs.lemmas.List.Folds.{list_any_more}
 use Rattle.std.proofs.lemmas.List.{take_all}
 use Rattle.clause_kernel.specs.Rows.{word_has}
-use Rattle.clause_kernel.proofs.Words.{word_has_zero, word_has-or}
-use Rattle.bit_rows.specs.Sets.{variants_of, ReplacesName}
+use Rattle.clause_kernel.proofs.Words.{word_has-or}
+use Rattle.bit_rows.specs.Sets.{variants_of}
 use Rattle.deb_relation.specs.Relations.{Atom, Relations}
-use Rattle.deb_relation.specs.Satisfaction.{is_its_own, is_provided, provides_it}
+use Rattle.deb_relation.specs.Satisfaction.{is_its_own, is_provided}
 use Rattle.farm_model.specs.declared.types.Variant.{Variant}
 use Rattle.farm_model.specs.Universe.{Package, Universe}
 use Rattle.farm_model.specs.Packages.{variant, names, variants, package_of, facts, satisfies}
@@ -18,10 +18,10 @@ use Rattle.item_index.specs.declared.item.Item.{Item}
 use Rattle.item_index.specs.Items.{item, item_of, listed, IsIn}
 use Rattle.item_index.proofs.ItemLaws.{any_atom-at, any_atom-found}
 use Rattle.sat_rows.proofs.RowLaws.{row_from_names}
-use Rattle.sat_rows.specs.declared.found.NameWord.{NameWord}
+use Rattle.sat_rows.specs.declared.found.NumberWord.{NumberWord}
 use Rattle.sat_rows.specs.Index.{IsNaming}
-use Rattle.sat_rows.specs.Rows.{passes, IsRowOf, of_another_name}
-use Rattle.sat_rows.specs.Found.{among, IsFound, Finds, GrowsBy, holds, some_atom, passes_there, HasItems, named_as, provided_by, items_test, field_test}
+use Rattle.sat_rows.specs.Rows.{passes, IsRowOf}
+use Rattle.sat_rows.specs.Found.{among, Puts, IsFound, Finds, GrowsBy, holds, some_atom, passes_there, HasItems}
 
 -- tests
 and_false : (x : Bool) → (x && false) ≡ false
@@ -39,7 +39,7 @@ or_spread false true p q = refl
 
 module _ (u : Universe) (p : Variant → Bool) where
   -- variants of a name that are put to those found
-  module _ (name word : ℕ) (old new : List NameWord)
+  module _ (name word : ℕ) (old new : List NumberWord)
       (put : (n b : ℕ) → among new n b ≡ (among old n b || ((n == name) && word_has word b))) where
     pub put_grows : ((b : ℕ) → word_has word b ≡ true → passes u p name b ≡ true) → GrowsBy u p old new
     put_grows only =
@@ -63,7 +63,7 @@ module _ (u : Universe) (p : Variant → Bool) where
     put_has b has =
         put name b ∙ or_right (among old name b) _ (and_from _ _ (eq-eqb name name refl) has)
 
-  pub grows_trans : (a b c : List NameWord) → GrowsBy u p a b → GrowsBy u p b c → GrowsBy u p a c
+  pub grows_trans : (a b c : List NumberWord) → GrowsBy u p a b → GrowsBy u p b c → GrowsBy u p a c
   grows_trans a b c first next =
       record {
         kept = λ n k is. next.kept n k (first.kept n k is);
@@ -79,7 +79,7 @@ module _ (u : Universe) (p : Variant → Bool) where
           ]
 
   -- all that pass were found
-  pub finds_from_grows : (old new : List NameWord) → GrowsBy u p old new
+  pub finds_from_grows : (old new : List NumberWord) → GrowsBy u p old new
       → ((n b : ℕ) → passes u p n b ≡ true → among new n b ≡ true) → Finds u p old new
   finds_from_grows old new grows all n b =
       both_tests (among new n b) _ (grows.passing n b)
@@ -88,19 +88,19 @@ module _ (u : Universe) (p : Variant → Bool) where
         | inr pass ↦ all n b pass
       ])
 
-  pub finds_next : (q r : Variant → Bool) (a b c : List NameWord)
+  pub finds_next : (q r : Variant → Bool) (a b c : List NumberWord)
       → ((v : Variant) → r v ≡ (p v || q v)) → Finds u p a b → Finds u q b c → Finds u r a c
   finds_next q r a b c either first next n k =
       next n k ∙ ap (λ x. x || passes u q n k) (first n k)
       ∙ or_spread (among a n k) (nat_lt k (variants u n)) (p (variant n k)) (q (variant n k))
       ∙ ap (λ x. among a n k || (nat_lt k (variants u n) && x)) (sym (either (variant n k)))
 
-pub finds_none : (u : Universe) (vs : List NameWord) → Finds u (λ v. false) vs vs
+pub finds_none : (u : Universe) (vs : List NumberWord) → Finds u (λ v. false) vs vs
 finds_none u vs n b =
     sym (ap (λ x. among vs n b || x) (and_false (nat_lt b (variants u n))) ∙ or_false (among vs n b))
 
 -- where none passes, nothing is found
-pub finds_never : (u : Universe) (p : Variant → Bool) (vs : List NameWord)
+pub finds_never : (u : Universe) (p : Variant → Bool) (vs : List NumberWord)
     → ((v : Variant) → p v ≡ false) → Finds u p vs vs
 finds_never u p vs never n b =
     sym (ap (λ x. among vs n b || (nat_lt b (variants u n) && x)) (never (variant n b))
@@ -133,7 +133,7 @@ module _ (u : Universe) (field : Package → Relations) (test : Atom → Bool) w
         is at.owner.bit ∙ and_from _ _ pass (eq-eqb at.owner.bit at.owner.bit refl)
 
   -- those under a name are all, where what passes has that name
-  pub finds_listed : (lists : List (List (Item Variant))) (name : List ℕ) (old new : List NameWord)
+  pub finds_listed : (lists : List (List (Item Variant))) (name : List ℕ) (old new : List NumberWord)
       → IsNaming u field lists → ((a : Atom) → test a ≡ true → a.name ≡ name)
       → GrowsBy u some old new → HasItems u field test (listed lists name) new
       → Finds u some old new
@@ -165,56 +165,6 @@ module _ (u : Universe) (v : Variant) where
   unfolding satisfies
   satisfies-qualified a named = ap (λ b. b && (is_its_own (facts u v) a || by_item a)) named
 
-  -- so is one of a field
-  pub field-satisfied : (field : Package → Relations) (w : Variant)
-      → field_test u field v w
-      ≡ (some_atom u field (named_as u v) w || items_test u field (facts u v).provides w)
-  unfolding satisfies
-  field-satisfied field w = both_tests _ _ on back where
-    es : Relations
-    es = field (package_of u w)
-
-    provides : Relations
-    provides = (facts u v).provides
-
-    on : field_test u field v w ≡ true
-        → (some_atom u field (named_as u v) w || items_test u field provides w) ≡ true
-    on is =
-        let found = any_atom-found (λ a. satisfies u a v) es is in
-        let a = found.3 in
-        let both = and_parts (is_none a.qualifier) _ found.7 in
-        elim (or_cases (is_its_own (facts u v) a) _ both.1) [
-          | inl own ↦
-              or_left _ _
-              (any_atom-at (named_as u v) es found.0 found.2 a found.6 (and_from _ _ both.0 own))
-          | inr some ↦
-              let given = any_atom-found (provides_it a) provides some in
-              or_right (some_atom u field (named_as u v) w) _
-              (any_atom-at (λ p. some_atom u field (provided_by p) w) provides given.0 given.2 given.3
-              given.6
-              (any_atom-at (provided_by given.3) es found.0 found.2 a found.6
-              (and_from _ _ both.0 given.7)))
-        ]
-
-    back : (some_atom u field (named_as u v) w || items_test u field provides w) ≡ true
-        → field_test u field v w ≡ true
-    back is =
-        elim (or_cases (some_atom u field (named_as u v) w) _ is) [
-          | inl own ↦
-              let found = any_atom-found (named_as u v) es own in
-              let both = and_parts (is_none found.3.qualifier) _ found.7 in
-              any_atom-at (λ a. satisfies u a v) es found.0 found.2 found.3 found.6
-              (and_from _ _ both.0 (or_left _ _ both.1))
-          | inr some ↦
-              let given = any_atom-found (λ p. some_atom u field (provided_by p) w) provides some in
-              let found = any_atom-found (provided_by given.3) es given.7 in
-              let a = found.3 in
-              let both = and_parts (is_none a.qualifier) _ found.7 in
-              any_atom-at (λ a. satisfies u a v) es found.0 found.2 a found.6
-              (and_from _ _ both.0 (or_right (is_its_own (facts u v) a) _
-              (any_atom-at (provides_it a) provides given.0 given.2 given.3 given.6 both.1)))
-        ]
-
 -- one more element
 pub any_next : {X : Type 0} (p : X → Bool) (xs : List X) (i : ℕ) (x : X) → i < length xs
     → x ≡ get_or xs i x → list_any p (take (i + 1) xs) ≡ (list_any p (take i xs) || p x)
@@ -225,20 +175,20 @@ any_next p xs i x lt is =
 abbrev pub first : Item Variant
 first = item (variant 0 0) 0 0
 
-abbrev pub no_word : NameWord
-no_word = record { name = 0; word = 0 }
+abbrev pub no_word : NumberWord
+no_word = record { number = 0; word = 0 }
 
 -- the row of those found, one more
-pub found_next : (ws : List NameWord) (i : ℕ) (w : NameWord) (n b : ℕ) (old new : Bool)
+pub found_next : (ws : List NumberWord) (i : ℕ) (w : NumberWord) (n b : ℕ) (old new : Bool)
     → i < length ws → w ≡ get_or ws i w → old ≡ among (take i ws) n b
-    → new ≡ (old || ((n == w.name) && word_has w.word b)) → new ≡ among (take (i + 1) ws) n b
+    → new ≡ (old || ((n == w.number) && word_has w.word b)) → new ≡ among (take (i + 1) ws) n b
 found_next ws i w n b old new lt is before step =
     step
-    ∙ ap (λ x. x || ((n == w.name) && word_has w.word b)) before
-    ∙ sym (any_next (λ w. (n == w.name) && word_has w.word b) ws i w lt is)
+    ∙ ap (λ x. x || ((n == w.number) && word_has w.word b)) before
+    ∙ sym (any_next (λ w. (n == w.number) && word_has w.word b) ws i w lt is)
 
 -- the row of all that were found
-pub found_row : (u : Universe) (ws : List NameWord) (i : ℕ) (row : List ℕ) → length row ≡ names u
+pub found_row : (u : Universe) (ws : List NumberWord) (i : ℕ) (row : List ℕ) → length row ≡ names u
     → length ws ≤ i
     → ((n b : ℕ) → n < length row → variants_of row n b ≡ among (take i ws) n b)
     → (p : Variant → Bool) → IsFound u p ws → IsRowOf u p row
@@ -261,20 +211,31 @@ joined_word s new name before word is replaced n b = replaced n b ∙ one (n == 
         ∙ ap (λ x. x || word_has word b) (sym (is b) ∙ ap (λ k. s k b) (sym (eqb-true n name same)))
     one false other = sym (or_false (s n b))
 
--- the row without a name
-cleared : (other k x : Bool) (b : ℕ)
-    → cond other (word_has 0 b) (k && x) ≡ (k && (not other && x))
-cleared true k x b = word_has_zero b ∙ sym (and_false k)
-cleared false k x b = refl
+-- a word joined to one of its number
+join_spread : (s x y r : Bool) → ((s && (x || y)) || r) ≡ (((s && x) || r) || (s && y))
+join_spread true true y r = refl
+join_spread true false true true = refl
+join_spread true false true false = refl
+join_spread true false false true = refl
+join_spread true false false false = refl
+join_spread false x y true = refl
+join_spread false x y false = refl
 
-pub row_without : (u : Universe) (p : Variant → Bool) (v : Variant) (old new : List ℕ)
-    → IsRowOf u p old → length new ≡ length old
-    → ReplacesName (variants_of old) v.name 0 (variants_of new)
-    → IsRowOf u (of_another_name v p) new
-row_without u p v old new row long clears =
-    record {
-      long = long ∙ row.long;
-      set = λ n b.
-          clears n b ∙ ap (λ x. cond (n == v.name) (word_has 0 b) x) (row.set n b)
-          ∙ cleared (n == v.name) (nat_lt b (variants u n)) (p (variant n b)) b;
-    }
+pub or_assoc : (p a c : Bool) → (p || (a || c)) ≡ ((p || a) || c)
+or_assoc true a c = refl
+or_assoc false a c = refl
+
+pub puts_joined : (vs : List NumberWord) (i number word : ℕ) → i < length vs
+    → (get_or vs i no_word).number ≡ number
+    → Puts number word vs
+    (slice_set vs i (record { number = number; word = bit_or (get_or vs i no_word).word word }))
+puts_joined [] i number word lt is n b = absurd (omega arith)
+puts_joined (v ∷ vs) zero number word lt is n b =
+    ap (λ x. ((n == number) && x) || among vs n b) (word_has-or v.word word b)
+    ∙ join_spread (n == number) (word_has v.word b) (word_has word b) (among vs n b)
+    ∙ ap (λ k. (((n == k) && word_has v.word b) || among vs n b) || ((n == number) && word_has word b))
+    (sym is)
+puts_joined (v ∷ vs) (suc i) number word lt is n b =
+    ap (λ x. ((n == v.number) && word_has v.word b) || x)
+    (puts_joined vs i number word (omega arith) is n b)
+    ∙ or_assoc ((n == v.number) && word_has v.word b) (among vs n b) ((n == number) && word_has word b)

@@ -1,10 +1,13 @@
 pub mod RowLaws
 pub mod RangeLaws
-pub mod ColumnLaws
 pub mod NumberLaws
 pub mod Gathered
 pub mod Pairs
 pub mod TableLaws
 pub mod Each
 pub mod FoundLaws
+pub mod LinkLaws
+pub mod JoinLaws
+pub mod TurnLaws
+pub mod NoteLaws
 pub mod NameLaws

@@ -1,6 +1,9 @@
 -- Variants found among those that an index lists, as words of names. The project's own words.
 --
---   among             the variant of this name and bit is one of those found
+--   among             the bit is set in a word under this number
+--   Puts              the bits of a word are put under a number
+--   shares_other, hits_other
+--                     a word of another number shares a bit with the one at its number
 --   IsFound           those found are the variants of a universe that pass a test
 --   Finds             the variants that pass are put to those found
 --   GrowsBy           some that pass are put to them
@@ -8,37 +11,46 @@
 --   some_atom         some alternative of a field of a variant passes
 --   passes_there      the universe has the owner of an item, and the alternative there passes
 --   HasItems          the owners of items whose alternative passes were found
---   named_as          a variant satisfies an alternative by its own name
---   provided_by       an item of Provides satisfies an alternative
---   field_test        some entry of a field of a variant is satisfied by this one
-use Rattle.std.specs.Prelude.{◌≡◌, ℕ, nat_lt, Bool, true, false, ◌&&◌, ◌||◌, ◌==◌, List, Option, None, Some}
+use Rattle.std.specs.Prelude.{◌≡◌, ℕ, nat_lt, Bool, true, false, not, ◌&&◌, ◌||◌, ◌==◌, List, Option, None, Some, slice_index}
 use Rattle.std.specs.List.{list_any}
-use Rattle.std.specs.Option.{is_none}
 use Rattle.clause_kernel.specs.Rows.{word_has}
-use Rattle.deb_relation.specs.Relations.{Atom, Entry, Relations}
-use Rattle.deb_relation.specs.Satisfaction.{is_its_own, provides_it}
+use Rattle.clause_kernel.specs.Kernels.{shares_bit}
+use Rattle.deb_relation.specs.Relations.{Atom, Relations}
 use Rattle.farm_model.specs.declared.types.Variant.{Variant}
 use Rattle.farm_model.specs.Universe.{Package, Universe}
-use Rattle.farm_model.specs.Packages.{variants, package_of, facts, satisfies_any}
+use Rattle.farm_model.specs.Packages.{variants, package_of}
 use Rattle.item_index.specs.declared.item.Item.{Item}
 use Rattle.item_index.specs.Items.{any_atom, item_of, IsIn}
 use Rattle.sat_rows.specs.Rows.{passes}
-use Rattle.sat_rows.specs.declared.found.NameWord.{NameWord}
+use Rattle.sat_rows.specs.declared.found.NumberWord.{NumberWord}
 
--- the variant of this name and bit is one of those found
-abbrev pub among : List NameWord → ℕ → ℕ → Bool
-among vs n b = list_any (λ w. (n == w.name) && word_has w.word b) vs
+-- the bit is set in a word under this number
+abbrev pub among : List NumberWord → ℕ → ℕ → Bool
+among vs n b = list_any (λ w. (n == w.number) && word_has w.word b) vs
+
+-- the bits of the word are put under the number
+abbrev pub Puts : ℕ → ℕ → List NumberWord → List NumberWord → Type 0
+Puts number word old new =
+    (n b : ℕ) → among new n b ≡ (among old n b || ((n == number) && word_has word b))
+
+-- a word of another number than this shares a bit with the one at its number
+abbrev pub shares_other : ℕ → List ℕ → NumberWord → Bool
+shares_other but words at =
+    not (at.number == but) && shares_bit (slice_index words at.number) at.word
+
+abbrev pub hits_other : ℕ → List ℕ → List NumberWord → Bool
+hits_other but words vs = list_any (shares_other but words) vs
 
 -- the variants of the universe that pass, and no others
-abbrev pub IsFound : Universe → (Variant → Bool) → List NameWord → Type 0
+abbrev pub IsFound : Universe → (Variant → Bool) → List NumberWord → Type 0
 IsFound u p vs = (n b : ℕ) → among vs n b ≡ passes u p n b
 
 -- those that pass are put to the old ones
-abbrev pub Finds : Universe → (Variant → Bool) → List NameWord → List NameWord → Type 0
+abbrev pub Finds : Universe → (Variant → Bool) → List NumberWord → List NumberWord → Type 0
 Finds u p old new = (n b : ℕ) → among new n b ≡ (among old n b || passes u p n b)
 
 -- some that pass are put to the old ones
-pub record GrowsBy (u : Universe) (p : Variant → Bool) (old new : List NameWord) : Type 0 where
+pub record GrowsBy (u : Universe) (p : Variant → Bool) (old new : List NumberWord) : Type 0 where
   pub kept : (n b : ℕ) → among old n b ≡ true → among new n b ≡ true
   pub passing : (n b : ℕ) → among new n b ≡ true → (among old n b || passes u p n b) ≡ true
 
@@ -59,26 +71,7 @@ passes_there u field test at =
 
 -- the owners of the items whose alternative passes were found
 abbrev pub HasItems : Universe → (Package → Relations) → (Atom → Bool) → List (Item Variant)
-    → List NameWord → Type 0
+    → List NumberWord → Type 0
 HasItems u field test items vs =
     (at : Item Variant) → IsIn items at → passes_there u field test at ≡ true
     → among vs at.owner.name at.owner.bit ≡ true
-
--- the variant has the name of the alternative, and a version in its relation
-abbrev pub named_as : Universe → Variant → Atom → Bool
-named_as u v a = is_none a.qualifier && is_its_own (facts u v) a
-
--- the item of a Provides field satisfies the alternative
-abbrev pub provided_by : Atom → Atom → Bool
-provided_by p a = is_none a.qualifier && provides_it a p
-
--- some item of the entry, and of the field, satisfies some alternative of the field of the variant
-abbrev pub entry_test : Universe → (Package → Relations) → Entry → Variant → Bool
-entry_test u field e w = list_any (λ p. some_atom u field (provided_by p) w) e
-
-abbrev pub items_test : Universe → (Package → Relations) → Relations → Variant → Bool
-items_test u field provides w = list_any (λ e. entry_test u field e w) provides
-
--- the variant satisfies some entry of the field of another
-abbrev pub field_test : Universe → (Package → Relations) → Variant → Variant → Bool
-field_test u field v w = satisfies_any u (field (package_of u w)) v

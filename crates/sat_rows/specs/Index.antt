@@ -3,7 +3,6 @@
 --   AreNaming, IsNaming    each alternative of a field of each variant of a name is listed under its
 --                          name, and of all names
 --   IsProviding            each item of Provides is
---   Indexes, AreIndexes    those of a universe
 use Rattle.std.specs.Prelude.{ℕ, ◌<◌, List}
 use Rattle.deb_relation.specs.Relations.{Relations}
 use Rattle.farm_model.specs.declared.types.Variant.{Variant}
@@ -25,14 +24,3 @@ pub record IsNaming (u : Universe) (field : Package → Relations) (lists : List
 
 abbrev pub IsProviding : Universe → List (List (Item Variant)) → Type 0
 IsProviding u lists = IsNaming u (λ binary. binary.provides) lists
-
--- the indexes of a universe
-pub record Indexes : Type 0 where
-  pub providers : List (List (Item Variant))
-  pub conflicting : List (List (Item Variant))
-  pub breaking : List (List (Item Variant))
-
-pub record AreIndexes (u : Universe) (indexes : Indexes) : Type 0 where
-  pub providers : IsProviding u indexes.providers
-  pub conflicting : IsNaming u (λ binary. binary.conflicts) indexes.conflicting
-  pub breaking : IsNaming u (λ binary. binary.breaks) indexes.breaking

@@ -4,6 +4,7 @@ pub mod Index
 pub mod Found
 pub mod ByVariant
 pub mod Entries
-pub mod Others
+pub mod Links
+pub mod Fields
 pub mod Clashes
 pub mod Tables

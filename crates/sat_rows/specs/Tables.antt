@@ -1,7 +1,8 @@
 -- What the tables of a universe keep. The project's own words.
 --
 --   AreEntryRows      rows, and where the entries of each variant and of each recipe have theirs
---   AreKept           the same with the rows of what they exclude, and a row without variants
+--   EntryRows         all three
+--   AreKept           the same with what they exclude, and a row without variants
 use Rattle.std.specs.Prelude.{◌≡◌, ℕ, List, length, Option}
 use Rattle.bit_rows.specs.Sets.{variants_of, HasNone}
 use Rattle.deb_relation.specs.Relations.{Entry}
@@ -12,7 +13,7 @@ use Rattle.item_index.specs.declared.item.Item.{Item}
 use Rattle.sat_rows.specs.Clashes.{AreClashes}
 use Rattle.sat_rows.specs.Entries.{Numbers, AreNumbered, AreNeeds, AreRowsOf}
 use Rattle.sat_rows.specs.Index.{IsProviding}
-use Rattle.sat_rows.specs.Others.{Others, AreAllOthers}
+use Rattle.sat_rows.specs.Links.{Exclusion, IsExclusion}
 
 -- there are entries whose rows these are, and each entry is numbered among them
 pub record AreEntryRows (u : Universe) (by_name : List (List Numbers)) (by_recipe : List (List ℕ))
@@ -22,12 +23,18 @@ pub record AreEntryRows (u : Universe) (by_name : List (List Numbers)) (by_recip
   pub needs : AreNeeds u entries by_recipe
   pub rows_of : AreRowsOf u entries rows
 
+pub record EntryRows : Type 0 where
+  pub names : List (List Numbers)
+  pub needs : List (List ℕ)
+  pub rows : List (List ℕ)
+
 -- all rows, the index of those who provide, and a row without variants
 pub record AreKept (u : Universe) (by_name : List (List Numbers)) (by_recipe : List (List ℕ))
-    (rows : List (List ℕ)) (by_other : List Others) (by_clash : List (Option (List ℕ)))
+    (rows : List (List ℕ)) (by_conflict by_break : Exclusion) (by_clash : List (Option (List ℕ)))
     (lists : List (List (Item Variant))) (empty : List ℕ) : Type 0 where
   pub entries : AreEntryRows u by_name by_recipe rows
-  pub others : AreAllOthers u by_other
+  pub conflicts : IsExclusion u (λ binary. binary.conflicts) by_conflict
+  pub breaks : IsExclusion u (λ binary. binary.breaks) by_break
   pub clashes : AreClashes u by_clash
   pub providers : IsProviding u lists
   pub long : length empty ≡ names u

@@ -1,19 +1,18 @@
 //! The variants that pass a test, looked for among those that an index lists.
 
-ghost use Rattle.std.specs.Prelude.{◌≡◌, ◌==◌, ◌&&◌, ◌||◌, [], ℕ, true, IsTrue, IfOk, OnOk};
+ghost use Rattle.std.specs.Prelude.{◌≡◌, ◌==◌, ◌&&◌, ◌||◌, [], ℕ, true, false, IfOk, OnOk};
 ghost use Rattle.clause_kernel.specs.Rows.{word_has};
 ghost use Rattle.deb_relation.specs.Relations.{Atom};
 ghost use Rattle.deb_relation.specs.Satisfaction.{is_its_own};
-ghost use Rattle.farm_model.specs.Packages.{facts, is_wanted, satisfies, satisfies_entry, satisfies_any, conflict, breaks};
-ghost use Rattle.farm_model.specs.Sound.{IsKnown};
-ghost use Rattle.sat_rows.specs.Index.{IsNaming, IsProviding, AreIndexes};
+ghost use Rattle.farm_model.specs.Packages.{facts, is_wanted, satisfies, satisfies_entry, satisfies_any};
+ghost use Rattle.sat_rows.specs.Index.{IsNaming, IsProviding};
 ghost use Rattle.sat_rows.specs.Rows.{IsWordFor};
-ghost use Rattle.sat_rows.specs.Found.{among, IsFound, Finds, GrowsBy, HasItems, some_atom, passes_there, named_as, provided_by, entry_test, items_test, field_test};
+ghost use Rattle.sat_rows.specs.Found.{among, Puts, IsFound, Finds, GrowsBy, HasItems, some_atom, passes_there, shares_other, hits_other};
 
-use crate::atom_test::{AtomTest, NamedAs, ProvidedBy, ProvidesIt, is_bare, passes_at};
-use crate::index::{Breaks, Conflicts, Field, Indexes, Provides};
+use crate::atom_test::{AtomTest, ProvidesIt, is_bare, passes_at};
+use crate::index::{Field, Provides};
 use crate::word::{mask, variant_count, with_bit};
-use deb_relation::{Atom, Entry, Relations};
+use deb_relation::{Atom, Relations};
 use farm_universe::{Universe, Variant};
 use item_index::{Item, ItemIndex};
 use std::alloc::{AllocError, Global};
@@ -48,24 +47,34 @@ fn wanted_word(universe: &Universe, atom: &Atom, name: u32) -> u64
     mask(universe, name, atom.relation.as_ref())
 }
 
-/// Variants of one name, as the bits of a word.
-#[derive(Clone, Copy, Debug, PartialEq, Eq)]
-pub struct NameWord {
-    pub name: u32,
+/// Variants of one name, as the bits of a word, under a number: that of their name, or of an entry.
+#[derive(Clone, Copy, Debug)]
+pub struct NumberWord {
+    pub number: usize,
     pub word: u64,
 }
 
-/// Variants that were found, each perhaps more than once.
+/// Tells whether a word of another number shares a bit with the one at its number.
+fn shares_other(at: &NumberWord, but: u32, words: &[u64]) -> bool
+    ensures { result ≡ shares_other but words.now at.now }
+{
+    match words.get(at.number) {
+        Some(word) => at.number != but as usize && *word & at.word != 0,
+        None => false,
+    }
+}
+
+/// Words of variants by number, perhaps more than one under a number.
 #[derive(Debug, Drop)]
 pub struct Found {
-    words: Vec<NameWord>,
+    words: Vec<NumberWord>,
 }
 
 impl Model for Found {
     ghost use Rattle.std.specs.Prelude.{List};
-    ghost use Rattle.sat_rows.specs.declared.found.NameWord.{NameWord};
+    ghost use Rattle.sat_rows.specs.declared.found.NumberWord.{NumberWord};
 
-    ghost Value = { List NameWord };
+    ghost Value = { List NumberWord };
 
     ghost view = { λ found. found.words.items };
 }
@@ -81,28 +90,61 @@ impl Found {
     }
 
     /// The variants in the order in which they were found.
-    pub fn words(&self) -> &[NameWord]
+    pub fn words(&self) -> &[NumberWord]
         ensures { result.now ≡ self.now }
     {
         &self.words
     }
 
-    /// Tells whether the same variants were found in the same order.
-    pub fn is_same(&self, other: &Found) -> bool
-        ensures { IsTrue result → self.now ≡ other.now }
+    /// Puts a word behind the others.
+    fn push(&mut self, number: usize, word: u64) -> Result<(), AllocError>
+        ensures { OnOk result (Puts number word self.old self.new) }
     {
-        self.words == other.words
+        self.words.push(NumberWord { number, word })?;
+        Ok(())
     }
 
-    /// Puts variants of a name, if there are any.
-    fn add(&mut self, name: u32, word: u64) -> Result<(), AllocError>
-        ensures { OnOk result ((n b : ℕ) → among self.new n b ≡ (among self.old n b
-            || ((n == name) && word_has word b))) }
+    /// Joins a word to the last one, if that is under this number.
+    fn join(&mut self, number: usize, word: u64) -> bool
+        ensures joined { result ≡ true → Puts number word self.old self.new }
+        ensures kept { result ≡ false → self.new ≡ self.old }
     {
-        if word != 0 {
-            self.words.push(NameWord { name, word })?;
+        let count = self.words.len();
+        if count == 0 || self.words[count - 1].number != number {
+            return false;
+        }
+        let word = self.words[count - 1].word | word;
+        self.words[count - 1] = NumberWord { number, word };
+        true
+    }
+
+    /// Puts variants under a number, if there are any.
+    pub fn add(&mut self, number: usize, word: u64) -> Result<(), AllocError>
+        ensures { OnOk result (Puts number word self.old self.new) }
+    {
+        if word == 0 || self.join(number, word) {
+            return Ok(());
+        }
+        self.push(number, word)?;
+        Ok(())
+    }
+
+    /// Puts words behind these.
+    pub fn add_all(&mut self, words: &[NumberWord]) -> Result<(), AllocError>
+        ensures { OnOk result ((n b : ℕ) → among self.new n b ≡ (among self.old n b
+            || among words.now n b)) }
+    {
+        for at in words {
+            self.add(at.number, at.word)?;
         }
         Ok(())
+    }
+
+    /// Tells whether some word of another number shares a bit with the one at its number.
+    pub fn hits_other(&self, but: u32, words: &[u64]) -> bool
+        ensures { result ≡ hits_other but words.now self.now }
+    {
+        self.words.iter().any(|at| shares_other(at, but, words))
     }
 
     /// Puts the owners of some items whose alternative passes.
@@ -119,7 +161,10 @@ impl Found {
             (HasItems universe.now F.field (T.test test.now) items.now self.new) }
     {
         for item in items {
-            self.add(item.owner.name, item_word(universe, field, test, item))?;
+            self.add(
+                item.owner.name as usize,
+                item_word(universe, field, test, item),
+            )?;
         }
         Ok(())
     }
@@ -150,7 +195,7 @@ impl Found {
     {
         let _names = universe.names();
         if let Some(name) = universe.find(&atom.name) {
-            self.add(name, wanted_word(universe, atom, name))?;
+            self.add(name as usize, wanted_word(universe, atom, name))?;
         }
         Ok(())
     }
@@ -208,100 +253,6 @@ impl Found {
         }
         Ok(())
     }
-
-    /// Puts the variants of whose field some alternative names this variant.
-    fn add_namers<F: Field>(
-        &mut self,
-        universe: &Universe,
-        index: &ItemIndex<Variant>,
-        field: &F,
-        variant: Variant,
-    ) -> Result<(), AllocError>
-        requires index { IsNaming universe.now F.field index.now }
-        requires known { IsKnown universe.now variant }
-        ensures { OnOk result (Finds universe.now
-            (some_atom universe.now F.field (named_as universe.now variant)) self.old self.new) }
-    {
-        let name = universe.name_text(variant.name);
-        let test = NamedAs {
-            name,
-            version: universe.version(variant),
-        };
-        self.add_listed(universe, index, field, &test, name)?;
-        Ok(())
-    }
-
-    /// Puts the variants of whose field an item of Provides provides some alternative.
-    fn add_item<F: Field>(
-        &mut self,
-        universe: &Universe,
-        index: &ItemIndex<Variant>,
-        field: &F,
-        provided: &Atom,
-    ) -> Result<(), AllocError>
-        requires { IsNaming universe.now F.field index.now }
-        ensures { OnOk result (Finds universe.now
-            (some_atom universe.now F.field (provided_by provided.now)) self.old self.new) }
-    {
-        let test = ProvidedBy { provided };
-        self.add_listed(universe, index, field, &test, &provided.name)?;
-        Ok(())
-    }
-
-    /// Puts the variants of whose field an entry of Provides provides some alternative.
-    fn add_provided<F: Field>(
-        &mut self,
-        universe: &Universe,
-        index: &ItemIndex<Variant>,
-        field: &F,
-        entry: &Entry,
-    ) -> Result<(), AllocError>
-        requires { IsNaming universe.now F.field index.now }
-        ensures { OnOk result
-            (Finds universe.now (entry_test universe.now F.field entry.now) self.old self.new) }
-    {
-        for provided in entry.alternatives() {
-            self.add_item(universe, index, field, provided)?;
-        }
-        Ok(())
-    }
-
-    /// Puts the variants of whose field a Provides field provides some alternative.
-    fn add_all_provided<F: Field>(
-        &mut self,
-        universe: &Universe,
-        index: &ItemIndex<Variant>,
-        field: &F,
-        provides: &Relations,
-    ) -> Result<(), AllocError>
-        requires { IsNaming universe.now F.field index.now }
-        ensures { OnOk result
-            (Finds universe.now (items_test universe.now F.field provides.now) self.old self.new) }
-    {
-        for entry in provides.entries() {
-            self.add_provided(universe, index, field, entry)?;
-        }
-        Ok(())
-    }
-
-    /// Puts the variants of whose field some entry is satisfied by this one.
-    pub fn add_naming<F: Field>(
-        &mut self,
-        universe: &Universe,
-        index: &ItemIndex<Variant>,
-        field: &F,
-        variant: Variant,
-    ) -> Result<(), AllocError>
-        requires index { IsNaming universe.now F.field index.now }
-        requires known { IsKnown universe.now variant }
-        ensures { OnOk result
-            (Finds universe.now (field_test universe.now F.field variant) self.old self.new) }
-    {
-        self.add_namers(universe, index, field, variant)?;
-        let provides = &universe.relations(variant).provides;
-        self.add_all_provided(universe, index, field, provides)?;
-        Ok(())
-    }
 }
 
 /// The variants that satisfy an entry.
@@ -339,69 +290,5 @@ pub fn satisfying_any(
 {
     let mut found = Found::new(alloc);
     found.add_field(universe, providers, field)?;
-    Ok(found)
-}
-
-/// The variants that are in conflict with this one, declared by either.
-///
-/// # Errors
-///
-/// [`AllocError`] where memory is refused.
-pub fn in_conflict(
-    alloc: Global,
-    universe: &Universe,
-    indexes: &Indexes,
-    variant: Variant,
-) -> Result<Found, AllocError>
-    requires indexes { AreIndexes universe.now indexes.now }
-    requires known { IsKnown universe.now variant }
-    ensures { IfOk result (IsFound universe.now (conflict universe.now variant)) }
-{
-    let mut found = Found::new(alloc);
-    let field = &universe.relations(variant).conflicts;
-    found.add_field(universe, &indexes.providers, field)?;
-    found.add_naming(universe, &indexes.conflicting, &Conflicts {}, variant)?;
-    Ok(found)
-}
-
-/// The variants that this one breaks.
-///
-/// # Errors
-///
-/// [`AllocError`] where memory is refused.
-#[tactic(auto, unfolding(farm_model::specs::Packages::breaks))]
-pub fn broken(
-    alloc: Global,
-    universe: &Universe,
-    providers: &ItemIndex<Variant>,
-    variant: Variant,
-) -> Result<Found, AllocError>
-    requires providers { IsProviding universe.now providers.now }
-    requires known { IsKnown universe.now variant }
-    ensures { IfOk result (IsFound universe.now (breaks universe.now variant)) }
-{
-    let mut found = Found::new(alloc);
-    found.add_field(universe, providers, &universe.relations(variant).breaks)?;
-    Ok(found)
-}
-
-/// The variants that break this one.
-///
-/// # Errors
-///
-/// [`AllocError`] where memory is refused.
-#[tactic(auto, unfolding(farm_model::specs::Packages::breaks))]
-pub fn breaking(
-    alloc: Global,
-    universe: &Universe,
-    indexes: &Indexes,
-    variant: Variant,
-) -> Result<Found, AllocError>
-    requires indexes { AreIndexes universe.now indexes.now }
-    requires known { IsKnown universe.now variant }
-    ensures { IfOk result (IsFound universe.now (λ v. breaks universe.now v variant)) }
-{
-    let mut found = Found::new(alloc);
-    found.add_naming(universe, &indexes.breaking, &Breaks {}, variant)?;
     Ok(found)
 }

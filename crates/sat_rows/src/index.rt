@@ -6,7 +6,7 @@ ghost use Rattle.farm_model.specs.Packages.{package_of};
 ghost use Rattle.farm_model.specs.Sound.{IsKnown};
 ghost use Rattle.farm_model.specs.Universe.{Package};
 ghost use Rattle.item_index.specs.Items.{IsKept};
-ghost use Rattle.sat_rows.specs.Index.{AreNaming, IsNaming, AreIndexes};
+ghost use Rattle.sat_rows.specs.Index.{AreNaming, IsNaming};
 ghost use Rattle.deb_relation.specs.Relations.{Relations};
 
 use crate::word::variant_count;
@@ -14,7 +14,6 @@ use deb_relation::Relations;
 use farm_universe::{Universe, Variant};
 use item_index::ItemIndex;
 use std::alloc::{AllocError, Global};
-use std::marker::Model;
 
 /// A field of relations.
 pub trait Field {
@@ -104,44 +103,4 @@ pub fn naming<F: Field>(
         add_name(&mut index, universe, field, name)?;
     }
     Ok(index)
-}
-
-/// The indexes of a universe.
-#[derive(Debug, Drop)]
-pub struct Indexes {
-    /// What variants provide.
-    pub providers: ItemIndex<Variant>,
-    /// Their Conflicts.
-    pub conflicting: ItemIndex<Variant>,
-    /// Their Breaks.
-    pub breaking: ItemIndex<Variant>,
-}
-
-impl Model for Indexes {
-    ghost use Rattle.sat_rows.specs.Index as index;
-
-    ghost Value = { index.Indexes };
-
-    ghost view = { λ indexes. record {
-      providers = indexes.providers;
-      conflicting = indexes.conflicting;
-      breaking = indexes.breaking;
-    } };
-}
-
-impl Indexes {
-    /// Makes the indexes of a universe.
-    ///
-    /// # Errors
-    ///
-    /// [`AllocError`] where memory is refused.
-    pub fn new(alloc: Global, universe: &Universe) -> Result<Indexes, AllocError>
-        ensures { IfOk result (AreIndexes universe.now) }
-    {
-        Ok(Indexes {
-            providers: naming(alloc, universe, &Provides {})?,
-            conflicting: naming(alloc, universe, &Conflicts {})?,
-            breaking: naming(alloc, universe, &Breaks {})?,
-        })
-    }
 }

@@ -5,12 +5,16 @@ mod atom_test;
 mod clashes;
 mod entries;
 mod entry_rows;
+mod exclusion;
+mod fields;
 mod found;
 mod index;
+mod joined;
+mod links;
 mod numbers;
-mod others;
 mod row;
 mod tables;
+mod turned;
 mod word;
 
 pub use row::entry_row;

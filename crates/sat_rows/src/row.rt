@@ -5,8 +5,7 @@ ghost use Rattle.bit_rows.specs.Sets.{variants_of};
 ghost use Rattle.clause_kernel.specs.Rows.{word_has};
 ghost use Rattle.farm_model.specs.declared.types.Variant.{Variant};
 ghost use Rattle.farm_model.specs.Packages.{names, satisfies_entry};
-ghost use Rattle.farm_model.specs.Sound.{IsKnown};
-ghost use Rattle.sat_rows.specs.Rows.{IsRowOf, IsSharedRow, of_another_name};
+ghost use Rattle.sat_rows.specs.Rows.{IsRowOf, IsSharedRow};
 ghost use Rattle.sat_rows.specs.Found.{IsFound};
 
 use crate::found::Found;
@@ -45,12 +44,11 @@ pub fn entry_row(alloc: Global, universe: &Universe, entry: &Entry) -> Result<Ro
 }
 
 /// Adds variants of a name to a row, where that has a word for it.
-fn add_word(row: &mut Row, name: u32, word: u64) -> Result<(), AllocError>
+fn add_word(row: &mut Row, name: usize, word: u64) -> Result<(), AllocError>
     ensures set { OnOk result ((n b : ℕ) → n < length row.old
         → variants_of row.new n b ≡ (variants_of row.old n b || ((n == name) && word_has word b))) }
     ensures len { length row.new ≡ length row.old }
 {
-    let name = name as usize;
     if name < row.len() {
         row.set_word(name, row.word(name) | word)?;
     }
@@ -69,7 +67,7 @@ pub fn row_of_found(alloc: Global, universe: &Universe, found: &Found) -> Result
 {
     let mut row = Row::new(alloc, universe.names() as usize)?;
     for found in found.words() {
-        add_word(&mut row, found.name, found.word)?;
+        add_word(&mut row, found.number, found.word)?;
     }
     Ok(row)
 }
@@ -91,31 +89,4 @@ pub fn shared_row(
         return Ok(None);
     }
     Ok(Some(row_of_found(alloc, universe, found)?))
-}
-
-/// The row of those that were found of other names than this variant's, if there are any.
-///
-/// # Errors
-///
-/// [`AllocError`] where memory is refused.
-pub fn row_of_others(
-    alloc: Global,
-    universe: &Universe,
-    found: &Found,
-    variant: Variant,
-) -> Result<Option<Row>, AllocError>
-    requires { IsKnown universe.now variant }
-    ensures { IfOk result (λ row. (p : Variant → Bool) → IsFound universe.now p found.now
-        → IsSharedRow universe.now (of_another_name variant p) row) }
-{
-    if found.words().is_empty() {
-        return Ok(None);
-    }
-    let mut row = row_of_found(alloc, universe, found)?;
-    row.set_word(variant.name as usize, 0)?;
-    if row.hits(&row) {
-        Ok(Some(row))
-    } else {
-        Ok(None)
-    }
 }

@@ -1,19 +1,22 @@
 //! The rows of every variant and of every recipe of a universe.
 
-ghost use Rattle.std.specs.Prelude.{◌≡◌, ◌<◌, Bool, IfOk, length};
+ghost use Rattle.std.specs.Prelude.{◌≡◌, ◌<◌, ◌↔◌, Bool, IsTrue, IfOk, length};
+ghost use Rattle.bit_rows.specs.Sets.{variants_of, HaveCommon};
 ghost use Rattle.farm_model.specs.declared.types.Variant.{Variant};
 ghost use Rattle.farm_model.specs.Packages.{names, pre_depends, depends, satisfies_entry, satisfies_any};
 ghost use Rattle.farm_model.specs.Packages as packages;
 ghost use Rattle.farm_model.specs.Sound.{IsKnown};
-ghost use Rattle.sat_rows.specs.Rows.{IsRowOf, IsSharedRow, IsAlternativeRow, entry_at, conflicts_with, broken_by, breakers_of};
-ghost use Rattle.sat_rows.specs.Others.{AreOthers};
+ghost use Rattle.sat_rows.specs.Rows.{passes, IsRowOf, IsSharedRow, IsAlternativeRow, entry_at, conflicts_with, broken_by, breakers_of};
+ghost use Rattle.sat_rows.specs.Index.{IsProviding};
+ghost use Rattle.sat_rows.specs.Links.{IsExclusion};
+ghost use Rattle.sat_rows.specs.Tables.{AreEntryRows};
 
 use crate::clashes::all_clashes;
 use crate::entries::Entries;
 use crate::entry_rows::{all_entry_rows, row_of_entry};
-use crate::index::Indexes;
+use crate::exclusion::Exclusion;
+use crate::index::{Breaks, Conflicts, Provides, naming};
 use crate::numbers::{NameNumbers, Needs};
-use crate::others::{Others, all_others};
 use bit_rows::Row;
 use deb_relation::Entry;
 use farm_universe::{Universe, Variant};
@@ -33,7 +36,8 @@ pub struct Tables {
     names: Vec<NameNumbers>,
     needs: Vec<Needs>,
     rows: Vec<Row>,
-    others: Vec<Others>,
+    conflicts: Exclusion,
+    breaks: Exclusion,
     clashes: Vec<Option<Row>>,
     providers: ItemIndex<Variant>,
     /// The row without variants, for all that have none.
@@ -49,12 +53,50 @@ impl Model for Tables {
     ghost view = { λ tables. tables.universe.value };
 
     ghost invariant = { λ tables. AreKept tables.universe.value tables.names.items
-        tables.needs.items tables.rows.items tables.others.items tables.clashes.items
+        tables.needs.items tables.rows.items tables.conflicts tables.breaks tables.clashes.items
         tables.providers tables.empty };
 }
 
 /// How many places distinct entries are looked up in, for each name of a universe.
-const PLACES: usize = 16;
+pub const PLACES: usize = 16;
+
+/// The rows of the distinct entries, and where each entry has its own.
+#[derive(Drop)]
+struct EntryRows {
+    names: Vec<NameNumbers>,
+    needs: Vec<Needs>,
+    rows: Vec<Row>,
+}
+
+impl Model for EntryRows {
+    ghost use Rattle.sat_rows.specs.Tables as tables;
+
+    ghost Value = { tables.EntryRows };
+
+    ghost view = { λ x. record {
+      names = x.names.items;
+      needs = x.needs.items;
+      rows = x.rows.items;
+    } };
+}
+
+impl EntryRows {
+    fn build(
+        rt: &(impl Threads + Sync),
+        alloc: Global,
+        universe: &Universe,
+        providers: &ItemIndex<Variant>,
+    ) -> Result<EntryRows, AllocError>
+        requires { IsProviding universe.now providers.now }
+        ensures { IfOk result (λ x. AreEntryRows universe.now x.names x.needs x.rows) }
+    {
+        let mut entries = Entries::new(alloc, universe.names() as usize * PLACES)?;
+        let names = entries.names(alloc, universe)?;
+        let needs = entries.recipes(alloc, universe)?;
+        let rows = all_entry_rows(rt, alloc, universe, providers, &entries)?;
+        Ok(EntryRows { names, needs, rows })
+    }
+}
 
 impl Tables {
     /// Makes the rows of a universe, by as many threads as there are processors.
@@ -70,32 +112,23 @@ impl Tables {
         ensures { IfOk result (λ tables. tables ≡ universe.now) }
     {
         let empty = Row::new(alloc, universe.names() as usize)?;
-        let indexes = Indexes::new(alloc, universe)?;
-        let mut entries = Entries::new(alloc, universe.names() as usize * PLACES)?;
-        let names = entries.names(alloc, universe)?;
-        let needs = entries.recipes(alloc, universe)?;
-        let rows = all_entry_rows(rt, alloc, universe, &indexes.providers, &entries)?;
-        let others = all_others(rt, alloc, universe, &indexes)?;
-        let clashes = all_clashes(rt, alloc, universe, &indexes.providers)?;
-        let Indexes { providers, .. } = indexes;
+        let providers = naming(alloc, universe, &Provides {})?;
+        let rows = EntryRows::build(rt, alloc, universe, &providers)?;
+        let conflicts = Exclusion::build(rt, alloc, universe, &providers, &Conflicts {})?;
+        let breaks = Exclusion::build(rt, alloc, universe, &providers, &Breaks {})?;
+        let clashes = all_clashes(rt, alloc, universe, &providers)?;
+        let EntryRows { names, needs, rows } = rows;
         Ok(Tables {
             universe: Snapshot::of(universe),
             names,
             needs,
             rows,
-            others,
+            conflicts,
+            breaks,
             clashes,
             providers,
             empty,
         })
-    }
-
-    /// The rows of what the variants of a variant's name exclude.
-    fn others(&self, variant: Variant) -> &Others
-        requires { IsKnown self.now variant }
-        ensures { AreOthers self.now variant.name result.now }
-    {
-        &self.others[variant.name as usize]
     }
 
     /// A row that may be left out.
@@ -161,28 +194,32 @@ impl Tables {
         &self.rows[numbers.depends(number)]
     }
 
-    /// The variants of other names that are in conflict with a variant, declared by either.
-    pub fn conflicts(&self, variant: Variant) -> &Row
+    /// Tells whether the words have a variant of another name that is in conflict with a variant,
+    /// declared by either.
+    pub fn conflicts_with_some(&self, variant: Variant, words: &[u64]) -> bool
         requires { IsKnown self.now variant }
-        ensures { IsRowOf self.now (conflicts_with self.now variant) result.now }
+        ensures { IsTrue result ↔ HaveCommon (variants_of words.now)
+            (passes self.now (conflicts_with self.now variant)) }
     {
-        self.shared(self.others(variant).conflicts.row(variant.bit))
+        self.conflicts.has_some(variant, words)
     }
 
-    /// The variants of other names that a variant breaks.
-    pub fn breaks(&self, variant: Variant) -> &Row
+    /// Tells whether the words have a variant of another name that a variant breaks.
+    pub fn breaks_some(&self, variant: Variant, words: &[u64]) -> bool
         requires { IsKnown self.now variant }
-        ensures { IsRowOf self.now (broken_by self.now variant) result.now }
+        ensures { IsTrue result ↔ HaveCommon (variants_of words.now)
+            (passes self.now (broken_by self.now variant)) }
     {
-        self.shared(self.others(variant).breaks.row(variant.bit))
+        self.breaks.names_some(variant, words)
     }
 
-    /// The variants of other names that break a variant.
-    pub fn broken_by(&self, variant: Variant) -> &Row
+    /// Tells whether the words have a variant of another name that breaks a variant.
+    pub fn is_broken_by_some(&self, variant: Variant, words: &[u64]) -> bool
         requires { IsKnown self.now variant }
-        ensures { IsRowOf self.now (breakers_of self.now variant) result.now }
+        ensures { IsTrue result ↔ HaveCommon (variants_of words.now)
+            (passes self.now (breakers_of self.now variant)) }
     {
-        self.shared(self.others(variant).broken_by.row(variant.bit))
+        self.breaks.is_named(variant, words)
     }
 
     /// The variants that satisfy an entry of the needs of a recipe.

@@ -34,6 +34,13 @@ pub fn with_bit(word: u64, bit: u32, holds: bool) -> u64
     if holds { word | 1 << bit } else { word }
 }
 
+/// Tells whether a bit of a word is set.
+pub fn has_bit(word: u64, bit: u32) -> bool
+    ensures { result ≡ word_has word bit }
+{
+    bit < 64 && word & 1 << bit != 0
+}
+
 /// The variants of a name that pass a test.
 pub fn word_for<T: VariantTest>(universe: &Universe, name: u32, test: &T) -> u64
     requires { T.fits universe.now test.now }

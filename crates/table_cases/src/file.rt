@@ -8,8 +8,9 @@
 ghost use Rattle.std.specs.Prelude.{◌≡◌};
 
 use crate::answer::spelled;
+use crate::excluded::excluded;
 use crate::plain::first_difference;
-use crate::question::row_asked;
+use crate::question::{exclusion_asked, row_asked};
 use deb_text::{Fault, read_number};
 use farm_input::{Texts, texts_of};
 use farm_universe::Universe;
@@ -139,6 +140,13 @@ fn answer(
 {
     if question == b"compare".as_slice() {
         return first_difference(alloc, universe, tables);
+    }
+    if let Some((kind, variant)) = exclusion_asked(universe, question, args) {
+        return spelled(
+            alloc,
+            universe,
+            &excluded(alloc, universe, tables, kind, variant)?,
+        );
     }
     match row_asked(universe, tables, question, args) {
         Some(row) => spelled(alloc, universe, row),

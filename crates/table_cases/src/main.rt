@@ -3,6 +3,7 @@
 #![tactic(auto)]
 
 mod answer;
+mod excluded;
 mod file;
 mod plain;
 mod question;

@@ -4,6 +4,7 @@ ghost use Rattle.std.specs.Prelude.{◌≡◌, ◌<◌, length};
 ghost use Rattle.farm_model.specs.Packages as packages;
 ghost use Rattle.farm_model.specs.Sound.{IsKnown};
 
+use crate::excluded::{Exclusion, excluded};
 use bit_rows::Row;
 use deb_relation::{Entry, Op, Relations};
 use deb_version::Version;
@@ -143,27 +144,24 @@ fn pre_entry_is_plain(universe: &Universe, tables: &Tables, variant: Variant, nu
     )
 }
 
-/// Tells whether the rows of what a variant excludes are plain.
-fn others_are_plain(universe: &Universe, tables: &Tables, variant: Variant) -> bool
+/// Tells whether what a variant excludes is plain.
+fn others_are_plain(
+    alloc: Global,
+    universe: &Universe,
+    tables: &Tables,
+    variant: Variant,
+) -> Result<bool, AllocError>
     requires same { tables.now ≡ universe.now }
     requires known { IsKnown universe.now variant }
 {
     let own = Some(variant.name);
-    is_plain(
-        universe,
-        tables.conflicts(variant),
-        &ConflictsWith { variant },
-        own,
-    ) && is_plain(
-        universe,
-        tables.breaks(variant),
-        &IsBrokenBy { variant },
-        own,
-    ) && is_plain(
-        universe,
-        tables.broken_by(variant),
-        &BreakersOf { variant },
-        own,
+    let conflicts = excluded(alloc, universe, tables, Exclusion::Conflicts, variant)?;
+    let breaks = excluded(alloc, universe, tables, Exclusion::Breaks, variant)?;
+    let broken_by = excluded(alloc, universe, tables, Exclusion::BrokenBy, variant)?;
+    Ok(
+        is_plain(universe, &conflicts, &ConflictsWith { variant }, own)
+            && is_plain(universe, &breaks, &IsBrokenBy { variant }, own)
+            && is_plain(universe, &broken_by, &BreakersOf { variant }, own),
     )
 }
 
@@ -202,7 +200,7 @@ pub fn first_difference(
     for name in 0..universe.names() {
         for bit in 0..universe.variants(name) {
             let variant = Variant { name, bit };
-            if !others_are_plain(universe, tables, variant)
+            if !others_are_plain(alloc, universe, tables, variant)?
                 || !entries_are_plain(alloc, universe, tables, variant)?
             {
                 let name = universe.name_text(name).escape_ascii();

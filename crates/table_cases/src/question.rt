@@ -9,6 +9,7 @@ ghost use Rattle.std.specs.Prelude.{◌≡◌, ◌<◌, length, IfSome};
 ghost use Rattle.farm_model.specs.Packages.{pre_depends};
 ghost use Rattle.farm_model.specs.Sound.{IsKnown};
 
+use crate::excluded::Exclusion;
 use bit_rows::Row;
 use deb_text::read_number;
 use farm_universe::{Universe, Variant};
@@ -44,7 +45,24 @@ fn number_of(digits: &[u8]) -> usize {
     read_number(digits).unwrap_or(u64::MAX) as usize
 }
 
-/// The row that a question asks for, if there is one.
+/// What a question asks of whom, if it is about variants that exclude each other.
+pub fn exclusion_asked(
+    universe: &Universe,
+    question: &[u8],
+    args: &[&[u8]],
+) -> Option<(Exclusion, Variant)>
+    ensures { IfSome result (λ asked. IsKnown universe.now asked.1) }
+{
+    match args {
+        [name, version] => Some((
+            Exclusion::of(question)?,
+            variant_of(universe, name, version)?,
+        )),
+        _ => None,
+    }
+}
+
+/// The row that another question asks for, if there is one.
 pub fn row_asked<'a>(
     universe: &Universe,
     tables: &'a Tables,
@@ -65,7 +83,6 @@ pub fn row_asked<'a>(
                 number,
             )
         }
-        [name, version] => of_variant(tables, question, variant_of(universe, name, version)?),
         [name, version, number, places @ ..] => {
             let variant = variant_of(universe, name, version)?;
             of_entry(
@@ -77,7 +94,7 @@ pub fn row_asked<'a>(
                 places,
             )
         }
-        [] => None,
+        _ => None,
     }
 }
 
@@ -96,17 +113,6 @@ fn of_recipe<'a>(
             Some(tables.needs(recipe, number))
         }
         b"clashes" => Some(tables.clashes(recipe)),
-        _ => None,
-    }
-}
-
-fn of_variant<'a>(tables: &'a Tables, question: &[u8], variant: Variant) -> Option<&'a Row>
-    requires { IsKnown tables.now variant }
-{
-    match question {
-        b"conflicts" => Some(tables.conflicts(variant)),
-        b"breaks" => Some(tables.breaks(variant)),
-        b"broken-by" => Some(tables.broken_by(variant)),
         _ => None,
     }
 }

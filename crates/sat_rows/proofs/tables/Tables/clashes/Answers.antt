@@ -9,7 +9,7 @@ pub index-requires : goal.index-requires
 index-requires c =
     let inside = c.self.inside in
     let kept = subst
-    (λ u. AreKept u inside.names.items inside.needs.items inside.rows.items inside.others.items
+    (λ u. AreKept u inside.names.items inside.needs.items inside.rows.items inside.conflicts inside.breaks
     inside.clashes.items inside.providers inside.empty) c.self.view_is c.self.invariant in
     omega (arith, c.requires, kept.clashes.long, inside.clashes.ok)
 
@@ -17,7 +17,7 @@ pub returns : goal.returns
 returns c =
     let inside = c.self.inside in
     let kept = subst
-    (λ u. AreKept u inside.names.items inside.needs.items inside.rows.items inside.others.items
+    (λ u. AreKept u inside.names.items inside.needs.items inside.rows.items inside.conflicts inside.breaks
     inside.clashes.items inside.providers inside.empty) c.self.view_is c.self.invariant in
     let u = c.args.self.now in
     let r = c.args.recipe in

@@ -9,7 +9,7 @@ pub index-requires : goal.index-requires
 index-requires c =
     let inside = c.self.inside in
     let kept = subst
-    (λ u. AreKept u inside.names.items inside.needs.items inside.rows.items inside.others.items
+    (λ u. AreKept u inside.names.items inside.needs.items inside.rows.items inside.conflicts inside.breaks
     inside.clashes.items inside.providers inside.empty) c.self.view_is c.self.invariant in
     let within = numbers_within c.args.self.now inside.names.items inside.needs.items inside.rows.items kept.entries
     c.args.variant c.requires.known in
@@ -19,7 +19,7 @@ pub variant-numbers-requires : goal.variant-numbers-requires
 variant-numbers-requires c =
     let inside = c.self.inside in
     let kept = subst
-    (λ u. AreKept u inside.names.items inside.needs.items inside.rows.items inside.others.items
+    (λ u. AreKept u inside.names.items inside.needs.items inside.rows.items inside.conflicts inside.breaks
     inside.clashes.items inside.providers inside.empty) c.self.view_is c.self.invariant in
     variant_within c.args.self.now inside.names.items inside.needs.items inside.rows.items kept.entries
     c.args.variant c.requires.known c.index.result.now c.index.ensures
@@ -28,7 +28,7 @@ pub depends-requires : goal.depends-requires
 depends-requires c =
     let inside = c.self.inside in
     let kept = subst
-    (λ u. AreKept u inside.names.items inside.needs.items inside.rows.items inside.others.items
+    (λ u. AreKept u inside.names.items inside.needs.items inside.rows.items inside.conflicts inside.breaks
     inside.clashes.items inside.providers inside.empty) c.self.view_is c.self.invariant in
     depends_within c.args.self.now inside.names.items inside.needs.items inside.rows.items kept.entries
     c.args.variant c.requires.known c.index.result.now c.index.ensures
@@ -38,7 +38,7 @@ pub index-requires-2 : goal.index-requires-2
 index-requires-2 c =
     let inside = c.self.inside in
     let kept = subst
-    (λ u. AreKept u inside.names.items inside.needs.items inside.rows.items inside.others.items
+    (λ u. AreKept u inside.names.items inside.needs.items inside.rows.items inside.conflicts inside.breaks
     inside.clashes.items inside.providers inside.empty) c.self.view_is c.self.invariant in
     let e = entry_at (depends c.args.self.now c.args.variant) c.args.number in
     let is = depends_number c.args.self.now inside.names.items inside.needs.items inside.rows.items kept.entries
@@ -52,7 +52,7 @@ pub returns : goal.returns
 returns c =
     let inside = c.self.inside in
     let kept = subst
-    (λ u. AreKept u inside.names.items inside.needs.items inside.rows.items inside.others.items
+    (λ u. AreKept u inside.names.items inside.needs.items inside.rows.items inside.conflicts inside.breaks
     inside.clashes.items inside.providers inside.empty) c.self.view_is c.self.invariant in
     let e = entry_at (depends c.args.self.now c.args.variant) c.args.number in
     row_at c.args.self.now inside.names.items inside.needs.items inside.rows.items kept.entries

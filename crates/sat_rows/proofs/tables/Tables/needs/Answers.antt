@@ -9,7 +9,7 @@ pub index-requires : goal.index-requires
 index-requires c =
     let inside = c.self.inside in
     let kept = subst
-    (λ u. AreKept u inside.names.items inside.needs.items inside.rows.items inside.others.items
+    (λ u. AreKept u inside.names.items inside.needs.items inside.rows.items inside.conflicts inside.breaks
     inside.clashes.items inside.providers inside.empty) c.self.view_is c.self.invariant in
     let within = needs_within c.args.self.now inside.names.items inside.needs.items inside.rows.items kept.entries
     c.args.recipe c.requires.known in
@@ -19,7 +19,7 @@ pub need-requires : goal.need-requires
 need-requires c =
     let inside = c.self.inside in
     let kept = subst
-    (λ u. AreKept u inside.names.items inside.needs.items inside.rows.items inside.others.items
+    (λ u. AreKept u inside.names.items inside.needs.items inside.rows.items inside.conflicts inside.breaks
     inside.clashes.items inside.providers inside.empty) c.self.view_is c.self.invariant in
     need_within c.args.self.now inside.names.items inside.needs.items inside.rows.items kept.entries
     c.args.recipe c.requires.known c.index.result.now c.index.ensures c.args.number c.requires.there
@@ -28,7 +28,7 @@ pub index-requires-2 : goal.index-requires-2
 index-requires-2 c =
     let inside = c.self.inside in
     let kept = subst
-    (λ u. AreKept u inside.names.items inside.needs.items inside.rows.items inside.others.items
+    (λ u. AreKept u inside.names.items inside.needs.items inside.rows.items inside.conflicts inside.breaks
     inside.clashes.items inside.providers inside.empty) c.self.view_is c.self.invariant in
     let e = entry_at (recipe c.args.self.now c.args.recipe).needs c.args.number in
     let is = need_number c.args.self.now inside.names.items inside.needs.items inside.rows.items kept.entries
@@ -42,7 +42,7 @@ pub returns : goal.returns
 returns c =
     let inside = c.self.inside in
     let kept = subst
-    (λ u. AreKept u inside.names.items inside.needs.items inside.rows.items inside.others.items
+    (λ u. AreKept u inside.names.items inside.needs.items inside.rows.items inside.conflicts inside.breaks
     inside.clashes.items inside.providers inside.empty) c.self.view_is c.self.invariant in
     let e = entry_at (recipe c.args.self.now c.args.recipe).needs c.args.number in
     row_at c.args.self.now inside.names.items inside.needs.items inside.rows.items kept.entries

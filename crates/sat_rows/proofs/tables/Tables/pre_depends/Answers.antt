@@ -10,7 +10,7 @@ pub index-requires : goal.index-requires
 index-requires c =
     let inside = c.self.inside in
     let kept = subst
-    (λ u. AreKept u inside.names.items inside.needs.items inside.rows.items inside.others.items
+    (λ u. AreKept u inside.names.items inside.needs.items inside.rows.items inside.conflicts inside.breaks
     inside.clashes.items inside.providers inside.empty) c.self.view_is c.self.invariant in
     let within = numbers_within c.args.self.now inside.names.items inside.needs.items inside.rows.items kept.entries
     c.args.variant c.requires.known in
@@ -20,7 +20,7 @@ pub variant-numbers-requires : goal.variant-numbers-requires
 variant-numbers-requires c =
     let inside = c.self.inside in
     let kept = subst
-    (λ u. AreKept u inside.names.items inside.needs.items inside.rows.items inside.others.items
+    (λ u. AreKept u inside.names.items inside.needs.items inside.rows.items inside.conflicts inside.breaks
     inside.clashes.items inside.providers inside.empty) c.self.view_is c.self.invariant in
     variant_within c.args.self.now inside.names.items inside.needs.items inside.rows.items kept.entries
     c.args.variant c.requires.known c.index.result.now c.index.ensures
@@ -29,7 +29,7 @@ pub pre_depends-requires : goal.pre_depends-requires
 pre_depends-requires c =
     let inside = c.self.inside in
     let kept = subst
-    (λ u. AreKept u inside.names.items inside.needs.items inside.rows.items inside.others.items
+    (λ u. AreKept u inside.names.items inside.needs.items inside.rows.items inside.conflicts inside.breaks
     inside.clashes.items inside.providers inside.empty) c.self.view_is c.self.invariant in
     pre_within c.args.self.now inside.names.items inside.needs.items inside.rows.items kept.entries
     c.args.variant c.requires.known c.index.result.now c.index.ensures
@@ -39,7 +39,7 @@ pub index-requires-2 : goal.index-requires-2
 index-requires-2 c =
     let inside = c.self.inside in
     let kept = subst
-    (λ u. AreKept u inside.names.items inside.needs.items inside.rows.items inside.others.items
+    (λ u. AreKept u inside.names.items inside.needs.items inside.rows.items inside.conflicts inside.breaks
     inside.clashes.items inside.providers inside.empty) c.self.view_is c.self.invariant in
     let e = entry_at (pre_depends c.args.self.now c.args.variant) c.args.number in
     let pre = pre_numbers c.args.self.now inside.names.items inside.needs.items inside.rows.items kept.entries
@@ -54,7 +54,7 @@ pub returns : goal.returns
 returns c =
     let inside = c.self.inside in
     let kept = subst
-    (λ u. AreKept u inside.names.items inside.needs.items inside.rows.items inside.others.items
+    (λ u. AreKept u inside.names.items inside.needs.items inside.rows.items inside.conflicts inside.breaks
     inside.clashes.items inside.providers inside.empty) c.self.view_is c.self.invariant in
     let e = entry_at (pre_depends c.args.self.now c.args.variant) c.args.number in
     let pre = pre_numbers c.args.self.now inside.names.items inside.needs.items inside.rows.items kept.entries

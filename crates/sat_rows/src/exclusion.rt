@@ -1,0 +1,129 @@
+//! Whom each variant names in a field, and who names it there.
+
+ghost use Rattle.std.specs.Prelude.{◌≡◌, ◌<◌, ◌||◌, IfOk, Some, length, slice_get};
+ghost use Rattle.deb_relation.specs.Relations.{Entry};
+ghost use Rattle.farm_model.specs.Packages.{satisfies_entry};
+ghost use Rattle.sat_rows.specs.Found.{IsFound};
+ghost use Rattle.sat_rows.specs.Index.{IsProviding};
+ghost use Rattle.sat_rows.specs.Links.{reaches, AreSets, AreBoth, IsExclusion};
+
+use crate::entries::Entries;
+use crate::found::{Found, satisfying};
+use crate::index::Field;
+use crate::links::Links;
+use crate::tables::PLACES;
+use crate::turned::turned;
+use farm_universe::{Universe, Variant};
+use item_index::ItemIndex;
+use rayon::prelude::*;
+use std::alloc::{AllocError, Global};
+use std::marker::Model;
+use std::thread::Threads;
+
+/// Whom each variant names in a field, and who names it there.
+#[derive(Debug, Drop)]
+pub struct Exclusion {
+    /// To whom the entries of its own field lead.
+    pub declared: Links,
+    /// To those who have an entry in the field that it satisfies.
+    pub declaring: Links,
+}
+
+impl Model for Exclusion {
+    ghost use Rattle.sat_rows.specs.Links as links;
+
+    ghost Value = { links.Exclusion };
+
+    ghost view = { λ x. record { declared = x.declared; declaring = x.declaring } };
+}
+
+/// The variants that satisfy each of the entries, by as many threads as there are processors.
+fn all_sets(
+    rt: &(impl Threads + Sync),
+    alloc: Global,
+    universe: &Universe,
+    providers: &ItemIndex<Variant>,
+    entries: &Entries,
+) -> Result<Vec<Found>, AllocError>
+    requires { IsProviding universe.now providers.now }
+    ensures { IfOk result (λ sets. AreSets universe.now entries.now sets.items) }
+{
+    let sets = (0..entries.len())
+        .into_par_iter()
+        .with_min_len(1)
+        .map(
+            move |number: usize| -> Result<Found, AllocError>
+                requires providers { IsProviding universe.now providers.now }
+                requires there { number < length entries.now }
+                ensures { IfOk result (λ set. (e : Entry) → slice_get entries.entry.now number ≡ Some e
+                    → IsFound universe.entry.now (satisfies_entry universe.entry.now e) set) }
+            { satisfying(alloc, universe, providers, entries.entry(number)) },
+        )
+        .collect::<Result<Vec<Found>, AllocError>>(rt, alloc)??;
+    Ok(sets)
+}
+
+/// Who has which entries in a field, and who satisfies these, from the numbers of the entries.
+fn exclusion_of(
+    alloc: Global,
+    names: usize,
+    noted: Vec<Found>,
+    sets: Vec<Found>,
+) -> Result<Exclusion, AllocError>
+    ensures { IfOk result (λ x. AreBoth names noted.items sets.items x) }
+{
+    let satisfied = turned(alloc, &sets, names)?;
+    let owners = turned(alloc, &noted, sets.len())?;
+    let declaring = Links::new(alloc, satisfied, owners)?;
+    let declared = Links::new(alloc, noted, sets)?;
+    Ok(Exclusion {
+        declared,
+        declaring,
+    })
+}
+
+impl Exclusion {
+    /// Finds whom each variant names in a field, and who names it, by as many threads as there are
+    /// processors.
+    ///
+    /// # Errors
+    ///
+    /// [`AllocError`] where memory is refused. Nothing is left behind.
+    pub fn build<F: Field>(
+        rt: &(impl Threads + Sync),
+        alloc: Global,
+        universe: &Universe,
+        providers: &ItemIndex<Variant>,
+        field: &F,
+    ) -> Result<Exclusion, AllocError>
+        requires { IsProviding universe.now providers.now }
+        ensures { IfOk result (IsExclusion universe.now F.field) }
+    {
+        let mut entries = Entries::new(alloc, universe.names() as usize * PLACES)?;
+        let noted = entries.noted(alloc, universe, field)?;
+        let sets = all_sets(rt, alloc, universe, providers, &entries)?;
+        exclusion_of(alloc, universe.names() as usize, noted, sets)
+    }
+
+    /// Tells whether the words have a variant of another name that this one names.
+    pub fn names_some(&self, variant: Variant, words: &[u64]) -> bool
+        ensures { result ≡ reaches self.now.declared variant words.now }
+    {
+        self.declared.reaches(variant, words)
+    }
+
+    /// Tells whether the words have a variant of another name that names this one.
+    pub fn is_named(&self, variant: Variant, words: &[u64]) -> bool
+        ensures { result ≡ reaches self.now.declaring variant words.now }
+    {
+        self.declaring.reaches(variant, words)
+    }
+
+    /// Tells whether the words have a variant of another name where one of both names the other.
+    pub fn has_some(&self, variant: Variant, words: &[u64]) -> bool
+        ensures { result ≡ (reaches self.now.declared variant words.now
+            || reaches self.now.declaring variant words.now) }
+    {
+        self.names_some(variant, words) || self.is_named(variant, words)
+    }
+}
