@@ -15,7 +15,7 @@ use Rattle.farm_model.specs.Packages.{variant, names, variants, satisfies_entry}
 use Rattle.farm_model.proofs.BelowLaws.{some_below-at, some_below-found, some_below-same, some_below-none, every_below-at, every_below-all}
 use Rattle.farm_model.proofs.TestLaws.{same_tests}
 use Rattle.plan_model.specs.May.{Bits, all_of, some_of, some_name, may_hold, may_hold_configured, surely_configured, surely_met}
-use Rattle.sat_rows.specs.Rows.{IsRowOf}
+use Rattle.sat_rows.specs.Rows.{passes, IsRowOf}
 use Rattle.may_rows.specs.Words.{Words, slot_of, may_of, AreOfName, AreWords, some_name_inside}
 
 -- ---- words of one name
@@ -50,32 +50,46 @@ bit_named u words long n b has =
           has)
     ]
 
--- ---- a list of words and a row
+-- ---- a list of words, and the variants that pass
 
-module _ (u : Universe) (words : List ℕ) (p : Variant → Bool) (row : List ℕ)
-    (long : length words ≡ names u) (is : IsRowOf u p row) where
+module _ (u : Universe) (words : List ℕ) (p : Variant → Bool) (long : length words ≡ names u) where
   abbrev may_pass : ℕ → Bool
   may_pass n = some_of u n (word_has (slice_index words n)) (λ b. p (variant n b))
 
-  pub hit-from : HaveCommon (variants_of words) (variants_of row)
+  pub hit-from : HaveCommon (variants_of words) (passes u p)
       → some_below (names u) may_pass ≡ true
   hit-from common =
       let n = common.0 in
       let b = common.1 in
-      let in_row = row_bit u p row is n b common.3 in
+      let both = and_parts _ _ common.3 in
       some_below-at (names u) may_pass n (bit_named u words long n b common.2)
       (some_below-at (variants u n) (λ k. word_has (slice_index words n) k && p (variant n k)) b
-      in_row.0 (and_from _ _ common.2 in_row.1))
+      (ltb-true b (variants u n) both.0) (and_from _ _ common.2 both.1))
 
   pub hit-to : some_below (names u) may_pass ≡ true
-      → HaveCommon (variants_of words) (variants_of row)
+      → HaveCommon (variants_of words) (passes u p)
   hit-to some =
       let f = some_below-found (names u) may_pass some in
       let g =
       some_below-found (variants u f.0)
       (λ k. word_has (slice_index words f.0) k && p (variant f.0 k)) f.2 in
       let parts = and_parts _ _ g.2 in
-      (f.0, g.0, parts.0, row_bit_from u p row is f.0 g.0 g.1 parts.1)
+      (f.0, g.0, parts.0, and_from _ _ (lt-ltb g.0 (variants u f.0) g.1) parts.1)
+
+-- ---- a list of words and a row
+
+module _ (u : Universe) (words : List ℕ) (p : Variant → Bool) (row : List ℕ)
+    (long : length words ≡ names u) (is : IsRowOf u p row) where
+  -- the row has those that pass
+  pub hit_row : (t : Bool) → (t ≡ true) ↔ HaveCommon (variants_of words) (variants_of row)
+      → (t ≡ true) ↔ HaveCommon (variants_of words) (passes u p)
+  hit_row t told = (
+    λ yes.
+        let common = told.0 yes in
+        (common.0, common.1, common.2, sym (is.set common.0 common.1) ∙ common.3),
+    λ common. told.1
+        (common.0, common.1, common.2, is.set common.0 common.1 ∙ common.3),
+  )
 
   abbrev surely_passes : ℕ → Bool
   surely_passes n =
@@ -218,23 +232,28 @@ module _ (u : Universe) (w : Words) (is : AreWords u w) where
       (λ n b. ready_known u n (λ k. false) _ _ _ _ (is.each n) b) t told
       ∙ sym (met-inside e)
 
-  pub hit_is : (p : Variant → Bool) (row : List ℕ) → IsRowOf u p row
-      → (t : Bool) → (t ≡ true) ↔ HaveCommon (variants_of w.here) (variants_of row)
+  pub common_is : (p : Variant → Bool) (t : Bool)
+      → (t ≡ true) ↔ HaveCommon (variants_of w.here) (passes u p)
       → t ≡ some_name u (may_of w) (λ n s. may_hold u n (λ b. p (variant n b)) s)
-  hit_is p row rows t told =
-      same_tests t _ (λ yes. hit-from u w.here p row is.here_long rows (told.0 yes))
-      (λ yes. told.1 (hit-to u w.here p row is.here_long rows yes))
+  common_is p t told =
+      same_tests t _ (λ holds. hit-from u w.here p is.here_long (told.0 holds))
+      (λ holds. told.1 (hit-to u w.here p is.here_long holds))
       ∙ sym (some_below-same (names u) _ _
       (λ n lt. hold-is u n (λ b. p (variant n b)) _ _ _ _ (is.each n)))
 
-  pub hit_configured_is : (p : Variant → Bool) (row : List ℕ) → IsRowOf u p row
-      → (t : Bool) → (t ≡ true) ↔ HaveCommon (variants_of w.ready) (variants_of row)
+  pub common_configured_is : (p : Variant → Bool) (t : Bool)
+      → (t ≡ true) ↔ HaveCommon (variants_of w.ready) (passes u p)
       → t ≡ some_name u (may_of w) (λ n s. may_hold_configured u n (λ b. p (variant n b)) s)
-  hit_configured_is p row rows t told =
-      same_tests t _ (λ yes. hit-from u w.ready p row is.ready_long rows (told.0 yes))
-      (λ yes. told.1 (hit-to u w.ready p row is.ready_long rows yes))
+  common_configured_is p t told =
+      same_tests t _ (λ holds. hit-from u w.ready p is.ready_long (told.0 holds))
+      (λ holds. told.1 (hit-to u w.ready p is.ready_long holds))
       ∙ sym (some_below-same (names u) _ _
       (λ n lt. configured-is u n (λ b. p (variant n b)) _ _ _ _ (is.each n)))
+
+  pub hit_is : (p : Variant → Bool) (row : List ℕ) → IsRowOf u p row
+      → (t : Bool) → (t ≡ true) ↔ HaveCommon (variants_of w.here) (variants_of row)
+      → t ≡ some_name u (may_of w) (λ n s. may_hold u n (λ b. p (variant n b)) s)
+  hit_is p row rows t told = common_is p t (hit_row u w.here p row is.here_long rows t told)
 
   pub ready_inside_is : (p : Variant → Bool) (row : List ℕ) → IsRowOf u p row
       → (t : Bool) → (t ≡ true) ↔ HasNameInside (variants_of w.ready) (variants_of row)

@@ -24,7 +24,7 @@ pub fn may_conflict(
         (λ n s. not (n == variant.name) && may.may_hold _universe.now n
         (λ d. packages.conflict _universe.now variant (packages.variant n d)) s) }
 {
-    state.may_hit(tables.conflicts(variant))
+    tables.conflicts_with_some(variant, &state.here)
 }
 
 /// Tells whether another name may hold a configured variant that this one breaks (Policy 7.3).
@@ -36,7 +36,7 @@ pub fn may_break(_universe: &Universe, tables: &Tables, state: &MayHold, variant
         (λ n s. not (n == variant.name) && may.may_hold_configured _universe.now n
         (λ d. packages.breaks _universe.now variant (packages.variant n d)) s) }
 {
-    state.may_hit_configured(tables.breaks(variant))
+    tables.breaks_some(variant, &state.ready)
 }
 
 /// Tells whether another name may hold a variant that breaks this one (Policy 7.3).
@@ -53,5 +53,5 @@ pub fn may_be_broken(
         (λ n s. not (n == variant.name) && may.may_hold _universe.now n
         (λ b. packages.breaks _universe.now (packages.variant n b) variant) s) }
 {
-    state.may_hit(tables.broken_by(variant))
+    tables.is_broken_by_some(variant, &state.here)
 }

@@ -1,15 +1,13 @@
 //! An instruction under a may map.
 
 ghost use Rattle.std.specs.Prelude.{◌≡◌, ◌<◌, ℕ, Bool, true, false, length, OnOk};
-ghost use Rattle.bit_rows.specs.Sets.{variants_of};
+ghost use Rattle.clause_kernel.specs.Rows.{word_has};
 ghost use Rattle.farm_model.specs.declared.types.Variant.{Variant};
-ghost use Rattle.farm_model.specs.Packages.{names};
 ghost use Rattle.plan_model.specs.Sound.{IsInstruction};
-ghost use Rattle.sat_rows.specs.Rows.{IsRowOf};
 ghost use Rattle.may_rows.specs.Met.{AreDoubts};
 ghost use Rattle.may_rows.specs.Picks.{AreOfArchive};
 ghost use Rattle.may_rows.specs.Words.{AreWords, may_of};
-ghost use Rattle.may_rows.specs.Walk.{Answers, IsOfLane};
+ghost use Rattle.may_rows.specs.Walk.{Answers, AreWordsFor, IsOfLane};
 
 use crate::build::{build, publish};
 use crate::configure::configure;
@@ -18,10 +16,16 @@ use crate::doubts::{Doubts, upgrades};
 use crate::state::MayHold;
 use crate::unpack::unpack;
 use crate::withdraw::{deconfigure, remove};
-use bit_rows::Row;
 use farm_universe::{Trap, Universe};
 use plan_asm::{Instruction, Lane};
 use sat_rows::Tables;
+
+/// What of one name is surely in the archive, and what may be, as words.
+#[derive(Clone, Copy, Debug)]
+pub struct ArchiveWords {
+    pub known: u64,
+    pub there: u64,
+}
 
 /// Goes on by an instruction, where it is safe.
 fn go_on(
@@ -32,20 +36,16 @@ fn go_on(
     state: &mut MayHold,
     doubts: &Doubts,
     instruction: &Instruction,
-    known: &Row,
-    there: &Row,
+    words: ArchiveWords,
 ) -> Result<(), Trap>
     requires same { tables.now ≡ universe.now }
     requires same_dependents { dependents.now ≡ universe.now }
     requires instruction { IsInstruction universe.now instruction.now }
     requires of_lane { IsOfLane universe.now lane.now state.old }
-    requires known_long { length known.now ≡ names universe.now }
-    requires there_long { length there.now ≡ names universe.now }
-    requires known_there { (n b : ℕ) → variants_of known.now n b ≡ true
-        → variants_of there.now n b ≡ true }
+    requires known_there { (b : ℕ) → word_has words.known b ≡ true → word_has words.there b ≡ true }
     requires doubts { AreDoubts universe.now (may_of state.old) doubts.now }
     ensures answer { (in_it may_be : Variant → Bool) → AreOfArchive universe.now in_it may_be
-        → IsRowOf universe.now in_it known.now → IsRowOf universe.now may_be there.now
+        → AreWordsFor universe.now in_it may_be instruction.now words
         → Answers universe.now lane.now in_it may_be (may_of state.old) instruction.now
         (may_of state.new) result }
     ensures of_lane { OnOk result (IsOfLane universe.now lane.now state.new) }
@@ -58,8 +58,8 @@ fn go_on(
             state,
             *name,
             relation,
-            known.word(*name as usize),
-            there.word(*name as usize),
+            words.known,
+            words.there,
         ),
         Instruction::Configure(members) => {
             configure(universe, tables, lane, state, members.as_slice())
@@ -92,8 +92,8 @@ fn go_on(
     }
 }
 
-/// Goes on by an instruction, where it is safe. `known` is what is surely in the archive, and
-/// `there` what may be. `doubts` tells which entries of what is configured are not known to be met,
+/// Goes on by an instruction, where it is safe. `words` is what of the name that it unpacks, if it
+/// does, is in the archive. `doubts` tells which entries of what is configured are not known to be met,
 /// and is kept so: a build looks at no others.
 ///
 /// # Errors
@@ -107,25 +107,21 @@ pub fn step(
     state: &mut MayHold,
     doubts: &mut Doubts,
     instruction: &Instruction,
-    known: &Row,
-    there: &Row,
+    words: ArchiveWords,
 ) -> Result<(), Trap>
     requires same { tables.now ≡ universe.now }
     requires same_dependents { dependents.now ≡ universe.now }
     requires instruction { IsInstruction universe.now instruction.now }
     requires of_lane { IsOfLane universe.now lane.now state.old }
-    requires known_long { length known.now ≡ names universe.now }
-    requires there_long { length there.now ≡ names universe.now }
-    requires known_there { (n b : ℕ) → variants_of known.now n b ≡ true
-        → variants_of there.now n b ≡ true }
+    requires known_there { (b : ℕ) → word_has words.known b ≡ true → word_has words.there b ≡ true }
     requires doubts { AreDoubts universe.now (may_of state.old) doubts.old }
     ensures answer { (in_it may_be : Variant → Bool) → AreOfArchive universe.now in_it may_be
-        → IsRowOf universe.now in_it known.now → IsRowOf universe.now may_be there.now
+        → AreWordsFor universe.now in_it may_be instruction.now words
         → Answers universe.now lane.now in_it may_be (may_of state.old) instruction.now
         (may_of state.new) result }
     ensures of_lane { OnOk result (IsOfLane universe.now lane.now state.new) }
     ensures doubts { (in_it may_be : Variant → Bool) → AreOfArchive universe.now in_it may_be
-        → IsRowOf universe.now in_it known.now → IsRowOf universe.now may_be there.now
+        → AreWordsFor universe.now in_it may_be instruction.now words
         → OnOk result (AreDoubts universe.now (may_of state.new) doubts.new) }
 {
     let upgraded = upgrades(universe, state, instruction);
@@ -137,8 +133,7 @@ pub fn step(
         state,
         doubts,
         instruction,
-        known,
-        there,
+        words,
     )?;
     doubts.pass(instruction, upgraded);
     Ok(())

@@ -24,5 +24,5 @@ mod write;
 
 pub use dependents::Dependents;
 pub use doubts::Doubts;
-pub use instruction::step;
+pub use instruction::{ArchiveWords, step};
 pub use state::MayHold;

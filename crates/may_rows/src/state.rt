@@ -5,7 +5,7 @@ ghost use Rattle.deb_relation.specs.Relations.{Entry};
 ghost use Rattle.farm_model.specs.Packages.{variant, satisfies_entry};
 ghost use Rattle.farm_model.specs.declared.types.Variant.{Variant};
 ghost use Rattle.farm_model.specs.Universe.{Universe};
-ghost use Rattle.plan_model.specs.May.{some_name, may_hold, may_hold_configured, surely_met, is_surely_unpacked, is_surely_configured, is_surely_present};
+ghost use Rattle.plan_model.specs.May.{some_name, may_hold, surely_met, is_surely_unpacked, is_surely_configured, is_surely_present};
 ghost use Rattle.plan_model.specs.Turn.{was_built};
 ghost use Rattle.sat_rows.specs.Rows.{IsRowOf};
 ghost use Rattle.may_rows.specs.Words.{AreWords, may_of, some_name_inside};
@@ -144,16 +144,6 @@ impl MayHold {
             (λ n s. may_hold u n (λ b. p (variant n b)) s) }
     {
         row.is_hit_by(&self.here)
-    }
-
-    /// Tells whether a configured variant may be in a row.
-    pub(crate) fn may_hit_configured(&self, row: &Row) -> bool
-        requires { length self.now.ready ≡ length row.now }
-        ensures { (u : Universe) (p : Variant → Bool) → AreWords u self.now → IsRowOf u p row.now
-            → result ≡ some_name u (may_of self.now)
-            (λ n s. may_hold_configured u n (λ b. p (variant n b)) s) }
-    {
-        row.is_hit_by(&self.ready)
     }
 
     /// Tells whether some name has configured variants, and all of them are in a row.

@@ -9,3 +9,4 @@ pub mod FaultLaws
 pub mod NewRows
 pub mod MadeLaws
 pub mod OriginLaws
+pub mod PlaceLaws

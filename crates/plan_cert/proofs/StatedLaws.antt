@@ -15,7 +15,7 @@ use Rattle.plan_model.specs.declared.instructions.Instruction.{Instruction}
 use Rattle.plan_model.specs.Plan.{Plan, lane, instruction_at}
 use Rattle.sat_rows.specs.Rows.{IsRowOf}
 use Rattle.wait_order.proofs.ArchiveRows.{row_same}
-use Rattle.wait_order.specs.PlaceRows.{IsLastRow}
+use Rattle.plan_cert.specs.PlaceRows.{IsLastRow}
 use Rattle.plan_cert.specs.Stated.{rows_before, in_row, lists, stated_rows}
 
 module _ (p : Plan) (l i : ℕ) (x : Instruction) (at : instruction_at p l i ≡ Some x) where

@@ -6,9 +6,8 @@ use Rattle.std.proofs.Math.Seq.{get_or-append_seam}
 use Rattle.farm_model.specs.Universe.{Universe}
 use Rattle.plan_model.specs.Known.{Rows}
 use Rattle.plan_model.specs.Plan.{Plan, lane}
-use Rattle.wait_order.specs.KnownRows.{IsRowIn, AreKept}
-use Rattle.wait_order.specs.PlaceRows.{IsExtended, AreRowNumbers}
-use Rattle.wait_order.proofs.PlaceLaws.{numbers_kept}
+use Rattle.plan_cert.specs.PlaceRows.{IsRowIn, AreKept, IsExtended, AreRowNumbers}
+use Rattle.plan_cert.proofs.PlaceLaws.{numbers_kept}
 use Rattle.plan_cert.specs.Places.{AreRowsOf}
 
 -- one more lane

@@ -7,3 +7,4 @@ pub mod Events
 pub mod Broken
 pub mod Certified
 pub mod Made
+pub mod PlaceRows

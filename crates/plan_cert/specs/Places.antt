@@ -9,7 +9,7 @@ use Rattle.farm_model.specs.Universe.{Universe}
 use Rattle.farm_model.specs.Sound.{IsKnown}
 use Rattle.plan_model.specs.Plan.{Plan, lane}
 use Rattle.plan_model.specs.Known.{Rows}
-use Rattle.wait_order.specs.PlaceRows.{AreRowNumbers}
+use Rattle.plan_cert.specs.PlaceRows.{AreRowNumbers}
 
 -- of each lane below n, for each place the number of its row
 pub record AreRowsOf (u : Universe) (p : Plan) (known : Rows) (n : ℕ) (places rows : List (List ℕ))

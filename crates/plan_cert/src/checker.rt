@@ -5,13 +5,14 @@ ghost use Rattle.cert_text.specs.Certificates.{IsCertificate};
 ghost use Rattle.plan_model.specs.Known.{KeepsRows};
 ghost use Rattle.plan_model.specs.Promise.{IsSafe};
 ghost use Rattle.plan_model.specs.Sound.{IsSound};
-ghost use Rattle.wait_order.specs.KnownRows.{rows_of};
+ghost use Rattle.plan_cert.specs.PlaceRows.{rows_of};
 ghost use Rattle.plan_cert.specs.Certified.{IsCertVerdict};
 ghost use Rattle.plan_cert.specs.Checked.{AreSafe};
 
 use crate::justified::check_rows;
 use crate::order::check_order;
 use crate::stated::stated_known;
+use crate::stated_rows::StatedRows;
 use cert_text::{CertFault, Certificate};
 use farm_universe::Universe;
 use plan_asm::Plan;
@@ -19,7 +20,7 @@ use plan_verifier::{WalkError, walk_lanes};
 use sat_rows::Tables;
 use std::alloc::Global;
 use std::thread::Threads;
-use wait_order::Known;
+use wait_order::Outputs;
 
 /// Checks that each instruction is safe under known rows.
 fn check_safety(
@@ -27,7 +28,7 @@ fn check_safety(
     universe: &Universe,
     tables: &Tables,
     plan: &Plan,
-    known: &Known,
+    known: &StatedRows,
 ) -> Result<(), CertFault>
     requires sound { IsSound universe.now plan.now.lanes }
     requires tables { tables.now ≡ universe.now }
@@ -36,7 +37,8 @@ fn check_safety(
     requires keeps { KeepsRows universe.now plan.now.lanes (rows_of known.now) }
     ensures { AreSafe universe.now plan.now.lanes (rows_of known.now) result }
 {
-    match walk_lanes(alloc, universe, tables, plan, known) {
+    let outputs = Outputs::of(alloc, universe, plan)?;
+    match walk_lanes(alloc, universe, tables, plan, &outputs, known) {
         Ok(_) => Ok(()),
         Err(
             WalkError::Unsafe {

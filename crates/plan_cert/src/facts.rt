@@ -7,18 +7,18 @@ ghost use Rattle.farm_model.specs.Sound.{IsUniverse, IsKnown};
 ghost use Rattle.plan_model.specs.Plan.{lane};
 ghost use Rattle.plan_model.specs.Sound.{IsSound};
 ghost use Rattle.sat_rows.specs.Rows.{IsRowOf};
-ghost use Rattle.wait_order.specs.KnownRows.{rows_of};
+ghost use Rattle.plan_cert.specs.PlaceRows.{rows_of};
 ghost use Rattle.plan_cert.specs.Origins.{AreLanePublishes, AreOrigins};
 ghost use Rattle.plan_cert.specs.Stated.{in_row};
 ghost use Rattle.plan_cert.specs.Places.{HaveKnown};
 ghost use Rattle.plan_cert.specs.Facts.{HasNoSource, IsFirstSource, IsKnownWith, IsKnownAt, AreFacts};
 
 use crate::origins::Origins;
+use crate::stated_rows::StatedRows;
 use bit_rows::Row;
 use farm_universe::{Universe, Variant};
 use plan_asm::{Instruction, Plan};
 use std::alloc::AllocError;
-use wait_order::Known;
 
 /// The first of these variants that is in a row.
 fn first_source(_universe: &Universe, row: &Row, variants: &[Variant]) -> Option<usize>
@@ -94,7 +94,7 @@ fn is_known_with(
 fn is_known_at(
     universe: &Universe,
     plan: &Plan,
-    known: &Known,
+    known: &StatedRows,
     number: usize,
     place: usize,
     sources: &Row,
@@ -123,7 +123,7 @@ fn is_known_at(
 fn is_known_in(
     universe: &Universe,
     plan: &Plan,
-    known: &Known,
+    known: &StatedRows,
     number: usize,
     places: &[usize],
     sources: &Row,
@@ -168,7 +168,7 @@ fn is_initial(_universe: &Universe, archive: &Row, sources: &Row, new: &Row) -> 
 pub fn are_facts(
     universe: &Universe,
     plan: &Plan,
-    known: &Known,
+    known: &StatedRows,
     origins: &Origins,
     sources: &Row,
     new: &Row,

@@ -11,7 +11,7 @@ ghost use Rattle.plan_model.specs.Plan.{lane, instruction_at};
 ghost use Rattle.plan_model.specs.Sound.{IsSound};
 ghost use Rattle.verdict_laws.specs.Places.{IsJustified};
 ghost use Rattle.sat_rows.specs.Rows.{IsRowOf};
-ghost use Rattle.wait_order.specs.KnownRows.{rows_of};
+ghost use Rattle.plan_cert.specs.PlaceRows.{rows_of};
 ghost use Rattle.plan_cert.specs.Origins.{AreOrigins};
 ghost use Rattle.plan_cert.specs.Stated.{in_row};
 ghost use Rattle.plan_cert.specs.Places.{HaveKnown};
@@ -19,6 +19,7 @@ ghost use Rattle.plan_cert.specs.Checked.{IsLaneChecked, AreChecked};
 
 use crate::facts::{are_facts, with_outputs};
 use crate::origins::{Origins, find_origins};
+use crate::stated_rows::StatedRows;
 use bit_rows::Row;
 use cert_text::CertFault;
 use deb_relation::Entry;
@@ -27,7 +28,6 @@ use plan_asm::{Instruction, Plan};
 use plan_verifier::{add_outputs, possible_row};
 use sat_rows::Tables;
 use std::alloc::{AllocError, Global};
-use wait_order::Known;
 
 /// Tells whether a wait may add all of `new` to what its lane knows.
 fn may_add(
@@ -35,7 +35,7 @@ fn may_add(
     universe: &Universe,
     tables: &Tables,
     plan: &Plan,
-    known: &Known,
+    known: &StatedRows,
     origins: &Origins,
     there: &Row,
     entry: &Entry,
@@ -87,7 +87,7 @@ fn is_justified(
     universe: &Universe,
     tables: &Tables,
     plan: &Plan,
-    known: &Known,
+    known: &StatedRows,
     origins: &Origins,
     there: &Row,
     number: usize,
@@ -132,7 +132,7 @@ fn check_lane(
     universe: &Universe,
     tables: &Tables,
     plan: &Plan,
-    known: &Known,
+    known: &StatedRows,
     origins: &Origins,
     number: usize,
 ) -> Result<(), CertFault>
@@ -174,7 +174,7 @@ pub fn check_rows(
     universe: &Universe,
     tables: &Tables,
     plan: &Plan,
-    known: &Known,
+    known: &StatedRows,
 ) -> Result<(), CertFault>
     requires sound { IsUniverse universe.now }
     requires tables { tables.now ≡ universe.now }

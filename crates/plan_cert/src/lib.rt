@@ -10,6 +10,7 @@ mod maker;
 mod order;
 mod origins;
 mod stated;
+mod stated_rows;
 
 pub use cert_text::{CertFault, Certificate, print, read};
 pub use checker::check_certificate;

@@ -16,13 +16,22 @@ ghost use Rattle.plan_cert.specs.Made.{IsNewAt, IsCertificateOf, AreNewRows, Are
 use crate::stated::learns;
 use bit_rows::Row;
 use cert_text::Certificate;
+use farm_universe::Universe;
 use plan_asm::Plan;
 use plan_verifier::Accepted;
 use std::alloc::{AllocError, Global};
 use wait_order::{Known, initial_row};
 
 /// What a lane knows at a place, without the initial archive.
-fn new_row(known: &Known, archive: &Row, number: usize, place: usize) -> Result<Row, AllocError>
+fn new_row(
+    alloc: Global,
+    universe: &Universe,
+    known: &Known,
+    archive: &Row,
+    number: usize,
+    place: usize,
+) -> Result<Row, AllocError>
+    requires of_universe { known.now.universe ≡ universe.now }
     requires sound { IsUniverse known.now.universe }
     requires keeps { KeepsRows known.now.universe known.now.plan (rows_of known.now) }
     requires archive { IsRowOf known.now.universe (initial known.now.universe) archive.now }
@@ -32,13 +41,15 @@ fn new_row(known: &Known, archive: &Row, number: usize, place: usize) -> Result<
     ensures exact { IfOk result
         (IsNewAt known.now.universe (rows_of known.now) number place) }
 {
-    let mut row = known.row(number, place).clone()?;
+    let mut row = known.row(alloc, universe, archive, number, place)?;
     row.take_out(archive);
     Ok(row)
 }
 
 /// Puts the row behind the instruction at a place behind the others, where there is one.
 fn add_row(
+    alloc: Global,
+    universe: &Universe,
     plan: &Plan,
     known: &Known,
     archive: &Row,
@@ -47,6 +58,7 @@ fn add_row(
     rows: &mut Vec<Row>,
 ) -> Result<(), AllocError>
     requires sound { IsUniverse known.now.universe }
+    requires of_universe { known.now.universe ≡ universe.now }
     requires of_plan { known.now.plan ≡ plan.now.lanes }
     requires keeps { KeepsRows known.now.universe known.now.plan (rows_of known.now) }
     requires archive { IsRowOf known.now.universe (initial known.now.universe) archive.now }
@@ -61,19 +73,21 @@ fn add_row(
     if !learns(&instructions[place]) {
         return Ok(());
     }
-    rows.push(new_row(known, archive, number, place + 1)?)?;
+    rows.push(new_row(alloc, universe, known, archive, number, place + 1)?)?;
     Ok(())
 }
 
 /// The rows of a lane, one behind each wait and publish.
 fn lane_rows(
     alloc: Global,
+    universe: &Universe,
     plan: &Plan,
     known: &Known,
     archive: &Row,
     number: usize,
 ) -> Result<Vec<Row>, AllocError>
     requires sound { IsUniverse known.now.universe }
+    requires of_universe { known.now.universe ≡ universe.now }
     requires of_plan { known.now.plan ≡ plan.now.lanes }
     requires keeps { KeepsRows known.now.universe known.now.plan (rows_of known.now) }
     requires archive { IsRowOf known.now.universe (initial known.now.universe) archive.now }
@@ -83,7 +97,9 @@ fn lane_rows(
 {
     let mut rows = Vec::new(alloc);
     for place in 0..plan.lane(number).instructions().len() {
-        add_row(plan, known, archive, number, place, &mut rows)?;
+        add_row(
+            alloc, universe, plan, known, archive, number, place, &mut rows,
+        )?;
     }
     Ok(rows)
 }
@@ -91,11 +107,13 @@ fn lane_rows(
 /// The rows of each lane.
 fn all_rows(
     alloc: Global,
+    universe: &Universe,
     plan: &Plan,
     known: &Known,
     archive: &Row,
 ) -> Result<Vec<Vec<Row>>, AllocError>
     requires sound { IsUniverse known.now.universe }
+    requires of_universe { known.now.universe ≡ universe.now }
     requires of_plan { known.now.plan ≡ plan.now.lanes }
     requires keeps { KeepsRows known.now.universe known.now.plan (rows_of known.now) }
     requires archive { IsRowOf known.now.universe (initial known.now.universe) archive.now }
@@ -104,7 +122,7 @@ fn all_rows(
 {
     let mut lanes = Vec::new(alloc);
     for number in 0..plan.lanes() {
-        lanes.push(lane_rows(alloc, plan, known, archive, number)?)?;
+        lanes.push(lane_rows(alloc, universe, plan, known, archive, number)?)?;
     }
     Ok(lanes)
 }
@@ -125,8 +143,9 @@ pub fn certificate(alloc: Global, accepted: &Accepted) -> Result<Certificate, Al
     ensures certifies { IfOk result (Certifies accepted.now.universe accepted.now.plan) }
 {
     accepted.keeps();
-    let archive = initial_row(alloc, accepted.universe())?;
-    let rows = all_rows(alloc, accepted.plan(), accepted.known(), &archive)?;
+    let universe = accepted.universe();
+    let archive = initial_row(alloc, universe)?;
+    let rows = all_rows(alloc, universe, accepted.plan(), accepted.known(), &archive)?;
     let order = Vec::from_slice(alloc, accepted.order())?;
     Ok(Certificate::new(rows, order))
 }

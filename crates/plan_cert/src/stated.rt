@@ -8,16 +8,17 @@ ghost use Rattle.farm_model.specs.Sound.{IsUniverse};
 ghost use Rattle.plan_model.specs.Plan.{lane, instruction_at};
 ghost use Rattle.verdict_laws.specs.Agreeing.{Agree};
 ghost use Rattle.sat_rows.specs.Rows.{IsRowOf};
-ghost use Rattle.wait_order.specs.KnownRows.{rows_of};
-ghost use Rattle.wait_order.specs.PlaceRows.{IsLastRow, IsExtended, AreRowNumbers};
+ghost use Rattle.plan_cert.specs.PlaceRows.{rows_of};
+ghost use Rattle.plan_cert.specs.PlaceRows.{IsLastRow, IsExtended, AreRowNumbers};
 ghost use Rattle.plan_cert.specs.Stated.{rows_before, in_row, stated_rows};
 
+use crate::stated_rows::{LanePlaces, StatedRows};
 use bit_rows::Row;
 use cert_text::Certificate;
 use farm_universe::Universe;
 use plan_asm::{Instruction, Plan};
 use std::alloc::{AllocError, Global};
-use wait_order::{Known, LanePlaces, initial_row};
+use wait_order::initial_row;
 
 /// Tells whether a row stands behind an instruction.
 pub fn learns(instruction: &Instruction) -> bool
@@ -131,7 +132,7 @@ pub fn stated_known(
     universe: &Universe,
     plan: &Plan,
     certificate: &Certificate,
-) -> Result<Known, AllocError>
+) -> Result<StatedRows, AllocError>
     requires sound { IsUniverse universe.now }
     requires certificate { IsCertificate universe.now plan.now.lanes certificate.now }
     ensures universe { IfOk result (λ known. known.universe ≡ universe.now) }
@@ -153,5 +154,5 @@ pub fn stated_known(
             &mut rows,
         )?)?;
     }
-    Ok(Known::new(universe, plan, places, rows))
+    Ok(StatedRows::new(universe, plan, places, rows))
 }

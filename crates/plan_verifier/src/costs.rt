@@ -14,7 +14,7 @@ use may_rows::Dependents;
 use plan_asm::Plan;
 use sat_rows::Tables;
 use std::alloc::Global;
-use wait_order::Known;
+use wait_order::{Known, KnownWords, Outputs};
 
 /// What each lane costs at most, in steps, where each instruction is safe under these known rows,
 /// whoever made them.
@@ -23,24 +23,36 @@ use wait_order::Known;
 ///
 /// [`WalkError::Unsafe`] with the first unsafe instruction of the first lane that has one, and the
 /// first trap that it may meet. [`WalkError::Memory`] where memory ran out.
-pub fn walk_lanes(
+pub fn walk_lanes<K: KnownWords>(
     alloc: Global,
     universe: &Universe,
     tables: &Tables,
     plan: &Plan,
-    known: &Known,
+    outputs: &Outputs,
+    known: &K,
 ) -> Result<Vec<u64>, WalkError>
     requires sound { IsSound universe.now plan.now.lanes }
     requires tables { tables.now ≡ universe.now }
-    requires of_universe { known.now.universe ≡ universe.now }
-    requires of_plan { known.now.plan ≡ plan.now.lanes }
-    requires keeps { KeepsRows universe.now plan.now.lanes (rows_of known.now) }
-    ensures { AreWalked universe.now plan.now.lanes (rows_of known.now) result }
+    requires outputs { (outputs.now.universe ≡ universe.now)
+        × (outputs.now.plan ≡ plan.now.lanes) }
+    requires of_universe { (K.known known.now).universe ≡ universe.now }
+    requires of_plan { (K.known known.now).plan ≡ plan.now.lanes }
+    requires keeps { KeepsRows universe.now plan.now.lanes ((K.known known.now).rows) }
+    ensures { AreWalked universe.now plan.now.lanes ((K.known known.now).rows) result }
 {
     let dependents = Dependents::build(alloc, universe, tables)?;
     let mut costs = Vec::new(alloc);
     for number in 0..plan.lanes() {
-        match walk(alloc, universe, tables, &dependents, plan, known, number) {
+        match walk(
+            alloc,
+            universe,
+            tables,
+            &dependents,
+            plan,
+            outputs,
+            known,
+            number,
+        ) {
             Ok(cost) => costs.push(cost)?,
             Err(error) => return Err(error),
         }
@@ -82,7 +94,7 @@ pub fn check_lanes(
     requires keeps { KeepsRows universe.now plan.now.lanes (rows_of known.now) }
     ensures { IsWalked universe.now plan.now.lanes (rows_of known.now) result }
 {
-    match walk_lanes(alloc, universe, tables, plan, known) {
+    match walk_lanes(alloc, universe, tables, plan, known.outputs(), known) {
         Ok(costs) => Ok(costs),
         Err(
             WalkError::Unsafe {

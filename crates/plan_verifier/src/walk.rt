@@ -1,18 +1,19 @@
 //! The walk over the instructions of a lane, up to the first unsafe one.
 
-ghost use Rattle.std.specs.Prelude.{◌≡◌, ◌<◌, length};
-ghost use Rattle.plan_model.specs.Known.{KeepsRows};
-ghost use Rattle.plan_model.specs.Sound.{IsSound};
+ghost use Rattle.std.specs.Prelude.{◌≡◌, ◌<◌, ◌≤◌, ℕ, true, length};
+ghost use Rattle.clause_kernel.specs.Rows.{word_has};
+ghost use Rattle.may_rows.specs.Walk.{AreWordsFor};
+ghost use Rattle.plan_model.specs.Known.{possible, KeepsRows};
+ghost use Rattle.plan_model.specs.Plan.{lane};
+ghost use Rattle.plan_model.specs.Sound.{IsSound, IsInstruction};
 ghost use Rattle.plan_verifier.specs.Walk.{Walked};
-ghost use Rattle.wait_order.specs.KnownRows.{rows_of};
 
-use crate::possible::{add_outputs, possible_row};
 use farm_universe::{Trap, Universe};
-use may_rows::{Dependents, Doubts, MayHold, step};
-use plan_asm::Plan;
+use may_rows::{ArchiveWords, Dependents, Doubts, MayHold, step};
+use plan_asm::{Instruction, Plan};
 use sat_rows::Tables;
 use std::alloc::{AllocError, AllocFailed, Global};
-use wait_order::Known;
+use wait_order::{KnownWords, Outputs};
 
 /// Why a walk over lanes ends before their ends.
 #[derive(Clone, Copy, Debug, PartialEq, Eq)]
@@ -48,34 +49,75 @@ impl<T: Drop> From<AllocFailed<T>> for WalkError {
     }
 }
 
+/// What of the name that an instruction unpacks, if it does, is surely in the archive at its place,
+/// and what may be.
+fn words_at<K: KnownWords>(
+    universe: &Universe,
+    plan: &Plan,
+    outputs: &Outputs,
+    known: &K,
+    number: usize,
+    place: usize,
+    instruction: &Instruction,
+) -> ArchiveWords
+    requires sound { IsSound universe.now plan.now.lanes }
+    requires instruction { IsInstruction universe.now instruction.now }
+    requires lane { number < length plan.now.lanes }
+    requires place { place ≤ length (lane plan.now.lanes number).instructions }
+    requires outputs { (outputs.now.universe ≡ universe.now)
+        × (outputs.now.plan ≡ plan.now.lanes) }
+    requires of_universe { (K.known known.now).universe ≡ universe.now }
+    requires of_plan { (K.known known.now).plan ≡ plan.now.lanes }
+    requires keeps { KeepsRows universe.now plan.now.lanes ((K.known known.now).rows) }
+    ensures words { AreWordsFor universe.now ((K.known known.now).rows number place)
+        (possible universe.now plan.now.lanes number place) instruction.now result }
+    ensures known_there { (b : ℕ) → word_has result.known b ≡ true
+        → word_has result.there b ≡ true }
+{
+    match instruction {
+        Instruction::Unpack { name, .. } => ArchiveWords {
+            known: known.word(universe, number, place, *name),
+            there: outputs.possible_word(universe, number, place, *name),
+        },
+        Instruction::Configure(_)
+        | Instruction::Deconfigure(_)
+        | Instruction::Remove(_)
+        | Instruction::Build(_)
+        | Instruction::Publish(_)
+        | Instruction::Wait(_) => ArchiveWords { known: 0, there: 0 },
+    }
+}
+
 /// Walks over a lane: gives its cost, or its first unsafe instruction.
-pub fn walk(
+pub fn walk<K: KnownWords>(
     alloc: Global,
     universe: &Universe,
     tables: &Tables,
     dependents: &Dependents,
     plan: &Plan,
-    known: &Known,
+    outputs: &Outputs,
+    known: &K,
     number: usize,
 ) -> Result<u64, WalkError>
     requires lane { number < length plan.now.lanes }
     requires sound { IsSound universe.now plan.now.lanes }
     requires tables { tables.now ≡ universe.now }
     requires dependents { dependents.now ≡ universe.now }
-    requires of_universe { known.now.universe ≡ universe.now }
-    requires of_plan { known.now.plan ≡ plan.now.lanes }
-    requires keeps { KeepsRows universe.now plan.now.lanes (rows_of known.now) }
-    ensures { Walked universe.now plan.now.lanes (rows_of known.now) number result }
+    requires outputs { (outputs.now.universe ≡ universe.now)
+        × (outputs.now.plan ≡ plan.now.lanes) }
+    requires of_universe { (K.known known.now).universe ≡ universe.now }
+    requires of_plan { (K.known known.now).plan ≡ plan.now.lanes }
+    requires keeps { KeepsRows universe.now plan.now.lanes ((K.known known.now).rows) }
+    ensures { Walked universe.now plan.now.lanes ((K.known known.now).rows) number result }
 {
     let _lanes = plan.lanes();
     let lane = plan.lane(number);
     let instructions = lane.instructions();
-    let mut there = possible_row(alloc, universe, plan, number)?;
     let mut state = MayHold::of_base(alloc, universe, lane.base())?;
     let mut doubts = Doubts::new(alloc);
     for place in 0..instructions.len() {
         let instruction = &instructions[place];
-        let known = known.row(number, place);
+        let words = words_at(universe, plan, outputs, known, number, place, instruction);
         let stepped = step(
             universe,
             tables,
@@ -84,8 +126,7 @@ pub fn walk(
             &mut state,
             &mut doubts,
             instruction,
-            known,
-            &there,
+            words,
         );
         if let Err(trap) = stepped {
             return Err(WalkError::Unsafe {
@@ -94,7 +135,6 @@ pub fn walk(
                 trap,
             });
         }
-        add_outputs(universe, &mut there, instruction)?;
     }
     Ok(state.cost())
 }

@@ -9,14 +9,14 @@ use Rattle.farm_model.specs.Below.{some_below}
 use Rattle.farm_model.specs.Universe.{Universe}
 use Rattle.farm_model.specs.Packages.{same, contains}
 use Rattle.plan_model.specs.Plan.{Plan, lane}
-use Rattle.clock_laws.specs.Clocks.{made, lane_made, count_before, Clocks}
+use Rattle.clock_laws.specs.Clocks.{made, lane_made, count_before}
 use Rattle.sat_rows.specs.Rows.{IsRowOf}
-use Rattle.wait_order.specs.declared.column.Point.{Point}
 use Rattle.wait_order.specs.declared.marks.Output.{Output}
-use Rattle.wait_order.specs.Column.{of_list, count_at, IsIn}
-use Rattle.wait_order.specs.Columns.{column_of, counts_of, AreColumns}
+use Rattle.wait_order.specs.Column.{count_at, IsIn}
+use Rattle.wait_order.specs.Columns.{column_of, counts_of}
+use Rattle.wait_order.specs.KnownRows.{HasCounts}
 use Rattle.wait_order.specs.Marks.{lane_outputs}
-use Rattle.wait_order.specs.Waits.{last_wait, ArePoints, clock_of}
+use Rattle.wait_order.specs.Waits.{last_wait, clock_of}
 use Rattle.wait_order.proofs.Numbering.{last-in}
 use Rattle.wait_order.proofs.RowSteps.{variant_of, outputs-made}
 use Rattle.wait_order.proofs.ArchiveRows.{row_same}
@@ -50,10 +50,10 @@ module _ (u : Universe) (p : Plan) where
       ∙ ap (made u)
       (take_all (length (lane p j).instructions) (lane p j).instructions (omega arith)))
 
-  module _ (start : Variant → Bool) (x : Clocks) (l i : ℕ) where
+  module _ (start : Variant → Bool) (x : ℕ → ℕ) where
     -- what was there, and of the lanes so far
     abbrev pub so_far : ℕ → Variant → Bool
-    so_far n v = start v || some_below n (λ j. contains (take (x l i j) (lane_made u p j)) v)
+    so_far n v = start v || some_below n (λ j. contains (take (x j) (lane_made u p j)) v)
 
     swapped : (a b c : Bool) → ((a || b) || c) ≡ (a || (c || b))
     swapped true b c = refl
@@ -62,7 +62,7 @@ module _ (u : Universe) (p : Plan) where
     swapped false false c = sym (or-false c)
 
     pub with_lane : (n count : ℕ) (os : List Output) (row : List ℕ)
-        → os ≡ lane_outputs u p n (length (lane p n).instructions) → count ≡ x l i n
+        → os ≡ lane_outputs u p n (length (lane p n).instructions) → count ≡ x n
         → IsRowOf u (λ v. so_far n v || any_output (take count os) v) row
         → IsRowOf u (so_far (n + 1)) row
     with_lane n count os row are is row_is =
@@ -70,7 +70,7 @@ module _ (u : Universe) (p : Plan) where
         (λ v. ap (λ b. so_far n v || b)
         (first-made n count os v are ∙ ap (λ k. contains (take k (lane_made u p n)) v) is)
         ∙ swapped (start v) _ _
-        ∙ ap (λ k. start v || some_below k (λ j. contains (take (x l i j) (lane_made u p j)) v))
+        ∙ ap (λ k. start v || some_below k (λ j. contains (take (x j) (lane_made u p j)) v))
         (sym (add-one n)))
         row_is
 
@@ -79,24 +79,22 @@ module _ (u : Universe) (p : Plan) where
     all_lanes n row end is = subst (λ k. IsRowOf u (so_far k) row) end is
 
   -- the last wait has a count in each column
-  pub wait_in : (ps : List Point) (columns : List (List ℕ)) (l i j : ℕ) (column : List ℕ)
-      → ArePoints u p ps → AreColumns u p ps columns (length p) → l < length p → j < length p
-      → column ≡ column_of columns j → IsIn (length column) (last_wait p l i)
-  wait_in ps columns l i j column points are lt j_lt here = by (last_wait p l i) refl
+  pub wait_in : (columns : List (List ℕ)) (l i : ℕ) → HasCounts p columns → l < length p
+      → (j : ℕ) → j < length p → IsIn (length (column_of columns j)) (last_wait p l i)
+  wait_in columns l i has lt j j_lt = by (last_wait p l i) refl
     where
-      by : (o : Option ℕ) → last_wait p l i ≡ o → IsIn (length column) o
+      by : (o : Option ℕ) → last_wait p l i ≡ o → IsIn (length (column_of columns j)) o
       by None e = tt
-      by (Some w) e =
-          omega (arith, last-in p l i w lt e, points.long, (are.each j j_lt).long, ap length here)
+      by (Some w) e = omega (arith, last-in p l i w lt e, has.each j j_lt)
 
-  -- what was read is what the clock knows
-  pub known_is : (columns : List (List ℕ)) (l i j own : ℕ) (last : Option ℕ) (column : List ℕ)
-      (count : ℕ) → column ≡ column_of columns j → own ≡ count_before u p l i
-      → last ≡ last_wait p l i
-      → count ≡ (if j == l then own else count_at (of_list column) last)
-      → count ≡ clock_of u p (counts_of columns) l i j
-  known_is columns l i j own last column count here own_is last_is is =
-      is
-      ∙ ap (λ n. if j == l then n else count_at (of_list column) last) own_is
-      ∙ ap (λ xs. if j == l then count_before u p l i else count_at (of_list xs) last) here
-      ∙ ap (λ o. if j == l then count_before u p l i else count_at (counts_of columns j) o) last_is
+  -- the clock of a place
+  pub clock_is : (columns : List (List ℕ)) (l i own : ℕ) (last : Option ℕ)
+      → own ≡ count_before u p l i → last ≡ last_wait p l i
+      → (λ j. if j == l then own else count_at (counts_of columns j) last)
+      ≡ clock_of u p (counts_of columns) l i
+  clock_is columns l i own last own_is last_is =
+      let by_own : ℕ → ℕ → ℕ =
+      λ n j. if j == l then n else count_at (counts_of columns j) last in
+      let by_last : Option ℕ → ℕ → ℕ =
+      λ o j. if j == l then count_before u p l i else count_at (counts_of columns j) o in
+      ap by_own own_is ∙ ap by_last last_is

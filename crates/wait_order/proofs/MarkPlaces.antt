@@ -20,7 +20,7 @@ mark_at u p l i =
     record { lane = l; place = i; own = count_before u p l i; before = last_wait p l i }
 
 -- an element of two lists, one behind the other
-split : {X : Type 0} (xs ys : List X) (n : ℕ) (x : X) → slice_get (xs ++ ys) n ≡ Some x
+pub split : {X : Type 0} (xs ys : List X) (n : ℕ) (x : X) → slice_get (xs ++ ys) n ≡ Some x
     → (slice_get xs n ≡ Some x) ⊎ ((k : ℕ) × (n ≡ length xs + k) × (slice_get ys k ≡ Some x))
 split [] ys n x e = inr (n, omega arith, e)
 split (y ∷ xs) ys zero x e = inl e

@@ -22,14 +22,14 @@ take-get (suc i) zero (y ∷ ys) x lt e = e
 take-get (suc i) (suc k) (y ∷ ys) x lt e = take-get i k ys x (omega (arith, lt)) e
 
 -- what passes a test in a first part
-record Found {X : Type 0} (p : X → Bool) (i : ℕ) (xs : List X) : Type 0 where
+pub record Found {X : Type 0} (p : X → Bool) (i : ℕ) (xs : List X) : Type 0 where
   pub place : ℕ
   pub element : X
   pub before : place < i
   pub at : slice_get xs place ≡ Some element
   pub passes : p element ≡ true
 
-found-in : {X : Type 0} (p : X → Bool) (i : ℕ) (xs : List X) → list_any p (take i xs) ≡ true
+pub found-in : {X : Type 0} (p : X → Bool) (i : ℕ) (xs : List X) → list_any p (take i xs) ≡ true
     → Found p i xs
 found-in p zero xs e = absurd (false≢true e)
 found-in p (suc i) [] e = absurd (false≢true e)
@@ -48,7 +48,7 @@ found-in p (suc i) (x ∷ xs) e =
           }
     ]
 
-found-all : {X : Type 0} (p : X → Bool) (xs : List X) → list_any p xs ≡ true
+pub found-all : {X : Type 0} (p : X → Bool) (xs : List X) → list_any p xs ≡ true
     → Found p (length xs) xs
 found-all p [] e = absurd (false≢true e)
 found-all p (x ∷ xs) e =

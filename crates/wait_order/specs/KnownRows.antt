@@ -1,45 +1,36 @@
--- Known rows as a value of the program: rows of words, and for each place of each lane the number
--- of its row. The project's own words. Parameters: l a lane, i a place.
+-- Known rows as a value of the program. The project's own words. Parameters: u a universe, p a plan,
+-- columns how many outputs of each lane each wait knows.
 --
---   KnownRows                the universe and the plan, the rows, and the places
---   rows_of                  the sets that they stand for
---   AreKept                  what such rows keep
-use Rattle.std.specs.Prelude.{◌≡◌, ℕ, suc, ◌<◌, ◌≤◌, true, List, [], length, slice_index, slice_index_or, All}
-use Rattle.bit_rows.specs.Sets.{variants_of}
+--   KnownRows                the universe and the plan, and the columns
+--   known_rows, rows_of      what the columns tell at each place
+--   HasCounts                each wait has a count in each column
+--   Knowledge                known rows of a plan, however they are kept
+use Rattle.std.specs.Prelude.{◌≡◌, ℕ, ◌<◌, List, length}
 use Rattle.farm_model.specs.Universe.{Universe}
-use Rattle.farm_model.specs.Packages.{names, variants}
-use Rattle.plan_model.specs.Plan.{Plan, lane}
+use Rattle.plan_model.specs.Plan.{Plan}
 use Rattle.plan_model.specs.Known.{Rows}
+use Rattle.clock_laws.specs.Clocks.{clock_rows}
+use Rattle.wait_order.specs.Columns.{column_of, counts_of}
+use Rattle.wait_order.specs.Waits.{first_wait, clock_of}
 
 pub record KnownRows : Type 0 where
   pub universe : Universe
   pub plan : Plan
-  -- of each lane, for each place, the number of its row
-  pub places : List (List ℕ)
-  pub words : List (List ℕ)
+  pub columns : List (List ℕ)
 
--- the number of the row at a place
-abbrev pub row_number : List (List ℕ) → ℕ → ℕ → ℕ
-row_number places l i = slice_index (slice_index_or places l []) i
+-- what the columns tell at each place
+abbrev pub known_rows : Universe → Plan → List (List ℕ) → Rows
+known_rows u p columns = clock_rows u p (clock_of u p (counts_of columns))
 
--- the words of the row at a place
-abbrev pub words_at : KnownRows → ℕ → ℕ → List ℕ
-words_at known l i = slice_index_or known.words (row_number known.places l i) []
-
--- the set at each place
 abbrev pub rows_of : KnownRows → Rows
-rows_of known l i v = variants_of (words_at known l i) v.name v.bit
+rows_of known = known_rows known.universe known.plan known.columns
 
--- a row of known variants
-pub record IsRowIn (u : Universe) (row : List ℕ) : Type 0 where
-  pub long : length row ≡ names u
-  pub few : (n b : ℕ) → variants_of row n b ≡ true → b < variants u n
+-- each wait of the plan has a count of the outputs of each lane
+pub record HasCounts (p : Plan) (columns : List (List ℕ)) : Type 0 where
+  pub long : length columns ≡ length p
+  pub each : (j : ℕ) → j < length p → length (column_of columns j) ≡ first_wait p (length p)
 
--- each place of the plan has a row of known variants
-pub record AreKept (u : Universe) (p : Plan) (places words : List (List ℕ)) : Type 0 where
-  pub lanes : length places ≡ length p
-  pub each : (l : ℕ) → l < length p
-      → length (slice_index_or places l []) ≡ suc (length (lane p l).instructions)
-  pub within : (l i : ℕ) → l < length p → i ≤ length (lane p l).instructions
-      → row_number places l i < length words
-  pub rows : All (IsRowIn u) words
+pub record Knowledge : Type 0 where
+  pub universe : Universe
+  pub plan : Plan
+  pub rows : Rows

@@ -7,5 +7,6 @@ pub mod Marks
 pub mod Hits
 pub mod ByName
 pub mod Columns
-pub mod PlaceRows
+pub mod Clock
+pub mod Outputs
 pub mod Entries

@@ -1,6 +1,6 @@
 -- The waits of a plan as a list, lane by lane, and the outputs of a lane with the last wait before
 -- each. The project's own rules. Parameters: u a universe, p a plan, l a lane, i a place.
-use Rattle.std.specs.Prelude.{◌≡◌, ℕ, zero, suc, List, [], ◌∷◌, ◌++◌, length, map, Option, Some, None, slice_get}
+use Rattle.std.specs.Prelude.{◌≡◌, ℕ, zero, suc, ◌<◌, List, [], ◌∷◌, ◌++◌, length, map, Option, Some, None, slice_get, slice_index_or}
 use Rattle.farm_model.specs.declared.types.Variant.{Variant}
 use Rattle.farm_model.specs.Universe.{Universe}
 use Rattle.plan_model.specs.declared.instructions.Instruction.{Instruction}
@@ -9,6 +9,7 @@ use Rattle.plan_model.specs.Plan.{Plan, lane, instruction_at, outputs_of}
 use Rattle.clock_laws.specs.Clocks.{count_before}
 use Rattle.wait_order.specs.declared.marks.Mark.{Mark}
 use Rattle.wait_order.specs.declared.marks.Output.{Output}
+use Rattle.wait_order.specs.declared.marks.Past.{Past}
 use Rattle.wait_order.specs.declared.marks.LaneOutputs.{LaneOutputs}
 use Rattle.wait_order.specs.Waits.{last_wait}
 
@@ -52,3 +53,22 @@ pub record AreLanes (u : Universe) (p : Plan) (lanes : List LaneOutputs) : Type 
   pub long : length lanes ≡ length p
   pub each : (l : ℕ) (of : LaneOutputs) → slice_get lanes l ≡ Some of
       → of.outputs.items ≡ lane_outputs u p l (length (lane p l).instructions)
+
+-- what lane l has behind it at place i
+abbrev pub past_at : Universe → Plan → ℕ → ℕ → Past
+past_at u p l i = record { own = count_before u p l i; last = last_wait p l i }
+
+-- what is read past the last place
+abbrev pub no_past : Past
+no_past = record { own = 0; last = None }
+
+-- what lane l has behind it at the places below n
+pub record ArePast (u : Universe) (p : Plan) (l n : ℕ) (past : List Past) : Type 0 where
+  pub long : length past ≡ n
+  pub each : (i : ℕ) → i < n → slice_index_or past i no_past ≡ past_at u p l i
+
+-- what each lane has behind it at each of its places
+abbrev pub HavePast : Universe → Plan → List LaneOutputs → Type 0
+HavePast u p lanes =
+    (l : ℕ) (of : LaneOutputs) → slice_get lanes l ≡ Some of
+    → ArePast u p l (suc (length (lane p l).instructions)) of.past.items

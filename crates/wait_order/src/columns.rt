@@ -1,6 +1,6 @@
 //! The columns of all lanes.
 
-ghost use Rattle.std.specs.Prelude.{◌≡◌, length, IfOk};
+ghost use Rattle.std.specs.Prelude.{◌≡◌, ◌∷◌, [], length, IfOk};
 ghost use Rattle.wait_order.specs.Column as spec;
 ghost use Rattle.wait_order.specs.Column.{of_list, IsIn, ArePointsIn};
 ghost use Rattle.wait_order.specs.Marks.{AreLanes};
@@ -28,6 +28,15 @@ impl Model for Counts {
 }
 
 impl Counts {
+    /// The count of one wait.
+    pub fn one(alloc: Global, count: u64) -> Result<Counts, AllocError>
+        ensures { IfOk result (λ counts. counts ≡ count ∷ []) }
+    {
+        Ok(Counts {
+            counts: vec![in alloc; count; 1]?,
+        })
+    }
+
     /// What a wait knows, or 0 where there is none.
     pub fn at(&self, wait: Option<usize>) -> u64
         requires { IsIn (length self.now) wait }

@@ -1,99 +1,128 @@
-//! Known rows: one for each place of a plan at which they change, and an index from places to them.
+//! Known rows: for each place of a plan how many outputs of each lane are surely in the archive.
 
-ghost use Rattle.std.specs.Prelude.{◌≡◌, ◌<◌, ◌≤◌, length, slice_index};
+ghost use Rattle.std.specs.Prelude.{◌≡◌, ℕ, ◌<◌, ◌≤◌, length, IfOk};
+ghost use Rattle.farm_model.specs.Packages.{names, initial};
 ghost use Rattle.plan_model.specs.Plan.{lane};
-ghost use Rattle.sat_rows.specs.Rows.{IsRowOf};
-ghost use Rattle.wait_order.specs.KnownRows.{rows_of, AreKept};
+ghost use Rattle.sat_rows.specs.Rows.{IsWordFor, IsRowOf};
+ghost use Rattle.wait_order.specs.Clock.{count_of, IsClockFor, row_of};
+ghost use Rattle.wait_order.specs.KnownRows.{Knowledge, rows_of, HasCounts};
 
+use crate::clock::Clock;
+use crate::columns::Counts;
+use crate::outputs::Outputs;
 use bit_rows::Row;
 use farm_universe::Universe;
-use plan_asm::Plan;
+use std::alloc::{AllocError, Global};
 use std::marker::Model;
-use std::snapshot::Snapshot;
 
-/// The places of a lane: for each the number of its row.
-#[derive(Debug, Drop)]
-pub struct LanePlaces {
-    numbers: Vec<usize>,
+/// Known rows of a plan, however they are kept.
+pub trait KnownWords {
+    ghost known: { Self → Knowledge };
+
+    /// What of a name is surely in the archive at a place of a lane, as a word.
+    fn word(&self, universe: &Universe, number: usize, place: usize, name: u32) -> u64
+        requires of_universe { (known self.now).universe ≡ universe.now }
+        requires lane { number < length (known self.now).plan }
+        requires place { place ≤ length (lane (known self.now).plan number).instructions }
+        requires name { name < names universe.now }
+        ensures { IsWordFor universe.now ((known self.now).rows number place) name result };
 }
 
-impl Model for LanePlaces {
-    ghost use Rattle.std.specs.Prelude.{List, ℕ};
-
-    ghost Value = { List ℕ };
-
-    ghost view = { λ places. places.numbers.items };
-}
-
-impl LanePlaces {
-    /// Makes the places of these row numbers.
-    pub fn new(numbers: Vec<usize>) -> LanePlaces
-        ensures { result ≡ numbers.items }
-    {
-        LanePlaces { numbers }
-    }
-
-    fn number(&self, place: usize) -> usize
-        requires { place < length self.now }
-        ensures { result ≡ slice_index self.now place }
-    {
-        self.numbers[place]
-    }
-}
-
-/// What each lane of a plan knows of the archive at each place. A place is a number of instructions
-/// done. Places between which nothing is learned share a row. A contract sees the universe and the
-/// plan that the rows are about.
+/// What each lane of a plan knows of the archive at each place: the variants that are there whenever
+/// it stands there. A place is a number of instructions done. Kept is how many outputs of each lane
+/// each wait knows. A contract sees the universe, the plan and these counts.
 #[derive(Drop)]
 pub struct Known {
-    universe: Snapshot<Universe>,
-    plan: Snapshot<Plan>,
-    places: Vec<LanePlaces>,
-    rows: Vec<Row>,
+    outputs: Outputs,
+    columns: Vec<Counts>,
 }
 
 impl Model for Known {
     ghost use Rattle.wait_order.specs.KnownRows as spec;
-    ghost use Rattle.wait_order.specs.KnownRows.{AreKept};
+    ghost use Rattle.wait_order.specs.KnownRows.{HasCounts};
 
     ghost Value = { spec.KnownRows };
 
     ghost view = { λ known. record {
-      universe = known.universe.value;
-      plan = known.plan.value.lanes;
-      places = known.places.items;
-      words = known.rows.items;
+      universe = known.outputs.universe;
+      plan = known.outputs.plan;
+      columns = known.columns.items;
     } };
 
-    ghost invariant = { λ known. AreKept known.universe.value known.plan.value.lanes
-        known.places.items known.rows.items };
+    ghost invariant = { λ known. HasCounts known.outputs.plan known.columns.items };
 }
 
 impl Known {
-    /// Puts rows and the places of each lane together.
-    pub fn new(universe: &Universe, plan: &Plan, places: Vec<LanePlaces>, rows: Vec<Row>) -> Known
-        requires { AreKept universe.now plan.now.lanes places.items rows.items }
+    /// Puts the outputs of a plan and what each wait knows of them together.
+    pub(crate) fn new(outputs: Outputs, columns: Vec<Counts>) -> Known
+        requires { HasCounts outputs.plan columns.items }
         ensures { result ≡ record {
-          universe = universe.now;
-          plan = plan.now.lanes;
-          places = places.items;
-          words = rows.items;
+          universe = outputs.universe;
+          plan = outputs.plan;
+          columns = columns.items;
         } }
     {
-        Known {
-            universe: Snapshot::of(universe),
-            plan: Snapshot::of(plan),
-            places,
-            rows,
+        Known { outputs, columns }
+    }
+
+    /// The outputs of the plan.
+    pub fn outputs(&self) -> &Outputs
+        ensures universe { result.now.universe ≡ self.now.universe }
+        ensures plan { result.now.plan ≡ self.now.plan }
+    {
+        &self.outputs
+    }
+
+    /// How many outputs of each lane are known at a place.
+    fn clock(&self, number: usize, place: usize) -> Clock<'_>
+        requires lane { number < length self.now.plan }
+        requires place { place ≤ length (lane self.now.plan number).instructions }
+        ensures rows { row_of self.now.universe self.now.plan (count_of result)
+            ≡ rows_of self.now number place }
+        ensures fits { IsClockFor (length self.now.plan) result }
+    {
+        let past = self.outputs.past(number, place);
+        Clock {
+            lane: number,
+            own: past.own,
+            columns: &self.columns,
+            last: past.last,
         }
     }
 
-    /// What a lane knows at a place: the variants that are in the archive whenever it stands there.
-    pub fn row(&self, number: usize, place: usize) -> &Row
+    /// What a lane knows at a place, as a row. `archive` is the initial archive.
+    ///
+    /// # Errors
+    ///
+    /// [`AllocError`] where memory is refused.
+    pub fn row(
+        &self,
+        alloc: Global,
+        universe: &Universe,
+        archive: &Row,
+        number: usize,
+        place: usize,
+    ) -> Result<Row, AllocError>
+        requires of_universe { self.now.universe ≡ universe.now }
+        requires archive { IsRowOf universe.now (initial universe.now) archive.now }
         requires lane { number < length self.now.plan }
         requires place { place ≤ length (lane self.now.plan number).instructions }
-        ensures { IsRowOf self.now.universe (rows_of self.now number place) result.now }
+        ensures { IfOk result (IsRowOf universe.now (rows_of self.now number place)) }
     {
-        &self.rows[self.places[number].number(place)]
+        let clock = self.clock(number, place);
+        self.outputs.row(alloc, universe, archive, &clock)
+    }
+}
+
+impl KnownWords for Known {
+    ghost known = { λ known. record {
+      universe = known.universe;
+      plan = known.plan;
+      rows = rows_of known;
+    } };
+
+    fn word(&self, universe: &Universe, number: usize, place: usize, name: u32) -> u64 {
+        let clock = self.clock(number, place);
+        self.outputs.word(universe, &clock, name)
     }
 }

@@ -2,14 +2,14 @@
 #![tactic(auto)]
 
 mod by_name;
-mod clock_row;
+mod clock;
 mod column;
 mod columns;
 mod entries;
 mod first_hits;
 mod known;
-mod lane_rows;
 mod marks;
+mod outputs;
 mod plan_rows;
 mod points;
 mod rounds;
@@ -17,7 +17,8 @@ mod standing;
 mod visit;
 mod wait_rows;
 
-pub use known::{Known, LanePlaces};
+pub use known::{Known, KnownWords};
+pub use outputs::Outputs;
 pub use plan_rows::knowledge;
 pub use rounds::{OrderError, order};
 pub use standing::initial_row;

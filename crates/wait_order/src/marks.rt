@@ -1,9 +1,9 @@
 //! The waits of a plan by number, and the outputs of its lanes, each with the last wait before it.
 
-ghost use Rattle.std.specs.Prelude.{◌≡◌, ◌<◌, ◌+◌, ◌++◌, length, map, IfOk, OnOk};
+ghost use Rattle.std.specs.Prelude.{◌≡◌, ◌<◌, ◌+◌, ◌++◌, suc, length, map, IfOk, OnOk};
 ghost use Rattle.farm_model.specs.Packages.{outputs};
 ghost use Rattle.plan_model.specs.Plan.{lane, outputs_of};
-ghost use Rattle.wait_order.specs.Marks.{output_with, last_after, marks_of, all_marks, lane_outputs, AreLanes};
+ghost use Rattle.wait_order.specs.Marks.{output_with, last_after, marks_of, all_marks, lane_outputs, AreLanes, ArePast, HavePast};
 
 use farm_model::Variant;
 use farm_universe::Universe;
@@ -26,10 +26,18 @@ pub struct Output {
     pub point: Option<usize>,
 }
 
-/// The outputs of a lane in order.
+/// What a lane has behind it at a place: how many outputs it made, and its last wait.
+#[derive(Clone, Copy, Debug)]
+pub struct Past {
+    pub own: usize,
+    pub last: Option<usize>,
+}
+
+/// The outputs of a lane in order, and what it has behind it at each of its places.
 #[derive(Debug, Drop)]
 pub struct LaneOutputs {
     pub outputs: Vec<Output>,
+    pub past: Vec<Past>,
 }
 
 /// The waits of a plan, lane by lane, and the outputs of each lane.
@@ -115,11 +123,18 @@ fn walk_lane(
     ensures outputs { IfOk result (λ found. found.outputs.items
         ≡ lane_outputs universe.now plan.now.lanes number
         (length (lane plan.now.lanes number).instructions)) }
+    ensures past { IfOk result (λ found. ArePast universe.now plan.now.lanes number
+        (suc (length (lane plan.now.lanes number).instructions)) found.past.items) }
 {
     let instructions = plan.lane(number).instructions();
     let mut outputs = Vec::new(alloc);
+    let mut past = Vec::new(alloc);
     let mut last = None;
     for place in 0..instructions.len() {
+        past.push(Past {
+            own: outputs.len(),
+            last,
+        })?;
         pass(
             universe,
             number,
@@ -130,7 +145,11 @@ fn walk_lane(
             &mut outputs,
         )?;
     }
-    Ok(LaneOutputs { outputs })
+    past.push(Past {
+        own: outputs.len(),
+        last,
+    })?;
+    Ok(LaneOutputs { outputs, past })
 }
 
 /// Goes over all lanes.
@@ -138,6 +157,7 @@ pub fn walk(alloc: Global, universe: &Universe, plan: &Plan) -> Result<Marks, Al
     ensures waits { IfOk result (λ found. found.waits.items
         ≡ all_marks universe.now plan.now.lanes (length plan.now.lanes)) }
     ensures lanes { IfOk result (λ found. AreLanes universe.now plan.now.lanes found.lanes.items) }
+    ensures past { IfOk result (λ found. HavePast universe.now plan.now.lanes found.lanes.items) }
 {
     let mut waits = Vec::new(alloc);
     let mut lanes = Vec::new(alloc);

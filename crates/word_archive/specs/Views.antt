@@ -44,7 +44,7 @@ abbrev pub no_plan : AcceptedPlan
 no_plan = record {
   universe = no_universe;
   plan = [];
-  known = record { universe = no_universe; plan = []; places = []; words = [] };
+  known = record { universe = no_universe; plan = []; columns = [] };
   order = [];
   costs = [];
 }

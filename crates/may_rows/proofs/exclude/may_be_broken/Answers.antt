@@ -1,7 +1,9 @@
-use Rattle.std.proofs.Common.{subst, ◌∙◌}
+use Rattle.std.proofs.Common.{◌≡◌, ◌↔◌, true, ap, subst, ◌∙◌}
+use Rattle.bit_rows.specs.Sets.{variants_of, HaveCommon}
 use Rattle.farm_model.specs.Packages.{breaks}
-use Rattle.sat_rows.specs.Rows.{IsRowOf, breakers_of}
-use Rattle.may_rows.specs.Words.{may_of}
+use Rattle.sat_rows.specs.Rows.{passes, breakers_of}
+use Rattle.may_rows.specs.Words.{Words, may_of}
+use Rattle.may_rows.proofs.Bridges.{common_is}
 use Rattle.may_rows.proofs.OtherNames.{may_hold-other}
 use Rattle.may_rows.proofs.exclude.may_be_broken.Goals as goal
 
@@ -9,6 +11,13 @@ pub returns : goal.returns
 returns c =
     let u = c.args._universe.now in
     let v = c.args.variant in
-    let row = subst (λ t. IsRowOf t (breakers_of t v) c.broken_by.result.now) c.requires.same c.broken_by.ensures in
-    c.may_hit.ensures u (breakers_of u v) c.requires.state row
+    let view = ap (λ (w : Words). w.here) c.state.view_is in
+    let words : c.deref.result.now ≡ c.args.state.now.here = cc (view, c.deref.ensures.value) in
+    let told = subst
+    (λ ws. (c.is_broken_by_some.result ≡ true) ↔ HaveCommon (variants_of ws) (passes u (breakers_of u v))) words
+    (subst
+    (λ t. (c.is_broken_by_some.result ≡ true)
+    ↔ HaveCommon (variants_of c.deref.result.now) (passes t (breakers_of t v))) c.requires.same
+    c.is_broken_by_some.ensures) in
+    common_is u c.args.state.now c.requires.state (breakers_of u v) c.is_broken_by_some.result told
     ∙ may_hold-other u (may_of c.args.state.now) v (λ w. breaks u w v)

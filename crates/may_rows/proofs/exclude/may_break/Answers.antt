@@ -1,7 +1,9 @@
-use Rattle.std.proofs.Common.{subst, ◌∙◌}
+use Rattle.std.proofs.Common.{◌≡◌, ◌↔◌, true, ap, subst, ◌∙◌}
+use Rattle.bit_rows.specs.Sets.{variants_of, HaveCommon}
 use Rattle.farm_model.specs.Packages.{breaks}
-use Rattle.sat_rows.specs.Rows.{IsRowOf, broken_by}
-use Rattle.may_rows.specs.Words.{may_of}
+use Rattle.sat_rows.specs.Rows.{passes, broken_by}
+use Rattle.may_rows.specs.Words.{Words, may_of}
+use Rattle.may_rows.proofs.Bridges.{common_configured_is}
 use Rattle.may_rows.proofs.OtherNames.{may_hold_configured-other}
 use Rattle.may_rows.proofs.exclude.may_break.Goals as goal
 
@@ -9,6 +11,13 @@ pub returns : goal.returns
 returns c =
     let u = c.args._universe.now in
     let v = c.args.variant in
-    let row = subst (λ t. IsRowOf t (broken_by t v) c.breaks.result.now) c.requires.same c.breaks.ensures in
-    c.may_hit_configured.ensures u (broken_by u v) c.requires.state row
+    let view = ap (λ (w : Words). w.ready) c.state.view_is in
+    let words : c.deref.result.now ≡ c.args.state.now.ready = cc (view, c.deref.ensures.value) in
+    let told = subst
+    (λ ws. (c.breaks_some.result ≡ true) ↔ HaveCommon (variants_of ws) (passes u (broken_by u v))) words
+    (subst
+    (λ t. (c.breaks_some.result ≡ true)
+    ↔ HaveCommon (variants_of c.deref.result.now) (passes t (broken_by t v))) c.requires.same
+    c.breaks_some.ensures) in
+    common_configured_is u c.args.state.now c.requires.state (broken_by u v) c.breaks_some.result told
     ∙ may_hold_configured-other u (may_of c.args.state.now) v (breaks u v)

@@ -2,7 +2,7 @@ use Rattle.std.proofs.Common.{subst, List, ℕ, Err}
 use Rattle.std.proofs.lemmas.Result.{err_from_is_err_and}
 use Rattle.plan_cert.specs.Broken.{IsOrderChecked}
 use Rattle.plan_model.specs.Order.{IsOrder}
-use Rattle.wait_order.specs.KnownRows.{rows_of}
+use Rattle.plan_cert.specs.PlaceRows.{rows_of}
 use Rattle.plan_cert.proofs.CheckLaws.{rows-verdict, safety-verdict, order-verdict, certified, promise}
 use Rattle.plan_cert.proofs.checker.check_certificate.Goals as goal
 

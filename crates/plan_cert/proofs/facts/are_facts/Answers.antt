@@ -3,7 +3,7 @@ use Rattle.std.proofs.lemmas.Bool.{cases_eq, both_ways, false≢true}
 use Rattle.plan_cert.specs.Facts.{IsKnownAt}
 use Rattle.plan_cert.specs.Stated.{in_row}
 use Rattle.plan_cert.proofs.FactLaws.{facts_from, facts_at}
-use Rattle.wait_order.specs.KnownRows.{rows_of}
+use Rattle.plan_cert.specs.PlaceRows.{rows_of}
 use Rattle.plan_cert.proofs.facts.are_facts.Goals as goal
 
 pub returns-then-not-is_initial : goal.returns-then-not-is_initial

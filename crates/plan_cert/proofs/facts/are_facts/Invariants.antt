@@ -1,7 +1,7 @@
 use Rattle.std.proofs.Common.{ℕ, ◌<◌}
 use Rattle.plan_cert.specs.Facts.{IsKnownAt}
 use Rattle.plan_cert.specs.Stated.{in_row}
-use Rattle.wait_order.specs.KnownRows.{rows_of}
+use Rattle.plan_cert.specs.PlaceRows.{rows_of}
 use Rattle.plan_cert.proofs.facts.are_facts.Given as goal
 
 -- the lanes so far

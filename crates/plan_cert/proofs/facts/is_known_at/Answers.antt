@@ -3,7 +3,7 @@ use Rattle.farm_model.specs.Universe.{Universe}
 use Rattle.plan_model.specs.declared.instructions.Instruction.TheVariants.{Publish}
 use Rattle.plan_model.specs.Plan.{lane, instruction_at}
 use Rattle.sat_rows.specs.Rows.{IsRowOf}
-use Rattle.wait_order.specs.KnownRows.{rows_of}
+use Rattle.plan_cert.specs.PlaceRows.{rows_of}
 use Rattle.wait_order.proofs.Leading.{read_at}
 use Rattle.plan_cert.specs.Stated.{in_row}
 use Rattle.plan_cert.proofs.FactLaws.{known_here}

@@ -6,7 +6,7 @@ use Rattle.may_rows.proofs.ByNumber.{any-found}
 use Rattle.plan_model.specs.Plan.{lane}
 use Rattle.plan_cert.specs.Facts.{IsKnownAt}
 use Rattle.plan_cert.specs.Stated.{in_row}
-use Rattle.wait_order.specs.KnownRows.{rows_of}
+use Rattle.plan_cert.specs.PlaceRows.{rows_of}
 use Rattle.plan_cert.proofs.facts.is_known_in.Goals as goal
 
 pub returns : goal.returns

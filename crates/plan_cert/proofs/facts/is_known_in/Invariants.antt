@@ -2,7 +2,7 @@ use Rattle.std.proofs.Common.{ℕ, ◌<◌}
 use Rattle.std.specs.Prelude.{slice_index}
 use Rattle.plan_cert.specs.Facts.{IsKnownAt}
 use Rattle.plan_cert.specs.Stated.{in_row}
-use Rattle.wait_order.specs.KnownRows.{rows_of}
+use Rattle.plan_cert.specs.PlaceRows.{rows_of}
 use Rattle.plan_cert.proofs.facts.is_known_in.Given as goal
 
 -- the publishes so far

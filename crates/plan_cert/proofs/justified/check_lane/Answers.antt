@@ -6,7 +6,7 @@ use Rattle.plan_verifier.proofs.Reach.{possible_after}
 use Rattle.plan_verifier.proofs.Steps.{lane-short}
 use Rattle.verdict_laws.specs.Places.{IsJustified}
 use Rattle.wait_order.proofs.Leading.{read_at}
-use Rattle.wait_order.specs.KnownRows.{rows_of}
+use Rattle.plan_cert.specs.PlaceRows.{rows_of}
 use Rattle.plan_cert.proofs.JustifiedLaws.{past-justified}
 use Rattle.plan_cert.proofs.justified.check_lane.Goals as goal
 

@@ -2,7 +2,7 @@ use Rattle.std.proofs.Common.{ℕ, suc, ◌<◌}
 use Rattle.plan_model.specs.Known.{possible}
 use Rattle.verdict_laws.specs.Places.{IsJustified}
 use Rattle.sat_rows.specs.Rows.{IsRowOf}
-use Rattle.wait_order.specs.KnownRows.{rows_of}
+use Rattle.plan_cert.specs.PlaceRows.{rows_of}
 use Rattle.plan_cert.proofs.justified.check_lane.Given as goal
 
 -- the places so far

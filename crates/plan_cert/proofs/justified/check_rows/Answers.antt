@@ -1,7 +1,7 @@
 use Rattle.std.proofs.Common.{suc, inl, inr, sym, subst, arith}
 use Rattle.std.proofs.lemmas.Bool.{cases_eq}
 use Rattle.verdict_laws.specs.Places.{IsJustified}
-use Rattle.wait_order.specs.KnownRows.{rows_of}
+use Rattle.plan_cert.specs.PlaceRows.{rows_of}
 use Rattle.plan_cert.proofs.justified.check_rows.Goals as goal
 
 pub loop-number-preserved : goal.loop-number-preserved

@@ -1,6 +1,6 @@
 use Rattle.std.proofs.Common.{ℕ, suc, ◌<◌}
 use Rattle.verdict_laws.specs.Places.{IsJustified}
-use Rattle.wait_order.specs.KnownRows.{rows_of}
+use Rattle.plan_cert.specs.PlaceRows.{rows_of}
 use Rattle.plan_cert.proofs.justified.check_rows.Given as goal
 
 -- the lanes so far

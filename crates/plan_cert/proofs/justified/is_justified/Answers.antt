@@ -5,7 +5,7 @@ use Rattle.plan_model.specs.Plan.{instruction_at}
 use Rattle.plan_verifier.proofs.Steps.{lane-short}
 use Rattle.sat_rows.specs.Rows.{IsRowOf}
 use Rattle.wait_order.proofs.Leading.{read_at}
-use Rattle.wait_order.specs.KnownRows.{rows_of}
+use Rattle.plan_cert.specs.PlaceRows.{rows_of}
 use Rattle.plan_cert.proofs.JustifiedLaws.{quiet-justified, publish-justified, wait-justified, adds-nothing}
 use Rattle.plan_cert.proofs.justified.is_justified.Goals as goal
 

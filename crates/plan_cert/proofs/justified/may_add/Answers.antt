@@ -2,7 +2,7 @@ use Rattle.std.proofs.Common.{subst}
 use Rattle.farm_model.specs.Universe.{Universe}
 use Rattle.farm_model.specs.Packages.{satisfies_entry}
 use Rattle.sat_rows.specs.Rows.{IsRowOf}
-use Rattle.wait_order.specs.KnownRows.{rows_of}
+use Rattle.plan_cert.specs.PlaceRows.{rows_of}
 use Rattle.plan_cert.proofs.JustifiedLaws.{add-none, add-facts}
 use Rattle.plan_cert.proofs.justified.may_add.Goals as goal
 

@@ -1,4 +1,5 @@
 use Rattle.std.proofs.Common.{sym, subst}
+use Rattle.farm_model.specs.Universe.{Universe}
 use Rattle.sat_rows.specs.Rows.{IsRowOf}
 use Rattle.wait_order.specs.KnownRows.{rows_of}
 use Rattle.plan_cert.proofs.NewRows.{row-new-at}
@@ -12,5 +13,6 @@ returns-clause-exact c =
     let i = c.args.place in
     row-new-at u c.args.known.now.plan known c.requires.sound c.requires.keeps l i c.requires.lane
     c.requires.place c.in_ok-row.row c.args.archive.now c.take_out.new.self
-    (subst (IsRowOf u (known l i)) (sym c.in_ok-row.ensures.cases) c.row.ensures)
+    (subst (λ (w : Universe). IsRowOf w (known l i) c.in_ok-row.row) (sym c.requires.of_universe)
+    c.in_ok-row.ensures)
     c.requires.archive c.take_out.ensures.set

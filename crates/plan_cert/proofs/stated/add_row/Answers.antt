@@ -1,6 +1,6 @@
 use Rattle.std.proofs.Common.{◌≡◌, ◌+◌, ◌<◌, true, length, get_or, sym, ap, ◌∙◌, arith}
 use Rattle.cert_text.specs.Certificates.{lane_rows, learns}
-use Rattle.wait_order.proofs.PlaceLaws.{last_push}
+use Rattle.plan_cert.proofs.PlaceLaws.{last_push}
 use Rattle.plan_cert.specs.Stated.{stated_rows}
 use Rattle.plan_cert.proofs.StatedLaws.{next-quiet, next-learns, row-there, last-quiet, row-listed, listed-new}
 use Rattle.plan_cert.proofs.stated.add_row.Goals as goal

@@ -1,7 +1,7 @@
 use Rattle.std.proofs.Common.{◌-◌, sym, subst, arith}
 use Rattle.farm_model.specs.Packages.{initial}
 use Rattle.sat_rows.specs.Rows.{IsRowOf}
-use Rattle.wait_order.proofs.PlaceLaws.{extended_push, extended_twice, numbers_next}
+use Rattle.plan_cert.proofs.PlaceLaws.{extended_push, extended_twice, numbers_next}
 use Rattle.plan_cert.specs.Stated.{stated_rows}
 use Rattle.plan_cert.proofs.stated.lane_places.Goals as goal
 

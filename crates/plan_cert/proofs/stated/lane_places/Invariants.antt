@@ -1,5 +1,5 @@
 use Rattle.std.proofs.Common.{◌≡◌}
-use Rattle.wait_order.specs.PlaceRows.{IsLastRow, IsExtended, AreRowNumbers}
+use Rattle.plan_cert.specs.PlaceRows.{IsLastRow, IsExtended, AreRowNumbers}
 use Rattle.plan_cert.specs.Stated.{rows_before, stated_rows}
 use Rattle.plan_cert.proofs.stated.lane_places.Given as goal
 

@@ -1,5 +1,5 @@
 use Rattle.std.proofs.Common.{◌<◌, sym, subst, arith}
-use Rattle.wait_order.specs.KnownRows.{words_at}
+use Rattle.plan_cert.specs.PlaceRows.{words_at}
 use Rattle.sat_rows.specs.Rows.{IsRowOf}
 use Rattle.plan_cert.specs.Stated.{stated_rows}
 use Rattle.plan_cert.proofs.StatedLaws.{stated-known, row-has}

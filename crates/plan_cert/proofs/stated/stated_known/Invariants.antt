@@ -1,5 +1,5 @@
 use Rattle.std.proofs.Common.{All}
-use Rattle.wait_order.specs.KnownRows.{IsRowIn}
+use Rattle.plan_cert.specs.PlaceRows.{IsRowIn}
 use Rattle.plan_cert.specs.Places.{AreRowsOf}
 use Rattle.plan_cert.specs.Stated.{stated_rows}
 use Rattle.plan_cert.proofs.stated.stated_known.Given as goal

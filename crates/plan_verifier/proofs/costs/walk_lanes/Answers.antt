@@ -2,27 +2,26 @@ use Rattle.std.proofs.Common.{◌≡◌, ◌+◌, inl, inr, None, sym, subst, le
 use Rattle.std.proofs.lemmas.Bool.{cases_eq}
 use Rattle.plan_model.specs.Safety.{risk_at}
 use Rattle.plan_verifier.specs.Accepted.{AreCosts}
-use Rattle.wait_order.specs.KnownRows.{rows_of}
 use Rattle.plan_verifier.proofs.Walks.{more_costs, walk_ends}
 use Rattle.plan_verifier.proofs.costs.walk_lanes.Goals as goal
 
 pub loop-number-init : goal.loop-number-init
-loop-number-init c = record {
+loop-number-init g c = record {
   safe = λ j i lt. absurd (omega arith);
   costs = record { long = search; each = λ l lt. absurd (omega arith) };
 }
 
 pub returns-in-Err : goal.returns-in-Err
-returns-in-Err c =
-    walk_ends c.args.universe.now c.args.plan.now.lanes (rows_of c.args.known.now)
+returns-in-Err g c =
+    walk_ends c.args.universe.now c.args.plan.now.lanes (g.K.KnownWords.known c.args.known.now).rows
     c.loop-number.number (omega (arith, c.lanes-number-end.ensures.lanes))
     c.loop-number.invariant.safe c.in-Err.error c.in-Err.ensures
 
 pub loop-number-preserved : goal.loop-number-preserved
-loop-number-preserved c =
+loop-number-preserved g c =
     let u = c.args.universe.now in
     let p = c.args.plan.now.lanes in
-    let rows = rows_of c.args.known.now in
+    let rows = (g.K.KnownWords.known c.args.known.now).rows in
     let l = c.loop-number.number in
     record {
       safe = λ j i lt. elim (cases_eq j l) [
@@ -35,10 +34,10 @@ loop-number-preserved c =
     }
 
 pub returns : goal.returns
-returns c =
+returns g c =
     let u = c.args.universe.now in
     let p = c.args.plan.now.lanes in
-    let rows = rows_of c.args.known.now in
+    let rows = (g.K.KnownWords.known c.args.known.now).rows in
     let end : c.loop-number.number ≡ length p = omega (arith, c.lanes-number-end.ensures.lanes) in (
       λ l i lt. c.loop-number.invariant.safe l i (omega arith),
       subst (λ n. AreCosts u p rows n c.loop-number.costs.items) end c.loop-number.invariant.costs,

@@ -9,14 +9,11 @@ use Rattle.plan_model.specs.MayAt.{may_at, lane_cost}
 use Rattle.plan_model.specs.Plan.{Lane, lane, no_lane, instruction_at}
 use Rattle.plan_model.specs.Risk.{risk}
 use Rattle.plan_model.specs.Safety.{risk_at}
-use Rattle.sat_rows.specs.Rows.{IsRowOf}
-use Rattle.wait_order.specs.KnownRows.{rows_of}
-use Rattle.plan_verifier.proofs.Reach.{possible_after}
-use Rattle.plan_verifier.proofs.Steps.{may-next, risk-is, risk-past, lane-short, instruction-is, of_archive, known_within}
+use Rattle.plan_verifier.proofs.Steps.{may-next, risk-is, risk-past, lane-short, instruction-is, of_archive}
 use Rattle.plan_verifier.proofs.walk.walk.Goals as goal
 
 pub loop-place-init : goal.loop-place-init
-loop-place-init c =
+loop-place-init g c =
     let u = c.args.universe.now in
     let p = c.args.plan.now.lanes in
     let of = c.lane-lane.result.now in
@@ -42,14 +39,13 @@ loop-place-init c =
             (λ k d lt. absurd (omega (arith, lt)));
         among = λ known. cc (known, c.new-doubts.ensures.unknown);
       };
-      there = c.in_ok-there.ensures;
     }
 
 pub loop-place-preserved : goal.loop-place-preserved
-loop-place-preserved c =
+loop-place-preserved g c =
     let u = c.args.universe.now in
     let p = c.args.plan.now.lanes in
-    let rows = rows_of c.args.known.now in
+    let rows = (g.K.KnownWords.known c.args.known.now).rows in
     let l = c.args.number in
     let i = c.loop-place.place in
     let m = may_of c.loop-place.state in
@@ -62,14 +58,11 @@ loop-place-preserved c =
     ap length
     (sym (c.instructions-instructions.ensures
     ∙ ap (λ (o : Lane). o.instructions) c.lane-lane.ensures)) in
-    let known : IsRowOf u (rows l i) c.row-known.result.now =
-    subst (λ (w : Universe). IsRowOf w (rows l i) c.row-known.result.now) c.requires.of_universe
-    c.row-known.ensures in
     let archive =
     of_archive u p rows c.requires.sound.universe c.requires.keeps l i c.requires.lane
     (omega (arith, long)) in
-    let answer = c.in_default.ensures.answer (rows l i) (possible u p l i) archive known
-    c.loop-place.invariant.there in
+    let answer = c.in_default.ensures.answer (rows l i) (possible u p l i) archive
+    c.words_at-words.ensures.words in
     let safe : risk_at u p rows l i ≡ None =
     risk-is u p rows l i x m here c.loop-place.invariant.at
     ∙ (ap (λ of. risk u of (rows l i) (possible u p l i) m x) (sym c.lane-lane.ensures)
@@ -81,16 +74,20 @@ loop-place-preserved c =
         | inr other ↦ c.loop-place.invariant.safe k (omega arith)
       ];
       of_lane = c.in_default.ensures.of_lane;
-      doubts = c.in_default.ensures.doubts (rows l i) (possible u p l i) archive known
-          c.loop-place.invariant.there;
-      there =
-          rw add-one
-          (possible_after u p l c.requires.lane i x here c.add_outputs.new.row
-          (c.in_ok-add_outputs.ensures.added (possible u p l i) c.loop-place.invariant.there));
+      doubts = c.in_default.ensures.doubts (rows l i) (possible u p l i) archive
+          c.words_at-words.ensures.words;
     }
 
 pub step-stepped-requires-clause-instruction : goal.step-stepped-requires-clause-instruction
-step-stepped-requires-clause-instruction c =
+step-stepped-requires-clause-instruction g c =
+    c.requires.sound.plan.instructions c.args.number c.loop-place.place
+    c.index-instructions-place.result c.requires.lane
+    (instruction-is c.args.plan.now.lanes c.args.number c.loop-place.place c.lane-lane.result.now
+    c.instructions-instructions.result.now c.index-instructions-place.result c.lane-lane.ensures
+    c.instructions-instructions.ensures (omega arith) c.index-instructions-place.is)
+
+pub words_at-words-requires-clause-instruction : goal.words_at-words-requires-clause-instruction
+words_at-words-requires-clause-instruction g c =
     c.requires.sound.plan.instructions c.args.number c.loop-place.place
     c.index-instructions-place.result c.requires.lane
     (instruction-is c.args.plan.now.lanes c.args.number c.loop-place.place c.lane-lane.result.now
@@ -98,10 +95,10 @@ step-stepped-requires-clause-instruction c =
     c.instructions-instructions.ensures (omega arith) c.index-instructions-place.is)
 
 pub overflow_cast-result : goal.overflow_cast-result
-overflow_cast-result c = omega (arith, c.requires.lane, c.lanes-lanes.ensures.limits.lanes)
+overflow_cast-result g c = omega (arith, c.requires.lane, c.lanes-lanes.ensures.limits.lanes)
 
 pub overflow_cast-result-in-Err : goal.overflow_cast-result-in-Err
-overflow_cast-result-in-Err c =
+overflow_cast-result-in-Err g c =
     let short =
     lane-short c.args.plan.now.lanes c.args.number c.requires.lane c.lanes-lanes.ensures.limits in
     let long : length c.instructions-instructions.result.now
@@ -112,7 +109,7 @@ overflow_cast-result-in-Err c =
     omega (arith, short, long)
 
 pub overflow_add-result : goal.overflow_add-result
-overflow_add-result c =
+overflow_add-result g c =
     let short =
     lane-short c.args.plan.now.lanes c.args.number c.requires.lane c.lanes-lanes.ensures.limits in
     let long : length c.instructions-instructions.result.now
@@ -124,10 +121,10 @@ overflow_add-result c =
 
 pub returns : goal.returns
 unfolding lane_cost
-returns c =
+returns g c =
     let u = c.args.universe.now in
     let p = c.args.plan.now.lanes in
-    let rows = rows_of c.args.known.now in
+    let rows = (g.K.KnownWords.known c.args.known.now).rows in
     let long : length (lane p c.args.number).instructions
     ≡ length c.instructions-instructions.result.now =
     ap length
@@ -143,28 +140,11 @@ returns c =
           ∙ ap (λ k. (may_at u p rows c.args.number k).cost) end,
     )
 
-pub step-stepped-requires-clause-known_there : goal.step-stepped-requires-clause-known_there
-step-stepped-requires-clause-known_there c =
-    let u = c.args.universe.now in
-    let p = c.args.plan.now.lanes in
-    let rows = rows_of c.args.known.now in
-    let l = c.args.number in
-    let i = c.loop-place.place in
-    let long : length (lane p l).instructions ≡ length c.instructions-instructions.result.now =
-    ap length
-    (sym (c.instructions-instructions.ensures
-    ∙ ap (λ (o : Lane). o.instructions) c.lane-lane.ensures)) in
-    known_within u p rows c.requires.sound.universe c.requires.keeps l i c.requires.lane
-    (omega (arith, long)) c.row-known.result.now c.loop-place.there
-    (subst (λ (w : Universe). IsRowOf w (rows l i) c.row-known.result.now) c.requires.of_universe
-    c.row-known.ensures)
-    c.loop-place.invariant.there
-
 pub returns-in-Err : goal.returns-in-Err
-returns-in-Err c =
+returns-in-Err g c =
     let u = c.args.universe.now in
     let p = c.args.plan.now.lanes in
-    let rows = rows_of c.args.known.now in
+    let rows = (g.K.KnownWords.known c.args.known.now).rows in
     let l = c.args.number in
     let i = c.loop-place.place in
     let m = may_of c.loop-place.state in
@@ -176,10 +156,7 @@ returns-in-Err c =
     let long : length (lane p l).instructions ≡ length c.instructions-instructions.result.now =
     ap length
     (sym (c.instructions-instructions.ensures
-    ∙ ap (λ (o : Lane). o.instructions) c.lane-lane.ensures)) in
-    let known : IsRowOf u (rows l i) c.row-known.result.now =
-    subst (λ (w : Universe). IsRowOf w (rows l i) c.row-known.result.now) c.requires.of_universe
-    c.row-known.ensures in (
+    ∙ ap (λ (o : Lane). o.instructions) c.lane-lane.ensures)) in (
       i,
       refl,
       refl,
@@ -188,6 +165,6 @@ returns-in-Err c =
           ∙ c.in-Err.ensures.answer (rows l i) (possible u p l i)
           (of_archive u p rows c.requires.sound.universe c.requires.keeps l i c.requires.lane
           (omega (arith, long)))
-          known c.loop-place.invariant.there),
+          c.words_at-words.ensures.words),
       c.loop-place.invariant.safe,
     )

@@ -2,19 +2,15 @@ use Rattle.std.proofs.Common.{◌≡◌, ℕ, ◌<◌, None}
 use Rattle.may_rows.specs.Met.{AreDoubts}
 use Rattle.may_rows.specs.Walk.{IsOfLane}
 use Rattle.may_rows.specs.Words.{may_of}
-use Rattle.plan_model.specs.Known.{possible}
 use Rattle.plan_model.specs.MayAt.{may_at}
 use Rattle.plan_model.specs.Safety.{risk_at}
-use Rattle.sat_rows.specs.Rows.{IsRowOf}
-use Rattle.wait_order.specs.KnownRows.{rows_of}
 use Rattle.plan_verifier.proofs.walk.walk.Given as goal
 
 abbrev pub invariant-loop-place : goal.invariant-loop-place
-invariant-loop-place l = record {
-  at : may_at l.universe l.plan.lanes (rows_of l.fn.known) l.number l.place ≡ may_of l.state;
+invariant-loop-place g l = record {
+  at : may_at l.universe l.plan.lanes (g.K.KnownWords.known l.fn.known).rows l.number l.place ≡ may_of l.state;
   safe : (k : ℕ) → k < l.place
-      → risk_at l.universe l.plan.lanes (rows_of l.fn.known) l.number k ≡ None;
+      → risk_at l.universe l.plan.lanes (g.K.KnownWords.known l.fn.known).rows l.number k ≡ None;
   of_lane : IsOfLane l.universe l.lane l.state;
   doubts : AreDoubts l.universe (may_of l.state) l.doubts;
-  there : IsRowOf l.universe (possible l.universe l.plan.lanes l.number l.place) l.there;
 }

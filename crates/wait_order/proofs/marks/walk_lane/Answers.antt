@@ -1,10 +1,14 @@
-use Rattle.std.proofs.Common.{ap, ◌∙◌}
+use Rattle.std.proofs.Common.{◌≡◌, ◌+◌, suc, length, sym, ap, subst, ◌∙◌, arith}
+use Rattle.plan_model.specs.Plan.{lane}
+use Rattle.wait_order.specs.Marks.{ArePast}
 use Rattle.wait_order.proofs.Leading.{read_at}
-use Rattle.wait_order.proofs.MarkLaws.{passed}
+use Rattle.wait_order.proofs.MarkLaws.{passed, lane_outputs-long}
+use Rattle.wait_order.proofs.PastLaws.{past_next}
 use Rattle.wait_order.proofs.marks.walk_lane.Goals as goal
 
 pub loop-place-preserved : goal.loop-place-preserved
 loop-place-preserved c =
+    let u = c.args.universe.now in
     let p = c.args.plan.now.lanes in
     let l = c.args.number in
     let i = c.loop-place.place in
@@ -12,7 +16,33 @@ loop-place-preserved c =
     let at =
     read_at p l c.instructions-instructions.result.now i c.index-instructions-place.result xs
     c.loop-place-test.true c.index-instructions-place.is in
-    passed c.args.universe.now p l i c.index-instructions-place.result c.loop-place.waits.items
-    c.pass.new.waits.items c.loop-place.outputs.items c.pass.new.outputs.items c.loop-place.last
-    c.pass.new.last at c.loop-place.invariant c.in_ok-pass.ensures.last
-    c.in_ok-pass.ensures.waits c.in_ok-pass.ensures.outputs
+    let so_far = c.loop-place.invariant.passed in
+    let long = lane_outputs-long u p l i (omega (arith, c.loop-place-test.true, ap length xs)) in
+    record {
+      passed = passed u p l i c.index-instructions-place.result c.loop-place.waits.items
+          c.pass.new.waits.items c.loop-place.outputs.items c.pass.new.outputs.items c.loop-place.last
+          c.pass.new.last at so_far c.in_ok-pass.ensures.last
+          c.in_ok-pass.ensures.waits c.in_ok-pass.ensures.outputs;
+      past = subst (ArePast u p l (i + 1)) (sym c.in_ok-push.ensures.items)
+          (past_next u p l i c.loop-place.past.items c.len.result c.loop-place.last
+          c.loop-place.invariant.past
+          (omega (arith, c.len.ensures, ap length so_far.outputs_are, long)) so_far.last_is);
+    }
+
+pub returns-clause-past : goal.returns-clause-past
+returns-clause-past c =
+    let u = c.args.universe.now in
+    let p = c.args.plan.now.lanes in
+    let l = c.args.number in
+    let n = length (lane p l).instructions in
+    let i = c.loop-place.place in
+    let xs = c.instructions-instructions.ensures ∙ ap (λ of. of.instructions) c.lane.ensures in
+    let end : i ≡ n = omega (arith, c.loop-place-test.false, c.loop-place.auto.place-end, ap length xs) in
+    let so_far = c.loop-place.invariant.passed in
+    let long = lane_outputs-long u p l i (omega (arith, end)) in
+    subst (λ k. ArePast u p l k c.push-2.new.self.items)
+    (let e : i + 1 ≡ suc n = omega (arith, end) in e)
+    (subst (ArePast u p l (i + 1)) (sym c.in_ok-push-2.ensures.items)
+    (past_next u p l i c.loop-place.past.items c.len-2.result c.loop-place.last
+    c.loop-place.invariant.past
+    (omega (arith, c.len-2.ensures, ap length so_far.outputs_are, long)) so_far.last_is))

@@ -1,7 +1,10 @@
+use Rattle.wait_order.specs.Marks.{ArePast}
 use Rattle.wait_order.proofs.MarkLaws.{IsPassed}
 use Rattle.wait_order.proofs.marks.walk_lane.Given as goal
 
 -- the instructions so far
 abbrev pub invariant-loop-place : goal.invariant-loop-place
-invariant-loop-place l =
-    IsPassed l.universe l.plan.lanes l.number l.place l.waits.items l.outputs.items l.last
+invariant-loop-place l = record {
+  passed : IsPassed l.universe l.plan.lanes l.number l.place l.waits.items l.outputs.items l.last;
+  past : ArePast l.universe l.plan.lanes l.number l.place l.past.items;
+}

@@ -1,9 +1,15 @@
-use Rattle.std.proofs.Common.{length, sym, subst}
-use Rattle.wait_order.specs.Waits.{ArePoints, clock_of}
-use Rattle.wait_order.specs.Columns.{column_of, counts_of, AreColumns}
-use Rattle.wait_order.proofs.KnownLaws.{known_greatest}
+use Rattle.std.proofs.Common.{◌≡◌, ℕ, List, sym, ap, subst, ◌∙◌}
+use Rattle.farm_model.specs.Universe.{Universe}
+use Rattle.plan_model.specs.Known.{IsGreatest}
+use Rattle.plan_model.specs.Plan.{Plan}
+use Rattle.wait_order.specs.Waits.{ArePoints}
+use Rattle.wait_order.specs.Columns.{column_of}
+use Rattle.wait_order.specs.KnownRows.{KnownRows, rows_of}
 use Rattle.wait_order.proofs.Linked.{points_in, rows_are_greatest}
 use Rattle.wait_order.proofs.plan_rows.knowledge.Goals as goal
+
+make : Universe → Plan → List (List ℕ) → KnownRows
+make u p columns = record { universe = u; plan = p; columns = columns }
 
 pub columns-requires-clause-points : goal.columns-requires-clause-points
 columns-requires-clause-points c =
@@ -12,16 +18,17 @@ columns-requires-clause-points c =
     c.in_ok-points.ensures)
 
 pub returns-clause-greatest : goal.returns-clause-greatest
+unfolding make
 returns-clause-greatest c =
     let u = c.args.universe.now in
     let p = c.args.plan.now.lanes in
     let ps = c.deref-3.result.now in
-    let columns = c.deref-6.result.now in
-    let are : AreColumns u p ps columns (length p) =
-    subst (λ cs. AreColumns u p ps cs (length p)) (sym c.deref-6.ensures.value)
-    c.in_ok-columns.ensures in
-    known_greatest u p (clock_of u p (counts_of columns)) c.in_ok-known.known
-    c.requires.sound.universe c.in_ok-known.ensures.rows
+    let columns = c.in_ok-columns.columns.items in
+    let outputs = c.in_ok-outputs.outputs in
+    let known : c.new.result ≡ make u p columns =
+    c.new.ensures ∙ ap (λ w. make w outputs.plan columns) c.in_ok-outputs.ensures.universe
+    ∙ ap (λ q. make u q columns) c.in_ok-outputs.ensures.plan in
+    subst (λ k. IsGreatest u p (rows_of k)) (sym known)
     (rows_are_greatest u p c.requires.sound ps
     (subst (ArePoints u p) (sym c.deref-3.ensures.value) c.in_ok-points.ensures)
-    (column_of columns) are.each)
+    (column_of columns) c.in_ok-columns.ensures.each)

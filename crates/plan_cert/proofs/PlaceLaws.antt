@@ -1,0 +1,133 @@
+-- The rows of the places of a plan, one after another.
+use Rattle.std.proofs.Common.{◌≡◌, inl, inr, ℕ, ◌+◌, ◌<◌, ◌≤◌, Bool, nat_lt, List, [], ◌∷◌, ◌++◌, length, get_or, slice_index, slice_index_or, refl, sym, ap, subst, ◌∙◌, arith}
+use Rattle.std.proofs.lemmas.List.{length-append, get_or_append_left}
+use Rattle.std.proofs.lemmas.Bool.{cases_eq, and_parts, ltb-true}
+use Rattle.farm_model.specs.declared.types.Variant.{Variant}
+use Rattle.farm_model.specs.Universe.{Universe}
+use Rattle.farm_model.specs.Packages.{variant, variants}
+use Rattle.sat_rows.specs.Rows.{IsRowOf}
+use Rattle.plan_cert.specs.PlaceRows.{IsRowIn, IsLastRow, IsExtended, AreRowNumbers}
+
+-- a row of a test has known variants alone
+row_in : (u : Universe) (test : Variant → Bool) (row : List ℕ) → IsRowOf u test row → IsRowIn u row
+row_in u test row is =
+    record {
+      long = is.long;
+      few = λ n b e. ltb-true b (variants u n)
+          (and_parts (nat_lt b (variants u n)) (test (variant n b)) (sym (is.set n b) ∙ e)).0;
+    }
+
+last-at : {X : Type 0} (xs : List X) (x d : X) → get_or (xs ++ x ∷ []) (length xs) d ≡ x
+last-at [] x d = refl
+last-at (y ∷ xs) x d = last-at xs x d
+
+pub extended_same : (u : Universe) (rows : List (List ℕ)) → IsExtended u rows rows
+extended_same u rows = record { longer = omega arith; same = λ k lt. refl; all_in = λ all. all }
+
+pub extended_twice : (u : Universe) (a b c : List (List ℕ)) → IsExtended u a b → IsExtended u b c
+    → IsExtended u a c
+extended_twice u a b c first then =
+    record {
+      longer = omega (arith, first.longer, then.longer);
+      same = λ k lt. then.same k (omega (arith, lt, first.longer)) ∙ first.same k lt;
+      all_in = λ all. then.all_in (first.all_in all);
+    }
+
+pub extended_push : (u : Universe) (test : Variant → Bool) (rows more : List (List ℕ))
+    (row : List ℕ) → more ≡ rows ++ row ∷ [] → IsRowOf u test row → IsExtended u rows more
+extended_push u test rows more row items is =
+    subst (IsExtended u rows) (sym items) (record {
+      longer = (let e = length-append rows (row ∷ []) in omega (arith, e));
+      same = λ k lt. get_or_append_left rows (row ∷ []) [] k lt;
+      all_in = λ all k d lt. elim (cases_eq k (length rows)) [
+        | inl here ↦
+            subst (IsRowIn u)
+            (sym (ap (λ i. get_or (rows ++ row ∷ []) i d) here ∙ last-at rows row d))
+            (row_in u test row is)
+        | inr other ↦
+            let below : k < length rows =
+            (let e = length-append rows (row ∷ []) in omega (arith, e, lt, other)) in
+            subst (IsRowIn u) (sym (get_or_append_left rows (row ∷ []) d k below)) (all k d below)
+      ];
+    })
+
+pub last_push : (u : Universe) (test : Variant → Bool) (rows more : List (List ℕ)) (row : List ℕ)
+    → more ≡ rows ++ row ∷ [] → IsRowOf u test row → IsLastRow u test more
+last_push u test rows more row items is =
+    subst (IsLastRow u test) (sym items) (record {
+      number = length rows;
+      last = (let e = length-append rows (row ∷ []) in omega (arith, e));
+      row = subst (IsRowOf u test) (sym (last-at rows row [])) is;
+    })
+
+-- the number of the last row
+last_row : (u : Universe) (test : Variant → Bool) (rows : List (List ℕ)) (m : ℕ)
+    → m + 1 ≡ length rows → IsLastRow u test rows → IsRowOf u test (slice_index_or rows m [])
+last_row u test rows m e is =
+    subst (λ k. IsRowOf u test (slice_index_or rows k []))
+    (let s : is.number ≡ m = omega (arith, e, is.last) in s) is.row
+
+pub numbers_first : (u : Universe) (test : ℕ → Variant → Bool) (numbers : List ℕ)
+    (rows : List (List ℕ)) (m : ℕ) → numbers ≡ m ∷ [] → m + 1 ≡ length rows
+    → IsLastRow u (test 0) rows → AreRowNumbers u test 0 numbers rows
+numbers_first u test numbers rows m items e is =
+    subst (λ ns. AreRowNumbers u test 0 ns rows) (sym items) (record {
+      long = refl;
+      within = λ k le. let z : k ≡ 0 = omega (arith, le) in
+          subst (λ i. slice_index (m ∷ []) i < length rows) (sym z)
+          (let s : m < length rows = omega (arith, e) in s);
+      are = λ k le. let z : k ≡ 0 = omega (arith, le) in
+          subst (λ i. IsRowOf u (test i) (slice_index_or rows (slice_index (m ∷ []) i) [])) (sym z)
+          (last_row u (test 0) rows m e is);
+    })
+
+-- one more place
+pub numbers_next : (u : Universe) (test : ℕ → Variant → Bool) (i : ℕ)
+    (numbers more_numbers : List ℕ) (rows more : List (List ℕ)) (m : ℕ) → more_numbers ≡ numbers ++ m ∷ [] → m + 1 ≡ length more
+    → AreRowNumbers u test i numbers rows → IsExtended u rows more → IsLastRow u (test (i + 1)) more
+    → AreRowNumbers u test (i + 1) more_numbers more
+numbers_next u test i numbers more_numbers rows more m items e so_far ext is =
+    subst (λ ns. AreRowNumbers u test (i + 1) ns more) (sym items) (record {
+      long = (let a = length-append numbers (m ∷ []) in omega (arith, a, so_far.long));
+      within = λ k le. elim (cases_eq k (i + 1)) [
+        | inl here ↦
+            let at : slice_index (numbers ++ m ∷ []) k ≡ m = here_at k here in omega (arith, at, e)
+        | inr other ↦
+            let le2 : k ≤ i = omega (arith, le, other) in
+            let at = there_at k le2 in
+            let w = so_far.within k le2 in
+            omega (arith, at, w, ext.longer)
+      ];
+      are = λ k le. elim (cases_eq k (i + 1)) [
+        | inl here ↦
+            subst (λ n. IsRowOf u (test k) (slice_index_or more n [])) (sym (here_at k here))
+            (subst (λ j. IsRowOf u (test j) (slice_index_or more m [])) (sym here)
+            (last_row u (test (i + 1)) more m e is))
+        | inr other ↦
+            let le2 : k ≤ i = omega (arith, le, other) in
+            subst (λ n. IsRowOf u (test k) (slice_index_or more n [])) (sym (there_at k le2))
+            (subst (IsRowOf u (test k))
+            (sym (ext.same (slice_index numbers k) (so_far.within k le2)))
+            (so_far.are k le2))
+      ];
+    })
+  where
+    here_at : (k : ℕ) → k ≡ i + 1 → slice_index (numbers ++ m ∷ []) k ≡ m
+    here_at k here =
+        ap (slice_index (numbers ++ m ∷ []))
+        (let s : k ≡ length numbers = omega (arith, here, so_far.long) in s)
+        ∙ last-at numbers m 0
+
+    there_at : (k : ℕ) → k ≤ i → slice_index (numbers ++ m ∷ []) k ≡ slice_index numbers k
+    there_at k le = get_or_append_left numbers (m ∷ []) 0 k (omega (arith, le, so_far.long))
+
+pub numbers_kept : (u : Universe) (test : ℕ → Variant → Bool) (i : ℕ) (numbers : List ℕ)
+    (rows more : List (List ℕ)) → IsExtended u rows more → AreRowNumbers u test i numbers rows
+    → AreRowNumbers u test i numbers more
+numbers_kept u test i numbers rows more ext is =
+    record {
+      long = is.long;
+      within = λ k le. let w = is.within k le in omega (arith, w, ext.longer);
+      are = λ k le. subst (IsRowOf u (test k))
+          (sym (ext.same (slice_index numbers k) (is.within k le))) (is.are k le);
+    }

@@ -1,0 +1,14 @@
+use Rattle.std.proofs.Common.{◌≡◌, length}
+use Rattle.farm_model.specs.Packages.{names, initial}
+use Rattle.plan_model.specs.Plan.{Plan}
+use Rattle.sat_rows.specs.Rows.{IsRowOf}
+use Rattle.wait_order.specs.Clock.{count_of}
+use Rattle.wait_order.specs.Marks.{AreLanes}
+use Rattle.wait_order.proofs.ClockRows.{so_far}
+use Rattle.wait_order.proofs.clock.clock_row.Given as goal
+
+-- the lanes so far
+abbrev pub invariant-loop-other : goal.invariant-loop-other
+invariant-loop-other l =
+    (length l.row ≡ names l.universe) × ((p : Plan) → AreLanes l.universe p l.lanes
+    → IsRowOf l.universe (so_far l.universe p (initial l.universe) (count_of l.clock) l.other) l.row)

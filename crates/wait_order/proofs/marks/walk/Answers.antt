@@ -1,0 +1,27 @@
+use Rattle.std.proofs.Common.{◌≡◌, suc, length, arith}
+use Rattle.plan_model.specs.Plan.{lane}
+use Rattle.wait_order.specs.declared.marks.LaneOutputs.{LaneOutputs}
+use Rattle.wait_order.specs.Marks.{lane_outputs, ArePast}
+use Rattle.wait_order.proofs.PastLaws.{each_next}
+use Rattle.wait_order.proofs.marks.walk.Goals as goal
+
+pub loop-number-preserved : goal.loop-number-preserved
+loop-number-preserved c =
+    let u = c.args.universe.now in
+    let p = c.args.plan.now.lanes in
+    let so_far = c.loop-number.invariant in
+    let lanes = c.loop-number.lanes.items in
+    let more = c.push.new.self.items in
+    let of = c.in_ok-walk_lane.field-0 in
+    record {
+      waits = c.in_ok-walk_lane.ensures.waits;
+      long = omega (arith, c.in_ok-push.ensures.len, so_far.long);
+      each = each_next
+          (λ k (w : LaneOutputs). w.outputs.items ≡ lane_outputs u p k (length (lane p k).instructions))
+          lanes more c.loop-number.number of c.in_ok-push.ensures.items so_far.long so_far.each
+          c.in_ok-walk_lane.ensures.outputs;
+      past = each_next
+          (λ k (w : LaneOutputs). ArePast u p k (suc (length (lane p k).instructions)) w.past.items)
+          lanes more c.loop-number.number of c.in_ok-push.ensures.items so_far.long so_far.past
+          c.in_ok-walk_lane.ensures.past;
+    }

@@ -1,0 +1,35 @@
+-- The outputs of a plan's lanes, as a value of the program. The project's own words. Parameters: u a
+-- universe, p a plan, lanes the outputs of each lane, lists their places by name.
+--
+--   PlanOutputs     the universe and the plan that they are about
+--   AreTotals       as a wait would have them that knows all outputs
+--   AreOutputs      what is kept of them
+use Rattle.std.specs.Prelude.{◌≡◌, ℕ, ◌<◌, List, [], ◌∷◌, length}
+use Rattle.farm_model.specs.Universe.{Universe}
+use Rattle.farm_model.specs.Packages.{names}
+use Rattle.plan_model.specs.Plan.{Plan}
+use Rattle.plan_model.specs.Sound.{IsSound}
+use Rattle.clock_laws.specs.Clocks.{lane_made}
+use Rattle.wait_order.specs.declared.by_name.OutputPlace.{OutputPlace}
+use Rattle.wait_order.specs.declared.marks.LaneOutputs.{LaneOutputs}
+use Rattle.wait_order.specs.ByName.{AreListed}
+use Rattle.wait_order.specs.Columns.{column_of}
+use Rattle.wait_order.specs.Marks.{AreLanes, HavePast}
+
+pub record PlanOutputs : Type 0 where
+  pub universe : Universe
+  pub plan : Plan
+
+-- of each lane below n one count: of all its outputs
+pub record AreTotals (u : Universe) (p : Plan) (n : ℕ) (totals : List (List ℕ)) : Type 0 where
+  pub long : length totals ≡ n
+  pub each : (j : ℕ) → j < n → column_of totals j ≡ length (lane_made u p j) ∷ []
+
+pub record AreOutputs (u : Universe) (p : Plan) (lanes : List LaneOutputs)
+    (lists : List (List OutputPlace)) (totals : List (List ℕ)) : Type 0 where
+  pub sound : IsSound u p
+  pub are : AreLanes u p lanes
+  pub past : HavePast u p lanes
+  pub named : length lists ≡ names u
+  pub listed : AreListed lists lanes (length lanes)
+  pub in_all : AreTotals u p (length p) totals

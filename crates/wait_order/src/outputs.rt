@@ -1,0 +1,163 @@
+//! The outputs of a plan's lanes: of each lane in order, and of all by name.
+
+ghost use Rattle.std.specs.Prelude.{◌≡◌, ℕ, ◌<◌, ◌≤◌, length, IfOk};
+ghost use Rattle.farm_model.specs.Packages.{names, initial};
+ghost use Rattle.plan_model.specs.Known.{possible};
+ghost use Rattle.plan_model.specs.Plan.{lane};
+ghost use Rattle.plan_model.specs.Sound.{IsSound};
+ghost use Rattle.sat_rows.specs.Rows.{IsWordFor, IsRowOf};
+ghost use Rattle.wait_order.specs.Clock.{count_of, IsClockFor, row_of};
+ghost use Rattle.wait_order.specs.Marks.{past_at, AreLanes, HavePast};
+ghost use Rattle.wait_order.specs.Outputs.{AreTotals};
+
+use crate::by_name::ByName;
+use crate::clock::{Clock, clock_row, clock_word};
+use crate::columns::Counts;
+use crate::marks::{LaneOutputs, Past, walk};
+use bit_rows::Row;
+use farm_universe::Universe;
+use plan_asm::Plan;
+use std::alloc::{AllocError, Global};
+use std::marker::Model;
+use std::snapshot::Snapshot;
+
+/// The outputs of the lanes of a plan. A contract sees the universe and the plan that they are about.
+#[derive(Drop)]
+pub struct Outputs {
+    universe: Snapshot<Universe>,
+    plan: Snapshot<Plan>,
+    lanes: Vec<LaneOutputs>,
+    by_name: ByName,
+    totals: Vec<Counts>,
+}
+
+impl Model for Outputs {
+    ghost use Rattle.wait_order.specs.Outputs as spec;
+    ghost use Rattle.wait_order.specs.Outputs.{AreOutputs};
+
+    ghost Value = { spec.PlanOutputs };
+
+    ghost view = { λ outputs. record {
+      universe = outputs.universe.value;
+      plan = outputs.plan.value.lanes;
+    } };
+
+    ghost invariant = { λ outputs. AreOutputs outputs.universe.value outputs.plan.value.lanes
+        outputs.lanes.items outputs.by_name outputs.totals.items };
+}
+
+/// For each lane one count, of all its outputs: that of a wait that knows all of them.
+fn totals(
+    alloc: Global,
+    _universe: &Universe,
+    _plan: &Plan,
+    lanes: &[LaneOutputs],
+) -> Result<Vec<Counts>, AllocError>
+    requires { AreLanes _universe.now _plan.now.lanes lanes.now }
+    ensures { IfOk result (λ totals.
+        AreTotals _universe.now _plan.now.lanes (length _plan.now.lanes) totals.items) }
+{
+    let mut totals = Vec::new(alloc);
+    for number in 0..lanes.len() {
+        let total = lanes[number].outputs.len() as u64;
+        totals.push(Counts::one(alloc, total)?)?;
+    }
+    Ok(totals)
+}
+
+impl Outputs {
+    /// Puts the outputs of the lanes together.
+    pub(crate) fn of_lanes(
+        alloc: Global,
+        universe: &Universe,
+        plan: &Plan,
+        lanes: Vec<LaneOutputs>,
+    ) -> Result<Outputs, AllocError>
+        requires sound { IsSound universe.now plan.now.lanes }
+        requires lanes { AreLanes universe.now plan.now.lanes lanes.items }
+        requires past { HavePast universe.now plan.now.lanes lanes.items }
+        ensures universe { IfOk result (λ outputs. outputs.universe ≡ universe.now) }
+        ensures plan { IfOk result (λ outputs. outputs.plan ≡ plan.now.lanes) }
+    {
+        let by_name = ByName::of(alloc, universe, &lanes)?;
+        let totals = totals(alloc, universe, plan, &lanes)?;
+        Ok(Outputs {
+            universe: Snapshot::of(universe),
+            plan: Snapshot::of(plan),
+            lanes,
+            by_name,
+            totals,
+        })
+    }
+
+    /// The outputs of the lanes of a plan.
+    ///
+    /// # Errors
+    ///
+    /// [`AllocError`] where memory is refused.
+    pub fn of(alloc: Global, universe: &Universe, plan: &Plan) -> Result<Outputs, AllocError>
+        requires { IsSound universe.now plan.now.lanes }
+        ensures universe { IfOk result (λ outputs. outputs.universe ≡ universe.now) }
+        ensures plan { IfOk result (λ outputs. outputs.plan ≡ plan.now.lanes) }
+    {
+        let marks = walk(alloc, universe, plan)?;
+        Outputs::of_lanes(alloc, universe, plan, marks.lanes)
+    }
+
+    /// What a lane has behind it at a place.
+    pub(crate) fn past(&self, number: usize, place: usize) -> Past
+        requires lane { number < length self.now.plan }
+        requires place { place ≤ length (lane self.now.plan number).instructions }
+        ensures { result ≡ past_at self.now.universe self.now.plan number place }
+    {
+        self.lanes[number].past[place]
+    }
+
+    /// The variants of a name that are there from the start or among the outputs that a clock
+    /// counts, as a word.
+    pub(crate) fn word(&self, universe: &Universe, clock: &Clock, name: u32) -> u64
+        requires of_universe { self.now.universe ≡ universe.now }
+        requires clock { IsClockFor (length self.now.plan) clock.now }
+        requires name { name < names universe.now }
+        ensures { IsWordFor universe.now
+            (row_of universe.now self.now.plan (count_of clock.now)) name result }
+    {
+        clock_word(universe, &self.lanes, &self.by_name, clock, name)
+    }
+
+    /// The variants of all names, as a row. `archive` is the initial archive.
+    pub(crate) fn row(
+        &self,
+        alloc: Global,
+        universe: &Universe,
+        archive: &Row,
+        clock: &Clock,
+    ) -> Result<Row, AllocError>
+        requires of_universe { self.now.universe ≡ universe.now }
+        requires archive { IsRowOf universe.now (initial universe.now) archive.now }
+        requires clock { IsClockFor (length self.now.plan) clock.now }
+        ensures { IfOk result (IsRowOf universe.now
+            (row_of universe.now self.now.plan (count_of clock.now))) }
+    {
+        clock_row(alloc, universe, archive, &self.lanes, clock)
+    }
+
+    /// What of a name may be in the archive at a place of a lane, as a word: what is there from the
+    /// start, what the other lanes make, and what the lane made before the place.
+    pub fn possible_word(&self, universe: &Universe, number: usize, place: usize, name: u32) -> u64
+        requires of_universe { self.now.universe ≡ universe.now }
+        requires lane { number < length self.now.plan }
+        requires place { place ≤ length (lane self.now.plan number).instructions }
+        requires name { name < names universe.now }
+        ensures { IsWordFor universe.now (possible universe.now self.now.plan number place) name
+            result }
+    {
+        let clock = Clock {
+            lane: number,
+            own: self.past(number, place).own,
+            columns: &self.totals,
+            last: Some(0),
+        };
+        self.word(universe, &clock, name)
+    }
+}
