@@ -1,5 +1,7 @@
 -- Two lists side by side: what holds of each pair while the second one grows.
-use Rattle.std.proofs.Common.{◌≡◌, ℕ, zero, suc, List, [], ◌∷◌, ◌++◌, Some, None, length, drop, slice_get, refl, sym, ap, subst, ◌∙◌, arith}
+use Rattle.std.proofs.Common.{◌⊎◌, inl, inr, ◌≡◌, ℕ, zero, suc, List, [], ◌∷◌, ◌++◌, Some, None, length, drop, slice_get, refl, sym, ap, subst, ◌∙◌, arith}
+use Rattle.std.proofs.lemmas.Option.{same_Some}
+use Rattle.archive_laws.proofs.Settles.{next_of}
 
 module _ {A B : Type 0} (P : A → B → Type 0) where
   abbrev pub Paired : List A → List B → Type 0
@@ -27,3 +29,33 @@ some_at [] ys k x e h = absurd (cc)
 some_at (a ∷ xs) [] k x e h = absurd (omega arith)
 some_at (a ∷ xs) (y ∷ ys) zero x e h = (y, refl)
 some_at (a ∷ xs) (y ∷ ys) (suc k) x e h = some_at xs ys k x (omega arith) h
+
+-- where one more stands at the end of a list
+pub at_push_place : {X : Type 0} (xs : List X) (y z : X) (k : ℕ)
+    → slice_get (xs ++ y ∷ []) k ≡ Some z
+    → (slice_get xs k ≡ Some z) ⊎ ((k ≡ length xs) × (y ≡ z))
+at_push_place [] y z zero e = inr (refl, same_Some y z e)
+at_push_place [] y z (suc k) e = absurd (cc)
+at_push_place (x ∷ xs) y z zero e = inl e
+at_push_place (x ∷ xs) y z (suc k) e =
+    elim (at_push_place xs y z k e) [
+      | inl old ↦ inl old
+      | inr new ↦ inr (ap suc new.0, new.1)
+    ]
+
+-- where items pair by their places, one more pair at the end
+pub paired_at : {A B : Type 0} (P : ℕ → A → B → Type 0) (xs : List A) (ys : List B) (x : A)
+    (rest : List A) (y : B) → drop (length ys) xs ≡ x ∷ rest → P (length ys) x y
+    → ((k : ℕ) (a : A) (b : B) → slice_get xs k ≡ Some a → slice_get ys k ≡ Some b → P k a b)
+    → (k : ℕ) (a : A) (b : B) → slice_get xs k ≡ Some a → slice_get (ys ++ y ∷ []) k ≡ Some b
+    → P k a b
+paired_at P xs ys x rest y at new old k a b is there =
+    elim (at_push_place ys y b k there) [
+      | inl before ↦ old k a b is before
+      | inr last ↦
+          let here : x ≡ a =
+          same_Some x a (sym (next_of xs (length ys) x rest at).0 ∙ ap (slice_get xs) (sym last.0)
+          ∙ is) in
+          subst (λ (m : _ × _). P k m.0 m.1) (λ i. (here i, last.1 i))
+          (subst (λ n. P n x y) (sym last.0) new)
+    ]

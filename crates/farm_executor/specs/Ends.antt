@@ -1,6 +1,7 @@
 -- How the lanes of a run ended, in file order. Parameters: ends their ends, code a code, l a lane.
 --
 --   HasNone, IsFirstWith     no lane, and the first lane, that ended with the code
+--   HaveEnded                no lane is a cause
 --   IsCause                  why the run stopped
 use Rattle.std.specs.Prelude.{◌≡◌, ◌≢◌, ◌⊎◌, ℕ, ◌<◌, List, length, Some, slice_get}
 use Rattle.lane_runner.specs.declared.run.LaneStop.{LaneStop}
@@ -14,6 +15,10 @@ HasNoneBelow code ends n =
 
 abbrev pub HasNone : ℕ → List LaneStop → Type 0
 HasNone code ends = HasNoneBelow code ends (length ends)
+
+-- no lane is a cause
+abbrev pub HaveEnded : List LaneStop → Type 0
+HaveEnded ends = HasNone NOT_STARTED ends × HasNone GAVE_UP ends
 
 pub record IsFirstWith (code : ℕ) (ends : List LaneStop) (l : ℕ) : Type 0 where
   pub there : (e : LaneStop) × (slice_get ends l ≡ Some e) × (e.code ≡ code)

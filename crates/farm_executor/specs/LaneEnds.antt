@@ -3,7 +3,8 @@
 --
 --   IsReady     a lane that may be started
 --   IsEndOf     how it ended
-use Rattle.std.specs.Prelude.{◌≡◌, ◌⊎◌, ℕ, ◌<◌, true, false, length}
+--   AreRising   serials in the order in which a lane drew them
+use Rattle.std.specs.Prelude.{◌≡◌, ◌⊎◌, ℕ, ◌<◌, true, false, List, Some, length, slice_get}
 use Rattle.chroot_state.specs.Held.{Held, IsHeld, opened}
 use Rattle.lane_records.specs.Records.{Record}
 use Rattle.lane_runner.specs.OnWay.{IsFresh, IsEnded}
@@ -37,3 +38,8 @@ pub record IsEndOf (a : AcceptedPlan) (gives_up : Type 0) (l : ℕ) (c0 : Held) 
   pub told : stop.code ≡ HALTED → (r.saw ≡ true) × (r.halted ≡ false)
   -- with 503 chroot and record are as they were.
   pub never : stop.code ≡ NOT_STARTED → (c ≡ c0) × (r ≡ r0)
+
+-- each of two serials is above the one before it
+abbrev pub AreRising : List ℕ → Type 0
+AreRising serials =
+    (i j x y : ℕ) → i < j → slice_get serials i ≡ Some x → slice_get serials j ≡ Some y → x < y

@@ -1,2 +1,6 @@
 pub mod Ends
 pub mod LaneEnds
+pub mod Publications
+pub mod FarmRuns
+pub mod Seated
+pub mod Played

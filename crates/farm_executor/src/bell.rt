@@ -2,7 +2,9 @@
 
 ghost use Rattle.lane_runner.specs.declared.gate.Go.TheVariants.{GiveUp};
 
+use farm_archive::Publication;
 use lane_runner::{Gate, Go};
+use plan_verifier::Accepted;
 use std::alloc::{AllocError, Global};
 use std::sync::{Condvar, Mutex, Wait};
 
@@ -69,6 +71,8 @@ impl<R: Wait> Gate for Bell<'_, R> {
         see(&mut counts, lane);
         Go::Continue
     }
+
+    fn published(&self, _accepted: &Accepted, _publication: Publication) {}
 
     fn ring(&self) {
         let mut counts = self.counts.lock(self.rt);

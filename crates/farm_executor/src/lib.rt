@@ -4,15 +4,19 @@
 mod base;
 mod bell;
 mod causes;
+mod jobs;
 mod judged;
 mod lanes;
 mod link;
+mod outcomes;
+mod run;
 mod scope;
 
-pub use base::Base;
+pub use base::{Base, BaseSeat};
 pub use bell::Bell;
 pub use causes::{NOT_STARTED, cause};
 pub use judged::Judged;
 pub use lanes::{EndOf, LaneEnd, LaneJob, Started};
 pub use link::Link;
-pub use scope::in_scope;
+pub use run::{FarmRun, RunFault, run_farm};
+pub use scope::{in_scope, run_lanes};

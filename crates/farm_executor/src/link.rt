@@ -1,17 +1,19 @@
 //! A lane's end of the shared archive.
 
 ghost use Rattle.std.specs.Prelude.{◌≡◌};
+ghost use Rattle.farm_executor.specs.LaneEnds.{AreRising};
 
 use lane_runner::LaneArchive;
 use word_archive::{LaneSeat, SharedArchive};
 
-/// A lane's seat beside its archive: the lane's end of it.
+/// A lane's seat beside its archive: the lane's end of it. The serials that the lane has drawn rise.
 #[derive(Drop)]
 pub struct Link<'a, 'p> {
     pub archive: &'a SharedArchive<'p>,
     pub seat: LaneSeat,
     pub ghost same: { (seat.table ≡ archive.now.table.shared.table_id)
         × (seat.about ≡ archive.now.accepted.now) },
+    pub ghost rising: { AreRising seat.log.serials },
 }
 
 impl LaneArchive for Link<'_, '_> {

@@ -3,6 +3,9 @@
 ghost use Rattle.std.specs.Prelude.{◌≡◌};
 ghost use Rattle.lane_runner.specs.declared.gate.Go.TheVariants.{GiveUp};
 
+use farm_archive::Publication;
+use plan_verifier::Accepted;
+
 /// What a gate tells a lane.
 #[derive(Clone, Copy, Debug, PartialEq, Eq)]
 pub enum Go {
@@ -26,6 +29,9 @@ pub trait Gate {
     /// something was published since the lane's last call of `before` or `pause`.
     fn pause(&self, lane: u32, instruction: u32) -> Go
         ensures { result ≡ GiveUp → may_give_up self.now };
+
+    /// Is told of each output, once it is in the archive.
+    fn published(&self, accepted: &Accepted, publication: Publication);
 
     /// Is called behind each output and each halt. It wakes the lanes that pause.
     fn ring(&self);

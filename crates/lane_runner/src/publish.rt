@@ -11,6 +11,7 @@ ghost use Rattle.plan_model.specs.Turn.{first_only};
 use crate::archive::LaneArchive;
 use crate::runner::{Runner, lane_of};
 use chroot_state::Chroot;
+use farm_archive::Publication;
 use plan_asm::Lane;
 use plan_verifier::Accepted;
 
@@ -35,14 +36,15 @@ impl Runner {
         }
     }
 
-    /// Makes the next output of a recipe: draws a serial for it and publishes it.
+    /// Makes the next output of a recipe: draws a serial for it and publishes it. Tells what was
+    /// published.
     pub(crate) fn publish<A: LaneArchive>(
         &mut self,
         accepted: &Accepted,
         chroot: &Chroot,
         archive: &mut A,
         recipe: u32,
-    )
+    ) -> Publication
         requires running { IsRunning accepted.now self.old chroot.now (A.about archive.old)
             (A.lane archive.old) (A.log archive.old) }
         requires here { instruction_at accepted.now.plan self.old.lane self.old.done
@@ -57,6 +59,13 @@ impl Runner {
         let serial = archive.draw();
         archive.publish_next(serial);
         let lane = lane_of(accepted, self.lane);
-        self.give(lane, accepted.universe().outputs(recipe).len());
+        let outputs = accepted.universe().outputs(recipe);
+        let publication = Publication {
+            serial,
+            lane: self.lane,
+            variant: outputs[self.made],
+        };
+        self.give(lane, outputs.len());
+        publication
     }
 }

@@ -99,7 +99,8 @@ pub fn run_lane<A: LaneArchive, G: Gate>(
         }
         match runner.turn(accepted, chroot, archive) {
             Turn::Moved => begun = false,
-            Turn::Published => {
+            Turn::Published(publication) => {
+                gate.published(accepted, publication);
                 gate.ring();
                 begun = runner.made > 0;
             }

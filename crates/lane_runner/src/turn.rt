@@ -13,6 +13,7 @@ ghost use Rattle.plan_verifier.specs.Accepted.{known_rows};
 use crate::archive::LaneArchive;
 use crate::runner::{Runner, lane_of};
 use chroot_state::Chroot;
+use farm_archive::Publication;
 use plan_asm::Instruction;
 use plan_verifier::Accepted;
 
@@ -21,8 +22,8 @@ use plan_verifier::Accepted;
 pub enum Turn {
     /// It is behind its instruction.
     Moved,
-    /// It has made an output of the publish that it stands at.
-    Published,
+    /// It has published this, an output of the publish that it stood at.
+    Published(Publication),
     /// It waits for the archive.
     Waits,
 }
@@ -97,8 +98,7 @@ impl Runner {
                 Turn::Moved
             }
             Instruction::Publish(recipe) => {
-                self.publish(accepted, chroot, archive, *recipe);
-                Turn::Published
+                Turn::Published(self.publish(accepted, chroot, archive, *recipe))
             }
             Instruction::Wait(entry) => {
                 if self.wait(accepted, chroot, archive, entry) {

@@ -51,7 +51,7 @@ give-requires-clause-paid g c =
     subst (λ (x : List Variant × Lane). (w.spent + first_only w.made (length x.0) ≤ x.1.budget)
     ⊎ (first_only w.made (length x.0) ≡ 0))
     (λ i. (
-      sym (c.outputs.ensures.outputs ∙ ap (λ u. outputs u c.args.recipe) c.universe.ensures) i,
+      sym (c.outputs-outputs.ensures.outputs ∙ ap (λ u. outputs u c.args.recipe) c.universe.ensures) i,
       sym c.lane_of-lane.ensures.lane i,
     ))
     (can_give c.args.accepted.now c.keeps.ensures w c.args.chroot.now _ _ _ c.requires.running
@@ -62,7 +62,7 @@ returns-clause-running g c =
     let w = c.args.self.now in
     let drawn = c.draw-serial.ensures.same in
     let given = c.publish_next.ensures.same in
-    let outs = c.outputs.ensures.outputs ∙ ap (λ u. outputs u c.args.recipe) c.universe.ensures in
+    let outs = c.outputs-outputs.ensures.outputs ∙ ap (λ u. outputs u c.args.recipe) c.universe.ensures in
     publishes c.args.accepted.now c.keeps.ensures w c.args.chroot.now _ _ _ c.requires.running
     c.args.recipe c.requires.here c.draw-serial.result _ c.draw-serial.ensures.log _ _
     drawn.about_is drawn.lane_is _ _ _ c.publish_next.ensures.log given.about_is given.lane_is

@@ -1,0 +1,80 @@
+-- No lane stands behind the end of its instructions.
+use Rattle.std.proofs.Common.{◌≡◌, inl, inr, ℕ, zero, suc, ◌<◌, ◌≤◌, List, [], ◌∷◌, length, Some, slice_get, ap, arith}
+use Rattle.farm_model.specs.declared.types.Variant.{Variant}
+use Rattle.farm_model.specs.Universe.{Universe}
+use Rattle.plan_model.specs.Plan.{Plan, lane, instruction_at}
+use Rattle.plan_model.specs.Turn.{LaneState, Turn, Goes, Gives, Waits, Ends, Fails}
+use Rattle.plan_model.specs.Run.{archive, State, start, lane_state, step, Moved, Reachable}
+use Rattle.plan_model.specs.Sound.{IsSound}
+use Rattle.farm_laws.proofs.EventsLeft.{InPlaces, places_at_start, state_at_start, step_places, put_each}
+use Rattle.farm_laws.proofs.Places.{GoesOn, GivesOne, PlaceMove, turn_place}
+use Rattle.farm_laws.proofs.Steps.{put, turn_at, After, step_keeps, run_keeps}
+
+-- a place at which something stands is ahead of the end
+pub within_list : {X : Type 0} (xs : List X) (i : ℕ) (x : X) → slice_get xs i ≡ Some x
+    → i < length xs
+within_list [] i x e = absurd (cc)
+within_list (y ∷ ys) zero x e = omega arith
+within_list (y ∷ ys) (suc i) x e = let h = within_list ys i x e in omega arith
+
+module _ (u : Universe) (p : Plan) (sound : IsSound u p) where
+  abbrev IsWithin : ℕ → LaneState → Type 0
+  IsWithin l st = st.done ≤ length (lane p l).instructions
+
+  abbrev AllWithin : State → Type 0
+  AllWithin s = (l : ℕ) → l < length p → IsWithin l (lane_state s l)
+
+  record Holds (s : State) : Type 0 where
+    pub places : InPlaces u p s
+    pub within : AllWithin s
+
+  module _ (s : State) (l : ℕ) (in_plan : l < length p) (h : Holds s) where
+    goes_within : (next : LaneState)
+        → GoesOn u (archive u s.published) (lane_state s l) (instruction_at p l (lane_state s l).done)
+        next → AllWithin (put s l next)
+    goes_within next g =
+        let at = within_list (lane p l).instructions (lane_state s l).done g.instruction g.is in
+        put_each p IsWithin s l next h.places.long in_plan h.within (omega (arith, at, g.done))
+
+    gives_within : (next : LaneState) (v : Variant)
+        → GivesOne u (lane_state s l) (instruction_at p l (lane_state s l).done) next v
+        → AllWithin (put s l next)
+    gives_within next v g =
+        let at = within_list (lane p l).instructions (lane_state s l).done _ g.is in
+        put_each p IsWithin s l next h.places.long in_plan h.within (elim g.place [
+          | inl more ↦ omega (arith, at, more.1)
+          | inr last ↦ omega (arith, at, last.1)
+        ])
+
+    turn_within : (turn : Turn)
+        → PlaceMove u (archive u s.published) (lane_state s l)
+        (instruction_at p l (lane_state s l).done) turn → After AllWithin s l turn
+    turn_within (Goes next) g = goes_within next g
+    turn_within (Gives next v) g = gives_within next v g
+    turn_within Waits g = tt
+    turn_within Ends g = tt
+    turn_within (Fails t) g = tt
+
+  step_within : (s t : State) (l : ℕ) → Holds s → step u p s l ≡ Moved t → Holds t
+  unfolding turn_at
+  step_within s t l h e = record {
+    places = (step_places u p sound s t l h.places e).0;
+    within = step_keeps u p AllWithin s t l e
+        (λ lt. turn_within s l lt h (turn_at u p s l)
+        (turn_place u (archive u s.published) (lane p l) (lane_state s l)
+        (instruction_at p l (lane_state s l).done)));
+  }
+
+  at_start : Holds (start u p)
+  at_start = record {
+    places = places_at_start u p sound;
+    within = λ l lt. let z = ap (λ (st : LaneState). st.done) (state_at_start u p sound l lt) in
+        omega (arith, z);
+  }
+
+  -- in a reachable state each lane stands within its instructions
+  pub lanes_are_within : (s : State) → Reachable u p s → (l : ℕ) → l < length p
+      → (lane_state s l).done ≤ length (lane p l).instructions
+  lanes_are_within s r =
+      (run_keeps u p Holds (λ a b l h e. step_within a b l h e) r.0 (start u p) s r.1
+      at_start).within
