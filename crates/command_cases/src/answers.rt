@@ -6,11 +6,13 @@ use crate::runs::{Run, push_cut, push_heads, push_run, run_on, words_of};
 use case_files::Case;
 use deb_text::cut_at_first;
 use std::alloc::{AllocError, Global};
+use std::io::Eprint;
+use std::sync::Wait;
 use std::thread::Threads;
 
 /// What words come to where outputs take bytes in these manners.
 fn run_text(
-    rt: &(impl Threads + Sync),
+    rt: &(impl Threads + Wait + Eprint + Sync),
     alloc: Global,
     parts: &Parts,
     words: &[&str],
@@ -24,7 +26,7 @@ fn run_text(
 
 /// The status, and the first line of each output.
 fn heads_text(
-    rt: &(impl Threads + Sync),
+    rt: &(impl Threads + Wait + Eprint + Sync),
     alloc: Global,
     parts: &Parts,
     words: &[&str],
@@ -38,7 +40,7 @@ fn heads_text(
 /// What one run after another comes to, each once where it comes again: with an output that fails
 /// from its first write on, then from its second, and so on up to one that fails in none.
 fn stops_text(
-    rt: &(impl Threads + Sync),
+    rt: &(impl Threads + Wait + Eprint + Sync),
     alloc: Global,
     parts: &Parts,
     words: &[&str],
@@ -75,7 +77,7 @@ fn cut_text(alloc: Global, run: &Run, whole: &[u8]) -> Result<Vec<u8>, AllocErro
 ///
 /// [`AllocError`] where memory is refused.
 pub fn answer_to(
-    rt: &(impl Threads + Sync),
+    rt: &(impl Threads + Wait + Eprint + Sync),
     alloc: Global,
     case: &Case,
 ) -> Result<Vec<u8>, AllocError> {

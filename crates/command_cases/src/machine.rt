@@ -110,6 +110,10 @@ impl<'a> Source for Machine<'a> {
         }
     }
 
+    fn is_watched(&self) -> bool {
+        false
+    }
+
     fn input(&self) -> TextReader<'a> {
         self.part(b"").unwrap_or(TextReader {
             rest: b"",

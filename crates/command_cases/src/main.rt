@@ -12,13 +12,15 @@ mod runs;
 use crate::answers::answer_to;
 use case_files::{Case, Cases, LineFault, print_judged};
 use deb_text::next_line;
+use std::io::Eprint;
 use std::rt::Files;
+use std::sync::Wait;
 use std::thread::Threads;
 use std::{env, fs, io};
 
 /// Judges the case that ends before a line, if one does, or prints the line's fault.
 fn judge_taken(
-    rt: &(impl Print + AllocGlobal + Threads + Sync),
+    rt: &(impl Print + AllocGlobal + Threads + Wait + Eprint + Sync),
     file: &str,
     taken: Result<Option<Case>, LineFault>,
 ) -> io::Result<()> {
@@ -34,7 +36,7 @@ fn judge_taken(
 
 /// Judges the cases of a file. The library's own run hands on no threads.
 fn run_file(
-    rt: &(impl Files + Print + AllocGlobal + Threads + Sync),
+    rt: &(impl Files + Print + AllocGlobal + Threads + Wait + Eprint + Sync),
     file: &str,
 ) -> io::Result<()> {
     let text = fs::read(rt, file)?;

@@ -6,7 +6,9 @@ use deb_text::next_line;
 use farm_commands::run_words;
 use report_sink::{Sink, WriteSink};
 use std::alloc::{AllocError, Global};
+use std::io::Eprint;
 use std::str;
+use std::sync::Wait;
 use std::thread::Threads;
 
 /// What words come to.
@@ -38,7 +40,7 @@ pub fn words_of(alloc: Global, text: &[u8]) -> Result<Vec<&str>, AllocError> {
 
 /// Runs the program on a machine.
 pub fn run_on(
-    rt: &(impl Threads + Sync),
+    rt: &(impl Threads + Wait + Eprint + Sync),
     alloc: Global,
     parts: &Parts,
     words: &[&str],

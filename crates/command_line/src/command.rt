@@ -1,7 +1,7 @@
 //! The command line as its parser reads it.
 
 use crate::help;
-use clap::{Arg, Command};
+use clap::{Arg, ArgAction, Command};
 use std::alloc::{AllocError, Global};
 
 const PORTFARM: &str = "portfarm";
@@ -16,6 +16,8 @@ pub const VERIFY_CERT: &str = "verify-cert";
 
 pub const STEP: &str = "step";
 
+pub const RUN: &str = "run";
+
 pub const PACKAGES: &str = "packages";
 
 pub const SOURCES: &str = "sources";
@@ -27,6 +29,8 @@ pub const PLAN: &str = "plan";
 pub const CERTIFICATE: &str = "certificate";
 
 pub const SCHEDULE: &str = "schedule";
+
+pub const PROGRESS: &str = "progress";
 
 /// The name of a file, which its command requires.
 fn file<'a>(alloc: Global, id: &'a str, name: &'a str, about: &'a str) -> Arg<'a> {
@@ -97,6 +101,15 @@ fn step<'a>(alloc: Global) -> Result<Command<'a>, AllocError> {
     on_files(alloc, STEP, help::STEP, help::STEP_MORE)?.arg(schedule(alloc))
 }
 
+/// The command that runs the lanes.
+fn run<'a>(alloc: Global) -> Result<Command<'a>, AllocError> {
+    let progress = Arg::new(alloc, PROGRESS)
+        .long(PROGRESS)
+        .action(ArgAction::SetTrue)
+        .help(help::PROGRESS);
+    on_files(alloc, RUN, help::RUN, help::RUN_MORE)?.arg(progress)
+}
+
 /// Adds a command over the files of the four texts.
 fn with_files<'a>(
     alloc: Global,
@@ -121,5 +134,6 @@ fn with_plain_commands<'a>(alloc: Global) -> Result<Command<'a>, AllocError> {
 pub fn portfarm<'a>(alloc: Global) -> Result<Command<'a>, AllocError> {
     let program = with_plain_commands(alloc)?;
     let program = program.subcommand(verify_cert(alloc)?)?;
-    program.subcommand(step(alloc)?)
+    let program = program.subcommand(step(alloc)?)?;
+    program.subcommand(run(alloc)?)
 }

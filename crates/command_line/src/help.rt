@@ -15,10 +15,11 @@ Example:
   portfarm check packages sources farm plan
 
 Status:
-  0  accepted, listed, certified, stepped without a trap, or help shown
+  0  accepted, listed, certified, stepped without a trap, finished, or help shown
   1  refused or trapped: the answer tells where and why
   2  wrong words, or a schedule that is none
-  3  a file cannot be read, memory ran out, or the answer cannot be written";
+  3  a file cannot be read, memory ran out, a lane cannot be started, or the answer cannot be
+     written";
 
 pub const CHECK: &str = "\
 Tells whether the plan is safe in whatever order its lanes take turns";
@@ -94,6 +95,24 @@ Example, in which the first lane takes two turns and then the second one:
 Status: 0 stepped without a trap, 1 trapped or refused, 2 wrong words or a schedule that is none,
 3 nothing could be answered";
 
+pub const RUN: &str = "\
+Checks the plan and runs it: each lane in a thread of its own, over one archive";
+
+pub const RUN_MORE: &str = "\
+Where `check` refuses the plan, the answer is that refusal, and nothing is run. Else each lane takes
+its instructions in its own thread, and a lane that waits sleeps until another has published what it
+waits for. Once all have ended, the answer is `finished`, what was published in the order in which it
+came into the archive, and of each lane what it spent and what its chroot holds. A build is an
+instruction with declared outputs here: no package is built, and no file is written. On a terminal,
+or with `--progress`, the error output tells meanwhile of each publication and of each lane that
+begins to wait.
+
+Example:
+  portfarm run packages sources farm plan
+
+Status: 0 finished, 1 refused, 2 wrong words, 3 nothing could be answered, or a lane could not be
+started";
+
 pub const PACKAGES: &str = "Packages index: the packages, with their versions, sizes and relations";
 
 pub const SOURCES: &str = "Sources index: what each source package needs to be built";
@@ -103,5 +122,7 @@ pub const FARM: &str = "The farm: its architecture, its archive, recipes of buil
 pub const PLAN: &str = "The plan: lanes of instructions, and blocks that they use";
 
 pub const CERTIFICATE: &str = "The certificate of the plan, as `cert` prints it";
+
+pub const PROGRESS: &str = "Tell on the error output what is published, and which lanes wait";
 
 pub const SCHEDULE: &str = "Lanes in the order of their turns, as 0,0,1: 0 is the first lane";

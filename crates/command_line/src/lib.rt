@@ -6,5 +6,5 @@ mod help;
 mod request;
 mod schedule;
 
-pub use request::{Paths, Request, WordsFault, read_words};
+pub use request::{Asked, Paths, Request, WordsFault, read_words};
 pub use schedule::{ScheduleFault, read_schedule};

@@ -3,8 +3,8 @@
 ghost use Rattle.std.specs.Prelude.{◌≡◌, IsOkAnd, length};
 
 use crate::command::{
-    CERT, CERTIFICATE, CHECK, FARM, LIST, PACKAGES, PLAN, SCHEDULE, SOURCES, STEP, VERIFY_CERT,
-    portfarm,
+    CERT, CERTIFICATE, CHECK, FARM, LIST, PACKAGES, PLAN, PROGRESS, RUN, SCHEDULE, SOURCES, STEP,
+    VERIFY_CERT, portfarm,
 };
 use crate::schedule::{ScheduleFault, read_schedule};
 use clap::error::ErrorKind;
@@ -21,7 +21,7 @@ pub struct Paths<'a> {
     pub plan: &'a str,
 }
 
-/// What the words ask for.
+/// What is asked of texts, and answered without waiting.
 #[derive(Debug, Drop)]
 pub enum Request<'a> {
     /// The verdict on the four texts of standard input.
@@ -42,6 +42,15 @@ pub enum Request<'a> {
         schedule: Vec<u32>,
         paths: Paths<'a>,
     },
+}
+
+/// What the words ask for.
+#[derive(Debug, Drop)]
+pub enum Asked<'a> {
+    /// An answer to texts.
+    Answer(Request<'a>),
+    /// A run of the farm of four texts; and whether to tell of it while it goes on.
+    Run { paths: Paths<'a>, progress: bool },
 }
 
 /// Why words ask for nothing that is answered.
@@ -125,6 +134,21 @@ fn request_of<'a>(
     }
 }
 
+/// What a command and its words ask for.
+fn asked_of<'a>(
+    alloc: Global,
+    command: &str,
+    matches: &ArgMatches<'a>,
+) -> Result<Asked<'a>, WordsFault> {
+    if command == RUN {
+        return Ok(Asked::Run {
+            paths: paths_of(matches),
+            progress: matches.get_flag(PROGRESS),
+        });
+    }
+    Ok(Asked::Answer(request_of(alloc, command, matches)?))
+}
+
 fn no_command(alloc: Global) -> WordsFault {
     match String::from_str(alloc, "error: expected a command\n") {
         Ok(text) => WordsFault::Wrong(text),
@@ -140,18 +164,19 @@ fn no_command(alloc: Global) -> WordsFault {
 /// [`WordsFault::Help`] where they ask for help or the version; [`WordsFault::Wrong`] for words that
 /// are none of the program's, and [`WordsFault::BadSchedule`] for a schedule that is none;
 /// [`WordsFault::Memory`] where memory is refused.
-pub fn read_words<'a, S: AsStr>(alloc: Global, words: &'a [S]) -> Result<Request<'a>, WordsFault>
-    ensures { length words.entry.now ≡ 0 → IsOkAnd result (λ request. request ≡ Request.CheckInput) }
+pub fn read_words<'a, S: AsStr>(alloc: Global, words: &'a [S]) -> Result<Asked<'a>, WordsFault>
+    ensures { length words.entry.now ≡ 0
+        → IsOkAnd result (λ asked. asked ≡ Asked.Answer Request.CheckInput) }
 {
     if words.is_empty() {
-        return Ok(Request::CheckInput);
+        return Ok(Asked::Answer(Request::CheckInput));
     }
     let matches = match portfarm(alloc)?.try_get_matches_from(words) {
         Ok(matches) => matches,
         Err(error) => return Err(fault_of(alloc, error)),
     };
     match matches.subcommand() {
-        Some((command, matches)) => request_of(alloc, command, matches),
+        Some((command, matches)) => asked_of(alloc, command, matches),
         None => Err(no_command(alloc)),
     }
 }

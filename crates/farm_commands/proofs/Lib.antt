@@ -1,3 +1,4 @@
 pub mod AnswerLaws
 pub mod CertLaws
 pub mod ReadLaws
+mod RunLaws

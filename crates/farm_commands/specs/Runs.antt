@@ -5,10 +5,13 @@
 --                    the line of a fault outside of the texts, written to the error output
 --   TellsWords       what is told of words that ask for no answer
 --   ComesTo          what is written to the output, and what is told
-use Rattle.std.specs.Prelude.{◌≡◌, ◌⊎◌, ℕ, List, ◌++◌, codes, Option, Result, Ok, Err}
+--   MayComeTo        the same where words may ask for a run too
+use Rattle.std.specs.Prelude.{◌≡◌, ◌≢◌, ◌⊎◌, ℕ, List, ◌++◌, codes, Option, Result, Ok, Err}
+use Rattle.command_line.specs.declared.request.Paths.{Paths}
 use Rattle.command_line.specs.declared.request.Request.{Request}
 use Rattle.report_sink.specs.Sinks.{SinkState, IsWritten}
 use Rattle.farm_commands.specs.Answers.{IsAnswered}
+use Rattle.farm_commands.specs.FarmAnswers.{RunsTo}
 use Rattle.farm_commands.specs.Requests.{AnswersRequest, OnInput}
 use Rattle.farm_commands.specs.declared.fault.OutsideFault.{OutsideFault}
 use Rattle.farm_commands.specs.declared.fault.OutsideFault.TheVariants.{CannotRead, OutOfMemory, WriteFailed}
@@ -47,3 +50,10 @@ pub record ComesTo (words : ℕ) (held : List ℕ → Option (List ℕ)) (given 
       ⊎ TellsWords old new told
   -- and no word at all asks for the verdict on standard input.
   pub no_word : words ≡ 0 → IsAnswered (OnInput given) old new told
+
+-- the same, or a run of the plan of some files; before and after are the states of the error output
+abbrev pub MayComeTo : ℕ → (List ℕ → Option (List ℕ)) → Option (List ℕ) → SinkState → SinkState
+    → SinkState → SinkState → Result ℕ OutsideFault → Type 0
+MayComeTo words held given old new before after told =
+    ComesTo words held given old new told
+    ⊎ ((words ≢ 0) × (paths : Paths) × RunsTo held paths old new before after told)

@@ -113,7 +113,7 @@ pub fn answer_list<'a, S: Sink>(
 }
 
 /// Writes what a schedule of this length came to, and gives the status.
-fn write_run<'a, S: Sink>(
+fn write_turns<'a, S: Sink>(
     out: &mut S,
     outcome: &Outcome<'_>,
     count: usize,
@@ -126,7 +126,7 @@ fn write_run<'a, S: Sink>(
 }
 
 /// Lets the lanes of a plan take the turns of a schedule, and answers with what it comes to.
-fn answer_run<'a, S: Sink>(
+fn answer_turns<'a, S: Sink>(
     alloc: Global,
     planned: &Planned,
     schedule: &[u32],
@@ -139,7 +139,7 @@ fn answer_run<'a, S: Sink>(
         (S.state out.old) (S.state out.new) result }
 {
     let outcome = run_schedule(alloc, &planned.universe, &planned.plan, schedule)?;
-    write_run(out, &outcome, schedule.len())
+    write_turns(out, &outcome, schedule.len())
 }
 
 /// Answers with the state that a schedule of lanes comes to, or with its first trap and the state
@@ -162,5 +162,5 @@ pub fn answer_step<'a, S: Sink>(
         Ok(planned) => planned,
         Err(first) => return answer_verdict(Err(Refusal::from(first)), out),
     };
-    answer_run(alloc, &planned, schedule, out)
+    answer_turns(alloc, &planned, schedule, out)
 }

@@ -3,16 +3,19 @@
 
 mod answers;
 mod certificates;
+mod farm_run;
 mod fault;
 mod request;
 mod run;
 mod source;
 mod status;
+mod teller;
 
 pub use answers::{answer_check, answer_list, answer_step};
 pub use certificates::{answer_cert, answer_verify_cert};
+pub use farm_run::answer_run;
 pub use fault::OutsideFault;
 pub use request::answer_request;
-pub use run::run_words;
+pub use run::{quiet_words, run_words};
 pub use source::{MOST_FILE, MOST_INPUT, Source, read_file, read_input};
 pub use status::{FINE, OUTSIDE, REFUSED, WRONG_WORDS};

@@ -19,7 +19,7 @@ use std::thread::Threads;
 
 /// The four texts of files.
 #[derive(Drop)]
-struct FileTexts {
+pub struct FileTexts {
     packages: Vec<u8>,
     sources: Vec<u8>,
     farm: Vec<u8>,
@@ -27,7 +27,7 @@ struct FileTexts {
 }
 
 impl FileTexts {
-    fn texts(&self) -> Texts<'_>
+    pub fn texts(&self) -> Texts<'_>
         ensures { texts_view result ≡ texts_in_files self.now }
     {
         Texts {
@@ -40,7 +40,12 @@ impl FileTexts {
 }
 
 /// Reads the files of the four texts, in the order of their names.
-fn read_files<'a, F: Source>(
+///
+/// # Errors
+///
+/// [`OutsideFault::CannotRead`] for the first that cannot be read, and
+/// [`OutsideFault::OutOfMemory`] where memory is refused.
+pub fn read_files<'a, F: Source>(
     alloc: Global,
     source: &F,
     paths: Paths<'a>,

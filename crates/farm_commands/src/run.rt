@@ -1,17 +1,20 @@
 //! What words come to.
 
-ghost use Rattle.std.specs.Prelude.{◌≡◌, ℕ, Result, OnErr, length};
-ghost use Rattle.farm_commands.specs.Runs.{ComesTo, TellsFault, TellsWords, fault_line, status_told};
+ghost use Rattle.std.specs.Prelude.{◌≡◌, ℕ, IfOk, Result, OnErr, length};
+ghost use Rattle.farm_commands.specs.Runs.{ComesTo, MayComeTo, TellsFault, TellsWords, fault_line, status_told};
 ghost use Rattle.report_sink.specs.Sinks.{IsWritten};
 
+use crate::farm_run::{RunFiles, run_files};
 use crate::fault::OutsideFault;
 use crate::request::answer_request;
 use crate::source::Source;
 use crate::status::{FINE, OUTSIDE, WRONG_WORDS};
-use command_line::{WordsFault, read_words};
+use command_line::{Asked, WordsFault, read_words};
 use report_sink::{Sink, write_pieces, write_text};
 use std::alloc::Global;
 use std::convert::AsStr;
+use std::io::Eprint;
+use std::sync::Wait;
 use std::thread::Threads;
 
 /// Says on the error output why words ask for nothing.
@@ -42,7 +45,7 @@ fn tell_words<'a, S: Sink, E: Sink>(
     }
 }
 
-/// Does what the words ask for, and gives its status.
+/// Does what the words ask for, but for a run, and gives its status.
 ///
 /// # Errors
 ///
@@ -60,7 +63,35 @@ fn answer_words<'a, W: AsStr, F: Source, S: Sink, E: Sink>(
     ensures quiet { OnErr result (E.state errors.new ≡ E.state errors.old) }
 {
     match read_words(alloc, words) {
-        Ok(request) => answer_request(rt, alloc, request, source, out),
+        Ok(Asked::Answer(request)) => answer_request(rt, alloc, request, source, out),
+        Ok(Asked::Run { .. }) => Ok(wrong_words(errors, b"portfarm: no lanes are run here\n")),
+        Err(fault) => tell_words(fault, out, errors),
+    }
+}
+
+/// Does what the words ask for, and gives its status.
+///
+/// # Errors
+///
+/// The fault outside of the texts that ended it.
+fn do_words<'a, R: Threads + Wait + Eprint + Sync, W: AsStr, F: Source, S: Sink, E: Sink>(
+    rt: &R,
+    alloc: Global,
+    words: &'a [W],
+    source: &F,
+    out: &mut S,
+    errors: &mut E,
+) -> Result<u8, OutsideFault<'a>>
+    ensures done { MayComeTo (length words.entry.now) (F.held source.now) (F.given source.now)
+        (S.state out.old) (S.state out.new) (E.state errors.old) (E.state errors.new) result }
+    ensures quiet { OnErr result (E.state errors.new ≡ E.state errors.old) }
+{
+    match read_words(alloc, words) {
+        Ok(Asked::Answer(request)) => answer_request(rt, alloc, request, source, out),
+        Ok(Asked::Run { paths, progress }) => {
+            let of = RunFiles { paths, progress };
+            run_files(rt, alloc, source, of, out, errors)
+        }
         Err(fault) => tell_words(fault, out, errors),
     }
 }
@@ -81,15 +112,22 @@ fn tell<E: Sink>(fault: OutsideFault<'_>, errors: &mut E) -> u8
     OUTSIDE
 }
 
-/// Does what words ask for, those behind the program's name, and gives the status of the program.
-///
-/// The files that they name are read in the order of the words, each up to
-/// [`MOST_FILE`](crate::MOST_FILE) bytes, and all of them before anything is checked. With no word
-/// at all the four texts are those of standard input. The status is 0 where the texts are accepted
-/// or listed, the schedule meets no trap, or help is shown; 1 for a refusal or a trap; 2 for wrong
-/// words or a schedule that is none; and 3 where a file cannot be read, memory is refused, or the
-/// output fails. What is said of wrong words, and of the last three, stands on the error output.
-pub fn run_words<'a, W: AsStr, F: Source, S: Sink, E: Sink>(
+/// The status that is told, or that of a fault outside of the texts, which is said on the error
+/// output.
+fn end<E: Sink>(told: Result<u8, OutsideFault<'_>>, errors: &mut E) -> u8
+    ensures status { result ≡ status_told told.entry }
+    ensures line { TellsFault (E.state errors.old) (E.state errors.new) told.entry }
+    ensures quiet { IfOk told.entry (λ _. E.state errors.new ≡ E.state errors.old) }
+{
+    match told {
+        Ok(status) => status,
+        Err(fault) => tell(fault, errors),
+    }
+}
+
+/// Does what words ask for, but for `run`, which is a wrong word here: as [`run_words`], for those
+/// who have no leave to wait.
+pub fn quiet_words<'a, W: AsStr, F: Source, S: Sink, E: Sink>(
     rt: &(impl Threads + Sync),
     alloc: Global,
     words: &'a [W],
@@ -102,8 +140,33 @@ pub fn run_words<'a, W: AsStr, F: Source, S: Sink, E: Sink>(
         (S.state out.old) (S.state out.new) told
         × TellsFault (E.state errors.old) (E.state errors.new) told }
 {
-    match answer_words(rt, alloc, words, source, out, errors) {
-        Ok(status) => status,
-        Err(fault) => tell(fault, errors),
-    }
+    let told = answer_words(rt, alloc, words, source, out, errors);
+    end(told, errors)
+}
+
+/// Does what words ask for, those behind the program's name, and gives the status of the program.
+/// It may wait where they ask for a run.
+///
+/// The files that they name are read in the order of the words, each up to
+/// [`MOST_FILE`](crate::MOST_FILE) bytes, and all of them before anything is checked. With no word
+/// at all the four texts are those of standard input. The status is 0 where the texts are accepted
+/// or listed, the schedule meets no trap, the run has come to its end, or help is shown; 1 for a
+/// refusal or a trap; 2 for wrong words or a schedule that is none; and 3 where a file cannot be
+/// read, memory is refused, a lane cannot be started, or the output fails. What is said of wrong
+/// words, and of the last four, stands on the error output.
+pub fn run_words<'a, R: Threads + Wait + Eprint + Sync, W: AsStr, F: Source, S: Sink, E: Sink>(
+    rt: &R,
+    alloc: Global,
+    words: &'a [W],
+    source: &F,
+    out: &mut S,
+    errors: &mut E,
+) -> u8
+    ensures { (told : Result ℕ OutsideFault) × (result ≡ status_told told)
+        × MayComeTo (length words.entry.now) (F.held source.now) (F.given source.now)
+        (S.state out.old) (S.state out.new) (E.state errors.old) (E.state errors.new) told
+        × TellsFault (E.state errors.old) (E.state errors.new) told }
+{
+    let told = do_words(rt, alloc, words, source, out, errors);
+    end(told, errors)
 }

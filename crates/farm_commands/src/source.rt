@@ -32,6 +32,10 @@ pub trait Source {
         ensures { IfOk result (λ file. IfSome (held self.now path.now)
             (λ bytes. Self.File.remaining file ≡ Some bytes)) };
 
+    /// Tells whether the error output is watched, as a terminal is: runs are then told of there while
+    /// they go on.
+    fn is_watched(&self) -> bool;
+
     /// Standard input.
     fn input(&self) -> Self::Input
         ensures { IfSome (given self.now) (λ bytes. Self.Input.remaining result ≡ Some bytes) };

@@ -1,3 +1,4 @@
 pub mod NameLaws
+mod RunLaws
 pub mod CostLines
 pub mod StateLaws

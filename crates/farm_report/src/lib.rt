@@ -2,6 +2,7 @@
 #![tactic(auto)]
 
 mod cert;
+mod finished;
 mod lines;
 mod spelling;
 mod state;
@@ -10,6 +11,8 @@ mod step;
 mod verdict;
 
 pub use cert::write_cert_verdict;
+pub use finished::write_run;
 pub use report_sink::{Sink, SinkFailed, WRITE_FAILED, WriteFailed, WriteSink, write_text};
+pub use spelling::{lane_name, name_of, version_of};
 pub use step::write_step;
 pub use verdict::{verdict_text, write_check};

@@ -111,7 +111,7 @@ pub fn write_lane_lines<S: Sink>(
     out: &mut S,
     universe: &Universe,
     name: &[u8],
-    done: u32,
+    done: u64,
     spent: u64,
     chroot: &Chroot,
 ) -> Result<(), WriteFailed>
@@ -132,7 +132,7 @@ fn write_lane_state<S: Sink>(out: &mut S, core: &Core<'_>, number: u32) -> Resul
     ensures told { is_err result ≡ (S.state out.new).failed }
 {
     let name = lane_name(core.plan(), number);
-    let (done, spent) = (core.done(number), core.spent(number));
+    let (done, spent) = (u64::from(core.done(number)), core.spent(number));
     let chroot = core.chroot(number);
     write_lane_lines(out, core.universe(), name, done, spent, chroot)
 }

@@ -85,7 +85,7 @@ pub fn write_published<'a, S: Sink>(
 pub fn write_at<S: Sink>(
     out: &mut S,
     name: &[u8],
-    done: u32,
+    done: u64,
     spent: u64,
     used: u64,
 ) -> Result<(), WriteFailed>

@@ -5,14 +5,15 @@ use farm_commands::{OUTSIDE, Source, WRONG_WORDS, run_words};
 use report_sink::{Sink, WriteSink, write_text};
 use std::env::{self, Env};
 use std::fs::File;
-use std::io::{self, ErrorKind};
+use std::io::{self, ErrorKind, IsTerminal};
 use std::process::ExitCode;
 use std::rt::Files;
 
-/// The files and the standard input of a machine.
+/// The files and the standard input of a machine, and whether its error output is a terminal.
 #[derive(Drop)]
 struct Machine<'a, R> {
     rt: &'a R,
+    is_watched: bool,
 }
 
 impl<R: Files + Input> Source for Machine<'_, R> {
@@ -28,6 +29,10 @@ impl<R: Files + Input> Source for Machine<'_, R> {
 
     fn open(&self, path: &str) -> io::Result<R::File> {
         File::open(self.rt, path)
+    }
+
+    fn is_watched(&self) -> bool {
+        self.is_watched
     }
 
     fn input(&self) -> R::Reader {
@@ -62,11 +67,15 @@ fn main(rt: HostRuntime) -> ExitCode {
         Ok(words) => words,
         Err(error) => return ExitCode::from(tell_no_words(error.kind(), &mut errors)),
     };
+    let machine = Machine {
+        rt: &rt,
+        is_watched: stderr.is_terminal(),
+    };
     let status = run_words(
         &rt,
         rt.alloc(),
         words.as_slice(),
-        &Machine { rt: &rt },
+        &machine,
         &mut WriteSink::new(io::writer(&rt)),
         &mut errors,
     );

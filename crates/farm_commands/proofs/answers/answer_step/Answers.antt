@@ -11,4 +11,4 @@ returns g c =
     (AnswersStep c.args.schedule.now (texts_view c.args.texts)) _ _ _
     (λ text status is. subst (λ planned. Steps c.args.schedule.now planned text status)
     (sym c.in-Ok.ensures.read) is)
-    c.answer_run.ensures
+    c.answer_turns.ensures

@@ -20,5 +20,5 @@ returns-clause-written g c =
     subst (IsWritten (g.S.Sink.state c.args.out.now) (g.S.Sink.state c.write_lane_lines.new.out))
     (lane_is _ _ _ _ _ _ _ _ _ (chroot_in f n) c.universe.ensures
     (c.lane_name-name.ensures ∙ ap (λ (p : CountedPlan). (lane p.lanes n).name) c.plan.ensures)
-    c.done-done.ensures c.spent-spent.ensures c.chroot-chroot.ensures.chroot)
+    (c.from-done.ensures ∙ c.done.ensures) c.spent-spent.ensures c.chroot-chroot.ensures.chroot)
     c.write_lane_lines.ensures.written

@@ -3,7 +3,7 @@ use Rattle.std.specs.Option.{is_none}
 use Rattle.farm_report.specs.StateText.{step_text}
 use Rattle.farm_commands.specs.Answers.{IsJust, ShowsRun, status_of}
 use Rattle.farm_commands.proofs.AnswerLaws.{answered-by}
-use Rattle.farm_commands.proofs.answers.answer_run.Goals as goal
+use Rattle.farm_commands.proofs.answers.answer_turns.Goals as goal
 
 pub returns : goal.returns
 returns g c =
@@ -19,4 +19,4 @@ returns g c =
       text_is = is.0;
       status_is = is.1;
     })
-    c.write_run.ensures
+    c.write_turns.ensures

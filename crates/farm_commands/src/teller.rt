@@ -1,0 +1,119 @@
+//! The gate of the program's runs.
+
+use farm_archive::Publication;
+use farm_executor::Bell;
+use farm_report::{lane_name, name_of, version_of};
+use lane_runner::{Gate, Go};
+use plan_asm::Plan;
+use plan_verifier::Accepted;
+use std::alloc::{AllocError, Global};
+use std::io::Eprint;
+use std::sync::{Mutex, Wait};
+
+/// The name of a lane, and the instruction at which it was last told that it waits: 0 where that
+/// was never told.
+#[derive(Drop)]
+struct ToldLane {
+    name: Vec<u8>,
+    waits_at: u32,
+}
+
+/// A bell that may tell of the run by lines on the error output of the machine: of each publication,
+/// and of each lane that begins to wait. What it tells is no part of any promise.
+#[derive(Drop)]
+pub struct Teller<'a, R: Wait> {
+    rt: &'a R,
+    bell: Bell<'a, R>,
+    tells: bool,
+    // held while a line is written, so that lines stand one behind the other
+    lanes: Mutex<Vec<ToldLane>>,
+}
+
+/// The lanes of a plan, of which nothing was told.
+fn untold(alloc: Global, plan: &Plan) -> Result<Vec<ToldLane>, AllocError> {
+    let mut lanes = Vec::new(alloc);
+    for number in 0..plan.lanes() {
+        lanes.push(ToldLane {
+            name: plan.lane(number).name().to_vec(alloc)?,
+            waits_at: 0,
+        })?;
+    }
+    Ok(lanes)
+}
+
+impl<'a, R: Wait> Teller<'a, R> {
+    /// The gate of a plan, which tells of its run or does not.
+    ///
+    /// # Errors
+    ///
+    /// Where memory is refused. Nothing is left behind.
+    pub fn new(
+        rt: &'a R,
+        alloc: Global,
+        plan: &Plan,
+        tells: bool,
+    ) -> Result<Teller<'a, R>, AllocError> {
+        Ok(Teller {
+            rt,
+            bell: Bell::new(rt, alloc, plan.lanes())?,
+            tells,
+            lanes: Mutex::new(untold(alloc, plan)?),
+        })
+    }
+}
+
+impl<R: Wait + Eprint> Teller<'_, R> {
+    /// Tells that a lane waits, unless that was told of this wait before.
+    fn tell_wait(&self, lane: u32, instruction: u32) {
+        let mut lanes = self.lanes.lock(self.rt);
+        let Some(told) = lanes.get_mut(lane as usize) else {
+            return;
+        };
+        if told.waits_at != instruction {
+            told.waits_at = instruction;
+            let name = told.name.escape_ascii();
+            let _written = eprintln!(self.rt; "lane {name} waits at instruction {instruction}");
+        }
+    }
+
+    fn tell_publication(&self, accepted: &Accepted, publication: Publication) {
+        let Publication {
+            serial,
+            lane,
+            variant,
+        } = publication;
+        let universe = accepted.universe();
+        let lane = lane_name(accepted.plan(), lane).escape_ascii();
+        let name = name_of(universe, variant.name).escape_ascii();
+        let version = version_of(universe, variant).escape_ascii();
+        let _lanes = self.lanes.lock(self.rt);
+        let _written = eprintln!(self.rt;
+            "lane {lane} published {name} {version} (serial {serial})"
+        );
+    }
+}
+
+impl<R: Wait + Eprint> Gate for Teller<'_, R> {
+    ghost may_give_up = { λ _. ⊥ };
+
+    fn before(&self, lane: u32, instruction: u32) -> Go {
+        self.bell.before(lane, instruction)
+    }
+
+    fn pause(&self, lane: u32, instruction: u32) -> Go {
+        if self.tells {
+            self.tell_wait(lane, instruction);
+        }
+        self.bell.pause(lane, instruction)
+    }
+
+    fn published(&self, accepted: &Accepted, publication: Publication) {
+        if self.tells {
+            self.tell_publication(accepted, publication);
+        }
+    }
+
+    fn ring(&self) {
+        self.bell.ring();
+    }
+}
