@@ -7,6 +7,7 @@ ghost use Rattle.word_archive.specs.Seats.{opened_seats, seat_of};
 
 use crate::lanes::LaneJob;
 use crate::link::Link;
+use crate::providers::Providers;
 use chroot_state::Chroot;
 use plan_verifier::Accepted;
 use std::alloc::{AllocError, Global};
@@ -29,6 +30,7 @@ pub fn base_chroots(alloc: Global, accepted: &Accepted) -> Result<Vec<Chroot>, A
 /// Takes the seat of a lane.
 fn seated_at<'a, 'p>(
     archive: &'a SharedArchive<'p>,
+    providers: &'a Providers,
     seats: &mut LaneSeats,
     lane: usize,
     chroot: Chroot,
@@ -47,13 +49,18 @@ fn seated_at<'a, 'p>(
     LaneJob {
         lane: lane as u32,
         chroot,
-        end: Link { archive, seat },
+        end: Link {
+            archive,
+            providers,
+            seat,
+        },
     }
 }
 
 /// Takes the seats of all lanes. The memory for the jobs was taken before.
 fn seated<'a, 'p>(
     archive: &'a SharedArchive<'p>,
+    providers: &'a Providers,
     mut seats: LaneSeats,
     chroots: Vec<Chroot>,
     mut jobs: Vec<LaneJob<Link<'a, 'p>>>,
@@ -71,7 +78,7 @@ fn seated<'a, 'p>(
 {
     for chroot in chroots {
         let lane = jobs.len();
-        jobs.push_reserved(seated_at(archive, &mut seats, lane, chroot));
+        jobs.push_reserved(seated_at(archive, providers, &mut seats, lane, chroot));
     }
     (jobs, seats)
 }
@@ -81,6 +88,7 @@ pub fn jobs<'a, 'p>(
     alloc: Global,
     accepted: &Accepted,
     archive: &'a SharedArchive<'p>,
+    providers: &'a Providers,
     seats: LaneSeats,
 ) -> Result<(Vec<LaneJob<Link<'a, 'p>>>, LaneSeats), AllocError>
     requires about { archive.now.accepted.now ≡ accepted.now }
@@ -94,5 +102,5 @@ pub fn jobs<'a, 'p>(
     let _lanes = accepted.plan().lanes();
     let chroots = base_chroots(alloc, accepted)?;
     let jobs = Vec::with_capacity(alloc, chroots.len())?;
-    Ok(seated(archive, seats, chroots, jobs))
+    Ok(seated(archive, providers, seats, chroots, jobs))
 }

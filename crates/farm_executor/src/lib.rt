@@ -9,6 +9,7 @@ mod judged;
 mod lanes;
 mod link;
 mod outcomes;
+mod providers;
 mod run;
 mod scope;
 
@@ -18,5 +19,6 @@ pub use causes::{NOT_STARTED, cause};
 pub use judged::Judged;
 pub use lanes::{EndOf, LaneEnd, LaneJob, Started};
 pub use link::Link;
+pub use providers::Providers;
 pub use run::{FarmRun, RunFault, run_farm};
 pub use scope::{in_scope, run_lanes};

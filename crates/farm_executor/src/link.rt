@@ -3,13 +3,15 @@
 ghost use Rattle.std.specs.Prelude.{◌≡◌};
 ghost use Rattle.farm_executor.specs.LaneEnds.{AreRising};
 
+use crate::providers::Providers;
 use lane_runner::LaneArchive;
 use word_archive::{LaneSeat, SharedArchive};
 
-/// A lane's seat beside its archive: the lane's end of it. The serials that the lane has drawn rise.
+/// A lane's seat beside its archive: the lane's end of it, and which names provide what. The serials that the lane has drawn rise.
 #[derive(Drop)]
 pub struct Link<'a, 'p> {
     pub archive: &'a SharedArchive<'p>,
+    pub providers: &'a Providers,
     pub seat: LaneSeat,
     pub ghost same: { (seat.table ≡ archive.now.table.shared.table_id)
         × (seat.about ≡ archive.now.accepted.now) },
@@ -24,6 +26,14 @@ impl LaneArchive for Link<'_, '_> {
     ghost lane = { λ l. l.seat.lane };
 
     ghost log = { λ l. l.seat.log };
+
+    fn providers(&self, text: &[u8]) -> usize {
+        self.providers.count(text)
+    }
+
+    fn provider(&self, text: &[u8], number: usize) -> Option<u32> {
+        self.providers.name(text, number)
+    }
 
     fn load(&mut self, name: u32) -> u64 {
         self.archive.load(&mut self.seat, name as usize)

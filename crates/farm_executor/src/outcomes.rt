@@ -11,6 +11,7 @@ use crate::base::BaseSeat;
 use crate::jobs::jobs;
 use crate::lanes::LaneEnd;
 use crate::link::Link;
+use crate::providers::Providers;
 use crate::scope::run_lanes;
 use chroot_state::Chroot;
 use lane_runner::{Gate, LaneStop};
@@ -70,7 +71,11 @@ fn give_back(
             chroot,
             end,
         } = end;
-        let Link { archive: _, seat } = end;
+        let Link {
+            archive: _,
+            providers: _,
+            seat,
+        } = end;
         seats.give(seat);
         outcomes.stops.push_reserved(stop);
         outcomes.chroots.push_reserved(chroot);
@@ -98,7 +103,8 @@ pub fn run_seats<R: Threads + Wait + Sync, G: Gate + Sync>(
         r.0.spent.items r.1.stopped records) }
 {
     let outcomes = Outcomes::with_room(alloc, accepted.plan().lanes())?;
-    let (jobs, seats) = jobs(alloc, accepted, archive, seats)?;
+    let providers = Providers::of(alloc, accepted.universe())?;
+    let (jobs, seats) = jobs(alloc, accepted, archive, &providers, seats)?;
     let base = BaseSeat { archive, seats };
     let (ends, base) = run_lanes(rt, alloc, accepted, gate, jobs, base)?;
     let BaseSeat { archive: _, seats } = base;

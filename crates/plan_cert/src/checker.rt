@@ -8,6 +8,8 @@ ghost use Rattle.plan_model.specs.Sound.{IsSound};
 ghost use Rattle.plan_cert.specs.PlaceRows.{rows_of};
 ghost use Rattle.plan_cert.specs.Certified.{IsCertVerdict};
 ghost use Rattle.plan_cert.specs.Checked.{AreSafe};
+ghost use Rattle.plan_cert.specs.Stated.{stated_rows};
+ghost use Rattle.verdict_laws.specs.Agreeing.{Agree};
 
 use crate::justified::check_rows;
 use crate::order::check_order;
@@ -55,6 +57,31 @@ fn check_safety(
     }
 }
 
+/// Checks a certificate that states these rows: the rows, then each instruction, then the order.
+fn check_stated(
+    alloc: Global,
+    universe: &Universe,
+    tables: &Tables,
+    plan: &Plan,
+    certificate: &Certificate,
+    known: &StatedRows,
+) -> Result<(), CertFault>
+    requires sound { IsSound universe.now plan.now.lanes }
+    requires certificate { IsCertificate universe.now plan.now.lanes certificate.now }
+    requires tables { tables.now ≡ universe.now }
+    requires of_universe { known.now.universe ≡ universe.now }
+    requires of_plan { known.now.plan ≡ plan.now.lanes }
+    requires rows { Agree plan.now.lanes (rows_of known.now)
+        (stated_rows universe.now plan.now.lanes certificate.now) }
+    ensures verdict { IsCertVerdict universe.now plan.now.lanes certificate.now result }
+    ensures safe { OnOk result (IsSafe universe.now plan.now.lanes) }
+{
+    check_rows(alloc, universe, tables, plan, known)?;
+    check_safety(alloc, universe, tables, plan, known)?;
+    check_order(alloc, universe, tables, plan, certificate.order())?;
+    Ok(())
+}
+
 /// Checks a certificate of a plan over a universe, whoever made it: its rows, joined with the
 /// initial archive, are known at each place; under them each instruction is safe; and its list is an
 /// order of the waits and outputs.
@@ -83,8 +110,5 @@ pub fn check_certificate(
 {
     let known = stated_known(alloc, universe, plan, certificate)?;
     let tables = Tables::build(rt, alloc, universe)?;
-    check_rows(alloc, universe, &tables, plan, &known)?;
-    check_safety(alloc, universe, &tables, plan, &known)?;
-    check_order(alloc, universe, &tables, plan, certificate.order())?;
-    Ok(())
+    check_stated(alloc, universe, &tables, plan, certificate, &known)
 }
