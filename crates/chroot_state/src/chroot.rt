@@ -105,8 +105,8 @@ impl Chroot {
         self.slots.put(name, slot);
     }
 
-    /// Changes what is held of each member.
-    fn change(&mut self, universe: &Universe, members: &[u32], change: Change)
+    /// Changes what is held of each member, and asks for no trap: for whoever knows that none is met.
+    pub fn change(&mut self, universe: &Universe, members: &[u32], change: Change)
         requires held { IsHeld universe.now self.old }
         requires named { All (λ m. m < names universe.now) members.now }
         ensures changed { self.new ≡ with_slots universe.now self.old
@@ -117,6 +117,21 @@ impl Chroot {
             let slot = change.of(slot_at(&self.slots, *member));
             self.put(universe, *member, slot);
         }
+    }
+
+    /// Unpacks a variant, and asks for no trap: for whoever knows that none is met.
+    pub fn unpack_untested(&mut self, universe: &Universe, variant: Variant)
+        requires held { IsHeld universe.now self.old }
+        requires known { IsKnown universe.now variant }
+        ensures put { self.new
+            ≡ with_slots universe.now self.old (traps.unpacked self.old.slots variant) }
+        ensures held { IsHeld universe.now self.new }
+    {
+        let unpacked = Slot::Unpacked {
+            bit: variant.bit,
+            last: last_of(slot_at(&self.slots, variant.name)),
+        };
+        self.put(universe, variant.name, unpacked);
     }
 
     /// Unpacks a variant.
@@ -139,11 +154,7 @@ impl Chroot {
         if let Some(trap) = unpack_trap(universe, room, self.used, &self.slots, variant) {
             return Err(trap);
         }
-        let unpacked = Slot::Unpacked {
-            bit: variant.bit,
-            last: last_of(slot_at(&self.slots, variant.name)),
-        };
-        self.put(universe, variant.name, unpacked);
+        self.unpack_untested(universe, variant);
         Ok(())
     }
 

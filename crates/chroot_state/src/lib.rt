@@ -14,5 +14,6 @@ mod space;
 mod unpack;
 mod withdraw;
 
+pub use change::Change;
 pub use chroot::Chroot;
 pub use phase::Phase;

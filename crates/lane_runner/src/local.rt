@@ -10,7 +10,7 @@ ghost use Rattle.lane_runner.specs.OnWay.{passed, CanPass};
 ghost use Rattle.plan_model.specs.Plan.{build_cost, size_cost, unpack_cost};
 
 use crate::runner::Runner;
-use chroot_state::Chroot;
+use chroot_state::{Change, Chroot};
 use farm_universe::{Universe, Variant};
 use plan_asm::Lane;
 
@@ -40,7 +40,7 @@ impl Runner {
         ensures place { self.new ≡ passed self.old (unpack_cost universe.now variant) }
     {
         let cost = size_cost(universe.size(variant));
-        let _done = chroot.unpack(universe, variant);
+        chroot.unpack_untested(universe, variant);
         let _budget = lane.budget();
         self.pass(cost);
     }
@@ -62,7 +62,7 @@ impl Runner {
             (configured chroot.old.slots members.now) }
         ensures place { self.new ≡ passed self.old (length members.now) }
     {
-        let _done = chroot.configure(universe, members);
+        chroot.change(universe, members, Change::Configure);
         let _budget = lane.budget();
         self.pass(members.len() as u64);
     }
@@ -84,7 +84,7 @@ impl Runner {
             (deconfigured chroot.old.slots members.now) }
         ensures place { self.new ≡ passed self.old (length members.now) }
     {
-        let _done = chroot.deconfigure(universe, members);
+        chroot.change(universe, members, Change::Deconfigure);
         let _budget = lane.budget();
         self.pass(members.len() as u64);
     }
@@ -106,7 +106,7 @@ impl Runner {
             (removed chroot.old.slots members.now) }
         ensures place { self.new ≡ passed self.old (length members.now) }
     {
-        let _done = chroot.remove(universe, members);
+        chroot.change(universe, members, Change::Remove);
         let _budget = lane.budget();
         self.pass(members.len() as u64);
     }
