@@ -9,6 +9,10 @@ use std::io::{self, ErrorKind, IsTerminal};
 use std::process::ExitCode;
 use std::rt::Files;
 
+/// What is said to whoever sits at a terminal and gives no words: nobody types four texts there.
+const USAGE: &[u8] =
+    b"portfarm: no words, and standard input is a terminal\nUsage: portfarm <COMMAND>, or four texts on standard input; portfarm --help tells more\n";
+
 /// The files and the standard input of a machine, and whether its error output is a terminal.
 #[derive(Drop)]
 struct Machine<'a, R> {
@@ -67,6 +71,10 @@ fn main(rt: HostRuntime) -> ExitCode {
         Ok(words) => words,
         Err(error) => return ExitCode::from(tell_no_words(error.kind(), &mut errors)),
     };
+    if words.is_empty() && rt.stdin().is_terminal() {
+        let _written = write_text(&mut errors, USAGE);
+        return ExitCode::from(WRONG_WORDS);
+    }
     let machine = Machine {
         rt: &rt,
         is_watched: stderr.is_terminal(),
