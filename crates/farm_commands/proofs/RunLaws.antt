@@ -1,14 +1,11 @@
 -- What a run comes to, from one meaning to another.
-use Rattle.std.proofs.Common.{◌≡◌, ◌<◌, ℕ, inl, inr, List, length, Option, Some, Result, Ok, Err, slice_get, refl, sym, subst, ◌∙◌}
-use Rattle.std.specs.Prelude.{IfOk}
-use Rattle.std.proofs.lemmas.Option.{slice_get_within}
+use Rattle.std.proofs.Common.{◌≡◌, ℕ, inl, inr, List, Some, Result, slice_get, refl, sym, ◌∙◌}
 use Rattle.chroot_state.specs.Held.{Held}
 use Rattle.command_line.specs.declared.request.Asked.TheVariants.{Answer}
 use Rattle.command_line.specs.declared.request.Request.{Request}
 use Rattle.command_line.specs.declared.request.Request.TheVariants.{CheckInput}
 use Rattle.farm_archive.specs.declared.publication.Publication.{Publication}
 use Rattle.farm_executor.proofs.Pairs.{some_at}
-use Rattle.farm_executor.specs.Ends.{IsFirstWith}
 use Rattle.farm_executor.specs.FarmRuns.{IsFarmRun, IsStoppedRun}
 use Rattle.farm_executor.specs.declared.causes.TheConstants.{NOT_STARTED}
 use Rattle.farm_model.specs.Chroot.{used}
@@ -17,7 +14,6 @@ use Rattle.plan_verifier.specs.Accepted.{AcceptedPlan}
 use Rattle.report_sink.specs.Sinks.{SinkState}
 use Rattle.farm_commands.proofs.AnswerLaws.{answered-by}
 use Rattle.farm_commands.specs.FarmAnswers.{ComesToEnd}
-use Rattle.farm_commands.specs.Runs.{MayComeTo}
 use Rattle.farm_commands.specs.declared.fault.OutsideFault.{OutsideFault}
 
 -- an end in one meaning is one in another
@@ -31,19 +27,6 @@ comes-by A B S T old new before after told by tells (inl is) =
 comes-by A B S T old new before after told by tells (inr is) =
     inr (is.0, is.1, is.2, tells is.2 is.3, is.4)
 
--- what is said of a fault outside of the texts is no line of a run that stopped
-pub may_end : (words : ℕ) (held : List ℕ → Option (List ℕ)) (given : Option (List ℕ))
-    (old new before mid after : SinkState) (told : Result ℕ OutsideFault)
-    → IfOk told (λ _. after ≡ mid) → MayComeTo words held given old new before mid told
-    → MayComeTo words held given old new before after told
-may_end words held given old new before mid after (Ok status) same is =
-    subst (λ s. MayComeTo words held given old new before s (Ok status)) (sym same) is
-may_end words held given old new before mid after (Err fault) same (inl is) = inl is
-may_end words held given old new before mid after (Err fault) same (inr (some, paths, inl is)) =
-    inr (some, paths, inl is)
-may_end words held given old new before mid after (Err fault) same (inr (some, paths, inr is)) =
-    absurd (cc is.1)
-
 -- a gate that never gives up stops no lane
 pub never_started : (a : AcceptedPlan) (ends : List LaneStop) (code l : ℕ)
     → IsStoppedRun a ⊥ ends code l → IsStoppedRun a ⊥ ends NOT_STARTED l
@@ -56,16 +39,6 @@ never_started a ends code l is = elim is.cause [
   }
   | inr because ↦ elim (is.gave_up l because.2.there.0 because.2.there.1 because.2.there.2) [ ]
 ]
-
--- the lane that stopped a run is one of the plan
-pub first_within : (a : AcceptedPlan) (ends : List LaneStop) (code l : ℕ)
-    → IsStoppedRun a ⊥ ends code l → l < length a.plan
-first_within a ends code l is =
-    let first : IsFirstWith NOT_STARTED ends l = elim (never_started a ends code l is).cause [
-      | inl because ↦ because.1
-      | inr because ↦ elim (is.gave_up l because.2.there.0 because.2.there.1 because.2.there.2) [ ]
-    ] in
-    subst (λ n. l < n) is.long (slice_get_within ends l first.there.0 first.there.1)
 
 -- each chroot at the end of a run counts what it uses
 pub all_used : (a : AcceptedPlan) (chroots : List Held) (spent : List ℕ) (history : List Publication)

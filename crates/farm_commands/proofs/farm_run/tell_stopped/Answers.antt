@@ -1,5 +1,5 @@
 use Rattle.std.proofs.Common.{ap, ◌∙◌}
-use Rattle.farm_commands.proofs.RunLaws.{first_within, never_started}
+use Rattle.farm_commands.proofs.RunLaws.{never_started}
 use Rattle.farm_commands.specs.FarmAnswers.{stopped_line}
 use Rattle.plan_model.specs.Plan.{Lane, lane}
 use Rattle.farm_commands.proofs.farm_run.tell_stopped.Goals as goal
