@@ -1,4 +1,5 @@
 pub mod CutLaws
+pub mod HeadLaws
 pub mod NameLaws
 pub mod PartsLaws
 pub mod StateLaws

@@ -1,10 +1,11 @@
 //! The lines that begin a field.
 
-ghost use Rattle.std.specs.Prelude.{◌≡◌, nat_le, ◌&&◌, IfOk, true};
+ghost use Rattle.std.specs.Prelude.{◌≡◌, nat_le, ◌&&◌, [], IfNone, IfOk, IfSome, true, false, if◌then◌else◌, Some, None};
 ghost use Rattle.std.specs.List.{list_all, list_any};
+ghost use Rattle.std.specs.Option.{option_map};
 ghost use Rattle.deb_text.specs.Answers.{Gives, refusal_of, fault_at};
 ghost use Rattle.deb_text.specs.Bytes.{is_byte};
-ghost use Rattle.deb_text.specs.Cuts.{first_is, before, after};
+ghost use Rattle.deb_text.specs.Cuts.{first_is, is_nil, after};
 ghost use Rattle.deb_text.specs.Steps.{answer};
 ghost use Rattle.deb_stanza.specs.Draft.{lowered};
 ghost use Rattle.deb_stanza.specs.Stanza.{is_colon, is_field_name, name_of, name_fault, told_at, same_name};
@@ -66,19 +67,34 @@ pub fn lowered_name(alloc: Global, name: &[u8]) -> Result<Vec<u8>, AllocError>
 }
 
 /// Tells whether two names are the same but for the case of ASCII letters.
-pub fn is_same_name(a: &[u8], b: &[u8]) -> bool
+fn is_same_name(a: &[u8], b: &[u8]) -> bool
     ensures { result ≡ same_name a.now b.now }
 {
     a.eq_ignore_ascii_case(b)
 }
 
-/// The name of a field, and what stands behind the colon.
-pub fn cut_field(text: &[u8]) -> (&[u8], &[u8])
-    ensures name { result.0.now ≡ before is_colon text.now }
-    ensures value { result.1.now ≡ after is_colon text.now }
+/// What stands behind a text's first byte, if that is a colon; of an empty text nothing.
+fn behind_colon(text: &[u8]) -> Option<&[u8]>
+    ensures none { IfNone result (is_nil (name_of text.now) ≡ false) }
+    ensures colon { IfSome result (λ rest. name_of text.now ≡ []) }
+    ensures behind { IfSome result (λ rest. rest.now ≡ after is_colon text.now) }
 {
-    match cut_at_first(b':', text) {
-        Some(cut) => cut,
-        None => (text, &text[text.len()..]),
+    match text {
+        [first, rest @ ..] => (*first == b':').then_some(rest),
+        [] => Some(text),
+    }
+}
+
+/// What stands behind the colon of a field, if this is its name.
+pub fn behind_name<'a>(name: &[u8], text: &'a [u8]) -> Option<&'a [u8]>
+    ensures { option_map (λ rest. rest.now) result
+        ≡ if same_name name.now (name_of text.now) then Some (after is_colon text.now) else None }
+{
+    let (given, behind) = text.split_at_checked(name.len())?;
+    let rest = behind_colon(behind)?;
+    if is_same_name(name, given) && !given.contains(&b':') {
+        Some(rest)
+    } else {
+        None
     }
 }

@@ -7,7 +7,7 @@ ghost use Rattle.deb_stanza.specs.Draft.{longer, larger};
 ghost use Rattle.deb_stanza.specs.Stanza.{paragraph_at, value_of};
 ghost use Rattle.deb_stanza.specs.View.{IsSound, first_of, own, table_paragraphs, table_raws, table_texts, value_among, value_named};
 
-use crate::fields::{cut_field, is_same_name};
+use crate::fields::behind_name;
 use deb_text::trim;
 use std::alloc::{AllocError, Global};
 
@@ -156,12 +156,7 @@ impl Table {
         ensures { option_map (λ value. value.now) result
             ≡ value_named name.now (slice_index_or (table_texts self.now) field []) }
     {
-        let (given, value) = cut_field(self.text(field));
-        if is_same_name(name, given) {
-            Some(trim(value))
-        } else {
-            None
-        }
+        Some(trim(behind_name(name, self.text(field))?))
     }
 
     /// The value of the first of some fields that has this name.
