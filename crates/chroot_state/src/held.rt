@@ -1,8 +1,9 @@
 //! What a chroot holds of each name, and which names are present.
 
-ghost use Rattle.std.specs.Prelude.{◌≡◌, ◌<◌, ◌≤◌, ◌^◌, IfOk, length, slice_set};
+ghost use Rattle.std.specs.Prelude.{ℕ, ◌≡◌, ◌+◌, ◌==◌, ◌<◌, ◌≤◌, ◌^◌, IfOk, true, length, position, slice_set};
+ghost use Rattle.std.specs.List.{list_any, sum_by};
 ghost use Rattle.std.specs.Vec.{vec_capacity};
-ghost use Rattle.chroot_state.specs.Present.{present_below};
+ghost use Rattle.chroot_state.specs.Present.{ListsPresent};
 ghost use Rattle.farm_model.specs.Chroot as chroots;
 
 use farm_universe::Slot;
@@ -39,7 +40,7 @@ pub fn is_present(slot: Slot) -> bool
 fn list_present(slots: &[Slot], present: &mut Vec<u32>)
     requires room { length slots.now ≤ vec_capacity present.old }
     requires small { length slots.now < 2 ^ 32 }
-    ensures listed { present.new.items ≡ present_below slots.now (length slots.now) }
+    ensures listed { ListsPresent slots.now present.new.items }
     ensures room { vec_capacity present.new ≡ vec_capacity present.old }
 {
     present.clear();
@@ -48,6 +49,24 @@ fn list_present(slots: &[Slot], present: &mut Vec<u32>)
         if is_present(slots[name as usize]) {
             present.push_reserved(name);
         }
+    }
+}
+
+/// The first place of a name in a list.
+fn place_of(present: &[u32], name: u32) -> Option<usize>
+    ensures { result ≡ position (λ n. n == name) present.now }
+{
+    present.iter().position(|listed| *listed == name)
+}
+
+/// Takes a name out of a list, and the last one into its place.
+fn take_out(present: &mut Vec<u32>, name: u32)
+    requires listed { list_any (λ n. n == name) present.old.items ≡ true }
+    ensures gone { (f : ℕ → ℕ) → sum_by f present.new.items + f name ≡ sum_by f present.old.items }
+    ensures room { vec_capacity present.new ≡ vec_capacity present.old }
+{
+    if let Some(place) = place_of(present, name) {
+        present.swap_remove(place);
     }
 }
 
@@ -76,9 +95,9 @@ impl Slots {
         }
     }
 
-    /// The names that are present.
+    /// The names that are present, each once, in no order.
     pub fn present(&self) -> &[u32]
-        ensures { result.now ≡ present_below self.now (length self.now) }
+        ensures { ListsPresent self.now result.now }
     {
         &self.present
     }
@@ -88,10 +107,14 @@ impl Slots {
         requires { name < length self.old }
         ensures { self.new ≡ slice_set self.old name slot }
     {
-        let before = self.at(name);
+        let was_present = is_present(self.at(name));
         self.slots[name as usize] = slot;
-        if is_present(before) != is_present(slot) {
-            list_present(&self.slots, &mut self.present);
+        if is_present(slot) {
+            if !was_present {
+                self.present.push_reserved(name);
+            }
+        } else if was_present {
+            take_out(&mut self.present, name);
         }
     }
 }

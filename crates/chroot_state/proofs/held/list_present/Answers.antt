@@ -1,14 +1,13 @@
 use Rattle.std.proofs.Common.{refl, sym, ap, ◌∙◌, true, false, arith, length, append-nil}
 use Rattle.std.specs.Vec.{vec_capacity}
-use Rattle.chroot_state.specs.Present.{present_below}
+use Rattle.std.specs.List.{sum_by}
 use Rattle.chroot_state.proofs.Present.{list_more, short_more}
 use Rattle.chroot_state.proofs.held.list_present.Goals as goal
 use Rattle.chroot_state.proofs.held.list_present.Goals.{then-is_present, else-is_present}
 
 pub loop-name-init : goal.loop-name-init
-unfolding present_below
 loop-name-init c = record {
-  listed = c.clear.ensures.items;
+  listed = λ f. ap (sum_by f) c.clear.ensures.items;
   short = omega (arith, ap length c.clear.ensures.items);
   room = refl;
 }
