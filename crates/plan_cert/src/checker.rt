@@ -18,7 +18,7 @@ use crate::stated_rows::StatedRows;
 use cert_text::{CertFault, Certificate};
 use farm_universe::Universe;
 use plan_asm::Plan;
-use plan_verifier::{WalkError, walk_lanes};
+use plan_verifier::{Stage, WalkError, walk_lanes};
 use sat_rows::Tables;
 use std::alloc::Global;
 use std::thread::Threads;
@@ -40,7 +40,14 @@ fn check_safety(
     ensures { AreSafe universe.now plan.now.lanes (rows_of known.now) result }
 {
     let outputs = Outputs::of(alloc, universe, plan)?;
-    match walk_lanes(alloc, universe, tables, plan, &outputs, known) {
+    let stage = Stage {
+        universe,
+        tables,
+        plan,
+        outputs: &outputs,
+        known,
+    };
+    match walk_lanes(alloc, &stage) {
         Ok(_) => Ok(()),
         Err(
             WalkError::Unsafe {

@@ -1,3 +1,4 @@
+pub mod Stage
 pub mod Walk
 pub mod Accepted
 pub mod Verdict

@@ -5,16 +5,18 @@ ghost use Rattle.plan_model.specs.Known.{KeepsRows};
 ghost use Rattle.plan_model.specs.Plan.{lane};
 ghost use Rattle.plan_model.specs.Sound.{IsSound};
 ghost use Rattle.plan_verifier.specs.Costs.{AreWalked, IsWalked, IsToldUnsafe};
+ghost use Rattle.plan_verifier.specs.Stage.{IsStage};
 ghost use Rattle.wait_order.specs.KnownRows.{rows_of};
 
 use crate::refusal::Refusal;
+use crate::stage::Stage;
 use crate::walk::{WalkError, walk};
 use farm_universe::{Trap, Universe};
 use may_rows::Dependents;
 use plan_asm::Plan;
 use sat_rows::Tables;
 use std::alloc::Global;
-use wait_order::{Known, KnownWords, Outputs};
+use wait_order::{Known, KnownWords};
 
 /// What each lane costs at most, in steps, where each instruction is safe under these known rows,
 /// whoever made them.
@@ -23,36 +25,16 @@ use wait_order::{Known, KnownWords, Outputs};
 ///
 /// [`WalkError::Unsafe`] with the first unsafe instruction of the first lane that has one, and the
 /// first trap that it may meet. [`WalkError::Memory`] where memory ran out.
-pub fn walk_lanes<K: KnownWords>(
-    alloc: Global,
-    universe: &Universe,
-    tables: &Tables,
-    plan: &Plan,
-    outputs: &Outputs,
-    known: &K,
-) -> Result<Vec<u64>, WalkError>
-    requires sound { IsSound universe.now plan.now.lanes }
-    requires tables { tables.now ≡ universe.now }
-    requires outputs { (outputs.now.universe ≡ universe.now)
-        × (outputs.now.plan ≡ plan.now.lanes) }
-    requires of_universe { (K.known known.now).universe ≡ universe.now }
-    requires of_plan { (K.known known.now).plan ≡ plan.now.lanes }
-    requires keeps { KeepsRows universe.now plan.now.lanes ((K.known known.now).rows) }
-    ensures { AreWalked universe.now plan.now.lanes ((K.known known.now).rows) result }
+pub fn walk_lanes<K: KnownWords>(alloc: Global, stage: &Stage<'_, K>) -> Result<Vec<u64>, WalkError>
+    requires stage { IsStage stage.now.universe.now stage.now.plan.now.lanes
+        stage.now.tables.now stage.now.outputs.now (K.known stage.now.known.now) }
+    ensures { AreWalked stage.now.universe.now stage.now.plan.now.lanes
+        (K.known stage.now.known.now).rows result }
 {
-    let dependents = Dependents::build(alloc, universe, tables)?;
+    let dependents = Dependents::build(alloc, stage.universe, stage.tables)?;
     let mut costs = Vec::new(alloc);
-    for number in 0..plan.lanes() {
-        match walk(
-            alloc,
-            universe,
-            tables,
-            &dependents,
-            plan,
-            outputs,
-            known,
-            number,
-        ) {
+    for number in 0..stage.plan.lanes() {
+        match walk(alloc, stage, &dependents, number) {
             Ok(cost) => costs.push(cost)?,
             Err(error) => return Err(error),
         }
@@ -94,7 +76,14 @@ pub fn check_lanes(
     requires keeps { KeepsRows universe.now plan.now.lanes (rows_of known.now) }
     ensures { IsWalked universe.now plan.now.lanes (rows_of known.now) result }
 {
-    match walk_lanes(alloc, universe, tables, plan, known.outputs(), known) {
+    let stage = Stage {
+        universe,
+        tables,
+        plan,
+        outputs: known.outputs(),
+        known,
+    };
+    match walk_lanes(alloc, &stage) {
         Ok(costs) => Ok(costs),
         Err(
             WalkError::Unsafe {

@@ -3,17 +3,18 @@
 ghost use Rattle.std.specs.Prelude.{◌≡◌, ◌<◌, ◌≤◌, ℕ, true, length};
 ghost use Rattle.clause_kernel.specs.Rows.{word_has};
 ghost use Rattle.may_rows.specs.Walk.{AreWordsFor};
-ghost use Rattle.plan_model.specs.Known.{possible, KeepsRows};
+ghost use Rattle.plan_model.specs.Known.{possible};
 ghost use Rattle.plan_model.specs.Plan.{lane};
-ghost use Rattle.plan_model.specs.Sound.{IsSound, IsInstruction};
+ghost use Rattle.plan_model.specs.Sound.{IsInstruction};
+ghost use Rattle.plan_verifier.specs.Stage.{IsStage};
 ghost use Rattle.plan_verifier.specs.Walk.{Walked};
 
-use farm_universe::{Trap, Universe};
+use crate::stage::Stage;
+use farm_universe::Trap;
 use may_rows::{ArchiveWords, Dependents, Doubts, MayHold, step};
-use plan_asm::{Instruction, Plan};
-use sat_rows::Tables;
+use plan_asm::Instruction;
 use std::alloc::{AllocError, AllocFailed, Global};
-use wait_order::{KnownWords, Outputs};
+use wait_order::KnownWords;
 
 /// Why a walk over lanes ends before their ends.
 #[derive(Clone, Copy, Debug, PartialEq, Eq)]
@@ -52,32 +53,29 @@ impl<T: Drop> From<AllocFailed<T>> for WalkError {
 /// What of the name that an instruction unpacks, if it does, is surely in the archive at its place,
 /// and what may be.
 fn words_at<K: KnownWords>(
-    universe: &Universe,
-    plan: &Plan,
-    outputs: &Outputs,
-    known: &K,
+    stage: &Stage<'_, K>,
     number: usize,
     place: usize,
     instruction: &Instruction,
 ) -> ArchiveWords
-    requires sound { IsSound universe.now plan.now.lanes }
-    requires instruction { IsInstruction universe.now instruction.now }
-    requires lane { number < length plan.now.lanes }
-    requires place { place ≤ length (lane plan.now.lanes number).instructions }
-    requires outputs { (outputs.now.universe ≡ universe.now)
-        × (outputs.now.plan ≡ plan.now.lanes) }
-    requires of_universe { (K.known known.now).universe ≡ universe.now }
-    requires of_plan { (K.known known.now).plan ≡ plan.now.lanes }
-    requires keeps { KeepsRows universe.now plan.now.lanes ((K.known known.now).rows) }
-    ensures words { AreWordsFor universe.now ((K.known known.now).rows number place)
-        (possible universe.now plan.now.lanes number place) instruction.now result }
+    requires stage { IsStage stage.now.universe.now stage.now.plan.now.lanes
+        stage.now.tables.now stage.now.outputs.now (K.known stage.now.known.now) }
+    requires instruction { IsInstruction stage.now.universe.now instruction.now }
+    requires lane { number < length stage.now.plan.now.lanes }
+    requires place { place ≤ length (lane stage.now.plan.now.lanes number).instructions }
+    ensures words { AreWordsFor stage.now.universe.now
+        ((K.known stage.now.known.now).rows number place)
+        (possible stage.now.universe.now stage.now.plan.now.lanes number place) instruction.now
+        result }
     ensures known_there { (b : ℕ) → word_has result.known b ≡ true
         → word_has result.there b ≡ true }
 {
     match instruction {
         Instruction::Unpack { name, .. } => ArchiveWords {
-            known: known.word(universe, number, place, *name),
-            there: outputs.possible_word(universe, number, place, *name),
+            known: stage.known.word(stage.universe, number, place, *name),
+            there: stage
+                .outputs
+                .possible_word(stage.universe, number, place, *name),
         },
         Instruction::Configure(_)
         | Instruction::Deconfigure(_)
@@ -91,25 +89,19 @@ fn words_at<K: KnownWords>(
 /// Walks over a lane: gives its cost, or its first unsafe instruction.
 pub fn walk<K: KnownWords>(
     alloc: Global,
-    universe: &Universe,
-    tables: &Tables,
+    stage: &Stage<'_, K>,
     dependents: &Dependents,
-    plan: &Plan,
-    outputs: &Outputs,
-    known: &K,
     number: usize,
 ) -> Result<u64, WalkError>
-    requires lane { number < length plan.now.lanes }
-    requires sound { IsSound universe.now plan.now.lanes }
-    requires tables { tables.now ≡ universe.now }
-    requires dependents { dependents.now ≡ universe.now }
-    requires outputs { (outputs.now.universe ≡ universe.now)
-        × (outputs.now.plan ≡ plan.now.lanes) }
-    requires of_universe { (K.known known.now).universe ≡ universe.now }
-    requires of_plan { (K.known known.now).plan ≡ plan.now.lanes }
-    requires keeps { KeepsRows universe.now plan.now.lanes ((K.known known.now).rows) }
-    ensures { Walked universe.now plan.now.lanes ((K.known known.now).rows) number result }
+    requires stage { IsStage stage.now.universe.now stage.now.plan.now.lanes
+        stage.now.tables.now stage.now.outputs.now (K.known stage.now.known.now) }
+    requires lane { number < length stage.now.plan.now.lanes }
+    requires dependents { dependents.now ≡ stage.now.universe.now }
+    ensures { Walked stage.now.universe.now stage.now.plan.now.lanes
+        (K.known stage.now.known.now).rows number result }
 {
+    let universe = stage.universe;
+    let plan = stage.plan;
     let _lanes = plan.lanes();
     let lane = plan.lane(number);
     let instructions = lane.instructions();
@@ -117,10 +109,10 @@ pub fn walk<K: KnownWords>(
     let mut doubts = Doubts::new(alloc);
     for place in 0..instructions.len() {
         let instruction = &instructions[place];
-        let words = words_at(universe, plan, outputs, known, number, place, instruction);
+        let words = words_at(stage, number, place, instruction);
         let stepped = step(
             universe,
-            tables,
+            stage.tables,
             dependents,
             lane,
             &mut state,

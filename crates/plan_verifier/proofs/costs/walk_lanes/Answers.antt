@@ -13,15 +13,15 @@ loop-number-init g c = record {
 
 pub returns-in-Err : goal.returns-in-Err
 returns-in-Err g c =
-    walk_ends c.args.universe.now c.args.plan.now.lanes (g.K.KnownWords.known c.args.known.now).rows
+    walk_ends c.args.stage.now.universe.now c.args.stage.now.plan.now.lanes (g.K.KnownWords.known c.args.stage.now.known.now).rows
     c.loop-number.number (omega (arith, c.lanes-number-end.ensures.lanes))
     c.loop-number.invariant.safe c.in-Err.error c.in-Err.ensures
 
 pub loop-number-preserved : goal.loop-number-preserved
 loop-number-preserved g c =
-    let u = c.args.universe.now in
-    let p = c.args.plan.now.lanes in
-    let rows = (g.K.KnownWords.known c.args.known.now).rows in
+    let u = c.args.stage.now.universe.now in
+    let p = c.args.stage.now.plan.now.lanes in
+    let rows = (g.K.KnownWords.known c.args.stage.now.known.now).rows in
     let l = c.loop-number.number in
     record {
       safe = λ j i lt. elim (cases_eq j l) [
@@ -35,9 +35,9 @@ loop-number-preserved g c =
 
 pub returns : goal.returns
 returns g c =
-    let u = c.args.universe.now in
-    let p = c.args.plan.now.lanes in
-    let rows = (g.K.KnownWords.known c.args.known.now).rows in
+    let u = c.args.stage.now.universe.now in
+    let p = c.args.stage.now.plan.now.lanes in
+    let rows = (g.K.KnownWords.known c.args.stage.now.known.now).rows in
     let end : c.loop-number.number ≡ length p = omega (arith, c.lanes-number-end.ensures.lanes) in (
       λ l i lt. c.loop-number.invariant.safe l i (omega arith),
       subst (λ n. AreCosts u p rows n c.loop-number.costs.items) end c.loop-number.invariant.costs,

@@ -14,8 +14,8 @@ use Rattle.plan_verifier.proofs.walk.walk.Goals as goal
 
 pub loop-place-init : goal.loop-place-init
 loop-place-init g c =
-    let u = c.args.universe.now in
-    let p = c.args.plan.now.lanes in
+    let u = c.args.stage.now.universe.now in
+    let p = c.args.stage.now.plan.now.lanes in
     let of = c.lane-lane.result.now in
     let same : lane p c.args.number ≡ of = sym c.lane-lane.ensures in
     let map = c.in_ok-state.ensures.map (lane p c.args.number)
@@ -27,7 +27,7 @@ loop-place-init g c =
       of_lane = record {
         based =
             subst (λ (o : Lane). o.base < length u.bases) same
-            (c.requires.sound.plan.bases c.args.number c.requires.lane);
+            (c.requires.stage.sound.plan.bases c.args.number c.requires.lane);
         small =
             subst (λ (o : Lane). o.budget < 10 ^ 15) same
             (c.lanes-lanes.ensures.limits.budgets c.args.number no_lane c.requires.lane);
@@ -43,9 +43,9 @@ loop-place-init g c =
 
 pub loop-place-preserved : goal.loop-place-preserved
 loop-place-preserved g c =
-    let u = c.args.universe.now in
-    let p = c.args.plan.now.lanes in
-    let rows = (g.K.KnownWords.known c.args.known.now).rows in
+    let u = c.args.stage.now.universe.now in
+    let p = c.args.stage.now.plan.now.lanes in
+    let rows = (g.K.KnownWords.known c.args.stage.now.known.now).rows in
     let l = c.args.number in
     let i = c.loop-place.place in
     let m = may_of c.loop-place.state in
@@ -59,7 +59,7 @@ loop-place-preserved g c =
     (sym (c.instructions-instructions.ensures
     ∙ ap (λ (o : Lane). o.instructions) c.lane-lane.ensures)) in
     let archive =
-    of_archive u p rows c.requires.sound.universe c.requires.keeps l i c.requires.lane
+    of_archive u p rows c.requires.stage.sound.universe c.requires.stage.keeps l i c.requires.lane
     (omega (arith, long)) in
     let answer = c.in_default.ensures.answer (rows l i) (possible u p l i) archive
     c.words_at-words.ensures.words in
@@ -80,17 +80,17 @@ loop-place-preserved g c =
 
 pub step-stepped-requires-clause-instruction : goal.step-stepped-requires-clause-instruction
 step-stepped-requires-clause-instruction g c =
-    c.requires.sound.plan.instructions c.args.number c.loop-place.place
+    c.requires.stage.sound.plan.instructions c.args.number c.loop-place.place
     c.index-instructions-place.result c.requires.lane
-    (instruction-is c.args.plan.now.lanes c.args.number c.loop-place.place c.lane-lane.result.now
+    (instruction-is c.args.stage.now.plan.now.lanes c.args.number c.loop-place.place c.lane-lane.result.now
     c.instructions-instructions.result.now c.index-instructions-place.result c.lane-lane.ensures
     c.instructions-instructions.ensures (omega arith) c.index-instructions-place.is)
 
 pub words_at-words-requires-clause-instruction : goal.words_at-words-requires-clause-instruction
 words_at-words-requires-clause-instruction g c =
-    c.requires.sound.plan.instructions c.args.number c.loop-place.place
+    c.requires.stage.sound.plan.instructions c.args.number c.loop-place.place
     c.index-instructions-place.result c.requires.lane
-    (instruction-is c.args.plan.now.lanes c.args.number c.loop-place.place c.lane-lane.result.now
+    (instruction-is c.args.stage.now.plan.now.lanes c.args.number c.loop-place.place c.lane-lane.result.now
     c.instructions-instructions.result.now c.index-instructions-place.result c.lane-lane.ensures
     c.instructions-instructions.ensures (omega arith) c.index-instructions-place.is)
 
@@ -100,9 +100,9 @@ overflow_cast-result g c = omega (arith, c.requires.lane, c.lanes-lanes.ensures.
 pub overflow_cast-result-in-Err : goal.overflow_cast-result-in-Err
 overflow_cast-result-in-Err g c =
     let short =
-    lane-short c.args.plan.now.lanes c.args.number c.requires.lane c.lanes-lanes.ensures.limits in
+    lane-short c.args.stage.now.plan.now.lanes c.args.number c.requires.lane c.lanes-lanes.ensures.limits in
     let long : length c.instructions-instructions.result.now
-    ≡ length (lane c.args.plan.now.lanes c.args.number).instructions =
+    ≡ length (lane c.args.stage.now.plan.now.lanes c.args.number).instructions =
     ap length
     (c.instructions-instructions.ensures
     ∙ ap (λ (o : Lane). o.instructions) c.lane-lane.ensures) in
@@ -111,9 +111,9 @@ overflow_cast-result-in-Err g c =
 pub overflow_add-result : goal.overflow_add-result
 overflow_add-result g c =
     let short =
-    lane-short c.args.plan.now.lanes c.args.number c.requires.lane c.lanes-lanes.ensures.limits in
+    lane-short c.args.stage.now.plan.now.lanes c.args.number c.requires.lane c.lanes-lanes.ensures.limits in
     let long : length c.instructions-instructions.result.now
-    ≡ length (lane c.args.plan.now.lanes c.args.number).instructions =
+    ≡ length (lane c.args.stage.now.plan.now.lanes c.args.number).instructions =
     ap length
     (c.instructions-instructions.ensures
     ∙ ap (λ (o : Lane). o.instructions) c.lane-lane.ensures) in
@@ -122,9 +122,9 @@ overflow_add-result g c =
 pub returns : goal.returns
 unfolding lane_cost
 returns g c =
-    let u = c.args.universe.now in
-    let p = c.args.plan.now.lanes in
-    let rows = (g.K.KnownWords.known c.args.known.now).rows in
+    let u = c.args.stage.now.universe.now in
+    let p = c.args.stage.now.plan.now.lanes in
+    let rows = (g.K.KnownWords.known c.args.stage.now.known.now).rows in
     let long : length (lane p c.args.number).instructions
     ≡ length c.instructions-instructions.result.now =
     ap length
@@ -142,9 +142,9 @@ returns g c =
 
 pub returns-in-Err : goal.returns-in-Err
 returns-in-Err g c =
-    let u = c.args.universe.now in
-    let p = c.args.plan.now.lanes in
-    let rows = (g.K.KnownWords.known c.args.known.now).rows in
+    let u = c.args.stage.now.universe.now in
+    let p = c.args.stage.now.plan.now.lanes in
+    let rows = (g.K.KnownWords.known c.args.stage.now.known.now).rows in
     let l = c.args.number in
     let i = c.loop-place.place in
     let m = may_of c.loop-place.state in
@@ -163,7 +163,7 @@ returns-in-Err g c =
       risk-is u p rows l i x m here c.loop-place.invariant.at
           ∙ (ap (λ of. risk u of (rows l i) (possible u p l i) m x) (sym c.lane-lane.ensures)
           ∙ c.in-Err.ensures.answer (rows l i) (possible u p l i)
-          (of_archive u p rows c.requires.sound.universe c.requires.keeps l i c.requires.lane
+          (of_archive u p rows c.requires.stage.sound.universe c.requires.stage.keeps l i c.requires.lane
           (omega (arith, long)))
           c.words_at-words.ensures.words),
       c.loop-place.invariant.safe,

@@ -8,9 +8,9 @@ use Rattle.plan_verifier.proofs.walk.walk.Given as goal
 
 abbrev pub invariant-loop-place : goal.invariant-loop-place
 invariant-loop-place g l = record {
-  at : may_at l.universe l.plan.lanes (g.K.KnownWords.known l.fn.known).rows l.number l.place ≡ may_of l.state;
+  at : may_at l.fn.stage.universe.now l.fn.stage.plan.now.lanes (g.K.KnownWords.known l.fn.stage.known.now).rows l.fn.number l.place ≡ may_of l.state;
   safe : (k : ℕ) → k < l.place
-      → risk_at l.universe l.plan.lanes (g.K.KnownWords.known l.fn.known).rows l.number k ≡ None;
-  of_lane : IsOfLane l.universe l.lane l.state;
-  doubts : AreDoubts l.universe (may_of l.state) l.doubts;
+      → risk_at l.fn.stage.universe.now l.fn.stage.plan.now.lanes (g.K.KnownWords.known l.fn.stage.known.now).rows l.fn.number k ≡ None;
+  of_lane : IsOfLane l.fn.stage.universe.now l.lane l.state;
+  doubts : AreDoubts l.fn.stage.universe.now (may_of l.state) l.doubts;
 }
