@@ -19,6 +19,7 @@ use plan_asm::listing;
 use plan_verifier::{Accepted, Refusal, check};
 use report_sink::{Sink, write_text};
 use std::alloc::Global;
+use std::mem::ManuallyDrop;
 use std::thread::Threads;
 
 /// The status of an answer that is fine, or a refusal.
@@ -59,7 +60,9 @@ pub fn answer_verdict<'a, S: Sink>(
     if matches!(&verdict, Err(Refusal::Memory)) {
         return Err(OutsideFault::OutOfMemory);
     }
-    write_check(out, &verdict)?;
+    // The program ends with its answer: what it has read goes with it, and not piece by piece.
+    let verdict = ManuallyDrop::new(verdict);
+    write_check(out, &*verdict)?;
     Ok(status_of(verdict.is_ok()))
 }
 
