@@ -4,7 +4,7 @@ ABSENT, UNPACKED, CONFIGURED = "absent", "unpacked", "configured"
 TRAPS = {
     "X1": "Missing", "X2": "PreDepends", "X3": "Conflict", "X4": "BreaksOther", "X5": "Full", "X6": "WrongState",
     "X7": "Depends", "X8": "Broken", "X9": "StillNeeded", "X10": "Unsettled", "X11": "BuildDepends",
-    "X12": "BuildConflict", "X13": "NotBuilt", "X14": "OverBudget",
+    "X12": "BuildConflict", "X13": "NotBuilt", "X14": "OverBudget", "X15": "Essential",
 }
 
 
@@ -106,11 +106,19 @@ def is_still_needed(standing, names):
     return any(is_met(entry, before) and not is_met(entry, after) for other in after for entry in other.needs())
 
 
-def taking_traps(standing, names, is_removal):
-    wrong = (lambda phase: phase == ABSENT) if is_removal else (lambda phase: phase != CONFIGURED)
+def deconfigure_traps(standing, names):
     return [
         ("X14", over_budget(standing, len(names))),
-        ("X6", lambda: any(wrong(standing.phase(name)) for name in names)),
+        ("X6", lambda: any(standing.phase(name) != CONFIGURED for name in names)),
+        ("X9", lambda: is_still_needed(standing, names)),
+    ]
+
+
+def remove_traps(standing, names):
+    return [
+        ("X14", over_budget(standing, len(names))),
+        ("X6", lambda: any(standing.phase(name) == ABSENT for name in names)),
+        ("X15", lambda: any(standing.slots[name].variant.is_essential for name in names)),
         ("X9", lambda: is_still_needed(standing, names)),
     ]
 
@@ -176,7 +184,7 @@ class Farm:
         return trap
 
     def deconfigure(self, standing, it):
-        trap = first_trap(taking_traps(standing, it.names, False))
+        trap = first_trap(deconfigure_traps(standing, it.names))
         if trap is None:
             for name in it.names:
                 standing.slots[name].phase = UNPACKED
@@ -184,7 +192,7 @@ class Farm:
         return trap
 
     def remove(self, standing, it):
-        trap = first_trap(taking_traps(standing, it.names, True))
+        trap = first_trap(remove_traps(standing, it.names))
         if trap is None:
             for name in it.names:
                 del standing.slots[name]

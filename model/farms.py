@@ -60,6 +60,7 @@ def package(draw, name, version, names):
         ("Package", name),
         ("Version", version),
         ("Installed-Size", draw.choice(["", *map(str, SIZES)])),
+        ("Essential", draw.choice(["", "", "", "", "no", "yes"])),
         ("Pre-Depends", entries(draw, virtual, 1) if draw.often(0.2) else ""),
         ("Depends", entries(draw, virtual, 2) if few else ""),
         ("Conflicts", entries(draw, virtual, 1, 1) if draw.often(0.2) else ""),

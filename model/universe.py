@@ -20,8 +20,9 @@ MODES = {"full": ("", "-Arch", "-Indep"), "arch": ("", "-Arch"), "indep": ("", "
 class Variant:
     """A package name with a version. `relations` maps each of the five fields to its entries."""
 
-    def __init__(self, name, version, size, relations):
-        self.name, self.version, self.size, self.relations = name, version, size, relations
+    def __init__(self, name, version, size, is_essential, relations):
+        self.name, self.version, self.size = name, version, size
+        self.is_essential, self.relations = is_essential, relations
 
     def provides(self, alternative):
         items = (item for [item] in self.relations["Provides"] if item.name == alternative.name)
@@ -113,6 +114,13 @@ def read_number(text, most):
     return value
 
 
+def read_flag(text):
+    """`yes` or `no`; absent, `no`."""
+    if text not in (None, "yes", "no"):
+        raise Fault(202)
+    return text == "yes"
+
+
 def read_relations(paragraph, fields):
     return {field: read_field(paragraph.get(field) or "", kind) for field, kind in fields}
 
@@ -122,11 +130,12 @@ def read_package(universe, paragraph, _place):
     version = Version(required(paragraph, "Version"))
     size = paragraph.get("Installed-Size")
     size = read_number("0" if size is None else size, LARGEST)
+    is_essential = read_flag(paragraph.get("Essential"))
     relations = read_relations(paragraph, RELATIONS)
     if universe.find(name, version):
         raise Fault(203)
     same = universe.variants.setdefault(name, [])
-    same.append(Variant(name, version, size, relations))
+    same.append(Variant(name, version, size, is_essential, relations))
     same.sort(key=cmp_to_key(lambda one, other: one.version.compare(other.version)))
     if len(same) > VARIANTS:
         raise Fault(204)

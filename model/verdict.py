@@ -165,21 +165,31 @@ def is_needed(may, names):
     return False
 
 
-def taking_risks(may, it, _known, _possible):
-    is_removal = it.verb == "remove"
-    wrong = (lambda phase: phase == ABSENT) if is_removal else (lambda phase: phase != CONFIGURED)
+def deconfigure_risks(may, it, _known, _possible):
     risks = [
         ("X14", may.within(len(it.names))),
-        ("X6", lambda: any(wrong(may.phase(name)) for name in it.names)),
+        ("X6", lambda: any(may.phase(name) != CONFIGURED for name in it.names)),
         ("X9", lambda: is_needed(may, it.names)),
     ]
 
     def effect():
         for name in it.names:
-            if is_removal:
-                del may.slots[name]
-            else:
-                may.slots[name].phase = UNPACKED
+            may.slots[name].phase = UNPACKED
+
+    return risks, len(it.names), effect
+
+
+def remove_risks(may, it, _known, _possible):
+    risks = [
+        ("X14", may.within(len(it.names))),
+        ("X6", lambda: any(may.phase(name) == ABSENT for name in it.names)),
+        ("X15", lambda: any(variant.is_essential for name in it.names for variant in may.slots[name].current)),
+        ("X9", lambda: is_needed(may, it.names)),
+    ]
+
+    def effect():
+        for name in it.names:
+            del may.slots[name]
 
     return risks, len(it.names), effect
 
@@ -210,7 +220,7 @@ def publish_risks(may, it, _known, _possible):
 
 
 RISKS = {
-    "unpack": unpack_risks, "configure": configure_risks, "deconfigure": taking_risks, "remove": taking_risks,
+    "unpack": unpack_risks, "configure": configure_risks, "deconfigure": deconfigure_risks, "remove": remove_risks,
     "build": build_risks, "publish": publish_risks, "wait": lambda *_: ([], 0, lambda: None),
 }
 

@@ -20,9 +20,9 @@ use Rattle.deb_version.specs.Grammar.{version_at}
 use Rattle.deb_version.specs.Order.{Parts}
 use Rattle.farm_model.specs.Universe.{Package}
 use Rattle.farm_universe.specs.declared.limits.TheConstants.{MOST_SIZE}
-use Rattle.farm_universe.specs.Fields.{needed_at, name_at, version_text_at, up_to, size_at, relations_in}
+use Rattle.farm_universe.specs.Fields.{needed_at, name_at, version_text_at, up_to, size_at, flag_at}
 use Rattle.farm_universe.specs.Keyed.{keys_with, groups_with}
-use Rattle.farm_universe.specs.PackagesText.{Listed, PackageTable, package_at, is_below, table_of, packages_of}
+use Rattle.farm_universe.specs.PackagesText.{Listed, PackageTable, package_at, package_relations_at, is_below, table_of, packages_of}
 use Rattle.farm_universe.specs.TableSteps.{put_at, code_at, add, add_paragraph, tell_paragraph}
 use Rattle.farm_universe.specs.TableView.{IsOrderly, IsFit}
 use Rattle.farm_universe.proofs.FitLaws.{IsFit-put}
@@ -92,16 +92,9 @@ package-has p =
     (size_at (value_of p (codes "Installed-Size"))) _
     (size-has (value_of p (codes "Installed-Size")))
     (λ size small. then-has (λ _. Unit {0}) IsSpelledListed
-    (relations_in Need (value_of p (codes "Pre-Depends"))) _ (always _)
-    (λ _ _. then-has (λ _. Unit {0}) IsSpelledListed
-    (relations_in Need (value_of p (codes "Depends"))) _ (always _)
-    (λ _ _. then-has (λ _. Unit {0}) IsSpelledListed
-    (relations_in Clash (value_of p (codes "Conflicts"))) _ (always _)
-    (λ _ _. then-has (λ _. Unit {0}) IsSpelledListed
-    (relations_in Clash (value_of p (codes "Breaks"))) _ (always _)
-    (λ _ _. then-has (λ _. Unit {0}) IsSpelledListed
-    (relations_in Provide (value_of p (codes "Provides"))) _ (always _)
-    (λ _ _. record { name = named; version = is; small = small }))))))))))
+    (flag_at (value_of p (codes "Essential"))) _ (always _)
+    (λ _ _. then-has (λ _. Unit {0}) IsSpelledListed (package_relations_at p) _ (always _)
+    (λ _ _. record { name = named; version = is; small = small })))))))
 
 -- ---- a table with one more package
 

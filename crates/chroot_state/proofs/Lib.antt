@@ -1,5 +1,4 @@
 pub mod Needed
-pub mod Withdrawn
 pub mod Opened
 pub mod Sums
 pub mod Effects

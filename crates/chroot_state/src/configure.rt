@@ -12,6 +12,7 @@ ghost use Rattle.farm_model.specs.Traps as traps;
 ghost use Rattle.farm_model.specs.Traps.{first_trap};
 
 use crate::held::Slots;
+use crate::members::some_member;
 use crate::met::{misses, misses_with};
 use crate::slots::{SlotTest, holds, is_unpacked, slot_at, some_slot};
 use farm_universe::relations::{BreakersOf, VariantTest};
@@ -91,26 +92,6 @@ impl VariantTest for IsBroken<'_> {
     fn passes(&self, universe: &Universe, variant: Variant) -> bool {
         some_slot(universe, self.slots, &HoldsBreaking { variant })
     }
-}
-
-/// Tells whether the present variant of some member passes.
-fn some_member<T: VariantTest>(
-    universe: &Universe,
-    members: &[u32],
-    slots: &Slots,
-    test: &T,
-) -> bool
-    requires fits { T.fits universe.now test.now }
-    requires slots { AreSlots universe.now slots.now }
-    ensures { result
-        ≡ traps.some_member members.now slots.now (T.test universe.now test.now) }
-{
-    for member in members {
-        if holds(universe, *member, slot_at(slots, *member), test) {
-            return true;
-        }
-    }
-    false
 }
 
 /// Tells whether some member is not unpacked.

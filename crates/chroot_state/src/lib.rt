@@ -7,6 +7,7 @@ mod change;
 mod chroot;
 mod configure;
 mod held;
+mod members;
 mod met;
 mod phase;
 mod slots;

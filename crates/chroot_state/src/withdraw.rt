@@ -11,9 +11,11 @@ ghost use Rattle.farm_model.specs.Traps as traps;
 ghost use Rattle.farm_model.specs.Traps.{first_trap};
 
 use crate::held::{Slots, is_present};
+use crate::members::some_member;
 use crate::met::is_member;
 use crate::slots::{SlotTest, holds_configured, is_configured, slot_at, some_slot, some_slot_for};
 use deb_relation::{Entry, Relations};
+use farm_universe::essential::IsEssential;
 use farm_universe::relations::{SatisfiesEntry, VariantTest};
 use farm_universe::{Slot, Trap, Universe, Variant};
 
@@ -166,6 +168,9 @@ pub fn remove_trap(universe: &Universe, slots: &Slots, members: &[u32]) -> Optio
 {
     if some_absent(members, slots) {
         return Some(Trap::WrongState);
+    }
+    if some_member(universe, members, slots, &IsEssential) {
+        return Some(Trap::Essential);
     }
     if is_needed(universe, members, slots) {
         return Some(Trap::StillNeeded);

@@ -135,7 +135,7 @@ fn cut(alloc: Global, texts: Texts) -> Result<Vec<u8>, AllocError> {
     Ok(text.into_bytes())
 }
 
-const TRAPS: [Trap; 14] = [
+const TRAPS: [Trap; 15] = [
     Trap::Missing,
     Trap::PreDepends,
     Trap::Conflict,
@@ -150,6 +150,7 @@ const TRAPS: [Trap; 14] = [
     Trap::BuildConflict,
     Trap::NotBuilt,
     Trap::OverBudget,
+    Trap::Essential,
 ];
 
 /// The traps, a line each.

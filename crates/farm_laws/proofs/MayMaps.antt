@@ -10,7 +10,7 @@ use Rattle.farm_model.specs.declared.types.Trap.{Trap}
 use Rattle.farm_model.specs.declared.types.Trap.TheVariants.{OverBudget}
 use Rattle.farm_model.specs.Below.{some_below, sum_below}
 use Rattle.farm_model.specs.Universe.{Universe, Recipe}
-use Rattle.farm_model.specs.Packages.{variant, names, variants, size, pre_depends, depends, satisfies_entry, satisfies_any, conflict, breaks}
+use Rattle.farm_model.specs.Packages.{variant, names, variants, size, essential, pre_depends, depends, satisfies_entry, satisfies_any, conflict, breaks}
 use Rattle.farm_model.specs.Chroot.{Chroot, slot}
 use Rattle.farm_model.specs.Traps.{first_trap}
 use Rattle.farm_model.proofs.BelowLaws.{some_below-at, some_below-found, sum_below-mono, greatest_below-at}
@@ -18,11 +18,11 @@ use Rattle.plan_model.specs.Plan.{Lane, capacity, unpack_cost}
 use Rattle.farm_model.specs.declared.types.Slot.{Slot}
 use Rattle.farm_model.specs.declared.types.Slot.TheVariants.{Absent}
 use Rattle.farm_model.specs.Chroot.{holds_configured, size_in, used, member, met, met_with, pre_met, unmet, entries, unsettled}
-use Rattle.farm_model.specs.Traps.{unpack_traps, changed, some_member, configure_traps, still_needed, withdraw_traps, build_traps}
+use Rattle.farm_model.specs.Traps.{unpack_traps, changed, some_member, configure_traps, still_needed, deconfigured_slot, deconfigure_traps, remove_traps, build_traps}
 use Rattle.plan_model.specs.May.{Bits, MaySlot, May, may_hold_configured, surely_configured, surely_met, surely_met_with, surely_pre_met, may_size, may_use}
 use Rattle.plan_model.specs.Allowed.{Allows, AllowsAll}
-use Rattle.plan_model.specs.Risk.{greatest_cost, unpack_risks, some_may_member, configure_risks, surely_met_outside, may_meet, may_be_needed, withdraw_risks, may_be_unsettled, build_risks}
-use Rattle.farm_laws.proofs.Slots.{list_any-mono, not-mono, and-mono, or-mono, some_of-at, holds-may, holds_configured-may, surely_configured-holds, surely_holds-holds, surely_pre_meets-meets, size_in-may, is_unpacked-may, holds-mono, holds_configured-mono}
+use Rattle.plan_model.specs.Risk.{greatest_cost, unpack_risks, some_may_member, configure_risks, surely_met_outside, may_meet, may_be_needed, deconfigure_risks, remove_risks, may_be_unsettled, build_risks}
+use Rattle.farm_laws.proofs.Slots.{list_any-mono, not-mono, and-mono, or-mono, some_of-at, holds-may, holds_configured-may, surely_configured-holds, surely_holds-holds, surely_pre_meets-meets, size_in-may, is_unpacked-may, is_configured-may, is_present-may, holds-mono, holds_configured-mono}
 use Rattle.farm_model.proofs.ChangedLaws.{slot-changed, length-changed}
 
 -- each test of the first list is bounded by that of the second
@@ -231,16 +231,23 @@ module _ (u : Universe) (m : May) (c : Chroot) (al : AllowsAll u m c) where
       (holds_configured-mono _ _ (slot c n)
       (λ b. list_any-mono _ _ (entries u (variant n b)) (needed_entry g none members)) h)))
 
-  pub withdraw_covers : (right : Slot → Bool) (surely : MaySlot → Bool)
-      → ((count : ℕ) (ms : MaySlot) (s : Slot) → Allows count ms s → right s ≡ surely ms)
-      → (g : Slot → Slot) → g Absent ≡ Absent → (of : Lane) (spent : ℕ) (members : List ℕ)
-      → spent ≤ m.cost
+  pub deconfigure_covers : (of : Lane) (spent : ℕ) (members : List ℕ) → spent ≤ m.cost
       → Covers ((
         nat_lt of.budget (spent + length members),
         OverBudget,
-      ) ∷ withdraw_traps u right members c (changed g c members))
-      (withdraw_risks u surely of m members)
-  withdraw_covers right surely same g none of spent members le =
+      ) ∷ deconfigure_traps u c members) (deconfigure_risks u of m members)
+  deconfigure_covers of spent members le =
       cons (over-may of.budget _ _ _ _ le (le_refl _))
-      (cons (list_any-mono _ _ members (λ k e. ap not (sym (same _ _ _ (al.each k))) ∙ e))
-      (cons (needed_sound g none members) nil))
+      (cons (list_any-mono _ _ members (λ k e. ap not (sym (is_configured-may (al.each k))) ∙ e))
+      (cons (needed_sound deconfigured_slot refl members) nil))
+
+  pub remove_covers : (of : Lane) (spent : ℕ) (members : List ℕ) → spent ≤ m.cost
+      → Covers ((
+        nat_lt of.budget (spent + length members),
+        OverBudget,
+      ) ∷ remove_traps u c members) (remove_risks u of m members)
+  remove_covers of spent members le =
+      cons (over-may of.budget _ _ _ _ le (le_refl _))
+      (cons (list_any-mono _ _ members (λ k e. ap not (sym (is_present-may (al.each k))) ∙ e))
+      (cons (members-may members (essential u) (essential u) (λ v e. e))
+      (cons (needed_sound (λ s. Absent) refl members) nil)))

@@ -18,15 +18,14 @@ use Rattle.plan_model.specs.Plan.{Plan, lane, instruction_at, events_of, unpack_
 use Rattle.plan_model.specs.Turn.{LaneState, newest, passes, Turn, Goes, Gives, Waits, Ends, Fails, past, past_build, unless, unpacks, given, first_only, publish_traps, publishes, turn_of, was_built, with_built}
 use Rattle.plan_model.specs.Known.{possible, Rows}
 use Rattle.farm_model.specs.declared.types.Slot.TheVariants.{Absent}
-use Rattle.farm_model.specs.Chroot.{Chroot, is_present, is_configured}
 use Rattle.farm_model.specs.Traps.{configured, deconfigured, removed, unpacked, configured_slot, deconfigured_slot}
-use Rattle.plan_model.specs.May.{MayAbsent, May, is_surely_configured, is_surely_present}
+use Rattle.plan_model.specs.May.{MayAbsent, May}
 use Rattle.plan_model.specs.Allowed.{allows_absent, AllowsAll}
-use Rattle.plan_model.specs.Risk.{candidates, unpack_risk, publish_risks, risk, greatest_cost, unpack_risks, configure_risks, withdraw_risks, build_risks}
+use Rattle.plan_model.specs.Risk.{candidates, unpack_risk, publish_risks, risk, greatest_cost, unpack_risks, configure_risks, deconfigure_risks, remove_risks, build_risks}
 use Rattle.plan_model.specs.MayAt.{may_unpack, may_after, may_after_some, may_at, may_be_configured, may_be_deconfigured}
-use Rattle.farm_laws.proofs.Slots.{configured_allowed, deconfigured_allowed, is_configured-may, is_present-may}
+use Rattle.farm_laws.proofs.Slots.{configured_allowed, deconfigured_allowed}
 use Rattle.farm_laws.proofs.AllowedAfter.{unpack_keeps, change_keeps}
-use Rattle.farm_laws.proofs.MayMaps.{Covers, nil, cons, over-may, no_trap, unpack_covers, configure_covers, build_covers, withdraw_covers}
+use Rattle.farm_laws.proofs.MayMaps.{Covers, nil, cons, over-may, no_trap, unpack_covers, configure_covers, build_covers, deconfigure_covers, remove_covers}
 
 -- a known variant has a known name
 pub variants_name : (u : Universe) (name b : ℕ) → b < variants u name → name < names u
@@ -175,25 +174,23 @@ module _ (u : Universe) (p : Plan) (rows : Rows) where
         (λ k n t a. configured_allowed a) ms _ _ refl) (omega (arith, low)) refl)
 
     deconfigure_agrees : (ms : List ℕ) → instruction_at p l st.done ≡ Some (Deconfigure ms)
-        → st.made ≡ 0 → first_trap (withdraw_risks u is_surely_configured (lane p l) here ms) ≡ None
+        → st.made ≡ 0 → first_trap (deconfigure_risks u (lane p l) here ms) ≡ None
         → AgreesAfter l (turn_of u there (lane p l) st (Some (Deconfigure ms)))
     deconfigure_agrees ms e z safe =
         let low = spent_here z in
         unless_agrees l _ (Goes (past (lane p l) st (length ms) (deconfigured st.chroot ms)))
-        (no_trap (withdraw_covers u here st.chroot agrees.allows is_configured is_surely_configured
-        (λ k n t a. is_configured-may a) deconfigured_slot refl (lane p l) st.spent ms low) safe)
+        (no_trap (deconfigure_covers u here st.chroot agrees.allows (lane p l) st.spent ms low) safe)
         (past_agrees (Deconfigure ms) _ _ e
         (change_keeps u here st.chroot agrees.allows may_be_deconfigured deconfigured_slot
         (λ k n t a. deconfigured_allowed a) ms _ _ refl) (omega (arith, low)) refl)
 
     remove_agrees : (ms : List ℕ) → instruction_at p l st.done ≡ Some (Remove ms) → st.made ≡ 0
-        → first_trap (withdraw_risks u is_surely_present (lane p l) here ms) ≡ None
+        → first_trap (remove_risks u (lane p l) here ms) ≡ None
         → AgreesAfter l (turn_of u there (lane p l) st (Some (Remove ms)))
     remove_agrees ms e z safe =
         let low = spent_here z in
         unless_agrees l _ (Goes (past (lane p l) st (length ms) (removed st.chroot ms)))
-        (no_trap (withdraw_covers u here st.chroot agrees.allows is_present is_surely_present
-        (λ k n t a. is_present-may a) (λ s. Absent) refl (lane p l) st.spent ms low) safe)
+        (no_trap (remove_covers u here st.chroot agrees.allows (lane p l) st.spent ms low) safe)
         (past_agrees (Remove ms) _ _ e
         (change_keeps u here st.chroot agrees.allows (λ s. MayAbsent) (λ s. Absent)
         (λ k n t a. allows_absent) ms _ _ refl) (omega (arith, low)) refl)

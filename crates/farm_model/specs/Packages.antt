@@ -1,13 +1,14 @@
 -- What the packages of a universe say of each other. The project's own rules, unless said. Laws
 -- never open the words of this file, so they hold however versions and relations are written.
 --
---   names, variants, package_of, size, recipe, base   look-ups by number
+--   names, variants, package_of, size, essential,
+--   recipe, base                                      look-ups by number
 --   satisfies, satisfies_entry, satisfies_any         a variant satisfies an alternative, an
 --                                                     entry, some entry of a list
 --   is_wanted                                         a variant is in the relation of an unpack
 --   conflict, breaks                                  how two variants exclude each other
 --   word_has, has_bit, initial                        bits that are set; the initial archive
-use Rattle.std.specs.Prelude.{ℕ, Bool, ◌&&◌, ◌||◌, ◌==◌, List, [], length, Option, slice_index, slice_index_or}
+use Rattle.std.specs.Prelude.{ℕ, Bool, false, ◌&&◌, ◌||◌, ◌==◌, List, [], length, Option, slice_index, slice_index_or}
 use Rattle.std.specs.List.{list_any}
 use Rattle.std.specs.Int.{bit_at}
 use Rattle.deb_relation.specs.declared.operator.Op.{Op}
@@ -42,6 +43,7 @@ abbrev pub no_package : Package
 no_package = record {
   version = [];
   size = 0;
+  essential = false;
   pre_depends = [];
   depends = [];
   conflicts =
@@ -57,6 +59,10 @@ package_of u v = slice_index_or (slice_index_or u.packages v.name []) v.bit no_p
 -- its Installed-Size in KiB (Debian Policy 5.6.20)
 unfoldable pub size : Universe → Variant → ℕ
 size u v = (package_of u v).size
+
+-- whether it must not be removed (Policy 3.8)
+unfoldable pub essential : Universe → Variant → Bool
+essential u v = (package_of u v).essential
 
 -- its Pre-Depends (Policy 7.2)
 unfoldable pub pre_depends : Universe → Variant → Relations

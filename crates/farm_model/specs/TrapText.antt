@@ -1,7 +1,7 @@
 -- The traps as answers name them. The project's own format.
 use Rattle.std.specs.Prelude.{ℕ, List, codes}
 use Rattle.farm_model.specs.declared.types.Trap.{Trap}
-use Rattle.farm_model.specs.declared.types.Trap.TheVariants.{Missing, PreDepends, Conflict, BreaksOther, Full, WrongState, Depends, Broken, StillNeeded, Unsettled, BuildDepends, BuildConflict, NotBuilt, OverBudget}
+use Rattle.farm_model.specs.declared.types.Trap.TheVariants.{Missing, PreDepends, Conflict, BreaksOther, Full, WrongState, Depends, Broken, StillNeeded, Unsettled, BuildDepends, BuildConflict, NotBuilt, OverBudget, Essential}
 
 abbrev pub trap_text : Trap → List ℕ
 trap_text Missing = codes "X1 Missing"
@@ -18,3 +18,4 @@ trap_text BuildDepends = codes "X11 BuildDepends"
 trap_text BuildConflict = codes "X12 BuildConflict"
 trap_text NotBuilt = codes "X13 NotBuilt"
 trap_text OverBudget = codes "X14 OverBudget"
+trap_text Essential = codes "X15 Essential"

@@ -12,9 +12,9 @@ use Rattle.farm_model.specs.declared.types.Variant.{Variant}
 use Rattle.farm_model.specs.declared.types.Slot.{Slot}
 use Rattle.farm_model.specs.declared.types.Slot.TheVariants.{Absent, Unpacked, Configured}
 use Rattle.farm_model.specs.declared.types.Trap.{Trap}
-use Rattle.farm_model.specs.declared.types.Trap.TheVariants.{PreDepends, Conflict, BreaksOther, Full, WrongState, Depends, Broken, StillNeeded, Unsettled, BuildDepends, BuildConflict}
+use Rattle.farm_model.specs.declared.types.Trap.TheVariants.{PreDepends, Conflict, BreaksOther, Full, WrongState, Depends, Broken, StillNeeded, Unsettled, BuildDepends, BuildConflict, Essential}
 use Rattle.farm_model.specs.Universe.{Universe, Recipe}
-use Rattle.farm_model.specs.Packages.{variant, size, pre_depends, depends, satisfies_any, conflict, breaks}
+use Rattle.farm_model.specs.Packages.{variant, size, essential, pre_depends, depends, satisfies_any, conflict, breaks}
 use Rattle.farm_model.specs.Chroot.{Chroot, slot, some_slot, holds, holds_configured, is_present, is_unpacked, is_configured, last_of, used, member, met, met_with, pre_met, unmet, entries, unsettled}
 
 -- the first trap whose test holds
@@ -86,13 +86,6 @@ still_needed u members before after =
     && holds_configured (λ b. list_any (λ e. met u before e && not (met u after e))
     (entries u (variant n b))) s)
 
--- deconfigure and remove: a member's slot does not pass; a package outside the set still needs a
--- member
-abbrev pub withdraw_traps : Universe → (Slot → Bool) → List ℕ → Chroot → Chroot → List (Bool × Trap)
-withdraw_traps u right members before after =
-    (list_any (λ m. not (right (slot before m))) members, WrongState) ∷
-    (still_needed u members before after, StillNeeded) ∷ []
-
 -- a slot whose variant is unpacked again, and was configured last
 abbrev pub deconfigured_slot : Slot → Slot
 deconfigured_slot Absent = Absent
@@ -105,15 +98,22 @@ deconfigured c members = changed deconfigured_slot c members
 
 -- deconfigure: a member is not configured; a package outside the set still needs one
 abbrev pub deconfigure_traps : Universe → Chroot → List ℕ → List (Bool × Trap)
-deconfigure_traps u c members = withdraw_traps u is_configured members c (deconfigured c members)
+deconfigure_traps u c members =
+    (list_any (λ m. not (is_configured (slot c m))) members, WrongState) ∷
+    (still_needed u members c (deconfigured c members), StillNeeded) ∷ []
 
 -- the members are absent, as after a purge
 abbrev pub removed : Chroot → List ℕ → Chroot
 removed c members = changed (λ s. Absent) c members
 
--- remove: a member is absent; a package outside the set still needs one
+-- remove: a member is absent; the present variant of one is Essential (Policy 3.8); a package
+-- outside the set still needs one
 abbrev pub remove_traps : Universe → Chroot → List ℕ → List (Bool × Trap)
-remove_traps u c members = withdraw_traps u is_present members c (removed c members)
+remove_traps u c members =
+    (list_any (λ m. not (is_present (slot c m))) members, WrongState)
+    ∷ (some_member members c (essential u), Essential)
+    ∷ (still_needed u members c (removed c members), StillNeeded)
+    ∷ []
 
 -- build: the chroot is not settled (the project's own rule); a need is not met, or a present
 -- variant satisfies a clash (Policy 7.7); no room for the scratch space. A build leaves the chroot

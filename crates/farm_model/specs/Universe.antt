@@ -8,15 +8,17 @@
 --
 -- A name is known by its number, in the order of the packages text. A variant is one version of a
 -- name (`Variant`: the name's number and the place among the name's versions, lowest first).
-use Rattle.std.specs.Prelude.{ℕ, List}
+use Rattle.std.specs.Prelude.{ℕ, Bool, List}
 use Rattle.deb_relation.specs.Relations.{Relations}
 use Rattle.farm_model.specs.declared.types.Variant.{Variant}
 
 -- a binary package of an index (Debian Policy 5.3 and 7); relations are reduced to the farm's
--- architecture. The version is its text, the size is Installed-Size in KiB (Policy 5.6.20)
+-- architecture. The version is its text, the size is Installed-Size in KiB (Policy 5.6.20);
+-- essential is whether it must not be removed (Policy 3.8)
 pub record Package : Type 0 where
   pub version : List ℕ
   pub size : ℕ
+  pub essential : Bool
   pub pre_depends : Relations
   pub depends : Relations
   pub conflicts : Relations

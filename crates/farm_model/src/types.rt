@@ -67,6 +67,8 @@ pub enum Trap {
     NotBuilt,
     /// The cost spent would be over the budget.
     OverBudget,
+    /// A member to be removed is Essential.
+    Essential,
 }
 
 impl Trap {
@@ -89,6 +91,7 @@ impl Trap {
             Trap::BuildConflict => "X12 BuildConflict",
             Trap::NotBuilt => "X13 NotBuilt",
             Trap::OverBudget => "X14 OverBudget",
+            Trap::Essential => "X15 Essential",
         }
     }
 }

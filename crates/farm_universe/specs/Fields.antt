@@ -4,9 +4,11 @@
 --   needed_at p name             the value of a field that has to stand
 --   name_at, version_text_at     a name; a version, as it is written
 --   number_up_to most text       a number
---   size_at, relations_in        sizes and relation fields, which may be absent
+--   size_at, flag_at,
+--   relations_in                 sizes, flags and relation fields, which may be absent
 --   refused_if                   a code, where a condition holds
-use Rattle.std.specs.Prelude.{ℕ, Bool, true, false, nat_lt, List, [], Option, Some, None, Result, Ok, Err, ok_or, if◌then◌else◌}
+use Rattle.std.specs.Prelude.{ℕ, Bool, true, false, nat_lt, List, [], Option, Some, None, Result, Ok, Err, ok_or, codes, if◌then◌else◌}
+use Rattle.std.specs.Str.{bytes_eq}
 use Rattle.deb_text.specs.Numbers.{number_at}
 use Rattle.deb_text.specs.Steps.{◌>>=◌}
 use Rattle.deb_text.specs.Words.{is_name}
@@ -16,7 +18,7 @@ use Rattle.deb_relation.specs.declared.error.TheConstants.{BAD_NAME}
 use Rattle.deb_relation.specs.declared.kind.Kind.{Kind}
 use Rattle.deb_relation.specs.Field.{relations_at}
 use Rattle.deb_relation.specs.Relations.{Relations}
-use Rattle.farm_universe.specs.declared.error.TheConstants.{ABSENT, BAD_NUMBER}
+use Rattle.farm_universe.specs.declared.error.TheConstants.{ABSENT, BAD_VALUE}
 use Rattle.farm_universe.specs.declared.limits.TheConstants.{MOST_SIZE}
 
 -- the value of a field that has to stand
@@ -33,8 +35,8 @@ version_text_at text = version_at text >>= λ parts. Ok text
 
 -- a number, if there is one, of at most this much
 abbrev pub up_to : ℕ → Option ℕ → Result ℕ ℕ
-up_to most None = Err BAD_NUMBER
-up_to most (Some n) = if nat_lt most n then Err BAD_NUMBER else Ok n
+up_to most None = Err BAD_VALUE
+up_to most (Some n) = if nat_lt most n then Err BAD_VALUE else Ok n
 
 -- a number of at most this much
 abbrev pub number_up_to : ℕ → List ℕ → Result ℕ ℕ
@@ -44,6 +46,18 @@ number_up_to most text = up_to most (number_at text)
 abbrev pub size_at : Option (List ℕ) → Result ℕ ℕ
 size_at None = Ok 0
 size_at (Some text) = number_up_to MOST_SIZE text
+
+-- a flag, by its word
+abbrev pub flag_of : List ℕ → Result Bool ℕ
+flag_of text =
+    if bytes_eq text (codes "yes") then Ok true
+    else if bytes_eq text (codes "no") then Ok false
+    else Err BAD_VALUE
+
+-- Essential (Policy 3.8); absent: no
+abbrev pub flag_at : Option (List ℕ) → Result Bool ℕ
+flag_at None = Ok false
+flag_at (Some text) = flag_of text
 
 -- a relation field (Policy 7.1); absent: no entry
 abbrev pub relations_in : Kind → Option (List ℕ) → Result Relations ℕ

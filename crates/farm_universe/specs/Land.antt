@@ -23,6 +23,7 @@ unfoldable pub reduced_package : List (List ℕ) → Package → Package
 reduced_package architectures v = record {
   version = v.version;
   size = v.size;
+  essential = v.essential;
   pre_depends = reduced_field architectures v.pre_depends;
   depends = reduced_field architectures v.depends;
   conflicts = reduced_field architectures v.conflicts;

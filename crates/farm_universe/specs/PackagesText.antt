@@ -18,14 +18,31 @@ use Rattle.deb_version.specs.Grammar.{text_cmp}
 use Rattle.deb_relation.specs.declared.kind.Kind.TheVariants.{Need, Clash, Provide}
 use Rattle.farm_universe.specs.declared.error.TheConstants.{TWICE, TOO_MANY_VARIANTS, OVER_LIMIT}
 use Rattle.farm_universe.specs.declared.limits.TheConstants.{MOST_NAMES, MOST_ENTRIES, MOST_VARIANTS}
-use Rattle.farm_universe.specs.Fields.{needed_at, name_at, version_text_at, size_at, relations_in}
+use Rattle.farm_universe.specs.Fields.{needed_at, name_at, version_text_at, size_at, flag_at, relations_in}
 use Rattle.farm_universe.specs.Told.{paragraphs_judged}
+use Rattle.farm_universe.specs.declared.binary.PackageRelations.{PackageRelations}
 use Rattle.farm_model.specs.Universe.{Package}
 
 -- what a paragraph says
 pub record Listed : Type 0 where
   pub name : List ℕ
   pub binary : Package
+
+-- the relation fields in the order in which they are looked at (Policy 7)
+unfoldable pub package_relations_at : Paragraph → Result PackageRelations ℕ
+package_relations_at p = do
+  pre_depends ← relations_in Need (value_of p (codes "Pre-Depends"))
+  depends ← relations_in Need (value_of p (codes "Depends"))
+  conflicts ← relations_in Clash (value_of p (codes "Conflicts"))
+  breaks ← relations_in Clash (value_of p (codes "Breaks"))
+  provides ← relations_in Provide (value_of p (codes "Provides"))
+  Ok (record {
+    pre_depends = pre_depends;
+    depends = depends;
+    conflicts = conflicts;
+    breaks = breaks;
+    provides = provides;
+  })
 
 -- the fields in the order in which they are looked at
 unfoldable pub package_at : Paragraph → Result Listed ℕ
@@ -35,21 +52,19 @@ package_at p = do
   spelled ← needed_at p (codes "Version")
   version ← version_text_at spelled
   size ← size_at (value_of p (codes "Installed-Size"))
-  pre_depends ← relations_in Need (value_of p (codes "Pre-Depends"))
-  depends ← relations_in Need (value_of p (codes "Depends"))
-  conflicts ← relations_in Clash (value_of p (codes "Conflicts"))
-  breaks ← relations_in Clash (value_of p (codes "Breaks"))
-  provides ← relations_in Provide (value_of p (codes "Provides"))
+  essential ← flag_at (value_of p (codes "Essential"))
+  relations ← package_relations_at p
   Ok (record {
     name = name;
     binary = record {
       version = version;
       size = size;
-      pre_depends = pre_depends;
-      depends = depends;
-      conflicts = conflicts;
-      breaks = breaks;
-      provides = provides;
+      essential = essential;
+      pre_depends = relations.pre_depends;
+      depends = relations.depends;
+      conflicts = relations.conflicts;
+      breaks = relations.breaks;
+      provides = relations.provides;
     };
   })
 

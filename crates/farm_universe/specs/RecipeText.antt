@@ -21,7 +21,7 @@ use Rattle.farm_model.specs.declared.types.Variant.{Variant}
 use Rattle.farm_model.specs.Packages.{contains, has_bit}
 use Rattle.farm_model.specs.Universe.{Recipe}
 use Rattle.farm_universe.specs.declared.build.Build.{Build}
-use Rattle.farm_universe.specs.declared.error.TheConstants.{BAD_NUMBER, TWICE, UNKNOWN_SOURCE, TAKEN, NO_OUTPUT, OVER_LIMIT}
+use Rattle.farm_universe.specs.declared.error.TheConstants.{BAD_VALUE, TWICE, UNKNOWN_SOURCE, TAKEN, NO_OUTPUT, OVER_LIMIT}
 use Rattle.farm_universe.specs.declared.limits.TheConstants.{MOST_RECIPES, MOST_ENTRIES, MOST_SIZE}
 use Rattle.farm_universe.specs.declared.sources.BuildFields.{BuildFields}
 use Rattle.farm_universe.specs.declared.sources.Source.{Source}
@@ -50,7 +50,7 @@ mode_of text =
     if bytes_eq text (codes "full") then Ok Full
     else if bytes_eq text (codes "arch") then Ok Arch
     else if bytes_eq text (codes "indep") then Ok Indep
-    else Err BAD_NUMBER
+    else Err BAD_VALUE
 
 -- absent: everything is built
 abbrev pub mode_at : Option (List ℕ) → Result Mode ℕ

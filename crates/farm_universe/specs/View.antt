@@ -9,15 +9,15 @@ use Rattle.deb_text.specs.Answers.{fault_at, refusal_code}
 use Rattle.deb_stanza.specs.Stanza.{Paragraph}
 use Rattle.deb_relation.specs.declared.error.TheConstants.{BAD_NAME}
 use Rattle.farm_universe.specs.declared.error.FieldFault.{FieldFault}
-use Rattle.farm_universe.specs.declared.error.FieldFault.TheVariants.{Absent, BadName, BadVersion, BadRelations, BadNumber, Twice, TooManyVariants, UnknownVariant, UnknownSource, Taken, NoOutput, UnsettledBase, OverLimit, Memory}
-use Rattle.farm_universe.specs.declared.error.TheConstants.{ABSENT, BAD_NUMBER, TWICE, TOO_MANY_VARIANTS, UNKNOWN_VARIANT, UNKNOWN_SOURCE, TAKEN, NO_OUTPUT, UNSETTLED_BASE, OVER_LIMIT}
+use Rattle.farm_universe.specs.declared.error.FieldFault.TheVariants.{Absent, BadName, BadVersion, BadRelations, BadValue, Twice, TooManyVariants, UnknownVariant, UnknownSource, Taken, NoOutput, UnsettledBase, OverLimit, Memory}
+use Rattle.farm_universe.specs.declared.error.TheConstants.{ABSENT, BAD_VALUE, TWICE, TOO_MANY_VARIANTS, UNKNOWN_VARIANT, UNKNOWN_SOURCE, TAKEN, NO_OUTPUT, UNSETTLED_BASE, OVER_LIMIT}
 
 abbrev pub code_of : FieldFault → ℕ
 code_of Absent = ABSENT
 code_of BadName = BAD_NAME
 code_of (BadVersion error) = error.code
 code_of (BadRelations error) = error.code
-code_of BadNumber = BAD_NUMBER
+code_of BadValue = BAD_VALUE
 code_of Twice = TWICE
 code_of TooManyVariants = TOO_MANY_VARIANTS
 code_of UnknownVariant = UNKNOWN_VARIANT

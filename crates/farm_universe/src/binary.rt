@@ -27,6 +27,7 @@ pub struct PackageRelations {
 pub struct Package {
     version: Version,
     size: u64,
+    essential: bool,
     relations: PackageRelations,
 }
 
@@ -38,6 +39,7 @@ impl Model for Package {
     ghost view = { λ p. record {
       version = p.version;
       size = p.size;
+      essential = p.essential;
       pre_depends = p.relations.pre_depends;
       depends = p.relations.depends;
       conflicts = p.relations.conflicts;
@@ -47,10 +49,11 @@ impl Model for Package {
 }
 
 impl Package {
-    pub fn new(version: Version, size: u64, relations: PackageRelations) -> Package
+    pub fn new(version: Version, size: u64, essential: bool, relations: PackageRelations) -> Package
         ensures { result ≡ record {
           version = version;
           size = size;
+          essential = essential;
           pre_depends = relations.pre_depends;
           depends = relations.depends;
           conflicts = relations.conflicts;
@@ -61,6 +64,7 @@ impl Package {
         Package {
             version,
             size,
+            essential,
             relations,
         }
     }
@@ -78,6 +82,13 @@ impl Package {
         self.size
     }
 
+    /// Whether it must not be removed (Debian Policy 3.8).
+    pub fn is_essential(&self) -> bool
+        ensures { result ≡ self.now.essential }
+    {
+        self.essential
+    }
+
     pub fn relations(&self) -> &PackageRelations
         ensures { result.now ≡ record {
           pre_depends = self.now.pre_depends;
@@ -90,11 +101,12 @@ impl Package {
         &self.relations
     }
 
-    /// Its version, its Installed-Size in KiB, and its relations.
-    pub fn into_parts(self) -> (Version, u64, PackageRelations)
+    /// Its version, its Installed-Size in KiB, whether it is Essential, and its relations.
+    pub fn into_parts(self) -> (Version, u64, bool, PackageRelations)
         ensures { result ≡ (
           self.version,
           self.size,
+          self.essential,
           record {
             pre_depends = self.pre_depends;
             depends = self.depends;
@@ -107,9 +119,10 @@ impl Package {
         let Package {
             version,
             size,
+            essential,
             relations,
         } = self;
-        (version, size, relations)
+        (version, size, essential, relations)
     }
 
     /// Tells whether its relation fields have at most this many entries.

@@ -63,7 +63,7 @@ fn mode_of(text: &[u8]) -> Result<Mode, FieldFault>
     if text == b"indep".as_slice() {
         return Ok(Mode::Indep);
     }
-    Err(FieldFault::BadNumber)
+    Err(FieldFault::BadValue)
 }
 
 fn read_mode(value: Option<&[u8]>) -> Result<Mode, FieldFault>

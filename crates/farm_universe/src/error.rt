@@ -12,8 +12,8 @@ use std::alloc::{AllocError, AllocFailed};
 /// A field that has to stand is absent.
 pub const ABSENT: u16 = 201;
 
-/// A field has no number, one over its limit, or no mode.
-pub const BAD_NUMBER: u16 = 202;
+/// A field has no number, one over its limit, no mode, or neither `yes` nor `no`.
+pub const BAD_VALUE: u16 = 202;
 
 /// A version of a package or a source, a variant of a list, or the name of a recipe or a chroot
 /// stands a second time.
@@ -48,7 +48,7 @@ pub enum FieldFault {
     BadName,
     BadVersion(VersionError),
     BadRelations(RelationError),
-    BadNumber,
+    BadValue,
     Twice,
     TooManyVariants,
     UnknownVariant,
@@ -69,7 +69,7 @@ impl FieldFault {
             FieldFault::BadName => BAD_NAME,
             FieldFault::BadVersion(error) => error.code,
             FieldFault::BadRelations(error) => error.code,
-            FieldFault::BadNumber => BAD_NUMBER,
+            FieldFault::BadValue => BAD_VALUE,
             FieldFault::Twice => TWICE,
             FieldFault::TooManyVariants => TOO_MANY_VARIANTS,
             FieldFault::UnknownVariant => UNKNOWN_VARIANT,

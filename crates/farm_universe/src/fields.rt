@@ -3,7 +3,7 @@
 ghost use Rattle.std.specs.Prelude.{IfOk, ◌≤◌};
 ghost use Rattle.std.specs.Option.{option_map};
 ghost use Rattle.deb_text.specs.Answers.{Gives};
-ghost use Rattle.farm_universe.specs.Fields.{name_at, version_text_at, number_up_to, size_at, relations_in};
+ghost use Rattle.farm_universe.specs.Fields.{name_at, version_text_at, number_up_to, size_at, flag_of, flag_at, relations_in};
 ghost use Rattle.farm_universe.specs.View.{refusal_of};
 
 use crate::error::FieldFault;
@@ -38,11 +38,11 @@ pub fn read_number_up_to(most: u64, text: &[u8]) -> Result<u64, FieldFault>
     match read_number(text) {
         Some(number) => {
             if number > most {
-                return Err(FieldFault::BadNumber);
+                return Err(FieldFault::BadValue);
             }
             Ok(number)
         }
-        None => Err(FieldFault::BadNumber),
+        None => Err(FieldFault::BadValue),
     }
 }
 
@@ -55,6 +55,29 @@ pub fn read_size(value: Option<&[u8]>) -> Result<u64, FieldFault>
     match value {
         Some(text) => read_number_up_to(MOST_SIZE, text),
         None => Ok(0),
+    }
+}
+
+fn flag_of(text: &[u8]) -> Result<bool, FieldFault>
+    ensures { Gives refusal_of (λ flag. flag) result (flag_of text.now) }
+{
+    if text == b"yes".as_slice() {
+        return Ok(true);
+    }
+    if text == b"no".as_slice() {
+        return Ok(false);
+    }
+    Err(FieldFault::BadValue)
+}
+
+/// Reads a field of `yes` or `no`, `no` where it is absent.
+pub fn read_flag(value: Option<&[u8]>) -> Result<bool, FieldFault>
+    ensures { Gives refusal_of (λ flag. flag) result
+        (flag_at (option_map (λ v. v.now) value.entry)) }
+{
+    match value {
+        Some(text) => flag_of(text),
+        None => Ok(false),
     }
 }
 

@@ -7,6 +7,7 @@ mod bases;
 mod binary;
 mod build;
 mod error;
+pub mod essential;
 mod farm;
 mod fields;
 mod keyed;
@@ -31,7 +32,7 @@ mod universe;
 pub use base::Base;
 pub use binary::PackageRelations;
 pub use error::{
-    ABSENT, BAD_NUMBER, NO_OUTPUT, OVER_LIMIT, TAKEN, TOO_MANY_VARIANTS, TWICE, UNKNOWN_SOURCE,
+    ABSENT, BAD_VALUE, NO_OUTPUT, OVER_LIMIT, TAKEN, TOO_MANY_VARIANTS, TWICE, UNKNOWN_SOURCE,
     UNKNOWN_VARIANT, UNSETTLED_BASE,
 };
 pub use farm_model::{Slot, Trap, Variant};

@@ -2,13 +2,13 @@
 
 ghost use Rattle.std.specs.Prelude.{IfOk, ◌≤◌};
 ghost use Rattle.deb_text.specs.Answers.{Gives};
-ghost use Rattle.farm_universe.specs.PackagesText.{package_at};
+ghost use Rattle.farm_universe.specs.PackagesText.{package_at, package_relations_at};
 ghost use Rattle.farm_universe.specs.View.{refusal_of};
 ghost use Rattle.farm_universe.specs.TableView.{listed_view};
 
 use crate::binary::{Package, PackageRelations};
 use crate::error::FieldFault;
-use crate::fields::{read_name, read_relations, read_size, read_version};
+use crate::fields::{read_flag, read_name, read_relations, read_size, read_version};
 use crate::limits::MOST_SIZE;
 use crate::paragraph::Paragraph;
 use deb_relation::Kind;
@@ -21,6 +21,24 @@ pub struct Listed {
     pub binary: Package,
 }
 
+/// Reads the relation fields of a paragraph.
+#[tactic(auto, unfolding(crate::specs::PackagesText::package_relations_at))]
+fn read_package_relations(
+    alloc: Global,
+    paragraph: &Paragraph,
+) -> Result<PackageRelations, FieldFault>
+    ensures { Gives refusal_of (λ relations. relations) result
+        (package_relations_at paragraph.now) }
+{
+    Ok(PackageRelations {
+        pre_depends: read_relations(alloc, Kind::Need, paragraph.field(b"Pre-Depends"))?,
+        depends: read_relations(alloc, Kind::Need, paragraph.field(b"Depends"))?,
+        conflicts: read_relations(alloc, Kind::Clash, paragraph.field(b"Conflicts"))?,
+        breaks: read_relations(alloc, Kind::Clash, paragraph.field(b"Breaks"))?,
+        provides: read_relations(alloc, Kind::Provide, paragraph.field(b"Provides"))?,
+    })
+}
+
 /// Reads a paragraph of the packages text.
 #[tactic(auto, unfolding(crate::specs::PackagesText::package_at))]
 pub fn read_package(alloc: Global, paragraph: &Paragraph) -> Result<Listed, FieldFault>
@@ -30,15 +48,10 @@ pub fn read_package(alloc: Global, paragraph: &Paragraph) -> Result<Listed, Fiel
     let name = read_name(alloc, paragraph.needed(b"Package")?)?;
     let version = read_version(alloc, paragraph.needed(b"Version")?)?;
     let size = read_size(paragraph.field(b"Installed-Size"))?;
-    let relations = PackageRelations {
-        pre_depends: read_relations(alloc, Kind::Need, paragraph.field(b"Pre-Depends"))?,
-        depends: read_relations(alloc, Kind::Need, paragraph.field(b"Depends"))?,
-        conflicts: read_relations(alloc, Kind::Clash, paragraph.field(b"Conflicts"))?,
-        breaks: read_relations(alloc, Kind::Clash, paragraph.field(b"Breaks"))?,
-        provides: read_relations(alloc, Kind::Provide, paragraph.field(b"Provides"))?,
-    };
+    let essential = read_flag(paragraph.field(b"Essential"))?;
+    let relations = read_package_relations(alloc, paragraph)?;
     Ok(Listed {
         name,
-        binary: Package::new(version, size, relations),
+        binary: Package::new(version, size, essential, relations),
     })
 }

@@ -53,9 +53,9 @@ fn reduce_package(
 ) -> Result<Package, AllocError>
     ensures { IfOk result (λ left. left ≡ reduced_package architectures.now binary) }
 {
-    let (version, size, mut relations) = binary.into_parts();
+    let (version, size, essential, mut relations) = binary.into_parts();
     reduce_relations(alloc, &mut relations, architectures)?;
-    Ok(Package::new(version, size, relations))
+    Ok(Package::new(version, size, essential, relations))
 }
 
 fn reduce_packages(

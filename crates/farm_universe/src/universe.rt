@@ -7,7 +7,7 @@ ghost use Rattle.deb_text.specs.Answers.{Gives, refusal_of as fault_of};
 ghost use Rattle.deb_text.specs.Groups.{place_in};
 ghost use Rattle.farm_universe.specs.FarmView.{IsLand, IsYard, farm_view, land_view};
 ghost use Rattle.farm_universe.specs.Kept.{IsKept};
-ghost use Rattle.farm_model.specs.Packages.{names, variants, outputs, package_of, size, pre_depends, depends, satisfies, is_wanted, recipe, base};
+ghost use Rattle.farm_model.specs.Packages.{names, variants, outputs, package_of, size, essential, pre_depends, depends, satisfies, is_wanted, recipe, base};
 ghost use Rattle.farm_model.specs.Sound.{IsKnown};
 ghost use Rattle.farm_universe.specs.UniverseText.{universe_of};
 
@@ -109,7 +109,7 @@ impl Universe {
     /// first line of its paragraph. Of a text: 105 at line 0, 101 to 104 at the faulty line.
     ///
     /// Of a packages paragraph: 201, 121 of `Package`; 201, 111 to 114 of `Version`; 202 of
-    /// `Installed-Size`; the faults of a relation field, 121 to 129, of `Pre-Depends`, `Depends`,
+    /// `Installed-Size`, then of `Essential`; the faults of a relation field, 121 to 129, of `Pre-Depends`, `Depends`,
     /// `Conflicts`, `Breaks` and `Provides`; 203 for a version that the name has, 204 for too many
     /// of them, 210 for too many names or relation entries.
     ///
@@ -216,6 +216,15 @@ impl Universe {
         ensures { result ≡ size self.now variant }
     {
         self.package_of(variant).size()
+    }
+
+    /// Tells whether a variant is Essential, so that it must not be removed (Debian Policy 3.8).
+    #[tactic(auto, unfolding(farm_model::specs::Packages::essential))]
+    pub fn essential(&self, variant: Variant) -> bool
+        requires { IsKnown self.now variant }
+        ensures { result ≡ essential self.now variant }
+    {
+        self.package_of(variant).is_essential()
     }
 
     /// The relation fields of a variant, reduced to the farm's architecture.

@@ -18,7 +18,7 @@ use Rattle.farm_model.proofs.BelowLaws.{some_below-at, some_below-found, some_be
 use Rattle.plan_model.specs.Plan.{Lane}
 use Rattle.plan_model.specs.May.{Bits, MaySlot, MayAbsent, MayUnpacked, MayConfigured, May, may_hold, may_hold_configured, surely_configured, surely_met, surely_met_with, is_surely_configured}
 use Rattle.plan_model.specs.MayAt.{may_be_configured, may_unpack, may_change}
-use Rattle.plan_model.specs.Risk.{some_may_member, configure_risks, withdraw_risks, may_meet, surely_met_outside, may_be_needed}
+use Rattle.plan_model.specs.Risk.{some_may_member, configure_risks, may_meet, surely_met_outside, may_be_needed}
 use Rattle.may_rows.specs.Configures.{slots_after}
 use Rattle.may_rows.specs.Dependents.{may_serve}
 use Rattle.may_rows.specs.Met.{misses_at, may_need}
@@ -339,14 +339,11 @@ module _ (u : Universe) (of : Lane) (m : May) (ms : List ℕ) where
 
 -- ---- a deconfigure and a remove
 
-module _ (u : Universe) (of : Lane) (m : May) (ms : List ℕ) (f : MaySlot → MaySlot)
+module _ (u : Universe) (m : May) (ms : List ℕ) (f : MaySlot → MaySlot)
     (off : (s : MaySlot) → is_surely_configured (f s) ≡ false) (hold : HoldSome u m)
-    (right : MaySlot → Bool) (none : first_trap (withdraw_risks u right of m ms) ≡ None) where
+    (not_needed : may_be_needed u ms m ≡ false) where
   abbrev withdrawn : May
   withdrawn = may_change f m ms
-
-  not_needed : may_be_needed u ms m ≡ false
-  not_needed = (no_trap _ _ _ (no_trap _ _ _ (no_trap _ _ _ none).1).1).0
 
   slot_out : (n : ℕ) → member ms n ≡ false → withdrawn.slots n ≡ m.slots n
   slot_out n out = ap (λ t. if t then f (m.slots n) else m.slots n) out

@@ -14,7 +14,7 @@ use Rattle.farm_model.specs.Traps.{first_trap}
 use Rattle.farm_model.specs.Packages.{variant, names, variants, recipe}
 use Rattle.farm_model.proofs.BelowLaws.{some_below-at, some_below-found, some_below-same}
 use Rattle.farm_model.proofs.TestLaws.{same_tests}
-use Rattle.plan_model.specs.May.{MaySlot, MayAbsent, MayUnpacked, MayConfigured, May, may_hold, may_hold_configured, surely_met, is_surely_unpacked, is_surely_configured, is_surely_present}
+use Rattle.plan_model.specs.May.{MaySlot, MayAbsent, MayUnpacked, MayConfigured, May, may_hold, may_hold_configured, surely_met, is_surely_unpacked, is_surely_configured}
 use Rattle.plan_model.specs.MayAt.{may_be_deconfigured, may_after}
 use Rattle.plan_model.specs.Plan.{Lane}
 use Rattle.plan_model.specs.Risk.{may_be_unsettled, build_risks, risk}
@@ -193,7 +193,8 @@ doubts_step u of known there m hold old new are (Configure members) is none upgr
     doubts_kept u m _ old new (met_configured u of m members none) are after
 doubts_step u of known there m hold old new are (Deconfigure members) is none upgraded same after =
     doubts_kept u m _ old new
-    (met_withdrawn u of m members may_be_deconfigured off hold is_surely_configured none) are after
+    (met_withdrawn u m members may_be_deconfigured off hold
+    (no_trap _ _ _ (no_trap _ _ _ (no_trap _ _ _ none).1).1).0) are after
   where
     off : (s : MaySlot) → is_surely_configured (may_be_deconfigured s) ≡ false
     off MayAbsent = refl
@@ -201,7 +202,8 @@ doubts_step u of known there m hold old new are (Deconfigure members) is none up
     off (MayConfigured current) = refl
 doubts_step u of known there m hold old new are (Remove members) is none upgraded same after =
     doubts_kept u m _ old new
-    (met_withdrawn u of m members (λ s. MayAbsent) (λ s. refl) hold is_surely_present none) are after
+    (met_withdrawn u m members (λ s. MayAbsent) (λ s. refl) hold
+    (no_trap _ _ _ (no_trap _ _ _ (no_trap _ _ _ (no_trap _ _ _ none).1).1).1).0) are after
 doubts_step u of known there m hold old new are (Build r) is none upgraded same after =
     doubts_settled u m _ new (met_same u m _ (λ n. refl)) (built_met u of m (recipe u r) none) after
 doubts_step u of known there m hold old new are (Publish r) is none upgraded same after =

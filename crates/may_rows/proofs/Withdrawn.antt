@@ -8,7 +8,7 @@ use Rattle.clause_kernel.specs.Rows.{word_has}
 use Rattle.clause_kernel.proofs.Words.{word_has_zero}
 use Rattle.deb_relation.specs.Relations.{Entry, Relations}
 use Rattle.farm_model.specs.declared.types.Trap.{Trap}
-use Rattle.farm_model.specs.declared.types.Trap.TheVariants.{WrongState, StillNeeded, OverBudget}
+use Rattle.farm_model.specs.declared.types.Trap.TheVariants.{StillNeeded}
 use Rattle.farm_model.specs.Below.{some_below}
 use Rattle.farm_model.specs.Chroot.{member, entries}
 use Rattle.farm_model.specs.Universe.{Universe}
@@ -16,13 +16,13 @@ use Rattle.farm_model.specs.Packages.{variant, names, variants, satisfies_entry}
 use Rattle.farm_model.specs.Traps.{first_trap}
 use Rattle.farm_model.proofs.BelowLaws.{some_below-at, some_below-found, some_below-same, some_below-none}
 use Rattle.farm_model.proofs.TestLaws.{same_tests}
-use Rattle.plan_model.specs.Plan.{Lane, set_cost}
+use Rattle.plan_model.specs.Plan.{Lane}
 use Rattle.plan_model.specs.May.{Bits, MaySlot, MayAbsent, MayUnpacked, MayConfigured, May, some_of, may_hold_configured, surely_configured, surely_met, is_surely_configured}
 use Rattle.plan_model.specs.MayAt.{may_be_last, may_be_deconfigured}
-use Rattle.plan_model.specs.Risk.{may_exceed, surely_met_outside, may_meet, may_be_needed, withdraw_risks}
+use Rattle.plan_model.specs.Risk.{surely_met_outside, may_meet, may_be_needed}
 use Rattle.may_rows.specs.Words.{slot_of, joined_word, AreOfName}
 use Rattle.may_rows.specs.Configures.{slots_after}
-use Rattle.may_rows.specs.Withdraws.{may_be_withdrawn, may_have_met, may_be_missed, needs_at, wrong_risks}
+use Rattle.may_rows.specs.Withdraws.{may_be_withdrawn, may_have_met, may_be_missed, needs_at, deconfigure_risks_before}
 use Rattle.may_rows.proofs.ByNumber.{any-found, any-at}
 use Rattle.may_rows.proofs.MemberSlots.{member-at, first_trap-front, first_trap-back}
 use Rattle.may_rows.proofs.MetAhead.{any-same}
@@ -170,15 +170,6 @@ module _ (u : Universe) (ms : List ℕ) (m : May) (known : All (λ n. n < names 
       ∙ configured-after n (λ b. list_any
       (λ e. may_meet u ms m e && not (surely_met_outside u ms m e)) (entries u (variant n b))))
 
-  pub withdraw_parts : (right : MaySlot → Bool) (of : Lane) (t : Bool)
-      → t ≡ some_below (names u) (needs_at u ms after)
-      → withdraw_risks u right of m ms ≡ wrong_risks right of m ms ++ (t, StillNeeded) ∷ []
-  withdraw_parts right of t is = λ i.
-      (may_exceed of m (set_cost ms), OverBudget)
-      ∷ (list_any (λ k. not (right (m.slots k))) ms, WrongState)
-      ∷ (sym (is ∙ needed-is) i, StillNeeded)
-      ∷ []
-
 -- ---- the maps after them
 
 pub deconfigured-is : (m : May) (ms : List ℕ)
@@ -226,30 +217,34 @@ no_trap : (t : Bool) (x : Trap) → t ≡ false → first_trap ((t, x) ∷ []) �
 unfolding first_trap
 no_trap t x is = rw is refl
 
-pub right_members : (right : MaySlot → Bool) (of : Lane) (m : May) (ms : List ℕ)
-    → first_trap (wrong_risks right of m ms) ≡ None
-    → list_any (λ k. not (right (m.slots k))) ms ≡ false
-right_members right of m ms none = second_fails _ _ _ _ none
+pub configured_members : (of : Lane) (m : May) (ms : List ℕ)
+    → first_trap (deconfigure_risks_before of m ms) ≡ None
+    → list_any (λ k. not (is_surely_configured (m.slots k))) ms ≡ false
+configured_members of m ms none = second_fails _ _ _ _ none
 
+-- these tests, and then that of what is still needed
 module _ (u : Universe) (ms : List ℕ) (m : May) (known : All (λ n. n < names u) ms)
-    (right : MaySlot → Bool) (of : Lane) where
-  pub told_wrong : (x : Trap) → first_trap (wrong_risks right of m ms) ≡ Some x
-      → first_trap (withdraw_risks u right of m ms) ≡ Some x
-  told_wrong x is =
-      ap first_trap (withdraw_parts u ms m known right of _ refl)
-      ∙ first_trap-front (wrong_risks right of m ms) _ x is
+    (before : List (Bool × Trap)) where
+  abbrev risks : List (Bool × Trap)
+  risks = before ++ (may_be_needed u ms m, StillNeeded) ∷ []
+
+  pub told_before : (x : Trap) → first_trap before ≡ Some x → first_trap risks ≡ Some x
+  told_before x is = first_trap-front before _ x is
 
   module _ (t : Bool) (next : May) (withdrawn : next ≡ slots_after may_be_withdrawn m ms)
       (is : t ≡ some_below (names u) (needs_at u ms next))
-      (none : first_trap (wrong_risks right of m ms) ≡ None) where
-    parts : first_trap (withdraw_risks u right of m ms) ≡ first_trap ((t, StillNeeded) ∷ [])
-    parts =
-        ap first_trap (withdraw_parts u ms m known right of t
-        (is ∙ ap (λ k. some_below (names u) (needs_at u ms k)) withdrawn))
-        ∙ first_trap-back (wrong_risks right of m ms) ((t, StillNeeded) ∷ []) none
+      (none : first_trap before ≡ None) where
+    needed : may_be_needed u ms m ≡ t
+    needed =
+        sym (is ∙ ap (λ k. some_below (names u) (needs_at u ms k)) withdrawn
+        ∙ needed-is u ms m known)
 
-    pub told_needed : t ≡ true → first_trap (withdraw_risks u right of m ms) ≡ Some StillNeeded
+    parts : first_trap risks ≡ first_trap ((t, StillNeeded) ∷ [])
+    parts =
+        first_trap-back before _ none ∙ ap (λ b. first_trap ((b, StillNeeded) ∷ [])) needed
+
+    pub told_needed : t ≡ true → first_trap risks ≡ Some StillNeeded
     told_needed yes_needed = parts ∙ one_trap t StillNeeded yes_needed
 
-    pub told_none : t ≡ false → first_trap (withdraw_risks u right of m ms) ≡ None
+    pub told_none : t ≡ false → first_trap risks ≡ None
     told_none free = parts ∙ no_trap t StillNeeded free

@@ -4,14 +4,14 @@ use Rattle.std.specs.Prelude.{ℕ, Bool, false, not, ◌&&◌, List, [], ◌∷�
 use Rattle.std.specs.List.{list_any}
 use Rattle.deb_relation.specs.Relations.{Entry, Relations}
 use Rattle.farm_model.specs.declared.types.Trap.{Trap}
-use Rattle.farm_model.specs.declared.types.Trap.TheVariants.{WrongState, OverBudget}
+use Rattle.farm_model.specs.declared.types.Trap.TheVariants.{WrongState, OverBudget, Essential}
 use Rattle.farm_model.specs.Universe.{Universe}
-use Rattle.farm_model.specs.Packages.{variant, satisfies_entry}
+use Rattle.farm_model.specs.Packages.{variant, essential, satisfies_entry}
 use Rattle.farm_model.specs.Chroot.{entries}
-use Rattle.plan_model.specs.May.{MaySlot, MayAbsent, MayUnpacked, MayConfigured, May, some_of, may_hold_configured, surely_met}
+use Rattle.plan_model.specs.May.{MaySlot, MayAbsent, MayUnpacked, MayConfigured, May, some_of, may_hold_configured, surely_met, is_surely_configured, is_surely_present}
 use Rattle.plan_model.specs.MayAt.{may_be_last}
 use Rattle.plan_model.specs.Plan.{Lane, set_cost}
-use Rattle.plan_model.specs.Risk.{may_exceed}
+use Rattle.plan_model.specs.Risk.{may_exceed, some_may_member}
 
 -- a slot whose variant is no longer configured, with what was configured until then
 abbrev pub may_be_withdrawn : MaySlot → MaySlot
@@ -34,9 +34,17 @@ abbrev pub needs_at : Universe → List ℕ → May → ℕ → Bool
 needs_at u members m n =
     may_hold_configured u n (λ b. may_be_missed u members m (entries u (variant n b))) (m.slots n)
 
--- the tests that are told before the members are withdrawn
-abbrev pub wrong_risks : (MaySlot → Bool) → Lane → May → List ℕ → List (Bool × Trap)
-wrong_risks right of m members =
+-- the tests of a deconfigure that are told before the members are withdrawn
+abbrev pub deconfigure_risks_before : Lane → May → List ℕ → List (Bool × Trap)
+deconfigure_risks_before of m members =
     (may_exceed of m (set_cost members), OverBudget)
-    ∷ (list_any (λ k. not (right (m.slots k))) members, WrongState)
+    ∷ (list_any (λ k. not (is_surely_configured (m.slots k))) members, WrongState)
+    ∷ []
+
+-- the same of a remove
+abbrev pub remove_risks_before : Universe → Lane → May → List ℕ → List (Bool × Trap)
+remove_risks_before u of m members =
+    (may_exceed of m (set_cost members), OverBudget)
+    ∷ (list_any (λ k. not (is_surely_present (m.slots k))) members, WrongState)
+    ∷ (some_may_member u members m (essential u), Essential)
     ∷ []

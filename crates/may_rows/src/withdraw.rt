@@ -10,12 +10,14 @@ ghost use Rattle.plan_model.specs.Sound.{IsNameSet};
 ghost use Rattle.may_rows.specs.Words.{AreWords, may_of, with_slot};
 ghost use Rattle.may_rows.specs.Walk.{Answers, IsOfLane};
 ghost use Rattle.may_rows.specs.Configures.{slots_after};
-ghost use Rattle.may_rows.specs.Withdraws.{may_be_withdrawn, wrong_risks};
+ghost use Rattle.may_rows.specs.Withdraws.{may_be_withdrawn, deconfigure_risks_before, remove_risks_before};
 
 use crate::dependents::Dependents;
+use crate::members::some_may_member;
 use crate::needed::some_needs;
 use crate::space::may_exceed;
 use crate::state::MayHold;
+use farm_universe::essential::IsEssential;
 use farm_universe::{Trap, Universe};
 use plan_asm::{Instruction, Lane};
 use sat_rows::Tables;
@@ -85,7 +87,7 @@ fn deconfigure_risk(
 ) -> Option<Trap>
     requires of_lane { IsOfLane universe.now lane.now state.now }
     ensures { result
-        ≡ first_trap (wrong_risks is_surely_configured lane.now (may_of state.now) members.now) }
+        ≡ first_trap (deconfigure_risks_before lane.now (may_of state.now) members.now) }
 {
     if may_exceed(lane.budget(), state, members.len() as u64) {
         return Some(Trap::OverBudget);
@@ -98,16 +100,19 @@ fn deconfigure_risk(
 
 /// The same of a remove.
 #[tactic(auto, unfolding(farm_model::specs::Traps::first_trap))]
-fn remove_risk(_universe: &Universe, lane: &Lane, state: &MayHold, members: &[u32]) -> Option<Trap>
-    requires of_lane { IsOfLane _universe.now lane.now state.now }
+fn remove_risk(universe: &Universe, lane: &Lane, state: &MayHold, members: &[u32]) -> Option<Trap>
+    requires of_lane { IsOfLane universe.now lane.now state.now }
     ensures { result
-        ≡ first_trap (wrong_risks is_surely_present lane.now (may_of state.now) members.now) }
+        ≡ first_trap (remove_risks_before universe.now lane.now (may_of state.now) members.now) }
 {
     if may_exceed(lane.budget(), state, members.len() as u64) {
         return Some(Trap::OverBudget);
     }
     if some_not_present(members, state) {
         return Some(Trap::WrongState);
+    }
+    if some_may_member(universe, members, state, &IsEssential) {
+        return Some(Trap::Essential);
     }
     None
 }

@@ -10,9 +10,9 @@ use Rattle.deb_relation.specs.declared.operator.Op.{Op}
 use Rattle.deb_relation.specs.Relations.{Entry}
 use Rattle.farm_model.specs.declared.types.Variant.{Variant}
 use Rattle.farm_model.specs.declared.types.Trap.{Trap}
-use Rattle.farm_model.specs.declared.types.Trap.TheVariants.{Missing, PreDepends, Conflict, BreaksOther, Full, WrongState, Depends, Broken, StillNeeded, Unsettled, BuildDepends, BuildConflict, NotBuilt, OverBudget}
+use Rattle.farm_model.specs.declared.types.Trap.TheVariants.{Missing, PreDepends, Conflict, BreaksOther, Full, WrongState, Depends, Broken, StillNeeded, Unsettled, BuildDepends, BuildConflict, NotBuilt, OverBudget, Essential}
 use Rattle.farm_model.specs.Universe.{Universe, Recipe}
-use Rattle.farm_model.specs.Packages.{variant, pre_depends, depends, recipe, is_wanted, satisfies_entry, satisfies_any, breaks, conflict}
+use Rattle.farm_model.specs.Packages.{variant, essential, pre_depends, depends, recipe, is_wanted, satisfies_entry, satisfies_any, breaks, conflict}
 use Rattle.farm_model.specs.Chroot.{member, unmet, entries}
 use Rattle.farm_model.specs.Traps.{first_trap}
 use Rattle.plan_model.specs.declared.instructions.Instruction.{Instruction}
@@ -109,11 +109,20 @@ may_be_needed u members m =
     (λ e. may_meet u members m e && not (surely_met_outside u members m e))
     (entries u (variant n b))) s)
 
--- deconfigure and remove
-abbrev pub withdraw_risks : Universe → (MaySlot → Bool) → Lane → May → List ℕ → List (Bool × Trap)
-withdraw_risks u right of m members =
+-- deconfigure: each test of its traps
+abbrev pub deconfigure_risks : Universe → Lane → May → List ℕ → List (Bool × Trap)
+deconfigure_risks u of m members =
     (may_exceed of m (set_cost members), OverBudget)
-    ∷ (list_any (λ k. not (right (m.slots k))) members, WrongState)
+    ∷ (list_any (λ k. not (is_surely_configured (m.slots k))) members, WrongState)
+    ∷ (may_be_needed u members m, StillNeeded)
+    ∷ []
+
+-- remove: each test of its traps, Essential for every variant that a member may hold
+abbrev pub remove_risks : Universe → Lane → May → List ℕ → List (Bool × Trap)
+remove_risks u of m members =
+    (may_exceed of m (set_cost members), OverBudget)
+    ∷ (list_any (λ k. not (is_surely_present (m.slots k))) members, WrongState)
+    ∷ (some_may_member u members m (essential u), Essential)
     ∷ (may_be_needed u members m, StillNeeded)
     ∷ []
 
@@ -148,10 +157,8 @@ abbrev pub risk : Universe → Lane → (Variant → Bool) → (Variant → Bool
 risk u of known there m (Unpack name wanted) =
     unpack_risk u there of m name wanted (newest u known name wanted)
 risk u of known there m (Configure members) = first_trap (configure_risks u of m members)
-risk u of known there m (Deconfigure members) =
-    first_trap (withdraw_risks u is_surely_configured of m members)
-risk u of known there m (Remove members) =
-    first_trap (withdraw_risks u is_surely_present of m members)
+risk u of known there m (Deconfigure members) = first_trap (deconfigure_risks u of m members)
+risk u of known there m (Remove members) = first_trap (remove_risks u of m members)
 risk u of known there m (Build r) = first_trap (build_risks u of m (recipe u r))
 risk u of known there m (Publish r) = first_trap (publish_risks u of m r)
 risk u of known there m (Wait e) = None

@@ -12,16 +12,16 @@ use Rattle.plan_model.specs.declared.instructions.Instruction.TheVariants.{Unpac
 use Rattle.plan_model.specs.Plan.{Lane, Plan, lane, instruction_at}
 use Rattle.plan_model.specs.Turn.{newest, with_built}
 use Rattle.plan_model.specs.Known.{Rows, possible, KeepsRows}
-use Rattle.plan_model.specs.May.{MaySlot, MayAbsent, May, is_surely_configured, is_surely_present}
+use Rattle.plan_model.specs.May.{MaySlot, MayAbsent, May}
 use Rattle.plan_model.specs.Risk.{candidates, unpack_risk, risk}
 use Rattle.plan_model.specs.MayAt.{may_unpack, may_be_configured, may_be_deconfigured, may_change, may_after, may_base, may_at}
 use Rattle.plan_model.specs.Safety.{risk_of, risk_at, IsSafeUnder}
 use Rattle.farm_laws.proofs.MayMaps.{no_trap}
 use Rattle.verdict_laws.specs.Families.{IsWithin}
 use Rattle.verdict_laws.specs.MoreKnown.{SafeUnderMore, GreatestIsAnnotation, GreatestRowsAnnotate}
-use Rattle.verdict_laws.proofs.Narrower.{IsPart, Narrows, both_absent, both_unpacked, NarrowsAll, narrows_itself, greatest_size-mono, same_configured, same_present, last-narrower, configured-narrower, deconfigured-narrower, cond-narrower}
+use Rattle.verdict_laws.proofs.Narrower.{IsPart, Narrows, both_absent, both_unpacked, NarrowsAll, narrows_itself, greatest_size-mono, last-narrower, configured-narrower, deconfigured-narrower, cond-narrower}
 use Rattle.verdict_laws.proofs.Candidates.{higher, candidates-part}
-use Rattle.verdict_laws.proofs.NarrowMaps.{unpack_covers, configure_covers, withdraw_covers, build_covers, publish_covers}
+use Rattle.verdict_laws.proofs.NarrowMaps.{unpack_covers, configure_covers, deconfigure_covers, remove_covers, build_covers, publish_covers}
 use Rattle.verdict_laws.proofs.Unions.{there, known_are_possible}
 use Rattle.verdict_laws.proofs.Rounds.{greatest_rows_are_greatest}
 
@@ -48,11 +48,8 @@ module _ (u : Universe) (of : Lane) (known more may : Variant → Bool) (m w : M
   instruction_safe (Configure members) safe =
       no_trap (configure_covers u m w narrow of members) safe
   instruction_safe (Deconfigure members) safe =
-      no_trap (withdraw_covers u m w narrow is_surely_configured
-      (λ n. same_configured (narrow.each n)) of members) safe
-  instruction_safe (Remove members) safe =
-      no_trap (withdraw_covers u m w narrow is_surely_present
-      (λ n. same_present (narrow.each n)) of members) safe
+      no_trap (deconfigure_covers u m w narrow of members) safe
+  instruction_safe (Remove members) safe = no_trap (remove_covers u m w narrow of members) safe
   instruction_safe (Build r) safe = no_trap (build_covers u m w narrow of (recipe u r)) safe
   instruction_safe (Publish r) safe = no_trap (publish_covers u m w narrow of r) safe
   instruction_safe (Wait e) safe = refl

@@ -6,16 +6,16 @@ use Rattle.std.proofs.lemmas.Bool.{and_parts, and_from}
 use Rattle.deb_relation.specs.Relations.{Entry}
 use Rattle.farm_model.specs.declared.types.Variant.{Variant}
 use Rattle.farm_model.specs.Universe.{Universe, Recipe}
-use Rattle.farm_model.specs.Packages.{names, variant, variants, satisfies_entry, satisfies_any, pre_depends, depends, breaks, conflict}
+use Rattle.farm_model.specs.Packages.{names, variant, variants, essential, satisfies_entry, satisfies_any, pre_depends, depends, breaks, conflict}
 use Rattle.farm_model.specs.Chroot.{member, unmet, entries}
 use Rattle.farm_model.proofs.BelowLaws.{some_below-mono, sum_below-mono}
 use Rattle.plan_model.specs.Plan.{Lane, capacity}
 use Rattle.plan_model.specs.Turn.{was_built}
 use Rattle.plan_model.specs.May.{Bits, MaySlot, May, some_name, may_hold, may_hold_configured, surely_holds, surely_configured, surely_met, surely_met_with, surely_pre_meets, surely_pre_met, may_size, may_use, is_surely_unpacked}
-use Rattle.plan_model.specs.Risk.{greatest_cost, unpack_risks, some_may_member, configure_risks, surely_met_outside, may_meet, may_be_needed, withdraw_risks, may_be_unsettled, build_risks, publish_risks}
+use Rattle.plan_model.specs.Risk.{greatest_cost, unpack_risks, some_may_member, configure_risks, surely_met_outside, may_meet, may_be_needed, deconfigure_risks, remove_risks, may_be_unsettled, build_risks, publish_risks}
 use Rattle.farm_laws.proofs.Slots.{list_any-mono, not-mono, and-mono, or-mono}
 use Rattle.farm_laws.proofs.MayMaps.{Covers, nil, cons, over-may}
-use Rattle.verdict_laws.proofs.Narrower.{IsPart, NarrowsAll, some_of-mono, greatest_size-mono, may_hold-wider, may_hold_configured-wider, surely_holds-narrower, surely_configured-narrower, surely_pre_meets-narrower, may_size-wider, same_unpacked}
+use Rattle.verdict_laws.proofs.Narrower.{IsPart, NarrowsAll, some_of-mono, greatest_size-mono, may_hold-wider, may_hold_configured-wider, surely_holds-narrower, surely_configured-narrower, surely_pre_meets-narrower, may_size-wider, same_unpacked, same_configured, same_present}
 
 -- an entry is not met where less is met
 unmet-mono : (meets less : Entry → Bool) (es : List Entry)
@@ -180,13 +180,20 @@ module _ (u : Universe) (m w : May) (narrow : NarrowsAll u m w) where
       (cons (member-wider members _ _ (λ v. other-wider v.name (λ n b. breaks u (variant n b) v)))
       nil))))
 
-  pub withdraw_covers : (right : MaySlot → Bool) → ((n : ℕ) → right (m.slots n) ≡ right (w.slots n))
-      → (of : Lane) (members : List ℕ)
-      → Covers (withdraw_risks u right of m members) (withdraw_risks u right of w members)
-  withdraw_covers right same of members =
+  pub deconfigure_covers : (of : Lane) (members : List ℕ)
+      → Covers (deconfigure_risks u of m members) (deconfigure_risks u of w members)
+  deconfigure_covers of members =
       cons (over-may of.budget _ _ _ _ narrow.cost (le_refl _))
-      (cons (list_any-mono _ _ members (λ k e. ap not (sym (same k)) ∙ e))
+      (cons (list_any-mono _ _ members (λ k e. ap not (sym (same_configured (narrow.each k))) ∙ e))
       (cons (needed-wider members) nil))
+
+  pub remove_covers : (of : Lane) (members : List ℕ)
+      → Covers (remove_risks u of m members) (remove_risks u of w members)
+  remove_covers of members =
+      cons (over-may of.budget _ _ _ _ narrow.cost (le_refl _))
+      (cons (list_any-mono _ _ members (λ k e. ap not (sym (same_present (narrow.each k))) ∙ e))
+      (cons (member-wider members (essential u) (essential u) (λ v e. e))
+      (cons (needed-wider members) nil)))
 
   pub build_covers : (of : Lane) (r : Recipe) → Covers (build_risks u of m r) (build_risks u of w r)
   build_covers of r =

@@ -3,6 +3,7 @@ pub mod Verdict
 pub mod Configuring
 pub mod Toolchain
 pub mod Excluding
+pub mod Essential
 pub mod Providing
 pub mod Resources
 pub mod Building

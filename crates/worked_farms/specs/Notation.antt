@@ -5,7 +5,7 @@
 --   frame, lane_in, lone       a farm of one empty chroot whose archive has each package; a lane; a
 --                              plan of one lane
 --   rows_of                    known rows: the initial archive, and more by a table
-use Rattle.std.specs.Prelude.{ℕ, ◌-◌, ◌^◌, ◌||◌, List, [], ◌∷◌, length, map, Some, None, slice_index_or, codes}
+use Rattle.std.specs.Prelude.{ℕ, false, ◌-◌, ◌^◌, ◌||◌, List, [], ◌∷◌, length, map, Some, None, slice_index_or, codes}
 use Rattle.deb_relation.specs.declared.operator.Op.{Op}
 use Rattle.deb_relation.specs.Relations.{Atom, Entry}
 use Rattle.farm_model.specs.declared.types.Variant.{Variant}
@@ -37,6 +37,7 @@ abbrev pub binary : List ℕ → ℕ → Package
 binary version size = record {
   version = version;
   size = size;
+  essential = false;
   pre_depends = [];
   depends = [];
   conflicts = [];

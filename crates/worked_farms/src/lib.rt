@@ -3,6 +3,7 @@
 
 pub mod building;
 pub mod configuring;
+pub mod essential;
 pub mod excluding;
 pub mod growing;
 pub mod holding;

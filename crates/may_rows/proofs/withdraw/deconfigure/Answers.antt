@@ -1,19 +1,23 @@
 use Rattle.std.proofs.Common.{◌+◌, ◌≤◌, length, sym, ap, ◌∙◌, arith}
 use Rattle.farm_model.proofs.TrapLaws.{within-limit}
-use Rattle.plan_model.specs.May.{May, is_surely_configured}
+use Rattle.plan_model.specs.May.{May}
 use Rattle.may_rows.specs.Words.{Words, may_of, may_spend}
-use Rattle.may_rows.proofs.Withdrawn.{told_wrong, told_needed, told_none, right_members, deconfigured-is}
+use Rattle.may_rows.specs.Withdraws.{deconfigure_risks_before}
+use Rattle.may_rows.proofs.Withdrawn.{told_before, told_needed, told_none, configured_members, deconfigured-is}
 use Rattle.may_rows.proofs.withdraw.deconfigure.Goals as goal
 
 pub returns-in-Some-clause-answer : goal.returns-in-Some-clause-answer
 returns-in-Some-clause-answer c known there =
-    told_wrong c.args.universe.now c.args.members.now (may_of c.args.state.now)
-    c.requires.members.known is_surely_configured c.args.lane.now c.in-Some.trap (sym c.in-Some.ensures)
+    told_before c.args.universe.now c.args.members.now (may_of c.args.state.now)
+    c.requires.members.known
+    (deconfigure_risks_before c.args.lane.now (may_of c.args.state.now) c.args.members.now) c.in-Some.trap (sym c.in-Some.ensures)
 
 pub returns-then-some_needs-clause-answer : goal.returns-then-some_needs-clause-answer
 returns-then-some_needs-clause-answer c known there =
     told_needed c.args.universe.now c.args.members.now (may_of c.args.state.now)
-    c.requires.members.known is_surely_configured c.args.lane.now c.some_needs.result
+    c.requires.members.known
+    (deconfigure_risks_before c.args.lane.now (may_of c.args.state.now) c.args.members.now)
+    c.some_needs.result
     (may_of c.withdraw_members.new.state) c.withdraw_members.ensures.map c.some_needs.ensures
     (sym c.in_default.ensures) c.if-some_needs.true
 
@@ -28,13 +32,14 @@ pub returns-clause-answer : goal.returns-clause-answer
 returns-clause-answer c known there =
     let m = may_of c.args.state.now in
     let ms = c.args.members.now in (
-      told_none c.args.universe.now ms m c.requires.members.known is_surely_configured c.args.lane.now
+      told_none c.args.universe.now ms m c.requires.members.known
+          (deconfigure_risks_before c.args.lane.now (may_of c.args.state.now) c.args.members.now)
           c.some_needs.result (may_of c.withdraw_members.new.state)
           c.withdraw_members.ensures.map c.some_needs.ensures (sym c.in_default.ensures)
           c.if-some_needs.false,
       sym (ap may_of c.spend.ensures.words
           ∙ ap (λ k. may_spend k (length ms)) (c.withdraw_members.ensures.map
-          ∙ deconfigured-is m ms (right_members is_surely_configured c.args.lane.now m ms
+          ∙ deconfigured-is m ms (configured_members c.args.lane.now m ms
           (sym c.in_default.ensures)))),
     )
 

@@ -1,20 +1,24 @@
 use Rattle.std.proofs.Common.{◌+◌, ◌≤◌, length, sym, ap, ◌∙◌, arith}
 use Rattle.farm_model.proofs.TrapLaws.{within-limit}
-use Rattle.plan_model.specs.May.{May, MayAbsent, is_surely_present}
+use Rattle.plan_model.specs.May.{May, MayAbsent}
 use Rattle.may_rows.specs.Words.{Words, may_of, may_spend}
 use Rattle.may_rows.specs.Configures.{slots_after}
-use Rattle.may_rows.proofs.Withdrawn.{told_wrong, told_needed, told_none, removed-is}
+use Rattle.may_rows.specs.Withdraws.{remove_risks_before}
+use Rattle.may_rows.proofs.Withdrawn.{told_before, told_needed, told_none, removed-is}
 use Rattle.may_rows.proofs.withdraw.remove.Goals as goal
 
 pub returns-in-Some-clause-answer : goal.returns-in-Some-clause-answer
 returns-in-Some-clause-answer c known there =
-    told_wrong c.args.universe.now c.args.members.now (may_of c.args.state.now)
-    c.requires.members.known is_surely_present c.args.lane.now c.in-Some.trap (sym c.in-Some.ensures)
+    told_before c.args.universe.now c.args.members.now (may_of c.args.state.now)
+    c.requires.members.known
+    (remove_risks_before c.args.universe.now c.args.lane.now (may_of c.args.state.now) c.args.members.now) c.in-Some.trap (sym c.in-Some.ensures)
 
 pub returns-then-some_needs-clause-answer : goal.returns-then-some_needs-clause-answer
 returns-then-some_needs-clause-answer c known there =
     told_needed c.args.universe.now c.args.members.now (may_of c.args.state.now)
-    c.requires.members.known is_surely_present c.args.lane.now c.some_needs.result
+    c.requires.members.known
+    (remove_risks_before c.args.universe.now c.args.lane.now (may_of c.args.state.now) c.args.members.now)
+    c.some_needs.result
     (may_of c.withdraw_members.new.state) c.withdraw_members.ensures.map c.some_needs.ensures
     (sym c.in_default.ensures) c.if-some_needs.true
 
@@ -30,7 +34,8 @@ pub returns-clause-answer : goal.returns-clause-answer
 returns-clause-answer c known there =
     let m = may_of c.args.state.now in
     let ms = c.args.members.now in (
-      told_none c.args.universe.now ms m c.requires.members.known is_surely_present c.args.lane.now
+      told_none c.args.universe.now ms m c.requires.members.known
+          (remove_risks_before c.args.universe.now c.args.lane.now (may_of c.args.state.now) c.args.members.now)
           c.some_needs.result (may_of c.withdraw_members.new.state)
           c.withdraw_members.ensures.map c.some_needs.ensures (sym c.in_default.ensures)
           c.if-some_needs.false,

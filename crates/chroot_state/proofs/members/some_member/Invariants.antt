@@ -1,6 +1,6 @@
 use Rattle.std.proofs.Common.{◌≡◌, false, take}
 use Rattle.farm_model.specs.Traps.{some_member}
-use Rattle.chroot_state.proofs.configure.some_member.Given as goal
+use Rattle.chroot_state.proofs.members.some_member.Given as goal
 
 abbrev pub invariant-loop-member : goal.invariant-loop-member
 invariant-loop-member g l =
