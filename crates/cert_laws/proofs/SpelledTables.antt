@@ -15,7 +15,6 @@ use Rattle.deb_text.specs.Groups.{in_order, place_in}
 use Rattle.deb_text.specs.Numbers.{number_at}
 use Rattle.deb_text.specs.Steps.{◌>>=◌, answer}
 use Rattle.deb_text.specs.Words.{is_name}
-use Rattle.deb_relation.specs.declared.kind.Kind.TheVariants.{Need, Clash, Provide}
 use Rattle.deb_version.specs.Grammar.{version_at}
 use Rattle.deb_version.specs.Order.{Parts}
 use Rattle.farm_model.specs.Universe.{Package}

@@ -1,16 +1,15 @@
 -- A refusal is right, and two verdicts on the same texts are one answer.
-use Rattle.std.proofs.Common.{◌≡◌, ◌≢◌, ℕ, ◌+◌, ◌<◌, List, [], ◌∷◌, length, map, slice_index, Result, Ok, Err, Some, None, refl, sym, ap, subst, ◌∙◌, arith}
+use Rattle.std.proofs.Common.{◌≡◌, ℕ, ◌+◌, ◌<◌, List, length, map, Result, Ok, Err, refl, sym, ap, subst, ◌∙◌, arith}
 use Rattle.std.proofs.lemmas.Grind.{same_number_lists}
 use Rattle.std.proofs.lemmas.Option.{none-some}
 use Rattle.deb_text.specs.Lists.{lists}
 use Rattle.deb_text.specs.declared.fault.Fault.{Fault}
-use Rattle.farm_input.specs.Planned.{FarmPlan}
 use Rattle.farm_model.specs.Universe.{Universe}
 use Rattle.farm_model.specs.declared.types.Trap.{Trap}
 use Rattle.plan_model.specs.Known.{Rows, IsGreatest}
-use Rattle.plan_model.specs.Order.{IsOrder, AreStuck}
+use Rattle.plan_model.specs.Order.{IsOrder}
 use Rattle.plan_model.specs.Plan.{Plan, lane}
-use Rattle.plan_model.specs.Safety.{IsAnnotation, IsSafeUnder, IsFirstUnsafe}
+use Rattle.plan_model.specs.Safety.{IsAnnotation, IsFirstUnsafe}
 use Rattle.verdict_laws.proofs.Alike.{agreeing_rows_are_alike}
 use Rattle.verdict_laws.proofs.FirstOne.{first_unsafe_is_one}
 use Rattle.verdict_laws.proofs.MoreSafe.{greatest_is_annotation}

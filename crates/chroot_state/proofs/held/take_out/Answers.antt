@@ -1,4 +1,4 @@
-use Rattle.std.proofs.Common.{rules, ℕ, ◌≡◌, ◌+◌, ◌==◌, Some, None, get_or, position, ap, arith}
+use Rattle.std.proofs.Common.{rules, ◌≡◌, ◌==◌, Some, None, get_or, position, ap, arith}
 use Rattle.std.specs.List.{sum_by}
 use Rattle.std.proofs.lemmas.Bool.{eqb-true}
 use Rattle.std.proofs.lemmas.List.Quantifiers.{position-Some}

@@ -2,7 +2,6 @@ use Rattle.std.proofs.Common.{◌≡◌, ◌<◌, ◌^◌, All, None, Some, leng
 use Rattle.std.proofs.lemmas.Bool.{cases_eq, cases_lt}
 use Rattle.std.proofs.lemmas.Option.{slice_get_past}
 use Rattle.farm_model.specs.Packages.{names}
-use Rattle.farm_model.specs.Universe.{Universe}
 use Rattle.may_rows.specs.Words.{may_of}
 use Rattle.plan_model.specs.Known.{possible}
 use Rattle.plan_model.specs.MayAt.{may_at, lane_cost}
