@@ -17,6 +17,7 @@ from portfarm import FILES, answer, cut_input, read_schedule
 from relations import NEED, read_field
 from texts import Fault
 from universe import read_universe
+from verdict import count
 
 CRATES = Path(__file__).resolve().parent.parent / "crates"
 # What these ask for is the parser's own text, or how an output fails: no rule of a farm.
@@ -100,8 +101,7 @@ def universe_lines(universe):
 
 def plan_lines(universe, plan):
     recipes = list(universe.recipes.values())
-    events = sum(len(it.recipe.outputs) if it.verb == "publish" else 1 for lane in plan for it in lane.instructions)
-    written = [f"count {events}"]
+    written = [f"count {count(plan)}"]
     for lane in plan:
         written.append(f"lane {printable(lane.name)} chroot {lane.chroot.name} budget {lane.budget}")
         for it in lane.instructions:

@@ -1,17 +1,16 @@
 """Certificates, printed and checked: FORMATS, section 14."""
 
-from core import trap_text
 from relations import PROVIDE, read_field
 from texts import BLANKS, TEXT_LIMIT, Fault, lines, number, pieces
-from verdict import Ordering, Rows, walk
+from verdict import Ordering, Rows, Unsafe, walk
 
 
 def places(plan):
-    """The lanes and numbers of the instructions that have a line: each wait and publish."""
+    """The lanes and numbers of the instructions that have a line: each wait, publish and `when`."""
     found = []
     for lane_number, lane in enumerate(plan):
         for place, it in enumerate(lane.instructions, 1):
-            if it.verb in ("wait", "publish"):
+            if it.verb in ("wait", "publish", "when"):
                 found.append((lane_number, place))
     return found
 
@@ -54,7 +53,7 @@ def read_known(universe, content, lane, place):
 
 
 def read(universe, plan, text):
-    """The rows behind each wait and publish, and the order; or 451 at its line."""
+    """The rows behind each wait, publish and `when`, and the order; or 451 at its line."""
     if len(text) > TEXT_LIMIT:
         raise Fault(451, 0)
     left = [(line, content.strip(BLANKS)) for line, content in enumerate(lines(text), 1) if not content.startswith("#")]
@@ -82,13 +81,16 @@ def read(universe, plan, text):
 
 
 def rows_of(universe, plan, listed):
-    """The rows at every place: a lane knows what its last line lists, and the initial archive."""
+    """The rows at every place: a lane knows what its last line lists, and the initial archive. What the line of a
+    `when` lists it knows in the first branch alone."""
     rows = Rows(universe, plan)
     for lane_number, known in enumerate(rows.known):
-        row = rows.initial
+        lane, row = plan[lane_number], rows.initial
         for place in range(len(known)):
             if (lane_number, place) in listed:
                 row = rows.initial | listed[lane_number, place]
+            elif place > 0 and lane.instructions[place - 1].verb in ("else", "end"):
+                row = known[lane.place_before_branches(place)]
             known[place] = row
     return rows
 
@@ -121,8 +123,9 @@ def check(universe, plan, text):
     too_much = first_too_much(rows)
     if too_much:
         return f"refused 452 {too_much}", False
-    unsafe = walk(rows)[1]
-    if unsafe:
-        return f"refused 453 {trap_text(*unsafe)}", False
+    try:
+        walk(rows)
+    except Unsafe as unsafe:
+        return unsafe.text(trapping=453, uneven=455), False
     bad = first_bad_item(universe, plan, order)
     return ("certified", True) if bad is None else (f"refused 454 item {bad}", False)

@@ -16,7 +16,7 @@ class Slot:
 
 
 class Standing:
-    """A lane on its way: instructions done, outputs made of the next one, chroot, cost spent, recipes built."""
+    """A lane on its way: its place, outputs made of the next one, chroot, cost spent, recipes built."""
 
     def __init__(self, lane):
         self.lane, self.done, self.made, self.spent, self.built = lane, 0, 0, 0, set()
@@ -25,6 +25,12 @@ class Standing:
     def next(self):
         instructions = self.lane.instructions
         return instructions[self.done] if self.done < len(instructions) else None
+
+    def go_to(self, place):
+        """Goes on to a place; one at the end of a branch is that behind both branches."""
+        self.done = place
+        if self.next() is not None and self.next().verb in ("else", "end"):
+            self.done = self.lane.first("end", place)
 
     def used(self):
         return sum(slot.variant.size for slot in self.slots.values())
@@ -155,12 +161,20 @@ class Farm:
         it = standing.next()
         if it.verb == "publish":
             return self.publish(standing, it.recipe)
+        if it.verb == "when":
+            return self.when(standing, it.wanted)
         trap = getattr(self, it.verb)(standing, it)
         if trap is None:
-            standing.done += 1
+            standing.go_to(standing.done + 1)
         return trap
 
     def wait(self, _standing, _it):
+        return None
+
+    def when(self, standing, wanted):
+        """Goes on in the first branch where the archive has what is wanted, else in the second."""
+        place = standing.done + 1
+        standing.go_to(place if pick(self.archive, wanted) else standing.lane.first("else", place))
         return None
 
     def unpack(self, standing, it):

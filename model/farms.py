@@ -1,14 +1,15 @@
 """Random farms: four texts, a schedule and changes of a certificate, the same for the same seed.
 
 A plan is drawn turn by turn over a state of the farm, mostly of instructions that meet no trap there, so that many
-plans are accepted. Some texts are then changed by a line or a byte, so that refusals of every kind come too.
+plans are accepted. Some texts are then changed by a line or a byte, so that refusals of every kind come too. Plans have
+branches where that is asked for; a seed then stands for another farm.
 """
 
 import random
 
 from certificates import certificate
-from core import Farm
-from plans import Lane, read_plan
+from core import UNPACKED, Farm, Slot, Standing
+from plans import NOT_IN_BRANCHES, Lane, read_plan
 from texts import FILES, Fault
 from universe import read_universe
 from verdict import Rows, find_order
@@ -52,7 +53,7 @@ def fields(pairs):
     return "".join(f"{name}: {value}\n" for name, value in pairs if value)
 
 
-def package(draw, name, version, names):
+def package(draw, name, version, names, pre_depends):
     virtual = [*names, "vv"]
     provides = [it + (relation(draw, ["="]) if draw.often(0.5) else "") for it in draw.some(virtual, 2)]
     few = draw.often(0.5)
@@ -61,7 +62,7 @@ def package(draw, name, version, names):
         ("Version", version),
         ("Installed-Size", draw.choice(["", *map(str, SIZES)])),
         ("Essential", draw.choice(["", "", "", "", "no", "yes"])),
-        ("Pre-Depends", entries(draw, virtual, 1) if draw.often(0.2) else ""),
+        ("Pre-Depends", entries(draw, virtual, 1) if draw.often(pre_depends) else ""),
         ("Depends", entries(draw, virtual, 2) if few else ""),
         ("Conflicts", entries(draw, virtual, 1, 1) if draw.often(0.2) else ""),
         ("Breaks", entries(draw, virtual, 2, 1) if draw.often(0.3) else ""),
@@ -99,14 +100,14 @@ def farm_text(draw, variants, sources):
     return "\n".join([head, *recipes, *chroots])
 
 
-def universe_texts(draw):
+def universe_texts(draw, pre_depends):
     names = draw.sample(NAMES, draw.randint(1, 5))
     variants = [(name, version) for name in names for version in draw.sample(VERSIONS, draw.choice([1, 1, 2, 3]))]
     draw.shuffle(variants)
     sources = [f"src{number}" for number in range(draw.randint(1, 2))]
     build = [entries(draw, [*names, "vv"], 2) for _ in sources]
     listed = variants + ([draw.choice(variants)] if draw.often(0.02) else [])
-    packages = "\n".join(package(draw, name, version, names) for name, version in listed)
+    packages = "\n".join(package(draw, name, version, names, pre_depends) for name, version in listed)
     described = [
         fields([
             ("Package", source),
@@ -138,14 +139,19 @@ def random_line(draw, universe, standing):
     return " ".join([verb, *draw.sample(fitting, draw.randint(1, min(2, len(fitting))))])
 
 
+def read_lines(universe, standing, lines):
+    """The instructions of lines, as if they stood alone in a lane with this chroot."""
+    written = ["plan 1", f"lane a chroot {standing.lane.chroot.name} budget 1", *lines, "end"]
+    [lane] = read_plan(universe, "\n".join(written))
+    return lane.instructions
+
+
 def is_good(universe, farm, standing, line, published):
     """Whether the instruction of a line can be read, has not been published, and meets no trap where the lane stands."""
-    text = f"plan 1\nlane a chroot {standing.lane.chroot.name} budget 1\n{line}\nend\n"
     try:
-        [lane] = read_plan(universe, text)
+        [it] = read_lines(universe, standing, [line])
     except Fault:
         return None
-    [it] = lane.instructions
     if it.verb == "publish" and it.recipe in published:
         return None
     standing.lane.instructions.append(it)
@@ -173,7 +179,82 @@ class Trial:
         return trap
 
 
-def plan_text(draw, universe):
+def copied(standing):
+    """The same lane at the same place, which goes on by itself."""
+    lane = Lane(standing.lane.name, standing.lane.chroot, standing.lane.budget)
+    lane.instructions = list(standing.lane.instructions)
+    copy = Standing(lane)
+    copy.done, copy.spent, copy.built = standing.done, standing.spent, set(standing.built)
+    copy.slots = {name: Slot(it.variant, it.phase, it.last) for name, it in standing.slots.items()}
+    return copy
+
+
+def goes_on(farm, standing, instructions):
+    """Puts instructions behind those of a lane, and tells whether it comes to its end without a trap."""
+    standing.lane.instructions += instructions
+    while standing.next() is not None:
+        if farm.turn(standing) is not None:
+            return False
+    return True
+
+
+def random_branch(draw, universe, archive, standing, begun):
+    """Lines for a branch, of `begun` and some more those that meet no trap over an archive where a lane stands; and the
+    phases behind them."""
+    farm, lane, written = Farm(universe, []), copied(standing), []
+    farm.archive = archive
+    for line in begun + [None] * draw.choice([0, 0, 1, 2, 4]):
+        line = line or random_line(draw, universe, lane)
+        it = None if line.split()[0] in NOT_IN_BRANCHES else is_good(universe, farm, lane, line, ())
+        if it is not None:
+            goes_on(farm, lane, [it])
+            written.append(line)
+    return written, {name: slot.phase for name, slot in lane.slots.items()}
+
+
+def telling_lines(universe, standing):
+    """Lines that leave no more than a last configured variant, or a recipe built, so that phases stay."""
+    unpacked = [name for name in standing.slots if standing.phase(name) == UNPACKED]
+    return [[f"configure {it}", f"deconfigure {it}"] for it in unpacked] + [[f"build {it}"] for it in universe.recipes]
+
+
+def random_when(draw, universe, farm, standing, wild):
+    """The lines of a `when` with two branches, mostly with the same phases behind both; none where no such were drawn.
+    One branch is drawn over all that the archive may ever have; the other over what it has, mostly of like lines."""
+    names, outputs = list(universe.variants), [it for recipe in universe.recipes.values() for it in recipe.outputs]
+    wanted = draw.choice(names) + (relation(draw) if draw.often(0.7) else "")
+    begun = draw.choice([[], [f"unpack {wanted}"], *telling_lines(universe, standing)])
+    first, phases = random_branch(draw, universe, [*universe.archive, *outputs], standing, begun)
+    for _ in range(8):
+        like = [it if it.split()[0] != "unpack" else f"unpack {it.split()[1]}" for it in first]
+        like = [it + relation(draw) if it.startswith("unpack") and draw.often(0.5) else it for it in like]
+        second, others = random_branch(draw, universe, farm.archive, standing, like if draw.often(0.7) else [])
+        if others == phases or draw.often(wild):
+            break
+    else:
+        return []
+    branches = [first, second] if draw.often(0.5) else [second, first]
+    for branch in branches:
+        if draw.often(wild):
+            branch.insert(draw.randint(0, len(branch)), random_line(draw, universe, standing))
+    first, second = ([f"  {it}" for it in branch] for branch in branches)
+    return [f"when {wanted}", *first, "else", *second, "end"]
+
+
+def add_when(draw, universe, farm, standing, wild):
+    """The lines of a `when` for a lane, which has then gone on behind it; mostly none where it would trap."""
+    lines = random_when(draw, universe, farm, standing, wild)
+    try:
+        instructions = read_lines(universe, standing, lines)
+    except Fault:
+        return lines
+    if not goes_on(farm, copied(standing), instructions):
+        return lines if draw.often(wild) else []
+    goes_on(farm, standing, instructions)
+    return lines
+
+
+def plan_text(draw, universe, has_branches):
     """A plan of up to three lanes, drawn over a state of the farm."""
     bases = list(universe.chroots.values())
     budgets = [draw.choice([5, 100, 1000000, 1000000, 1000000]) for _ in range(draw.randint(0, 3))]
@@ -183,6 +264,10 @@ def plan_text(draw, universe):
     for _ in range(draw.randint(0, 40 * len(lanes))):
         number = draw.randrange(len(lanes))
         standing = farm.lanes[number]
+        if has_branches and draw.often(0.2):
+            lines = add_when(draw, universe, farm, standing, wild)
+            written[number] += ["\n  ".join(lines)] if lines else []
+            continue
         line = random_line(draw, universe, standing)
         it = is_good(universe, farm, standing, line, published)
         if it is None:
@@ -243,16 +328,16 @@ def changed_rows(draw, text):
 class RandomFarm:
     """The farm of a seed: its four texts, and a schedule for its plan."""
 
-    def __init__(self, seed):
+    def __init__(self, seed, has_branches=False):
         draw = self.draw = Draw(seed)
-        self.texts = universe_texts(draw)
+        self.texts = universe_texts(draw, pre_depends=0.6 if has_branches else 0.2)
         try:
             universe = read_universe(self.texts)
-            self.texts["plan"] = plan_text(draw, universe)
+            self.texts["plan"] = plan_text(draw, universe, has_branches)
         except Fault:
             self.texts["plan"] = "plan 1\n"
         if draw.often(0.3):
-            file = draw.choice(FILES)
+            file = draw.choice([*FILES, *FILES, "plan", "plan"] if has_branches else FILES)
             self.texts[file] = changed(draw, self.texts[file])
         self.schedule = [draw.choice([0, 0, 1, 1, 2, 3]) for _ in range(draw.randint(0, 60))]
 

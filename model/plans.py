@@ -4,27 +4,39 @@ from relations import NEED, read_alternative, read_field, reduce_field
 from texts import TEXT_LIMIT, Fault, is_word, lines, number
 
 LANES, INSTRUCTIONS = 64, 65_536
+NOT_IN_BRANCHES = ("publish", "wait", "use", "when")
 
 
 class Instruction:
     """A verb with what it names: `names` for configure, deconfigure and remove; `recipe` for build and publish;
-    `wanted`, an alternative, for unpack; `entry` for wait."""
+    `wanted`, an alternative, for unpack and when; `entry` for wait; nothing for else and for the end of branches."""
 
     def __init__(self, verb, names=(), recipe=None, wanted=None, entry=None):
         self.verb, self.names, self.recipe = verb, names, recipe
         self.wanted, self.entry = wanted, entry
 
     def __str__(self):
-        if self.verb == "unpack":
-            return f"unpack {self.wanted}"
-        if self.verb == "wait":
-            return "wait" + " |".join(f" {alternative}" for alternative in self.entry)
-        return " ".join([self.verb, *(self.names or [self.recipe.name])])
+        if self.wanted:
+            return f"{self.verb} {self.wanted}"
+        if self.entry:
+            return self.verb + " |".join(f" {alternative}" for alternative in self.entry)
+        return " ".join([self.verb, *self.names, *([self.recipe.name] if self.recipe else [])])
 
 
 class Lane:
+    """A lane. Its instruction of number n is `instructions[n - 1]`; at place n the next one is `instructions[n]`."""
+
     def __init__(self, name, chroot, budget):
         self.name, self.chroot, self.budget, self.instructions = name, chroot, budget, []
+
+    def first(self, verb, place):
+        """The number of the first instruction of a verb behind a place. So the `else` and the `end` of a `when` are
+        found, since no branch holds another."""
+        return next(n for n, it in enumerate(self.instructions, 1) if n > place and it.verb == verb)
+
+    def place_before_branches(self, place):
+        """The place just before the last `when` ahead of a place."""
+        return max(n for n, it in enumerate(self.instructions[:place]) if it.verb == "when")
 
 
 class Block:
@@ -33,29 +45,38 @@ class Block:
 
 
 class Reader:
-    """What has been read of a plan: its lanes and blocks, and the one that is open with its first line."""
+    """What has been read of a plan: its lanes and blocks, and what is open: a lane or block, and in it perhaps the
+    branch behind a `when` or behind its `else`. `first_lines` has the lines that began these, the innermost last."""
 
     def __init__(self, universe):
         self.universe, self.lanes, self.blocks = universe, [], {}
-        self.open, self.first_line = None, 0
+        self.open, self.branch, self.first_lines = None, None, []
         self.published = set()
 
-    def read(self, content):
+    def read(self, content, line):
         head, *rest = content.replace("\t", " ").split(" ", 1)
         text = rest[0] if rest else ""
         found = [piece for piece in text.replace("\t", " ").split(" ") if piece]
         if head == "lane":
             self.begin_lane(found)
+            self.first_lines.append(line)
         elif head == "block":
             self.begin_block(found)
-        elif self.open is None:
+            self.first_lines.append(line)
+        elif self.open is None or self.branch and head in NOT_IN_BRANCHES:
             raise Fault(302)
+        elif head == "else" and not found:
+            self.otherwise()
         elif head == "end" and not found:
             self.end()
+            self.first_lines.pop()
         elif head == "use":
             self.add(self.used(found))
         else:
             self.add([read_instruction(self.universe, head, text, found)])
+            if head == "when":
+                self.branch = "when"
+                self.first_lines.append(line)
 
     def begin_lane(self, found):
         if self.open is not None or len(found) != 5 or found[1] != "chroot" or found[3] != "budget":
@@ -79,7 +100,20 @@ class Reader:
             raise Fault(308)
         self.open = Block(found[0])
 
+    def otherwise(self):
+        if self.branch != "when":
+            raise Fault(302)
+        self.add([Instruction("else")])
+        self.branch = "else"
+
     def end(self):
+        """Ends the second branch, if one is open, or else the lane or block."""
+        if self.branch == "when":
+            raise Fault(302)
+        if self.branch == "else":
+            self.add([Instruction("end")])
+            self.branch = None
+            return
         if isinstance(self.open, Block):
             self.blocks[self.open.name] = self.open
         self.open = None
@@ -120,7 +154,7 @@ def read_instruction(universe, verb, text, found):
         if found[0] not in universe.recipes:
             raise Fault(303)
         return Instruction(verb, recipe=universe.recipes[found[0]])
-    if verb == "unpack":
+    if verb in ("unpack", "when"):
         wanted = read_piece(text)
         if wanted.name not in universe.variants:
             raise Fault(303)
@@ -165,17 +199,14 @@ def read_plan(universe, text):
                 raise Fault(301, line, "plan")
             begun = True
             continue
-        was_open = reader.open
         try:
-            reader.read(content)
+            reader.read(content, line)
         except Fault as fault:
             raise Fault(fault.code, line, "plan") from None
-        if was_open is None:
-            reader.first_line = line
     if not begun:
         raise Fault(301, 0, "plan")
     if reader.open is not None:
-        raise Fault(306, reader.first_line, "plan")
+        raise Fault(306, reader.first_lines[-1], "plan")
     return reader.lanes
 
 
@@ -184,6 +215,12 @@ def listing(plan):
     written = ["plan 1"]
     for lane in plan:
         written.append(f"lane {lane.name} chroot {lane.chroot.name} budget {lane.budget}")
-        written += [f"  {instruction}" for instruction in lane.instructions]
+        indent = "  "
+        for it in lane.instructions:
+            if it.verb in ("else", "end"):
+                indent = "  "
+            written.append(f"{indent}{it}")
+            if it.verb in ("when", "else"):
+                indent = "    "
         written.append("end")
     return written

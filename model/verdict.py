@@ -3,6 +3,13 @@
 from core import ABSENT, CONFIGURED, UNPACKED, first_trap, trap_text
 
 
+def lets_on(it, variant):
+    """Whether a wait passes, or the first branch of a `when` is taken, where the archive has the variant."""
+    if it.verb == "when":
+        return variant.name == it.wanted.name and it.wanted.in_relation(variant.version)
+    return variant.satisfies(it.entry)
+
+
 class Rows:
     """What may be published and what is known, by place: lane l with its first i instructions done."""
 
@@ -34,11 +41,11 @@ class Rows:
         it = self.plan[number].instructions[place]
         if it.verb == "publish":
             return set(it.recipe.outputs)
-        if it.verb != "wait":
+        if it.verb not in ("wait", "when"):
             return set()
         found = self.may_be_published(number, place)
         for variant in list(found):
-            if variant.satisfies(it.entry):
+            if lets_on(it, variant):
                 found &= self.facts(variant)
         return found
 
@@ -46,6 +53,9 @@ class Rows:
         """The most that can be known behind the first `place` instructions under the rows that stand."""
         if place == 0:
             return self.initial
+        lane = self.plan[number]
+        if lane.instructions[place - 1].verb in ("else", "end"):
+            return self.known[number][lane.place_before_branches(place)]
         return self.known[number][place - 1] | self.gives(number, place - 1)
 
     def make_greatest(self):
@@ -62,7 +72,8 @@ class Rows:
 
 
 class MaySlot:
-    """A phase, the variants that a name may hold, and those that may be its last configured one (empty: none)."""
+    """A phase, the variants that a name may hold, and those that may be its last configured one (empty: none, or not
+    known)."""
 
     def __init__(self, phase, current, last):
         self.phase, self.current, self.last = phase, current, last
@@ -93,6 +104,26 @@ class MayMap:
 
     def within(self, cost):
         return lambda: self.cost + cost > self.lane.budget
+
+    def copy(self):
+        """The same map, which is changed by itself."""
+        found = MayMap(self.lane)
+        found.cost, found.built = self.cost, set(self.built)
+        found.slots = {name: MaySlot(it.phase, it.current, it.last) for name, it in self.slots.items()}
+        return found
+
+    def is_even(self, other):
+        """Whether each name has the same phase in both maps."""
+        return all(self.phase(name) == other.phase(name) for name in [*self.slots, *other.slots])
+
+    def join(self, other):
+        """Takes in what may be at the end of the other branch, where the phases are the same."""
+        self.cost = max(self.cost, other.cost)
+        self.built &= other.built
+        for name, slot in self.slots.items():
+            current, last = other.slots[name].current, other.slots[name].last
+            slot.current = slot.current | current
+            slot.last = slot.last | last if slot.last and last else set()
 
 
 def is_surely(entry, sets):
@@ -225,21 +256,60 @@ RISKS = {
 }
 
 
+class Unsafe(Exception):
+    """An instruction that may trap, with its trap; or a `when` whose branches end in different phases, with none."""
+
+    def __init__(self, lane, instruction, trap=None):
+        super().__init__(lane, instruction, trap)
+        self.lane, self.instruction, self.trap = lane, instruction, trap
+
+    def text(self, trapping, uneven):
+        """The line that tells of it, with the code of its kind."""
+        if self.trap is None:
+            return f"refused {uneven} lane {self.lane.name} instruction {self.instruction}"
+        return f"refused {trapping} {trap_text(self.lane, self.instruction, self.trap)}"
+
+
+class Walk:
+    """The way through a lane, with its may map; in branches also the map ahead of both, and in the second one that at
+    the end of the first."""
+
+    def __init__(self, rows, number):
+        self.rows, self.number, self.lane = rows, number, rows.plan[number]
+        self.may, self.ahead, self.first = MayMap(self.lane), None, None
+
+    def take(self, place, it):
+        """Takes the instruction behind a place, if it is safe."""
+        if it.verb == "when":
+            self.ahead = self.may.copy()
+        elif it.verb == "else":
+            self.first, self.may = self.may, self.ahead
+        elif it.verb == "end":
+            if not self.may.is_even(self.first):
+                raise Unsafe(self.lane, self.lane.place_before_branches(place) + 1)
+            self.may.join(self.first)
+        else:
+            self.change(place, it)
+
+    def change(self, place, it):
+        known, possible = self.rows.known[self.number][place], self.rows.may_be_published(self.number, place)
+        risks, cost, effect = RISKS[it.verb](self.may, it, known, possible)
+        trap = first_trap(risks)
+        if trap is not None:
+            raise Unsafe(self.lane, place + 1, trap)
+        effect()
+        self.may.cost += cost
+
+
 def walk(rows):
-    """The cost of each lane, or the first instruction that is not safe: its lane, number and trap."""
+    """The cost of each lane; or raises the first instruction that is not safe."""
     costs = []
     for number, lane in enumerate(rows.plan):
-        may = MayMap(lane)
+        way = Walk(rows, number)
         for place, it in enumerate(lane.instructions):
-            known, possible = rows.known[number][place], rows.may_be_published(number, place)
-            risks, cost, effect = RISKS[it.verb](may, it, known, possible)
-            trap = first_trap(risks)
-            if trap is not None:
-                return None, (lane, place + 1, trap)
-            effect()
-            may.cost += cost
-        costs.append(may.cost)
-    return costs, None
+            way.take(place, it)
+        costs.append(way.may.cost)
+    return costs
 
 
 class Ordering:
@@ -278,16 +348,30 @@ def find_order(universe, plan):
     return order, [lane for lane, left in zip(plan, ordering.left) if left]
 
 
+def events(instructions):
+    """How many steps they take."""
+    return sum(len(it.recipe.outputs) if it.verb == "publish" else 1 for it in instructions)
+
+
 def count(plan):
-    return sum(len(it.recipe.outputs) if it.verb == "publish" else 1 for lane in plan for it in lane.instructions)
+    """The greatest number of steps: of the two branches of a `when` the longer one counts."""
+    found = 0
+    for lane in plan:
+        found += events(it for it in lane.instructions if it.verb not in ("else", "end"))
+        for number, it in enumerate(lane.instructions, 1):
+            if it.verb == "when":
+                middle, end = lane.first("else", number), lane.first("end", number)
+                found -= min(middle - number - 1, end - middle - 1)
+    return found
 
 
 def judge(universe, plan):
     """The lines of the verdict, and whether it accepts; with it the rows and the order."""
     rows = Rows(universe, plan).make_greatest()
-    costs, unsafe = walk(rows)
-    if unsafe:
-        return [f"refused 401 {trap_text(*unsafe)}"], False, rows, []
+    try:
+        costs = walk(rows)
+    except Unsafe as unsafe:
+        return [unsafe.text(trapping=401, uneven=403)], False, rows, []
     order, stuck = find_order(universe, plan)
     if stuck:
         return ["refused 402 lanes " + " ".join(lane.name for lane in stuck)], False, rows, []

@@ -1,101 +1,64 @@
 -- How many outputs a lane has made, and which comes next: local instructions make none.
-use Rattle.std.proofs.Common.{◌≡◌, inl, inr, ℕ, suc, ◌+◌, ◌<◌, Bool, false, List, [], ◌∷◌, length, drop, Some, slice_get, refl, sym, ap, subst, ◌∙◌, arith, get_or-set_same}
-use Rattle.std.specs.Prelude.{slice_index_or}
-use Rattle.std.proofs.lemmas.Bool.{false≢true}
+use Rattle.std.proofs.Common.{◌≡◌, inl, inr, ℕ, suc, ◌<◌, Bool, true, false, List, [], ◌∷◌, length, drop, Some, slice_get, refl, sym, ap, subst, ◌∙◌, arith, get_or-set_same}
 use Rattle.std.proofs.lemmas.Option.{same_Some}
 use Rattle.farm_model.specs.declared.types.Variant.{Variant}
 use Rattle.farm_model.specs.Universe.{Universe}
 use Rattle.farm_model.specs.Packages.{outputs}
 use Rattle.plan_model.specs.declared.instructions.Instruction.{Instruction}
-use Rattle.plan_model.specs.declared.instructions.Instruction.TheVariants.{Unpack, Configure, Deconfigure, Remove, Build, Publish, Wait}
+use Rattle.plan_model.specs.declared.instructions.Instruction.TheVariants.{Configure, Deconfigure, Remove, Build, Publish, Otherwise, EndWhen}
+use Rattle.plan_model.specs.Branches.{IsBranched}
 use Rattle.plan_model.specs.Plan.{Lane, Plan, lane, outputs_of, events_of, lane_outputs}
 use Rattle.plan_model.specs.Turn.{LaneState, Turn, Goes, Gives, Waits, Ends, Fails, turn_of}
-use Rattle.plan_model.specs.Run.{start, no_state}
-use Rattle.plan_model.specs.Known.{Rows, KeepsRows}
+use Rattle.plan_model.specs.Run.{no_state}
 use Rattle.plan_model.specs.Sound.{IsSound}
 use Rattle.plan_model.specs.World.{World, world_lane, nothing, goes_on, settled}
-use Rattle.farm_laws.proofs.Steps.{run_keeps}
 use Rattle.farm_laws.proofs.EventsLeft.{StandsAt, InPlace, fresh_place}
-use Rattle.farm_laws.proofs.Places.{IsQuiet, GoesOn, GivesOne, PlaceMove, turn_place}
-use Rattle.farm_laws.proofs.KnownRows.{ArchiveHolds, archive_stays, archive_at_start}
+use Rattle.farm_laws.proofs.Branches.{arrives-stands}
+use Rattle.farm_laws.proofs.Places.{IsQuiet, IsWhen, leads_to, GoesOn, GivesOne, PlaceMove, turn_place}
 use Rattle.archive_laws.specs.LaneMoves.{outputs_made}
 use Rattle.archive_laws.specs.Shown.{IsReached, with_lane, ready_lane}
-use Rattle.archive_laws.proofs.Settles.{next_of, ready_reached}
-use Rattle.archive_laws.proofs.OutputPlaces.{before, before_next, output_there}
-
--- rows that know nothing keep to the inclusions
-abbrev no_rows : Rows
-no_rows l i v = false
-
-no_rows_keep : (u : Universe) (p : Plan) → KeepsRows u p no_rows
-no_rows_keep u p =
-    record {
-      at_start = λ l v lt e. absurd (false≢true e);
-      after = λ l i x v lt at e. absurd (false≢true e);
-    }
-
--- each lane of a world that is reached stands at a place
-pub in_place : (u : Universe) (p : Plan) → IsSound u p → (w : World) → IsReached u p w → (l : ℕ)
-    → l < length p
-    → InPlace u (lane p l).instructions (world_lane w l).done (world_lane w l).made
-in_place u p sound w r l lt =
-    subst (λ (st : LaneState). InPlace u (lane p l).instructions st.done st.made)
-    (ap (λ (xs : List LaneState). slice_index_or xs l no_state) r.shown.2.lanes)
-    (holds.places.each l lt)
-  where
-    holds : ArchiveHolds u p no_rows (no_rows_keep u p) r.shown.0
-    holds =
-        run_keeps u p (ArchiveHolds u p no_rows (no_rows_keep u p))
-        (λ a b k h e. archive_stays u p no_rows (no_rows_keep u p) sound a b k h e) r.shown.1.0
-        (start u p) r.shown.0 r.shown.1.1 (archive_at_start u p no_rows (no_rows_keep u p) sound)
+use Rattle.archive_laws.proofs.Settles.{ready_reached}
+use Rattle.archive_laws.proofs.Skips.{next_of, going_on, standing_on, next_on, goes_behind}
+use Rattle.archive_laws.proofs.Stands.{place_stands}
+pub use Rattle.archive_laws.proofs.Stands.{in_place}
+use Rattle.archive_laws.proofs.OutputPlaces.{before, before_next, before_arrives, output_there}
 
 module _ (u : Universe) where
-  -- behind an instruction without outputs there are as many
-  quiet_count : (is : List Instruction) (st next : LaneState) (x : Instruction)
-      → slice_get is st.done ≡ Some x → length (outputs_of u x) ≡ 0 → events_of u x ≡ 1
-      → InPlace u is st.done st.made → next.done ≡ suc st.done → next.made ≡ 0
-      → before u is next.done + next.made ≡ before u is st.done + st.made
-  quiet_count is st next x at none one place done made =
-      let here : st.made < 1 = subst (λ n. st.made < n) one
-      (subst (λ o. StandsAt u o st.made) at place) in
-      let d : before u is next.done ≡ before u is (suc st.done) = ap (before u is) done in
-      omega (arith, d, before_next u is st.done x at)
-
   -- an instruction that goes on has one event and no output
-  goes_quiet : (there : Variant → Bool) (st next : LaneState) (x : Instruction)
-      → GoesOn u there st (Some x) next → (length (outputs_of u x) ≡ 0) × (events_of u x ≡ 1)
-  goes_quiet there st next (Unpack name wanted) g = (refl, refl)
-  goes_quiet there st next (Configure members) g = (refl, refl)
-  goes_quiet there st next (Deconfigure members) g = (refl, refl)
-  goes_quiet there st next (Remove members) g = (refl, refl)
-  goes_quiet there st next (Build r) g = (refl, refl)
-  goes_quiet there st next (Wait e) g = (refl, refl)
-  goes_quiet there st next (Publish r) g =
-      let is : Publish r ≡ g.instruction = same_Some _ _ g.is in absurd (no g.instruction is g.quiet)
-    where
-      no : (y : Instruction) → Publish r ≡ y → IsQuiet u there y → ⊥
-      no y is q = subst (IsQuiet u there) (sym is) q
+  quiet_one : (there : Variant → Bool) (x : Instruction) → IsQuiet u there x
+      → (length (outputs_of u x) ≡ 0) × (events_of u x ≡ 1)
+  quiet_one there (Publish r) q = absurd q
+  quiet_one there Otherwise q = absurd q
+  quiet_one there EndWhen q = absurd q
+  quiet_one there _ q = (refl, refl)
 
   -- what a lane has made where its turn goes on
-  pub goes_count : (of : Lane) (there : Variant → Bool) (st next : LaneState) (x : Instruction)
+  pub goes_count : (of : Lane) → IsBranched of.instructions → (there : Variant → Bool)
+      (st next : LaneState) (x : Instruction)
       → slice_get of.instructions st.done ≡ Some x → InPlace u of.instructions st.done st.made
       → turn_of u there of st (Some x) ≡ Goes next
       → outputs_made u of next ≡ outputs_made u of st
-  goes_count of there st next x at place is =
-      let g : GoesOn u there st (Some x) next =
-      subst (PlaceMove u there st (Some x)) is (turn_place u there of st (Some x)) in
-      let q = goes_quiet there st next x g in
-      quiet_count of.instructions st next x at q.0 q.1 place g.done g.made
+  goes_count of branched there st next x at place is =
+      let g : GoesOn u there of st (Some x) next =
+      subst (PlaceMove u there of st (Some x)) is (turn_place u there of st (Some x)) in
+      let y : slice_get of.instructions st.done ≡ Some g.instruction = at ∙ g.is in
+      let q = quiet_one there g.instruction g.quiet in
+      let here : st.made < 1 = subst (λ n. st.made < n) q.1
+      (subst (λ o. StandsAt u o st.made) y place) in
+      let d = before_arrives u of branched st.done g.instruction next.done y (leads_to g) in
+      let m = g.made in
+      omega (arith, d, m, here, q.0, before_next u of.instructions st.done g.instruction y)
 
   -- and where it gives an output
-  pub gives_count : (of : Lane) (there : Variant → Bool) (st next : LaneState) (x : Instruction)
-      (v : Variant) → slice_get of.instructions st.done ≡ Some x
+  pub gives_count : (of : Lane) → IsBranched of.instructions → (there : Variant → Bool)
+      (st next : LaneState) (x : Instruction) (v : Variant)
+      → slice_get of.instructions st.done ≡ Some x
       → InPlace u of.instructions st.done st.made → turn_of u there of st (Some x) ≡ Gives next v
       → (outputs_made u of next ≡ suc (outputs_made u of st))
       × (slice_get (lane_outputs u of) (outputs_made u of st) ≡ Some v)
-  gives_count of there st next x v at place is =
-      let g : GivesOne u st (Some x) next v =
-      subst (PlaceMove u there st (Some x)) is (turn_place u there of st (Some x)) in
+  gives_count of branched there st next x v at place is =
+      let g : GivesOne u of st (Some x) next v =
+      subst (PlaceMove u there of st (Some x)) is (turn_place u there of st (Some x)) in
       let e : x ≡ Publish g.recipe = same_Some _ _ g.is in
       let there_is : slice_get of.instructions st.done ≡ Some (Publish g.recipe) = at ∙ g.is in
       let b = before_next u of.instructions st.done (Publish g.recipe) there_is in
@@ -109,7 +72,8 @@ module _ (u : Universe) where
               omega arith
           | inr last ↦
               let d : before u of.instructions next.done ≡ before u of.instructions (suc st.done) =
-              ap (before u of.instructions) last.1 in
+              before_arrives u of branched st.done (Publish g.recipe) next.done there_is
+              (inl last.1) in
               let m = last.2 in
               let n = last.0 in
               omega arith
@@ -118,47 +82,62 @@ module _ (u : Universe) where
       )
 
 module _ (u : Universe) (p : Plan) (sound : IsSound u p) (l : ℕ) (in_plan : l < length p) where
-  -- what is to show of the instructions that are left: local ones make no output
-  abbrev pub SettlesCount : List Instruction → LaneState → Type 0
-  SettlesCount xs st =
-      InPlace u (lane p l).instructions st.done st.made → drop st.done (lane p l).instructions ≡ xs
-      → outputs_made u (lane p l) (settled u (lane p l) xs st) ≡ outputs_made u (lane p l) st
+  -- what is to show of the instructions that it goes on to: local ones make no output
+  abbrev CountsOn : Bool → List Instruction → LaneState → Type 0
+  CountsOn skips xs st =
+      InPlace u (lane p l).instructions st.done st.made
+      → going_on false (drop st.done (lane p l).instructions) ≡ going_on skips xs
+      → outputs_made u (lane p l) (settled u (lane p l) skips xs st) ≡ outputs_made u (lane p l) st
 
   local_count : (x : Instruction) (xs : List Instruction) (st : LaneState) (turn : Turn)
-      → ((next : LaneState) → SettlesCount xs next)
+      → ((next : LaneState) → CountsOn false xs next) → (IsWhen x → ⊥)
       → InPlace u (lane p l).instructions st.done st.made
-      → drop st.done (lane p l).instructions ≡ x ∷ xs
+      → going_on false (drop st.done (lane p l).instructions) ≡ x ∷ xs
       → turn_of u nothing (lane p l) st (Some x) ≡ turn
-      → outputs_made u (lane p l) (goes_on st turn (λ next. settled u (lane p l) xs next))
+      → outputs_made u (lane p l) (goes_on st turn (λ next. settled u (lane p l) false xs next))
       ≡ outputs_made u (lane p l) st
-  local_count x xs st (Goes next) after place at e =
+  local_count x xs st (Goes next) after plain place at e =
       let of = lane p l in
-      let n = next_of of.instructions st.done x xs at in
-      let g : GoesOn u nothing st (Some x) next =
-      subst (PlaceMove u nothing st (Some x)) e (turn_place u nothing of st (Some x)) in
+      let branched = sound.plan.branched l in_plan in
+      let here : drop st.done of.instructions ≡ x ∷ xs =
+      sym (standing_on of.instructions st.done (place_stands u _ st.made place)) ∙ at in
+      let behind = goes_behind u nothing of st next x plain e in
+      let g : GoesOn u nothing of st (Some x) next =
+      subst (PlaceMove u nothing of st (Some x)) e (turn_place u nothing of st (Some x)) in
       let fresh : InPlace u of.instructions next.done next.made =
       subst (λ k. InPlace u of.instructions next.done k) (sym g.made)
-      (fresh_place u p sound l next.done in_plan) in
-      after next fresh (ap (λ k. drop k of.instructions) g.done ∙ n.1)
-      ∙ goes_count u of nothing st next x n.0 place e
-  local_count x xs st (Gives next v) after place at e = refl
-  local_count x xs st Waits after place at e = refl
-  local_count x xs st Ends after place at e = refl
-  local_count x xs st (Fails trap) after place at e = refl
+      (fresh_place u p sound l next.done in_plan
+      (arrives-stands of branched st.done x next.done (inl behind))) in
+      after next fresh (next_on of st.done next.done x xs here behind)
+      ∙ goes_count u of branched nothing st next x
+      (next_of of.instructions st.done x xs here).0 place e
+  local_count x xs st (Gives next v) after plain place at e = refl
+  local_count x xs st Waits after plain place at e = refl
+  local_count x xs st Ends after plain place at e = refl
+  local_count x xs st (Fails trap) after plain place at e = refl
 
-  pub settled_count : (xs : List Instruction) (st : LaneState) → SettlesCount xs st
-  settled_count [] st place at = refl
-  settled_count (Unpack name wanted ∷ xs) st place at = refl
-  settled_count (Configure members ∷ xs) st place at =
-      local_count (Configure members) xs st _ (λ n. settled_count xs n) place at refl
-  settled_count (Deconfigure members ∷ xs) st place at =
-      local_count (Deconfigure members) xs st _ (λ n. settled_count xs n) place at refl
-  settled_count (Remove members ∷ xs) st place at =
-      local_count (Remove members) xs st _ (λ n. settled_count xs n) place at refl
-  settled_count (Build recipe ∷ xs) st place at =
-      local_count (Build recipe) xs st _ (λ n. settled_count xs n) place at refl
-  settled_count (Publish recipe ∷ xs) st place at = refl
-  settled_count (Wait e ∷ xs) st place at = refl
+  counts_on : (skips : Bool) (xs : List Instruction) (st : LaneState) → CountsOn skips xs st
+  counts_on true [] st place at = refl
+  counts_on true (EndWhen ∷ xs) st place at = counts_on false xs st place at
+  counts_on true (x ∷ xs) st place at = counts_on true xs st place at
+  counts_on false (Otherwise ∷ xs) st place at = counts_on true xs st place at
+  counts_on false (EndWhen ∷ xs) st place at = counts_on false xs st place at
+  counts_on false (Configure members ∷ xs) st place at =
+      local_count (Configure members) xs st _ (λ n. counts_on false xs n) (λ a. a) place at refl
+  counts_on false (Deconfigure members ∷ xs) st place at =
+      local_count (Deconfigure members) xs st _ (λ n. counts_on false xs n) (λ a. a) place at refl
+  counts_on false (Remove members ∷ xs) st place at =
+      local_count (Remove members) xs st _ (λ n. counts_on false xs n) (λ a. a) place at refl
+  counts_on false (Build recipe ∷ xs) st place at =
+      local_count (Build recipe) xs st _ (λ n. counts_on false xs n) (λ a. a) place at refl
+  counts_on false _ st place at = refl
+
+  -- so of the instructions that are left
+  pub settled_count : (xs : List Instruction) (st : LaneState)
+      → InPlace u (lane p l).instructions st.done st.made
+      → drop st.done (lane p l).instructions ≡ xs
+      → outputs_made u (lane p l) (settled u (lane p l) false xs st) ≡ outputs_made u (lane p l) st
+  settled_count xs st place at = counts_on false xs st place (ap (going_on false) at)
 
   -- a lane at its next archive step has made what it had made
   pub ready_count : (w : World) → IsReached u p w

@@ -1,12 +1,12 @@
 -- What holds of the worlds of an annotated plan.
-use Rattle.std.proofs.Common.{◌≡◌, ◌≢◌, ◌⊎◌, ℕ, zero, suc, ◌<◌, ◌≤◌, true, List, [], ◌∷◌, length, drop, Option, Some, None, slice_get, refl, sym, ap, ◌∙◌, subst, arith, get_or-set_same}
+use Rattle.std.proofs.Common.{◌≡◌, ◌≢◌, ◌⊎◌, ℕ, zero, suc, ◌<◌, ◌≤◌, Bool, true, false, List, [], ◌∷◌, length, drop, Option, Some, None, slice_get, refl, sym, ap, ◌∙◌, subst, arith, get_or-set_same}
 use Rattle.std.specs.Prelude.{slice_index_or}
 use Rattle.std.proofs.lemmas.Option.{none-some, same_Some}
 use Rattle.farm_model.specs.declared.types.Trap.{Trap}
 use Rattle.farm_model.specs.Universe.{Universe}
 use Rattle.farm_model.specs.Packages.{has_bit}
 use Rattle.plan_model.specs.declared.instructions.Instruction.{Instruction}
-use Rattle.plan_model.specs.declared.instructions.Instruction.TheVariants.{Unpack, Configure, Deconfigure, Remove, Build, Publish, Wait}
+use Rattle.plan_model.specs.declared.instructions.Instruction.TheVariants.{Configure, Deconfigure, Remove, Build, Otherwise, EndWhen}
 use Rattle.plan_model.specs.Plan.{Plan, lane, instruction_at}
 use Rattle.plan_model.specs.Turn.{LaneState, Turn, Goes, Gives, Waits, Ends, Fails, unless, turn_of}
 use Rattle.plan_model.specs.Run.{no_state, lane_state, outcome}
@@ -18,10 +18,12 @@ use Rattle.plan_model.specs.Sound.{IsSound}
 use Rattle.plan_model.specs.World.{World, world_lane, Shows, nothing, goes_on, settled, is_archive_step}
 use Rattle.plan_model.specs.Foreseen.{IsForeseen, IsWithinBudget}
 use Rattle.farm_laws.proofs.LawsOfPlans.{states_are_foreseen, lanes_are_within_budget}
+use Rattle.farm_laws.proofs.Places.{IsWhen}
 use Rattle.farm_laws.proofs.Whole.{holds_after, never_trapped}
 use Rattle.archive_laws.specs.Shown.{IsReached, with_lane, ready_lane, WorldsAreForeseen, WorldsAreReady}
 use Rattle.archive_laws.proofs.Turns.{turn_in, step_is, turn_shown}
-use Rattle.archive_laws.proofs.Settles.{next_of, IsBlind, blind_turn, local_step, ready_reached}
+use Rattle.archive_laws.proofs.Skips.{going_on}
+use Rattle.archive_laws.proofs.Settles.{next_of, IsBlind, blind_turn, local_step, is_left, ready_reached}
 
 pub worlds_are_foreseen : WorldsAreForeseen
 worlds_are_foreseen u p rows sound annotation w r =
@@ -87,66 +89,81 @@ module _ (u : Universe) (p : Plan) (rows : Rows) (sound : IsSound u p)
 
   -- an instruction of the archive is where the lane stands
   stands_there : (w : World) (x y : Instruction) (xs : List Instruction) → is_archive_step x ≡ true
-      → drop (world_lane w l).done (lane p l).instructions ≡ x ∷ xs
+      → IsReached u p w
+      → going_on false (drop (world_lane w l).done (lane p l).instructions) ≡ x ∷ xs
       → instruction_at p l (world_lane w l).done ≡ Some y → is_archive_step y ≡ true
-  stands_there w x y xs is at e =
+  stands_there w x y xs is r at e =
+      let here = is_left u p sound l in_plan w (x ∷ xs) r at in
       subst (λ z. is_archive_step z ≡ true)
-      (same_Some x y (sym (next_of (lane p l).instructions (world_lane w l).done x xs at).0 ∙ e)) is
+      (same_Some x y (sym (next_of (lane p l).instructions (world_lane w l).done x xs here).0 ∙ e))
+      is
 
   -- what is to show of the instructions that are left
-  abbrev ComesTo : World → List Instruction → Type 0
-  ComesTo w xs =
-      IsReached u p w → drop (world_lane w l).done (lane p l).instructions ≡ xs
-      → (y : Instruction) → instruction_at p l (settled u (lane p l) xs
+  abbrev ComesTo : World → Bool → List Instruction → Type 0
+  ComesTo w skips xs =
+      IsReached u p w
+      → going_on false (drop (world_lane w l).done (lane p l).instructions) ≡ going_on skips xs
+      → (y : Instruction) → instruction_at p l (settled u (lane p l) skips xs
       (world_lane w l)).done ≡ Some y → is_archive_step y ≡ true
 
-  local_comes : (w : World) (x : Instruction) (xs : List Instruction) → ((v : World) → ComesTo v xs)
-      → IsReached u p w → IsBlind u p sound l in_plan w x
-      → drop (world_lane w l).done (lane p l).instructions ≡ x ∷ xs
+  local_comes : (w : World) (x : Instruction) (xs : List Instruction)
+      → ((v : World) → ComesTo v false xs) → IsReached u p w → (IsWhen x → ⊥)
+      → IsBlind u p sound l in_plan w x
+      → going_on false (drop (world_lane w l).done (lane p l).instructions) ≡ x ∷ xs
       → (turn : Turn) → turn_of u nothing (lane p l) (world_lane w l) (Some x) ≡ turn
       → OnlyGoes turn
       → (y : Instruction) → instruction_at p l (goes_on (world_lane w l) turn
-      (λ next. settled u (lane p l) xs next)).done ≡ Some y → is_archive_step y ≡ true
-  local_comes w x xs after r blind at (Goes next) e only y is =
-      let one = local_step u p sound l in_plan w x xs next r blind at e in
+      (λ next. settled u (lane p l) false xs next)).done ≡ Some y → is_archive_step y ≡ true
+  local_comes w x xs after r plain blind at (Goes next) e only y is =
+      let here = is_left u p sound l in_plan w (x ∷ xs) r at in
+      let one = local_step u p sound l in_plan w x xs next r plain blind here e in
       after (with_lane w l next) one.reached one.rest y
-      (subst (λ (st : LaneState). instruction_at p l (settled u (lane p l) xs st).done ≡ Some y)
-      (sym one.stands) is)
-  local_comes w x xs after r blind at (Gives next v) e only y is = absurd only
-  local_comes w x xs after r blind at Waits e only y is = absurd only
-  local_comes w x xs after r blind at Ends e only y is = absurd only
-  local_comes w x xs after r blind at (Fails trap) e only y is =
-      absurd (never_fails w r trap (blind_turn u p sound l in_plan w x xs blind at ∙ e))
+      (subst (λ (st : LaneState). instruction_at p l (settled u (lane p l) false xs st).done
+      ≡ Some y) (sym one.stands) is)
+  local_comes w x xs after r plain blind at (Gives next v) e only y is = absurd only
+  local_comes w x xs after r plain blind at Waits e only y is = absurd only
+  local_comes w x xs after r plain blind at Ends e only y is = absurd only
+  local_comes w x xs after r plain blind at (Fails trap) e only y is =
+      let here = is_left u p sound l in_plan w (x ∷ xs) r at in
+      absurd (never_fails w r trap (blind_turn u p sound l in_plan w x xs blind here ∙ e))
 
-  comes_to : (xs : List Instruction) (w : World) → ComesTo w xs
-  comes_to [] w r at y is =
-      absurd (none-some y (sym (none_left (lane p l).instructions (world_lane w l).done at) ∙ is))
-  comes_to (Unpack name wanted ∷ xs) w r at y is =
-      stands_there w (Unpack name wanted) y xs refl at is
-  comes_to (Configure members ∷ xs) w r at y is =
-      local_comes w (Configure members) xs (λ v. comes_to xs v) r (λ there. refl) at
+  at_end : (w : World) (y : Instruction) → IsReached u p w
+      → going_on false (drop (world_lane w l).done (lane p l).instructions) ≡ []
+      → instruction_at p l (world_lane w l).done ≡ Some y → is_archive_step y ≡ true
+  at_end w y r at is =
+      absurd (none-some y (sym (none_left (lane p l).instructions (world_lane w l).done
+      (is_left u p sound l in_plan w [] r at)) ∙ is))
+
+  comes_to : (skips : Bool) (xs : List Instruction) (w : World) → ComesTo w skips xs
+  comes_to true [] w r at y is = at_end w y r at is
+  comes_to false [] w r at y is = at_end w y r at is
+  comes_to true (EndWhen ∷ xs) w r at y is = comes_to false xs w r at y is
+  comes_to true (x ∷ xs) w r at y is = comes_to true xs w r at y is
+  comes_to false (Otherwise ∷ xs) w r at y is = comes_to true xs w r at y is
+  comes_to false (EndWhen ∷ xs) w r at y is = comes_to false xs w r at y is
+  comes_to false (Configure members ∷ xs) w r at y is =
+      local_comes w (Configure members) xs (λ v. comes_to false xs v) r (λ a. a) (λ there. refl) at
       (turn_of u nothing (lane p l) (world_lane w l) (Some (Configure members))) refl
       (unless_goes _ _) y is
-  comes_to (Deconfigure members ∷ xs) w r at y is =
-      local_comes w (Deconfigure members) xs (λ v. comes_to xs v) r (λ there. refl) at
-      (turn_of u nothing (lane p l) (world_lane w l) (Some (Deconfigure members))) refl
+  comes_to false (Deconfigure members ∷ xs) w r at y is =
+      local_comes w (Deconfigure members) xs (λ v. comes_to false xs v) r (λ a. a) (λ there. refl)
+      at (turn_of u nothing (lane p l) (world_lane w l) (Some (Deconfigure members))) refl
       (unless_goes _ _) y is
-  comes_to (Remove members ∷ xs) w r at y is =
-      local_comes w (Remove members) xs (λ v. comes_to xs v) r (λ there. refl) at
+  comes_to false (Remove members ∷ xs) w r at y is =
+      local_comes w (Remove members) xs (λ v. comes_to false xs v) r (λ a. a) (λ there. refl) at
       (turn_of u nothing (lane p l) (world_lane w l) (Some (Remove members))) refl
       (unless_goes _ _) y is
-  comes_to (Build recipe ∷ xs) w r at y is =
-      local_comes w (Build recipe) xs (λ v. comes_to xs v) r (λ there. refl) at
+  comes_to false (Build recipe ∷ xs) w r at y is =
+      local_comes w (Build recipe) xs (λ v. comes_to false xs v) r (λ a. a) (λ there. refl) at
       (turn_of u nothing (lane p l) (world_lane w l) (Some (Build recipe))) refl
       (unless_goes _ _) y is
-  comes_to (Publish recipe ∷ xs) w r at y is = stands_there w (Publish recipe) y xs refl at is
-  comes_to (Wait e ∷ xs) w r at y is = stands_there w (Wait e) y xs refl at is
+  comes_to false (x ∷ xs) w r at y is = stands_there w x y xs refl r at is
 
 pub worlds_are_ready : WorldsAreReady
 worlds_are_ready u p rows sound annotation w r l lt =
     record {
       at_archive =
-          λ x is. comes_to u p rows sound annotation l lt
+          λ x is. comes_to u p rows sound annotation l lt false
           (drop (world_lane w l).done (lane p l).instructions) w r refl x is;
       no_trap = λ trap e.
           let st = ready_lane u p w l in

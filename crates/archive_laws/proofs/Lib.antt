@@ -1,4 +1,6 @@
 pub mod Turns
+pub mod Stands
+pub mod Skips
 pub mod Settles
 pub mod Recorded
 pub mod Foreseen

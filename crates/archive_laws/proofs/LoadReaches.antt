@@ -11,7 +11,7 @@ use Rattle.farm_model.specs.Packages.{variant, names, variants, word_has, has_bi
 use Rattle.farm_model.specs.Sound.{IsKnown}
 use Rattle.farm_model.proofs.BelowLaws.{some_below-found}
 use Rattle.plan_model.specs.declared.instructions.Instruction.{Instruction}
-use Rattle.plan_model.specs.declared.instructions.Instruction.TheVariants.{Unpack, Configure, Deconfigure, Remove, Build, Publish, Wait}
+use Rattle.plan_model.specs.declared.instructions.Instruction.TheVariants.{Unpack, Wait, When}
 use Rattle.plan_model.specs.Plan.{Lane, Plan, lane, instruction_at}
 use Rattle.plan_model.specs.Sound.{IsSound}
 use Rattle.plan_model.specs.Turn.{LaneState, Turn, Goes, Gives, Waits, Ends, Fails, passes, past, turn_of}
@@ -94,8 +94,8 @@ module _ (u : Universe) (p : Plan) (sound : IsSound u p) (w : World) (r : IsReac
       record {
         reached = goes_there x next at (follows next e);
         made =
-            goes_count u of (seen n (slice_index w.words n)) st next x at
-            (ready_place u p sound l in_plan w r) e
+            goes_count u of (sound.plan.branched l in_plan) (seen n (slice_index w.words n)) st
+            next x at (ready_place u p sound l in_plan w r) e
             ∙ ready_count u p sound l in_plan w r;
       }
   turn_left n x (Gives next v) at follows e = stays_left
@@ -106,6 +106,12 @@ module _ (u : Universe) (p : Plan) (sound : IsSound u p) (w : World) (r : IsReac
   unpack_follows : (n : ℕ) (wanted : Option (Op × List ℕ)) → Follows n (Unpack n wanted)
   unpack_follows n wanted next e =
       (each_word_decides u of st (has_bit w.words)).unpack n wanted
+      (seen n (slice_index w.words n)) (seen_is w.words n)
+      ∙ e
+
+  when_follows : (n : ℕ) (wanted : Option (Op × List ℕ)) → Follows n (When n wanted)
+  when_follows n wanted next e =
+      (each_word_decides u of st (has_bit w.words)).when n wanted
       (seen n (slice_index w.words n)) (seen_is w.words n)
       ∙ e
 
@@ -129,14 +135,17 @@ module _ (u : Universe) (p : Plan) (sound : IsSound u p) (w : World) (r : IsReac
             (unpack_follows n wanted)) refl)
         | inr other ↦ rw other stays_left
       ]
-  load_left n (Some (Configure members)) at = stays_left
-  load_left n (Some (Deconfigure members)) at = stays_left
-  load_left n (Some (Remove members)) at = stays_left
-  load_left n (Some (Build recipe)) at = stays_left
-  load_left n (Some (Publish recipe)) at = stays_left
+  load_left n (Some (When name wanted)) at =
+      elim (cases_Bool (eqb name n)) [
+        | inl here ↦ rw here (turn_left n (When name wanted) _ at
+            (subst (λ k. Follows n (When k wanted)) (sym (eqb-true name n here))
+            (when_follows n wanted)) refl)
+        | inr other ↦ rw other stays_left
+      ]
   load_left n (Some (Wait e)) at =
       turn_left n (Wait e) _ at (wait_follows n e (passes u (seen n (slice_index w.words n)) e) refl)
       refl
+  load_left n _ at = stays_left
 
 -- a load of any name's word leaves the lane in a world that is reached
 pub loads_reach : LoadsReach

@@ -9,7 +9,7 @@ use Rattle.farm_model.specs.Universe.{Universe}
 use Rattle.farm_model.specs.Packages.{variant, names, variants, is_wanted, satisfies_entry}
 use Rattle.farm_model.specs.Sound.{IsKnown}
 use Rattle.farm_model.proofs.BelowLaws.{some_below-at}
-use Rattle.plan_model.specs.Turn.{newest, passes, Goes, Waits, past, unpacks}
+use Rattle.plan_model.specs.Turn.{newest, has_wanted, passes, Goes, Waits, past, past_when, unpacks}
 use Rattle.farm_laws.proofs.Safe.{variants_name}
 use Rattle.archive_laws.specs.Loads.{EachWordDecides}
 
@@ -21,6 +21,16 @@ newest-same u there other name wanted h =
     let word : ◌≡◌ {A = ℕ → Bool} (λ b. there (variant name b)) (λ b. other (variant name b)) =
     λ i b. h b i in
     ap (λ (bits : ℕ → Bool). highest_below (variants u name)
+    (λ b. bits b && is_wanted u wanted (variant name b))) word
+
+wanted-same : (u : Universe) (there other : Variant → Bool) (name : ℕ)
+    (wanted : Option (Op × List ℕ)) → ((b : ℕ) → there (variant name b) ≡ other (variant name b))
+    → has_wanted u there name wanted ≡ has_wanted u other name wanted
+unfolding has_wanted
+wanted-same u there other name wanted h =
+    let word : ◌≡◌ {A = ℕ → Bool} (λ b. there (variant name b)) (λ b. other (variant name b)) =
+    λ i b. h b i in
+    ap (λ (bits : ℕ → Bool). some_below (variants u name)
     (λ b. bits b && is_wanted u wanted (variant name b))) word
 
 passes-by : (u : Universe) (there : Variant → Bool) (entry : Entry) (v : Variant) → IsKnown u v
@@ -39,6 +49,9 @@ each_word_decides u of st there =
       unpack =
           λ name wanted other h. ap (unpacks u of st name)
           (newest-same u there other name wanted h);
+      when =
+          λ name wanted other h. ap (λ holds. Goes (past_when of st holds))
+          (wanted-same u there other name wanted h);
       wait =
           λ entry v known here sat. cond-true (passes u there entry)
           (Goes (past of st 0 st.chroot)) Waits (passes-by u there entry v known here sat);

@@ -1,10 +1,15 @@
 -- The outputs of a list of instructions, in their places.
-use Rattle.std.proofs.Common.{◌≡◌, ℕ, zero, suc, ◌+◌, ◌≤◌, List, [], ◌∷◌, ◌++◌, length, take, Some, slice_get, length-append, ap, ◌∙◌, arith}
+use Rattle.std.proofs.Common.{◌≡◌, ℕ, zero, suc, ◌+◌, ◌≤◌, true, List, [], ◌∷◌, ◌++◌, length, take, Some, slice_get, length-append, refl, ap, ◌∙◌, arith}
 use Rattle.std.specs.List.{flat_map}
+use Rattle.std.proofs.lemmas.Bool.{false≢true}
 use Rattle.farm_model.specs.declared.types.Variant.{Variant}
 use Rattle.farm_model.specs.Universe.{Universe}
 use Rattle.plan_model.specs.declared.instructions.Instruction.{Instruction}
-use Rattle.plan_model.specs.Plan.{outputs_of}
+use Rattle.plan_model.specs.declared.instructions.Instruction.TheVariants.{Publish}
+use Rattle.plan_model.specs.Branches.{IsBranched}
+use Rattle.plan_model.specs.Plan.{Lane, outputs_of}
+use Rattle.farm_laws.proofs.Places.{LeadsTo}
+use Rattle.farm_laws.proofs.Branches.{is_local, arrives}
 
 module _ (u : Universe) where
   -- the outputs of the first so many instructions
@@ -23,6 +28,21 @@ module _ (u : Universe) where
       let l = length-append (outputs_of u y) (flat_map (outputs_of u) (take (suc k) ys)) in
       let m = length-append (outputs_of u y) (flat_map (outputs_of u) (take k ys)) in
       omega (arith, l, m, before_next ys k x e)
+
+  -- a branch has no outputs
+  local_none : (x : Instruction) → is_local x ≡ true → length (outputs_of u x) ≡ 0
+  local_none (Publish r) h = absurd (false≢true h)
+  local_none _ h = refl
+
+  -- so there are as many where an instruction leads to as behind it
+  pub before_arrives : (of : Lane) → IsBranched of.instructions → (k : ℕ) (x : Instruction)
+      (next : ℕ) → slice_get of.instructions k ≡ Some x → LeadsTo of k x next
+      → before of.instructions next ≡ before of.instructions (suc k)
+  before_arrives of branched k x next e place =
+      let is = of.instructions in
+      arrives of branched (λ j. before is j ≡ before is (suc k))
+      (λ j y at local same. omega (arith, before_next is j y at, local_none y local, same))
+      k x next e refl place
 
   pub before_more : (is : List Instruction) (k m : ℕ) → before is k ≤ before is (k + m)
   before_more [] zero zero = omega arith

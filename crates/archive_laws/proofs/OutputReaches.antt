@@ -1,5 +1,5 @@
 -- The next output of a lane leads from a world that is reached to one.
-use Rattle.std.proofs.Common.{◌≡◌, ◌≢◌, ℕ, suc, ◌<◌, length, Option, Some, None, slice_get, refl, sym, ap, subst, ◌∙◌, arith}
+use Rattle.std.proofs.Common.{◌≡◌, ◌≢◌, inl, ℕ, suc, ◌<◌, length, Option, Some, None, slice_get, refl, sym, ap, subst, ◌∙◌, arith}
 use Rattle.std.proofs.lemmas.Option.{slice_get_within, get_or_from_slice_get}
 use Rattle.farm_model.specs.declared.types.Variant.{Variant}
 use Rattle.farm_model.specs.declared.types.Trap.{Trap}
@@ -8,9 +8,9 @@ use Rattle.farm_model.specs.Packages.{outputs, has_bit}
 use Rattle.farm_model.specs.Sound.{IsKnown}
 use Rattle.farm_model.specs.Traps.{first_trap}
 use Rattle.plan_model.specs.declared.instructions.Instruction.{Instruction}
-use Rattle.plan_model.specs.declared.instructions.Instruction.TheVariants.{Unpack, Configure, Deconfigure, Remove, Build, Publish, Wait}
+use Rattle.plan_model.specs.declared.instructions.Instruction.TheVariants.{Publish}
 use Rattle.plan_model.specs.Known.{Rows}
-use Rattle.plan_model.specs.Plan.{Lane, Plan, lane, instruction_at, lane_outputs}
+use Rattle.plan_model.specs.Plan.{Lane, Plan, lane, instruction_at, next_place, lane_outputs}
 use Rattle.plan_model.specs.Safety.{IsAnnotation}
 use Rattle.plan_model.specs.Sound.{IsSound}
 use Rattle.plan_model.specs.Turn.{LaneState, Turn, Gives, Fails, unless, publish_traps, publishes, turn_of}
@@ -20,7 +20,7 @@ use Rattle.archive_laws.specs.Reaching.{with_output, OutputReaches, OutputsReach
 use Rattle.archive_laws.specs.Shown.{IsReached, ready_lane}
 use Rattle.archive_laws.proofs.Counted.{gives_count, ready_count, ready_place}
 use Rattle.archive_laws.proofs.Foreseen.{worlds_are_ready}
-use Rattle.archive_laws.proofs.OutputPlaces.{before_next}
+use Rattle.archive_laws.proofs.OutputPlaces.{before_next, before_arrives}
 use Rattle.archive_laws.proofs.Settles.{each_lane_steps}
 
 -- a turn that meets no trap is the turn itself
@@ -63,7 +63,9 @@ module _ (u : Universe) (p : Plan) (rows : Rows) (sound : IsSound u p)
       let next = behind_output u of st (Some (Publish recipe)) in
       let gives = publish_gives recipe v at out in
       let place = ready_place u p sound l in_plan w r in
-      let counts = gives_count u of (has_bit w.words) st next (Publish recipe) v at place gives in
+      let branched = sound.plan.branched l in_plan in
+      let counts = gives_count u of branched (has_bit w.words) st next (Publish recipe) v at place
+      gives in
       let same = ready_count u p sound l in_plan w r in
       let within = slice_get_within (outputs u recipe) st.made v out in
       record {
@@ -73,6 +75,8 @@ module _ (u : Universe) (p : Plan) (rows : Rows) (sound : IsSound u p)
         output = ap (slice_get (lane_outputs u of)) (sym same) ∙ counts.1;
         there =
             let b = before_next u of.instructions st.done (Publish recipe) at in
+            let d = before_arrives u of branched st.done (Publish recipe) (next_place of st.done) at
+            (inl refl) in
             (omega arith, omega arith);
         known = subst (IsKnown u) (get_or_from_slice_get (outputs u recipe) st.made v v out)
             (sound.universe.outputs_known recipe st.made v within);
@@ -81,13 +85,7 @@ module _ (u : Universe) (p : Plan) (rows : Rows) (sound : IsSound u p)
   output_given : (x : Option Instruction) (v : Variant) → instruction_at p l st.done ≡ x
       → output_of u st.made x ≡ Some v → OutputReaches u p w l v (behind_output u of st x)
   output_given (Some (Publish recipe)) v at out = publish_reaches recipe v at out
-  output_given None v at out = absurd (cc)
-  output_given (Some (Unpack name wanted)) v at out = absurd (cc)
-  output_given (Some (Configure members)) v at out = absurd (cc)
-  output_given (Some (Deconfigure members)) v at out = absurd (cc)
-  output_given (Some (Remove members)) v at out = absurd (cc)
-  output_given (Some (Build recipe)) v at out = absurd (cc)
-  output_given (Some (Wait e)) v at out = absurd (cc)
+  output_given _ v at out = absurd (cc)
 
 -- the next output of a lane leads to a world that is reached
 pub outputs_reach : OutputsReach

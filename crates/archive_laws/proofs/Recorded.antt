@@ -1,9 +1,9 @@
 -- The words are the initial archive and the recorded outputs.
-use Rattle.std.proofs.Common.{◌≡◌, inl, inr, ℕ, suc, ◌+◌, ◌<◌, true, false, ◌||◌, List, [], ◌∷◌, ◌++◌, length, take, drop, Option, Some, None, slice_get, refl, sym, ap, ◌∙◌, arith, take-append-drop}
+use Rattle.std.proofs.Common.{◌≡◌, inl, inr, ℕ, suc, ◌+◌, ◌<◌, true, ◌||◌, List, [], ◌∷◌, ◌++◌, length, take, drop, Option, Some, None, slice_get, refl, sym, ap, ◌∙◌, arith, take-append-drop}
 use Rattle.std.specs.Prelude.{slice_index_or}
 use Rattle.std.specs.List.{list_any, flat_map}
 use Rattle.std.proofs.Math.Seq.{take-append-add}
-use Rattle.std.proofs.lemmas.Bool.{or_cases, or_left, or_right, false≢true}
+use Rattle.std.proofs.lemmas.Bool.{or_cases, or_left, or_right}
 use Rattle.std.proofs.lemmas.Grind.{flat_map-append}
 use Rattle.std.proofs.lemmas.List.{take-append-le}
 use Rattle.std.proofs.lemmas.List.Folds.{list_any-append}
@@ -14,18 +14,19 @@ use Rattle.farm_model.specs.Universe.{Universe}
 use Rattle.farm_model.specs.Packages.{same, contains, initial, outputs}
 use Rattle.farm_model.proofs.BelowLaws.{some_below-at, some_below-found}
 use Rattle.plan_model.specs.declared.instructions.Instruction.{Instruction}
-use Rattle.plan_model.specs.declared.instructions.Instruction.TheVariants.{Unpack, Configure, Deconfigure, Remove, Build, Publish, Wait}
-use Rattle.plan_model.specs.Plan.{Lane, Plan, lane, outputs_of, events_of, lane_outputs}
+use Rattle.plan_model.specs.declared.instructions.Instruction.TheVariants.{Publish, Otherwise, EndWhen}
+use Rattle.plan_model.specs.Plan.{Lane, lane, outputs_of, events_of, lane_outputs}
 use Rattle.plan_model.specs.Turn.{LaneState}
-use Rattle.plan_model.specs.Run.{archive, State, start, lane_state, no_state}
-use Rattle.plan_model.specs.Known.{gives, publishing, Rows, KeepsRows}
+use Rattle.plan_model.specs.Run.{archive, State, lane_state, no_state}
+use Rattle.plan_model.specs.Known.{gives, publishing}
 use Rattle.plan_model.specs.World.{world_lane}
-use Rattle.farm_laws.proofs.Steps.{run_keeps}
-use Rattle.farm_laws.proofs.EventsLeft.{drop_some, StandsAt, InPlace}
+use Rattle.farm_laws.proofs.Branches.{drop_some}
+use Rattle.farm_laws.proofs.EventsLeft.{StandsAt, InPlace}
 use Rattle.farm_laws.proofs.Archive.{made_before, made_by}
 use Rattle.farm_laws.proofs.Possible.{made_in, initial_there}
-use Rattle.farm_laws.proofs.KnownRows.{ArchiveHolds, archive_stays, archive_at_start}
+use Rattle.farm_laws.proofs.KnownRows.{ArchiveHolds}
 use Rattle.archive_laws.specs.Shown.{recorded, WordsAreRecorded}
+use Rattle.archive_laws.proofs.Stands.{no_rows, no_rows_keep, holds_in}
 
 -- what some instruction of a list gives is among the outputs of the list
 gives-outputs : (u : Universe) (v : Variant) (xs : List Instruction)
@@ -39,12 +40,9 @@ gives-outputs u v (x ∷ xs) =
 first_made : (u : Universe) (x : Instruction) (made : ℕ) (rest : List Variant)
     → made < events_of u x → take made (outputs_of u x ++ rest) ≡ take made (outputs_of u x)
 first_made u (Publish r) made rest lt = take-append-le made (outputs u r) rest (omega arith)
-first_made u (Unpack name wanted) made rest lt = let e : made ≡ 0 = omega arith in rw e refl
-first_made u (Configure members) made rest lt = let e : made ≡ 0 = omega arith in rw e refl
-first_made u (Deconfigure members) made rest lt = let e : made ≡ 0 = omega arith in rw e refl
-first_made u (Remove members) made rest lt = let e : made ≡ 0 = omega arith in rw e refl
-first_made u (Build r) made rest lt = let e : made ≡ 0 = omega arith in rw e refl
-first_made u (Wait entry) made rest lt = let e : made ≡ 0 = omega arith in rw e refl
+first_made u Otherwise made rest lt = absurd (omega (arith, lt))
+first_made u EndWhen made rest lt = absurd (omega (arith, lt))
+first_made u _ made rest lt = let e : made ≡ 0 = omega arith in rw e refl
 
 now_made : (u : Universe) (v : Variant) (is : List Instruction) (done made : ℕ)
     (o : Option Instruction) → slice_get is done ≡ o → StandsAt u o made
@@ -79,18 +77,6 @@ made_by-recorded u v of st place =
     (slice_get of.instructions st.done) refl place))
     ∙ sym all
 
--- rows that know nothing keep to the inclusions
-abbrev no_rows : Rows
-no_rows l i v = false
-
-no_rows_keep : (u : Universe) (p : Plan) → KeepsRows u p no_rows
-no_rows_keep u p =
-    record {
-      at_start = λ l v lt e. absurd (false≢true e);
-      after = λ l i x v lt at e. absurd
-          (false≢true e);
-    }
-
 pub words_are_recorded : WordsAreRecorded
 words_are_recorded u p sound w r v = sym (r.shown.2.archive_is v) ∙ same_tests _ _ to from
   where
@@ -98,10 +84,7 @@ words_are_recorded u p sound w r v = sym (r.shown.2.archive_is v) ∙ same_tests
     s = r.shown.0
 
     holds : ArchiveHolds u p no_rows (no_rows_keep u p) s
-    holds =
-        run_keeps u p (ArchiveHolds u p no_rows (no_rows_keep u p))
-        (λ a b l h e. archive_stays u p no_rows (no_rows_keep u p) sound a b l h e) r.shown.1.0
-        (start u p) s r.shown.1.1 (archive_at_start u p no_rows (no_rows_keep u p) sound)
+    holds = holds_in u p sound w r
 
     lane_is : (l : ℕ) → lane_state s l ≡ world_lane w l
     lane_is l = ap (λ (xs : List LaneState). slice_index_or xs l no_state) r.shown.2.lanes

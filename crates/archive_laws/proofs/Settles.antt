@@ -1,30 +1,24 @@
 -- A lane's local instructions and then its archive step.
-use Rattle.std.proofs.Common.{◌≡◌, ◌≢◌, ℕ, zero, suc, ◌<◌, Bool, true, List, [], ◌∷◌, length, drop, Some, slice_get, slice_set, refl, sym, ap, ◌∙◌, subst, arith, get_or-set_same, get_or-set_other}
+use Rattle.std.proofs.Common.{◌≡◌, ◌≢◌, ℕ, ◌<◌, Bool, true, false, List, [], ◌∷◌, length, drop, Some, slice_set, refl, sym, ap, ◌∙◌, subst, arith, get_or-set_same, get_or-set_other}
 use Rattle.std.proofs.lemmas.List.{set-set, set-get_or}
 use Rattle.std.proofs.lemmas.Option.{none-some, same_Some}
 use Rattle.farm_model.specs.declared.types.Variant.{Variant}
 use Rattle.farm_model.specs.Universe.{Universe}
 use Rattle.farm_model.specs.Packages.{has_bit}
 use Rattle.plan_model.specs.declared.instructions.Instruction.{Instruction}
-use Rattle.plan_model.specs.declared.instructions.Instruction.TheVariants.{Unpack, Configure, Deconfigure, Remove, Build, Publish, Wait}
-use Rattle.plan_model.specs.Plan.{Plan, lane, instruction_at}
+use Rattle.plan_model.specs.declared.instructions.Instruction.TheVariants.{Configure, Deconfigure, Remove, Build, Otherwise, EndWhen}
+use Rattle.plan_model.specs.Plan.{Plan, lane}
 use Rattle.plan_model.specs.Turn.{LaneState, Turn, Goes, Gives, Waits, Ends, Fails, turn_of}
 use Rattle.plan_model.specs.Run.{no_state}
 use Rattle.plan_model.specs.Sound.{IsSound}
 use Rattle.plan_model.specs.World.{World, world_lane, goes_on, nothing, settled, with_bit, world_after, archive_step}
-use Rattle.farm_laws.proofs.Places.{GoesOn}
+use Rattle.farm_laws.proofs.Places.{IsWhen}
 use Rattle.archive_laws.specs.Shown.{IsReached, with_lane, ready_lane, EachLaneSteps}
 use Rattle.plan_model.proofs.WordLaws.{with_bit-keeps}
-use Rattle.archive_laws.proofs.Turns.{turn_in, place_of, moves}
-
--- the next of the instructions that are left
-pub next_of : {X : Type 0} (xs : List X) (i : ℕ) (x : X) (rest : List X) → drop i xs ≡ x ∷ rest
-    → (slice_get xs i ≡ Some x) × (drop (suc i) xs ≡ rest)
-next_of [] zero x rest e = absurd (cc)
-next_of [] (suc i) x rest e = absurd (cc)
-next_of (y ∷ ys) zero x rest e =
-    let a : y ≡ x = cc in let b : ys ≡ rest = cc in (ap (λ z. Some z) a, b)
-next_of (y ∷ ys) (suc i) x rest e = next_of ys i x rest e
+use Rattle.archive_laws.proofs.Turns.{turn_in, moves}
+use Rattle.archive_laws.proofs.Stands.{stands_in}
+use Rattle.archive_laws.proofs.Skips.{going_on, standing_on, next_on, goes_behind}
+pub use Rattle.archive_laws.proofs.Skips.{next_of}
 
 -- the lane itself, written where it stands
 pub stays : (u : Universe) (p : Plan) (w : World) (l : ℕ) → IsReached u p w
@@ -38,7 +32,8 @@ module _ (u : Universe) (p : Plan) (sound : IsSound u p) (l : ℕ) (in_plan : l 
   pub record LocalStep (w : World) (xs : List Instruction) (next : LaneState) : Type 0 where
     pub reached : IsReached u p (with_lane w l next)
     pub stands : world_lane (with_lane w l next) l ≡ next
-    pub rest : drop (world_lane (with_lane w l next) l).done (lane p l).instructions ≡ xs
+    pub rest : going_on false (drop (world_lane (with_lane w l next) l).done
+        (lane p l).instructions) ≡ going_on false xs
 
   -- the turn of such an instruction does not look at the archive
   abbrev pub IsBlind : World → Instruction → Type 0
@@ -57,70 +52,81 @@ module _ (u : Universe) (p : Plan) (sound : IsSound u p) (l : ℕ) (in_plan : l 
       ∙ blind (has_bit w.words)
 
   pub local_step : (w : World) (x : Instruction) (xs : List Instruction) (next : LaneState)
-      → IsReached u p w → IsBlind w x → drop (world_lane w l).done (lane p l).instructions ≡ x ∷ xs
+      → IsReached u p w → (IsWhen x → ⊥) → IsBlind w x
+      → drop (world_lane w l).done (lane p l).instructions ≡ x ∷ xs
       → turn_of u nothing (lane p l) (world_lane w l) (Some x) ≡ Goes next → LocalStep w xs next
-  local_step w x xs next r blind at e =
+  local_step w x xs next r plain blind at e =
       let is : turn_in u p l (has_bit w.words) (world_lane w l) ≡ Goes next =
       blind_turn w x xs blind at ∙ e in
       let stands : world_lane (with_lane w l next) l ≡ next =
       get_or-set_same w.lanes l next no_state (omega (arith, r.lanes, in_plan)) in
-      let on : GoesOn u (has_bit w.words) (world_lane w l)
-      (instruction_at p l (world_lane w l).done) next =
-      place_of u p w l (Goes next) is in
       record {
         reached = moves u p sound w (with_lane w l next) l (Goes next) in_plan r is refl;
         stands = stands;
         rest =
-            ap (λ (st : LaneState). drop st.done (lane p l).instructions) stands
-            ∙ ap (λ k. drop k (lane p l).instructions) on.done
-            ∙ (next_of (lane p l).instructions (world_lane w l).done x xs at).1;
+            ap (λ (st : LaneState). going_on false (drop st.done (lane p l).instructions)) stands
+            ∙ next_on (lane p l) (world_lane w l).done next.done x xs at
+            (goes_behind u nothing (lane p l) (world_lane w l) next x plain e);
       }
 
   -- what is left to show of the instructions after it
-  abbrev Settles : World → List Instruction → Type 0
-  Settles w xs =
-      IsReached u p w → drop (world_lane w l).done (lane p l).instructions ≡ xs
-      → IsReached u p (with_lane w l (settled u (lane p l) xs (world_lane w l)))
+  abbrev Settles : World → Bool → List Instruction → Type 0
+  Settles w skips xs =
+      IsReached u p w
+      → going_on false (drop (world_lane w l).done (lane p l).instructions) ≡ going_on skips xs
+      → IsReached u p (with_lane w l (settled u (lane p l) skips xs (world_lane w l)))
+
+  -- a lane stands at an instruction that it goes on to
+  pub is_left : (w : World) (xs : List Instruction) → IsReached u p w
+      → going_on false (drop (world_lane w l).done (lane p l).instructions) ≡ xs
+      → drop (world_lane w l).done (lane p l).instructions ≡ xs
+  is_left w xs r at =
+      sym (standing_on (lane p l).instructions (world_lane w l).done
+      (stands_in u p sound w r l in_plan))
+      ∙ at
 
   local_settles : (w : World) (x : Instruction) (xs : List Instruction)
-      → ((v : World) → Settles v xs) → IsReached u p w → IsBlind w x
-      → drop (world_lane w l).done (lane p l).instructions ≡ x ∷ xs
+      → ((v : World) → Settles v false xs) → IsReached u p w → (IsWhen x → ⊥) → IsBlind w x
+      → going_on false (drop (world_lane w l).done (lane p l).instructions) ≡ x ∷ xs
       → (turn : Turn) → turn_of u nothing (lane p l) (world_lane w l) (Some x) ≡ turn
       → IsReached u p (with_lane w l
-      (goes_on (world_lane w l) turn (λ next. settled u (lane p l) xs next)))
-  local_settles w x xs after r blind at (Goes next) e =
-      let one = local_step w x xs next r blind at e in
+      (goes_on (world_lane w l) turn (λ next. settled u (lane p l) false xs next)))
+  local_settles w x xs after r plain blind at (Goes next) e =
+      let one = local_step w x xs next r plain blind (is_left w (x ∷ xs) r at) e in
       let end = after (with_lane w l next) one.reached one.rest in
       subst (λ (ys : List LaneState). IsReached u p (record { words = w.words; lanes = ys }))
-      (set-set w.lanes l next (settled u (lane p l) xs (world_lane (with_lane w l next) l))
-      ∙ ap (λ (st : LaneState). slice_set w.lanes l (settled u (lane p l) xs st)) one.stands)
+      (set-set w.lanes l next (settled u (lane p l) false xs (world_lane (with_lane w l next) l))
+      ∙ ap (λ (st : LaneState). slice_set w.lanes l (settled u (lane p l) false xs st))
+      one.stands)
       end
-  local_settles w x xs after r blind at (Gives next v) e = stays u p w l r
-  local_settles w x xs after r blind at Waits e = stays u p w l r
-  local_settles w x xs after r blind at Ends e = stays u p w l r
-  local_settles w x xs after r blind at (Fails trap) e = stays u p w l r
+  local_settles w x xs after r plain blind at (Gives next v) e = stays u p w l r
+  local_settles w x xs after r plain blind at Waits e = stays u p w l r
+  local_settles w x xs after r plain blind at Ends e = stays u p w l r
+  local_settles w x xs after r plain blind at (Fails trap) e = stays u p w l r
 
-  settles : (xs : List Instruction) (w : World) → Settles w xs
-  settles [] w r at = stays u p w l r
-  settles (Unpack name wanted ∷ xs) w r at = stays u p w l r
-  settles (Configure members ∷ xs) w r at =
-      local_settles w (Configure members) xs (λ v. settles xs v) r (λ there. refl) at
+  settles : (skips : Bool) (xs : List Instruction) (w : World) → Settles w skips xs
+  settles true [] w r at = stays u p w l r
+  settles true (EndWhen ∷ xs) w r at = settles false xs w r at
+  settles true (x ∷ xs) w r at = settles true xs w r at
+  settles false (Otherwise ∷ xs) w r at = settles true xs w r at
+  settles false (EndWhen ∷ xs) w r at = settles false xs w r at
+  settles false (Configure members ∷ xs) w r at =
+      local_settles w (Configure members) xs (λ v. settles false xs v) r (λ a. a) (λ there. refl) at
       (turn_of u nothing (lane p l) (world_lane w l) (Some (Configure members))) refl
-  settles (Deconfigure members ∷ xs) w r at =
-      local_settles w (Deconfigure members) xs (λ v. settles xs v) r (λ there. refl) at
-      (turn_of u nothing (lane p l) (world_lane w l) (Some (Deconfigure members))) refl
-  settles (Remove members ∷ xs) w r at =
-      local_settles w (Remove members) xs (λ v. settles xs v) r (λ there. refl) at
+  settles false (Deconfigure members ∷ xs) w r at =
+      local_settles w (Deconfigure members) xs (λ v. settles false xs v) r (λ a. a) (λ there. refl)
+      at (turn_of u nothing (lane p l) (world_lane w l) (Some (Deconfigure members))) refl
+  settles false (Remove members ∷ xs) w r at =
+      local_settles w (Remove members) xs (λ v. settles false xs v) r (λ a. a) (λ there. refl) at
       (turn_of u nothing (lane p l) (world_lane w l) (Some (Remove members))) refl
-  settles (Build recipe ∷ xs) w r at =
-      local_settles w (Build recipe) xs (λ v. settles xs v) r (λ there. refl) at
+  settles false (Build recipe ∷ xs) w r at =
+      local_settles w (Build recipe) xs (λ v. settles false xs v) r (λ a. a) (λ there. refl) at
       (turn_of u nothing (lane p l) (world_lane w l) (Some (Build recipe))) refl
-  settles (Publish recipe ∷ xs) w r at = stays u p w l r
-  settles (Wait e ∷ xs) w r at = stays u p w l r
+  settles false _ w r at = stays u p w l r
 
   pub ready_reached : (w : World) → IsReached u p w
       → IsReached u p (with_lane w l (ready_lane u p w l))
-  ready_reached w r = settles (drop (world_lane w l).done (lane p l).instructions) w r refl
+  ready_reached w r = settles false (drop (world_lane w l).done (lane p l).instructions) w r refl
 
 -- a turn of a lane that is written anew changes the world as it was
 after_again : (w : World) (l : ℕ) (st : LaneState) (turn : Turn)

@@ -10,7 +10,7 @@ use Rattle.farm_model.specs.Universe.{Universe}
 use Rattle.farm_model.specs.Packages.{names, same, outputs, initial, has_bit}
 use Rattle.farm_model.specs.Sound.{IsKnown}
 use Rattle.plan_model.specs.declared.instructions.Instruction.{Instruction}
-use Rattle.plan_model.specs.Plan.{Plan, lane, instruction_at}
+use Rattle.plan_model.specs.Plan.{Lane, Plan, lane, instruction_at}
 use Rattle.plan_model.specs.Turn.{LaneState, start_lane, Turn, Goes, Gives, Waits, Ends, Fails, turn_of}
 use Rattle.plan_model.specs.Run.{archive, State, start, no_state, lane_state, Moved, Unknown, outcome, step, Run, Reachable}
 use Rattle.plan_model.specs.Sound.{IsSound}
@@ -53,18 +53,19 @@ turn_shown u p w s l sh =
 -- how the lane has gone on
 pub place_of : (u : Universe) (p : Plan) (w : World) (l : ℕ) (turn : Turn)
     → turn_in u p l (has_bit w.words) (world_lane w l) ≡ turn
-    → PlaceMove u (has_bit w.words) (world_lane w l) (instruction_at p l (world_lane w l).done) turn
+    → PlaceMove u (has_bit w.words) (lane p l) (world_lane w l)
+    (instruction_at p l (world_lane w l).done) turn
 place_of u p w l turn is =
-    subst (PlaceMove u (has_bit w.words) (world_lane w l)
+    subst (PlaceMove u (has_bit w.words) (lane p l) (world_lane w l)
     (instruction_at p l (world_lane w l).done)) is
     (turn_place u (has_bit w.words) (lane p l) (world_lane w l)
     (instruction_at p l (world_lane w l).done))
 
 -- an output has a word
 output_within : (u : Universe) (p : Plan) → IsSound u p
-    → (st next : LaneState) (x : Option Instruction) (v : Variant) → GivesOne u st x next v
-    → v.name < names u
-output_within u p sound st next x v g =
+    → (of : Lane) (st next : LaneState) (x : Option Instruction) (v : Variant)
+    → GivesOne u of st x next v → v.name < names u
+output_within u p sound of st next x v g =
     let known : IsKnown u v =
     subst (IsKnown u) (get_or_from_slice_get (outputs u g.recipe) st.made v v g.output)
     (sound.universe.outputs_known g.recipe st.made v
@@ -101,7 +102,8 @@ module _ (u : Universe) (p : Plan) (sound : IsSound u p) where
       let moved : step u p s l ≡ Moved (put_output s l st v) =
       step_is u p s l lt ∙ ap (outcome s l) (turn_shown u p w s l sh ∙ is) in
       let within : v.name < names u =
-      output_within u p sound (world_lane w l) st (instruction_at p l (world_lane w l).done) v
+      output_within u p sound (lane p l) (world_lane w l) st
+      (instruction_at p l (world_lane w l).done) v
       (place_of u p w l (Gives st v) is) in
       let after : World = record { words = with_bit w.words v; lanes = slice_set w.lanes l st } in
       subst (IsReached u p) (same_Some after next e)

@@ -10,7 +10,7 @@ use Rattle.farm_model.specs.declared.types.Variant.{Variant}
 use Rattle.farm_model.specs.Universe.{Universe}
 use Rattle.farm_model.specs.Packages.{outputs, word_has}
 use Rattle.plan_model.specs.declared.instructions.Instruction.{Instruction}
-use Rattle.plan_model.specs.declared.instructions.Instruction.TheVariants.{Unpack, Publish, Wait}
+use Rattle.plan_model.specs.declared.instructions.Instruction.TheVariants.{Unpack, Publish, Wait, When}
 use Rattle.plan_model.specs.Plan.{Lane, next_place, outputs_before, publish_cost}
 use Rattle.plan_model.specs.Turn.{LaneState, turn_of, given, first_only}
 use Rattle.plan_model.specs.World.{goes_on}
@@ -28,13 +28,17 @@ IsOutputOf u of i j =
 abbrev pub seen : ℕ → ℕ → Variant → Bool
 seen n found v = (v.name == n) && word_has found v.bit
 
--- the lane after a load of a name's word: behind an unpack of that name, or behind a wait that the
--- word satisfies; else where it was
+-- the lane after a load of a name's word: behind an unpack of that name, in the branch that a
+-- `when` of that name takes, or behind a wait that the word satisfies; else where it was
 abbrev pub moved_by : Universe → Lane → ℕ → ℕ → LaneState → LaneState → Option Instruction
     → LaneState
 moved_by u of n found old st (Some (Unpack name wanted)) =
     if name == n
     then goes_on old (turn_of u (seen n found) of st (Some (Unpack name wanted))) (λ next. next)
+    else old
+moved_by u of n found old st (Some (When name wanted)) =
+    if name == n
+    then goes_on old (turn_of u (seen n found) of st (Some (When name wanted))) (λ next. next)
     else old
 moved_by u of n found old st (Some (Wait e)) =
     goes_on old (turn_of u (seen n found) of st (Some (Wait e))) (λ next. next)

@@ -1,5 +1,5 @@
--- What one word of the archive decides: an unpack looks at the word of its name alone, and a wait
--- passes on any one word. The project's own rules.
+-- What one word of the archive decides: an unpack and a `when` look at the word of their name
+-- alone, and a wait passes on any one word. The project's own rules.
 use Rattle.std.specs.Prelude.{◌≡◌, ℕ, Bool, true, List, Option, Some}
 use Rattle.deb_relation.specs.declared.operator.Op.{Op}
 use Rattle.deb_relation.specs.Relations.{Entry}
@@ -7,7 +7,7 @@ use Rattle.farm_model.specs.declared.types.Variant.{Variant}
 use Rattle.farm_model.specs.Universe.{Universe}
 use Rattle.farm_model.specs.Packages.{variant, satisfies_entry}
 use Rattle.farm_model.specs.Sound.{IsKnown}
-use Rattle.plan_model.specs.declared.instructions.Instruction.TheVariants.{Unpack, Wait}
+use Rattle.plan_model.specs.declared.instructions.Instruction.TheVariants.{Unpack, Wait, When}
 use Rattle.plan_model.specs.Plan.{Lane}
 use Rattle.plan_model.specs.Turn.{LaneState, Goes, past, turn_of}
 
@@ -19,6 +19,11 @@ pub record OneWordDecides (u : Universe) (of : Lane) (st : LaneState)
       → ((b : ℕ) → there (variant name b) ≡ other (variant name b))
       → turn_of u there of st (Some (Unpack name wanted)) ≡ turn_of u other of st
       (Some (Unpack name wanted))
+  -- so does a `when`;
+  pub when : (name : ℕ) (wanted : Option (Op × List ℕ)) (other : Variant → Bool)
+      → ((b : ℕ) → there (variant name b) ≡ other (variant name b))
+      → turn_of u there of st (Some (When name wanted)) ≡ turn_of u other of st
+      (Some (When name wanted))
   -- a wait passes where one variant that is there satisfies it.
   pub wait : (entry : Entry) (v : Variant) → IsKnown u v → there v ≡ true
       → satisfies_entry u entry v ≡ true

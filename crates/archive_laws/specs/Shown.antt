@@ -62,9 +62,9 @@ EachLaneSteps =
 pub record StandsAfterSteps (u : Universe) (p : Plan) : Type 0 where
   -- so it is at the start;
   pub start : IsAfterSteps p (start_world u p)
-  -- and archive steps keep it, for every lane.
-  pub kept : (w next : World) (l : ℕ) → IsAfterSteps p w → archive_step u p w l ≡ Some next
-      → IsAfterSteps p next
+  -- and archive steps keep it, for every lane, in a world that is reached.
+  pub kept : IsSound u p → (w next : World) (l : ℕ) → IsReached u p w → IsAfterSteps p w
+      → archive_step u p w l ≡ Some next → IsAfterSteps p next
 
 abbrev pub LanesStandAfterSteps : Type 0
 LanesStandAfterSteps = (u : Universe) (p : Plan) → StandsAfterSteps u p

@@ -16,13 +16,13 @@ pub fn one_archive_step()
     ensures { EachLaneSteps }
 {}
 
-/// At the start each lane stands at its beginning, and archive steps leave each lane there, just
-/// after its last archive step, or inside a publish.
+/// At the start each lane stands at its beginning, and archive steps from a world that shows a
+/// reachable state leave each lane there, just after its last archive step, or inside a publish.
 pub fn lanes_stand_after_steps()
     ensures { LanesStandAfterSteps }
 {}
 
-/// An unpack looks at the word of its name alone, and a wait passes on any one word.
+/// An unpack and a `when` look at the word of their name alone, and a wait passes on any one word.
 pub fn each_word_decides()
     ensures { EachWordDecides }
 {}
@@ -47,7 +47,8 @@ pub fn worlds_are_ready()
 {}
 
 /// A load of any name's word leaves its lane in a world that shows a reachable state: behind its
-/// unpack of that name, behind its wait that the word satisfies, or where it was.
+/// unpack of that name, in the branch that its `when` of that name takes, behind its wait that the
+/// word satisfies, or where it was.
 pub fn loads_reach()
     ensures { LoadsReach }
 {}

@@ -18,7 +18,7 @@ count-numbered n (x ∷ xs) =
     ∙ ap (λ k. cond (learns x) 1 0 + k) (count-numbered (n + 1) xs)
     ∙ sym (sum_by-cons (λ (y : Instruction). cond (learns y) 1 0) x xs)
 
--- as many places as waits and publishes
+-- as many places as instructions that teach
 pub length-places : (of : Lane) → length (row_places of) ≡ count_rows of
 length-places of =
     length-map (filter (λ (x : ℕ × Instruction). learns x.1) (enumerate_from 1 of.instructions))

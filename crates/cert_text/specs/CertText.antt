@@ -1,8 +1,8 @@
 -- The certificate that a text stands for, or its first fault (the project's own format): the lines
--- that are neither blank nor comments are `cert 1`, one line for the row behind each wait and publish
--- of each lane in order, and the items of the order. A missing line is told at the line that stands
--- in its place, or one past the last line. Parameters: u the universe, p the plan, end the number of
--- the line past the last.
+-- that are neither blank nor comments are `cert 1`, one line for the row behind each wait, publish
+-- and `when` of each lane in order, and the items of the order. A missing line is told at the line
+-- that stands in its place, or one past the last line. Parameters: u the universe, p the plan, end
+-- the number of the line past the last.
 --
 --   rows_in u end name places ls     the rows of a lane, by the first lines
 --   certificate_of u p text          the certificate of a text, or its first fault

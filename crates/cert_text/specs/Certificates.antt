@@ -14,8 +14,8 @@ use Rattle.plan_model.specs.declared.instructions.Instruction.{Instruction}
 use Rattle.plan_model.specs.Known.{teaches}
 use Rattle.plan_model.specs.Plan.{Plan, Lane, lane}
 
--- by lane a row of words behind each wait and publish, and lanes by number, one for each wait
--- passed and each output
+-- by lane a row of words behind each wait, publish and `when`, and lanes by number, one for each
+-- wait passed and each output
 pub record Certificate : Type 0 where
   pub rows : List (List (List ℕ))
   pub order : List ℕ
@@ -46,7 +46,7 @@ pub record IsNewRow (u : Universe) (row : List ℕ) : Type 0 where
   pub known : (n b : ℕ) → variants_of row n b ≡ true → b < variants u n
   pub new : (n b : ℕ) → variants_of row n b ≡ true → initial u (variant n b) ≡ false
 
--- a row behind each wait and publish, and lanes of the plan in the order
+-- a row behind each wait, publish and `when`, and lanes of the plan in the order
 pub record IsCertificate (u : Universe) (p : Plan) (c : Certificate) : Type 0 where
   pub lanes : length c.rows ≡ length p
   pub counts : (l : ℕ) → l < length p → length (lane_rows c l) ≡ count_rows (lane p l)

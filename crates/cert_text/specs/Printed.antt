@@ -1,6 +1,7 @@
--- The text of a certificate (the project's own format): `cert 1`; for each lane and each of its waits
--- and publishes a line `known LANE NUMBER: NAME (= VERSION), ..`, NUMBER being the instruction's and
--- versions as the packages text spells them; for each item of the order a line `order LANE`.
+-- The text of a certificate (the project's own format): `cert 1`; for each lane and each of its
+-- waits, publishes and `when`s a line `known LANE NUMBER: NAME (= VERSION), ..`, NUMBER being the
+-- instruction's and versions as the packages text spells them; for each item of the order a line
+-- `order LANE`.
 --
 --   list_text u vs                variants as the end of a line
 --   certificate_text u p c        the text of a certificate

@@ -27,8 +27,8 @@ impl Model for Certificate {
 }
 
 impl Certificate {
-    /// Makes a certificate of the rows of each lane, one behind each wait and publish without the
-    /// initial archive, and the order of lanes.
+    /// Makes a certificate of the rows of each lane, one behind each wait, publish and
+    /// `when` without the initial archive, and the order of lanes.
     pub fn new(rows: Vec<Vec<Row>>, order: Vec<u32>) -> Certificate
         ensures { result ≡ record { rows = lists rows.items; order = order.items } }
     {
@@ -42,8 +42,8 @@ impl Certificate {
         self.rows.len()
     }
 
-    /// The rows of a lane: what it knows behind each wait and publish, in order, without the
-    /// initial archive.
+    /// The rows of a lane: what it knows behind each wait and publish, and in the first branch
+    /// of each `when`, in order, without the initial archive.
     pub fn lane_rows(&self, lane: usize) -> &[Row]
         requires { lane < length self.now.rows }
         ensures { result.now ≡ lane_rows self.now lane }

@@ -20,6 +20,9 @@ pub const UNSAFE: u16 = 453;
 /// The list of lanes is no order of the waits and outputs.
 pub const BAD_ORDER: u16 = 454;
 
+/// Branches leave some name in different phases, as far as the rows tell.
+pub const UNEVEN: u16 = 455;
+
 /// Why a certificate is refused. Lanes count from 0; lines, instructions and items from 1.
 #[derive(Clone, Copy, Debug, PartialEq, Eq, Error)]
 pub enum CertFault {
@@ -41,6 +44,12 @@ pub enum CertFault {
         instruction: u32,
         trap: Trap,
     },
+    /// The branches of this `when` leave some name in different phases.
+    #[error("the branches of instruction {instruction} of lane {lane} end in different phases")]
+    Uneven {
+        lane: u32,
+        instruction: u32,
+    },
     /// This item of the order cannot step, or is missing.
     #[error("item {item} of the order cannot step")]
     Order {
@@ -60,6 +69,7 @@ impl CertFault {
             CertFault::Text { .. } => BAD_TEXT,
             CertFault::Row { .. } => NOT_JUSTIFIED,
             CertFault::Unsafe { .. } => UNSAFE,
+            CertFault::Uneven { .. } => UNEVEN,
             CertFault::Order { .. } => BAD_ORDER,
             CertFault::Memory => MEMORY,
         }

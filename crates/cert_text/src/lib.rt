@@ -12,6 +12,6 @@ mod reader;
 
 pub use certificate::Certificate;
 pub use farm_model::Trap;
-pub use fault::{BAD_ORDER, BAD_TEXT, CertFault, NOT_JUSTIFIED, UNSAFE};
+pub use fault::{BAD_ORDER, BAD_TEXT, CertFault, NOT_JUSTIFIED, UNEVEN, UNSAFE};
 pub use printer::print;
 pub use reader::read;

@@ -155,10 +155,10 @@ fn push_order(text: &mut Vec<u8>, plan: &Plan, order: &[u32]) -> Result<(), Allo
 }
 
 /// Prints the certificate of a plan that was read over this universe: `cert 1`; for each lane and
-/// each of its waits and publishes a line `known LANE NUMBER: NAME (= VERSION), ..` by name number
-/// and version, NUMBER being the instruction's; then `order LANE` for each item of the order. A
-/// lane that knows nothing more there has a line that ends at its colon. Versions stand as the
-/// packages text spells them.
+/// each of its waits, publishes and `when`s a line `known LANE NUMBER: NAME (= VERSION), ..` by
+/// name number and version, NUMBER being the instruction's; then `order LANE` for each item of the
+/// order. A lane that knows nothing more there has a line that ends at its colon. Versions stand as
+/// the packages text spells them.
 ///
 /// # Errors
 ///

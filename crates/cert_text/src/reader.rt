@@ -236,8 +236,8 @@ fn read_text(
 
 /// Reads the certificate of a plan over a universe.
 ///
-/// Below a first line `cert 1` stand, for each lane and each of its waits and publishes in order,
-/// `known LANE NUMBER: NAME (= VERSION), ..` by name number and version, without the initial
+/// Below a first line `cert 1` stand, for each lane and each of its waits, publishes and `when`s in
+/// order, `known LANE NUMBER: NAME (= VERSION), ..` by name number and version, without the initial
 /// archive, and then items `order LANE`. NUMBER is the instruction's, its colon stands at once after
 /// it, and the list is written as a Provides field is. Blank lines and comments mean nothing.
 ///

@@ -11,9 +11,9 @@ use Rattle.farm_model.specs.Below.{greatest_below}
 use Rattle.farm_model.specs.Universe.{Universe}
 use Rattle.farm_model.specs.Packages.{same, contains, initial, outputs}
 use Rattle.plan_model.specs.declared.instructions.Instruction.{Instruction}
-use Rattle.plan_model.specs.declared.instructions.Instruction.TheVariants.{Unpack, Configure, Deconfigure, Remove, Build, Publish, Wait}
+use Rattle.plan_model.specs.declared.instructions.Instruction.TheVariants.{Publish, Wait, When}
 use Rattle.plan_model.specs.Plan.{Plan, lane, instruction_at, outputs_of}
-use Rattle.plan_model.specs.Known.{Rows, gives, within_reach, possible, IsFact, Adds, KeepsRows}
+use Rattle.plan_model.specs.Known.{Rows, gives, within_reach, possible, IsFact, Adds, row_before, KeepsRows}
 use Rattle.farm_model.proofs.BelowLaws.{some_below-at, some_below-found, greatest_below-at}
 use Rattle.farm_laws.proofs.Archive.{same-true, list_any-some, list_any-take}
 use Rattle.clock_laws.specs.Clocks.{made, lane_made, count_before, Clocks, clock_rows, Leads, HasUniqueOutputs, Learns, AreKnown, clocks_of, RowsHaveClocks}
@@ -162,17 +162,15 @@ module _ (u : Universe) (p : Plan) (rows : Rows) (unique : HasUniqueOutputs u p)
   learns : (l i j n m : ℕ) (y : Instruction) → l < length p → j < length p → (j ≡ l → ⊥)
       → instruction_at p l i ≡ Some y → m < length (outs j) → n ≤ m
       → Adds u p rows l i (out j m) y → Learns u p x l i j n y
-  learns l i j n m (Unpack name wanted) lt j_lt ne at m_lt le a = a
-  learns l i j n m (Configure members) lt j_lt ne at m_lt le a = a
-  learns l i j n m (Deconfigure members) lt j_lt ne at m_lt le a = a
-  learns l i j n m (Remove members) lt j_lt ne at m_lt le a = a
-  learns l i j n m (Build r) lt j_lt ne at m_lt le a = a
   learns l i j n m (Publish r) lt j_lt ne at m_lt le a =
       let g = gives-made u (out j m) (lane p l).instructions (list_any-some (gives u (out j m))
       (lane p l).instructions i (Publish r) at a) in
       let t = in_outs l (out j m) g in ne (sym (placed j m l t.0 j_lt lt m_lt t.1 t.2).0)
   learns l i j n m (Wait entry) lt j_lt ne at m_lt le a = λ c there sat. leads c j n m j_lt m_lt le
       (a.1 c there sat)
+  learns l i j n m (When name wanted) lt j_lt ne at m_lt le a = λ c there sat. leads c j n m j_lt
+      m_lt le (a.1 c there sat)
+  learns l i j n m _ lt j_lt ne at m_lt le a = a
 
   found : (l i j n : ℕ) → n < x l i j
       → (m : ℕ) × (m < length (outs j)) × (rows l i (out j m) ≡ true) × (n ≤ m)
@@ -207,11 +205,12 @@ module _ (u : Universe) (p : Plan) (rows : Rows) (unique : HasUniqueOutputs u p)
 
       after : (l i j n : ℕ) (y : Instruction) → l < length p → j < length p → (j ≡ l → ⊥)
           → instruction_at p l i ≡ Some y → n < x l (suc i) j
-          → (n < x l i j) ⊎ Learns u p x l i j n y
+          → (n < x l (row_before p l i y) j) ⊎ Learns u p x l i j n y
       after l i j n y lt j_lt ne at n_lt =
           let f = found l (suc i) j n n_lt in
           elim (keeps.after l i y (out j f.0) lt at f.2) [
-            | inl old ↦ let g = at_least l i j f.0 f.1 old in inl (omega (arith, g, f.3))
+            | inl old ↦ let g = at_least l (row_before p l i y) j f.0 f.1 old in
+                inl (omega (arith, g, f.3))
             | inr new ↦ inr (learns l i j n f.0 y lt j_lt ne at f.1 f.3 new)
           ]
 

@@ -1,4 +1,5 @@
 pub mod Sets
 pub mod Above
 pub mod Unique
+pub mod OwnCounts
 pub mod Greatest

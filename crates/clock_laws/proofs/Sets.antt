@@ -12,9 +12,9 @@ use Rattle.farm_model.specs.declared.types.Variant.{Variant}
 use Rattle.farm_model.specs.Universe.{Universe}
 use Rattle.farm_model.specs.Packages.{same, contains, initial, outputs}
 use Rattle.plan_model.specs.declared.instructions.Instruction.{Instruction}
-use Rattle.plan_model.specs.declared.instructions.Instruction.TheVariants.{Unpack, Configure, Deconfigure, Remove, Build, Publish, Wait}
+use Rattle.plan_model.specs.declared.instructions.Instruction.TheVariants.{Publish, Wait, When}
 use Rattle.plan_model.specs.Plan.{Plan, lane, instruction_at, outputs_of}
-use Rattle.plan_model.specs.Known.{gives, within_reach, possible, IsFact, Adds, KeepsRows}
+use Rattle.plan_model.specs.Known.{gives, within_reach, possible, IsFact, Adds, row_before, KeepsRows}
 use Rattle.farm_model.proofs.BelowLaws.{some_below-at, some_below-found}
 use Rattle.farm_laws.proofs.Archive.{take_some}
 use Rattle.clock_laws.specs.Clocks.{made, lane_made, count_before, Clocks, clock_rows, Leads, ClockAdds, KeepsClocks, ClocksKeepRows}
@@ -186,12 +186,8 @@ module _ (u : Universe) (p : Plan) (x : Clocks) (keeps : KeepsClocks u p x) wher
   adds : (l i j n : ℕ) (v : Variant) (y : Instruction) → l < length p → j < length p
       → instruction_at p l i ≡ Some y → ClockAdds u p x l i j n y
       → n < length (lane_made u p j) → same (get_or (lane_made u p j) n no_variant) v ≡ true
-      → (clock_rows u p x l i v ≡ true) ⊎ Adds u p (clock_rows u p x) l i v y
-  adds l i j n v (Unpack name wanted) lt j_lt at a in_made e = absurd a
-  adds l i j n v (Configure members) lt j_lt at a in_made e = absurd a
-  adds l i j n v (Deconfigure members) lt j_lt at a in_made e = absurd a
-  adds l i j n v (Remove members) lt j_lt at a in_made e = absurd a
-  adds l i j n v (Build r) lt j_lt at a in_made e = absurd a
+      → (clock_rows u p x l (row_before p l i y) v ≡ true)
+      ⊎ Adds u p (clock_rows u p x) l i v y
   adds l i j n v (Publish r) lt j_lt at a in_made e =
       own_publish l i r n v lt at a.1 (subst (λ g. n < length (lane_made u p g)) a.0 in_made)
       (subst (λ g. same (get_or (lane_made u p g) n no_variant) v ≡ true) a.0 e)
@@ -200,6 +196,12 @@ module _ (u : Universe) (p : Plan) (x : Clocks) (keeps : KeepsClocks u p x) wher
     λ c there sat. follows l i j n c v j_lt
         (a.1 c there sat) in_made e,
   )
+  adds l i j n v (When name wanted) lt j_lt at a in_made e = inr (
+    reached l i j n v j_lt a.0 in_made e,
+    λ c there sat. follows l i j n c v j_lt
+        (a.1 c there sat) in_made e,
+  )
+  adds l i j n v _ lt j_lt at a in_made e = absurd a
 
   keeps_rows : KeepsRows u p (clock_rows u p x)
   keeps_rows = record { at_start = at_start; after = after }
@@ -217,7 +219,8 @@ module _ (u : Universe) (p : Plan) (x : Clocks) (keeps : KeepsClocks u p x) wher
 
       after : (l i : ℕ) (y : Instruction) (v : Variant) → l < length p
           → instruction_at p l i ≡ Some y → clock_rows u p x l (suc i) v ≡ true
-          → (clock_rows u p x l i v ≡ true) ⊎ Adds u p (clock_rows u p x) l i v y
+          → (clock_rows u p x l (row_before p l i y) v ≡ true)
+          ⊎ Adds u p (clock_rows u p x) l i v y
       after l i y v lt at e =
           elim (or_cases (initial u v) _ e) [
             | inl is ↦ inl (or_left (initial u v) _ is)
@@ -225,7 +228,7 @@ module _ (u : Universe) (p : Plan) (x : Clocks) (keeps : KeepsClocks u p x) wher
                 (lane_made u p j)) v) found in
                 let t = take-found (x l (suc i) f.0) (lane_made u p f.0) v f.2 in
                 elim (keeps.after l i f.0 t.0 y lt f.1 at t.1) [
-                  | inl old ↦ inl (in_rows l i f.0 t.0 v f.1 old t.2 t.3)
+                  | inl old ↦ inl (in_rows l (row_before p l i y) f.0 t.0 v f.1 old t.2 t.3)
                   | inr new ↦ adds l i f.0 t.0 v y lt f.1 at new t.2 t.3
                 ]
           ]

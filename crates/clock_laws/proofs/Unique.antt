@@ -1,5 +1,5 @@
 -- Each output of a lane stands at one place of one publish.
-use Rattle.std.proofs.Common.{◌≡◌, ◌⊎◌, inl, inr, ℕ, zero, suc, ◌+◌, ◌<◌, ◌≤◌, true, false, List, [], ◌∷◌, ◌++◌, length, take, Option, Some, slice_get, refl, sym, ap, subst, ◌∙◌, arith}
+use Rattle.std.proofs.Common.{◌≡◌, ◌⊎◌, inl, inr, ℕ, zero, suc, ◌+◌, ◌<◌, true, List, [], ◌∷◌, ◌++◌, length, take, Some, slice_get, refl, sym, ap, ◌∙◌, arith}
 use Rattle.std.proofs.lemmas.List.{length-append}
 use Rattle.std.proofs.lemmas.Option.{none-some}
 use Rattle.std.proofs.lemmas.Bool.{both_ways}
@@ -7,7 +7,7 @@ use Rattle.farm_model.specs.declared.types.Variant.{Variant}
 use Rattle.farm_model.specs.Universe.{Universe}
 use Rattle.farm_model.specs.Packages.{initial, outputs}
 use Rattle.plan_model.specs.declared.instructions.Instruction.{Instruction}
-use Rattle.plan_model.specs.declared.instructions.Instruction.TheVariants.{Unpack, Configure, Deconfigure, Remove, Build, Publish, Wait}
+use Rattle.plan_model.specs.declared.instructions.Instruction.TheVariants.{Publish}
 use Rattle.plan_model.specs.Plan.{Plan, lane}
 use Rattle.plan_model.specs.Sound.{IsSound}
 use Rattle.clock_laws.specs.Clocks.{made, lane_made, OutputsAreUnique}
@@ -51,17 +51,6 @@ pub output_at : (u : Universe) (is : List Instruction) (n : ℕ) (v : Variant)
     → slice_get (made u is) n ≡ Some v → OutputAt u is n v
 unfolding made
 output_at u [] n v e = absurd (none-some v e)
-output_at u (Unpack name wanted ∷ xs) n v e =
-    behind u (Unpack name wanted) xs n v (λ k. refl) (output_at u xs n v e)
-output_at u (Configure members ∷ xs) n v e =
-    behind u (Configure members) xs n v (λ k. refl) (output_at u xs n v e)
-output_at u (Deconfigure members ∷ xs) n v e =
-    behind u (Deconfigure members) xs n v (λ k. refl) (output_at u xs n v e)
-output_at u (Remove members ∷ xs) n v e =
-    behind u (Remove members) xs n v (λ k. refl) (output_at u xs n v e)
-output_at u (Build r ∷ xs) n v e = behind u (Build r) xs n v (λ k. refl) (output_at u xs n v e)
-output_at u (Wait entry ∷ xs) n v e =
-    behind u (Wait entry) xs n v (λ k. refl) (output_at u xs n v e)
 output_at u (Publish r ∷ xs) n v e =
     elim (slice_get-split (outputs u r) (made u xs) n) [
       | inl first ↦
@@ -85,6 +74,7 @@ output_at u (Publish r ∷ xs) n v e =
             counted = omega (arith, then.1, at.counted, long);
           }
     ]
+output_at u (x ∷ xs) n v e = behind u x xs n v (λ k. refl) (output_at u xs n v e)
 
 module _ (u : Universe) (p : Plan) (sound : IsSound u p) where
   once : (j h n m : ℕ) (v : Variant) → j < length p → h < length p

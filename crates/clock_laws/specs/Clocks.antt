@@ -9,16 +9,16 @@
 --   OutputsAreUnique              so it is in every sound plan
 --   clocks_of, RowsHaveClocks     the clocks of rows, and what they know
 --   GreatestClocksAreGreatest     the greatest clocks have the greatest rows
-use Rattle.std.specs.Prelude.{◌≡◌, ◌⊎◌, ℕ, suc, ◌+◌, ◌<◌, ◌≤◌, true, ◌||◌, ◌==◌, List, length, take, Some, slice_get, slice_index_or, if◌then◌else◌}
+use Rattle.std.specs.Prelude.{◌≡◌, ◌⊎◌, ℕ, suc, ◌+◌, ◌<◌, ◌≤◌, Bool, true, ◌||◌, ◌==◌, List, length, take, Some, slice_get, slice_index_or, if◌then◌else◌}
 use Rattle.std.specs.List.{flat_map}
 use Rattle.farm_model.specs.declared.types.Variant.{Variant}
 use Rattle.farm_model.specs.Below.{some_below, greatest_below}
 use Rattle.farm_model.specs.Universe.{Universe}
 use Rattle.farm_model.specs.Packages.{variant, contains, satisfies_entry, initial, outputs}
 use Rattle.plan_model.specs.declared.instructions.Instruction.{Instruction}
-use Rattle.plan_model.specs.declared.instructions.Instruction.TheVariants.{Publish, Wait}
+use Rattle.plan_model.specs.declared.instructions.Instruction.TheVariants.{Publish, Wait, When}
 use Rattle.plan_model.specs.Plan.{Plan, lane, instruction_at, outputs_of}
-use Rattle.plan_model.specs.Known.{Rows, possible, KeepsRows, IsGreatest}
+use Rattle.plan_model.specs.Known.{Rows, possible, is_of, row_before, KeepsRows, IsGreatest}
 use Rattle.plan_model.specs.Sound.{IsSound}
 
 -- the outputs of instructions, in order
@@ -49,23 +49,31 @@ pub record Leads (u : Universe) (p : Plan) (x : Clocks) (c : Variant) (j n : ℕ
       → slice_get (outputs u r) m ≡ Some c
       → n < (if h == j then count_before u p j k + suc m else x h k j)
 
+-- output n of lane j is there whenever any possible variant that passes is
+abbrev pub LeadsAll : Universe → Plan → Clocks → ℕ → ℕ → ℕ → ℕ → (Variant → Bool) → Type 0
+LeadsAll u p x l i j n passes =
+    (c : Variant) → possible u p l i c ≡ true → passes c ≡ true → Leads u p x c j n
+
 -- what an instruction may add to a clock: a publish its outputs; a wait, of other lanes, what leads
--- each possible variant that satisfies its entry
+-- each possible variant that satisfies its entry; a `when` that holds, what leads each possible one
+-- that it looks for
 abbrev pub ClockAdds : Universe → Plan → Clocks → ℕ → ℕ → ℕ → ℕ → Instruction → Type 0
 ClockAdds u p x l i j n (Publish r) = (j ≡ l) × (n < count_before u p l (suc i))
 ClockAdds u p x l i j n (Wait e) =
-    ((j ≡ l) → ⊥) × ((c : Variant) → possible u p l i c ≡ true → satisfies_entry u e c ≡ true
-    → Leads u p x c j n)
+    ((j ≡ l) → ⊥) × LeadsAll u p x l i j n (satisfies_entry u e)
+ClockAdds u p x l i j n (When name wanted) =
+    ((j ≡ l) → ⊥) × LeadsAll u p x l i j n (is_of u name wanted)
 ClockAdds u p x l i j n _ = ⊥
 
--- clocks that keep to the inclusions
+-- clocks that keep to the inclusions. Behind an `else` and an `end` they go on from the clocks
+-- ahead of their `when`
 pub record KeepsClocks (u : Universe) (p : Plan) (x : Clocks) : Type 0 where
   pub at_start : (l j : ℕ) → l < length p → x l 0 j ≡ 0
   pub own : (l i : ℕ) (y : Instruction) → l < length p → instruction_at p l i ≡ Some y
       → x l i l ≡ count_before u p l i
   pub after : (l i j n : ℕ) (y : Instruction) → l < length p → j < length p
       → instruction_at p l i ≡ Some y → n < x l (suc i) j
-      → (n < x l i j) ⊎ ClockAdds u p x l i j n y
+      → (n < x l (row_before p l i y) j) ⊎ ClockAdds u p x l i j n y
 
 -- the rows of such clocks keep to them
 abbrev pub ClocksKeepRows : Type 0
@@ -84,10 +92,10 @@ pub record HasUniqueOutputs (u : Universe) (p : Plan) : Type 0 where
 abbrev pub OutputsAreUnique : Type 0
 OutputsAreUnique = (u : Universe) (p : Plan) → IsSound u p → HasUniqueOutputs u p
 
--- what a wait may tell of other lanes
+-- what a wait, or a `when` that holds, may tell of other lanes
 abbrev pub Learns : Universe → Plan → Clocks → ℕ → ℕ → ℕ → ℕ → Instruction → Type 0
-Learns u p x l i j n (Wait e) =
-    (c : Variant) → possible u p l i c ≡ true → satisfies_entry u e c ≡ true → Leads u p x c j n
+Learns u p x l i j n (Wait e) = LeadsAll u p x l i j n (satisfies_entry u e)
+Learns u p x l i j n (When name wanted) = LeadsAll u p x l i j n (is_of u name wanted)
 Learns u p x l i j n _ = ⊥
 
 -- clocks that know no more than the inclusions give
@@ -98,7 +106,7 @@ pub record AreKnown (u : Universe) (p : Plan) (x : Clocks) : Type 0 where
   pub few : (l i j : ℕ) → x l i j ≤ length (lane_made u p j)
   pub after : (l i j n : ℕ) (y : Instruction) → l < length p → j < length p → ((j ≡ l) → ⊥)
       → instruction_at p l i ≡ Some y → n < x l (suc i) j
-      → (n < x l i j) ⊎ Learns u p x l i j n y
+      → (n < x l (row_before p l i y) j) ⊎ Learns u p x l i j n y
 
 -- the clocks of any rows: past the last output of each lane that they have
 abbrev pub clocks_of : Universe → Plan → Rows → Clocks

@@ -6,6 +6,7 @@ ghost use Rattle.farm_archive.specs.Room.{outputs_in};
 ghost use Rattle.farm_model.specs.Universe as farm;
 ghost use Rattle.plan_model.specs.Plan.{count};
 ghost use Rattle.plan_model.specs.Run as run;
+ghost use Rattle.plan_model.specs.Sound.{IsPlan};
 
 use crate::publication::Publication;
 use farm_universe::{Universe, Variant};
@@ -45,7 +46,8 @@ fn single(bit: u32) -> u64
 impl PlainArchive {
     /// Makes the initial archive, with room for a publication at each event of a plan.
     pub fn open(alloc: Global, universe: &Universe, plan: &Plan) -> Result<PlainArchive, AllocError>
-        requires { plan.now.count ≡ count universe.now plan.now.lanes }
+        requires plan { IsPlan universe.now plan.now.lanes }
+        requires counted { plan.now.count ≡ count universe.now plan.now.lanes }
         ensures initial { IfOk result (IsArchive universe.now []) }
         ensures room { IfOk result (λ a. count universe.now plan.now.lanes ≤ a.room) }
         ensures outputs { IfOk result (λ a. outputs_in universe.now plan.now.lanes ≤ a.room) }

@@ -54,6 +54,12 @@ fn push_instruction(
             text.push_str("wait")?;
             push_entry(text, entry)?;
         }
+        Instruction::When { name, relation } => {
+            write!(text, "when {}", name_of(universe, *name).escape_ascii())?;
+            push_relation(text, relation)?;
+        }
+        Instruction::Otherwise => text.push_str("else")?,
+        Instruction::EndWhen => text.push_str("end")?,
     }
     Ok(())
 }

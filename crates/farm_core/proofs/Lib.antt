@@ -1,4 +1,5 @@
 pub mod Waits
+pub mod Picks
 pub mod Taken
 pub mod Stepped
 pub mod Events

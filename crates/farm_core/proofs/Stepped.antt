@@ -122,12 +122,12 @@ module _ (u : Universe) (p : Plan) (lanes : List LaneRun) (kept : Kept)
     waits = λ same. absurd (omega (arith, few, same));
   }
 
-  -- a step that moves to this state leaves one event less
+  -- a step that moves to this state leaves at least one event less
   module _ (new : LaneRun) (ok : IsRun u (lane p l) new) (next : Kept)
       (moved : step u p (state_of lanes kept) l
       ≡ run.Moved (state_of (slice_set lanes l new) next)) where
     less : suc (left_in u p (state_of (slice_set lanes l new) next))
-        ≡ left_in u p (state_of lanes kept)
+        ≤ left_in u p (state_of lanes kept)
     less = (step_places u p core.sound (state_of lanes kept)
         (state_of (slice_set lanes l new) next) l core.places moved).1
 
@@ -189,7 +189,7 @@ module _ (u : Universe) (p : Plan) (lanes : List LaneRun) (kept : Kept)
   pub output_known : (new : LaneRun) (v : Variant)
       → IsTurn u (lane p l) r new (Gives v) turn_here → IsKnown u v
   output_known new v t =
-      let place = subst (PlaceMove u (has_bit kept.words) (shown r)
+      let place = subst (PlaceMove u (has_bit kept.words) (lane p l) (shown r)
       (slice_get (lane p l).instructions r.done)) t.told
       (turn_place u (has_bit kept.words) (lane p l) (shown r)
       (slice_get (lane p l).instructions r.done)) in

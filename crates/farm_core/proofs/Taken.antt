@@ -63,12 +63,12 @@ module _ (u : Universe) (of : Lane) (r : LaneRun) (run : IsRun u of r) (cost : �
   -- a lane whose chroot changes so
   pub gone : (slots : Chroot) (b : Bool) → b ≡ over_budget of (shown r) paid → b ≡ false
       → (c : Held) → None ≡ first_trap traps → c ≡ with_slots u r.chroot slots → IsHeld u c
-      → (new : LaneRun) → new ≡ passed (record r { chroot = c }) paid
+      → (new : LaneRun) → new ≡ passed of (record r { chroot = c }) paid
       → IsTurn u of r new Goes
       (unless_trapped of (shown r) cost traps (turn.Goes (past of (shown r) cost slots)))
   gone slots b test within c none is held new passes =
       let goes : turn.Turn = turn.Goes (past of (shown r) cost slots) in
-      let turned : IsTurn u of r (passed (record r { chroot = c }) paid) Goes
+      let turned : IsTurn u of r (passed of (record r { chroot = c }) paid) Goes
       (unless_trapped of (shown r) cost traps goes) = record {
         told =
             then_first of (shown r) cost traps goes (paid_test b test within)
@@ -90,13 +90,13 @@ module _ (u : Universe) (of : Lane) (r : LaneRun) (run : IsRun u of r) (cost : �
 pub built_on : (u : Universe) (of : Lane) (r : LaneRun) (run : IsRun u of r) (cost : ℕ)
     (traps : List (Bool × Trap)) (paid : ℕ) → paid ≡ cost → (recipe : ℕ) (b : Bool)
     → b ≡ over_budget of (shown r) paid → b ≡ false → None ≡ first_trap traps → (new : LaneRun)
-    → new ≡ passed r paid
+    → new ≡ passed of r paid
     → IsTurn u of r (record new { built = with_item new.built recipe true }) Goes
     (unless_trapped of (shown r) cost traps (turn.Goes (past_build of (shown r) cost recipe)))
 built_on u of r run cost traps paid is_cost recipe b test within none new passes =
     let goes : turn.Turn = turn.Goes (past_build of (shown r) cost recipe) in
     let turned : IsTurn u of r
-    (record (passed r paid) { built = with_item r.built recipe true }) Goes
+    (record (passed of r paid) { built = with_item r.built recipe true }) Goes
     (unless_trapped of (shown r) cost traps goes) = record {
       told =
           then_first of (shown r) cost traps goes

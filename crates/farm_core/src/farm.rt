@@ -131,7 +131,7 @@ impl<'a> Core<'a> {
         self.plan
     }
 
-    /// How many instructions of a lane are done; none of a number that is no lane's.
+    /// The place of a lane, the number of instructions before it; 0 for a number that is no lane's.
     pub fn done(&self, lane: u32) -> u32
         ensures { result ≡ (lane_state self.now.state lane).done }
     {

@@ -1,8 +1,9 @@
 //! The instructions on a lane's chroot.
 
-ghost use Rattle.std.specs.Prelude.{◌<◌, All, length};
+ghost use Rattle.std.specs.Prelude.{◌<◌, ◌≤◌, All, length};
 ghost use Rattle.farm_core.specs.Lanes.{IsRun, shown};
 ghost use Rattle.farm_core.specs.Turns.{IsTurn};
+ghost use Rattle.plan_asm.specs.declared.error.TheConstants.{MOST_INSTRUCTIONS};
 ghost use Rattle.plan_model.specs.declared.instructions.Instruction.TheVariants.{Build, Configure, Deconfigure, Remove};
 ghost use Rattle.farm_model.specs.Packages.{names};
 ghost use Rattle.farm_model.specs.Sound.{IsKnown};
@@ -19,7 +20,8 @@ impl LaneRun {
     /// Unpacks a variant of the archive.
     pub fn unpack(&mut self, universe: &Universe, lane: &Lane, variant: Variant) -> Turn
         requires run { IsRun universe.now lane.now self.old }
-        requires next { self.old.done < u32.MAX }
+        requires next { self.old.done < length lane.now.instructions }
+        requires short { length lane.now.instructions ≤ MOST_INSTRUCTIONS }
         requires known { IsKnown universe.now variant }
         ensures { IsTurn universe.now lane.now self.old self.new result
             (unpacks universe.now lane.now (shown self.old) variant.name (Some variant.bit)) }
@@ -31,14 +33,15 @@ impl LaneRun {
         if let Err(trap) = self.chroot.unpack(universe, variant) {
             return Turn::Fails(trap);
         }
-        self.pass(cost);
+        self.pass(lane, cost);
         Turn::Goes
     }
 
     /// Configures the members of a set.
     pub fn configure(&mut self, universe: &Universe, lane: &Lane, members: &[u32]) -> Turn
         requires run { IsRun universe.now lane.now self.old }
-        requires next { self.old.done < u32.MAX }
+        requires next { self.old.done < length lane.now.instructions }
+        requires short { length lane.now.instructions ≤ MOST_INSTRUCTIONS }
         requires named { All (λ m. m < names universe.now) members.now }
         ensures { IsTurn universe.now lane.now self.old self.new result
             (turn_of universe.now nothing lane.now (shown self.old) (Some (Configure members.now))) }
@@ -50,14 +53,15 @@ impl LaneRun {
         if let Err(trap) = self.chroot.configure(universe, members) {
             return Turn::Fails(trap);
         }
-        self.pass(cost);
+        self.pass(lane, cost);
         Turn::Goes
     }
 
     /// Takes the members of a set back to unpacked.
     pub fn deconfigure(&mut self, universe: &Universe, lane: &Lane, members: &[u32]) -> Turn
         requires run { IsRun universe.now lane.now self.old }
-        requires next { self.old.done < u32.MAX }
+        requires next { self.old.done < length lane.now.instructions }
+        requires short { length lane.now.instructions ≤ MOST_INSTRUCTIONS }
         requires named { All (λ m. m < names universe.now) members.now }
         ensures { IsTurn universe.now lane.now self.old self.new result
             (turn_of universe.now nothing lane.now (shown self.old) (Some (Deconfigure members.now))) }
@@ -69,14 +73,15 @@ impl LaneRun {
         if let Err(trap) = self.chroot.deconfigure(universe, members) {
             return Turn::Fails(trap);
         }
-        self.pass(cost);
+        self.pass(lane, cost);
         Turn::Goes
     }
 
     /// Removes the members of a set.
     pub fn remove(&mut self, universe: &Universe, lane: &Lane, members: &[u32]) -> Turn
         requires run { IsRun universe.now lane.now self.old }
-        requires next { self.old.done < u32.MAX }
+        requires next { self.old.done < length lane.now.instructions }
+        requires short { length lane.now.instructions ≤ MOST_INSTRUCTIONS }
         requires named { All (λ m. m < names universe.now) members.now }
         ensures { IsTurn universe.now lane.now self.old self.new result
             (turn_of universe.now nothing lane.now (shown self.old) (Some (Remove members.now))) }
@@ -88,14 +93,15 @@ impl LaneRun {
         if let Err(trap) = self.chroot.remove(universe, members) {
             return Turn::Fails(trap);
         }
-        self.pass(cost);
+        self.pass(lane, cost);
         Turn::Goes
     }
 
     /// Builds a recipe in the chroot, which stays as it is.
     pub fn build(&mut self, universe: &Universe, lane: &Lane, recipe: u32) -> Turn
         requires run { IsRun universe.now lane.now self.old }
-        requires next { self.old.done < u32.MAX }
+        requires next { self.old.done < length lane.now.instructions }
+        requires short { length lane.now.instructions ≤ MOST_INSTRUCTIONS }
         requires known { recipe < length universe.now.recipes }
         ensures { IsTurn universe.now lane.now self.old self.new result
             (turn_of universe.now nothing lane.now (shown self.old) (Some (Build recipe))) }
@@ -107,7 +113,7 @@ impl LaneRun {
         if let Err(trap) = self.chroot.can_build(universe, recipe) {
             return Turn::Fails(trap);
         }
-        self.pass(cost);
+        self.pass(lane, cost);
         self.built[recipe as usize] = true;
         Turn::Goes
     }

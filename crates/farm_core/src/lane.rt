@@ -1,7 +1,8 @@
 //! Where a lane stands.
 
-ghost use Rattle.std.specs.Prelude.{◌≡◌, ◌<◌, ◌+◌, ◌^◌, IfOk, length};
-ghost use Rattle.farm_core.specs.Lanes.{IsRun, shown, passed};
+ghost use Rattle.std.specs.Prelude.{◌≡◌, ◌<◌, ◌≤◌, ◌+◌, ◌^◌, IfOk, length};
+ghost use Rattle.farm_core.specs.Lanes.{IsRun, shown, gone_to, passed};
+ghost use Rattle.plan_asm.specs.declared.error.TheConstants.{MOST_INSTRUCTIONS};
 ghost use Rattle.plan_model.specs.Turn.{start_lane};
 
 use chroot_state::Chroot;
@@ -9,8 +10,8 @@ use farm_universe::Universe;
 use plan_asm::Lane;
 use std::alloc::{AllocError, Global};
 
-/// Where a lane stands: how many instructions are done, how many outputs are made of the publish
-/// that it stands at, its chroot, what it has spent, and for each recipe whether it has built it.
+/// Where a lane stands: its place, how many outputs are made of the publish that it stands at, its
+/// chroot, what it has spent, and for each recipe whether it has built it.
 #[derive(Debug, Drop)]
 pub struct LaneRun {
     pub done: u32,
@@ -43,14 +44,23 @@ impl LaneRun {
         })
     }
 
-    /// Goes behind the instruction at this cost.
-    pub fn pass(&mut self, cost: u64)
-        requires next { self.old.done < u32.MAX }
-        requires fits { self.old.spent + cost < 2 ^ 64 }
-        ensures { self.new ≡ passed self.old cost }
+    /// Goes to another place of its lane.
+    pub fn go_to(&mut self, place: usize)
+        requires { place ≤ MOST_INSTRUCTIONS }
+        ensures { self.new ≡ gone_to self.old place }
     {
-        self.done += 1;
+        self.done = place as u32;
         self.made = 0;
+    }
+
+    /// Goes behind the instruction at this cost.
+    pub fn pass(&mut self, lane: &Lane, cost: u64)
+        requires next { self.old.done < length lane.now.instructions }
+        requires short { length lane.now.instructions ≤ MOST_INSTRUCTIONS }
+        requires fits { self.old.spent + cost < 2 ^ 64 }
+        ensures { self.new ≡ passed lane.now self.old cost }
+    {
+        self.go_to(lane.next_place(self.done as usize));
         self.spent += cost;
     }
 }

@@ -1,4 +1,4 @@
-//! Which variant an unpack takes.
+//! Which variant an unpack takes, and whether there is one.
 
 ghost use Rattle.std.specs.Prelude.{◌≡◌, ◌<◌};
 ghost use Rattle.farm_model.specs.Packages.{names, has_bit};
@@ -21,4 +21,17 @@ pub fn newest(
     ensures { result ≡ turn.newest universe.now (has_bit archive.now.words) name relation.now }
 {
     word_picks::newest(universe, archive.word(name), name, relation)
+}
+
+/// Tells whether the archive has a variant of a name in a relation.
+pub fn has_wanted(
+    universe: &Universe,
+    archive: &PlainArchive,
+    name: u32,
+    relation: &Option<(Op, Version)>,
+) -> bool
+    requires { name < names universe.now }
+    ensures { result ≡ turn.has_wanted universe.now (has_bit archive.now.words) name relation.now }
+{
+    newest(universe, archive, name, relation).is_some()
 }

@@ -1,11 +1,12 @@
 //! The outputs of a publish.
 
-ghost use Rattle.std.specs.Prelude.{◌≡◌, ◌<◌, ◌+◌, ◌^◌, slice_get, IfOk};
+ghost use Rattle.std.specs.Prelude.{◌≡◌, ◌<◌, ◌≤◌, ◌+◌, ◌^◌, length, slice_get, IfOk};
 ghost use Rattle.std.specs.Result.{result_err};
 ghost use Rattle.farm_core.specs.Lanes.{IsRun, shown, given_one};
 ghost use Rattle.farm_core.specs.Turns.{IsTurn};
 ghost use Rattle.farm_model.specs.Packages.{outputs};
 ghost use Rattle.farm_model.specs.Traps.{first_trap};
+ghost use Rattle.plan_asm.specs.declared.error.TheConstants.{MOST_INSTRUCTIONS};
 ghost use Rattle.plan_model.specs.Plan.{publish_cost};
 ghost use Rattle.plan_model.specs.Turn.{first_only, publish_traps, publishes, was_built};
 
@@ -53,24 +54,26 @@ impl LaneRun {
     }
 
     /// Goes behind one more of so many outputs. The last one ends the publish.
-    fn give(&mut self, count: usize, cost: u64)
-        requires next { self.old.done < u32.MAX }
+    fn give(&mut self, lane: &Lane, count: usize, cost: u64)
+        requires next { self.old.done < length lane.now.instructions }
+        requires short { length lane.now.instructions ≤ MOST_INSTRUCTIONS }
         requires fits { self.old.spent + cost < 2 ^ 64 }
         requires more { self.old.made < count }
-        ensures { self.new ≡ given_one count self.old cost }
+        ensures { self.new ≡ given_one lane.now count self.old cost }
     {
         if self.made + 1 < count {
             self.made += 1;
             self.spent += cost;
         } else {
-            self.pass(cost);
+            self.pass(lane, cost);
         }
     }
 
     /// Makes the next output of a publish.
     pub fn publish(&mut self, universe: &Universe, lane: &Lane, recipe: u32) -> Turn
         requires run { IsRun universe.now lane.now self.old }
-        requires next { self.old.done < u32.MAX }
+        requires next { self.old.done < length lane.now.instructions }
+        requires short { length lane.now.instructions ≤ MOST_INSTRUCTIONS }
         ensures { IsTurn universe.now lane.now self.old self.new result
             (publishes universe.now lane.now (shown self.old) recipe
             (slice_get (outputs universe.now recipe) self.old.made)) }
@@ -82,7 +85,7 @@ impl LaneRun {
         match self.output_cost(universe, lane, recipe) {
             Err(trap) => Turn::Fails(trap),
             Ok(cost) => {
-                self.give(outputs.len(), cost);
+                self.give(lane, outputs.len(), cost);
                 Turn::Gives(*output)
             }
         }

@@ -6,12 +6,12 @@ ghost use Rattle.farm_core.specs.Turns.{IsTurn};
 ghost use Rattle.farm_model.specs.Packages.{names, has_bit};
 ghost use Rattle.plan_asm.specs.declared.error.TheConstants.{MOST_INSTRUCTIONS};
 ghost use Rattle.plan_model.specs.declared.instructions.Instruction.{Instruction};
-ghost use Rattle.plan_model.specs.declared.instructions.Instruction.TheVariants.{Unpack, Wait};
+ghost use Rattle.plan_model.specs.declared.instructions.Instruction.TheVariants.{Unpack, Wait, When};
 ghost use Rattle.plan_model.specs.Sound.{IsInstruction};
 ghost use Rattle.plan_model.specs.Turn.{turn_of};
 
 use crate::lane::LaneRun;
-use crate::pick::newest;
+use crate::pick::{has_wanted, newest};
 use crate::turn::Turn;
 use crate::wait::passes;
 use deb_relation::{Entry, Op};
@@ -31,7 +31,8 @@ impl LaneRun {
         relation: &Option<(Op, Version)>,
     ) -> Turn
         requires run { IsRun universe.now lane.now self.old }
-        requires next { self.old.done < u32.MAX }
+        requires next { self.old.done < length lane.now.instructions }
+        requires short { length lane.now.instructions ≤ MOST_INSTRUCTIONS }
         requires named { name < names universe.now }
         ensures { IsTurn universe.now lane.now self.old self.new result
             (turn_of universe.now (has_bit archive.now.words) lane.now (shown self.old)
@@ -52,18 +53,47 @@ impl LaneRun {
         entry: &Entry,
     ) -> Turn
         requires run { IsRun universe.now lane.now self.old }
-        requires next { self.old.done < u32.MAX }
+        requires next { self.old.done < length lane.now.instructions }
+        requires short { length lane.now.instructions ≤ MOST_INSTRUCTIONS }
         ensures { IsTurn universe.now lane.now self.old self.new result
             (turn_of universe.now (has_bit archive.now.words) lane.now (shown self.old)
             (Some (Wait entry.now))) }
     {
         if passes(universe, archive, entry) {
             let _spent = self.spent;
-            self.pass(0);
+            self.pass(lane, 0);
             Turn::Goes
         } else {
             Turn::Waits
         }
+    }
+
+    /// Goes into the first branch where the archive has a variant of a name in the relation, else
+    /// into the second one.
+    fn branch(
+        &mut self,
+        universe: &Universe,
+        archive: &PlainArchive,
+        lane: &Lane,
+        name: u32,
+        relation: &Option<(Op, Version)>,
+    ) -> Turn
+        requires run { IsRun universe.now lane.now self.old }
+        requires next { self.old.done < length lane.now.instructions }
+        requires short { length lane.now.instructions ≤ MOST_INSTRUCTIONS }
+        requires named { name < names universe.now }
+        ensures { IsTurn universe.now lane.now self.old self.new result
+            (turn_of universe.now (has_bit archive.now.words) lane.now (shown self.old)
+            (Some (When name relation.now))) }
+    {
+        let done = self.done as usize;
+        let place = if has_wanted(universe, archive, name, relation) {
+            lane.next_place(done)
+        } else {
+            lane.else_place(done)
+        };
+        self.go_to(place);
+        Turn::Goes
     }
 
     /// Carries out an instruction, or makes an output of it.
@@ -75,7 +105,8 @@ impl LaneRun {
         instruction: &Instruction,
     ) -> Turn
         requires run { IsRun universe.now lane.now self.old }
-        requires next { self.old.done < u32.MAX }
+        requires next { self.old.done < length lane.now.instructions }
+        requires short { length lane.now.instructions ≤ MOST_INSTRUCTIONS }
         requires known { IsInstruction universe.now instruction.now }
         ensures { IsTurn universe.now lane.now self.old self.new result
             (turn_of universe.now (has_bit archive.now.words) lane.now (shown self.old)
@@ -95,6 +126,10 @@ impl LaneRun {
             Instruction::Build(recipe) => self.build(universe, lane, *recipe),
             Instruction::Publish(recipe) => self.publish(universe, lane, *recipe),
             Instruction::Wait(entry) => self.wait(universe, archive, lane, entry),
+            Instruction::When { name, relation } => {
+                self.branch(universe, archive, lane, *name, relation)
+            }
+            Instruction::Otherwise | Instruction::EndWhen => Turn::Ends,
         }
     }
 

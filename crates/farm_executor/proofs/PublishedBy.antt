@@ -154,11 +154,11 @@ module _ (u : Universe) (p : Plan) (sound : IsSound u p) where
         → turn_of u (archive u s.published) (lane p l) (lane_state s l) (Some x) ≡ turn
         → After ArePublished s l turn
     turn_published x (Goes next) h places at is =
-        goes_published next (goes_count u (lane p l) (archive u s.published) (lane_state s l) next x
-        at (places.each l in_plan) is) h
+        goes_published next (goes_count u (lane p l) (sound.plan.branched l in_plan)
+        (archive u s.published) (lane_state s l) next x at (places.each l in_plan) is) h
     turn_published x (Gives next v) h places at is =
-        let g = gives_count u (lane p l) (archive u s.published) (lane_state s l) next x v at
-        (places.each l in_plan) is in
+        let g = gives_count u (lane p l) (sound.plan.branched l in_plan) (archive u s.published)
+        (lane_state s l) next x v at (places.each l in_plan) is in
         gives_published next v g.0 g.1 h
     turn_published x Waits h places at is = tt
     turn_published x Ends h places at is = tt

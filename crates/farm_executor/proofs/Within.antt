@@ -2,12 +2,15 @@
 use Rattle.std.proofs.Common.{◌≡◌, inl, inr, ℕ, zero, suc, ◌<◌, ◌≤◌, List, [], ◌∷◌, length, Some, slice_get, ap, arith}
 use Rattle.farm_model.specs.declared.types.Variant.{Variant}
 use Rattle.farm_model.specs.Universe.{Universe}
+use Rattle.plan_model.specs.declared.instructions.Instruction.{Instruction}
+use Rattle.plan_model.specs.declared.instructions.Instruction.TheVariants.{Publish}
 use Rattle.plan_model.specs.Plan.{Plan, lane, instruction_at}
 use Rattle.plan_model.specs.Turn.{LaneState, Turn, Goes, Gives, Waits, Ends, Fails}
 use Rattle.plan_model.specs.Run.{archive, State, start, lane_state, step, Moved, Reachable}
 use Rattle.plan_model.specs.Sound.{IsSound}
 use Rattle.farm_laws.proofs.EventsLeft.{InPlaces, places_at_start, state_at_start, step_places, put_each}
-use Rattle.farm_laws.proofs.Places.{GoesOn, GivesOne, PlaceMove, turn_place}
+use Rattle.farm_laws.proofs.Branches.{arrives}
+use Rattle.farm_laws.proofs.Places.{LeadsTo, GoesOn, GivesOne, PlaceMove, leads_to, turn_place}
 use Rattle.farm_laws.proofs.Steps.{put, turn_at, After, step_keeps, run_keeps}
 
 -- a place at which something stands is ahead of the end
@@ -28,26 +31,36 @@ module _ (u : Universe) (p : Plan) (sound : IsSound u p) where
     pub places : InPlaces u p s
     pub within : AllWithin s
 
+  -- where an instruction leads to is within the lane
+  leads_within : (l k next : ℕ) (x : Instruction) → l < length p → instruction_at p l k ≡ Some x
+      → LeadsTo (lane p l) k x next → next ≤ length (lane p l).instructions
+  leads_within l k next x lt at leads =
+      let is = (lane p l).instructions in
+      arrives (lane p l) (sound.plan.branched l lt) (λ j. j ≤ length is)
+      (λ j y there local le. omega (arith, within_list is j y there)) k x next at
+      (omega (arith, within_list is k x at)) leads
+
   module _ (s : State) (l : ℕ) (in_plan : l < length p) (h : Holds s) where
     goes_within : (next : LaneState)
-        → GoesOn u (archive u s.published) (lane_state s l) (instruction_at p l (lane_state s l).done)
-        next → AllWithin (put s l next)
+        → GoesOn u (archive u s.published) (lane p l) (lane_state s l)
+        (instruction_at p l (lane_state s l).done) next → AllWithin (put s l next)
     goes_within next g =
-        let at = within_list (lane p l).instructions (lane_state s l).done g.instruction g.is in
-        put_each p IsWithin s l next h.places.long in_plan h.within (omega (arith, at, g.done))
+        put_each p IsWithin s l next h.places.long in_plan h.within
+        (leads_within l (lane_state s l).done next.done g.instruction in_plan g.is (leads_to g))
 
     gives_within : (next : LaneState) (v : Variant)
-        → GivesOne u (lane_state s l) (instruction_at p l (lane_state s l).done) next v
+        → GivesOne u (lane p l) (lane_state s l) (instruction_at p l (lane_state s l).done) next v
         → AllWithin (put s l next)
     gives_within next v g =
         let at = within_list (lane p l).instructions (lane_state s l).done _ g.is in
         put_each p IsWithin s l next h.places.long in_plan h.within (elim g.place [
           | inl more ↦ omega (arith, at, more.1)
-          | inr last ↦ omega (arith, at, last.1)
+          | inr last ↦ leads_within l (lane_state s l).done next.done (Publish g.recipe) in_plan
+              g.is (inl last.1)
         ])
 
     turn_within : (turn : Turn)
-        → PlaceMove u (archive u s.published) (lane_state s l)
+        → PlaceMove u (archive u s.published) (lane p l) (lane_state s l)
         (instruction_at p l (lane_state s l).done) turn → After AllWithin s l turn
     turn_within (Goes next) g = goes_within next g
     turn_within (Gives next v) g = gives_within next v g

@@ -10,11 +10,13 @@ use Rattle.farm_model.specs.Universe.{Universe}
 use Rattle.farm_model.specs.Packages.{variant, same, contains, outputs, initial}
 use Rattle.plan_model.specs.declared.instructions.Instruction.{Instruction}
 use Rattle.plan_model.specs.declared.instructions.Instruction.TheVariants.{Publish}
-use Rattle.plan_model.specs.Plan.{outputs_of}
+use Rattle.plan_model.specs.Branches.{IsBranched}
+use Rattle.plan_model.specs.Plan.{Lane, outputs_of}
 use Rattle.plan_model.specs.Turn.{LaneState}
 use Rattle.plan_model.specs.Run.{Publication, publication, archive}
 use Rattle.plan_model.specs.Known.{gives, publishing}
-use Rattle.farm_laws.proofs.Places.{IsQuiet, GoesOn, GivesOne}
+use Rattle.farm_laws.proofs.Places.{IsQuiet, GoesOn, GivesOne, LeadsTo, leads_to}
+use Rattle.farm_laws.proofs.Branches.{is_local, arrives}
 
 pub take_some : {X : Type 0} (xs : List X) (i : ℕ) (x : X) → slice_get xs i ≡ Some x
     → take (suc i) xs ≡ take i xs ++ x ∷ []
@@ -106,13 +108,33 @@ pub publishing-quiet : (u : Universe) (there : Variant → Bool) (x : Instructio
 publishing-quiet u there x made v q =
     ap (λ vs. contains (take made vs) v) (outputs_of-quiet u there x q) ∙ contains-take_nil made v
 
+-- a branch makes nothing
+gives-local : (u : Universe) (x : Instruction) (v : Variant) → is_local x ≡ true
+    → gives u v x ≡ false
+gives-local u (Publish r) v h = absurd (false≢true h)
+gives-local u _ v h = refl
+
+made_before-arrives : (u : Universe) (of : Lane) → IsBranched of.instructions → (v : Variant)
+    → (k : ℕ) (x : Instruction) (next : ℕ) → slice_get of.instructions k ≡ Some x
+    → LeadsTo of k x next
+    → made_before u of.instructions next v ≡ made_before u of.instructions (suc k) v
+made_before-arrives u of branched v k x next e place =
+    arrives of branched (λ j. made_before u of.instructions j v
+    ≡ made_before u of.instructions (suc k) v)
+    (λ j y is local same. made_before-suc u of.instructions j y v is
+    ∙ ap (λ b. made_before u of.instructions j v || b) (gives-local u y v local)
+    ∙ or-false (made_before u of.instructions j v) ∙ same) k x next e refl place
+
 -- a quiet turn makes nothing
-pub made_goes : (u : Universe) (there : Variant → Bool) (is : List Instruction)
-    (st next : LaneState) (v : Variant) → GoesOn u there st (slice_get is st.done) next
-    → made_by u is next.done next.made v ≡ made_by u is st.done st.made v
-made_goes u there is st next v g =
-    rw (g.done, g.made)
-    (made_by-zero u is (suc st.done) v
+pub made_goes : (u : Universe) (there : Variant → Bool) (of : Lane) → IsBranched of.instructions
+    → (st next : LaneState) (v : Variant)
+    → GoesOn u there of st (slice_get of.instructions st.done) next
+    → made_by u of.instructions next.done next.made v ≡ made_by u of.instructions st.done st.made v
+made_goes u there of branched st next v g =
+    let is = of.instructions in
+    rw g.made
+    (made_by-zero u is next.done v
+    ∙ made_before-arrives u of branched v st.done g.instruction next.done g.is (leads_to g)
     ∙ made_before-suc u is st.done g.instruction v g.is
     ∙ ap (λ b. made_before u is st.done v || b)
     (gives-quiet u there g.instruction v g.quiet
@@ -127,10 +149,13 @@ contains-more vs i v w e =
     ∙ ap (λ b. contains (take i vs) w || b) (or-false (same v w))
 
 -- an output adds itself
-pub made_gives : (u : Universe) (is : List Instruction) (st next : LaneState) (v w : Variant)
-    → GivesOne u st (slice_get is st.done) next v
-    → made_by u is next.done next.made w ≡ (made_by u is st.done st.made w || same v w)
-made_gives u is st next v w g =
+pub made_gives : (u : Universe) (of : Lane) → IsBranched of.instructions
+    → (st next : LaneState) (v w : Variant)
+    → GivesOne u of st (slice_get of.instructions st.done) next v
+    → made_by u of.instructions next.done next.made w
+    ≡ (made_by u of.instructions st.done st.made w || same v w)
+made_gives u of branched st next v w g =
+    let is = of.instructions in
     let outs = outputs u g.recipe in
     let now : publishing u (slice_get is st.done) st.made w ≡ contains (take st.made outs) w =
     ap (λ o. publishing u o st.made w) g.is in
@@ -143,8 +168,9 @@ made_gives u is st next v w g =
           ∙ ap (λ b. made_before u is st.done w || b) (contains-more outs st.made v w g.output)
           ∙ sym (or_assoc (made_before u is st.done w) (contains (take st.made outs) w) (same v w))
           ∙ before)
-      | inr m ↦ rw (m.1, m.2)
-          (made_by-zero u is (suc st.done) w
+      | inr m ↦ rw m.2
+          (made_by-zero u is next.done w
+          ∙ made_before-arrives u of branched w st.done (Publish g.recipe) next.done g.is (inl m.1)
           ∙ made_before-suc u is st.done (Publish g.recipe) w g.is
           ∙ ap (λ xs. made_before u is st.done w || contains xs w)
           (sym (take_all (suc st.made) outs m.0))

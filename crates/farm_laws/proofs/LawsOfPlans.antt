@@ -39,7 +39,7 @@ pub states_are_foreseen : StatesAreForeseen
 states_are_foreseen u p rows sound annotation s reached =
     let h = holds_after u p rows sound annotation.keeps annotation.safe reached.0 s reached.1 in
     record {
-      known = h.archive_holds.rows_there.known;
+      known = λ l v lt e. (h.archive_holds.rows_there.knows l lt).0 v e;
       facts = h.archive_holds.rows_there.follows;
       bounded = λ l v lt e. nothing_else u p s l v lt h.archive_holds.archive_is e;
       allowed = λ l lt. (h.agrees l lt).allows;
@@ -50,7 +50,8 @@ unfolding lane_cost
 lanes_are_within_budget u p rows sound annotation s reached =
     let h = holds_after u p rows sound annotation.keeps annotation.safe reached.0 s reached.1 in
     record {
-      spent = λ l lt. spent_within u p rows l (lane_state s l) (h.agrees l lt);
+      spent = λ l lt. spent_within u p rows l (sound.plan.branched l lt) (lane_state s l)
+          (h.agrees l lt);
       cost = λ l lt. cost_within u p rows annotation.safe l (length (lane p l).instructions) lt;
     }
 

@@ -1,5 +1,6 @@
 pub mod Steps
 pub mod Places
+pub mod Branches
 pub mod EventsLeft
 pub mod Archive
 pub mod Possible
@@ -8,6 +9,7 @@ pub mod Boards
 pub mod Progress
 pub mod Slots
 pub mod AllowedAfter
+pub mod Joins
 pub mod MayMaps
 pub mod Safe
 pub mod Whole

@@ -12,7 +12,7 @@ use Rattle.farm_model.specs.declared.types.Trap.{Trap}
 use Rattle.farm_model.specs.Universe.{Universe}
 use Rattle.farm_model.specs.Packages.{variant, recipe, outputs, initial}
 use Rattle.plan_model.specs.declared.instructions.Instruction.{Instruction}
-use Rattle.plan_model.specs.declared.instructions.Instruction.TheVariants.{Unpack, Configure, Deconfigure, Remove, Build, Publish, Wait}
+use Rattle.plan_model.specs.declared.instructions.Instruction.TheVariants.{Unpack, Configure, Deconfigure, Remove, Build, Publish, Wait, When, Otherwise, EndWhen}
 use Rattle.plan_model.specs.Plan.{Lane, Plan, no_lane, lane, instruction_at, events_of}
 use Rattle.plan_model.specs.Turn.{LaneState, newest, passes, Turn, Goes, Gives, Waits, Ends, Fails, unless, unpacks, publishes, turn_of}
 use Rattle.plan_model.specs.Run.{archive, State, lane_state, Moved, Unknown, Trapped, outcome, step}
@@ -20,7 +20,8 @@ use Rattle.plan_model.specs.Known.{gives, publishing}
 use Rattle.plan_model.specs.Order.{Item, Pass, Give, items_of, items, start_board, IsOrder}
 use Rattle.farm_laws.proofs.Boards.{gives_item, right-nil, NextIs, Behind, Itself, walk}
 use Rattle.farm_laws.proofs.Steps.{turn_at}
-use Rattle.farm_laws.proofs.EventsLeft.{drop_some, StandsAt, InPlace, InPlaces}
+use Rattle.farm_laws.proofs.Branches.{drop_some, drop_none}
+use Rattle.farm_laws.proofs.EventsLeft.{StandsAt, InPlace, InPlaces}
 use Rattle.farm_laws.proofs.Archive.{made_before, made_by, list_any-take}
 use Rattle.farm_laws.proofs.Possible.{ArchiveIs, initial_there}
 
@@ -36,6 +37,8 @@ NotStuck (Fails t) = Unit {0}
 abbrev pub Ready : Universe → (Variant → Bool) → LaneState → Instruction → Type 0
 Ready u there st (Publish r) = (v : Variant) × (slice_get (outputs u r) st.made ≡ Some v)
 Ready u there st (Wait e) = passes u there e ≡ true
+Ready u there st Otherwise = ⊥
+Ready u there st EndWhen = ⊥
 Ready u there st _ = Unit {0}
 
 unless_goes : (o : Option Trap) (m : Turn) → NotStuck m → NotStuck (unless o m)
@@ -58,6 +61,9 @@ turn_ready u there of st (Build recipe) r = unless_goes _ (Goes _) tt
 turn_ready u there of st (Publish recipe) r =
     subst (λ o. NotStuck (publishes u of st recipe o)) (sym r.1) (unless_goes _ (Gives _ r.0) tt)
 turn_ready u there of st (Wait e) r = rw r tt
+turn_ready u there of st (When name wanted) r = tt
+turn_ready u there of st Otherwise r = absurd r
+turn_ready u there of st EndWhen r = absurd r
 
 list_any-map : {X Y : Type 0} (p : Y → Bool) (f : X → Y) (xs : List X)
     → list_any p (map f xs) ≡ list_any (λ x. p (f x)) xs
@@ -92,12 +98,6 @@ gives_item-items u v (x ∷ xs) =
     list_any-append (gives_item v) (items_of u x) (items u xs)
     ∙ ap (λ b. b || list_any (gives_item v) (items u xs)) (gives_item-items_of u v x)
     ∙ ap (λ b. gives u v x || b) (gives_item-items u v xs)
-
-drop_none : {X : Type 0} (xs : List X) (i : ℕ) → slice_get xs i ≡ None → drop i xs ≡ []
-drop_none [] zero e = refl
-drop_none [] (suc i) e = refl
-drop_none (x ∷ xs) zero e = cc
-drop_none (x ∷ xs) (suc i) e = drop_none xs i e
 
 -- what a lane has done in the archive
 unfoldable items_before : Universe → List Instruction → ℕ → ℕ → List Item
@@ -208,6 +208,8 @@ module _ (u : Universe) (p : Plan) (s : State) (places : InPlaces u p s)
   stands_ready l (Wait entry) h e lt n =
       let zero_made : (lane_state s l).made ≡ 0 = omega arith in
       rw zero_made at n
+  stands_ready l Otherwise h e lt n = absurd (omega (arith, lt))
+  stands_ready l EndWhen h e lt n = absurd (omega (arith, lt))
   stands_ready l _ h e lt n = tt
 
   lane_moves : (l : ℕ) (x : Instruction) → l < length p

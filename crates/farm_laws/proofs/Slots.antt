@@ -11,7 +11,7 @@ use Rattle.farm_model.specs.declared.types.Slot.TheVariants.{Absent, Unpacked, C
 use Rattle.farm_model.specs.Chroot.{holds, holds_configured, is_present, is_unpacked, is_configured, last_of, size_in, both_satisfy, pre_meets}
 use Rattle.farm_model.specs.Traps.{configured_slot, deconfigured_slot}
 use Rattle.plan_model.specs.May.{Bits, MaySlot, all_of, some_of, is_some_of, may_hold, may_hold_configured, surely_holds, surely_configured, all_satisfy, surely_pre_meets, may_size, is_surely_unpacked, is_surely_configured, is_surely_present}
-use Rattle.plan_model.specs.Allowed.{AllowsLast, never, once, Allows, allows_absent, allows_unpacked, allows_configured}
+use Rattle.plan_model.specs.Allowed.{AllowsLast, unknown, once, Allows, allows_absent, allows_unpacked, allows_configured}
 use Rattle.plan_model.specs.MayAt.{may_be_last, may_be_configured, may_be_deconfigured}
 
 pub list_any-mono : {X : Type 0} (p q : X → Bool) (xs : List X)
@@ -83,7 +83,7 @@ module _ (u : Universe) (n : ℕ) where
   both-satisfy : (e : Entry) (set last : Bits) (b : ℕ) {was : Option ℕ} → b < variants u n
       → set b ≡ true → AllowsLast (variants u n) last was
       → all_satisfy u e n set last ≡ true → both_satisfy u e n b was ≡ true
-  both-satisfy e set last b lt c (never none) h =
+  both-satisfy e set last b lt c (unknown none) h =
       let some = some_below-found (variants u n) last
       (and_parts (is_some_of u n last) _ (and_parts (is_some_of u n set) _ h).1).0 in
       absurd (none some.0 some.1 some.2)
@@ -130,7 +130,7 @@ is_present-may (allows_configured lt c) = refl
 
 pub last_allowed : {count : ℕ} {ms : MaySlot} {s : Slot} → Allows count ms s
     → AllowsLast count (may_be_last ms) (last_of s)
-last_allowed allows_absent = never (λ b lt e. false≢true e)
+last_allowed allows_absent = unknown (λ b lt e. false≢true e)
 last_allowed (allows_unpacked lt c l) = l
 last_allowed (allows_configured lt c) = once lt c
 

@@ -1,5 +1,5 @@
 -- The induction over a run: what holds of each state that is reached.
-use Rattle.std.proofs.Common.{◌≡◌, ◌≢◌, ℕ, ◌<◌, ◌≤◌, Bool, true, ◌==◌, inl, inr, List, [], ◌∷◌, length, Option, Some, None, refl, sym, ap, ◌∙◌, subst, arith, zero-add, All}
+use Rattle.std.proofs.Common.{◌≡◌, ◌≢◌, ℕ, ◌<◌, ◌≤◌, Bool, true, false, ◌==◌, inl, inr, List, [], ◌∷◌, length, Option, Some, None, refl, sym, ap, ◌∙◌, subst, arith, zero-add, All}
 use Rattle.std.specs.Prelude.{nat_lt}
 use Rattle.std.specs.List.{find}
 use Rattle.std.proofs.lemmas.Option.{none-some, same_Some}
@@ -24,12 +24,12 @@ use Rattle.farm_model.specs.Chroot.{base_slot, base_chroot, slot}
 use Rattle.plan_model.specs.Allowed.{Allows, allows_absent, allows_configured, AllowsAll}
 use Rattle.plan_model.specs.Risk.{risk}
 use Rattle.plan_model.specs.MayAt.{may_at, may_base, may_base_slot}
-use Rattle.plan_model.specs.Safety.{risk_of, risk_at, IsSafeUnder}
+use Rattle.plan_model.specs.Safety.{risk_of, risk_at, hazard_of, hazard_at, IsSafeUnder}
 use Rattle.farm_laws.proofs.Steps.{turn_at, After, step_keeps, run_keeps}
 use Rattle.farm_laws.proofs.EventsLeft.{put_each, state_at_start}
 use Rattle.farm_laws.proofs.Archive.{publishing-zero}
 use Rattle.farm_laws.proofs.KnownRows.{ArchiveHolds, possible_at_zero, archive_stays, archive_at_start}
-use Rattle.farm_laws.proofs.Safe.{variants_name, Agrees, AgreesAfter, turn_agrees}
+use Rattle.farm_laws.proofs.Safe.{variants_name, Joins, Agrees, AgreesAfter, turn_agrees}
 
 find_some : {X : Type 0} (p : X → Bool) (P : X → Type 0) (xs : List X) (x : X) → All P xs
     → find p xs ≡ Some x → (p x ≡ true) × P x
@@ -43,11 +43,27 @@ find_some p P (y ∷ ys) x all e =
           (sym (cond-false (p y) (Some y) (find p ys) other) ∙ e)
     ]
 
+-- without a hazard there is neither a trap nor a branch that parts
+no_risk : (o : Option Trap) (part : Bool) → hazard_of o part ≡ None → o ≡ None
+no_risk None part e = refl
+no_risk (Some t) part e = cc
+
+no_part : (o : Option Trap) (part : Bool) → hazard_of o part ≡ None → part ≡ false
+no_part None false e = refl
+no_part None true e = cc
+no_part (Some t) part e = cc
+
+pub joins_at : (u : Universe) (p : Plan) (rows : Rows) → IsSafeUnder u p rows → (l : ℕ)
+    → l < length p → Joins u p rows l
+unfolding hazard_at
+joins_at u p rows safe l h i = no_part (risk_at u p rows l i) _ (safe l i h)
+
 pub safe_at : (u : Universe) (p : Plan) (rows : Rows) → IsSafeUnder u p rows
     → (l i : ℕ) (x : Instruction) → l < length p → instruction_at p l i ≡ Some x
     → risk u (lane p l) (rows l i) (possible u p l i) (may_at u p rows l i) x ≡ None
-unfolding risk_at
-safe_at u p rows safe l i x h e = ap (risk_of u p rows l i) (sym e) ∙ safe l i h
+unfolding risk_at hazard_at
+safe_at u p rows safe l i x h e =
+    ap (risk_of u p rows l i) (sym e) ∙ no_risk (risk_at u p rows l i) _ (safe l i h)
 
 module _ (u : Universe) (p : Plan) (rows : Rows) (sound : IsSound u p) (keeps : KeepsRows u p rows)
     (safe : IsSafeUnder u p rows) where
@@ -67,9 +83,10 @@ module _ (u : Universe) (p : Plan) (rows : Rows) (sound : IsSound u p) (keeps : 
       by_instruction None e = rw e tt
       by_instruction (Some x) e =
           rw e
-          (turn_agrees u p rows l (lane_state s l) (archive u s.published) (hs.agrees l h) x e
+          (turn_agrees u p rows l (lane_state s l) (archive u s.published)
+          (sound.plan.branched l h) (joins_at u p rows safe l h) (hs.agrees l h) x e
           (rw e at (hs.archive_holds.places.each l h))
-          (λ v k. hs.archive_holds.rows_there.known l v h k)
+          (λ v k. (hs.archive_holds.rows_there.knows l h).0 v k)
           (λ z v k. possible_at_zero u p rows keeps s l v h hs.archive_holds.archive_is
           (λ w. rw z (publishing-zero u _ w)) k)
           (safe_at u p rows safe l (lane_state s l).done x h e))
@@ -135,7 +152,12 @@ module _ (u : Universe) (p : Plan) (rows : Rows) (sound : IsSound u p) (keeps : 
       record {
         archive_holds = archive_at_start u p rows keeps sound;
         agrees = λ l h. rw (state_at_start u p sound l h)
-            (record { allows = base_agrees l; spent = omega arith; built = refl });
+            (record {
+              allows = base_agrees l;
+              spent = omega arith;
+              long = omega arith;
+              built = λ r e. e;
+            });
       }
 
   pub holds_after : (ls : List ℕ) (s : State) → Run u p (start u p) ls s → Holds s

@@ -10,10 +10,10 @@ use Rattle.farm_model.specs.TrapText.{trap_text}
 use Rattle.plan_model.specs.MayAt.{lane_cost}
 use Rattle.plan_model.specs.Plan.{lane, count}
 use Rattle.plan_verifier.specs.Accepted.{AcceptedPlan, known_rows}
-use Rattle.plan_verifier.specs.declared.refusal.TheConstants.{UNSAFE}
+use Rattle.plan_verifier.specs.declared.refusal.TheConstants.{UNSAFE, UNEVEN}
 use Rattle.plan_verifier.specs.declared.refusal.Refusal.{Refusal}
-use Rattle.plan_verifier.specs.declared.refusal.Refusal.TheVariants.{Text, Unsafe, Stuck, Memory}
-use Rattle.farm_report.specs.AnswerLines.{counted_line, lane_line, fault_line, unsafe_line, stuck_line, memory_line}
+use Rattle.plan_verifier.specs.declared.refusal.Refusal.TheVariants.{Text, Unsafe, Uneven, Stuck, Memory}
+use Rattle.farm_report.specs.AnswerLines.{counted_line, lane_line, fault_line, row_line, unsafe_line, stuck_line, memory_line}
 
 -- the names of the texts; no text has another number
 abbrev pub file_name : ℕ → List ℕ
@@ -37,6 +37,7 @@ accepted_text a =
 abbrev pub refusal_text : Refusal → List ℕ
 refusal_text (Text fault) = fault_line fault.code (file_name fault.file) fault.line
 refusal_text (Unsafe name number trap) = unsafe_line UNSAFE name.items number (trap_text trap)
+refusal_text (Uneven name number) = row_line UNEVEN name.items number
 refusal_text (Stuck names) = stuck_line (lists names.items)
 refusal_text Memory = memory_line
 

@@ -6,7 +6,7 @@ ghost use Rattle.report_sink.specs.Sinks.{IsWritten};
 
 use crate::lines::{write_memory, write_refused_at, write_row, write_unsafe};
 use crate::spelling::lane_name;
-use cert_text::{BAD_ORDER, BAD_TEXT, CertFault, NOT_JUSTIFIED, UNSAFE};
+use cert_text::{BAD_ORDER, BAD_TEXT, CertFault, NOT_JUSTIFIED, UNEVEN, UNSAFE};
 use plan_asm::Plan;
 use report_sink::{Sink, WriteFailed, write_text};
 
@@ -27,6 +27,9 @@ fn write_fault<S: Sink>(out: &mut S, plan: &Plan, fault: CertFault) -> Result<()
         } => {
             let name = lane_name(plan, lane);
             write_unsafe(out, UNSAFE, name, instruction, trap.text().as_bytes())
+        }
+        CertFault::Uneven { lane, instruction } => {
+            write_row(out, UNEVEN, lane_name(plan, lane), instruction)
         }
         CertFault::Order { item } => write_refused_at(out, BAD_ORDER, b"item", item),
         CertFault::Memory => write_memory(out),

@@ -6,10 +6,10 @@ ghost use Rattle.farm_report.specs.VerdictText as spec;
 ghost use Rattle.report_sink.specs.Sinks.{IsWritten};
 
 use crate::lines::{
-    write_counted, write_fault, write_lane, write_memory, write_stuck, write_unsafe,
+    write_counted, write_fault, write_lane, write_memory, write_row, write_stuck, write_unsafe,
 };
 use deb_text::files::{FARM, PACKAGES, PLAN, SOURCES};
-use plan_verifier::{Accepted, Refusal, UNSAFE};
+use plan_verifier::{Accepted, Refusal, UNEVEN, UNSAFE};
 use report_sink::{Sink, WriteFailed, WriteSink, whether_written, write_text};
 use std::alloc::{AllocError, Global};
 
@@ -68,6 +68,7 @@ fn write_refusal<S: Sink>(out: &mut S, refusal: &Refusal) -> Result<(), WriteFai
             instruction,
             trap,
         } => write_unsafe(out, UNSAFE, lane, *instruction, trap.text().as_bytes()),
+        Refusal::Uneven { lane, instruction } => write_row(out, UNEVEN, lane, *instruction),
         Refusal::Stuck { lanes } => write_stuck(out, lanes),
         Refusal::Memory => write_memory(out),
     }

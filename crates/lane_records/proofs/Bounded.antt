@@ -1,11 +1,12 @@
 -- The words that lanes load are within bounds, and records at the beginning.
-use Rattle.std.proofs.Common.{◌≡◌, ◌⊎◌, true, ℕ, ◌<◌, length, sym, ap, subst, ◌∙◌, arith}
+use Rattle.std.proofs.Common.{◌≡◌, ◌⊎◌, true, ℕ, ◌<◌, length, refl, sym, ap, subst, ◌∙◌, arith}
 use Rattle.farm_model.specs.Packages.{variant, has_bit, word_has}
 use Rattle.farm_model.specs.Universe.{Universe}
 use Rattle.plan_model.specs.Known.{possible, publishing}
 use Rattle.plan_model.specs.Plan.{Plan, lane, instruction_at}
 use Rattle.plan_model.specs.Sound.{IsSound}
 use Rattle.plan_model.specs.Turn.{LaneState}
+use Rattle.farm_laws.proofs.Branches.{stand-outside}
 use Rattle.farm_laws.proofs.EventsLeft.{fresh_place}
 use Rattle.archive_laws.proofs.Foreseen.{worlds_are_foreseen}
 use Rattle.lane_records.specs.Bounds.{IsRecord}
@@ -31,7 +32,8 @@ pub blank_holds : (u : Universe) (p : Plan) → IsSound u p → (l : ℕ) → l 
     → IsRecord u p l (blank u (lane p l))
 blank_holds u p sound l lt = record {
   in_plan = lt;
-  place = fresh_place u p sound l 0 lt;
+  place = fresh_place u p sound l 0 lt
+      (stand-outside (lane p l).instructions (sound.plan.branched l lt) 0 refl);
   made = omega arith;
   one = omega arith;
   few = omega arith;

@@ -1,12 +1,12 @@
 -- The next output of a lane, by its number.
-use Rattle.std.proofs.Common.{◌≡◌, ℕ, suc, List, length, drop, Option, Some, None, slice_get, refl, sym, ap, subst, ◌∙◌, arith}
+use Rattle.std.proofs.Common.{◌≡◌, ℕ, suc, List, length, drop, Option, Some, slice_get, refl, sym, ap, subst, ◌∙◌, arith}
 use Rattle.std.proofs.lemmas.Option.{same_Some, slice_get_within, get_or_from_slice_get}
 use Rattle.farm_model.specs.declared.types.Variant.{Variant}
 use Rattle.farm_model.specs.Universe.{Universe}
 use Rattle.farm_model.specs.Packages.{outputs}
 use Rattle.farm_model.specs.Sound.{IsKnown}
 use Rattle.plan_model.specs.declared.instructions.Instruction.{Instruction}
-use Rattle.plan_model.specs.declared.instructions.Instruction.TheVariants.{Unpack, Configure, Deconfigure, Remove, Build, Publish, Wait}
+use Rattle.plan_model.specs.declared.instructions.Instruction.TheVariants.{Publish}
 use Rattle.plan_model.specs.Plan.{Plan, lane, lane_outputs}
 use Rattle.plan_model.specs.Sound.{IsSound}
 use Rattle.farm_laws.proofs.Safe.{variants_name}
@@ -38,13 +38,7 @@ module _ (u : Universe) (p : Plan) (sound : IsSound u p) (l : ℕ) (r : Record)
         named = variants_name u v.name v.bit known;
         bit = omega arith;
       }
-  output_next v None at out = absurd (cc)
-  output_next v (Some (Unpack name wanted)) at out = absurd (cc)
-  output_next v (Some (Configure members)) at out = absurd (cc)
-  output_next v (Some (Deconfigure members)) at out = absurd (cc)
-  output_next v (Some (Remove members)) at out = absurd (cc)
-  output_next v (Some (Build recipe)) at out = absurd (cc)
-  output_next v (Some (Wait e)) at out = absurd (cc)
+  output_next v _ at out = absurd (cc)
 
   pub is_next : (v : Variant) → next_output u p l r.at ≡ Some v → IsNext u p l r v
   is_next v out = output_next v (next_of u p l r.at) refl out

@@ -13,7 +13,7 @@ use Rattle.farm_model.specs.Packages.{variant, names, word_has}
 use Rattle.farm_laws.proofs.EventsLeft.{InPlace}
 use Rattle.farm_laws.proofs.Safe.{Agrees, AgreesAfter}
 use Rattle.plan_model.specs.declared.instructions.Instruction.{Instruction}
-use Rattle.plan_model.specs.declared.instructions.Instruction.TheVariants.{Unpack}
+use Rattle.plan_model.specs.declared.instructions.Instruction.TheVariants.{Unpack, When}
 use Rattle.plan_model.specs.Known.{Rows, possible}
 use Rattle.plan_model.specs.Plan.{Lane, Plan, lane, instruction_at, next_place, lane_outputs}
 use Rattle.plan_model.specs.Safety.{IsAnnotation}
@@ -40,17 +40,23 @@ pub record MeetsNoTrap (u : Universe) (p : Plan) (rows : Rows) (l : ℕ) (st : L
       → ((v : Variant) → rows l st.done v ≡ true → there v ≡ true)
       → ((v : Variant) → there v ≡ true → possible u p l st.done v ≡ true)
       → AgreesAfter u p rows l (turn_of u there (lane p l) st (Some x))
-  -- an unpack does so over the word of its name alone.
+  -- an unpack does so over the word of its name alone;
   pub unpack : (n found : ℕ) (wanted : Option (Op × List ℕ))
       → instruction_at p l st.done ≡ Some (Unpack n wanted)
       → ((b : ℕ) → rows l st.done (variant n b) ≡ true → word_has found b ≡ true)
       → ((b : ℕ) → word_has found b ≡ true → possible u p l st.done (variant n b) ≡ true)
       → AgreesAfter u p rows l (turn_of u (seen n found) (lane p l) st (Some (Unpack n wanted)))
+  -- so does a `when`.
+  pub when : (n found : ℕ) (wanted : Option (Op × List ℕ))
+      → instruction_at p l st.done ≡ Some (When n wanted)
+      → ((b : ℕ) → rows l st.done (variant n b) ≡ true → word_has found b ≡ true)
+      → ((b : ℕ) → word_has found b ≡ true → possible u p l st.done (variant n b) ≡ true)
+      → AgreesAfter u p rows l (turn_of u (seen n found) (lane p l) st (Some (When n wanted)))
 
 abbrev pub NoTrapWithinBounds : Type 0
 NoTrapWithinBounds =
-    (u : Universe) (p : Plan) (rows : Rows) → IsAnnotation u p rows → (l : ℕ) → l < length p
-    → (st : LaneState) → Agrees u p rows l st
+    (u : Universe) (p : Plan) (rows : Rows) → IsSound u p → IsAnnotation u p rows → (l : ℕ)
+    → l < length p → (st : LaneState) → Agrees u p rows l st
     → InPlace u (lane p l).instructions st.done st.made → MeetsNoTrap u p rows l st
 
 -- A lane with these instructions left:

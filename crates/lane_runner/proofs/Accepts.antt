@@ -1,5 +1,6 @@
 -- Archive steps of a runner of an accepted plan, as the calls of its end tell them.
-use Rattle.std.proofs.Common.{◌≡◌, ◌⊎◌, ℕ, suc, ◌+◌, ◌<◌, ◌≤◌, Bool, true, false, ◌&&◌, List, length, Option, Some, None, slice_get, sym, ap, subst, ◌∙◌, arith}
+use Rattle.std.proofs.Common.{◌≡◌, ◌⊎◌, ℕ, suc, ◌+◌, ◌<◌, ◌≤◌, Bool, true, false, ◌&&◌, List, length, Option, Some, None, slice_get, sym, ap, subst, ◌∙◌}
+use Rattle.std.specs.Option.{is_some}
 use Rattle.std.proofs.lemmas.Option.{slice_get_within}
 use Rattle.archive_laws.specs.LaneMoves.{outputs_made}
 use Rattle.chroot_state.specs.Held.{Held, IsHeld, room, with_slots}
@@ -14,15 +15,16 @@ use Rattle.lane_records.specs.Bounds.{IsInBounds}
 use Rattle.lane_records.specs.Records.{Record, next_output, after_load, after_draw, after_publish}
 use Rattle.plan_asm.specs.declared.error.TheConstants.{MOST_INSTRUCTIONS}
 use Rattle.plan_model.specs.declared.instructions.Instruction.{Instruction}
-use Rattle.plan_model.specs.declared.instructions.Instruction.TheVariants.{Unpack, Publish, Wait}
+use Rattle.plan_model.specs.declared.instructions.Instruction.TheVariants.{Unpack, Publish, Wait, When}
 use Rattle.plan_model.specs.Plan.{lane, instruction_at, capacity, unpack_cost}
 use Rattle.plan_model.specs.Safety.{IsAnnotation}
 use Rattle.plan_model.specs.Turn.{LaneState, first_only}
 use Rattle.plan_verifier.specs.Accepted.{AcceptedPlan, IsAccepted, known_rows}
 use Rattle.lane_runner.specs.Calls.{IsRunning}
-use Rattle.lane_runner.specs.OnWay.{passed, given_one, CanPass}
+use Rattle.lane_runner.specs.OnWay.{gone_to, passed, given_one, branch_place, CanPass}
 use Rattle.lane_runner.specs.declared.runner.Runner.{Runner}
 use Rattle.lane_runner.proofs.Unpacks.{some_newest, unpack_free, unpack_goes}
+use Rattle.lane_runner.proofs.Whens.{when_goes}
 use Rattle.lane_runner.proofs.Waits.{one_word, waits_on, passes_on}
 use Rattle.lane_runner.proofs.Publishes.{given_lane, output_left, output_next, one_drawn, output_paid, publishes_on}
 
@@ -51,11 +53,10 @@ module _ (a : AcceptedPlan) (accepted : IsAccepted a) (w : Runner) (c : Held) (b
   abbrev u : Universe
   u = a.universe
 
-  -- the place of an instruction is below the limit
+  -- a place with an instruction is one of the lane
   pub place_below : (x : Instruction) → instruction_at a.plan w.lane w.done ≡ Some x
-      → length (lane a.plan w.lane).instructions ≤ MOST_INSTRUCTIONS → w.done < MOST_INSTRUCTIONS
-  place_below x here short =
-      let lt = slice_get_within (lane a.plan w.lane).instructions w.done x here in omega arith
+      → w.done < length (lane a.plan w.lane).instructions
+  place_below x here = slice_get_within (lane a.plan w.lane).instructions w.done x here
 
   module _ (name : ℕ) (wanted : Option (Op × List ℕ))
       (here : instruction_at a.plan w.lane w.done ≡ Some (Unpack name wanted)) (found : ℕ)
@@ -79,7 +80,8 @@ module _ (a : AcceptedPlan) (accepted : IsAccepted a) (w : Runner) (c : Held) (b
           let free = unpack_free u a.plan (known_rows a) accepted.sound (annotated a accepted) w c r
           run.on name wanted here found within o picked k some in
           record {
-            next = place_below (Unpack name wanted) here short;
+            next = place_below (Unpack name wanted) here;
+            short = short;
             free = ap (λ n. first_trap (unpack_traps u (base u n).capacity c.slots (variant name k)))
                 run.on.base
                 ∙ free.none;
@@ -87,7 +89,7 @@ module _ (a : AcceptedPlan) (accepted : IsAccepted a) (w : Runner) (c : Held) (b
           }
 
       pub takes : (v : Runner) (d : Held) (q : Record) (b' : AcceptedPlan) (l' : ℕ)
-          → v ≡ passed w (unpack_cost u (variant name k))
+          → v ≡ passed (lane a.plan w.lane) w (unpack_cost u (variant name k))
           → d ≡ with_slots u c (unpacked c.slots (variant name k)) → IsHeld u d
           → q ≡ after_load b.universe b.plan l name found r → b' ≡ b → l' ≡ l
           → IsRunning a v d b' l' q
@@ -99,6 +101,24 @@ module _ (a : AcceptedPlan) (accepted : IsAccepted a) (w : Runner) (c : Held) (b
             (ap (λ (x : Held). x.slots) d_is) (ap (λ (x : Held). x.base) d_is) held
             (loaded a b w.lane l run.about_is run.lane_is name found r q q_is);
       }
+
+  -- a `when` of the runner
+  pub branches : (name : ℕ) (wanted : Option (Op × List ℕ))
+      → instruction_at a.plan w.lane w.done ≡ Some (When name wanted) → (found : ℕ)
+      → IsInBounds b.universe b.plan (known_rows b) l r.at name found → (holds : Bool)
+      → holds ≡ is_some (highest_below (variants u name)
+      (λ k. word_has found k && is_wanted u wanted (variant name k)))
+      → (v : Runner) (q : Record) (b' : AcceptedPlan) (l' : ℕ)
+      → v ≡ gone_to w (branch_place (lane a.plan w.lane) w.done holds)
+      → q ≡ after_load b.universe b.plan l name found r → b' ≡ b → l' ≡ l
+      → IsRunning a v c b' l' q
+  branches name wanted here found bounds holds is v q b' l' v_is q_is same_plan same_lane = record {
+    about_is = same_plan ∙ run.about_is;
+    lane_is = same_lane ∙ run.lane_is ∙ sym (ap (λ (x : Runner). x.lane) v_is);
+    on = when_goes u a.plan (known_rows a) accepted.sound (annotated a accepted) w c r run.on name
+        wanted here found (bounded a b w.lane l run.about_is run.lane_is name found r bounds) holds
+        is v q v_is (loaded a b w.lane l run.about_is run.lane_is name found r q q_is);
+  }
 
   module _ (e : Entry) (here : instruction_at a.plan w.lane w.done ≡ Some (Wait e))
       (name found : ℕ) (q : Record) (b' : AcceptedPlan) (l' : ℕ)
@@ -121,7 +141,7 @@ module _ (a : AcceptedPlan) (accepted : IsAccepted a) (w : Runner) (c : Held) (b
           name found q q_told fails;
     }
 
-    pub passes : (v : Runner) → v ≡ passed w 0
+    pub passes : (v : Runner) → v ≡ passed (lane a.plan w.lane) w 0
         → IsInBounds b.universe b.plan (known_rows b) l r.at name found → word_passes ≡ true
         → IsRunning a v c b' l' q
     passes v v_is bounds found_one =
@@ -164,7 +184,7 @@ module _ (a : AcceptedPlan) (accepted : IsAccepted a) (w : Runner) (c : Held) (b
 
       pub publishes : (q' : Record) (b'' : AcceptedPlan) (l'' : ℕ)
           → q' ≡ after_publish b'.universe b'.plan l' q → b'' ≡ b' → l'' ≡ l' → (v : Runner)
-          → v ≡ given_one (length (outputs u recipe)) w
+          → v ≡ given_one (lane a.plan w.lane) (length (outputs u recipe)) w
           (first_only w.made (length (outputs u recipe))) → IsRunning a v c b'' l'' q'
       publishes q' b'' l'' q_is next_plan next_lane v v_is =
           let plan_is = same_plan ∙ run.about_is in
@@ -174,7 +194,8 @@ module _ (a : AcceptedPlan) (accepted : IsAccepted a) (w : Runner) (c : Held) (b
           (λ i. (plan_is i, lane_is i)) q_is in
           record {
             about_is = next_plan ∙ plan_is;
-            lane_is = next_lane ∙ lane_is ∙ sym (given_lane (length (outputs u recipe)) w _ v v_is);
+            lane_is = next_lane ∙ lane_is
+                ∙ sym (given_lane (lane a.plan w.lane) (length (outputs u recipe)) w _ v v_is);
             on = publishes_on u a.plan (known_rows a) accepted.sound (annotated a accepted) w c r
                 run.on recipe here serial q q' drawn told v v_is;
           }

@@ -1,6 +1,7 @@
 -- A lane at its beginning, and at its end.
 use Rattle.std.proofs.Common.{◌≡◌, ℕ, zero, suc, ◌<◌, ◌≤◌, List, [], ◌∷◌, length, drop, None, slice_get, refl, sym, ap, subst, ◌∙◌, arith}
 use Rattle.chroot_state.specs.Held.{Held, IsHeld, opened}
+use Rattle.farm_laws.proofs.Branches.{stand-outside}
 use Rattle.farm_laws.proofs.EventsLeft.{StandsAt, fresh_place, state_at_start}
 use Rattle.farm_laws.proofs.Safe.{Agrees}
 use Rattle.farm_laws.proofs.Whole.{holds_at_start}
@@ -24,7 +25,8 @@ starts u p rows sound ann l lt c r fresh held at none =
     let st : LaneState = start_lane u (lane p l) in
     let is : st ≡ state_of (started l) c st.built =
     ap (λ (k : Held). state_of (started l) k st.built) (sym fresh) in
-    let place = fresh_place u p sound l 0 lt in
+    let place = fresh_place u p sound l 0 lt
+    (stand-outside (lane p l).instructions (sound.plan.branched l lt) 0 refl) in
     let keeps = subst (Agrees u p rows l) (state_at_start u p sound l lt)
     ((holds_at_start u p rows sound ann.keeps ann.safe).agrees l lt) in
     record {

@@ -1,8 +1,9 @@
 pub mod Traps
+pub mod AtStep
 pub mod LocalSteps
 pub mod LocalKinds
-pub mod AtStep
 pub mod Unpacks
+pub mod Whens
 pub mod Waits
 pub mod Publishes
 pub mod Ends

@@ -4,7 +4,7 @@ use Rattle.std.proofs.Common.{◌≡◌, ◌⊎◌, inl, inr, ℕ, zero, suc, �
 use Rattle.std.specs.Prelude.{◌==◌}
 use Rattle.std.proofs.lemmas.Bool.{cases_lt, lt-ltb, le-ltb}
 use Rattle.chroot_state.specs.Held.{Held}
-use Rattle.farm_laws.proofs.EventsLeft.{InPlace, StandsAt, fresh_place}
+use Rattle.farm_laws.proofs.EventsLeft.{InPlace, StandsAt}
 use Rattle.farm_laws.proofs.Safe.{Agrees, AgreesAfter}
 use Rattle.farm_model.specs.declared.types.Variant.{Variant}
 use Rattle.farm_model.specs.Packages.{outputs}
@@ -17,14 +17,14 @@ use Rattle.lane_records.proofs.Safe.{local_safe}
 use Rattle.plan_model.specs.declared.instructions.Instruction.{Instruction}
 use Rattle.plan_model.specs.declared.instructions.Instruction.TheVariants.{Publish}
 use Rattle.plan_model.specs.Known.{Rows}
-use Rattle.plan_model.specs.Plan.{Lane, Plan, lane, instruction_at, publish_cost}
+use Rattle.plan_model.specs.Plan.{Lane, Plan, lane, next_place, instruction_at, publish_cost}
 use Rattle.plan_model.specs.Safety.{IsAnnotation}
 use Rattle.plan_model.specs.Sound.{IsSound}
 use Rattle.plan_model.specs.Turn.{LaneState, Gives, given, first_only, over_budget, unless, publish_traps, publishes, turn_of}
 use Rattle.lane_runner.specs.OnWay.{state_of, passed, given_one, IsOnWay}
 use Rattle.lane_runner.specs.declared.runner.Runner.{Runner}
 use Rattle.lane_runner.proofs.Traps.{unless_agrees, first_free, within_budget}
-use Rattle.lane_runner.proofs.AtStep.{ready_is, next_is, made_is, made_below}
+use Rattle.lane_runner.proofs.AtStep.{place_behind, ready_is, next_is, made_is, made_below}
 
 -- an item at the end of a list
 last_there : (xs : List ℕ) (x : ℕ) → slice_get (xs ++ x ∷ []) (length xs) ≡ Some x
@@ -37,14 +37,15 @@ get_there (x ∷ xs) zero lt = (x, refl)
 get_there (x ∷ xs) (suc i) lt = get_there xs i (omega arith)
 
 -- one more output leaves a runner in its lane
-pub given_lane : (count : ℕ) (w : Runner) (cost : ℕ) (v : Runner) → v ≡ given_one count w cost
+pub given_lane : (of : Lane) (count : ℕ) (w : Runner) (cost : ℕ) (v : Runner)
+    → v ≡ given_one of count w cost
     → v.lane ≡ w.lane
-given_lane count w cost v is = elim (cases_lt (suc w.made) count) [
+given_lane of count w cost v is = elim (cases_lt (suc w.made) count) [
   | inl lt ↦ let more = lt-ltb (suc w.made) count lt in
       let e : v ≡ record w { made = suc w.made; spent = w.spent + cost } = is ∙ rw more refl in
       ap (λ (x : Runner). x.lane) e
   | inr ge ↦ let last = le-ltb (suc w.made) count ge in
-      let e : v ≡ passed w cost = is ∙ rw last refl in ap (λ (x : Runner). x.lane) e
+      let e : v ≡ passed of w cost = is ∙ rw last refl in ap (λ (x : Runner). x.lane) e
 ]
 
 module _ (u : Universe) (p : Plan) (rows : Rows) (sound : IsSound u p) (ann : IsAnnotation u p rows)
@@ -109,7 +110,7 @@ module _ (u : Universe) (p : Plan) (rows : Rows) (sound : IsSound u p) (ann : Is
   free_and_safe =
       unless_agrees u p rows w.lane (first_trap (publish_traps u of st recipe)) (Gives next output.0)
       (subst (AgreesAfter u p rows w.lane) gives
-      (local_safe u p rows ann w.lane on.in_plan st on.agrees on.there (Publish recipe) here))
+      (local_safe u p rows sound ann w.lane on.in_plan st on.agrees on.there (Publish recipe) here))
 
   turn_is : turn_of u (rows w.lane w.done) of st (Some (Publish recipe)) ≡ Gives next output.0
   turn_is = gives ∙ ap (λ o. unless o (Gives next output.0)) free_and_safe.0
@@ -132,7 +133,7 @@ module _ (u : Universe) (p : Plan) (rows : Rows) (sound : IsSound u p) (ann : Is
     | inl lt ↦ rw (lt-ltb (suc w.made) count lt)
         (subst (λ o. StandsAt u o (suc w.made)) (sym here) lt)
     | inr ge ↦ rw (le-ltb (suc w.made) count ge)
-        (fresh_place u p sound w.lane (suc w.done) on.in_plan)
+        (place_behind u p sound w.lane on.in_plan w.done)
   ]
 
   module _ (serial : ℕ) (q q' : Record) (drawn : q ≡ after_draw serial r)
@@ -155,8 +156,8 @@ module _ (u : Universe) (p : Plan) (rows : Rows) (sound : IsSound u p) (ann : Is
         let long = length-append r.serials (serial ∷ []) in
         let all : length q'.serials ≡ length (r.serials ++ serial ∷ []) = ap length serials_are in
         let d = on.drawn in
-        let one = (gives_count u of (rows w.lane w.done) st next (Publish recipe) output.0 here
-        on.there turn_is).0 in
+        let one = (gives_count u of (sound.plan.branched w.lane on.in_plan) (rows w.lane w.done) st
+        next (Publish recipe) output.0 here on.there turn_is).0 in
         let here_made = made_is u p rows sound w c r on (Publish recipe) refl here in
         let there_made : outputs_made u of q'.at ≡ outputs_made u of next =
         ap (outputs_made u of) moved in
@@ -175,7 +176,7 @@ module _ (u : Universe) (p : Plan) (rows : Rows) (sound : IsSound u p) (ann : Is
         }
 
     -- the runner behind the output is on its way
-    pub publishes_on : (v : Runner) → v ≡ given_one count w cost → IsOnWay u p rows v c q'
+    pub publishes_on : (v : Runner) → v ≡ given_one of count w cost → IsOnWay u p rows v c q'
     publishes_on v v_is = elim (cases_lt (suc w.made) count) [
       | inl lt ↦
           let more = lt-ltb (suc w.made) count lt in
@@ -185,7 +186,7 @@ module _ (u : Universe) (p : Plan) (rows : Rows) (sound : IsSound u p) (ann : Is
           (on_next w.done (suc w.made) (w.spent + cost) (rw more refl))
       | inr ge ↦
           let last = le-ltb (suc w.made) count ge in
-          let v_last : v ≡ passed w cost = v_is ∙ rw last refl in
+          let v_last : v ≡ passed of w cost = v_is ∙ rw last refl in
           subst (λ x. IsOnWay u p rows x c q') (sym v_last)
-          (on_next (suc w.done) 0 (w.spent + cost) (rw last refl))
+          (on_next (next_place of w.done) 0 (w.spent + cost) (rw last refl))
     ]

@@ -1,12 +1,11 @@
 -- An unpack of a runner over one word: it takes a variant, meets no trap, and leaves the runner on
 -- its way.
-use Rattle.std.proofs.Common.{◌≡◌, inl, inr, ℕ, suc, Bool, true, ◌&&◌, List, Option, Some, None, refl, sym, ap, subst, ◌∙◌, arith}
+use Rattle.std.proofs.Common.{◌≡◌, ℕ, Bool, ◌&&◌, List, Option, Some, None, refl, sym, ap, subst, ◌∙◌}
 use Rattle.std.specs.Prelude.{◌==◌}
-use Rattle.std.proofs.lemmas.Bool.{eq-eqb, false≢true, cond-true}
+use Rattle.std.proofs.lemmas.Bool.{eq-eqb, cond-true}
 use Rattle.chroot_state.specs.Held.{Held, IsHeld}
 use Rattle.deb_relation.specs.declared.operator.Op.{Op}
-use Rattle.farm_laws.proofs.Archive.{publishing-zero}
-use Rattle.farm_laws.proofs.EventsLeft.{InPlace, fresh_place}
+use Rattle.farm_laws.proofs.EventsLeft.{InPlace}
 use Rattle.farm_laws.proofs.Safe.{Agrees, AgreesAfter}
 use Rattle.farm_model.specs.declared.types.Trap.{Trap}
 use Rattle.farm_model.specs.Below.{highest_below}
@@ -14,13 +13,13 @@ use Rattle.farm_model.specs.Packages.{variant, variants, is_wanted, word_has}
 use Rattle.farm_model.specs.Traps.{unpack_traps, unpacked}
 use Rattle.farm_model.specs.Universe.{Universe}
 use Rattle.archive_laws.specs.LaneMoves.{seen, moved_by, outputs_made}
-use Rattle.lane_records.specs.Records.{Record, ready_in, next_of, after_load}
+use Rattle.lane_records.specs.Records.{Record, ready_in, after_load}
 use Rattle.lane_records.specs.Bounds.{IsInBounds}
 use Rattle.archive_laws.proofs.Counted.{goes_count}
 use Rattle.lane_records.proofs.Safe.{unpack_safe}
 use Rattle.plan_model.specs.declared.instructions.Instruction.{Instruction}
 use Rattle.plan_model.specs.declared.instructions.Instruction.TheVariants.{Unpack}
-use Rattle.plan_model.specs.Known.{Rows, possible, publishing}
+use Rattle.plan_model.specs.Known.{Rows}
 use Rattle.plan_model.specs.Plan.{Lane, Plan, lane, instruction_at, capacity, unpack_cost}
 use Rattle.plan_model.specs.Safety.{IsAnnotation}
 use Rattle.plan_model.specs.Sound.{IsSound}
@@ -29,7 +28,7 @@ use Rattle.plan_model.specs.World.{goes_on}
 use Rattle.lane_runner.specs.OnWay.{state_of, passed, IsOnWay}
 use Rattle.lane_runner.specs.declared.runner.Runner.{Runner}
 use Rattle.lane_runner.proofs.Traps.{IsFree, free_of}
-use Rattle.lane_runner.proofs.AtStep.{ready_is, made_is, made_below}
+use Rattle.lane_runner.proofs.AtStep.{place_behind, ready_is, made_is, has_known, is_possible}
 
 module _ (u : Universe) (p : Plan) (rows : Rows) (sound : IsSound u p) (ann : IsAnnotation u p rows)
     (w : Runner) (c : Held) (r : Record) (on : IsOnWay u p rows w c r) (name : ℕ)
@@ -45,27 +44,11 @@ module _ (u : Universe) (p : Plan) (rows : Rows) (sound : IsSound u p) (ann : Is
   ready_here : ready_in u p w.lane r.at ≡ st
   ready_here = ready_is u p rows sound w c r on (Unpack name wanted) refl here
 
-  zero_made : w.made ≡ 0
-  zero_made = let lt = made_below u p rows sound w c r on (Unpack name wanted) refl here in omega arith
-
-  below : (b : ℕ) → rows w.lane w.done (variant name b) ≡ true → word_has found b ≡ true
-  below b k = bounds.known b
-      (subst (λ (s : LaneState). rows w.lane s.done (variant name b) ≡ true) (sym ready_here) k)
-
-  above : (b : ℕ) → word_has found b ≡ true → possible u p w.lane w.done (variant name b) ≡ true
-  above b e = elim (bounds.bounded b e) [
-    | inl may ↦ subst (λ (s : LaneState). possible u p w.lane s.done (variant name b) ≡ true)
-        ready_here may
-    | inr given ↦ absurd (false≢true
-        (sym (publishing-zero u (next_of u p w.lane r.at) (variant name b))
-        ∙ (ap (λ k. publishing u (next_of u p w.lane r.at) k (variant name b))
-        (sym (ap (λ (s : LaneState). s.made) ready_here ∙ zero_made)) ∙ given)))
-  ]
-
   agrees : AgreesAfter u p rows w.lane (unpacks u of st name (newest u (seen name found) name wanted))
   agrees =
-      unpack_safe u p rows ann w.lane on.in_plan st on.agrees on.there name found wanted here below
-      above
+      unpack_safe u p rows sound ann w.lane on.in_plan st on.agrees on.there name found wanted here
+      (has_known u p rows sound w c r on (Unpack name wanted) refl here refl name found bounds)
+      (is_possible u p rows sound w c r on (Unpack name wanted) refl here refl name found bounds)
 
   -- what the code looks for
   newest_is : newest u (seen name found) name wanted
@@ -117,20 +100,21 @@ module _ (u : Universe) (p : Plan) (rows : Rows) (sound : IsSound u p) (ann : Is
 
       -- and the runner that takes it is behind the unpack
       pub unpack_goes : (v : Runner) (d : Held) (q : Record)
-          → v ≡ passed w (unpack_cost u (variant name b))
+          → v ≡ passed of w (unpack_cost u (variant name b))
           → d.slots ≡ unpacked c.slots (variant name b) → d.base ≡ c.base → IsHeld u d
           → q ≡ after_load u p w.lane name found r → IsOnWay u p rows v d q
       unpack_goes v d q v_is slots base held q_is =
           subst (λ x. IsOnWay u p rows x d q) (sym v_is)
-          (subst (IsOnWay u p rows (passed w (unpack_cost u (variant name b))) d) (sym q_is) on_next)
+          (subst (IsOnWay u p rows (passed of w (unpack_cost u (variant name b))) d) (sym q_is)
+          on_next)
         where
-          is : state_of (passed w (unpack_cost u (variant name b))) d on.built ≡ next
+          is : state_of (passed of w (unpack_cost u (variant name b))) d on.built ≡ next
           is = ap (λ s. past of st (unpack_cost u (variant name b)) s) slots
 
-          on_next : IsOnWay u p rows (passed w (unpack_cost u (variant name b))) d
+          on_next : IsOnWay u p rows (passed of w (unpack_cost u (variant name b))) d
               (after_load u p w.lane name found r)
           on_next =
-              let place = fresh_place u p sound w.lane (suc w.done) on.in_plan in
+              let place = place_behind u p sound w.lane on.in_plan w.done in
               record {
                 in_plan = on.in_plan;
                 held = held;
@@ -144,7 +128,7 @@ module _ (u : Universe) (p : Plan) (rows : Rows) (sound : IsSound u p) (ann : Is
                 drawn =
                     on.drawn
                     ∙ (sym (made_is u p rows sound w c r on (Unpack name wanted) refl here)
-                    ∙ (sym (goes_count u of (seen name found) st next (Unpack name wanted) here
-                    on.there turn_is)
+                    ∙ (sym (goes_count u of (sound.plan.branched w.lane on.in_plan)
+                    (seen name found) st next (Unpack name wanted) here on.there turn_is)
                     ∙ ap (outputs_made u of) (sym moved)));
               }

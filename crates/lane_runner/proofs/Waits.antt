@@ -1,13 +1,12 @@
 -- A wait of a runner over one word: it passes where the word satisfies it, and else stays.
-use Rattle.std.proofs.Common.{◌≡◌, inl, inr, ℕ, suc, ◌<◌, Bool, true, false, ◌&&◌, ◌||◌, length, Option, Some, refl, sym, ap, subst, ◌∙◌, arith}
+use Rattle.std.proofs.Common.{◌≡◌, inl, inr, ℕ, ◌<◌, Bool, true, false, ◌&&◌, ◌||◌, length, Option, Some, refl, sym, ap, subst, ◌∙◌, arith}
 use Rattle.std.specs.Prelude.{◌==◌}
-use Rattle.std.proofs.lemmas.Bool.{cases_eq, eq-eqb, ne_eqb, eqb-true, false≢true, cond-false, or_cases, or_left, or_right, and_parts, and_from}
+use Rattle.std.proofs.lemmas.Bool.{cases_eq, eq-eqb, ne_eqb, eqb-true, cond-false, or_cases, or_left, or_right, and_parts, and_from}
 use Rattle.std.proofs.lemmas.Option.{slice_get_within}
 use Rattle.archive_laws.proofs.OneWord.{each_word_decides}
 use Rattle.chroot_state.specs.Held.{Held}
 use Rattle.deb_relation.specs.Relations.{Entry}
-use Rattle.farm_laws.proofs.Archive.{publishing-zero}
-use Rattle.farm_laws.proofs.EventsLeft.{InPlace, fresh_place}
+use Rattle.farm_laws.proofs.EventsLeft.{InPlace}
 use Rattle.farm_laws.proofs.Safe.{Agrees, AgreesAfter}
 use Rattle.farm_model.specs.declared.types.Variant.{Variant}
 use Rattle.farm_model.specs.Below.{some_below}
@@ -15,13 +14,13 @@ use Rattle.farm_model.specs.Packages.{names, variant, variants, word_has, satisf
 use Rattle.farm_model.specs.Universe.{Universe}
 use Rattle.farm_model.proofs.BelowLaws.{some_below-none, some_below-found}
 use Rattle.archive_laws.specs.LaneMoves.{seen, moved_by, outputs_made}
-use Rattle.lane_records.specs.Records.{Record, ready_in, next_of, after_load}
+use Rattle.lane_records.specs.Records.{Record, ready_in, after_load}
 use Rattle.lane_records.specs.Bounds.{IsInBounds}
 use Rattle.archive_laws.proofs.Counted.{goes_count}
 use Rattle.lane_records.proofs.Safe.{turn_safe}
 use Rattle.plan_model.specs.declared.instructions.Instruction.{Instruction}
 use Rattle.plan_model.specs.declared.instructions.Instruction.TheVariants.{Wait}
-use Rattle.plan_model.specs.Known.{Rows, possible, publishing}
+use Rattle.plan_model.specs.Known.{Rows, possible}
 use Rattle.plan_model.specs.Plan.{Lane, Plan, lane, instruction_at}
 use Rattle.plan_model.specs.Safety.{IsAnnotation}
 use Rattle.plan_model.specs.Sound.{IsSound}
@@ -30,7 +29,7 @@ use Rattle.plan_model.specs.World.{goes_on}
 use Rattle.verdict_laws.proofs.Unions.{known_are_possible}
 use Rattle.lane_runner.specs.OnWay.{state_of, passed, IsOnWay}
 use Rattle.lane_runner.specs.declared.runner.Runner.{Runner}
-use Rattle.lane_runner.proofs.AtStep.{ready_is, made_is, made_below, looked}
+use Rattle.lane_runner.proofs.AtStep.{place_behind, ready_is, made_is, is_possible, looked}
 
 module _ (u : Universe) (p : Plan) (rows : Rows) (sound : IsSound u p) (ann : IsAnnotation u p rows)
     (w : Runner) (c : Held) (r : Record) (on : IsOnWay u p rows w c r) (e : Entry)
@@ -87,19 +86,6 @@ module _ (u : Universe) (p : Plan) (rows : Rows) (sound : IsSound u p) (ann : Is
     abbrev next : LaneState
     next = past of st 0 c.slots
 
-    zero_made : w.made ≡ 0
-    zero_made = let lt = made_below u p rows sound w c r on (Wait e) refl here in omega arith
-
-    may_be : (b : ℕ) → word_has found b ≡ true → possible u p w.lane w.done (variant name b) ≡ true
-    may_be b h = elim (bounds.bounded b h) [
-      | inl may ↦ subst (λ (s : LaneState). possible u p w.lane s.done (variant name b) ≡ true)
-          ready_here may
-      | inr given ↦ absurd (false≢true
-          (sym (publishing-zero u (next_of u p w.lane r.at) (variant name b))
-          ∙ (ap (λ k. publishing u (next_of u p w.lane r.at) k (variant name b))
-          (sym (ap (λ (s : LaneState). s.made) ready_here ∙ zero_made)) ∙ given)))
-    ]
-
     -- what is known, and the word
     abbrev there : Variant → Bool
     there v = rows w.lane w.done v || seen name found v
@@ -110,7 +96,9 @@ module _ (u : Universe) (p : Plan) (rows : Rows) (sound : IsSound u p) (ann : Is
           known_are_possible u p rows ann.keeps w.lane w.done v on.in_plan (omega arith) k
       | inr s ↦ let parts = and_parts (v.name == name) (word_has found v.bit) s in
           subst (λ m. possible u p w.lane w.done (variant m v.bit) ≡ true)
-          (sym (eqb-true v.name name parts.0)) (may_be v.bit parts.1)
+          (sym (eqb-true v.name name parts.0))
+          (is_possible u p rows sound w c r on (Wait e) refl here refl name found bounds v.bit
+          parts.1)
     ]
 
     sat : (k : ℕ) × (k < variants u name)
@@ -130,7 +118,7 @@ module _ (u : Universe) (p : Plan) (rows : Rows) (sound : IsSound u p) (ann : Is
         subst (AgreesAfter u p rows w.lane)
         ((each_word_decides u of st there).wait e (variant name sat.0) sat.1
         (or_right (rows w.lane w.done (variant name sat.0)) _ seen_it) both.1)
-        (turn_safe u p rows ann w.lane on.in_plan st on.agrees on.there there (Wait e) here
+        (turn_safe u p rows sound ann w.lane on.in_plan st on.agrees on.there there (Wait e) here
         (λ v k. or_left (rows w.lane w.done v) _ k) within)
 
     turn_is : turn_of u (seen name found) of st (Some (Wait e)) ≡ Goes next
@@ -139,11 +127,11 @@ module _ (u : Universe) (p : Plan) (rows : Rows) (sound : IsSound u p) (ann : Is
 
     -- a word that lets it pass leaves the runner behind the wait
     pub passes_on : (q : Record) → q ≡ after_load u p w.lane name found r
-        → IsOnWay u p rows (passed w 0) c q
+        → IsOnWay u p rows (passed of w 0) c q
     passes_on q is =
         let at : q.at ≡ next = ap (λ (x : Record). x.at) is
         ∙ (moved ∙ ap (λ (t : Turn). goes_on r.at t (λ n. n)) turn_is) in
-        let place = fresh_place u p sound w.lane (suc w.done) on.in_plan in
+        let place = place_behind u p sound w.lane on.in_plan w.done in
         record {
           in_plan = on.in_plan;
           held = on.held;
@@ -157,6 +145,7 @@ module _ (u : Universe) (p : Plan) (rows : Rows) (sound : IsSound u p) (ann : Is
               ap (λ (x : Record). length x.serials) is
               ∙ (on.drawn
               ∙ (sym (made_is u p rows sound w c r on (Wait e) refl here)
-              ∙ (sym (goes_count u of (seen name found) st next (Wait e) here on.there turn_is)
+              ∙ (sym (goes_count u of (sound.plan.branched w.lane on.in_plan) (seen name found) st
+              next (Wait e) here on.there turn_is)
               ∙ ap (outputs_made u of) (sym at))));
         }

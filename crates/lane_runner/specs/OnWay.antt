@@ -3,7 +3,9 @@
 --
 --   state_of             the lane's state, as the runner keeps it
 --   started              a runner that has not begun
+--   gone_to              the runner at another place of its lane
 --   passed, given_one    the runner behind an instruction; behind one more of so many outputs
+--   branch_place         where a `when` leads to
 --   CanPass              it can pass its instruction
 --   IsOnWay              it is on the way from the lane's last archive step to its next
 --   IsFresh              a lane that has not begun
@@ -19,7 +21,7 @@ use Rattle.archive_laws.specs.LaneMoves.{outputs_made}
 use Rattle.lane_records.specs.Records.{Record, ready_in, next_of}
 use Rattle.plan_asm.specs.declared.error.TheConstants.{MOST_INSTRUCTIONS}
 use Rattle.plan_model.specs.Known.{Rows}
-use Rattle.plan_model.specs.Plan.{Plan, Lane, lane}
+use Rattle.plan_model.specs.Plan.{Plan, Lane, lane, next_place, else_place}
 use Rattle.plan_model.specs.Turn.{LaneState, start_lane}
 use Rattle.lane_runner.specs.declared.runner.Runner.{Runner}
 
@@ -37,19 +39,27 @@ state_of w c built = record {
 abbrev pub started : ℕ → Runner
 started l = record { lane = l; done = 0; made = 0; spent = 0 }
 
-abbrev pub passed : Runner → ℕ → Runner
-passed w cost = record w { done = suc w.done; made = 0; spent = w.spent + cost }
+abbrev pub gone_to : Runner → ℕ → Runner
+gone_to w place = record w { done = place; made = 0 }
+
+abbrev pub passed : Lane → Runner → ℕ → Runner
+passed of w cost = record w { done = next_place of w.done; made = 0; spent = w.spent + cost }
 
 -- the last output ends the publish
-abbrev pub given_one : ℕ → Runner → ℕ → Runner
-given_one count w cost =
+abbrev pub given_one : Lane → ℕ → Runner → ℕ → Runner
+given_one of count w cost =
     if nat_lt (suc w.made) count
     then record w { made = suc w.made; spent = w.spent + cost }
-    else passed w cost
+    else passed of w cost
+
+-- the first branch of the `when` at a place where it holds, else the second one
+abbrev pub branch_place : Lane → ℕ → Bool → ℕ
+branch_place of k holds = if holds then next_place of k else else_place of k
 
 -- The runner can pass its instruction at this cost: these traps are not met.
 pub record CanPass (of : Lane) (w : Runner) (cost : ℕ) (traps : List (Bool × Trap)) : Type 0 where
-  pub next : w.done < MOST_INSTRUCTIONS
+  pub next : w.done < length of.instructions
+  pub short : length of.instructions ≤ MOST_INSTRUCTIONS
   pub free : first_trap traps ≡ None
   pub fits : w.spent + cost ≤ of.budget
 

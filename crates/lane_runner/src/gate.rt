@@ -21,7 +21,8 @@ pub trait Gate {
     /// What holds of a gate that may give up: a gate of which it can't hold never does.
     ghost may_give_up: { Self → Type 0 };
 
-    /// Is called ahead of each instruction, and may wait: for a build outside this program, say.
+    /// Is called ahead of each instruction that the lane stands at, so never of an `else` or an
+    /// `end`, and may wait: for a build outside this program, say.
     fn before(&self, lane: u32, instruction: u32) -> Go
         ensures { result ≡ GiveUp → may_give_up self.now };
 

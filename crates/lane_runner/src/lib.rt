@@ -2,6 +2,7 @@
 #![tactic(auto)]
 
 mod archive;
+mod branch;
 mod gate;
 mod local;
 mod publish;

@@ -37,12 +37,12 @@ impl Runner {
         ensures held { IsHeld universe.now chroot.new }
         ensures chroot { chroot.new ≡ with_slots universe.now chroot.old
             (unpacked chroot.old.slots variant) }
-        ensures place { self.new ≡ passed self.old (unpack_cost universe.now variant) }
+        ensures place { self.new ≡ passed lane.now self.old (unpack_cost universe.now variant) }
     {
         let cost = size_cost(universe.size(variant));
         chroot.unpack_untested(universe, variant);
         let _budget = lane.budget();
-        self.pass(cost);
+        self.pass(lane, cost);
     }
 
     /// Configures the members of a set.
@@ -60,11 +60,11 @@ impl Runner {
         ensures held { IsHeld universe.now chroot.new }
         ensures chroot { chroot.new ≡ with_slots universe.now chroot.old
             (configured chroot.old.slots members.now) }
-        ensures place { self.new ≡ passed self.old (length members.now) }
+        ensures place { self.new ≡ passed lane.now self.old (length members.now) }
     {
         chroot.change(universe, members, Change::Configure);
         let _budget = lane.budget();
-        self.pass(members.len() as u64);
+        self.pass(lane, members.len() as u64);
     }
 
     /// Takes the members of a set back to unpacked.
@@ -82,11 +82,11 @@ impl Runner {
         ensures held { IsHeld universe.now chroot.new }
         ensures chroot { chroot.new ≡ with_slots universe.now chroot.old
             (deconfigured chroot.old.slots members.now) }
-        ensures place { self.new ≡ passed self.old (length members.now) }
+        ensures place { self.new ≡ passed lane.now self.old (length members.now) }
     {
         chroot.change(universe, members, Change::Deconfigure);
         let _budget = lane.budget();
-        self.pass(members.len() as u64);
+        self.pass(lane, members.len() as u64);
     }
 
     /// Removes the members of a set.
@@ -104,11 +104,11 @@ impl Runner {
         ensures held { IsHeld universe.now chroot.new }
         ensures chroot { chroot.new ≡ with_slots universe.now chroot.old
             (removed chroot.old.slots members.now) }
-        ensures place { self.new ≡ passed self.old (length members.now) }
+        ensures place { self.new ≡ passed lane.now self.old (length members.now) }
     {
         chroot.change(universe, members, Change::Remove);
         let _budget = lane.budget();
-        self.pass(members.len() as u64);
+        self.pass(lane, members.len() as u64);
     }
 
     /// Builds a recipe in a chroot, which stays as it is.
@@ -116,9 +116,9 @@ impl Runner {
         requires free { CanPass lane.now self.old (build_cost (packages.recipe universe.now recipe)) [] }
         requires known { recipe < length universe.now.recipes }
         ensures place { self.new
-            ≡ passed self.old (build_cost (packages.recipe universe.now recipe)) }
+            ≡ passed lane.now self.old (build_cost (packages.recipe universe.now recipe)) }
     {
         let _budget = lane.budget();
-        self.pass(universe.recipe(recipe).steps());
+        self.pass(lane, universe.recipe(recipe).steps());
     }
 }

@@ -1,6 +1,6 @@
 //! The next output of a publish.
 
-ghost use Rattle.std.specs.Prelude.{◌≡◌, ◌<◌, ◌≤◌, ◌+◌, ◌⊎◌, Some};
+ghost use Rattle.std.specs.Prelude.{◌≡◌, ◌<◌, ◌≤◌, ◌+◌, ◌⊎◌, Some, length};
 ghost use Rattle.lane_runner.specs.Calls.{HasKept, IsRunning, IsSameEnd};
 ghost use Rattle.lane_runner.specs.OnWay.{given_one};
 ghost use Rattle.plan_asm.specs.declared.error.TheConstants.{MOST_INSTRUCTIONS};
@@ -19,11 +19,12 @@ impl Runner {
     /// Goes behind one more of so many outputs. The first one is charged for all, and the last one
     /// ends the publish.
     fn give(&mut self, lane: &Lane, count: usize)
-        requires next { self.old.done < MOST_INSTRUCTIONS }
+        requires next { self.old.done < length lane.now.instructions }
+        requires short { length lane.now.instructions ≤ MOST_INSTRUCTIONS }
         requires more { self.old.made < count }
         requires paid { (self.old.spent + first_only self.old.made count ≤ lane.now.budget)
             ⊎ (first_only self.old.made count ≡ 0) }
-        ensures { self.new ≡ given_one count self.old (first_only self.old.made count) }
+        ensures { self.new ≡ given_one lane.now count self.old (first_only self.old.made count) }
     {
         let _budget = lane.budget();
         let _spent = self.spent;
@@ -32,7 +33,7 @@ impl Runner {
             self.made += 1;
             self.spent += cost;
         } else {
-            self.pass(cost);
+            self.pass(lane, cost);
         }
     }
 

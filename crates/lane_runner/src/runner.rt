@@ -1,15 +1,15 @@
 //! Where a lane's runner stands.
 
 ghost use Rattle.std.specs.Prelude.{◌≡◌, ◌<◌, ◌≤◌, ◌+◌, ◌^◌, length};
-ghost use Rattle.lane_runner.specs.OnWay.{passed, started};
+ghost use Rattle.lane_runner.specs.OnWay.{gone_to, passed, started};
 ghost use Rattle.plan_asm.specs.declared.error.TheConstants.{MOST_INSTRUCTIONS};
 ghost use Rattle.plan_model.specs.Plan.{lane};
 
 use plan_asm::Lane;
 use plan_verifier::Accepted;
 
-/// Where a lane's runner stands: the lane's number, how many of its instructions are done, how many
-/// outputs are made of the publish that it stands at, and what it has spent, in steps.
+/// Where a lane's runner stands: the lane's number, its place in the lane, how many outputs are
+/// made of the publish that it stands at, and what it has spent, in steps.
 #[derive(Clone, Copy, Debug, PartialEq, Eq)]
 pub struct Runner {
     pub lane: u32,
@@ -31,14 +31,23 @@ impl Runner {
         }
     }
 
-    /// Goes behind the instruction at this cost.
-    pub(crate) fn pass(&mut self, cost: u64)
-        requires next { self.old.done < MOST_INSTRUCTIONS }
-        requires fits { self.old.spent + cost < 2 ^ 64 }
-        ensures { self.new ≡ passed self.old cost }
+    /// Goes to another place of its lane.
+    pub(crate) fn go_to(&mut self, place: usize)
+        requires { place ≤ MOST_INSTRUCTIONS }
+        ensures { self.new ≡ gone_to self.old place }
     {
-        self.done += 1;
+        self.done = place as u32;
         self.made = 0;
+    }
+
+    /// Goes behind the instruction at this cost.
+    pub(crate) fn pass(&mut self, lane: &Lane, cost: u64)
+        requires next { self.old.done < length lane.now.instructions }
+        requires short { length lane.now.instructions ≤ MOST_INSTRUCTIONS }
+        requires fits { self.old.spent + cost < 2 ^ 64 }
+        ensures { self.new ≡ passed lane.now self.old cost }
+    {
+        self.go_to(lane.next_place(self.done as usize));
         self.spent += cost;
     }
 }

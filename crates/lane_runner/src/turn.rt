@@ -20,7 +20,7 @@ use plan_verifier::Accepted;
 /// What a lane did at its turn.
 #[derive(Clone, Copy, Debug, PartialEq, Eq)]
 pub enum Turn {
-    /// It is behind its instruction.
+    /// It is behind its instruction, or in a branch of it.
     Moved,
     /// It has published this, an output of the publish that it stood at.
     Published(Publication),
@@ -68,12 +68,13 @@ impl Runner {
                 self.remove(universe, lane, chroot, members.as_slice());
             }
             Instruction::Build(recipe) => self.build(universe, lane, *recipe),
-            _ => {}
+            // no lane stands at an `else` or an `end`
+            _ => unreachable!(),
         }
     }
 
-    /// Takes the lane's turn: carries out an instruction, makes the next output of a publish, or
-    /// looks whether a wait passes. No trap is met.
+    /// Takes the lane's turn: carries out an instruction, makes the next output of a publish, looks
+    /// which branch to take, or whether a wait passes. No trap is met.
     pub fn turn<A: LaneArchive>(
         &mut self,
         accepted: &Accepted,
@@ -106,6 +107,10 @@ impl Runner {
                 } else {
                     Turn::Waits
                 }
+            }
+            Instruction::When { name, relation } => {
+                self.branch(accepted, chroot, archive, *name, relation);
+                Turn::Moved
             }
             _ => {
                 self.local(accepted, chroot, instruction);

@@ -60,9 +60,9 @@ impl Runner {
         let universe = accepted.universe();
         let word = archive.load(name);
         if some_satisfies(universe, name, word, entry) {
-            let _lane = lane_of(accepted, self.lane);
+            let lane = lane_of(accepted, self.lane);
             let _spent = self.spent;
-            self.pass(0);
+            self.pass(lane, 0);
             return true;
         }
         false

@@ -16,9 +16,11 @@ use Rattle.deb_text.specs.Words.{words, is_word}
 use Rattle.farm_model.specs.Packages.{base}
 use Rattle.farm_model.specs.Universe.{Universe}
 use Rattle.plan_asm.specs.declared.error.TheConstants.{MOST_LANES, MOST_INSTRUCTIONS}
-use Rattle.plan_asm.specs.Drafts.{Block, Open, Nothing, InBlock, InLane, Draft, is_open, block_named, instructions_of, published, known_base, instruction_of, open_block, fresh_lane, open_lane, end_open, with_instructions, published_once, within_limit, add, take_form}
+use Rattle.plan_asm.specs.Drafts.{Block, Open, Nothing, InBlock, InLane, Draft, is_open, block_named, instructions_of, published, known_base, instruction_of, open_block, fresh_lane, open_lane, end_open, with_instructions, published_once, within_limit, add, Reading, is_outside, may_say, on_side, take_end, take_form}
 use Rattle.plan_asm.specs.Forms.{Form, BlockForm, LaneForm, EndForm, UseForm, InstructionForm, lane_with, lane_form, one_word, wording_by, form_at, first_word, behind_word}
+use Rattle.plan_model.specs.Branches.{Side, Outside, InFirst, InSecond, side_behind}
 use Rattle.plan_model.specs.declared.instructions.Instruction.{Instruction}
+use Rattle.plan_model.specs.declared.instructions.Instruction.TheVariants.{EndWhen}
 use Rattle.plan_model.specs.Plan.{Lane, Plan}
 use Rattle.plan_model.specs.Sound.{has_double}
 use Rattle.listing_laws.proofs.Listed.{instruction-has}
@@ -276,29 +278,50 @@ module _ (u : Universe) where
     current = is.current.2;
   }
 
-  pub take-has : (number : ℕ) (d : Draft) (form : Form) → IsListedDraft u d → IsListedForm form
-      → IfOk (take_form u number d form) (IsListedDraft u)
+  -- what is read, where each instruction can be listed
+  abbrev pub IsListedReading : Reading → Type 0
+  IsListedReading r = IsListedDraft u r.draft
+
+  on_side-has : (s : Side) (r : Result Draft ℕ) → IfOk r (IsListedDraft u)
+      → IfOk (r >>= on_side s) IsListedReading
+  on_side-has s r has = then-has (IsListedDraft u) IsListedReading r (on_side s) has (λ d is. is)
+
+  one-has : (r : Reading) (x : Instruction) (s : Side) → IsListedReading r → IsListed u x
+      → IfOk (add r.draft.blocks r.draft.lanes r.draft.current (x ∷ []) >>= on_side s)
+      IsListedReading
+  one-has r x s is listed =
+      on_side-has s _ (add-has r.draft.blocks r.draft.lanes r.draft.current (x ∷ []) is
+      (All-cons (IsListed u) x [] listed (All-nil (IsListed u))))
+
+  end_side-has : (r : Reading) (s : Side) → IsListedReading r
+      → IfOk (take_end r.draft s) IsListedReading
+  end_side-has r Outside is =
+      on_side-has Outside _ (end-has r.draft.blocks r.draft.lanes r.draft.current is)
+  end_side-has r (InFirst w) is = tt
+  end_side-has r (InSecond w) is = one-has r EndWhen Outside is tt
+
+  pub take-has : (number : ℕ) (r : Reading) (form : Form) → IsListedReading r → IsListedForm form
+      → IfOk (take_form u number r form) IsListedReading
   unfolding take_form
-  take-has number d (BlockForm name) is form =
-      if-has (IsListedDraft u) (is_open d.current) _ _ (λ _. tt)
-      (λ shut. open_block-has number d.blocks d.lanes d.current name shut is)
-  take-has number d (LaneForm name chroot budget) is form =
-      if-has (IsListedDraft u) (is_open d.current) _ _ (λ _. tt)
+  take-has number r (BlockForm name) is form =
+      on_side-has Outside _ (if-has (IsListedDraft u) (is_open r.draft.current) _ _ (λ _. tt)
+      (λ shut. open_block-has number r.draft.blocks r.draft.lanes r.draft.current name shut is))
+  take-has number r (LaneForm name chroot budget) is form =
+      on_side-has Outside _ (if-has (IsListedDraft u) (is_open r.draft.current) _ _ (λ _. tt)
       (λ shut. then-has (λ b. ((base u b).name ≡ chroot) × (known_base u chroot ≡ Ok b))
       (IsListedDraft u) (known_base u chroot) _ (base-known u chroot)
-      (λ b known. open_lane-has number d.blocks d.lanes d.current name chroot budget b shut is form
-      known))
-  take-has number d EndForm is form = end-has d.blocks d.lanes d.current is
-  take-has number d (UseForm name) is form =
-      if-has (IsListedDraft u) (is_open d.current) _ _
-      (λ _. then-has (All (IsListed u)) (IsListedDraft u) (block_named d.blocks name) _
-      (block-has d.blocks name is.blocks)
-      (λ xs are. add-has d.blocks d.lanes d.current xs is are))
+      (λ b known. open_lane-has number r.draft.blocks r.draft.lanes r.draft.current name chroot
+      budget b shut is form known)))
+  take-has number r EndForm is form = end_side-has r r.side is
+  take-has number r (UseForm name) is form =
+      if-has IsListedReading (is_open r.draft.current && is_outside r.side) _ _
+      (λ _. on_side-has Outside _ (then-has (All (IsListed u)) (IsListedDraft u)
+      (block_named r.draft.blocks name) _ (block-has r.draft.blocks name is.blocks)
+      (λ xs are. add-has r.draft.blocks r.draft.lanes r.draft.current xs is are)))
       (λ _. tt)
-  take-has number d (InstructionForm wording) is form =
-      if-has (IsListedDraft u) (is_open d.current) _ _
-      (λ _. then-has (IsListed u) (IsListedDraft u) (instruction_of u wording) _
+  take-has number r (InstructionForm wording) is form =
+      if-has IsListedReading (is_open r.draft.current && may_say r.side wording) _ _
+      (λ _. then-has (IsListed u) IsListedReading (instruction_of u wording) _
       (instruction-has u wording form)
-      (λ x listed. add-has d.blocks d.lanes d.current (x ∷ []) is
-      (All-cons (IsListed u) x [] listed (All-nil (IsListed u)))))
+      (λ x listed. one-has r x (side_behind number r.side x) is listed))
       (λ _. tt)

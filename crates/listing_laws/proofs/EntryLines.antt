@@ -1,4 +1,4 @@
--- The lines of an unpack and of a wait are read again.
+-- The lines of an unpack, of a wait and of a `when` are read again.
 use Rattle.std.proofs.Common.{◌≡◌, ℕ, true, not, List, [], ◌∷◌, ◌++◌, refl, sym, ap, subst, ◌∙◌, Option, None, Ok, All}
 use Rattle.std.proofs.lemmas.Bool.{not_from_false}
 use Rattle.std.proofs.lemmas.List.{append-nil}
@@ -20,9 +20,9 @@ use Rattle.deb_profile.proofs.ReductionLaws.{reduced-again}
 use Rattle.deb_profile.specs.Reduction.{reduced_entry}
 use Rattle.farm_model.specs.Universe.{Universe}
 use Rattle.plan_asm.specs.Drafts.{known_name, instruction_of}
-use Rattle.plan_asm.specs.Forms.{UnpackForm, WaitForm, form_at}
+use Rattle.plan_asm.specs.Forms.{UnpackForm, WaitForm, WhenForm, form_at}
 use Rattle.plan_asm.specs.Listing.{name_of, instruction_text}
-use Rattle.plan_model.specs.declared.instructions.Instruction.TheVariants.{Unpack, Wait}
+use Rattle.plan_model.specs.declared.instructions.Instruction.TheVariants.{Unpack, Wait, When}
 use Rattle.listing_laws.proofs.Waits.{reduced-spelled, reduced-some}
 use Rattle.listing_laws.proofs.Wordings.{IsWording}
 use Rattle.listing_laws.proofs.WordLines.{IsLineOf, IsListed}
@@ -99,6 +99,27 @@ module _ (u : Universe) where
       subst (IsLineOf u (Unpack n relation))
       (ap (λ text. codes "  unpack " ++ (text ++ relation_text relation)) (sym known.0))
       (unpack-line n name relation is.0 is.1 known.1)
+
+  when-line : (n : ℕ) (name : List ℕ) (relation : Option (Op × List ℕ)) → is_name name ≡ true
+      → is_spelled_relation relation ≡ true → known_name u name ≡ Ok n
+      → IsLineOf u (When n relation) (codes "  when " ++ (name ++ relation_text relation))
+  unfolding form_at instruction_of
+  when-line n name relation named related known = record {
+    wording = WhenForm name relation;
+    read = rw (wanted-again name relation named related) refl;
+    meant = rw known refl;
+    inner = wanted-inner name relation named related;
+    kept = refl;
+  }
+
+  pub when-listed : (n : ℕ) (name : List ℕ) (relation : Option (Op × List ℕ))
+      → IsWording (WhenForm name relation)
+      → (name_of u n ≡ name) × (known_name u name ≡ Ok n) → IsListed u (When n relation)
+  unfolding instruction_text
+  when-listed n name relation is known =
+      subst (IsLineOf u (When n relation))
+      (ap (λ text. codes "  when " ++ (text ++ relation_text relation)) (sym known.0))
+      (when-line n name relation is.0 is.1 known.1)
 
   wait-line : (entry : Entry) → All IsSpelled entry → not (is_nil entry) ≡ true
       → reduced_entry u.architectures [] entry ≡ entry

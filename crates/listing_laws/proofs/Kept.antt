@@ -2,14 +2,14 @@
 use Rattle.std.proofs.Common.{ℕ, List, refl, arith, IfOk}
 use Rattle.std.proofs.lemmas.List.Elements.{All-nil}
 use Rattle.farm_model.specs.Universe.{Universe}
-use Rattle.plan_asm.specs.Drafts.{empty}
+use Rattle.plan_asm.specs.Drafts.{unread}
 use Rattle.plan_asm.specs.PlanText.{plan_of}
 use Rattle.plan_asm.proofs.TextLaws as text
-use Rattle.listing_laws.proofs.Drafts.{IsListedPlan, IsListedBlock, IsListedDraft, IsListedForm, form-has, take-has}
+use Rattle.listing_laws.proofs.Drafts.{IsListedPlan, IsListedBlock, IsListedReading, IsListedForm, form-has, take-has}
 
 module _ (u : Universe) where
-  empty-listed : IsListedDraft u empty
-  empty-listed = record {
+  unread-listed : IsListedReading u unread
+  unread-listed = record {
     blocks = All-nil (IsListedBlock u);
     lanes = tt;
     current = record { once = refl; few = omega arith };
@@ -17,5 +17,5 @@ module _ (u : Universe) where
 
   pub plan-has : (text : List ℕ) → IfOk (plan_of u text) (IsListedPlan u)
   plan-has =
-      text.plan-has u IsListedForm (IsListedDraft u) form-has (take-has u) empty-listed
-      (IsListedPlan u) (λ bs ls is. record { lanes = is.lanes; fits = is.current })
+      text.plan-has u IsListedForm (IsListedReading u) form-has (take-has u) unread-listed
+      (IsListedPlan u) (λ bs ls s is. record { lanes = is.lanes; fits = is.current })

@@ -4,12 +4,12 @@ use Rattle.deb_text.proofs.CarriedLaws.{then-has}
 use Rattle.farm_model.specs.Packages.{recipe}
 use Rattle.farm_model.specs.Universe.{Universe}
 use Rattle.plan_asm.specs.Drafts.{known_name, known_recipe, set_of, instruction_of}
-use Rattle.plan_asm.specs.Forms.{Wording, UnpackForm, ConfigureForm, DeconfigureForm, RemoveForm, BuildForm, PublishForm, WaitForm}
+use Rattle.plan_asm.specs.Forms.{Wording, UnpackForm, ConfigureForm, DeconfigureForm, RemoveForm, BuildForm, PublishForm, WaitForm, WhenForm, ElseForm}
 use Rattle.plan_asm.specs.Listing.{name_of}
 use Rattle.listing_laws.proofs.Names.{name-known, recipe-known, set-known}
 use Rattle.listing_laws.proofs.Wordings.{IsWording}
-use Rattle.listing_laws.proofs.WordLines.{IsListed, configure-listed, deconfigure-listed, remove-listed, build-listed, publish-listed}
-use Rattle.listing_laws.proofs.EntryLines.{unpack-listed, wait-listed}
+use Rattle.listing_laws.proofs.WordLines.{IsListed, configure-listed, deconfigure-listed, remove-listed, build-listed, publish-listed, else-listed}
+use Rattle.listing_laws.proofs.EntryLines.{unpack-listed, wait-listed, when-listed}
 
 module _ (u : Universe) where
   -- the instruction that is read of a line is one whose line is read again
@@ -39,3 +39,8 @@ module _ (u : Universe) where
       then-has (λ r. ((recipe u r).name ≡ word) × (known_recipe u word ≡ Ok r)) (IsListed u)
       (known_recipe u word) _ (recipe-known u word) (λ r known. publish-listed u r word is known)
   instruction-has (WaitForm entry) is = wait-listed u entry is.0 is.1
+  instruction-has (WhenForm name relation) is =
+      then-has (λ n. (name_of u n ≡ name) × (known_name u name ≡ Ok n)) (IsListed u)
+      (known_name u name) _ (name-known u name)
+      (λ n known. when-listed u n name relation is known)
+  instruction-has ElseForm is = else-listed u

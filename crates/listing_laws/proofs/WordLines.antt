@@ -1,4 +1,4 @@
--- The lines of sets and of recipes are read again.
+-- The lines of sets and of recipes, and of an `else`, are read again.
 use Rattle.std.proofs.Common.{◌≡◌, ℕ, true, false, not, List, [], ◌∷◌, ◌++◌, map, refl, sym, ap, subst, ◌∙◌, Ok, true≢false}
 use Rattle.std.proofs.lemmas.Bool.{and_parts}
 use Rattle.std.proofs.lemmas.List.{append-nil}
@@ -11,10 +11,10 @@ use Rattle.deb_text.specs.Words.{words, is_word, spaced}
 use Rattle.farm_model.specs.Packages.{recipe}
 use Rattle.farm_model.specs.Universe.{Universe}
 use Rattle.plan_asm.specs.Drafts.{known_recipe, set_of, instruction_of}
-use Rattle.plan_asm.specs.Forms.{Wording, ConfigureForm, DeconfigureForm, RemoveForm, BuildForm, PublishForm, InstructionForm, some_words, one_word, form_at}
+use Rattle.plan_asm.specs.Forms.{Wording, ConfigureForm, DeconfigureForm, RemoveForm, BuildForm, PublishForm, ElseForm, InstructionForm, some_words, one_word, form_at}
 use Rattle.plan_asm.specs.Listing.{name_of, names_text, instruction_text}
 use Rattle.plan_model.specs.declared.instructions.Instruction.{Instruction}
-use Rattle.plan_model.specs.declared.instructions.Instruction.TheVariants.{Configure, Deconfigure, Remove, Build, Publish}
+use Rattle.plan_model.specs.declared.instructions.Instruction.TheVariants.{Configure, Deconfigure, Remove, Build, Publish, Otherwise, EndWhen}
 use Rattle.listing_laws.proofs.Names.{words-run}
 use Rattle.listing_laws.proofs.Wordings.{AreWords}
 
@@ -30,7 +30,9 @@ pub record IsLineOf (u : Universe) (x : Instruction) (line : List ℕ) : Type 0 
 abbrev pub line_of : Universe → Instruction → List ℕ
 line_of u x = codes "  " ++ instruction_text u x
 
+-- the line is read again; that of an `end` is no instruction's alone
 abbrev pub IsListed : Universe → Instruction → Type 0
+IsListed u EndWhen = Unit {0}
 IsListed u x = IsLineOf u x (line_of u x)
 
 names-spaced : (u : Universe) (members : List ℕ)
@@ -167,3 +169,10 @@ module _ (u : Universe) where
       subst (IsLineOf u (Publish r))
       (ap (λ text. codes "  publish " ++ text) (append-nil word ∙ sym known.0))
       (publish-line r word is known.1)
+
+  -- ---- branches
+
+  pub else-listed : IsListed u Otherwise
+  unfolding form_at instruction_of instruction_text words
+  else-listed =
+      record { wording = ElseForm; read = refl; meant = refl; inner = refl; kept = refl }

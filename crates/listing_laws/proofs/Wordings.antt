@@ -12,7 +12,7 @@ use Rattle.deb_relation.specs.declared.kind.Kind.TheVariants.{Need}
 use Rattle.deb_relation.specs.Field.{alternative_at, entry_at}
 use Rattle.deb_relation.proofs.ReadLaws.{is_spelled_relation, IsSpelled, alternative-has, entry-has}
 use Rattle.deb_relation.proofs.EntryLaws.{entry-some}
-use Rattle.plan_asm.specs.Forms.{Wording, UnpackForm, ConfigureForm, DeconfigureForm, RemoveForm, BuildForm, PublishForm, WaitForm, in_line, unpack_of, some_words, one_word, wording_by}
+use Rattle.plan_asm.specs.Forms.{Wording, UnpackForm, ConfigureForm, DeconfigureForm, RemoveForm, BuildForm, PublishForm, WaitForm, WhenForm, ElseForm, in_line, piece_at, unpack_form, when_form, else_form, some_words, one_word, wording_by}
 use Rattle.listing_laws.proofs.Names.{both-have}
 
 abbrev pub AreWords : List (List ℕ) → Type 0
@@ -27,6 +27,9 @@ IsWording (RemoveForm ws) = AreWords ws
 IsWording (BuildForm word) = is_word word ≡ true
 IsWording (PublishForm word) = is_word word ≡ true
 IsWording (WaitForm entry) = All IsSpelled entry × (not (is_nil entry) ≡ true)
+IsWording (WhenForm name relation) =
+    (is_name name ≡ true) × (is_spelled_relation relation ≡ true)
+IsWording ElseForm = Unit {0}
 
 in_line-has : {X : Type 0} (P : X → Type 0) (r : Result X ℕ) → IfOk r P → IfOk (in_line r) P
 in_line-has P (Ok x) has = has
@@ -41,12 +44,24 @@ one-has [] = tt
 one-has (w ∷ []) = if-has (λ word. is_word word ≡ true) (is_word w) _ _ (λ is. is) (λ _. tt)
 one-has (w ∷ v ∷ ws) = tt
 
-unpack-has : (rest : List ℕ) → IfOk (in_line (alternative_at Need rest) >>= unpack_of) IsWording
-unpack-has rest =
-    then-has IsSpelled IsWording (in_line (alternative_at Need rest)) _
+piece-has : (rest : List ℕ) → IfOk (piece_at rest) IsSpelled
+piece-has rest =
+    then-has IsSpelled IsSpelled (in_line (alternative_at Need rest)) _
     (in_line-has IsSpelled (alternative_at Need rest) (alternative-has rest))
-    (λ atom is. if-has IsWording (is_none atom.qualifier) _ _
-    (λ _. (is.name, is.relation)) (λ _. tt))
+    (λ atom is. if-has IsSpelled (is_none atom.qualifier) _ _ (λ _. is) (λ _. tt))
+
+unpack-has : (rest : List ℕ) → IfOk (unpack_form rest) IsWording
+unpack-has rest =
+    then-has IsSpelled IsWording (piece_at rest) _ (piece-has rest)
+    (λ piece is. (is.name, is.relation))
+
+when-has : (rest : List ℕ) → IfOk (when_form rest) IsWording
+when-has rest =
+    then-has IsSpelled IsWording (piece_at rest) _ (piece-has rest)
+    (λ piece is. (is.name, is.relation))
+
+else-has : (ws : List (List ℕ)) → IfOk (else_form ws) IsWording
+else-has ws = if-has IsWording (is_nil ws) _ _ (λ _. tt) (λ _. tt)
 
 wait-has : (rest : List ℕ)
     → IfOk (in_line (entry_at Need rest) >>= λ entry. Ok (WaitForm entry)) IsWording
@@ -77,4 +92,6 @@ wording-has word rest =
     (λ _. then-has (λ w. is_word w ≡ true) IsWording (one_word (words rest)) _
     (one-has (words rest)) (λ w is. is))
     (λ _. if-has IsWording (bytes_eq word (codes "wait")) _ _ (λ _. wait-has rest)
-    (λ _. tt)))))))
+    (λ _. if-has IsWording (bytes_eq word (codes "when")) _ _ (λ _. when-has rest)
+    (λ _. if-has IsWording (bytes_eq word (codes "else")) _ _ (λ _. else-has (words rest))
+    (λ _. tt)))))))))

@@ -2,6 +2,8 @@ pub mod Bridges
 pub mod Writes
 pub mod ByNumber
 pub mod MetAhead
+pub mod Joins
+pub mod JoinMaps
 pub mod OtherNames
 pub mod Candidates
 pub mod Unpacked

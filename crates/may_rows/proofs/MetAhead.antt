@@ -111,21 +111,21 @@ module _ (u : Universe) (n : ℕ) where
           (every_below k (λ b. not (word_has x b) || p b))
           (every_below k (λ b. not (word_has y b) || p b)))
 
-  some_bit_of : (word : ℕ) → (word == 0) ≡ false
+  pub some_bit_of : (word : ℕ) → (word == 0) ≡ false
       → ((b : ℕ) → word_has word b ≡ true → b < variants u n)
       → is_some_of u n (word_has word) ≡ true
   some_bit_of word nonzero known =
       let bit = some_bit word (λ z. both_ways _ nonzero (eq-eqb word 0 z)) in
       some_below-at (variants u n) (word_has word) bit.0 (known bit.0 bit.1) bit.1
 
-  no_bit_of : is_some_of u n (word_has 0) ≡ false
+  pub no_bit_of : is_some_of u n (word_has 0) ≡ false
   no_bit_of = elim (cases_Bool (is_some_of u n (word_has 0))) [
     | inl some ↦ let f = some_below-found (variants u n) (word_has 0) some in
         absurd (both_ways _ (word_has_zero f.0) f.2)
     | inr none ↦ none
   ]
 
-  joined_nonzero : (x y : ℕ) → (x == 0) ≡ false → (bit_or x y == 0) ≡ false
+  pub joined_nonzero : (x y : ℕ) → (x == 0) ≡ false → (bit_or x y == 0) ≡ false
   joined_nonzero x y nonzero =
       ne_eqb (bit_or x y) 0 (λ z.
       let bit = some_bit x (λ e. both_ways _ nonzero (eq-eqb x 0 e)) in

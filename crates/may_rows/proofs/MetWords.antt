@@ -21,7 +21,7 @@ use Rattle.plan_model.specs.Risk.{may_be_unsettled, build_risks, risk}
 use Rattle.plan_model.specs.Sound.{IsInstruction}
 use Rattle.plan_model.specs.Turn.{newest}
 use Rattle.plan_model.specs.declared.instructions.Instruction.{Instruction}
-use Rattle.plan_model.specs.declared.instructions.Instruction.TheVariants.{Unpack, Configure, Deconfigure, Remove, Build, Publish, Wait}
+use Rattle.plan_model.specs.declared.instructions.Instruction.TheVariants.{Unpack, Configure, Deconfigure, Remove, Build, Publish}
 use Rattle.may_rows.specs.Met.{misses_at, some_misses, may_need, Doubt, AreDoubts, settled, upgrades, IsDoubted, IsDoubtAfter}
 use Rattle.may_rows.specs.Walk.{Answers}
 use Rattle.may_rows.specs.Words.{Words, slot_of, may_of, AreOfName, AreWords}
@@ -208,7 +208,7 @@ doubts_step u of known there m hold old new are (Build r) is none upgraded same 
     doubts_settled u m _ new (met_same u m _ (λ n. refl)) (built_met u of m (recipe u r) none) after
 doubts_step u of known there m hold old new are (Publish r) is none upgraded same after =
     doubts_kept u m _ old new (met_same u m _ (λ n. refl)) are after
-doubts_step u of known there m hold old new are (Wait e) is none upgraded same after =
+doubts_step u of known there m hold old new are _ is none upgraded same after =
     doubts_kept u m _ old new (λ n lt missing. missing) are after
 
 -- what is answered to it

@@ -1,5 +1,6 @@
 pub mod Dependents
 pub mod Words
+pub mod Joins
 pub mod Met
 pub mod Walk
 pub mod Picks

@@ -43,7 +43,10 @@ pub(crate) fn upgrades(_universe: &Universe, state: &MayHold, instruction: &Inst
         | Instruction::Remove(_)
         | Instruction::Build(_)
         | Instruction::Publish(_)
-        | Instruction::Wait(_) => false,
+        | Instruction::Wait(_)
+        | Instruction::When { .. }
+        | Instruction::Otherwise
+        | Instruction::EndWhen => false,
     }
 }
 
@@ -69,6 +72,15 @@ impl Doubts {
         self.known = false;
     }
 
+    /// Knows nothing any more: what a chroot may hold has changed otherwise than by an instruction.
+    pub fn forget(&mut self)
+        ensures unknown { self.new.known ≡ false }
+        ensures none { self.new.over ≡ [] }
+    {
+        self.known = false;
+        self.over.clear();
+    }
+
     /// Goes past a safe instruction, where `upgraded` tells whether it unpacked a variant over a
     /// configured one.
     pub(crate) fn pass(&mut self, instruction: &Instruction, upgraded: bool)
@@ -88,7 +100,10 @@ impl Doubts {
             | Instruction::Deconfigure(_)
             | Instruction::Remove(_)
             | Instruction::Publish(_)
-            | Instruction::Wait(_) => {}
+            | Instruction::Wait(_)
+            | Instruction::When { .. }
+            | Instruction::Otherwise
+            | Instruction::EndWhen => {}
         }
     }
 }

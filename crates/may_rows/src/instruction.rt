@@ -88,11 +88,15 @@ fn go_on(
             build(universe, tables, dependents, lane, state, doubts, *recipe)
         }
         Instruction::Publish(recipe) => publish(universe, lane, state, *recipe),
-        Instruction::Wait(_) => Ok(()),
+        Instruction::Wait(_)
+        | Instruction::When { .. }
+        | Instruction::Otherwise
+        | Instruction::EndWhen => Ok(()),
     }
 }
 
-/// Goes on by an instruction, where it is safe. `words` is what of the name that it unpacks, if it
+/// Goes on by an instruction of the chroot, where it is safe; branches begin and end by
+/// [`MayHold::copy`] and [`MayHold::join`]. `words` is what of the name that it unpacks, if it
 /// does, is in the archive. `doubts` tells which entries of what is configured are not known to be met,
 /// and is kept so: a build looks at no others.
 ///

@@ -10,6 +10,7 @@ mod doubts;
 mod entries;
 mod exclude;
 mod instruction;
+mod join;
 mod members;
 mod needed;
 mod numbers;

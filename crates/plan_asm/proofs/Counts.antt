@@ -1,12 +1,13 @@
 -- The count of a plan, as a sum over its lanes.
-use Rattle.std.proofs.Common.{◌≡◌, ℕ, zero, suc, ◌+◌, List, [], ◌∷◌, length, ◌<◌, ◌≤◌, drop, get_or, length-append, refl, sym, ap, ◌∙◌, arith}
+use Rattle.std.proofs.Common.{◌≡◌, ℕ, zero, suc, ◌+◌, ◌-◌, List, [], ◌∷◌, length, ◌<◌, ◌≤◌, drop, get_or, length-append, refl, sym, ap, ◌∙◌, arith}
 use Rattle.std.specs.List.{sum_by}
 use Rattle.std.proofs.lemmas.List.{at_drop_more, drop_all}
 use Rattle.std.proofs.lemmas.List.Sums.{sum_by-cons}
 use Rattle.farm_model.specs.Below.{sum_below}
 use Rattle.farm_model.specs.Universe.{Universe}
 use Rattle.plan_asm.specs.Drafts.{instructions_of}
-use Rattle.plan_model.specs.Plan.{Lane, Plan, lane, events_of, count}
+use Rattle.plan_model.specs.declared.instructions.Instruction.{Instruction}
+use Rattle.plan_model.specs.Plan.{Lane, Plan, lane, Ways, ways_ahead, ways, count}
 
 -- a sum from its first number on
 sum_below-first : (n : ℕ) (f : ℕ → ℕ) → sum_below (suc n) f ≡ f 0 + sum_below n (λ k. f (suc k))
@@ -23,9 +24,9 @@ sum_below-lanes g (l ∷ ls) =
 
 -- the events of the plan, lane by lane
 pub count-lanes : (u : Universe) (p : Plan)
-    → count u p ≡ sum_by (λ (l : Lane). sum_by (events_of u) l.instructions) p
+    → count u p ≡ sum_by (λ (l : Lane). (ways u l.instructions).here) p
 unfolding count
-count-lanes u p = sum_below-lanes (λ (l : Lane). sum_by (events_of u) l.instructions) p
+count-lanes u p = sum_below-lanes (λ (l : Lane). (ways u l.instructions).here) p
 
 -- a lane has no more instructions than all lanes have
 pub lane-short : (ls : List Lane) (i : ℕ) (l : Lane) → i < length ls → l ≡ get_or ls i l
@@ -53,3 +54,14 @@ pub sum-ends : {X : Type 0} (f : X → ℕ) (xs : List X) (i n total : ℕ) → 
 sum-ends f xs i n total le so_far =
     let none = ap (sum_by f) (drop_all i xs le) in
     omega (arith, so_far, none)
+
+-- the ways one place before
+pub ways-goes : (u : Universe) (xs : List Instruction) (n : ℕ) (x : Instruction) (next w : Ways)
+    → 0 < n → n ≤ length xs → x ≡ get_or xs (n - 1) x → w ≡ ways u (drop n xs)
+    → next ≡ ways_ahead u x w → next ≡ ways u (drop (n - 1) xs)
+ways-goes u xs n x next w some le is so_far goes =
+    let lt : n - 1 < length xs = omega arith in
+    let same : n - 1 + 1 ≡ n = omega arith in
+    goes ∙ ap (ways_ahead u x) (so_far ∙ ap (λ k. ways u (drop k xs)) (sym same))
+    ∙ ap (λ y. ways_ahead u y (ways u (drop (n - 1 + 1) xs))) is
+    ∙ sym (at_drop_more (ways u) xs (n - 1) x lt)

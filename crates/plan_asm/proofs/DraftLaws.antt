@@ -1,5 +1,5 @@
 -- What a line keeps of a good draft.
-use Rattle.std.proofs.Common.{◌≡◌, ℕ, ◌<◌, ◌≤◌, ◌^◌, false, List, [], ◌∷◌, ◌++◌, length, length-append, append_assoc, refl, sym, arith, Option, Some, None, IfOk, All, true≢false}
+use Rattle.std.proofs.Common.{◌≡◌, ℕ, ◌<◌, ◌≤◌, ◌^◌, false, ◌&&◌, List, [], ◌∷◌, ◌++◌, length, length-append, append_assoc, refl, sym, arith, Option, Some, None, Result, IfOk, All, true≢false}
 use Rattle.std.specs.Prelude.{nat_le, nat_lt}
 use Rattle.std.specs.List.{list_any}
 use Rattle.std.specs.Str.{bytes_eq}
@@ -7,13 +7,14 @@ use Rattle.std.proofs.lemmas.Bool.{leb-false, ltb-false}
 use Rattle.std.proofs.lemmas.List.{append-nil, length-map}
 use Rattle.std.proofs.lemmas.List.Concat.{flat_map-append}
 use Rattle.std.proofs.lemmas.List.Elements.{All-nil, All-tail, All-push, All-pop, All-append}
-use Rattle.deb_text.specs.Steps.{traverse}
+use Rattle.deb_text.specs.Steps.{◌>>=◌, traverse}
 use Rattle.farm_model.specs.Universe.{Recipe, Base, Universe}
 use Rattle.plan_asm.specs.declared.error.TheConstants.{MOST_LANES, MOST_INSTRUCTIONS}
 use Rattle.plan_model.specs.declared.instructions.Instruction.{Instruction}
-use Rattle.plan_model.specs.declared.instructions.Instruction.TheVariants.{Unpack, Configure, Deconfigure, Remove, Build, Publish, Wait}
-use Rattle.plan_asm.specs.Drafts.{Block, Open, Nothing, InBlock, InLane, Draft, is_open, block_named, all_lanes, instructions_of, published, or_unknown, known_name, base_names, known_base, recipe_names, known_recipe, set_of, instruction_of, open_block, fresh_lane, open_lane, end_open, with_instructions, published_once, within_limit, add, take_form}
-use Rattle.plan_asm.specs.Forms.{Wording, UnpackForm, ConfigureForm, DeconfigureForm, RemoveForm, BuildForm, PublishForm, WaitForm, Form, BlockForm, LaneForm, EndForm, UseForm, InstructionForm}
+use Rattle.plan_model.specs.declared.instructions.Instruction.TheVariants.{Unpack, Configure, Deconfigure, Remove, Build, Publish, Wait, When, Otherwise, EndWhen}
+use Rattle.plan_model.specs.Branches.{Side, Outside, InFirst, InSecond}
+use Rattle.plan_asm.specs.Drafts.{Block, Open, Nothing, InBlock, InLane, Draft, is_open, block_named, all_lanes, instructions_of, published, or_unknown, known_name, base_names, known_base, recipe_names, known_recipe, set_of, instruction_of, open_block, fresh_lane, open_lane, end_open, with_instructions, published_once, within_limit, add, is_outside, may_say, Reading, on_side, put, take_end, take_form}
+use Rattle.plan_asm.specs.Forms.{Wording, UnpackForm, ConfigureForm, DeconfigureForm, RemoveForm, BuildForm, PublishForm, WaitForm, WhenForm, ElseForm, Form, BlockForm, LaneForm, EndForm, UseForm, InstructionForm}
 use Rattle.plan_model.specs.Plan.{Lane}
 use Rattle.plan_model.specs.Sound.{has_double}
 use Rattle.deb_text.proofs.CarriedLaws.{if-has, then-has, traverse-has}
@@ -33,6 +34,9 @@ IsGood u (Remove members) = IsGoodSet u members
 IsGood u (Build r) = r < length u.recipes
 IsGood u (Publish r) = r < length u.recipes
 IsGood u (Wait e) = Unit {0}
+IsGood u (When name wanted) = name < length u.names
+IsGood u Otherwise = Unit {0}
+IsGood u EndWhen = Unit {0}
 
 pub record IsGoodLane (u : Universe) (l : Lane) : Type 0 where
   pub base : l.base < length u.bases
@@ -68,6 +72,21 @@ pub instructions-more : (ls : List Lane) (l : Lane) (xs : List Instruction)
 instructions-more ls l xs =
     rw (instructions_of-push ls (with_instructions l xs), instructions_of-push ls l)
     (sym (append_assoc (instructions_of ls) l.instructions xs))
+
+pub block_named-has : (P : List Instruction → Type 0) (bs : List Block) (name : List ℕ)
+    → All (λ (b : Block). P b.instructions) bs → IfOk (block_named bs name) P
+block_named-has P [] name kept = tt
+block_named-has P (b ∷ bs) name kept =
+    if-has P (bytes_eq name b.name) _ _
+    (λ _. kept 0 b (omega arith))
+    (λ _. block_named-has P bs name (All-tail (λ (b : Block). P b.instructions) b bs kept))
+
+pub within_limit-has : (xs : List Instruction)
+    → IfOk (within_limit xs) (λ ys. (ys ≡ xs) × (length xs ≤ MOST_INSTRUCTIONS))
+within_limit-has xs =
+    if-has (λ ys. (ys ≡ xs) × (length xs ≤ MOST_INSTRUCTIONS))
+    (nat_lt MOST_INSTRUCTIONS (length xs)) _ _ (λ _. tt)
+    (λ few. (refl, ltb-false MOST_INSTRUCTIONS (length xs) few))
 
 module _ (u : Universe) where
   -- ---- names
@@ -122,6 +141,10 @@ module _ (u : Universe) where
       then-has (λ r. r < length u.recipes) (IsGood u) (known_recipe u word) _
       (known_recipe-has word) (λ r known. known)
   instruction_of-has (WaitForm entry) = tt
+  instruction_of-has (WhenForm name relation) =
+      then-has (λ n. n < length u.names) (IsGood u) (known_name u name) _ (known_name-has name)
+      (λ n known. known)
+  instruction_of-has ElseForm = tt
 
   -- ---- lines
 
@@ -209,21 +232,6 @@ module _ (u : Universe) where
       (All-pop (IsGoodBlock u) (bs ++ b ∷ []) bs (Some b) refl kept).0
   ended bs (InLane line l) kept = kept
 
-  block_named-has : (bs : List Block) (name : List ℕ) → All (IsGoodBlock u) bs
-      → IfOk (block_named bs name) (All (IsGood u))
-  block_named-has [] name kept = tt
-  block_named-has (b ∷ bs) name kept =
-      if-has (All (IsGood u)) (bytes_eq name b.name) _ _
-      (λ _. kept 0 b (omega arith))
-      (λ _. block_named-has bs name (All-tail (IsGoodBlock u) b bs kept))
-
-  within_limit-has : (xs : List Instruction)
-      → IfOk (within_limit xs) (λ ys. (ys ≡ xs) × (length xs ≤ MOST_INSTRUCTIONS))
-  within_limit-has xs =
-      if-has (λ ys. (ys ≡ xs) × (length xs ≤ MOST_INSTRUCTIONS))
-      (nat_lt MOST_INSTRUCTIONS (length xs)) _ _ (λ _. tt)
-      (λ few. (refl, ltb-false MOST_INSTRUCTIONS (length xs) few))
-
   -- more instructions of the open block
   block-added : (bs : List Block) (ls : List Lane) (line : ℕ) (b : Block)
       (xs all : List Instruction) → good bs ls (InBlock line b) → All (IsGood u) xs
@@ -281,29 +289,52 @@ module _ (u : Universe) where
       (within_limit all) _ (within_limit-has all)
       (λ _ few. lane-added bs ls line l xs kept fine once few.1))
 
-  pub take_form-has : (number : ℕ) (d : Draft) (form : Form) → IsGoodDraft u d → IsForm form
-      → IfOk (take_form u number d form) (IsGoodDraft u)
+  -- what is read, where its draft is good
+  abbrev pub IsGoodReading : Reading → Type 0
+  IsGoodReading r = IsGoodDraft u r.draft
+
+  on_side-has : (s : Side) (r : Result Draft ℕ) → IfOk r (IsGoodDraft u)
+      → IfOk (r >>= on_side s) IsGoodReading
+  on_side-has s r has = then-has (IsGoodDraft u) IsGoodReading r (on_side s) has (λ d is. is)
+
+  put-has : (number : ℕ) (r : Reading) (x : Instruction) → IsGoodDraft u r.draft → IsGood u x
+      → IfOk (put number r x) IsGoodReading
+  put-has number r x kept fine =
+      on_side-has _ _ (add-has r.draft.blocks r.draft.lanes r.draft.current (x ∷ []) kept
+      (All-push (IsGood u) [] x (All-nil (IsGood u)) fine))
+
+  end-has : (r : Reading) (s : Side) → IsGoodDraft u r.draft
+      → IfOk (take_end r.draft s) IsGoodReading
+  end-has r Outside kept =
+      on_side-has Outside _ (end_open-has r.draft.blocks r.draft.lanes r.draft.current kept)
+  end-has r (InFirst w) kept = tt
+  end-has r (InSecond w) kept =
+      on_side-has Outside _ (add-has r.draft.blocks r.draft.lanes r.draft.current (EndWhen ∷ [])
+      kept (All-push (IsGood u) [] EndWhen (All-nil (IsGood u)) tt))
+
+  pub take_form-has : (number : ℕ) (r : Reading) (form : Form) → IsGoodReading r → IsForm form
+      → IfOk (take_form u number r form) IsGoodReading
   unfolding take_form
-  take_form-has number d (BlockForm name) kept small =
-      if-has (IsGoodDraft u) (is_open d.current) _ _ (λ _. tt)
-      (λ shut. open_block-has number d.blocks d.lanes d.current name shut kept)
-  take_form-has number d (LaneForm name chroot budget) kept small =
-      if-has (IsGoodDraft u) (is_open d.current) _ _ (λ _. tt)
+  take_form-has number r (BlockForm name) kept small =
+      on_side-has Outside _ (if-has (IsGoodDraft u) (is_open r.draft.current) _ _ (λ _. tt)
+      (λ shut. open_block-has number r.draft.blocks r.draft.lanes r.draft.current name shut kept))
+  take_form-has number r (LaneForm name chroot budget) kept small =
+      on_side-has Outside _ (if-has (IsGoodDraft u) (is_open r.draft.current) _ _ (λ _. tt)
       (λ shut. then-has (λ b. b < length u.bases) (IsGoodDraft u) (known_base u chroot) _
       (known_base-has chroot)
-      (λ base known.
-      open_lane-has number d.blocks d.lanes d.current name budget base shut kept small known))
-  take_form-has number d EndForm kept small = end_open-has d.blocks d.lanes d.current kept
-  take_form-has number d (UseForm name) kept small =
-      if-has (IsGoodDraft u) (is_open d.current) _ _
-      (λ _. then-has (All (IsGood u)) (IsGoodDraft u) (block_named d.blocks name) _
-      (block_named-has d.blocks name (ended d.blocks d.current kept.blocks))
-      (λ xs fine. add-has d.blocks d.lanes d.current xs kept fine))
+      (λ base known. open_lane-has number r.draft.blocks r.draft.lanes r.draft.current name budget
+      base shut kept small known)))
+  take_form-has number r EndForm kept small = end-has r r.side kept
+  take_form-has number r (UseForm name) kept small =
+      if-has IsGoodReading (is_open r.draft.current && is_outside r.side) _ _
+      (λ _. on_side-has Outside _ (then-has (All (IsGood u)) (IsGoodDraft u)
+      (block_named r.draft.blocks name) _
+      (block_named-has (All (IsGood u)) r.draft.blocks name
+      (ended r.draft.blocks r.draft.current kept.blocks))
+      (λ xs fine. add-has r.draft.blocks r.draft.lanes r.draft.current xs kept fine)))
       (λ _. tt)
-  take_form-has number d (InstructionForm wording) kept small =
-      if-has (IsGoodDraft u) (is_open d.current) _ _
-      (λ _. then-has (IsGood u) (IsGoodDraft u) (instruction_of u wording) _
-      (instruction_of-has wording)
-      (λ x fine. add-has d.blocks d.lanes d.current (x ∷ []) kept
-      (All-push (IsGood u) [] x (All-nil (IsGood u)) fine)))
+  take_form-has number r (InstructionForm wording) kept small =
+      if-has IsGoodReading (is_open r.draft.current && may_say r.side wording) _ _
+      (λ _. then-has (IsGood u) IsGoodReading (instruction_of u wording) _
+      (instruction_of-has wording) (λ x fine. put-has number r x kept fine))
       (λ _. tt)

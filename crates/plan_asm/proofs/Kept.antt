@@ -10,18 +10,20 @@ use Rattle.farm_model.specs.Packages.{names}
 use Rattle.farm_model.specs.Sound.{IsUniverse}
 use Rattle.farm_model.specs.Universe.{Universe}
 use Rattle.plan_model.specs.declared.instructions.Instruction.{Instruction}
-use Rattle.plan_model.specs.declared.instructions.Instruction.TheVariants.{Unpack, Configure, Deconfigure, Remove, Build, Publish, Wait}
-use Rattle.plan_asm.specs.Drafts.{Draft, empty, all_lanes, instructions_of, published}
+use Rattle.plan_model.specs.declared.instructions.Instruction.TheVariants.{Unpack, Configure, Deconfigure, Remove, Build, Publish, Wait, When, Otherwise, EndWhen}
+use Rattle.plan_asm.specs.Drafts.{Reading, unread, all_lanes, instructions_of, published}
 use Rattle.plan_asm.specs.CountedPlan.{CountedPlan}
 use Rattle.plan_asm.specs.Ends.{IsWithinLimits}
 use Rattle.plan_model.specs.Plan.{Lane, Plan, lane, no_lane}
-use Rattle.plan_asm.specs.PlanText.{draft_of, plan_of}
+use Rattle.plan_asm.specs.PlanText.{reading_of, plan_of}
 use Rattle.plan_model.specs.Sound.{has_double, IsInstruction, IsPlan}
-use Rattle.deb_text.proofs.CarriedLaws.{has-ok}
-use Rattle.plan_asm.proofs.DraftLaws.{IsGood, IsGoodBlock, IsGoodLane, IsGoodDraft, take_form-has}
+use Rattle.deb_text.proofs.CarriedLaws.{always, has-ok}
+use Rattle.plan_asm.specs.Forms.{Form, form_at}
+use Rattle.plan_asm.proofs.BranchLaws.{IsWhole, IsWholeReading, unread-whole, leads-branched, take-whole}
+use Rattle.plan_asm.proofs.DraftLaws.{IsGood, IsGoodBlock, IsGoodLane, IsGoodReading, take_form-has}
 use Rattle.plan_asm.proofs.FormLaws.{IsForm, form-has}
 use Rattle.plan_asm.proofs.Publishes.{once-in}
-use Rattle.plan_asm.proofs.TextLaws.{draft-has, plan-has}
+use Rattle.plan_asm.proofs.TextLaws.{reading-has, plan-has}
 
 -- an instruction of a plan speaks of what there is
 good-instruction : (u : Universe) → length u.names ≡ names u → (x : Instruction) → IsGood u x
@@ -36,6 +38,9 @@ good-instruction u listed (Remove members) good =
 good-instruction u listed (Build r) good = good
 good-instruction u listed (Publish r) good = good
 good-instruction u listed (Wait e) good = tt
+good-instruction u listed (When name wanted) good = rw listed at good
+good-instruction u listed Otherwise good = tt
+good-instruction u listed EndWhen good = tt
 
 -- what a text without a fault stands for
 record IsGoodPlan (u : Universe) (p : Plan) : Type 0 where
@@ -45,8 +50,8 @@ record IsGoodPlan (u : Universe) (p : Plan) : Type 0 where
 module _ (u : Universe) where
   -- ---- lines
 
-  empty-good : IsGoodDraft u empty
-  empty-good = record {
+  unread-good : IsGoodReading u unread
+  unread-good = record {
     blocks = All-nil (IsGoodBlock u);
     lanes = All-nil (IsGoodLane u);
     few = omega arith;
@@ -54,27 +59,36 @@ module _ (u : Universe) where
     once = refl;
   }
 
-  good-read : (d : Draft) → IsGoodDraft u d → IsWithinLimits (all_lanes d.lanes d.current)
-  good-read d good = record {
+  good-read : (r : Reading) → IsGoodReading u r
+      → IsWithinLimits (all_lanes r.draft.lanes r.draft.current)
+  good-read r good = record {
     lanes = good.few;
     instructions = good.small;
     budgets = All-weaker (IsGoodLane u) (λ (l : Lane). l.budget < 10 ^ 15) (λ l h. h.budget)
-        (all_lanes d.lanes d.current) good.lanes;
+        (all_lanes r.draft.lanes r.draft.current) good.lanes;
   }
 
   -- lines that were read without a fault
-  pub draft-read : (ls : List Line) (d : Draft) → draft_of u ls ≡ Ok d
-      → IsWithinLimits (all_lanes d.lanes d.current)
-  draft-read ls d is =
-      good-read d (has-ok (IsGoodDraft u) (draft_of u ls) d
-      (draft-has u IsForm (IsGoodDraft u) form-has (take_form-has u) empty-good ls) is)
+  pub draft-read : (ls : List Line) (r : Reading) → reading_of u ls ≡ Ok r
+      → IsWithinLimits (all_lanes r.draft.lanes r.draft.current)
+  draft-read ls r is =
+      good-read r (has-ok (IsGoodReading u) (reading_of u ls) r
+      (reading-has u IsForm (IsGoodReading u) form-has (take_form-has u) unread-good ls) is)
 
   -- ---- a text
 
   text-has : (text : List ℕ) → IfOk (plan_of u text) (IsGoodPlan u)
   text-has =
-      plan-has u IsForm (IsGoodDraft u) form-has (take_form-has u) empty-good (IsGoodPlan u)
-      (λ bs ls good. record { lanes = good.lanes; once = good.once })
+      plan-has u IsForm (IsGoodReading u) form-has (take_form-has u) unread-good (IsGoodPlan u)
+      (λ bs ls s good. record { lanes = good.lanes; once = good.once })
+
+  -- its branches are whole
+  pub branches-has : (text : List ℕ)
+      → IfOk (plan_of u text) (All (λ (l : Lane). IsWhole l.instructions))
+  branches-has =
+      plan-has u (λ (form : Form). Unit {0}) IsWholeReading (λ line. always (form_at line))
+      (take-whole u) unread-whole (All (λ (l : Lane). IsWhole l.instructions))
+      (λ bs ls s whole. whole.lanes)
 
   -- ---- a plan
 
@@ -85,10 +99,12 @@ module _ (u : Universe) where
       subst (IsGood u) (get_or_from_slice_get xs i x x is)
       ((good l no_lane lt).instructions i x (slice_get_within xs i x is))
 
-  good-plan : (p : Plan) → length u.names ≡ names u → IsGoodPlan u p → IsPlan u p
-  good-plan p listed good = record {
+  good-plan : (p : Plan) → length u.names ≡ names u → IsGoodPlan u p
+      → All (λ (l : Lane). IsWhole l.instructions) p → IsPlan u p
+  good-plan p listed good whole = record {
     bases = λ l lt. (good.lanes l no_lane lt).base;
     instructions = λ l i x lt is. good-instruction u listed x (good-at p good.lanes l i x lt is);
+    branched = λ l lt. leads-branched (lane p l).instructions (whole l no_lane lt);
     published_once = λ l k i j r l_lt k_lt at_l at_k.
         once-in p l k i j r good.once l_lt k_lt at_l at_k;
   }
@@ -97,6 +113,8 @@ module _ (u : Universe) where
   unfolding names
   plan-sound text p is sound =
       good-plan p sound.listed (has-ok (IsGoodPlan u) (plan_of u text) p (text-has text) is)
+      (has-ok (All (λ (l : Lane). IsWhole l.instructions)) (plan_of u text) p
+      (branches-has text) is)
 
   -- a plan that was read over a sound universe
   pub gives-sound : (text : List ℕ) (r : Result CountedPlan Fault)

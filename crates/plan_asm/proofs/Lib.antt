@@ -1,5 +1,6 @@
 pub mod AssemblyLaws
 pub mod BlockLaws
+pub mod BranchLaws
 pub mod Counts
 pub mod Doubles
 pub mod DraftLaws
@@ -12,3 +13,4 @@ pub mod Tallies
 pub mod TextLaws
 pub mod TurnLaws
 pub mod WriteLaws
+pub mod Landings

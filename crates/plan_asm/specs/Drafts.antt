@@ -1,14 +1,15 @@
 -- What a line of a plan does behind the lines before it (the project's own format): blocks are a map
 -- from names to lists of instructions, and a `use` stands for the list of its block. Parameters: u a
--- universe, d a draft, bs and ls the blocks and the lanes that have ended.
+-- universe, d a draft, bs and ls the blocks and the lanes that have ended, s a side.
 --
---   Draft                        what the lines so far say
+--   Draft, Reading               what the lines so far say
 --   block_named bs name          the instructions of a block, or UNKNOWN_BLOCK
 --   known_name, known_base,
 --   known_recipe                 a name's number in the universe, or UNKNOWN_NAME
 --   set_of, instruction_of       the numbers of a set of names; the instruction that a line says
---   take_form u number d form    the draft with one more line, or the code of the line's fault
-use Rattle.std.specs.Prelude.{ℕ, Bool, true, false, nat_le, nat_lt, List, [], ◌∷◌, ◌++◌, length, map, Option, Some, None, Result, Ok, Err, if◌then◌else◌}
+--   may_say s wording            whether an instruction may stand there
+--   take_form u number r form    what is read with one more line, or the code of the line's fault
+use Rattle.std.specs.Prelude.{ℕ, Bool, true, false, ◌&&◌, nat_le, nat_lt, List, [], ◌∷◌, ◌++◌, length, map, Option, Some, None, Result, Ok, Err, if◌then◌else◌}
 use Rattle.std.specs.List.{list_any, flat_map}
 use Rattle.std.specs.Str.{bytes_eq}
 use Rattle.deb_profile.specs.Reduction.{reduced_entry}
@@ -17,9 +18,10 @@ use Rattle.deb_text.specs.Steps.{◌>>=◌, traverse}
 use Rattle.farm_model.specs.Universe.{Base, Recipe, Universe}
 use Rattle.plan_asm.specs.declared.error.TheConstants.{BAD_LINE, UNKNOWN_NAME, NAME_TWICE, UNKNOWN_BLOCK, PUBLISHED_TWICE, NAME_TAKEN, OVER_LIMIT, MOST_LANES, MOST_INSTRUCTIONS}
 use Rattle.plan_model.specs.declared.instructions.Instruction.{Instruction}
-use Rattle.plan_model.specs.declared.instructions.Instruction.TheVariants.{Unpack, Configure, Deconfigure, Remove, Build, Publish, Wait}
+use Rattle.plan_model.specs.declared.instructions.Instruction.TheVariants.{Unpack, Configure, Deconfigure, Remove, Build, Publish, Wait, When, Otherwise, EndWhen}
+use Rattle.plan_model.specs.Branches.{Side, Outside, InFirst, InSecond, side_behind}
 use Rattle.plan_model.specs.Known.{published_by}
-use Rattle.plan_asm.specs.Forms.{Wording, UnpackForm, ConfigureForm, DeconfigureForm, RemoveForm, BuildForm, PublishForm, WaitForm, Form, BlockForm, LaneForm, EndForm, UseForm, InstructionForm}
+use Rattle.plan_asm.specs.Forms.{Wording, UnpackForm, ConfigureForm, DeconfigureForm, RemoveForm, BuildForm, PublishForm, WaitForm, WhenForm, ElseForm, Form, BlockForm, LaneForm, EndForm, UseForm, InstructionForm}
 use Rattle.plan_model.specs.Plan.{Lane}
 use Rattle.plan_model.specs.Sound.{has_double}
 
@@ -43,6 +45,16 @@ pub record Draft : Type 0 where
 -- before the first line
 abbrev pub empty : Draft
 empty = record { blocks = []; lanes = []; current = Nothing }
+
+-- what the lines so far say, and in which branch the next one stands. The place of a side is here
+-- the line of its `when`
+pub record Reading : Type 0 where
+  pub draft : Draft
+  pub side : Side
+
+-- before the first line
+abbrev pub unread : Reading
+unread = record { draft = empty; side = Outside }
 
 -- whether something is left open
 abbrev pub is_open : Open → Bool
@@ -114,6 +126,8 @@ instruction_of u (RemoveForm ws) = set_of u ws >>= λ members. Ok (Remove member
 instruction_of u (BuildForm word) = known_recipe u word >>= λ r. Ok (Build r)
 instruction_of u (PublishForm word) = known_recipe u word >>= λ r. Ok (Publish r)
 instruction_of u (WaitForm entry) = Ok (Wait (reduced_entry u.architectures [] entry))
+instruction_of u (WhenForm name relation) = known_name u name >>= λ n. Ok (When n relation)
+instruction_of u ElseForm = Ok Otherwise
 
 -- ---- lines
 
@@ -197,6 +211,41 @@ add bs ls (InLane line lane) xs =
 abbrev pub add_use : List Block → List Lane → Open → List ℕ → Result Draft ℕ
 add_use bs ls o name = block_named bs name >>= λ xs. add bs ls o xs
 
+-- ---- branches
+
+-- in no branch
+abbrev pub is_outside : Side → Bool
+is_outside Outside = true
+is_outside (InFirst w) = false
+is_outside (InSecond w) = false
+
+-- in a first branch
+abbrev pub is_first : Side → Bool
+is_first Outside = false
+is_first (InFirst w) = true
+is_first (InSecond w) = false
+
+-- whether an instruction may stand there: in a branch stands neither a publish, nor a wait, nor
+-- another `when`, and an `else` ends a first branch
+abbrev pub may_say : Side → Wording → Bool
+may_say s (PublishForm recipe) = is_outside s
+may_say s (WaitForm entry) = is_outside s
+may_say s (WhenForm name relation) = is_outside s
+may_say s ElseForm = is_first s
+may_say s _ = true
+
+-- a draft, and in which branch the next line stands
+abbrev pub on_side : Side → Draft → Result Reading ℕ
+on_side s d = Ok (record { draft = d; side = s })
+
+-- an instruction comes into what is open
+abbrev pub put : ℕ → Reading → Instruction → Result Reading ℕ
+put number r x =
+    add r.draft.blocks r.draft.lanes r.draft.current (x ∷ [])
+    >>= on_side (side_behind number r.side x)
+
+-- ---- a line behind those that were read
+
 -- a line opens a block, or a lane, where nothing is open
 abbrev pub take_block : ℕ → Draft → List ℕ → Result Draft ℕ
 take_block number d name = if is_open d.current then Err BAD_LINE else open_block number d name
@@ -206,21 +255,32 @@ take_lane u number d name chroot budget =
     if is_open d.current then Err BAD_LINE
     else (known_base u chroot >>= open_lane number d name budget)
 
--- a use, or an instruction, comes into what is open
-abbrev pub take_use : Draft → List ℕ → Result Draft ℕ
-take_use d name =
-    if is_open d.current then add_use d.blocks d.lanes d.current name else Err BAD_LINE
+-- an `end` is that of the second branch, or else of the block or lane
+abbrev pub take_end : Draft → Side → Result Reading ℕ
+take_end d Outside = end_open d.blocks d.lanes d.current >>= on_side Outside
+take_end d (InFirst w) = Err BAD_LINE
+take_end d (InSecond w) =
+    add d.blocks d.lanes d.current (EndWhen ∷ []) >>= on_side Outside
 
-abbrev pub take_instruction : Universe → Draft → Wording → Result Draft ℕ
-take_instruction u d wording =
-    if is_open d.current
-    then (instruction_of u wording >>= λ x. add d.blocks d.lanes d.current (x ∷ []))
+-- a use comes into what is open, but into no branch
+abbrev pub take_use : Reading → List ℕ → Result Reading ℕ
+take_use r name =
+    if is_open r.draft.current && is_outside r.side
+    then (add_use r.draft.blocks r.draft.lanes r.draft.current name >>= on_side Outside)
+    else Err BAD_LINE
+
+-- an instruction comes into what is open
+abbrev pub take_instruction : Universe → ℕ → Reading → Wording → Result Reading ℕ
+take_instruction u number r wording =
+    if is_open r.draft.current && may_say r.side wording
+    then (instruction_of u wording >>= put number r)
     else Err BAD_LINE
 
 -- first whether the line may stand here, then its names, then what it changes
-unfoldable pub take_form : Universe → ℕ → Draft → Form → Result Draft ℕ
-take_form u number d (BlockForm name) = take_block number d name
-take_form u number d (LaneForm name chroot budget) = take_lane u number d name chroot budget
-take_form u number d EndForm = end_open d.blocks d.lanes d.current
-take_form u number d (UseForm name) = take_use d name
-take_form u number d (InstructionForm wording) = take_instruction u d wording
+unfoldable pub take_form : Universe → ℕ → Reading → Form → Result Reading ℕ
+take_form u number r (BlockForm name) = take_block number r.draft name >>= on_side Outside
+take_form u number r (LaneForm name chroot budget) =
+    take_lane u number r.draft name chroot budget >>= on_side Outside
+take_form u number r EndForm = take_end r.draft r.side
+take_form u number r (UseForm name) = take_use r name
+take_form u number r (InstructionForm wording) = take_instruction u number r wording

@@ -3,7 +3,7 @@
 --
 --   Wording, Form   what the line of an instruction says; what a line says
 --   form_at line    the form of a line, or BAD_LINE
-use Rattle.std.specs.Prelude.{ℕ, Bool, false, not, ◌&&◌, List, [], ◌∷◌, Option, Some, None, Result, Ok, Err, codes, if◌then◌else◌}
+use Rattle.std.specs.Prelude.{ℕ, not, ◌&&◌, List, [], ◌∷◌, Option, Some, None, Result, Ok, Err, codes, if◌then◌else◌}
 use Rattle.std.specs.List.{list_all}
 use Rattle.std.specs.Option.{is_none}
 use Rattle.std.specs.Str.{bytes_eq}
@@ -34,6 +34,10 @@ pub data Wording : Type 0 where
   PublishForm : (recipe : List ℕ) → Wording
   -- wait ENTRY
   WaitForm : (entry : Entry) → Wording
+  -- when NAME, perhaps with (OP VERSION)
+  WhenForm : (name : List ℕ) (relation : Option (Op × List ℕ)) → Wording
+  -- else
+  ElseForm : Wording
 
 -- what a line says
 pub data Form : Type 0 where
@@ -82,21 +86,36 @@ one_word _ = Err BAD_LINE
 abbrev pub some_words : List (List ℕ) → Result (List (List ℕ)) ℕ
 some_words ws = if not (is_nil ws) && list_all is_word ws then Ok ws else Err BAD_LINE
 
--- behind `unpack`: no qualifier
-abbrev pub unpack_of : Atom → Result Wording ℕ
-unpack_of atom =
-    if is_none atom.qualifier then Ok (UnpackForm atom.name atom.relation) else Err BAD_LINE
-
 -- any fault of a relation is the line's
 abbrev pub in_line : {X : Type 0} → Result X ℕ → Result X ℕ
 in_line (Ok x) = Ok x
 in_line (Err code) = Err BAD_LINE
 
--- an instruction by its first word, and what stands behind it: an alternative or an entry as in a
--- Depends field (Debian Policy 7.1)
+-- no qualifier
+abbrev pub unqualified : Atom → Result Atom ℕ
+unqualified atom = if is_none atom.qualifier then Ok atom else Err BAD_LINE
+
+-- behind `unpack` and `when`: an alternative as in a Depends field (Debian Policy 7.1)
+abbrev pub piece_at : List ℕ → Result Atom ℕ
+piece_at rest = in_line (alternative_at Need rest) >>= unqualified
+
+-- behind `unpack`
+abbrev pub unpack_form : List ℕ → Result Wording ℕ
+unpack_form rest = piece_at rest >>= λ piece. Ok (UnpackForm piece.name piece.relation)
+
+-- behind `when`
+abbrev pub when_form : List ℕ → Result Wording ℕ
+when_form rest = piece_at rest >>= λ piece. Ok (WhenForm piece.name piece.relation)
+
+-- behind `else`: nothing
+abbrev pub else_form : List (List ℕ) → Result Wording ℕ
+else_form ws = if is_nil ws then Ok ElseForm else Err BAD_LINE
+
+-- an instruction by its first word, and what stands behind it: behind `wait` an entry as in a
+-- Depends field
 abbrev pub wording_by : List ℕ → List ℕ → Result Wording ℕ
 wording_by word rest =
-    if bytes_eq word (codes "unpack") then (in_line (alternative_at Need rest) >>= unpack_of)
+    if bytes_eq word (codes "unpack") then unpack_form rest
     else (if bytes_eq word (codes "configure")
     then (some_words (words rest) >>= λ ws. Ok (ConfigureForm ws))
     else (if bytes_eq word (codes "deconfigure")
@@ -109,7 +128,9 @@ wording_by word rest =
     then (one_word (words rest) >>= λ recipe. Ok (PublishForm recipe))
     else (if bytes_eq word (codes "wait")
     then (in_line (entry_at Need rest) >>= λ entry. Ok (WaitForm entry))
-    else Err BAD_LINE))))))
+    else (if bytes_eq word (codes "when") then when_form rest
+    else (if bytes_eq word (codes "else") then else_form (words rest)
+    else Err BAD_LINE))))))))
 
 -- by the first word, and what stands behind it
 abbrev pub form_by : List ℕ → List ℕ → Result Form ℕ

@@ -6,6 +6,8 @@ pub mod Ends
 pub mod BlockTable
 pub mod PlanText
 pub mod View
+pub mod LongestWays
 pub mod SectionView
 pub mod Seen
 pub mod Listing
+pub mod Landings

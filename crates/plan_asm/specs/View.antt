@@ -3,8 +3,11 @@ use Rattle.deb_text.specs.Words.{words}
 use Rattle.plan_asm.specs.declared.form.Form.{Form}
 use Rattle.plan_asm.specs.declared.form.Form.TheVariants.{Block, Lane, End, Use, Instruction}
 use Rattle.plan_asm.specs.declared.form.Wording.{Wording}
-use Rattle.plan_asm.specs.declared.form.Wording.TheVariants.{Unpack, Configure, Deconfigure, Remove, Build, Publish, Wait}
+use Rattle.plan_asm.specs.declared.form.Wording.TheVariants.{Unpack, Configure, Deconfigure, Remove, Build, Publish, Wait, When, Else}
+use Rattle.plan_asm.specs.declared.side.Side.{Side}
+use Rattle.plan_asm.specs.declared.side.Side.TheVariants.{Outside, First, Second}
 use Rattle.plan_asm.specs.Forms as spec
+use Rattle.plan_model.specs.Branches as branches
 
 abbrev pub wording_of : Wording → spec.Wording
 wording_of (Unpack name relation) = spec.UnpackForm name.items relation
@@ -14,6 +17,8 @@ wording_of (Remove names) = spec.RemoveForm (words names.now)
 wording_of (Build recipe) = spec.BuildForm recipe.now
 wording_of (Publish recipe) = spec.PublishForm recipe.now
 wording_of (Wait entry) = spec.WaitForm entry
+wording_of (When name relation) = spec.WhenForm name.items relation
+wording_of Else = spec.ElseForm
 
 abbrev pub form_of : Form → spec.Form
 form_of (Block name) = spec.BlockForm name.now
@@ -21,3 +26,9 @@ form_of (Lane head) = spec.LaneForm head.name.now head.chroot.now head.budget
 form_of End = spec.EndForm
 form_of (Use block) = spec.UseForm block.now
 form_of (Instruction wording) = spec.InstructionForm (wording_of wording)
+
+-- the side, its place being the line of its `when`
+abbrev pub side_of : Side → branches.Side
+side_of Outside = branches.Outside
+side_of (First line) = branches.InFirst line
+side_of (Second line) = branches.InSecond line

@@ -9,6 +9,7 @@ ghost use Rattle.plan_model.specs.Known.{published_by};
 ghost use Rattle.plan_asm.specs.Drafts.{open_block, open_lane, end_open, published as recipes_of, add, add_use};
 ghost use Rattle.plan_asm.specs.Ends.{finished, IsWithinLimits};
 ghost use Rattle.plan_asm.specs.LineErrors.{refusal_of_line};
+ghost use Rattle.plan_asm.specs.View.{side_of};
 ghost use Rattle.plan_model.specs.Plan.{count};
 ghost use Rattle.plan_model.specs.Sound.{has_double};
 
@@ -17,6 +18,7 @@ use crate::error::{FILE, LineError, MOST_INSTRUCTIONS, MOST_LANES, UNCLOSED};
 use crate::events::count_events;
 use crate::lane::Lane;
 use crate::plan::Plan;
+use crate::side::Side;
 use deb_text::Fault;
 use farm_universe::Universe;
 use indexmap::IndexSet;
@@ -334,11 +336,12 @@ impl Assembly {
     ///
     /// # Errors
     ///
-    /// [`UNCLOSED`], at the first line of what is left open.
-    pub fn finish(self, universe: &Universe) -> Result<Plan, Fault>
+    /// [`UNCLOSED`], at the line of the `when` whose branch is open, or else at the first line of
+    /// what is.
+    pub fn finish(self, universe: &Universe, side: Side) -> Result<Plan, Fault>
         requires { IsWithinLimits (all_lanes self.lanes self.current) }
         ensures lanes { Gives refusal_of (λ plan. plan.lanes) result
-            (finished self.lanes self.current) }
+            (finished self.lanes self.current (side_of side)) }
         ensures counted { IfOk result (λ plan. plan.count ≡ count universe.now plan.lanes) }
     {
         let Assembly { lanes, current, .. } = self;
@@ -349,7 +352,7 @@ impl Assembly {
             }
             Section::Block { line, .. } | Section::Lane { line, .. } => Err(Fault {
                 file: FILE,
-                line,
+                line: side.home(line),
                 code: UNCLOSED,
             }),
         }

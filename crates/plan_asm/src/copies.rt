@@ -45,5 +45,11 @@ pub fn copy_instruction(alloc: Global, instruction: &Instruction) -> Result<Inst
         Instruction::Build(recipe) => Ok(Instruction::Build(*recipe)),
         Instruction::Publish(recipe) => Ok(Instruction::Publish(*recipe)),
         Instruction::Wait(entry) => Ok(Instruction::Wait(entry.clone()?)),
+        Instruction::When { name, relation } => Ok(Instruction::When {
+            name: *name,
+            relation: copy_relation(relation)?,
+        }),
+        Instruction::Otherwise => Ok(Instruction::Otherwise),
+        Instruction::EndWhen => Ok(Instruction::EndWhen),
     }
 }

@@ -27,7 +27,7 @@ pub const NAME_TWICE: u16 = 304;
 /// A block that is not known, or that comes later or is open.
 pub const UNKNOWN_BLOCK: u16 = 305;
 
-/// A lane or block that has no `end`.
+/// A lane, a block or a `when` that has no `end`.
 pub const UNCLOSED: u16 = 306;
 
 /// A recipe that is published twice in the plan.

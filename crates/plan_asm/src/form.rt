@@ -7,8 +7,8 @@ ghost use Rattle.std.specs.Option.{option_map};
 ghost use Rattle.deb_text.specs.Answers.{Gives, refusal_code};
 ghost use Rattle.deb_text.specs.Words.{words, is_word};
 ghost use Rattle.plan_asm.specs.declared.error.TheConstants.{BAD_LINE};
-ghost use Rattle.plan_asm.specs.Forms.{form_at, wording_by, lane_form, end_form, unpack_of};
-ghost use Rattle.plan_asm.specs.Forms.{in_line, one_word, some_words};
+ghost use Rattle.plan_asm.specs.Forms.{form_at, wording_by, lane_form, end_form, else_form};
+ghost use Rattle.plan_asm.specs.Forms.{in_line, unqualified, piece_at, unpack_form, when_form, one_word, some_words};
 ghost use Rattle.plan_asm.specs.LineErrors.{refusal_of_line};
 ghost use Rattle.plan_asm.specs.View.{wording_of, form_of};
 
@@ -38,6 +38,13 @@ pub enum Wording<'a> {
     Publish(&'a [u8]),
     /// `wait ENTRY`
     Wait(Entry),
+    /// `when NAME`, perhaps with `(OP VERSION)`
+    When {
+        name: Vec<u8>,
+        relation: Option<(Op, Version)>,
+    },
+    /// `else`
+    Else,
 }
 
 /// What the first line of a lane says, its names as they stand there.
@@ -109,16 +116,13 @@ fn read_end<'a>(text: &[u8]) -> Result<Form<'a>, LineError>
     Ok(Form::End)
 }
 
-fn unpack_of<'a>(atom: Atom) -> Result<Wording<'a>, LineError>
-    ensures { Gives refusal_of_line wording_of result (unpack_of atom) }
+fn unqualified(atom: Atom) -> Result<Atom, LineError>
+    ensures { Gives refusal_of_line (λ piece. piece) result (unqualified atom) }
 {
     if atom.qualifier.is_some() {
         return Err(LineError::BadLine);
     }
-    Ok(Wording::Unpack {
-        name: atom.name,
-        relation: atom.relation,
-    })
+    Ok(atom)
 }
 
 /// Any fault of a relation is the line's.
@@ -139,6 +143,41 @@ fn read_atom(alloc: Global, text: &[u8]) -> Result<Atom, LineError>
         Ok(atom) => Ok(atom),
         Err(error) => Err(in_line(error)),
     }
+}
+
+fn read_piece(alloc: Global, text: &[u8]) -> Result<Atom, LineError>
+    ensures { Gives refusal_of_line (λ piece. piece) result (piece_at text.now) }
+{
+    unqualified(read_atom(alloc, text)?)
+}
+
+fn read_else<'a>(text: &[u8]) -> Result<Wording<'a>, LineError>
+    ensures { Gives refusal_of_line wording_of result (else_form (words text.now)) }
+{
+    if next_word(text).is_some() {
+        return Err(LineError::BadLine);
+    }
+    Ok(Wording::Else)
+}
+
+fn read_unpack<'a>(alloc: Global, text: &[u8]) -> Result<Wording<'a>, LineError>
+    ensures { Gives refusal_of_line wording_of result (unpack_form text.now) }
+{
+    let piece = read_piece(alloc, text)?;
+    Ok(Wording::Unpack {
+        name: piece.name,
+        relation: piece.relation,
+    })
+}
+
+fn read_when<'a>(alloc: Global, text: &[u8]) -> Result<Wording<'a>, LineError>
+    ensures { Gives refusal_of_line wording_of result (when_form text.now) }
+{
+    let piece = read_piece(alloc, text)?;
+    Ok(Wording::When {
+        name: piece.name,
+        relation: piece.relation,
+    })
 }
 
 fn read_entry(alloc: Global, text: &[u8]) -> Result<Entry, LineError>
@@ -188,7 +227,7 @@ fn read_wording<'a>(alloc: Global, word: &[u8], rest: &'a [u8]) -> Result<Wordin
     ensures { Gives refusal_of_line wording_of result (wording_by word.now rest.now) }
 {
     if word == b"unpack".as_slice() {
-        unpack_of(read_atom(alloc, rest)?)
+        read_unpack(alloc, rest)
     } else if word == b"configure".as_slice() {
         Ok(Wording::Configure(some_words(rest)?))
     } else if word == b"deconfigure".as_slice() {
@@ -201,6 +240,10 @@ fn read_wording<'a>(alloc: Global, word: &[u8], rest: &'a [u8]) -> Result<Wordin
         Ok(Wording::Publish(one_word(rest)?))
     } else if word == b"wait".as_slice() {
         Ok(Wording::Wait(read_entry(alloc, rest)?))
+    } else if word == b"when".as_slice() {
+        read_when(alloc, rest)
+    } else if word == b"else".as_slice() {
+        read_else(rest)
     } else {
         Err(LineError::BadLine)
     }

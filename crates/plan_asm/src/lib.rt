@@ -7,11 +7,13 @@ mod copies;
 mod error;
 mod events;
 mod form;
+mod landing;
 mod lane;
 mod names;
 mod plan;
 mod print;
 mod reader;
+mod side;
 
 pub use error::{
     BAD_LINE, FILE, MOST_INSTRUCTIONS, MOST_LANES, NAME_TAKEN, NAME_TWICE, NO_PLAN, OVER_LIMIT,

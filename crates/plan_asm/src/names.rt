@@ -158,5 +158,10 @@ pub fn read_instruction(
             let left = reduce_entry(alloc, &entry, universe.arch_names(), &none)?;
             Ok(Instruction::Wait(left))
         }
+        Wording::When { name, relation } => Ok(Instruction::When {
+            name: known_name(universe, &name)?,
+            relation,
+        }),
+        Wording::Else => Ok(Instruction::Otherwise),
     }
 }

@@ -1,10 +1,11 @@
 //! The listing of a plan.
 
-ghost use Rattle.std.specs.Prelude.{◌≡◌, ◌++◌, codes, map, slice_index_or, [], IfOk, OnOk};
+ghost use Rattle.std.specs.Prelude.{◌≡◌, ◌++◌, codes, map, slice_index_or, [], false, IfOk, OnOk};
 ghost use Rattle.std.specs.List.{concat, flat_map};
 ghost use Rattle.deb_relation.specs.Spelling.{operator_text, relation_text, qualifier_text, atom_text, more_text, entry_text};
 ghost use Rattle.farm_model.specs.Packages.{recipe, base};
-ghost use Rattle.plan_asm.specs.Listing.{name_of, names_text, instruction_text, instruction_line, lane_line, lane_text, listing_of};
+ghost use Rattle.plan_asm.specs.Listing.{name_of, names_text, instruction_text, margin, instruction_line};
+ghost use Rattle.plan_asm.specs.Listing.{inside_behind, instruction_lines, lane_line, lane_text, listing_of};
 
 use crate::lane::Lane;
 use crate::plan::Plan;
@@ -144,18 +145,60 @@ fn push_instruction(
             text.extend_from_slice(b"wait ")?;
             push_entry(text, entry)
         }
+        Instruction::When { name, relation } => {
+            push_pieces(text, &[b"when ", name_of(universe, *name)])?;
+            push_relation(text, relation)
+        }
+        Instruction::Otherwise => push_pieces(text, &[b"else"]),
+        Instruction::EndWhen => push_pieces(text, &[b"end"]),
+    }
+}
+
+/// The spaces in front of an instruction.
+fn margin(inside: bool, instruction: &Instruction) -> &'static [u8]
+    ensures { result.now ≡ margin inside instruction.now }
+{
+    match instruction {
+        Instruction::Otherwise | Instruction::EndWhen => b"  ",
+        Instruction::Unpack { .. }
+        | Instruction::Configure(_)
+        | Instruction::Deconfigure(_)
+        | Instruction::Remove(_)
+        | Instruction::Build(_)
+        | Instruction::Publish(_)
+        | Instruction::Wait(_)
+        | Instruction::When { .. } => { if inside { b"    " } else { b"  " } }
+    }
+}
+
+/// Tells whether the instruction behind this one stands inside a branch.
+fn inside_behind(inside: bool, instruction: &Instruction) -> bool
+    ensures { result ≡ inside_behind inside instruction.now }
+{
+    match instruction {
+        Instruction::When { .. } => true,
+        Instruction::EndWhen => false,
+        Instruction::Unpack { .. }
+        | Instruction::Configure(_)
+        | Instruction::Deconfigure(_)
+        | Instruction::Remove(_)
+        | Instruction::Build(_)
+        | Instruction::Publish(_)
+        | Instruction::Wait(_)
+        | Instruction::Otherwise => inside,
     }
 }
 
 fn push_line(
     text: &mut Vec<u8>,
     universe: &Universe,
+    inside: bool,
     instruction: &Instruction,
 ) -> Result<(), AllocError>
     ensures { OnOk result
-        (text.new.items ≡ text.old.items ++ instruction_line universe.now instruction.now) }
+        (text.new.items ≡ text.old.items ++ instruction_line universe.now inside instruction.now) }
 {
-    text.extend_from_slice(b"  ")?;
+    text.extend_from_slice(margin(inside, instruction))?;
     push_instruction(text, universe, instruction)?;
     text.extend_from_slice(b"\n")?;
     Ok(())
@@ -167,10 +210,12 @@ fn push_lines(
     instructions: &[Instruction],
 ) -> Result<(), AllocError>
     ensures { OnOk result (text.new.items
-        ≡ text.old.items ++ flat_map (instruction_line universe.now) instructions.now) }
+        ≡ text.old.items ++ instruction_lines universe.now false instructions.now) }
 {
+    let mut inside = false;
     for instruction in instructions {
-        push_line(text, universe, instruction)?;
+        push_line(text, universe, inside, instruction)?;
+        inside = inside_behind(inside, instruction);
     }
     Ok(())
 }
@@ -215,8 +260,9 @@ fn push_lane(
 }
 
 /// Prints a plan that was read over this universe: `plan 1`, and for each lane its `lane` line, its
-/// instructions indented by two spaces, and `end`. Words are separated by one space and alternatives
-/// by ` | `; numbers have no leading zeros, and versions stand as they were written.
+/// instructions indented by two spaces, those of a branch by four, and `end`. Words are separated
+/// by one space and alternatives by ` | `; numbers have no leading zeros, and versions stand as
+/// they were written.
 ///
 /// # Errors
 ///

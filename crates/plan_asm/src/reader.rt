@@ -6,9 +6,10 @@ ghost use Rattle.deb_stanza.specs.Plain.{plain_lines_at};
 ghost use Rattle.deb_text.specs.Answers.{Gives, fault_at, refusal_of};
 ghost use Rattle.farm_model.specs.Sound.{IsUniverse};
 ghost use Rattle.farm_universe.specs.Told.{in_file};
-ghost use Rattle.plan_asm.specs.Drafts.{take_block, take_form, take_instruction, take_lane, take_use};
-ghost use Rattle.plan_asm.specs.PlanText.{take_text, take_line, draft_of};
+ghost use Rattle.plan_asm.specs.Drafts.{put, take_block, take_end, take_form, take_instruction, take_lane, take_use};
+ghost use Rattle.plan_asm.specs.PlanText.{take_text, take_line, reading_of};
 ghost use Rattle.plan_asm.specs.PlanText.{plan_in, plan_of};
+ghost use Rattle.plan_model.specs.Branches.{Outside};
 ghost use Rattle.plan_model.specs.Plan.{count};
 ghost use Rattle.plan_model.specs.Sound.{IsPlan};
 ghost use Rattle.plan_asm.specs.LineErrors.{refusal_of_line};
@@ -19,11 +20,29 @@ use crate::error::{FILE, LineError, NO_PLAN};
 use crate::form::{Form, LaneHead, Wording, read_form};
 use crate::names::{known_base, read_instruction};
 use crate::plan::Plan;
+use crate::side::Side;
 use deb_stanza::{Lines, plain_lines};
 use deb_text::{Fault, is_head};
 use farm_universe::Universe;
 use plan_model::Instruction;
 use std::alloc::Global;
+use std::marker::Model;
+
+/// What the lines of a plan say so far, and in which branch the next one stands.
+#[derive(Drop)]
+struct Reading {
+    draft: Assembly,
+    side: Side,
+}
+
+impl Model for Reading {
+    ghost use Rattle.plan_asm.specs.Drafts as spec;
+    ghost use Rattle.plan_asm.specs.View.{side_of};
+
+    ghost Value = { spec.Reading };
+
+    ghost view = { λ it. record { draft = it.draft; side = side_of it.side } };
+}
 
 /// Opens a block, where nothing is open.
 fn take_block(
@@ -60,31 +79,74 @@ fn take_lane(
     before.open_lane(alloc, number, head.name, head.budget, base)
 }
 
-/// Puts what a block stands for into what is open.
-fn take_use(alloc: Global, before: Assembly, name: &[u8]) -> Result<Assembly, LineError>
+/// Puts what a block stands for into what is open, but into no branch.
+fn take_use(alloc: Global, before: Reading, name: &[u8]) -> Result<Reading, LineError>
     ensures { Gives refusal_of_line (λ next. next) result
         (take_use before name.now) }
 {
-    if !before.is_open() {
+    let Reading { draft, side } = before;
+    if !draft.is_open() || !side.is_outside() {
         return Err(LineError::BadLine);
     }
-    before.add_use(alloc, name)
+    Ok(Reading {
+        draft: draft.add_use(alloc, name)?,
+        side: Side::Outside,
+    })
 }
 
-/// Puts an instruction into what is open.
+/// Ends the second branch, or else the open block or lane.
+fn take_end(alloc: Global, before: Reading) -> Result<Reading, LineError>
+    ensures { Gives refusal_of_line (λ next. next) result (take_end before.draft before.side) }
+{
+    let Reading { draft, side } = before;
+    let draft = match side {
+        Side::Outside => draft.end_open(alloc)?,
+        Side::First(_) => return Err(LineError::BadLine),
+        Side::Second(_) => draft.add(Instruction::EndWhen)?,
+    };
+    Ok(Reading {
+        draft,
+        side: Side::Outside,
+    })
+}
+
+/// Puts the instruction of the line of this number into what is open.
+fn put(number: u32, before: Reading, instruction: Instruction) -> Result<Reading, LineError>
+    ensures { Gives refusal_of_line (λ next. next) result (put number before instruction) }
+{
+    let Reading { draft, side } = before;
+    let side = side.behind(number, &instruction);
+    Ok(Reading {
+        draft: draft.add(instruction)?,
+        side,
+    })
+}
+
+/// Puts an instruction into what is open, where it may stand.
 fn take_instruction(
     alloc: Global,
     universe: &Universe,
-    before: Assembly,
+    number: u32,
+    before: Reading,
     wording: Wording<'_>,
-) -> Result<Assembly, LineError>
+) -> Result<Reading, LineError>
     ensures { Gives refusal_of_line (λ next. next) result
-        (take_instruction universe.now before (wording_of wording.entry)) }
+        (take_instruction universe.now number before (wording_of wording.entry)) }
 {
-    if !before.is_open() {
+    if !before.draft.is_open() || !before.side.may_say(&wording) {
         return Err(LineError::BadLine);
     }
-    before.add(read_instruction(alloc, universe, wording)?)
+    put(number, before, read_instruction(alloc, universe, wording)?)
+}
+
+/// A draft, outside of all branches.
+fn outside(draft: Assembly) -> Reading
+    ensures { result ≡ record { draft = draft; side = Outside } }
+{
+    Reading {
+        draft,
+        side: Side::Outside,
+    }
 }
 
 #[tactic(auto, unfolding(crate::specs::Drafts::take_form))]
@@ -92,18 +154,18 @@ fn take_form(
     alloc: Global,
     universe: &Universe,
     number: u32,
-    before: Assembly,
+    before: Reading,
     form: Form<'_>,
-) -> Result<Assembly, LineError>
+) -> Result<Reading, LineError>
     ensures { Gives refusal_of_line (λ next. next) result
         (take_form universe.now number before (form_of form.entry)) }
 {
     match form {
-        Form::Block(name) => take_block(alloc, number, before, name),
-        Form::Lane(head) => take_lane(alloc, universe, number, before, head),
-        Form::End => before.end_open(alloc),
+        Form::Block(name) => Ok(outside(take_block(alloc, number, before.draft, name)?)),
+        Form::Lane(head) => Ok(outside(take_lane(alloc, universe, number, before.draft, head)?)),
+        Form::End => take_end(alloc, before),
         Form::Use(name) => take_use(alloc, before, name),
-        Form::Instruction(wording) => take_instruction(alloc, universe, before, wording),
+        Form::Instruction(wording) => take_instruction(alloc, universe, number, before, wording),
     }
 }
 
@@ -112,9 +174,9 @@ fn take_text(
     alloc: Global,
     universe: &Universe,
     number: u32,
-    before: Assembly,
+    before: Reading,
     line: &[u8],
-) -> Result<Assembly, LineError>
+) -> Result<Reading, LineError>
     ensures { Gives refusal_of_line (λ next. next) result
         (take_text universe.now number before line.now) }
 {
@@ -125,10 +187,10 @@ fn take_text(
 fn take_line(
     alloc: Global,
     universe: &Universe,
-    before: Assembly,
+    before: Reading,
     number: u32,
     line: &[u8],
-) -> Result<Assembly, Fault>
+) -> Result<Reading, Fault>
     ensures { Gives refusal_of (λ next. next) result
         (take_line universe.now before (number, line.now)) }
 {
@@ -139,11 +201,12 @@ fn take_line(
 }
 
 /// What the lines behind the first one come to.
-fn read_sections(alloc: Global, universe: &Universe, lines: &Lines) -> Result<Assembly, Fault>
+fn read_sections(alloc: Global, universe: &Universe, lines: &Lines) -> Result<Reading, Fault>
     requires { 0 < length lines.now }
-    ensures { Gives refusal_of (λ so_far. so_far) result (draft_of universe.now (drop 1 lines.now)) }
+    ensures { Gives refusal_of (λ so_far. so_far) result
+        (reading_of universe.now (drop 1 lines.now)) }
 {
-    let mut so_far = Assembly::new(alloc);
+    let mut so_far = outside(Assembly::new(alloc));
     for i in 1..lines.count() {
         so_far = take_line(alloc, universe, so_far, lines.number(i), lines.line(i))?;
     }
@@ -184,7 +247,7 @@ fn read_plan(alloc: Global, universe: &Universe, lines: &Lines) -> Result<Plan, 
         return Err(no_plan(lines.number(0)));
     }
     let so_far = read_sections(alloc, universe, lines)?;
-    so_far.finish(universe)
+    so_far.draft.finish(universe, so_far.side)
 }
 
 #[tactic(auto, unfolding(crate::specs::PlanText::plan_of))]
@@ -202,6 +265,8 @@ fn read_text(alloc: Global, universe: &Universe, text: &[u8]) -> Result<Plan, Fa
 /// `end`, and blocks, each from `block NAME` to `end`. In them stand `unpack NAME`,
 /// `unpack NAME (OP VERSION)`, `configure`, `deconfigure` and `remove` with one name or more,
 /// `build RECIPE`, `publish RECIPE`, `wait ENTRY`, and `use BLOCK` for what a block above comes to.
+/// Two branches stand between `when NAME` or `when NAME (OP VERSION)`, `else` and `end`; in them
+/// stands no `publish`, `wait`, `use` or `when`.
 /// An entry is reduced to the farm's architecture, and its names need not be known. Blank lines and
 /// comments mean nothing.
 ///
@@ -214,8 +279,8 @@ fn read_text(alloc: Global, universe: &Universe, text: &[u8]) -> Result<Plan, Fa
 /// [`NAME_TAKEN`](crate::NAME_TAKEN), [`PUBLISHED_TWICE`](crate::PUBLISHED_TWICE), told where a lane
 /// comes to publish a recipe again, and [`OVER_LIMIT`](crate::OVER_LIMIT), told for more than 64
 /// lanes, and for more than 65,536 instructions of all lanes or of a block. Last
-/// [`UNCLOSED`](crate::UNCLOSED), at the first line of a lane or block without `end`. 900 of file 0
-/// and line 0 where memory ran out. Nothing is left behind.
+/// [`UNCLOSED`](crate::UNCLOSED), at the line of a `when`, a lane or a block without `end`, the
+/// innermost one. 900 of file 0 and line 0 where memory ran out. Nothing is left behind.
 pub fn assemble(alloc: Global, universe: &Universe, text: &[u8]) -> Result<Plan, Fault>
     ensures plan { Gives refusal_of (λ plan. plan.lanes) result (plan_of universe.now text.now) }
     ensures counted { IfOk result (λ plan. plan.count ≡ count universe.now plan.lanes) }

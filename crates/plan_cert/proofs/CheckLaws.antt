@@ -2,10 +2,9 @@
 use Rattle.std.proofs.Common.{◌≡◌, ℕ, ◌+◌, ◌<◌, true, List, length, Err, sym, ◌∙◌, arith}
 use Rattle.cert_text.specs.Certificates.{Certificate, IsCertificate}
 use Rattle.cert_text.specs.declared.fault.CertFault.{CertFault}
-use Rattle.cert_text.specs.declared.fault.CertFault.TheVariants.{Text, Row, Unsafe, Order, Memory}
+use Rattle.cert_text.specs.declared.fault.CertFault.TheVariants.{Text, Row, Unsafe, Uneven, Order, Memory}
 use Rattle.farm_laws.proofs.LawsOfPlans.{every_interleaving}
 use Rattle.farm_model.specs.declared.types.Variant.{Variant}
-use Rattle.farm_model.specs.declared.types.Trap.{Trap}
 use Rattle.farm_model.specs.Universe.{Universe}
 use Rattle.farm_model.specs.Packages.{initial}
 use Rattle.farm_model.specs.Sound.{IsUniverse}
@@ -13,14 +12,15 @@ use Rattle.plan_model.specs.Known.{Rows, KeepsRows}
 use Rattle.plan_model.specs.Order.{IsOrder}
 use Rattle.plan_model.specs.Plan.{Plan}
 use Rattle.plan_model.specs.Promise.{IsSafe}
-use Rattle.plan_model.specs.Safety.{IsSafeUnder, IsFirstUnsafe}
+use Rattle.plan_model.specs.Safety.{Hazard, Meets, Parts, IsSafeUnder, IsFirstUnsafe}
 use Rattle.plan_model.specs.Sound.{IsSound}
+use Rattle.plan_verifier.specs.Costs.{IsFirstTold}
 use Rattle.verdict_laws.specs.Agreeing.{Agree}
 use Rattle.verdict_laws.specs.Places.{IsFirstUnjustified}
 use Rattle.verdict_laws.proofs.Alike.{agreeing_rows_are_alike}
 use Rattle.verdict_laws.proofs.ByPlace.{keeping_is_by_place}
 use Rattle.plan_cert.specs.Broken.{IsBrokenAt, IsOrderChecked, IsNumbered}
-use Rattle.plan_cert.specs.Certified.{Certifies, IsCertVerdict}
+use Rattle.plan_cert.specs.Certified.{Certifies, IsUnsafeAt, IsCertVerdict}
 use Rattle.plan_cert.specs.Checked.{AreChecked, AreSafe}
 use Rattle.plan_cert.specs.Places.{HaveKnown}
 use Rattle.plan_cert.specs.Stated.{stated_rows}
@@ -34,6 +34,7 @@ told-broken u p order n Memory numbered broken = tt
 told-broken u p order n (Text line) numbered broken = absurd numbered
 told-broken u p order n (Row l number) numbered broken = absurd numbered
 told-broken u p order n (Unsafe l number trap) numbered broken = absurd numbered
+told-broken u p order n (Uneven l number) numbered broken = absurd numbered
 
 -- rows that agree keep alike, and are safe alike
 pub keeps-alike : (u : Universe) (p : Plan) (rows other : Rows) → Agree p rows other
@@ -46,7 +47,7 @@ keeps-alike u p rows other same keeps =
 pub safe-alike : (u : Universe) (p : Plan) (rows other : Rows) → Agree p rows other
     → IsSafeUnder u p rows → IsSafeUnder u p other
 safe-alike u p rows other same safe l i lt =
-    sym ((agreeing_rows_are_alike u p rows other same).risks l i lt) ∙ safe l i lt
+    sym ((agreeing_rows_are_alike u p rows other same).hazards l i lt) ∙ safe l i lt
 
 unjustified-alike : (u : Universe) (p : Plan) (rows other : Rows) (l i : ℕ) → Agree p rows other
     → IsFirstUnjustified u p rows l i → IsFirstUnjustified u p other l i
@@ -59,15 +60,16 @@ unjustified-alike u p rows other l i same first =
       lanes_before = λ j k lt. (alike.justified j k (omega (arith, lt, first.in_plan))).0 (first.lanes_before j k lt);
     }
 
-unsafe-alike : (u : Universe) (p : Plan) (rows other : Rows) (l i : ℕ) (trap : Trap)
-    → Agree p rows other → IsFirstUnsafe u p rows l i trap → IsFirstUnsafe u p other l i trap
-unsafe-alike u p rows other l i trap same first =
+unsafe-alike : (u : Universe) (p : Plan) (rows other : Rows) (l i : ℕ) (hazard : Hazard)
+    → Agree p rows other → IsFirstUnsafe u p rows l i hazard → IsFirstUnsafe u p other l i hazard
+unsafe-alike u p rows other l i hazard same first =
     let alike = agreeing_rows_are_alike u p rows other same in
     record {
       in_plan = first.in_plan;
-      here = sym (alike.risks l i first.in_plan) ∙ first.here;
-      before = λ k lt. sym (alike.risks l k first.in_plan) ∙ first.before k lt;
-      lanes_before = λ j k lt. sym (alike.risks j k (omega (arith, lt, first.in_plan))) ∙ first.lanes_before j k lt;
+      here = sym (alike.hazards l i first.in_plan) ∙ first.here;
+      before = λ k lt. sym (alike.hazards l k first.in_plan) ∙ first.before k lt;
+      lanes_before = λ j k lt. sym (alike.hazards j k (omega (arith, lt, first.in_plan)))
+          ∙ first.lanes_before j k lt;
     }
 
 module _ (u : Universe) (p : Plan) (c : Certificate) (is : IsCertificate u p c) (sound : IsUniverse u)
@@ -83,16 +85,23 @@ module _ (u : Universe) (p : Plan) (c : Certificate) (is : IsCertificate u p c) 
   rows-verdict Memory told = tt
   rows-verdict (Text line) told = absurd told
   rows-verdict (Unsafe l number trap) told = absurd told
+  rows-verdict (Uneven l number) told = absurd told
   rows-verdict (Order item) told = absurd told
+
+  told-unsafe : KeepsRows u p rows → (l number : ℕ) (hazard : Hazard)
+      → IsFirstTold u p rows l hazard number
+      → IsUnsafeAt u p (stated_rows u p c) l number hazard
+  told-unsafe keeps l number hazard told = record {
+    keeps = keeps-alike u p rows (stated_rows u p c) same keeps;
+    place = told.i;
+    numbered = told.numbered;
+    first = unsafe-alike u p rows (stated_rows u p c) l told.i hazard same told.first;
+  }
 
   pub safety-verdict : KeepsRows u p rows → (f : CertFault) → AreSafe u p rows (Err f)
       → IsCertVerdict u p c (Err f)
-  safety-verdict keeps (Unsafe l number trap) told = record {
-    keeps = keeps-alike u p rows (stated_rows u p c) same keeps;
-    place = told.0;
-    numbered = told.1;
-    first = unsafe-alike u p rows (stated_rows u p c) l told.0 trap same told.2;
-  }
+  safety-verdict keeps (Unsafe l number trap) told = told-unsafe keeps l number (Meets trap) told
+  safety-verdict keeps (Uneven l number) told = told-unsafe keeps l number Parts told
   safety-verdict keeps Memory told = tt
   safety-verdict keeps (Text line) told = absurd told
   safety-verdict keeps (Row l number) told = absurd told
@@ -109,6 +118,7 @@ module _ (u : Universe) (p : Plan) (c : Certificate) (is : IsCertificate u p c) 
   order-verdict keeps safe (Text line) told = absurd told
   order-verdict keeps safe (Row l number) told = absurd told
   order-verdict keeps safe (Unsafe l number trap) told = absurd told
+  order-verdict keeps safe (Uneven l number) told = absurd told
 
   pub certified : KeepsRows u p rows → IsSafeUnder u p rows → IsOrder u p c.order → Certifies u p c
   certified keeps safe order = record {

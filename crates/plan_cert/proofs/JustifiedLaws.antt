@@ -1,22 +1,23 @@
 -- Rows behind instructions, by subsets of rows.
-use Rattle.std.proofs.Common.{◌≡◌, ◌≢◌, ℕ, zero, suc, ◌<◌, ◌≤◌, Bool, true, false, not, ◌||◌, nat_lt, List, [], length, take, Some, inl, inr, refl, sym, ap, subst, ◌∙◌, arith}
+use Rattle.std.proofs.Common.{◌≡◌, ℕ, zero, suc, ◌<◌, ◌≤◌, Bool, true, false, not, ◌||◌, nat_lt, List, [], length, take, Some, None, inl, inr, sym, ap, subst, ◌∙◌, arith}
 use Rattle.std.specs.Prelude.{◌↔◌, IsTrue}
 use Rattle.std.proofs.lemmas.Bool.{cases_Bool, or_cases, or_left, or_right, and_parts, and_from, both_ways, lt-ltb, not-true, not_from_false, false≢true}
 use Rattle.std.proofs.lemmas.List.{take_all}
-use Rattle.std.proofs.lemmas.Option.{slice_get_within}
+use Rattle.std.proofs.lemmas.Option.{none-some, same_Some, slice_get_within}
 use Rattle.bit_rows.specs.Sets.{variants_of, IsSubset, IsDifference, IsIntersection}
-use Rattle.deb_relation.specs.Relations.{Entry}
 use Rattle.farm_model.specs.declared.types.Variant.{Variant}
 use Rattle.farm_model.specs.Universe.{Universe}
 use Rattle.farm_model.specs.Packages.{variant, variants, contains, outputs, initial, satisfies_entry}
 use Rattle.farm_model.specs.Sound.{IsUniverse}
 use Rattle.plan_model.specs.declared.instructions.Instruction.{Instruction}
-use Rattle.plan_model.specs.declared.instructions.Instruction.TheVariants.{Unpack, Configure, Deconfigure, Remove, Build, Publish, Wait}
-use Rattle.plan_model.specs.Known.{Rows, published_by, possible, Adds, KeepsRows}
+use Rattle.plan_model.specs.declared.instructions.Instruction.TheVariants.{Publish, Wait, When}
+use Rattle.plan_model.specs.Known.{Rows, published_by, is_of, possible, Follows, Adds, row_before, KeepsRows}
 use Rattle.plan_model.specs.Plan.{Plan, lane, instruction_at}
 use Rattle.verdict_laws.specs.Places.{IsJustified, IsFirstUnjustified}
 use Rattle.sat_rows.specs.Rows.{IsRowOf}
 use Rattle.verdict_laws.proofs.Inclusions.{possible-known}
+use Rattle.verdict_laws.proofs.RowBefore.{row_before-le}
+use Rattle.wait_order.specs.Points.{asked}
 use Rattle.plan_cert.specs.Facts.{AreFacts}
 use Rattle.plan_cert.specs.Stated.{in_row}
 use Rattle.plan_cert.specs.Places.{HaveKnown}
@@ -24,25 +25,53 @@ use Rattle.plan_cert.specs.Checked.{IsLaneFault}
 use Rattle.plan_cert.proofs.StatedLaws.{row-has}
 use Rattle.plan_cert.proofs.FactLaws.{with-known}
 
+-- what a wait or a `when` adds is what follows from what it looks for
+module _ (u : Universe) (p : Plan) (rows : Rows) (l i : ℕ) (v : Variant) where
+  pub asked-adds : (test : Variant → Bool) (x : Instruction) → asked u x ≡ Some test
+      → Follows u p rows l i v test → Adds u p rows l i v x
+  asked-adds test (Wait e) is follows =
+      subst (Follows u p rows l i v) (sym (same_Some (satisfies_entry u e) test is)) follows
+  asked-adds test (When name wanted) is follows =
+      subst (Follows u p rows l i v) (sym (same_Some (is_of u name wanted) test is)) follows
+  asked-adds test _ is follows = absurd (none-some test is)
+
+  pub asked-follows : (test : Variant → Bool) (x : Instruction) → asked u x ≡ Some test
+      → Adds u p rows l i v x → Follows u p rows l i v test
+  asked-follows test (Wait e) is adds =
+      subst (Follows u p rows l i v) (same_Some (satisfies_entry u e) test is) adds
+  asked-follows test (When name wanted) is adds =
+      subst (Follows u p rows l i v) (same_Some (is_of u name wanted) test is) adds
+  asked-follows test _ is adds = absurd (none-some test is)
+
+  -- an instruction that neither publishes nor looks for something adds nothing
+  pub adds-nothing : (x : Instruction) → published_by x ≡ [] → asked u x ≡ None
+      → Adds u p rows l i v x → ⊥
+  adds-nothing (Publish r) no_publish quiet add = cc
+  adds-nothing (Wait e) no_publish quiet add = none-some _ (sym quiet)
+  adds-nothing (When name wanted) no_publish quiet add = none-some _ (sym quiet)
+  adds-nothing _ no_publish quiet add = add
+
 module _ (u : Universe) (p : Plan) (rows : Rows) (sound : IsUniverse u) (l i : ℕ)
-    (new : List ℕ) (there : List ℕ) (there_is : IsRowOf u (possible u p l i) there) where
-  abbrev pub MayAdd : Entry → Type 0
-  MayAdd e = (v : Variant) → in_row new v ≡ true → Adds u p rows l i v (Wait e)
+    (new : List ℕ) (there : List ℕ) (there_is : IsRowOf u (possible u p l i) there)
+    (test : Variant → Bool) where
+  abbrev pub AllFollow : Type 0
+  AllFollow = (v : Variant) → in_row new v ≡ true → Follows u p rows l i v test
 
   there-has : (v : Variant) → in_row there v ≡ possible u p l i v
   there-has = row-has u (possible u p l i) there there_is (λ v e. possible-known u sound p l i v e)
 
-  pub add-none : (e : Entry) (answer : Bool)
+  pub follow-none : (answer : Bool)
       → (IsTrue answer ↔ IsSubset (variants_of new) (variants_of there)) → answer ≡ false
-      → IsTrue false ↔ MayAdd e
-  add-none e answer subset miss = (
+      → IsTrue false ↔ AllFollow
+  follow-none answer subset miss = (
     λ f. absurd (false≢true f),
-    λ h. absurd (both_ways answer miss (subset.1 (λ n b some. there-has (variant n b) ∙ (h (variant n b) some).0))),
+    λ h. absurd (both_ways answer miss
+        (subset.1 (λ n b some. there-has (variant n b) ∙ (h (variant n b) some).0))),
   )
 
-  module _ (e : Entry) (sat sources : List ℕ) (sat_is : IsRowOf u (satisfies_entry u e) sat)
+  module _ (sat sources : List ℕ) (sat_is : IsRowOf u test sat)
       (both : IsIntersection (variants_of sat) (variants_of there) (variants_of sources)) where
-    source-has : (c : Variant) → possible u p l i c ≡ true → satisfies_entry u e c ≡ true
+    source-has : (c : Variant) → possible u p l i c ≡ true → test c ≡ true
         → in_row sources c ≡ true
     source-has c may hit =
         both c.name c.bit
@@ -52,17 +81,18 @@ module _ (u : Universe) (p : Plan) (rows : Rows) (sound : IsUniverse u) (l i : �
         lt-known c may = lt-ltb c.bit (variants u c.name) (possible-known u sound p l i c may)
 
     source-of : (c : Variant) → in_row sources c ≡ true
-        → (possible u p l i c ≡ true) × (satisfies_entry u e c ≡ true)
+        → (possible u p l i c ≡ true) × (test c ≡ true)
     source-of c h =
         let parts = and_parts (in_row sat c) (in_row there c) (sym (both c.name c.bit) ∙ h) in (
           sym (there-has c) ∙ parts.1,
           (and_parts (nat_lt c.bit (variants u c.name)) _ (sym (sat_is.set c.name c.bit) ∙ parts.0)).1,
         )
 
-    pub add-facts : (inside : Bool) → (IsTrue inside ↔ IsSubset (variants_of new) (variants_of there))
-        → inside ≡ true → (answer : Bool)
-        → (IsTrue answer ↔ AreFacts u p rows (in_row sources) (in_row new)) → IsTrue answer ↔ MayAdd e
-    add-facts inside subset within answer facts = (
+    pub follow-facts : (inside : Bool)
+        → (IsTrue inside ↔ IsSubset (variants_of new) (variants_of there)) → inside ≡ true
+        → (answer : Bool) → (IsTrue answer ↔ AreFacts u p rows (in_row sources) (in_row new))
+        → IsTrue answer ↔ AllFollow
+    follow-facts inside subset within answer facts = (
       λ t v some. (
         sym (there-has v) ∙ subset.0 within v.name v.bit some,
         λ c may hit. facts.0 t c v (source-has c may hit) some,
@@ -72,23 +102,33 @@ module _ (u : Universe) (p : Plan) (rows : Rows) (sound : IsUniverse u) (l i : �
 
 -- the row behind an instruction, by what is in it
 module _ (u : Universe) (p : Plan) (rows : Rows) (l i : ℕ) (lt : l < length p)
-    (below : i < length (lane p l).instructions) (known : HaveKnown u p rows)
-    (before after : List ℕ) (before_is : IsRowOf u (rows l i) before)
+    (below : i < length (lane p l).instructions) (known : HaveKnown u p rows) (x : Instruction)
+    (at : instruction_at p l i ≡ Some x) (before after : List ℕ)
+    (before_is : IsRowOf u (rows l (row_before p l i x)) before)
     (after_is : IsRowOf u (rows l (suc i)) after) where
-  before-has : (v : Variant) → in_row before v ≡ rows l i v
-  before-has = row-has u (rows l i) before before_is (λ v e. known l i v lt (omega (arith, below)) e)
+  before-has : (v : Variant) → in_row before v ≡ rows l (row_before p l i x) v
+  before-has =
+      row-has u (rows l (row_before p l i x)) before before_is
+      (λ v e. known l (row_before p l i x) v lt
+      (let le = row_before-le p l i x in omega (arith, below, le)) e)
 
   after-has : (v : Variant) → in_row after v ≡ rows l (suc i) v
   after-has =
       row-has u (rows l (suc i)) after after_is (λ v e. known l (suc i) v lt (omega (arith, below)) e)
 
+  abbrev Old : Instruction → Variant → Type 0
+  Old y v = rows l (row_before p l i y) v ≡ true
+
+  is-there : (y : Instruction) → instruction_at p l i ≡ Some y → x ≡ y
+  is-there y there = same_Some x y (sym at ∙ there)
+
   -- an instruction that adds nothing
-  pub quiet-justified : (x : Instruction) → instruction_at p l i ≡ Some x
-      → ((v : Variant) → Adds u p rows l i v x → ⊥) → (answer : Bool)
+  pub quiet-justified : ((v : Variant) → Adds u p rows l i v x → ⊥) → (answer : Bool)
       → (IsTrue answer ↔ IsSubset (variants_of after) (variants_of before))
       → IsTrue answer ↔ IsJustified u p rows l (suc i)
-  quiet-justified x at none answer subset = (
-    λ t y v there e. inl (sym (before-has v) ∙ subset.0 t v.name v.bit (after-has v ∙ e)),
+  quiet-justified none answer subset = (
+    λ t y v there e. inl (subst (λ z. Old z v) (is-there y there)
+        (sym (before-has v) ∙ subset.0 t v.name v.bit (after-has v ∙ e))),
     λ j. subset.1 (λ n b some.
         let v = variant n b in
         elim (j x v at (sym (after-has v) ∙ some)) [
@@ -97,7 +137,37 @@ module _ (u : Universe) (p : Plan) (rows : Rows) (l i : ℕ) (lt : l < length p)
         ]),
   )
 
-  -- a publish
+  -- one that looks for something
+  pub asked-justified : (test : Variant → Bool) → asked u x ≡ Some test → (new : List ℕ)
+      → IsDifference (variants_of after) (variants_of before) (variants_of new) → (answer : Bool)
+      → (IsTrue answer ↔ ((v : Variant) → in_row new v ≡ true → Follows u p rows l i v test))
+      → IsTrue answer ↔ IsJustified u p rows l (suc i)
+  asked-justified test asks new less answer follows = (
+    λ t y v there here.
+        elim (cases_Bool (rows l (row_before p l i x) v)) [
+          | inl old ↦ inl (subst (λ z. Old z v) (is-there y there) old)
+          | inr none ↦ inr (subst (Adds u p rows l i v) (is-there y there)
+              (asked-adds u p rows l i v test x asks (follows.0 t v
+              (less v.name v.bit ∙ and_from _ _ (after-has v ∙ here)
+              (not_from_false _ (before-has v ∙ none))))))
+        ],
+    λ j. follows.1 (λ v some.
+        let parts = and_parts (in_row after v) (not (in_row before v)) (sym (less v.name v.bit) ∙ some) in
+        elim (j x v at (sym (after-has v) ∙ parts.0)) [
+          | inl old ↦ absurd (both_ways (in_row before v) (not-true _ parts.1) (before-has v ∙ old))
+          | inr new ↦ asked-follows u p rows l i v test x asks new
+        ]),
+  )
+
+-- behind a publish
+module _ (u : Universe) (p : Plan) (rows : Rows) (l i : ℕ) (lt : l < length p)
+    (below : i < length (lane p l).instructions) (known : HaveKnown u p rows)
+    (before after : List ℕ) (before_is : IsRowOf u (rows l i) before)
+    (after_is : IsRowOf u (rows l (suc i)) after) where
+  end-has : (v : Variant) → in_row after v ≡ rows l (suc i) v
+  end-has =
+      row-has u (rows l (suc i)) after after_is (λ v e. known l (suc i) v lt (omega (arith, below)) e)
+
   pub publish-justified : (r n : ℕ) → instruction_at p l i ≡ Some (Publish r) → IsUniverse u
       → n ≡ length (outputs u r) → (row : List ℕ)
       → IsRowOf u (λ v. rows l i v || contains (take n (outputs u r)) v) row → (answer : Bool)
@@ -106,13 +176,13 @@ module _ (u : Universe) (p : Plan) (rows : Rows) (l i : ℕ) (lt : l < length p)
   publish-justified r n at sound is row row_is answer subset = (
     λ t y v there e.
         let same : Publish r ≡ y = cc in
-        elim (or_cases (rows l i v) _ (sym (row-holds v) ∙ subset.0 t v.name v.bit (after-has v ∙ e))) [
-          | inl old ↦ inl old
+        elim (or_cases (rows l i v) _ (sym (row-holds v) ∙ subset.0 t v.name v.bit (end-has v ∙ e))) [
+          | inl old ↦ inl (subst (λ x. rows l (row_before p l i x) v ≡ true) same old)
           | inr new ↦ inr (subst (Adds u p rows l i v) same (sym (ap (λ vs. contains vs v) all) ∙ new))
         ],
     λ j. subset.1 (λ m b some.
         let v = variant m b in
-        row-holds v ∙ (elim (j (Publish r) v at (sym (after-has v) ∙ some)) [
+        row-holds v ∙ (elim (j (Publish r) v at (sym (end-has v) ∙ some)) [
           | inl old ↦ or_left (rows l i v) _ old
           | inr new ↦ or_right (rows l i v) _ (ap (λ vs. contains vs v) all ∙ new)
         ])),
@@ -126,40 +196,6 @@ module _ (u : Universe) (p : Plan) (rows : Rows) (l i : ℕ) (lt : l < length p)
           row-has u (λ v. rows l i v || contains (take n (outputs u r)) v) row row_is
           (with-known u r n (rows l i) (λ v e. known l i v lt (omega (arith, below)) e)
           (sound.outputs_known r))
-
-  -- a wait
-  pub wait-justified : (e : Entry) → instruction_at p l i ≡ Some (Wait e) → (new : List ℕ)
-      → IsDifference (variants_of after) (variants_of before) (variants_of new) → (answer : Bool)
-      → (IsTrue answer ↔ ((v : Variant) → in_row new v ≡ true → Adds u p rows l i v (Wait e)))
-      → IsTrue answer ↔ IsJustified u p rows l (suc i)
-  wait-justified e at new less answer adds = (
-    λ t y v there here.
-        let same : Wait e ≡ y = cc in
-        elim (cases_Bool (rows l i v)) [
-          | inl old ↦ inl old
-          | inr none ↦ inr (subst (Adds u p rows l i v) same (adds.0 t v
-              (less v.name v.bit ∙ and_from _ _ (after-has v ∙ here)
-              (not_from_false _ (before-has v ∙ none)))))
-        ],
-    λ j. adds.1 (λ v some.
-        let parts = and_parts (in_row after v) (not (in_row before v)) (sym (less v.name v.bit) ∙ some) in
-        elim (j (Wait e) v at (sym (after-has v) ∙ parts.0)) [
-          | inl old ↦ absurd (both_ways (in_row before v) (not-true _ parts.1) (before-has v ∙ old))
-          | inr new ↦ new
-        ]),
-  )
-
--- an instruction that neither publishes nor waits adds nothing
-pub adds-nothing : (u : Universe) (p : Plan) (rows : Rows) (l i : ℕ) (x : Instruction)
-    → published_by x ≡ [] → ((e : Entry) → x ≢ Wait e) → (v : Variant)
-    → Adds u p rows l i v x → ⊥
-adds-nothing u p rows l i (Unpack name wanted) no_publish no_wait v add = add
-adds-nothing u p rows l i (Configure members) no_publish no_wait v add = add
-adds-nothing u p rows l i (Deconfigure members) no_publish no_wait v add = add
-adds-nothing u p rows l i (Remove members) no_publish no_wait v add = add
-adds-nothing u p rows l i (Build r) no_publish no_wait v add = add
-adds-nothing u p rows l i (Publish r) no_publish no_wait v add = cc
-adds-nothing u p rows l i (Wait e) no_publish no_wait v add = no_wait e refl
 
 -- all places of a lane
 pub past-justified : (u : Universe) (p : Plan) (rows : Rows) (l n : ℕ)

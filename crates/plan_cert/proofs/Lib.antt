@@ -1,3 +1,4 @@
+pub mod HeldLaws
 pub mod StatedLaws
 pub mod StatedPlaces
 pub mod FactLaws

@@ -1,5 +1,5 @@
 -- The certificate of a plan by its greatest known rows: it has the shape of one, and certifies.
-use Rattle.std.proofs.Common.{◌≡◌, ℕ, zero, suc, ◌+◌, ◌<◌, ◌≤◌, Bool, true, false, not, ◌&&◌, ◌||◌, List, [], length, Some, All, count_by, inl, inr, refl, sym, ap, subst, ◌∙◌, arith}
+use Rattle.std.proofs.Common.{◌≡◌, ℕ, suc, ◌+◌, ◌<◌, ◌≤◌, Bool, true, false, not, ◌&&◌, ◌||◌, List, [], length, Some, All, count_by, inl, inr, refl, sym, ap, subst, ◌∙◌, arith}
 use Rattle.std.proofs.lemmas.Bool.{or_cases, or_left, cases_lt, cases_Bool, false≢true}
 use Rattle.std.proofs.lemmas.List.{get_or_past, take_all}
 use Rattle.std.proofs.lemmas.List.Elements.{All-nil}
@@ -10,31 +10,30 @@ use Rattle.farm_model.specs.declared.types.Variant.{Variant}
 use Rattle.farm_model.specs.Universe.{Universe}
 use Rattle.farm_model.specs.Packages.{initial}
 use Rattle.plan_model.specs.declared.instructions.Instruction.{Instruction}
-use Rattle.plan_model.specs.declared.instructions.Instruction.TheVariants.{Unpack, Configure, Deconfigure, Remove, Build, Publish, Wait}
-use Rattle.plan_model.specs.Known.{Rows, Adds, IsGreatest}
+use Rattle.plan_model.specs.declared.instructions.Instruction.TheVariants.{Publish, Wait, When}
+use Rattle.plan_model.specs.Known.{Rows, Adds, row_before, IsGreatest}
 use Rattle.plan_model.specs.Order.{IsOrder}
 use Rattle.plan_model.specs.Plan.{Plan, lane, instruction_at}
 use Rattle.plan_model.specs.Safety.{IsSafeUnder}
 use Rattle.plan_verifier.specs.Accepted.{AcceptedPlan, IsAccepted, known_rows}
 use Rattle.verdict_laws.proofs.Kept.{greatest_is_carried}
+use Rattle.verdict_laws.proofs.RowBefore.{row_before-le, each_place}
 use Rattle.verdict_laws.specs.Agreeing.{Agree}
 use Rattle.plan_cert.proofs.CheckLaws.{keeps-alike, safe-alike}
+use Rattle.plan_cert.proofs.HeldLaws.{held-learns}
 use Rattle.plan_cert.proofs.OrderLaws.{order-in-plan}
-use Rattle.plan_cert.proofs.StatedLaws.{next-quiet, next-learns}
+use Rattle.plan_cert.proofs.StatedLaws.{next-learns, stated-quiet}
 use Rattle.plan_cert.specs.Certified.{Certifies}
 use Rattle.plan_cert.specs.Made.{IsCertificateOf, AreNewLanes}
-use Rattle.plan_cert.specs.Stated.{rows_before, lists, stated_rows}
+use Rattle.plan_cert.specs.Stated.{rows_before, held_at, lists, stated_rows}
 
--- only a wait or a publish adds to what is known
+-- only what teaches adds to what is known
 adds-learns : (u : Universe) (p : Plan) (known : Rows) (l i : ℕ) (v : Variant) (x : Instruction)
     → learns x ≡ false → Adds u p known l i v x → ⊥
-adds-learns u p known l i v (Unpack name wanted) quiet adds = adds
-adds-learns u p known l i v (Configure members) quiet adds = adds
-adds-learns u p known l i v (Deconfigure members) quiet adds = adds
-adds-learns u p known l i v (Remove members) quiet adds = adds
-adds-learns u p known l i v (Build r) quiet adds = adds
 adds-learns u p known l i v (Publish r) quiet adds = false≢true (sym quiet)
 adds-learns u p known l i v (Wait e) quiet adds = false≢true (sym quiet)
+adds-learns u p known l i v (When name wanted) quiet adds = false≢true (sym quiet)
+adds-learns u p known l i v _ quiet adds = adds
 
 -- the initial archive, and what is known besides
 joined : (k s : Bool) → (s ≡ true → k ≡ true) → k ≡ (s || (k && not s))
@@ -74,53 +73,67 @@ module _ (u : Universe) (p : Plan) (known : Rows) (order : List ℕ) (lanes : Li
 
   -- what it states is what is known
   quiet-same : (l i : ℕ) (v : Variant) (x : Instruction) → l < length p
-      → suc i ≤ length (lane p l).instructions → instruction_at p l i ≡ Some x → learns x ≡ false
-      → known l (suc i) v ≡ known l i v
-  quiet-same l i v x lt le at quiet =
-      same_tests (known l (suc i) v) (known l i v)
+      → instruction_at p l i ≡ Some x → learns x ≡ false
+      → known l (suc i) v ≡ known l (row_before p l i x) v
+  quiet-same l i v x lt at quiet =
+      same_tests (known l (suc i) v) (known l (row_before p l i x) v)
       (λ e. elim (greatest.keeps.after l i x v lt at e) [
         | inl old ↦ old
         | inr new ↦ absurd (adds-learns u p known l i v x quiet new)
       ])
-      ((greatest_is_carried u p known greatest).kept l i v lt le)
+      ((greatest_is_carried u p known greatest).kept l i x v lt at)
+
+  abbrev IsSameAt : ℕ → ℕ → Type 0
+  IsSameAt l i = (v : Variant) → l < length p → i ≤ length (lane p l).instructions
+      → known l i v ≡ stated_rows u p made l i v
 
   -- one instruction further, of its row or of none
   next-same : (l i : ℕ) (v : Variant) (x : Instruction) → l < length p
       → suc i ≤ length (lane p l).instructions → instruction_at p l i ≡ Some x
-      → known l i v ≡ stated_rows u p made l i v
-      → known l (suc i) v ≡ stated_rows u p made l (suc i) v
+      → IsSameAt l (row_before p l i x) → known l (suc i) v ≡ stated_rows u p made l (suc i) v
   next-same l i v x lt le at same =
       elim (cases_Bool (learns x)) [
         | inl learnt ↦
-            let count : suc (rows_before p l i) ≡ rows_before p l (suc i) =
-            omega (arith, ap (rows_before p l) next, next-learns p l i x at learnt) in
+            let count : suc (rows_before p l i) ≡ (held_at p l (suc i)).here =
+            omega (
+              arith,
+              ap (rows_before p l) next,
+              next-learns p l i x at learnt,
+              held-learns p l i x at learnt,
+            ) in
             joined (known l (suc i) v) (initial u v)
             ((greatest_is_carried u p known greatest).initial_known l (suc i) v lt le)
             ∙ ap (λ b. initial u v || b) (sym (made-exact.rows l i x lt at learnt v))
             ∙ ap (λ k. initial u v || lists (lane_rows made l) k v) count
         | inr quiet ↦
-            quiet-same l i v x lt le at quiet ∙ same
-            ∙ ap (λ k. initial u v || lists (lane_rows made l) k v)
-            (sym (ap (rows_before p l) next ∙ next-quiet p l i x at quiet))
+            quiet-same l i v x lt at quiet
+            ∙ same v lt (let b = row_before-le p l i x in omega (arith, b, le))
+            ∙ sym (stated-quiet u p made made-shape l i x v at quiet)
       ]
     where
       next : suc i ≡ i + 1
       next = omega arith
 
-  stated-same : Agree p known (stated_rows u p made)
-  stated-same l zero v lt le =
+  same-start : (l : ℕ) → IsSameAt l 0
+  same-start l v lt le =
       same_tests (known l 0 v) (initial u v || false)
       (λ e. or_left (initial u v) false (greatest.keeps.at_start l v lt e))
       (λ e. elim (or_cases (initial u v) false e) [
         | inl here ↦ (greatest_is_carried u p known greatest).initial_known l 0 v lt le here
         | inr none ↦ absurd (false≢true none)
       ])
-  stated-same l (suc i) v lt le =
+
+  same-next : (l i : ℕ) → ((k : ℕ) → k ≤ i → IsSameAt l k) → IsSameAt l (suc i)
+  same-next l i before v lt le =
       elim (slice_get_cases (lane p l).instructions i).1 [
         | inl there ↦
-            next-same l i v there.0 lt le there.2 (stated-same l i v lt (omega (arith, le)))
+            next-same l i v there.0 lt le there.2
+            (before (row_before p l i there.0) (row_before-le p l i there.0))
         | inr past ↦ absurd (omega (arith, past.0, le))
       ]
+
+  stated-same : Agree p known (stated_rows u p made)
+  stated-same l i v lt le = each_place (IsSameAt l) (same-start l) (same-next l) i v lt le
 
   pub made-certifies : Certifies u p made
   made-certifies =

@@ -6,7 +6,7 @@ use Rattle.farm_model.specs.declared.types.Variant.{Variant}
 use Rattle.farm_model.specs.Universe.{Universe}
 use Rattle.farm_model.specs.Packages.{variant, variants}
 use Rattle.sat_rows.specs.Rows.{IsRowOf}
-use Rattle.plan_cert.specs.PlaceRows.{IsRowIn, IsLastRow, IsExtended, AreRowNumbers}
+use Rattle.plan_cert.specs.PlaceRows.{IsRowIn, IsRowAt, IsExtended, AreRowNumbers}
 
 -- a row of a test has known variants alone
 row_in : (u : Universe) (test : Variant → Bool) (row : List ℕ) → IsRowOf u test row → IsRowIn u row
@@ -51,64 +51,54 @@ extended_push u test rows more row items is =
       ];
     })
 
-pub last_push : (u : Universe) (test : Variant → Bool) (rows more : List (List ℕ)) (row : List ℕ)
-    → more ≡ rows ++ row ∷ [] → IsRowOf u test row → IsLastRow u test more
-last_push u test rows more row items is =
-    subst (IsLastRow u test) (sym items) (record {
-      number = length rows;
-      last = (let e = length-append rows (row ∷ []) in omega (arith, e));
-      row = subst (IsRowOf u test) (sym (last-at rows row [])) is;
+pub row_push : (u : Universe) (test : Variant → Bool) (rows more : List (List ℕ)) (row : List ℕ)
+    (n : ℕ) → more ≡ rows ++ row ∷ [] → n + 1 ≡ length more → IsRowOf u test row
+    → IsRowAt u test more n
+row_push u test rows more row n items e is =
+    subst (λ rs. IsRowAt u test rs n) (sym items) (record {
+      within = (let m = ap length items in omega (arith, e, m));
+      row = subst (λ k. IsRowOf u test (slice_index_or (rows ++ row ∷ []) k []))
+          (let m = ap length items in let a = length-append rows (row ∷ []) in
+          let s : length rows ≡ n = omega (arith, e, m, a) in s)
+          (subst (IsRowOf u test) (sym (last-at rows row [])) is);
     })
 
--- the number of the last row
-last_row : (u : Universe) (test : Variant → Bool) (rows : List (List ℕ)) (m : ℕ)
-    → m + 1 ≡ length rows → IsLastRow u test rows → IsRowOf u test (slice_index_or rows m [])
-last_row u test rows m e is =
-    subst (λ k. IsRowOf u test (slice_index_or rows k []))
-    (let s : is.number ≡ m = omega (arith, e, is.last) in s) is.row
+-- more rows behind it
+pub row_kept : (u : Universe) (test : Variant → Bool) (rows more : List (List ℕ)) (n : ℕ)
+    → IsExtended u rows more → IsRowAt u test rows n → IsRowAt u test more n
+row_kept u test rows more n ext is =
+    record {
+      within = omega (arith, is.within, ext.longer);
+      row = subst (IsRowOf u test) (sym (ext.same n is.within)) is.row;
+    }
 
 pub numbers_first : (u : Universe) (test : ℕ → Variant → Bool) (numbers : List ℕ)
-    (rows : List (List ℕ)) (m : ℕ) → numbers ≡ m ∷ [] → m + 1 ≡ length rows
-    → IsLastRow u (test 0) rows → AreRowNumbers u test 0 numbers rows
-numbers_first u test numbers rows m items e is =
+    (rows : List (List ℕ)) (m : ℕ) → numbers ≡ m ∷ [] → IsRowAt u (test 0) rows m
+    → AreRowNumbers u test 0 numbers rows
+numbers_first u test numbers rows m items is =
     subst (λ ns. AreRowNumbers u test 0 ns rows) (sym items) (record {
       long = refl;
-      within = λ k le. let z : k ≡ 0 = omega (arith, le) in
-          subst (λ i. slice_index (m ∷ []) i < length rows) (sym z)
-          (let s : m < length rows = omega (arith, e) in s);
-      are = λ k le. let z : k ≡ 0 = omega (arith, le) in
-          subst (λ i. IsRowOf u (test i) (slice_index_or rows (slice_index (m ∷ []) i) [])) (sym z)
-          (last_row u (test 0) rows m e is);
+      each = λ k le. let z : k ≡ 0 = omega (arith, le) in
+          subst (λ i. IsRowAt u (test i) rows (slice_index (m ∷ []) i)) (sym z) is;
     })
 
 -- one more place
 pub numbers_next : (u : Universe) (test : ℕ → Variant → Bool) (i : ℕ)
-    (numbers more_numbers : List ℕ) (rows more : List (List ℕ)) (m : ℕ) → more_numbers ≡ numbers ++ m ∷ [] → m + 1 ≡ length more
-    → AreRowNumbers u test i numbers rows → IsExtended u rows more → IsLastRow u (test (i + 1)) more
+    (numbers more_numbers : List ℕ) (rows more : List (List ℕ)) (m : ℕ)
+    → more_numbers ≡ numbers ++ m ∷ [] → AreRowNumbers u test i numbers rows
+    → IsExtended u rows more → IsRowAt u (test (i + 1)) more m
     → AreRowNumbers u test (i + 1) more_numbers more
-numbers_next u test i numbers more_numbers rows more m items e so_far ext is =
+numbers_next u test i numbers more_numbers rows more m items so_far ext is =
     subst (λ ns. AreRowNumbers u test (i + 1) ns more) (sym items) (record {
       long = (let a = length-append numbers (m ∷ []) in omega (arith, a, so_far.long));
-      within = λ k le. elim (cases_eq k (i + 1)) [
+      each = λ k le. elim (cases_eq k (i + 1)) [
         | inl here ↦
-            let at : slice_index (numbers ++ m ∷ []) k ≡ m = here_at k here in omega (arith, at, e)
+            subst (IsRowAt u (test k) more) (sym (here_at k here))
+            (subst (λ j. IsRowAt u (test j) more m) (sym here) is)
         | inr other ↦
             let le2 : k ≤ i = omega (arith, le, other) in
-            let at = there_at k le2 in
-            let w = so_far.within k le2 in
-            omega (arith, at, w, ext.longer)
-      ];
-      are = λ k le. elim (cases_eq k (i + 1)) [
-        | inl here ↦
-            subst (λ n. IsRowOf u (test k) (slice_index_or more n [])) (sym (here_at k here))
-            (subst (λ j. IsRowOf u (test j) (slice_index_or more m [])) (sym here)
-            (last_row u (test (i + 1)) more m e is))
-        | inr other ↦
-            let le2 : k ≤ i = omega (arith, le, other) in
-            subst (λ n. IsRowOf u (test k) (slice_index_or more n [])) (sym (there_at k le2))
-            (subst (IsRowOf u (test k))
-            (sym (ext.same (slice_index numbers k) (so_far.within k le2)))
-            (so_far.are k le2))
+            subst (IsRowAt u (test k) more) (sym (there_at k le2))
+            (row_kept u (test k) rows more (slice_index numbers k) ext (so_far.each k le2))
       ];
     })
   where
@@ -127,7 +117,5 @@ pub numbers_kept : (u : Universe) (test : ℕ → Variant → Bool) (i : ℕ) (n
 numbers_kept u test i numbers rows more ext is =
     record {
       long = is.long;
-      within = λ k le. let w = is.within k le in omega (arith, w, ext.longer);
-      are = λ k le. subst (IsRowOf u (test k))
-          (sym (ext.same (slice_index numbers k) (is.within k le))) (is.are k le);
+      each = λ k le. row_kept u (test k) rows more (slice_index numbers k) ext (is.each k le);
     }

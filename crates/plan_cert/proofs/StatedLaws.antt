@@ -12,11 +12,13 @@ use Rattle.farm_model.specs.Universe.{Universe}
 use Rattle.farm_model.specs.Packages.{variants, initial}
 use Rattle.farm_model.specs.Sound.{IsKnown, IsUniverse}
 use Rattle.plan_model.specs.declared.instructions.Instruction.{Instruction}
+use Rattle.plan_model.specs.Known.{row_before}
 use Rattle.plan_model.specs.Plan.{Plan, lane, instruction_at}
 use Rattle.sat_rows.specs.Rows.{IsRowOf}
 use Rattle.wait_order.proofs.ArchiveRows.{row_same}
-use Rattle.plan_cert.specs.PlaceRows.{IsLastRow}
-use Rattle.plan_cert.specs.Stated.{rows_before, in_row, lists, stated_rows}
+use Rattle.plan_cert.proofs.HeldLaws.{held-quiet, held-learns}
+use Rattle.plan_cert.specs.PlaceRows.{IsRowAt}
+use Rattle.plan_cert.specs.Stated.{rows_before, held_at, in_row, lists, stated_rows}
 
 module _ (p : Plan) (l i : ℕ) (x : Instruction) (at : instruction_at p l i ≡ Some x) where
   abbrev one : Instruction → ℕ
@@ -61,7 +63,7 @@ module _ (u : Universe) (p : Plan) (c : Certificate) (is : IsCertificate u p c) 
   stated-known sound l i v e =
       elim (or_cases (initial u v) _ e) [
         | inl here ↦ sound.initial_known v here
-        | inr some ↦ lists-known l (rows_before p l i) v some
+        | inr some ↦ lists-known l (held_at p l i).here v some
       ]
 
   -- a lane begins with the initial archive
@@ -72,25 +74,38 @@ module _ (u : Universe) (p : Plan) (c : Certificate) (is : IsCertificate u p c) 
         | inr some ↦ absurd (false≢true some)
       ]
 
-  stated-quiet : (l i j : ℕ) (v : Variant) → rows_before p l j ≡ rows_before p l i
-      → stated_rows u p c l i v ≡ stated_rows u p c l j v
-  stated-quiet l i j v e = ap (λ k. initial u v || lists (lane_rows c l) k v) (sym e)
+  -- behind an instruction without a row
+  pub stated-quiet : (l i : ℕ) (x : Instruction) (v : Variant) → instruction_at p l i ≡ Some x
+      → learns x ≡ false
+      → stated_rows u p c l (suc i) v ≡ stated_rows u p c l (row_before p l i x) v
+  stated-quiet l i x v at quiet =
+      ap (λ k. initial u v || lists (lane_rows c l) k v) (held-quiet p l i x at quiet)
 
-  pub last-quiet : (l i j : ℕ) (rows : List (List ℕ)) → rows_before p l j ≡ rows_before p l i
-      → IsLastRow u (stated_rows u p c l i) rows → IsLastRow u (stated_rows u p c l j) rows
-  last-quiet l i j rows e r = record {
-    number = r.number;
-    last = r.last;
-    row = row_same u (stated_rows u p c l i) (stated_rows u p c l j)
-        (slice_index_or rows r.number []) (λ v. stated-quiet l i j v e) r.row;
+  pub row-quiet : (l i n : ℕ) (x : Instruction) (rows : List (List ℕ))
+      → instruction_at p l i ≡ Some x → learns x ≡ false
+      → IsRowAt u (stated_rows u p c l (row_before p l i x)) rows n
+      → IsRowAt u (stated_rows u p c l (i + 1)) rows n
+  row-quiet l i n x rows at quiet r = record {
+    within = r.within;
+    row = row_same u (stated_rows u p c l (row_before p l i x)) (stated_rows u p c l (i + 1))
+        (slice_index_or rows n [])
+        (λ v. sym (stated-quiet l i x v at quiet)
+        ∙ ap (λ k. stated_rows u p c l k v) (let e : suc i ≡ i + 1 = omega arith in e)) r.row;
   }
 
-  pub row-listed : (l j k : ℕ) (listed row : List ℕ) → rows_before p l j ≡ k + 1
+  -- and behind one with a row, of which so many are listed before it
+  pub row-listed : (l i k : ℕ) (x : Instruction) (listed row : List ℕ)
+      → instruction_at p l i ≡ Some x → learns x ≡ true → k ≡ rows_before p l i
       → k < length (lane_rows c l) → listed ≡ get_or (lane_rows c l) k listed
       → IsRowOf u (λ v. initial u v || in_row listed v) row
-      → IsRowOf u (stated_rows u p c l j) row
-  row-listed l j k listed row e lt at r =
-      let next : rows_before p l j ≡ suc k = omega (arith, e) in
+      → IsRowOf u (stated_rows u p c l (i + 1)) row
+  row-listed l i k x listed row there learnt used lt at r =
+      let more = next-learns p l i x there learnt in
+      let i_next : i + 1 ≡ suc i = omega arith in
+      let next : (held_at p l (i + 1)).here ≡ suc k =
+      ap (λ n. (held_at p l n).here) i_next ∙ held-learns p l i x there learnt
+      ∙ ap (rows_before p l) (sym i_next)
+      ∙ (let n : rows_before p l (i + 1) ≡ suc k = omega (arith, more, used) in n) in
       let here : listed ≡ get_or (lane_rows c l) k [] = at ∙ same-at (lane_rows c l) k listed [] lt in
       row_same u _ _ row
       (λ v. ap (λ r. initial u v || in_row r v) here

@@ -43,6 +43,6 @@ rows_kept u p known places rows are all_in =
     record {
       lanes = are.long;
       each = λ l lt. (are.each l lt).long;
-      within = λ l i lt le. (are.each l lt).within i le;
+      within = λ l i lt le. ((are.each l lt).each i le).within;
       rows = all_in;
     }

@@ -7,7 +7,7 @@
 --   IsOrderChecked        what a check of the list comes to
 use Rattle.std.specs.Prelude.{◌≡◌, ◌≢◌, ◌⊎◌, ℕ, ◌+◌, ◌<◌, List, [], length, take, None, slice_index, Result, Ok, Err}
 use Rattle.cert_text.specs.declared.fault.CertFault.{CertFault}
-use Rattle.cert_text.specs.declared.fault.CertFault.TheVariants.{Text, Row, Unsafe, Order, Memory}
+use Rattle.cert_text.specs.declared.fault.CertFault.TheVariants.{Text, Row, Unsafe, Uneven, Order, Memory}
 use Rattle.farm_model.specs.Universe.{Universe}
 use Rattle.plan_model.specs.Order.{Board, start_board, rest_of, board_after, Reaches, IsOrder}
 use Rattle.plan_model.specs.Plan.{Plan}
@@ -40,6 +40,7 @@ IsOrderChecked u p order (Err Memory) = Unit {0}
 IsOrderChecked u p order (Err (Text line)) = ⊥
 IsOrderChecked u p order (Err (Row l number)) = ⊥
 IsOrderChecked u p order (Err (Unsafe l number trap)) = ⊥
+IsOrderChecked u p order (Err (Uneven l number)) = ⊥
 
 -- the item behind so many is told by its number from 1, if it can be
 abbrev pub IsNumbered : ℕ → CertFault → Type 0
@@ -48,3 +49,4 @@ IsNumbered done Memory = Unit {0}
 IsNumbered done (Text line) = ⊥
 IsNumbered done (Row l number) = ⊥
 IsNumbered done (Unsafe l number trap) = ⊥
+IsNumbered done (Uneven l number) = ⊥

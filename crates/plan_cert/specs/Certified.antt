@@ -10,13 +10,13 @@
 use Rattle.std.specs.Prelude.{◌≡◌, ℕ, ◌+◌, Result, Ok, Err}
 use Rattle.cert_text.specs.Certificates.{Certificate}
 use Rattle.cert_text.specs.declared.fault.CertFault.{CertFault}
-use Rattle.cert_text.specs.declared.fault.CertFault.TheVariants.{Text, Row, Unsafe, Order, Memory}
-use Rattle.farm_model.specs.declared.types.Trap.{Trap}
+use Rattle.cert_text.specs.declared.fault.CertFault.TheVariants.{Text, Row, Unsafe, Uneven, Order, Memory}
 use Rattle.farm_model.specs.Universe.{Universe}
 use Rattle.plan_model.specs.Known.{Rows, KeepsRows}
 use Rattle.plan_model.specs.Order.{IsOrder}
 use Rattle.plan_model.specs.Plan.{Plan}
-use Rattle.plan_model.specs.Safety.{IsSafeUnder, IsFirstUnsafe}
+use Rattle.plan_model.specs.Safety.{Hazard, Meets, Parts, IsSafeUnder, IsFirstUnsafe}
+use Rattle.plan_verifier.specs.Walk.{told_at}
 use Rattle.verdict_laws.specs.Places.{IsFirstUnjustified}
 use Rattle.plan_cert.specs.Broken.{IsBrokenAt}
 use Rattle.plan_cert.specs.Stated.{stated_rows}
@@ -26,14 +26,15 @@ pub record Certifies (u : Universe) (p : Plan) (c : Certificate) : Type 0 where
   pub safe : IsSafeUnder u p (stated_rows u p c)
   pub order : IsOrder u p c.order
 
--- under rows that keep to the inclusions, this instruction, by its number from 1, is the first
--- unsafe one of the first lane that has one, and this is the first trap that it may meet
-pub record IsUnsafeAt (u : Universe) (p : Plan) (rows : Rows) (l number : ℕ) (trap : Trap)
+-- under rows that keep to the inclusions, this hazard is the first one of the first lane that has
+-- one: a trap of the instruction of this number, from 1, or branches that part of the `when` of this
+-- number
+pub record IsUnsafeAt (u : Universe) (p : Plan) (rows : Rows) (l number : ℕ) (hazard : Hazard)
     : Type 0 where
   pub keeps : KeepsRows u p rows
   pub place : ℕ
-  pub numbered : number ≡ place + 1
-  pub first : IsFirstUnsafe u p rows l place trap
+  pub numbered : number ≡ told_at p l place hazard + 1
+  pub first : IsFirstUnsafe u p rows l place hazard
 
 -- each instruction is safe under rows that keep to the inclusions, but the list is no order
 pub record IsNoOrder (u : Universe) (p : Plan) (c : Certificate) (item : ℕ) : Type 0 where
@@ -44,7 +45,9 @@ pub record IsNoOrder (u : Universe) (p : Plan) (c : Certificate) (item : ℕ) : 
 -- the row of a place is that behind the instruction of the same number, from 1
 abbrev pub IsFirstFault : Universe → Plan → Certificate → CertFault → Type 0
 IsFirstFault u p c (Row l number) = IsFirstUnjustified u p (stated_rows u p c) l number
-IsFirstFault u p c (Unsafe l number trap) = IsUnsafeAt u p (stated_rows u p c) l number trap
+IsFirstFault u p c (Unsafe l number trap) =
+    IsUnsafeAt u p (stated_rows u p c) l number (Meets trap)
+IsFirstFault u p c (Uneven l number) = IsUnsafeAt u p (stated_rows u p c) l number Parts
 IsFirstFault u p c (Order item) = IsNoOrder u p c item
 IsFirstFault u p c (Text line) = ⊥
 IsFirstFault u p c Memory = ⊥
@@ -56,6 +59,7 @@ IsCertVerdict u p c (Err Memory) = Unit {0}
 IsCertVerdict u p c (Err (Text line)) = ⊥
 IsCertVerdict u p c (Err (Row l number)) = IsFirstFault u p c (Row l number)
 IsCertVerdict u p c (Err (Unsafe l number trap)) = IsFirstFault u p c (Unsafe l number trap)
+IsCertVerdict u p c (Err (Uneven l number)) = IsFirstFault u p c (Uneven l number)
 IsCertVerdict u p c (Err (Order item)) = IsFirstFault u p c (Order item)
 
 -- a certificate that has a first fault does not certify

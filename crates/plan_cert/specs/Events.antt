@@ -13,7 +13,7 @@ use Rattle.farm_model.specs.Universe.{Universe}
 use Rattle.farm_model.specs.Packages.{names}
 use Rattle.farm_model.specs.Sound.{IsKnown}
 use Rattle.plan_model.specs.declared.instructions.Instruction.{Instruction}
-use Rattle.plan_model.specs.declared.instructions.Instruction.TheVariants.{Unpack, Configure, Deconfigure, Remove, Build, Publish, Wait}
+use Rattle.plan_model.specs.declared.instructions.Instruction.TheVariants.{Wait}
 use Rattle.plan_model.specs.Order.{Item, Pass, Give, items, Board, on_board, rest_of, board_after}
 use Rattle.plan_model.specs.Plan.{Plan, lane, instruction_at}
 use Rattle.sat_rows.specs.Rows.{IsRowOf}
@@ -25,12 +25,7 @@ use Rattle.plan_cert.specs.declared.events.LaneEvents.{LaneEvents}
 abbrev pub entry_of : Option Instruction → Entry
 entry_of None = []
 entry_of (Some (Wait e)) = e
-entry_of (Some (Unpack name wanted)) = []
-entry_of (Some (Configure members)) = []
-entry_of (Some (Deconfigure members)) = []
-entry_of (Some (Remove members)) = []
-entry_of (Some (Build r)) = []
-entry_of (Some (Publish r)) = []
+entry_of (Some x) = []
 
 -- a wait is kept by its place
 abbrev pub item_of : Plan → ℕ → Event → Item

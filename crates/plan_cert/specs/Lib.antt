@@ -1,5 +1,6 @@
 pub mod Stated
 pub mod Places
+pub mod Opens
 pub mod Origins
 pub mod Facts
 pub mod Checked

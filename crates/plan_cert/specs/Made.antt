@@ -29,13 +29,14 @@ pub record IsCertificateOf (u : Universe) (p : Plan) (known : Rows) (lanes : Lis
     (c : Certificate) : Type 0 where
   -- the lanes know all that they can;
   pub greatest : IsGreatest u p known
-  -- the row behind each wait and publish is what is known there, without the initial archive;
+  -- the row behind each wait, publish and `when` is what is known there, without the initial
+  -- archive;
   pub rows : (l i : ℕ) (x : Instruction) → l < length p → instruction_at p l i ≡ Some x
       → learns x ≡ true → IsNewAt u known l (suc i) (row_behind p c l i)
   -- and the lanes are listed in this order.
   pub order : c.order ≡ lanes
 
--- one row behind each wait and publish of the first i instructions of a lane
+-- one row behind each wait, publish and `when` of the first i instructions of a lane
 pub record AreNewRows (u : Universe) (p : Plan) (known : Rows) (l i : ℕ) (rows : List (List ℕ))
     : Type 0 where
   pub counted : length rows ≡ rows_before p l i

@@ -5,7 +5,7 @@
 --   PlaceRows                 the universe and the plan, the rows, and the places
 --   words_at, rows_of         the words at a place, and the sets that they stand for
 --   IsRowIn, AreKept          a row of known variants; what such rows keep
---   IsLastRow                 the last of the rows is this one
+--   IsRowAt                   the row of this number is this one
 --   IsExtended                more rows behind the same
 --   AreRowNumbers             the numbers of the rows of a lane's places
 use Rattle.std.specs.Prelude.{◌≡◌, ℕ, suc, ◌<◌, ◌≤◌, Bool, true, List, [], length, slice_index, slice_index_or, All}
@@ -50,9 +50,9 @@ pub record AreKept (u : Universe) (p : Plan) (places words : List (List ℕ)) : 
       → row_number places l i < length words
   pub rows : All (IsRowIn u) words
 
-pub record IsLastRow (u : Universe) (test : Variant → Bool) (rows : List (List ℕ)) : Type 0 where
-  pub number : ℕ
-  pub last : length rows ≡ suc number
+pub record IsRowAt (u : Universe) (test : Variant → Bool) (rows : List (List ℕ)) (number : ℕ)
+    : Type 0 where
+  pub within : number < length rows
   pub row : IsRowOf u test (slice_index_or rows number [])
 
 pub record IsExtended (u : Universe) (rows more : List (List ℕ)) : Type 0 where
@@ -64,5 +64,4 @@ pub record IsExtended (u : Universe) (rows more : List (List ℕ)) : Type 0 wher
 pub record AreRowNumbers (u : Universe) (test : ℕ → Variant → Bool) (i : ℕ) (numbers : List ℕ)
     (rows : List (List ℕ)) : Type 0 where
   pub long : length numbers ≡ suc i
-  pub within : (k : ℕ) → k ≤ i → slice_index numbers k < length rows
-  pub are : (k : ℕ) → k ≤ i → IsRowOf u (test k) (slice_index_or rows (slice_index numbers k) [])
+  pub each : (k : ℕ) → k ≤ i → IsRowAt u (test k) rows (slice_index numbers k)

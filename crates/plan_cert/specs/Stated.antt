@@ -2,20 +2,56 @@
 -- plan, c a certificate, l a lane, i a place.
 --
 --   rows_before        how many rows are listed for a lane before a place
+--   Held, held_at      the rows that hold at a place, and ahead of the `when` that is open there
 --   lists              a variant is in the last of so many rows
 --   stated_rows        what each lane knows at each place, as the certificate has it
-use Rattle.std.specs.Prelude.{ℕ, zero, suc, Bool, false, ◌||◌, List, [], take, count_by, slice_index_or}
+use Rattle.std.specs.Prelude.{ℕ, zero, suc, Bool, false, ◌||◌, List, [], take, count_by, Option, Some, None, slice_index_or}
 use Rattle.bit_rows.specs.Sets.{variants_of}
 use Rattle.cert_text.specs.Certificates.{Certificate, lane_rows, learns}
 use Rattle.farm_model.specs.declared.types.Variant.{Variant}
 use Rattle.farm_model.specs.Universe.{Universe}
 use Rattle.farm_model.specs.Packages.{initial}
+use Rattle.plan_model.specs.declared.instructions.Instruction.{Instruction}
+use Rattle.plan_model.specs.declared.instructions.Instruction.TheVariants.{Publish, Wait, When, Otherwise, EndWhen}
+use Rattle.plan_model.specs.Branches.{Side, Outside, InFirst, InSecond, side_at}
 use Rattle.plan_model.specs.Known.{Rows}
-use Rattle.plan_model.specs.Plan.{Plan, lane}
+use Rattle.plan_model.specs.Plan.{Plan, lane, instruction_at}
 
--- one row behind each wait and publish
+-- one row behind each wait, publish and `when`
 abbrev pub rows_before : Plan → ℕ → ℕ → ℕ
 rows_before p l i = count_by learns (take i (lane p l).instructions)
+
+-- of the rows up to the one that holds their number, 0 where none does: at a place, and ahead of the
+-- `when` that is open there
+pub record Held : Type 0 where
+  pub here : ℕ
+  pub ahead : ℕ
+
+-- a branch ends with what held ahead of its `when`
+abbrev pub ended : Side → Held → Held
+ended Outside held = held
+ended (InFirst w) held = record { here = held.ahead; ahead = held.ahead }
+ended (InSecond w) held = record { here = held.ahead; ahead = held.ahead }
+
+-- behind an instruction, up to which so many rows are listed: that of a `when` holds in its first
+-- branch alone
+abbrev pub held_behind : Side → ℕ → Held → Instruction → Held
+held_behind s listed held (Publish r) = record { here = listed; ahead = held.ahead }
+held_behind s listed held (Wait e) = record { here = listed; ahead = held.ahead }
+held_behind s listed held (When name wanted) = record { here = listed; ahead = held.here }
+held_behind s listed held Otherwise = ended s held
+held_behind s listed held EndWhen = ended s held
+held_behind s listed held _ = held
+
+-- behind the instruction that is there, if any
+abbrev pub held_behind_some : Side → ℕ → Held → Option Instruction → Held
+held_behind_some s listed held None = held
+held_behind_some s listed held (Some x) = held_behind s listed held x
+
+abbrev pub held_at : Plan → ℕ → ℕ → Held
+held_at p l zero = record { here = 0; ahead = 0 }
+held_at p l (suc i) = held_behind_some (side_at (lane p l).instructions i)
+    (rows_before p l (suc i)) (held_at p l i) (instruction_at p l i)
 
 -- the variants of a row
 abbrev pub in_row : List ℕ → Variant → Bool
@@ -26,7 +62,7 @@ abbrev pub lists : List (List ℕ) → ℕ → Variant → Bool
 lists rows zero v = false
 lists rows (suc k) v = in_row (slice_index_or rows k []) v
 
--- at each place the initial archive, and the row that is listed behind the last wait or publish
--- before the place
+-- at each place the initial archive and the row that holds there: that behind the last wait, publish
+-- or `when`; behind an `else` and an `end` the one ahead of their `when`
 abbrev pub stated_rows : Universe → Plan → Certificate → Rows
-stated_rows u p c l i v = initial u v || lists (lane_rows c l) (rows_before p l i) v
+stated_rows u p c l i v = initial u v || lists (lane_rows c l) (held_at p l i).here v

@@ -60,6 +60,9 @@ fn check_safety(
             instruction,
             trap,
         }),
+        Err(WalkError::Uneven { lane, instruction }) => {
+            Err(CertFault::Uneven { lane, instruction })
+        }
         Err(WalkError::Memory) => Err(CertFault::Memory),
     }
 }
@@ -99,9 +102,10 @@ fn check_stated(
 /// # Errors
 ///
 /// The first of these. [`CertFault::Row`] with the first row that is not justified, of the first
-/// lane that has one. [`CertFault::Unsafe`] with the first instruction that is not safe, of the
-/// first lane that has one, and the first trap that it may meet. [`CertFault::Order`] with the first
-/// item of the list that cannot step, or one more than their number where lanes are left.
+/// lane that has one. Of the first lane that has an unsafe instruction, [`CertFault::Unsafe`] with the
+/// first one and the first trap that it may meet, or [`CertFault::Uneven`] with the `when` whose
+/// branches leave some name in different phases, found at their `end`. [`CertFault::Order`] with the
+/// first item of the list that cannot step, or one more than their number where lanes are left.
 /// [`CertFault::Memory`] where memory ran out.
 pub fn check_certificate(
     rt: &(impl Threads + Sync),

@@ -79,6 +79,9 @@ fn push_events(
         Instruction::Deconfigure(_) => Ok(()),
         Instruction::Remove(_) => Ok(()),
         Instruction::Build(_) => Ok(()),
+        Instruction::When { .. } => Ok(()),
+        Instruction::Otherwise => Ok(()),
+        Instruction::EndWhen => Ok(()),
     }
 }
 

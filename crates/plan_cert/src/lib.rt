@@ -7,6 +7,7 @@ mod facts;
 mod justified;
 mod laws;
 mod maker;
+mod opens;
 mod order;
 mod origins;
 mod stated;

@@ -77,7 +77,7 @@ fn add_row(
     Ok(())
 }
 
-/// The rows of a lane, one behind each wait and publish.
+/// The rows of a lane, one behind each wait, publish and `when`.
 fn lane_rows(
     alloc: Global,
     universe: &Universe,
@@ -127,9 +127,9 @@ fn all_rows(
     Ok(lanes)
 }
 
-/// Makes the certificate of an accepted plan: by lane a row behind each wait and publish, which is
-/// all that the lane knows there of the archive without the initial archive; and the order in which
-/// the plan was accepted.
+/// Makes the certificate of an accepted plan: by lane a row behind each wait, publish and `when`,
+/// which is all that the lane knows there of the archive without the initial archive; and the order
+/// in which the plan was accepted.
 ///
 /// [`check_certificate`](crate::check_certificate) does not refuse it.
 ///

@@ -9,9 +9,11 @@ ghost use Rattle.plan_model.specs.Plan.{lane, instruction_at};
 ghost use Rattle.verdict_laws.specs.Agreeing.{Agree};
 ghost use Rattle.sat_rows.specs.Rows.{IsRowOf};
 ghost use Rattle.plan_cert.specs.PlaceRows.{rows_of};
-ghost use Rattle.plan_cert.specs.PlaceRows.{IsLastRow, IsExtended, AreRowNumbers};
+ghost use Rattle.plan_model.specs.Known.{row_before};
+ghost use Rattle.plan_cert.specs.PlaceRows.{IsRowAt, IsExtended, AreRowNumbers};
 ghost use Rattle.plan_cert.specs.Stated.{rows_before, in_row, stated_rows};
 
+use crate::opens::{open_behind, place_before};
 use crate::stated_rows::{LanePlaces, StatedRows};
 use bit_rows::Row;
 use cert_text::Certificate;
@@ -24,14 +26,7 @@ use wait_order::initial_row;
 pub fn learns(instruction: &Instruction) -> bool
     ensures { result ≡ spec.learns instruction.now }
 {
-    match instruction {
-        Instruction::Wait(_) | Instruction::Publish(_) => true,
-        Instruction::Unpack { .. }
-        | Instruction::Configure(_)
-        | Instruction::Deconfigure(_)
-        | Instruction::Remove(_)
-        | Instruction::Build(_) => false,
-    }
+    instruction.teaches()
 }
 
 /// A row of a certificate, and the initial archive.
@@ -46,8 +41,9 @@ fn with_archive(_universe: &Universe, archive: &Row, listed: &Row) -> Result<Row
     Ok(row)
 }
 
-/// Puts the row behind an instruction behind the others, where there is one, and gives how many
-/// rows of the lane there are by then.
+/// Puts the row behind an instruction behind the others, where there is one. Gives how many rows of
+/// the lane there are by then, and the number of the row that holds: without a row of its own that
+/// from which what is known goes on.
 fn add_row(
     universe: &Universe,
     _plan: &Plan,
@@ -57,27 +53,30 @@ fn add_row(
     _place: usize,
     instruction: &Instruction,
     used: usize,
+    before: usize,
     rows: &mut Vec<Row>,
-) -> Result<usize, AllocError>
+) -> Result<(usize, usize), AllocError>
     requires certificate { IsCertificate universe.now _plan.now.lanes certificate.now }
     requires archive { IsRowOf universe.now (initial universe.now) archive.now }
     requires lane { number < length _plan.now.lanes }
     requires at { instruction_at _plan.now.lanes number _place ≡ Some instruction.now }
     requires used { used ≡ rows_before _plan.now.lanes number _place }
-    requires row { IsLastRow universe.now
-        (stated_rows universe.now _plan.now.lanes certificate.now number _place) rows.old.items }
-    ensures used { IfOk result (λ next. next ≡ rows_before _plan.now.lanes number (_place + 1)) }
+    requires before { IsRowAt universe.now
+        (stated_rows universe.now _plan.now.lanes certificate.now number
+        (row_before _plan.now.lanes number _place instruction.now)) rows.old.items before }
+    ensures used { IfOk result
+        (λ next. next.0 ≡ rows_before _plan.now.lanes number (_place + 1)) }
     ensures more { OnOk result (IsExtended universe.now rows.old.items rows.new.items) }
-    ensures row { OnOk result (IsLastRow universe.now
+    ensures row { IfOk result (λ next. IsRowAt universe.now
         (stated_rows universe.now _plan.now.lanes certificate.now number (_place + 1))
-        rows.new.items) }
+        rows.new.items next.1) }
 {
     if !learns(instruction) {
-        return Ok(used);
+        return Ok((used, before));
     }
     let listed = &certificate.lane_rows(number)[used];
     rows.push(with_archive(universe, archive, listed)?)?;
-    Ok(used + 1)
+    Ok((used + 1, rows.len() - 1))
 }
 
 /// Puts the rows of a lane behind the others.
@@ -101,11 +100,13 @@ fn lane_places(
     let instructions = plan.lane(number).instructions();
     let mut numbers = Vec::new(alloc);
     let mut used = 0;
+    let mut when = None;
     rows.push(archive.clone()?)?;
     numbers.push(rows.len() - 1)?;
     for place in 0..instructions.len() {
         let instruction = &instructions[place];
-        used = add_row(
+        let before = numbers[place_before(instruction, place, when)];
+        let next = add_row(
             universe,
             plan,
             certificate,
@@ -114,15 +115,19 @@ fn lane_places(
             place,
             instruction,
             used,
+            before,
             rows,
         )?;
-        numbers.push(rows.len() - 1)?;
+        used = next.0;
+        numbers.push(next.1)?;
+        when = open_behind(instruction, place, when);
     }
     Ok(LanePlaces::new(numbers))
 }
 
-/// What the lanes of a plan know, as a certificate states it: at each place the initial archive, and
-/// the row that is listed behind the last wait or publish before the place.
+/// What the lanes of a plan know, as a certificate states it: at each place the initial archive and
+/// the row that is listed behind the last wait, publish or `when` before the place. Behind a branch
+/// that ends holds the row ahead of its `when`.
 ///
 /// # Errors
 ///

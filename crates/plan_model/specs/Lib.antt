@@ -1,3 +1,4 @@
+pub mod Branches
 pub mod Plan
 pub mod Turn
 pub mod Run
@@ -5,6 +6,7 @@ pub mod Known
 pub mod May
 pub mod Allowed
 pub mod Risk
+pub mod Join
 pub mod MayAt
 pub mod Safety
 pub mod Order

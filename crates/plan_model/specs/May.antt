@@ -17,7 +17,7 @@ abbrev pub Bits : Type 0
 Bits = ℕ → Bool
 
 -- what a name may hold: nothing; an unpacked variant of `current`, and of `last` the one configured
--- last (none where `last` is empty); a configured variant of `current`
+-- last (where `last` is empty there is none, or it is not known); a configured variant of `current`
 pub data MaySlot : Type 0 where
   MayAbsent : MaySlot
   MayUnpacked : (current last : Bits) → MaySlot

@@ -1,7 +1,8 @@
--- The may map at each place of a lane. The project's own rules: it changes as the chroot does.
--- Parameters as in May; p a plan, l a lane, i a place.
+-- The may map at each place of a lane. The project's own rules: it changes as the chroot does, and
+-- two branches are joined. Parameters as in May; p a plan, l a lane, i a place.
 --
---   may_base, may_after       the map of a base chroot, and after an instruction
+--   may_base, may_after       the map of a base chroot, and after an instruction of the chroot
+--   Maps, maps_behind         the maps that a place needs; those behind any instruction
 --   may_at, lane_cost         the map at a place; the most that the lane spends
 use Rattle.std.specs.Prelude.{ℕ, zero, suc, ◌+◌, Bool, false, ◌==◌, List, length, Option, Some, None, if◌then◌else◌}
 use Rattle.std.specs.List.{find}
@@ -11,11 +12,12 @@ use Rattle.farm_model.specs.Universe.{Universe}
 use Rattle.farm_model.specs.Packages.{recipe, base}
 use Rattle.farm_model.specs.Chroot.{member}
 use Rattle.plan_model.specs.declared.instructions.Instruction.{Instruction}
-use Rattle.plan_model.specs.declared.instructions.Instruction.TheVariants.{Unpack, Configure, Deconfigure, Remove, Build, Publish, Wait}
+use Rattle.plan_model.specs.declared.instructions.Instruction.TheVariants.{Unpack, Configure, Deconfigure, Remove, Build, Publish, Wait, When, Otherwise, EndWhen}
 use Rattle.plan_model.specs.Plan.{Lane, Plan, lane, instruction_at, set_cost, build_cost, publish_cost}
 use Rattle.plan_model.specs.Turn.{no_builds, with_built, newest}
 use Rattle.plan_model.specs.Known.{Rows, possible}
 use Rattle.plan_model.specs.May.{Bits, MaySlot, MayAbsent, MayUnpacked, MayConfigured, May}
+use Rattle.plan_model.specs.Join.{joined}
 use Rattle.plan_model.specs.Risk.{candidates, greatest_cost}
 
 -- the variants that may be the last configured one
@@ -73,13 +75,7 @@ may_after u known there m (Build r) =
     }
 may_after u known there m (Publish r) =
     record { slots = m.slots; cost = m.cost + publish_cost u r; built = m.built }
-may_after u known there m (Wait e) = m
-
--- the map after the instruction that is there, if any
-abbrev pub may_after_some : Universe → (Variant → Bool) → (Variant → Bool) → May
-    → Option Instruction → May
-may_after_some u known there m None = m
-may_after_some u known there m (Some x) = may_after u known there m x
+may_after u known there m _ = m
 
 -- a slot of a base chroot: the package found, and no other
 abbrev pub may_base_slot : Option Variant → MaySlot
@@ -96,11 +92,43 @@ may_base u of = record {
       no_builds u;
 }
 
--- the map of lane l when i instructions are done
+-- the maps at a place: its own, that ahead of the open `when`, and that at the end of its first
+-- branch
+pub record Maps : Type 0 where
+  pub here : May
+  pub ahead : May
+  pub first : May
+
+-- behind an instruction: both branches begin with the map ahead of their `when`
+abbrev pub maps_behind : Universe → (Variant → Bool) → (Variant → Bool) → Maps → Instruction → Maps
+maps_behind u known there m (When name wanted) =
+    record { here = m.here; ahead = m.here; first = m.first }
+maps_behind u known there m Otherwise =
+    record { here = m.ahead; ahead = m.ahead; first = m.here }
+maps_behind u known there m EndWhen =
+    record { here = joined u m.first m.here; ahead = m.ahead; first = m.first }
+maps_behind u known there m x =
+    record { here = may_after u known there m.here x; ahead = m.ahead; first = m.first }
+
+-- behind the instruction that is there, if any
+abbrev pub maps_behind_some : Universe → (Variant → Bool) → (Variant → Bool) → Maps
+    → Option Instruction → Maps
+maps_behind_some u known there m None = m
+maps_behind_some u known there m (Some x) = maps_behind u known there m x
+
+-- at a lane's beginning
+abbrev pub start_maps : Universe → Lane → Maps
+start_maps u of = record { here = may_base u of; ahead = may_base u of; first = may_base u of }
+
+-- those of lane l when i instructions are done
+abbrev pub maps_at : Universe → Plan → Rows → ℕ → ℕ → Maps
+maps_at u p rows l zero = start_maps u (lane p l)
+maps_at u p rows l (suc i) = maps_behind_some u (rows l i) (possible u p l i)
+    (maps_at u p rows l i) (instruction_at p l i)
+
+-- the map of the place itself
 abbrev pub may_at : Universe → Plan → Rows → ℕ → ℕ → May
-may_at u p rows l zero = may_base u (lane p l)
-may_at u p rows l (suc i) = may_after_some u (rows l i) (possible u p l i) (may_at u p rows l i)
-    (instruction_at p l i)
+may_at u p rows l i = (maps_at u p rows l i).here
 
 -- the most that a lane may spend
 unfoldable pub lane_cost : Universe → Plan → Rows → ℕ → ℕ

@@ -16,7 +16,7 @@ use Rattle.farm_model.specs.Packages.{variant, essential, pre_depends, depends, 
 use Rattle.farm_model.specs.Chroot.{member, unmet, entries}
 use Rattle.farm_model.specs.Traps.{first_trap}
 use Rattle.plan_model.specs.declared.instructions.Instruction.{Instruction}
-use Rattle.plan_model.specs.declared.instructions.Instruction.TheVariants.{Unpack, Configure, Deconfigure, Remove, Build, Publish, Wait}
+use Rattle.plan_model.specs.declared.instructions.Instruction.TheVariants.{Unpack, Configure, Deconfigure, Remove, Build, Publish}
 use Rattle.plan_model.specs.Plan.{Lane, capacity, size_cost, set_cost, build_cost, publish_cost}
 use Rattle.plan_model.specs.Turn.{was_built, newest}
 use Rattle.plan_model.specs.May.{Bits, MaySlot, May, some_of, some_name, may_hold, may_hold_configured, surely_configured, surely_met, surely_met_with, surely_pre_met, greatest_size, may_use, is_surely_unpacked, is_surely_configured, is_surely_present}
@@ -161,4 +161,4 @@ risk u of known there m (Deconfigure members) = first_trap (deconfigure_risks u 
 risk u of known there m (Remove members) = first_trap (remove_risks u of m members)
 risk u of known there m (Build r) = first_trap (build_risks u of m (recipe u r))
 risk u of known there m (Publish r) = first_trap (publish_risks u of m r)
-risk u of known there m (Wait e) = None
+risk u of known there m _ = None

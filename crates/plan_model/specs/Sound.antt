@@ -7,7 +7,8 @@ use Rattle.farm_model.specs.Packages.{names}
 use Rattle.farm_model.specs.Chroot.{member}
 use Rattle.farm_model.specs.Sound.{IsUniverse}
 use Rattle.plan_model.specs.declared.instructions.Instruction.{Instruction}
-use Rattle.plan_model.specs.declared.instructions.Instruction.TheVariants.{Unpack, Configure, Deconfigure, Remove, Build, Publish, Wait}
+use Rattle.plan_model.specs.declared.instructions.Instruction.TheVariants.{Unpack, Configure, Deconfigure, Remove, Build, Publish, When}
+use Rattle.plan_model.specs.Branches.{IsBranched}
 use Rattle.plan_model.specs.Plan.{Plan, lane, instruction_at}
 
 -- some number stands twice
@@ -28,7 +29,8 @@ IsInstruction u (Deconfigure members) = IsNameSet u members
 IsInstruction u (Remove members) = IsNameSet u members
 IsInstruction u (Build r) = r < length u.recipes
 IsInstruction u (Publish r) = r < length u.recipes
-IsInstruction u (Wait e) = Unit {0}
+IsInstruction u (When name wanted) = name < names u
+IsInstruction u _ = Unit {0}
 
 -- what every plan keeps
 pub record IsPlan (u : Universe) (p : Plan) : Type 0 where
@@ -37,6 +39,8 @@ pub record IsPlan (u : Universe) (p : Plan) : Type 0 where
   -- instructions speak of what there is;
   pub instructions : (l i : ℕ) (x : Instruction) → l < length p → instruction_at p l i ≡ Some x
       → IsInstruction u x
+  -- branches are whole;
+  pub branched : (l : ℕ) → l < length p → IsBranched (lane p l).instructions
   -- a recipe is published at one place at most.
   pub published_once : (l k i j r : ℕ) → l < length p → k < length p
       → instruction_at p l i ≡ Some (Publish r) → instruction_at p k j ≡ Some (Publish r)

@@ -2,7 +2,8 @@
 -- said.
 --
 --   LaneState             where a lane stands, its chroot, what it has spent and built
---   newest, passes        the variant that an unpack takes; whether a wait passes
+--   newest, has_wanted    the variant that an unpack takes; whether there is one
+--   passes                whether a wait passes
 --   Turn, turn_of         what a lane does at its turn
 use Rattle.std.specs.Prelude.{ℕ, suc, ◌+◌, zero, Bool, true, false, not, ◌&&◌, ◌==◌, nat_lt, List, [], ◌∷◌, length, replicate, Option, Some, None, slice_get, slice_index_or, slice_set, if◌then◌else◌}
 use Rattle.deb_relation.specs.declared.operator.Op.{Op}
@@ -10,14 +11,14 @@ use Rattle.deb_relation.specs.Relations.{Entry}
 use Rattle.farm_model.specs.declared.types.Variant.{Variant}
 use Rattle.farm_model.specs.declared.types.Trap.{Trap}
 use Rattle.farm_model.specs.declared.types.Trap.TheVariants.{Missing, NotBuilt, OverBudget}
-use Rattle.farm_model.specs.Below.{highest_below}
+use Rattle.farm_model.specs.Below.{some_below, highest_below}
 use Rattle.farm_model.specs.Universe.{Universe}
 use Rattle.farm_model.specs.Packages.{variant, variants, recipe, outputs, is_wanted, satisfies_entry, some_variant}
 use Rattle.farm_model.specs.Chroot.{Chroot, base_chroot}
 use Rattle.farm_model.specs.Traps.{first_trap, unpack_traps, unpacked, configure_traps, configured, deconfigure_traps, deconfigured, remove_traps, removed, build_traps}
 use Rattle.plan_model.specs.declared.instructions.Instruction.{Instruction}
-use Rattle.plan_model.specs.declared.instructions.Instruction.TheVariants.{Unpack, Configure, Deconfigure, Remove, Build, Publish, Wait}
-use Rattle.plan_model.specs.Plan.{Lane, next_place, capacity, unpack_cost, set_cost, build_cost, publish_cost, wait_cost}
+use Rattle.plan_model.specs.declared.instructions.Instruction.TheVariants.{Unpack, Configure, Deconfigure, Remove, Build, Publish, Wait, When, Otherwise, EndWhen}
+use Rattle.plan_model.specs.Plan.{Lane, next_place, else_place, capacity, unpack_cost, set_cost, build_cost, publish_cost, wait_cost}
 
 -- a lane: the instructions that are done, the outputs that are made of the publish it stands at,
 -- its chroot, what it has spent, and for each recipe, by number, whether it has built it
@@ -56,6 +57,11 @@ unfoldable pub newest : Universe → (Variant → Bool) → ℕ → Option (Op �
 newest u there name wanted = highest_below (variants u name)
     (λ b. there (variant name b) && is_wanted u wanted (variant name b))
 
+-- the archive has a variant of the name in the relation
+unfoldable pub has_wanted : Universe → (Variant → Bool) → ℕ → Option (Op × List ℕ) → Bool
+has_wanted u there name wanted = some_below (variants u name)
+    (λ b. there (variant name b) && is_wanted u wanted (variant name b))
+
 -- some variant in the archive satisfies an alternative of the entry (wanna-build's Dep-Wait)
 abbrev pub passes : Universe → (Variant → Bool) → Entry → Bool
 passes u there e = some_variant u (λ v. there v && satisfies_entry u e v)
@@ -88,6 +94,16 @@ past_build of st cost r = record {
   spent =
       st.spent + cost;
   built = with_built st.built r;
+}
+
+-- the lane behind a `when`: in its first branch where it holds, else in its second one
+abbrev pub past_when : Lane → LaneState → Bool → LaneState
+past_when of st holds = record {
+  done = if holds then next_place of st.done else else_place of st.done;
+  made = 0;
+  chroot = st.chroot;
+  spent = st.spent;
+  built = st.built;
 }
 
 -- goes on, unless there is a trap
@@ -144,7 +160,8 @@ publishes u of st r (Some v) =
     unless (first_trap (publish_traps u of st r))
     (Gives (given of (length (outputs u r)) st (first_only st.made (publish_cost u r))) v)
 
--- a lane's turn, at the instruction it stands at, over the archive that is there
+-- a lane's turn, at the instruction it stands at, over the archive that is there. It never stands at
+-- an `else` or an `end`
 abbrev pub turn_of : Universe → (Variant → Bool) → Lane → LaneState → Option Instruction → Turn
 turn_of u there of st None = Ends
 turn_of u there of st (Some (Unpack name wanted)) =
@@ -165,3 +182,7 @@ turn_of u there of st (Some (Build r)) =
 turn_of u there of st (Some (Publish r)) = publishes u of st r (slice_get (outputs u r) st.made)
 turn_of u there of st (Some (Wait e)) =
     if passes u there e then Goes (past of st wait_cost st.chroot) else Waits
+turn_of u there of st (Some (When name wanted)) =
+    Goes (past_when of st (has_wanted u there name wanted))
+turn_of u there of st (Some Otherwise) = Ends
+turn_of u there of st (Some EndWhen) = Ends

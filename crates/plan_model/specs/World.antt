@@ -1,5 +1,5 @@
 -- A farm as the words of its archive and the lanes' records show it. An archive step of a lane is
--- an unpack, a passed wait or an output. The project's own rules.
+-- an unpack, a passed wait, a `when` or an output. The project's own rules.
 --
 --   World, start_world, Shows      words and records, and the state that they show
 --   settled, ready                 a lane's local instructions, up to its next archive step
@@ -10,7 +10,7 @@ use Rattle.farm_model.specs.declared.types.Variant.{Variant}
 use Rattle.farm_model.specs.Universe.{Universe}
 use Rattle.farm_model.specs.Packages.{has_bit}
 use Rattle.plan_model.specs.declared.instructions.Instruction.{Instruction}
-use Rattle.plan_model.specs.declared.instructions.Instruction.TheVariants.{Unpack, Configure, Deconfigure, Remove, Build, Publish, Wait}
+use Rattle.plan_model.specs.declared.instructions.Instruction.TheVariants.{Unpack, Configure, Deconfigure, Remove, Build, Publish, Wait, When, Otherwise, EndWhen}
 use Rattle.plan_model.specs.Plan.{Lane, Plan, lane, instruction_at}
 use Rattle.plan_model.specs.Turn.{LaneState, start_lane, Turn, Goes, Gives, turn_of}
 use Rattle.plan_model.specs.Run.{State, no_state, archive, Reachable}
@@ -46,24 +46,30 @@ goes_on st _ rest = st
 abbrev pub nothing : Variant → Bool
 nothing v = false
 
--- the lane after these local instructions, up to the first unpack, wait or publish
-abbrev pub settled : Universe → Lane → List Instruction → LaneState → LaneState
-settled u of [] st = st
-settled u of (Unpack name wanted ∷ xs) st = st
-settled u of (Configure members ∷ xs) st =
-    goes_on st (turn_of u nothing of st (Some (Configure members))) (λ next. settled u of xs next)
-settled u of (Deconfigure members ∷ xs) st =
-    goes_on st (turn_of u nothing of st (Some (Deconfigure members))) (λ next. settled u of xs next)
-settled u of (Remove members ∷ xs) st =
-    goes_on st (turn_of u nothing of st (Some (Remove members))) (λ next. settled u of xs next)
-settled u of (Build r ∷ xs) st =
-    goes_on st (turn_of u nothing of st (Some (Build r))) (λ next. settled u of xs next)
-settled u of (Publish r ∷ xs) st = st
-settled u of (Wait e ∷ xs) st = st
+-- the lane after these local instructions, up to the first unpack, wait, publish or `when`. Behind
+-- an `else` it skips what stands before the next `end`
+abbrev pub settled : Universe → Lane → Bool → List Instruction → LaneState → LaneState
+settled u of skips [] st = st
+settled u of true (EndWhen ∷ xs) st = settled u of false xs st
+settled u of true (x ∷ xs) st = settled u of true xs st
+settled u of false (Otherwise ∷ xs) st = settled u of true xs st
+settled u of false (EndWhen ∷ xs) st = settled u of false xs st
+settled u of false (Configure members ∷ xs) st =
+    goes_on st (turn_of u nothing of st (Some (Configure members)))
+    (λ next. settled u of false xs next)
+settled u of false (Deconfigure members ∷ xs) st =
+    goes_on st (turn_of u nothing of st (Some (Deconfigure members)))
+    (λ next. settled u of false xs next)
+settled u of false (Remove members ∷ xs) st =
+    goes_on st (turn_of u nothing of st (Some (Remove members)))
+    (λ next. settled u of false xs next)
+settled u of false (Build r ∷ xs) st =
+    goes_on st (turn_of u nothing of st (Some (Build r))) (λ next. settled u of false xs next)
+settled u of false (x ∷ xs) st = st
 
 -- the lane at its next archive step
 abbrev pub ready : Universe → Lane → LaneState → LaneState
-ready u of st = settled u of (drop st.done of.instructions) st
+ready u of st = settled u of false (drop st.done of.instructions) st
 
 -- the words with the bit of the variant set
 abbrev pub with_bit : List ℕ → Variant → List ℕ
@@ -87,17 +93,21 @@ abbrev pub is_archive_step : Instruction → Bool
 is_archive_step (Unpack name wanted) = true
 is_archive_step (Publish r) = true
 is_archive_step (Wait e) = true
+is_archive_step (When name wanted) = true
 is_archive_step _ = false
 
--- an instruction that is there is such a one
-abbrev pub is_some_archive_step : Option Instruction → Bool
-is_some_archive_step None = false
-is_some_archive_step (Some x) = is_archive_step x
+-- behind the instruction a lane may stand just after an archive step: it is one; or it is an `else`,
+-- to which a `when` leads, or an `end`, behind which a branch goes on that ends by one
+abbrev pub is_behind_step : Option Instruction → Bool
+is_behind_step None = false
+is_behind_step (Some Otherwise) = true
+is_behind_step (Some EndWhen) = true
+is_behind_step (Some x) = is_archive_step x
 
--- the place is the beginning of the lane, or stands just after an unpack, a wait or a publish
+-- the place is the beginning of the lane, or one at which it may stand just after an archive step
 abbrev pub is_place_after_step : Lane → ℕ → Bool
 is_place_after_step of zero = true
-is_place_after_step of (suc i) = is_some_archive_step (slice_get of.instructions i)
+is_place_after_step of (suc i) = is_behind_step (slice_get of.instructions i)
 
 -- the instruction is a publish
 abbrev pub is_publish : Option Instruction → Bool

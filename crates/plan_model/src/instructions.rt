@@ -58,20 +58,33 @@ pub enum Instruction {
     Publish(u32),
     /// Waits until some variant in the archive satisfies the entry.
     Wait(Entry),
+    /// Begins two branches: the first is taken where the archive has a variant of the name in the
+    /// relation.
+    When {
+        name: u32,
+        relation: Option<(Op, Version)>,
+    },
+    /// Ends the first branch of the open `when`, and begins the second one.
+    Otherwise,
+    /// Ends the second branch.
+    EndWhen,
 }
 
 impl Instruction {
-    /// Tells whether a lane may know more behind the instruction: it waits or publishes.
+    /// Tells whether a lane may know more behind the instruction: it waits, publishes or looks which
+    /// branch to take.
     pub fn teaches(&self) -> bool
         ensures { result ≡ teaches self.now }
     {
         match self {
-            Instruction::Wait(_) | Instruction::Publish(_) => true,
+            Instruction::Wait(_) | Instruction::Publish(_) | Instruction::When { .. } => true,
             Instruction::Unpack { .. }
             | Instruction::Configure(_)
             | Instruction::Deconfigure(_)
             | Instruction::Remove(_)
-            | Instruction::Build(_) => false,
+            | Instruction::Build(_)
+            | Instruction::Otherwise
+            | Instruction::EndWhen => false,
         }
     }
 
@@ -87,7 +100,10 @@ impl Instruction {
             | Instruction::Deconfigure(_)
             | Instruction::Remove(_)
             | Instruction::Build(_)
-            | Instruction::Wait(_) => None,
+            | Instruction::Wait(_)
+            | Instruction::When { .. }
+            | Instruction::Otherwise
+            | Instruction::EndWhen => None,
         }
     }
 }

@@ -1,5 +1,6 @@
 pub mod Reach
 pub mod Steps
+pub mod Branching
 pub mod Walks
 pub mod Promises
 pub mod Messages

@@ -9,7 +9,7 @@ use Rattle.farm_model.specs.declared.types.Trap.{Trap}
 use Rattle.plan_model.specs.Known.{Rows, IsGreatest}
 use Rattle.plan_model.specs.Order.{IsOrder}
 use Rattle.plan_model.specs.Plan.{Plan, lane}
-use Rattle.plan_model.specs.Safety.{IsAnnotation, IsFirstUnsafe}
+use Rattle.plan_model.specs.Safety.{Hazard, Meets, Parts, IsAnnotation, IsFirstUnsafe}
 use Rattle.verdict_laws.proofs.Alike.{agreeing_rows_are_alike}
 use Rattle.verdict_laws.proofs.FirstOne.{first_unsafe_is_one}
 use Rattle.verdict_laws.proofs.MoreSafe.{greatest_is_annotation}
@@ -18,8 +18,15 @@ use Rattle.verdict_laws.proofs.Unions.{greatest_is_one}
 use Rattle.plan_verifier.specs.Accepted.{AcceptedPlan, known_rows, AreCosts, IsAccepted}
 use Rattle.plan_verifier.specs.OneVerdict.{RefusalsAreRight, IsSameRefusal, IsForMemory, IsSameAnswer, VerdictsAreOne}
 use Rattle.plan_verifier.specs.Verdict.{IsRefused, AreStuckLanes, IsVerdictOn, IsVerdict}
+use Rattle.plan_verifier.specs.Walk.{told_at}
 use Rattle.plan_verifier.specs.declared.refusal.Refusal.{Refusal}
-use Rattle.plan_verifier.specs.declared.refusal.Refusal.TheVariants.{Text, Unsafe, Stuck, Memory}
+use Rattle.plan_verifier.specs.declared.refusal.Refusal.TheVariants.{Text, Unsafe, Uneven, Stuck, Memory}
+
+not-annotated : (u : Universe) (p : Plan) (name : List ℕ) (number : ℕ) (hazard : Hazard)
+    → IsRefused u p name number hazard → (rows : Rows) → IsAnnotation u p rows → ⊥
+not-annotated u p name number hazard is rows annotation =
+    let safe = (greatest_is_annotation u p rows is.rows annotation is.greatest).safe in
+    none-some hazard (sym (safe is.l is.i is.first.in_plan) ∙ is.first.here)
 
 -- with an annotation and an order a plan is refused for want of memory alone
 refused : (u : Universe) (p : Plan) (refusal : Refusal) → IsVerdictOn u p (Err refusal)
@@ -28,8 +35,9 @@ refused : (u : Universe) (p : Plan) (refusal : Refusal) → IsVerdictOn u p (Err
 refused u p Memory is rows order annotation done = tt
 refused u p (Text fault) is rows order annotation done = is
 refused u p (Unsafe name number trap) is rows order annotation done =
-    let safe = (greatest_is_annotation u p rows is.rows annotation is.greatest).safe in
-    none-some trap (sym (safe is.l is.i is.first.in_plan) ∙ is.first.here)
+    not-annotated u p name.items number (Meets trap) is rows annotation
+refused u p (Uneven name number) is rows order annotation done =
+    not-annotated u p name.items number Parts is rows annotation
 refused u p (Stuck names) is rows order annotation done =
     is.some (orders_leave_none_stuck u p order is.lanes done is.stuck)
 
@@ -39,6 +47,8 @@ refusals_are_right u p (Text fault) other is rows order annotation done =
     refused u p (Text fault) is rows order annotation done
 refusals_are_right u p (Unsafe name number trap) other is rows order annotation done =
     refused u p (Unsafe name number trap) is rows order annotation done
+refusals_are_right u p (Uneven name number) other is rows order annotation done =
+    refused u p (Uneven name number) is rows order annotation done
 refusals_are_right u p (Stuck names) other is rows order annotation done =
     refused u p (Stuck names) is rows order annotation done
 
@@ -91,26 +101,35 @@ not-both u p a refusal is against =
     let one = held u p a is.0 is.1 is.2 in
     refused u p refusal against (known_rows a) one.order one.annotation one.done
 
--- of two first unsafe instructions under the greatest rows the second is that under the first rows
--- too
+-- of two first hazards under the greatest rows the second is that under the first rows too
 same-unsafe : (u : Universe) (p : Plan) (name other : List ℕ) (number place : ℕ)
-    (trap cause : Trap) → IsRefused u p name number trap → IsRefused u p other place cause
-    → (name ≡ other) × (number ≡ place) × (trap ≡ cause)
-same-unsafe u p name other number place trap cause is against =
+    (hazard cause : Hazard) → IsRefused u p name number hazard → IsRefused u p other place cause
+    → (name ≡ other) × (number ≡ place) × (hazard ≡ cause)
+same-unsafe u p name other number place hazard cause is against =
     let alike = agreeing_rows_are_alike u p against.rows is.rows
     (greatest_is_one u p against.rows is.rows against.greatest is.greatest) in
     let moved : IsFirstUnsafe u p is.rows against.l against.i cause = record {
       in_plan = against.first.in_plan;
-      here = sym (alike.risks against.l against.i against.first.in_plan) ∙ against.first.here;
-      before = λ k lt. sym (alike.risks against.l k against.first.in_plan) ∙ against.first.before k lt;
+      here = sym (alike.hazards against.l against.i against.first.in_plan) ∙ against.first.here;
+      before = λ k lt. sym (alike.hazards against.l k against.first.in_plan)
+          ∙ against.first.before k lt;
       lanes_before = λ j k lt. let within : j < length p = omega (arith, lt, against.first.in_plan) in
-          sym (alike.risks j k within) ∙ against.first.lanes_before j k lt;
+          sym (alike.hazards j k within) ∙ against.first.lanes_before j k lt;
     } in
-    let one = first_unsafe_is_one u p is.rows is.l is.i against.l against.i trap cause is.first moved in (
+    let one = first_unsafe_is_one u p is.rows is.l is.i against.l against.i hazard cause is.first
+    moved in (
       is.named ∙ ap (λ l. (lane p l).name) one.0 ∙ sym against.named,
-      is.numbered ∙ ap (λ i. i + 1) one.1 ∙ sym against.numbered,
+      is.numbered ∙ ap (λ l. told_at p l is.i hazard + 1) one.0
+          ∙ ap (λ i. told_at p against.l i hazard + 1) one.1
+          ∙ ap (λ h. told_at p against.l against.i h + 1) one.2 ∙ sym against.numbered,
       one.2,
     )
+
+same_trap : {trap cause : Trap} → Meets trap ≡ Meets cause → trap ≡ cause
+same_trap e = cc
+
+trap-parts : {trap : Trap} → Meets trap ≡ Parts → ⊥
+trap-parts e = cc
 
 same-stuck : (u : Universe) (p : Plan) (names others : List (List ℕ)) → AreStuckLanes u p names
     → AreStuckLanes u p others → names ≡ others
@@ -120,13 +139,13 @@ same-stuck u p names others are other =
     ∙ sym other.named
 
 -- an unsafe instruction under the greatest rows, and stuck lanes of a plan that is safe under them
-not-safe : (u : Universe) (p : Plan) (name : List ℕ) (number : ℕ) (trap : Trap)
-    (names : List (List ℕ)) → IsRefused u p name number trap → AreStuckLanes u p names → ⊥
-not-safe u p name number trap names is are =
+not-safe : (u : Universe) (p : Plan) (name : List ℕ) (number : ℕ) (hazard : Hazard)
+    (names : List (List ℕ)) → IsRefused u p name number hazard → AreStuckLanes u p names → ⊥
+not-safe u p name number hazard names is are =
     let alike = agreeing_rows_are_alike u p is.rows are.rows
     (greatest_is_one u p is.rows are.rows is.greatest are.greatest) in
-    let safe = alike.risks is.l is.i is.first.in_plan ∙ are.safe is.l is.i is.first.in_plan in
-    none-some trap (sym safe ∙ is.first.here)
+    let safe = alike.hazards is.l is.i is.first.in_plan ∙ are.safe is.l is.i is.first.in_plan in
+    none-some hazard (sym safe ∙ is.first.here)
 
 same-refusal : (u : Universe) (p : Plan) (one other : Refusal) → IsVerdictOn u p (Err one)
     → IsVerdictOn u p (Err other) → IsSameRefusal one other
@@ -135,13 +154,27 @@ same-refusal u p (Text fault) other is against = absurd is
 same-refusal u p (Unsafe name number trap) Memory is against = tt
 same-refusal u p (Unsafe name number trap) (Text told) is against = against
 same-refusal u p (Unsafe name number trap) (Unsafe other place cause) is against =
-    same-unsafe u p name.items other.items number place trap cause is against
+    let same = same-unsafe u p name.items other.items number place (Meets trap) (Meets cause) is
+    against in (same.0, same.1, same_trap same.2)
+same-refusal u p (Unsafe name number trap) (Uneven other place) is against =
+    trap-parts (same-unsafe u p name.items other.items number place (Meets trap) Parts is against).2
 same-refusal u p (Unsafe name number trap) (Stuck names) is against =
-    not-safe u p name.items number trap (lists names.items) is against
+    not-safe u p name.items number (Meets trap) (lists names.items) is against
+same-refusal u p (Uneven name number) Memory is against = tt
+same-refusal u p (Uneven name number) (Text told) is against = against
+same-refusal u p (Uneven name number) (Unsafe other place cause) is against =
+    trap-parts (same-unsafe u p other.items name.items place number (Meets cause) Parts against is).2
+same-refusal u p (Uneven name number) (Uneven other place) is against =
+    let same = same-unsafe u p name.items other.items number place Parts Parts is against in
+    (same.0, same.1)
+same-refusal u p (Uneven name number) (Stuck names) is against =
+    not-safe u p name.items number Parts (lists names.items) is against
 same-refusal u p (Stuck names) Memory is against = tt
 same-refusal u p (Stuck names) (Text told) is against = against
 same-refusal u p (Stuck names) (Unsafe name number trap) is against =
-    not-safe u p name.items number trap (lists names.items) against is
+    not-safe u p name.items number (Meets trap) (lists names.items) against is
+same-refusal u p (Stuck names) (Uneven name number) is against =
+    not-safe u p name.items number Parts (lists names.items) against is
 same-refusal u p (Stuck names) (Stuck others) is against =
     same-stuck u p (lists names.items) (lists others.items) is against
 
@@ -159,8 +192,10 @@ same-fault fault Memory other is against = tt
 same-fault fault (Text told) Memory is against = tt
 same-fault fault (Text told) (Text heard) is against = is ∙ sym against
 same-fault fault (Text told) (Unsafe name number trap) is against = against
+same-fault fault (Text told) (Uneven name number) is against = against
 same-fault fault (Text told) (Stuck names) is against = against
 same-fault fault (Unsafe name number trap) other is against = absurd is
+same-fault fault (Uneven name number) other is against = absurd is
 same-fault fault (Stuck names) other is against = absurd is
 
 pub verdicts_are_one : VerdictsAreOne

@@ -14,26 +14,27 @@ use Rattle.plan_model.specs.declared.instructions.Instruction.{Instruction}
 use Rattle.plan_asm.specs.Ends.{IsWithinLimits}
 use Rattle.plan_model.specs.Plan.{Lane, Plan, lane, no_lane, instruction_at}
 use Rattle.plan_model.specs.Known.{Rows, KeepsRows, possible}
-use Rattle.plan_model.specs.May.{May}
-use Rattle.plan_model.specs.MayAt.{may_after, may_after_some, may_at}
+use Rattle.plan_model.specs.MayAt.{maps_behind, maps_behind_some, maps_at, may_at}
 use Rattle.plan_model.specs.Risk.{risk}
-use Rattle.plan_model.specs.Safety.{risk_of, risk_at}
+use Rattle.plan_model.specs.Safety.{risk_of, risk_at, parts_of, hazard_of, hazard_at}
 use Rattle.sat_rows.specs.Rows.{IsRowOf}
 use Rattle.verdict_laws.proofs.Inclusions.{possible-known}
 use Rattle.verdict_laws.proofs.Unions.{known_are_possible}
 
-module _ (u : Universe) (p : Plan) (rows : Rows) (l i : ℕ) (x : Instruction) (m : May)
-    (is : instruction_at p l i ≡ Some x) (at : may_at u p rows l i ≡ m) where
-  pub may-next : may_at u p rows l (suc i) ≡ may_after u (rows l i) (possible u p l i) m x
-  may-next =
-      ap (λ n. may_after_some u (rows l i) (possible u p l i) n (instruction_at p l i)) at
-      ∙ ap (may_after_some u (rows l i) (possible u p l i) m) is
+module _ (u : Universe) (p : Plan) (rows : Rows) (l i : ℕ) (x : Instruction)
+    (is : instruction_at p l i ≡ Some x) where
+  -- the maps behind the instruction
+  pub maps-next : maps_at u p rows l (suc i) ≡ maps_behind u (rows l i) (possible u p l i)
+      (maps_at u p rows l i) x
+  maps-next = ap (maps_behind_some u (rows l i) (possible u p l i) (maps_at u p rows l i)) is
 
-  pub risk-is : risk_at u p rows l i ≡ risk u (lane p l) (rows l i) (possible u p l i) m x
-  unfolding risk_at
-  risk-is =
-      ap (risk_of u p rows l i) is
-      ∙ ap (λ n. risk u (lane p l) (rows l i) (possible u p l i) n x) at
+  -- a trap is a hazard, and so are branches that part
+  pub hazard-is : hazard_at u p rows l i
+      ≡ hazard_of (risk u (lane p l) (rows l i) (possible u p l i) (may_at u p rows l i) x)
+      (parts_of u (maps_at u p rows l i) (Some x))
+  unfolding hazard_at risk_at
+  hazard-is =
+      ap (λ o. hazard_of (risk_of u p rows l i o) (parts_of u (maps_at u p rows l i) o)) is
 
 -- what is known may be there
 pub subset_rows : (u : Universe) (p q : Variant → Bool) (row there : List ℕ)
@@ -57,10 +58,11 @@ module _ (u : Universe) (p : Plan) (rows : Rows) (sound : IsUniverse u) (keeps :
       subset_rows u (rows l i) (possible u p l i) row there is may of_archive.known_there
 
 -- past the end of a lane nothing may go wrong
-pub risk-past : (u : Universe) (p : Plan) (rows : Rows) (l i : ℕ) → instruction_at p l i ≡ None
-    → risk_at u p rows l i ≡ None
-unfolding risk_at
-risk-past u p rows l i is = ap (risk_of u p rows l i) is
+pub hazard-past : (u : Universe) (p : Plan) (rows : Rows) (l i : ℕ) → instruction_at p l i ≡ None
+    → hazard_at u p rows l i ≡ None
+unfolding hazard_at risk_at
+hazard-past u p rows l i is =
+    ap (λ o. hazard_of (risk_of u p rows l i o) (parts_of u (maps_at u p rows l i) o)) is
 
 -- a lane has no more instructions than its plan
 pub lane-short : (p : Plan) (l : ℕ) → l < length p → IsWithinLimits p
@@ -78,3 +80,9 @@ pub instruction-is : (p : Plan) (l i : ℕ) (of : Lane) (xs : List Instruction) 
 instruction-is p l i of xs x is same lt here =
     ap (λ ys. slice_get ys i) (sym (same ∙ ap (λ (o : Lane). o.instructions) is))
     ∙ (slice_get-get_or xs i x lt ∙ ap Some (sym here))
+
+-- a place of the lane is one of its list
+pub below-lane : (p : Plan) (l i : ℕ) (of : Lane) (xs : List Instruction) → of ≡ lane p l
+    → xs ≡ of.instructions → i < length (lane p l).instructions → i < length xs
+below-lane p l i of xs is same lt =
+    let long = ap length (same ∙ ap (λ (o : Lane). o.instructions) is) in omega (arith, long, lt)

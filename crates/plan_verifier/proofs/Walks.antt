@@ -1,22 +1,21 @@
 -- What the walks over the lanes come to.
-use Rattle.std.proofs.Common.{◌≡◌, ◌≢◌, ℕ, ◌+◌, ◌<◌, sym, ◌∙◌, List, [], ◌∷◌, ◌++◌, length, length-append, inl, inr, None, Err, arith}
+use Rattle.std.proofs.Common.{◌≡◌, ◌≢◌, ℕ, ◌+◌, ◌<◌, sym, subst, ◌∙◌, List, [], ◌∷◌, ◌++◌, length, length-append, inl, inr, None, Err, arith}
 use Rattle.std.proofs.lemmas.Bool.{cases_eq}
 use Rattle.std.proofs.lemmas.List.{get_or_append_left}
 use Rattle.std.proofs.Math.Seq.{get_or-append_seam}
-use Rattle.farm_model.specs.declared.types.Trap.{Trap}
 use Rattle.farm_model.specs.Universe.{Universe}
 use Rattle.plan_model.specs.Known.{Rows, IsGreatest}
 use Rattle.plan_model.specs.MayAt.{lane_cost}
 use Rattle.plan_model.specs.Order.{AreStuck}
 use Rattle.plan_model.specs.Plan.{Plan, lane}
-use Rattle.plan_model.specs.Safety.{risk_at, IsSafeUnder}
+use Rattle.plan_model.specs.Safety.{Hazard, Meets, Parts, hazard_at, IsSafeUnder}
 use Rattle.plan_verifier.specs.declared.refusal.Refusal.{Refusal}
 use Rattle.plan_verifier.specs.declared.walk.WalkError.{WalkError}
 use Rattle.plan_verifier.specs.Accepted.{AreCosts}
-use Rattle.plan_verifier.specs.Costs.{AreWalked, IsToldUnsafe, IsWalked}
+use Rattle.plan_verifier.specs.Costs.{IsFirstTold, AreWalked, IsToldUnsafe, IsFirstToldUnsafe, IsWalked}
 use Rattle.plan_verifier.specs.Stuck.{IsToldStuck}
-use Rattle.plan_verifier.specs.Verdict.{IsVerdictOn}
-use Rattle.plan_verifier.specs.Walk.{Walked}
+use Rattle.plan_verifier.specs.Verdict.{IsRefused, IsVerdictOn}
+use Rattle.plan_verifier.specs.Walk.{IsTold, Walked}
 
 -- the cost of one more lane
 pub more_costs : (u : Universe) (p : Plan) (rows : Rows) (n : ℕ) (costs : List ℕ) (cost : ℕ)
@@ -32,45 +31,62 @@ more_costs u p rows n costs cost so_far is = record {
   ];
 }
 
--- the lane at whose first unsafe instruction the walks end
+first_told : (u : Universe) (p : Plan) (rows : Rows) (l : ℕ) (hazard : Hazard) (told number : ℕ)
+    → l < length p → ((j i : ℕ) → j < l → hazard_at u p rows j i ≡ None)
+    → IsTold u p rows l hazard told number → IsFirstTold u p rows told hazard number
+first_told u p rows l hazard told number lt before walked =
+    subst (λ k. IsFirstTold u p rows k hazard number) (sym walked.lane)
+    (record {
+      i = walked.i;
+      numbered = walked.numbered;
+      first = record {
+        in_plan = lt;
+        here = walked.here;
+        before = walked.before;
+        lanes_before = before;
+      };
+    })
+
+by_name : (u : Universe) (p : Plan) (rows : Rows) (l number : ℕ) (hazard : Hazard)
+    (name : List ℕ) (told : ℕ) → name ≡ (lane p l).name → told ≡ number
+    → IsFirstTold u p rows l hazard number → IsFirstToldUnsafe u p rows name told hazard
+by_name u p rows l number hazard name told is same walked = record {
+  l = l;
+  i = walked.i;
+  first = walked.first;
+  named = is;
+  numbered = same ∙ walked.numbered;
+}
+
+-- the lane at whose first hazard the walks end
 pub walk_ends : (u : Universe) (p : Plan) (rows : Rows) → (l : ℕ) → l < length p
-    → ((j i : ℕ) → j < l → risk_at u p rows j i ≡ None)
+    → ((j i : ℕ) → j < l → hazard_at u p rows j i ≡ None)
     → (error : WalkError) → Walked u p rows l (Err error) → AreWalked u p rows (Err error)
 walk_ends u p rows l lt before WalkError.Memory walked = tt
 walk_ends u p rows l lt before (WalkError.Unsafe told number trap) walked =
-    rw walked.1 (
-      walked.0,
-      walked.2,
-      record {
-        in_plan = lt;
-        here = walked.3;
-        before = walked.4;
-        lanes_before = before;
-      },
-    )
+    first_told u p rows l (Meets trap) told number lt before walked
+walk_ends u p rows l lt before (WalkError.Uneven told number) walked =
+    first_told u p rows l Parts told number lt before walked
 
 -- it is told by the lane's name
-pub refused : (u : Universe) (p : Plan) (rows : Rows) (l number : ℕ) (trap : Trap)
-    → AreWalked u p rows (Err (WalkError.Unsafe l number trap))
-    → (name : List ℕ) → name ≡ (lane p l).name
-    → (refusal : Refusal) → IsToldUnsafe name number trap refusal → IsWalked u p rows (Err refusal)
-refused u p rows l number trap walked name is Refusal.Memory told = tt
-refused u p rows l number trap walked name is (Refusal.Unsafe as_name as_number as_trap) told =
-    record {
-      l = l;
-      i = walked.0;
-      first = rw told.2 walked.2;
-      named = told.0 ∙ is;
-      numbered = told.1 ∙ walked.1;
-    }
-refused u p rows l number trap walked name is (Refusal.Text fault) told = absurd told
-refused u p rows l number trap walked name is (Refusal.Stuck names) told = absurd told
+pub refused : (u : Universe) (p : Plan) (rows : Rows) (l number : ℕ) (hazard : Hazard)
+    → IsFirstTold u p rows l hazard number → (name : List ℕ) → name ≡ (lane p l).name
+    → (refusal : Refusal) → IsToldUnsafe name number hazard refusal
+    → IsWalked u p rows (Err refusal)
+refused u p rows l number hazard walked name is Refusal.Memory told = tt
+refused u p rows l number hazard walked name is (Refusal.Unsafe as_name as_number trap) told =
+    by_name u p rows l number (Meets trap) as_name.items as_number (told.0 ∙ is) told.1
+    (subst (λ h. IsFirstTold u p rows l h number) (sym told.2) walked)
+refused u p rows l number hazard walked name is (Refusal.Uneven as_name as_number) told =
+    by_name u p rows l number Parts as_name.items as_number (told.0 ∙ is) told.1
+    (subst (λ h. IsFirstTold u p rows l h number) (sym told.2) walked)
+refused u p rows l number hazard walked name is (Refusal.Text fault) told = absurd told
+refused u p rows l number hazard walked name is (Refusal.Stuck names) told = absurd told
 
--- under the greatest rows that is the verdict
-pub walked_verdict : (u : Universe) (p : Plan) (rows : Rows) → IsGreatest u p rows
-    → (refusal : Refusal) → IsWalked u p rows (Err refusal) → IsVerdictOn u p (Err refusal)
-walked_verdict u p rows greatest Refusal.Memory walked = tt
-walked_verdict u p rows greatest (Refusal.Unsafe name number trap) walked = record {
+is_refused : (u : Universe) (p : Plan) (rows : Rows) → IsGreatest u p rows → (name : List ℕ)
+    (number : ℕ) (hazard : Hazard) → IsFirstToldUnsafe u p rows name number hazard
+    → IsRefused u p name number hazard
+is_refused u p rows greatest name number hazard walked = record {
   rows = rows;
   greatest = greatest;
   l = walked.l;
@@ -79,6 +95,15 @@ walked_verdict u p rows greatest (Refusal.Unsafe name number trap) walked = reco
   named = walked.named;
   numbered = walked.numbered;
 }
+
+-- under the greatest rows that is the verdict
+pub walked_verdict : (u : Universe) (p : Plan) (rows : Rows) → IsGreatest u p rows
+    → (refusal : Refusal) → IsWalked u p rows (Err refusal) → IsVerdictOn u p (Err refusal)
+walked_verdict u p rows greatest Refusal.Memory walked = tt
+walked_verdict u p rows greatest (Refusal.Unsafe name number trap) walked =
+    is_refused u p rows greatest name.items number (Meets trap) walked
+walked_verdict u p rows greatest (Refusal.Uneven name number) walked =
+    is_refused u p rows greatest name.items number Parts walked
 walked_verdict u p rows greatest (Refusal.Text fault) walked = absurd walked
 walked_verdict u p rows greatest (Refusal.Stuck names) walked = absurd walked
 
@@ -98,4 +123,6 @@ stuck_verdict u p rows greatest safe lanes stuck some (Refusal.Stuck names) told
 }
 stuck_verdict u p rows greatest safe lanes stuck some (Refusal.Text fault) told = absurd told
 stuck_verdict u p rows greatest safe lanes stuck some (Refusal.Unsafe name number trap) told =
+    absurd told
+stuck_verdict u p rows greatest safe lanes stuck some (Refusal.Uneven name number) told =
     absurd told

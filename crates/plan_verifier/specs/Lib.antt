@@ -1,4 +1,5 @@
 pub mod Stage
+pub mod Branch
 pub mod Walk
 pub mod Accepted
 pub mod Verdict

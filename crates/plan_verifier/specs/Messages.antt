@@ -9,7 +9,7 @@ use Rattle.std.specs.List.{flat_map}
 use Rattle.deb_text.specs.Lists.{lists}
 use Rattle.farm_model.specs.TrapText.{trap_text}
 use Rattle.plan_verifier.specs.declared.refusal.Refusal.{Refusal}
-use Rattle.plan_verifier.specs.declared.refusal.Refusal.TheVariants.{Text, Unsafe, Stuck, Memory}
+use Rattle.plan_verifier.specs.declared.refusal.Refusal.TheVariants.{Text, Unsafe, Uneven, Stuck, Memory}
 
 -- printable ASCII but the backslash
 abbrev pub is_plain : ℕ → Bool
@@ -34,5 +34,8 @@ refusal_message (Text fault) = None
 refusal_message (Unsafe lane instruction trap) =
     Some (codes "instruction " ++ (decimal instruction ++ (codes " of lane " ++ (escaped lane.items
     ++ (codes " may meet " ++ trap_text trap)))))
+refusal_message (Uneven lane instruction) =
+    Some (codes "the branches of instruction " ++ (decimal instruction ++ (codes " of lane "
+    ++ (escaped lane.items ++ codes " end in different phases"))))
 refusal_message (Stuck lanes) = Some (codes "stuck lanes:" ++ escaped_names (lists lanes.items))
 refusal_message Memory = Some (codes "out of memory")

@@ -15,7 +15,7 @@ use Rattle.plan_model.specs.Safety.{IsAnnotation}
 use Rattle.plan_verifier.specs.Accepted.{AcceptedPlan}
 use Rattle.plan_verifier.specs.Verdict.{IsVerdictOn, IsVerdict}
 use Rattle.plan_verifier.specs.declared.refusal.Refusal.{Refusal}
-use Rattle.plan_verifier.specs.declared.refusal.Refusal.TheVariants.{Text, Unsafe, Stuck, Memory}
+use Rattle.plan_verifier.specs.declared.refusal.Refusal.TheVariants.{Text, Unsafe, Uneven, Stuck, Memory}
 
 -- a plan that is refused, for another cause than memory, has no annotation together with an order
 abbrev pub RefusalsAreRight : Type 0
@@ -28,24 +28,23 @@ abbrev pub IsSameRefusal : Refusal → Refusal → Type 0
 IsSameRefusal Memory other = Unit {0}
 IsSameRefusal (Text fault) Memory = Unit {0}
 IsSameRefusal (Text fault) (Text told) = fault ≡ told
-IsSameRefusal (Text fault) (Unsafe name number trap) = ⊥
-IsSameRefusal (Text fault) (Stuck names) = ⊥
+IsSameRefusal (Text fault) other = ⊥
 IsSameRefusal (Unsafe name number trap) Memory = Unit {0}
-IsSameRefusal (Unsafe name number trap) (Text told) = ⊥
 IsSameRefusal (Unsafe name number trap) (Unsafe other place cause) =
     (name.items ≡ other.items) × (number ≡ place) × (trap ≡ cause)
-IsSameRefusal (Unsafe name number trap) (Stuck names) = ⊥
+IsSameRefusal (Unsafe name number trap) other = ⊥
+IsSameRefusal (Uneven name number) Memory = Unit {0}
+IsSameRefusal (Uneven name number) (Uneven other place) =
+    (name.items ≡ other.items) × (number ≡ place)
+IsSameRefusal (Uneven name number) other = ⊥
 IsSameRefusal (Stuck names) Memory = Unit {0}
-IsSameRefusal (Stuck names) (Text told) = ⊥
-IsSameRefusal (Stuck names) (Unsafe name number trap) = ⊥
 IsSameRefusal (Stuck names) (Stuck others) = lists names.items ≡ lists others.items
+IsSameRefusal (Stuck names) other = ⊥
 
 -- one is an acceptance and the other a refusal: for want of memory alone
 abbrev pub IsForMemory : Refusal → Type 0
 IsForMemory Memory = Unit {0}
-IsForMemory (Text fault) = ⊥
-IsForMemory (Unsafe name number trap) = ⊥
-IsForMemory (Stuck names) = ⊥
+IsForMemory refusal = ⊥
 
 -- both accept the same plan, at the same costs; or both refuse it alike; memory apart
 abbrev pub IsSameAnswer : Result AcceptedPlan Refusal → Result AcceptedPlan Refusal → Type 0

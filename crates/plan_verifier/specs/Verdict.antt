@@ -6,29 +6,29 @@
 use Rattle.std.specs.Prelude.{◌≡◌, ◌≢◌, ℕ, ◌+◌, List, [], map, Result, Ok, Err}
 use Rattle.deb_text.specs.declared.fault.Fault.{Fault}
 use Rattle.deb_text.specs.Lists.{lists}
-use Rattle.farm_model.specs.declared.types.Trap.{Trap}
 use Rattle.farm_model.specs.Universe.{Universe}
 use Rattle.plan_model.specs.Known.{Rows, IsGreatest}
 use Rattle.plan_model.specs.Order.{AreStuck}
 use Rattle.plan_model.specs.Plan.{Plan, lane}
-use Rattle.plan_model.specs.Safety.{IsSafeUnder, IsFirstUnsafe}
+use Rattle.plan_model.specs.Safety.{Hazard, Meets, Parts, IsSafeUnder, IsFirstUnsafe}
 use Rattle.plan_verifier.specs.declared.refusal.Refusal.{Refusal}
-use Rattle.plan_verifier.specs.declared.refusal.Refusal.TheVariants.{Text, Unsafe, Stuck, Memory}
+use Rattle.plan_verifier.specs.declared.refusal.Refusal.TheVariants.{Text, Unsafe, Uneven, Stuck, Memory}
 use Rattle.plan_verifier.specs.Accepted.{AcceptedPlan, IsAccepted}
+use Rattle.plan_verifier.specs.Walk.{told_at}
 use Rattle.farm_input.specs.Planned.{FarmPlan}
 
--- Under the greatest known rows, this instruction of the lane of this name, by its number from 1,
--- is the first unsafe one of the first lane that has one, and this is the first trap that it may
--- meet.
-pub record IsRefused (u : Universe) (p : Plan) (name : List ℕ) (number : ℕ) (trap : Trap)
+-- Under the greatest known rows, this hazard is the first one of the first lane that has one: a trap
+-- of the instruction of this number, from 1, or branches that part of the `when` of this number. The
+-- lane has this name.
+pub record IsRefused (u : Universe) (p : Plan) (name : List ℕ) (number : ℕ) (hazard : Hazard)
     : Type 0 where
   pub rows : Rows
   pub greatest : IsGreatest u p rows
   pub l : ℕ
   pub i : ℕ
-  pub first : IsFirstUnsafe u p rows l i trap
+  pub first : IsFirstUnsafe u p rows l i hazard
   pub named : name ≡ (lane p l).name
-  pub numbered : number ≡ i + 1
+  pub numbered : number ≡ told_at p l i hazard + 1
 
 -- Under the greatest known rows each instruction is safe, and the lanes of these names, in file
 -- order, are those that no list of waits and outputs brings past their last one; there are some.
@@ -44,7 +44,8 @@ pub record AreStuckLanes (u : Universe) (p : Plan) (names : List (List ℕ)) : T
 abbrev pub IsVerdictOn : Universe → Plan → Result AcceptedPlan Refusal → Type 0
 IsVerdictOn u p (Ok a) = (a.universe ≡ u) × (a.plan ≡ p) × IsAccepted a
 IsVerdictOn u p (Err (Text fault)) = ⊥
-IsVerdictOn u p (Err (Unsafe name number trap)) = IsRefused u p name.items number trap
+IsVerdictOn u p (Err (Unsafe name number trap)) = IsRefused u p name.items number (Meets trap)
+IsVerdictOn u p (Err (Uneven name number)) = IsRefused u p name.items number Parts
 IsVerdictOn u p (Err (Stuck names)) = AreStuckLanes u p (lists names.items)
 IsVerdictOn u p (Err Memory) = Unit {0}
 
@@ -55,5 +56,6 @@ IsVerdict (Ok of) verdict = IsVerdictOn of.universe of.plan verdict
 IsVerdict (Err fault) (Ok a) = ⊥
 IsVerdict (Err fault) (Err (Text told)) = told ≡ fault
 IsVerdict (Err fault) (Err (Unsafe name number trap)) = ⊥
+IsVerdict (Err fault) (Err (Uneven name number)) = ⊥
 IsVerdict (Err fault) (Err (Stuck names)) = ⊥
 IsVerdict (Err fault) (Err Memory) = Unit {0}

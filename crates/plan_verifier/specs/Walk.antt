@@ -1,22 +1,66 @@
 -- A walk over the instructions of a lane. Parameters: u a universe, p a plan, rows what its lanes know,
 -- l a lane. The project's own rules.
 --
---   Walked       what is answered to a lane
-use Rattle.std.specs.Prelude.{◌≡◌, ℕ, ◌+◌, ◌<◌, Some, None, Result, Ok, Err}
+--   told_at, IsTold     where a hazard is told
+--   IsAdvanced          what is answered to an instruction
+--   Walked              what is answered to a lane
+use Rattle.std.specs.Prelude.{◌≡◌, ℕ, suc, ◌+◌, ◌<◌, Bool, true, false, Some, None, Result, Ok, Err}
 use Rattle.farm_model.specs.Universe.{Universe}
-use Rattle.plan_model.specs.Plan.{Plan}
+use Rattle.plan_model.specs.declared.instructions.Instruction.{Instruction}
+use Rattle.plan_model.specs.declared.instructions.Instruction.TheVariants.{When, Otherwise, EndWhen}
+use Rattle.plan_model.specs.Branches.{side_at, home}
+use Rattle.plan_model.specs.Plan.{Plan, lane}
 use Rattle.plan_model.specs.Known.{Rows}
 use Rattle.plan_model.specs.MayAt.{lane_cost}
-use Rattle.plan_model.specs.Safety.{risk_at}
+use Rattle.plan_model.specs.Safety.{Hazard, Meets, Parts, hazard_at}
+use Rattle.plan_verifier.specs.Branch.{IsAt}
+use Rattle.plan_verifier.specs.declared.branch.LaneMay.{LaneMay}
 use Rattle.plan_verifier.specs.declared.walk.WalkError.{WalkError}
-use Rattle.plan_verifier.specs.declared.walk.WalkError.TheVariants.{Unsafe, Memory}
+use Rattle.plan_verifier.specs.declared.walk.WalkError.TheVariants.{Unsafe, Uneven, Memory}
 
--- each instruction of the lane is safe, and this is its cost; or the lane's number and that of its
--- first unsafe instruction, from 1, with the first trap that it may meet
+-- where a hazard is told: a trap at its instruction, branches that part at their `when`
+abbrev pub told_at : Plan → ℕ → ℕ → Hazard → ℕ
+told_at p l i (Meets trap) = i
+told_at p l i Parts = home (side_at (lane p l).instructions i) i
+
+-- the first hazard of the lane is at place i, and is told by this lane and the number, from 1
+pub record IsTold (u : Universe) (p : Plan) (rows : Rows) (l : ℕ) (hazard : Hazard)
+    (told number : ℕ) : Type 0 where
+  pub i : ℕ
+  pub lane : told ≡ l
+  pub numbered : number ≡ told_at p l i hazard + 1
+  pub here : hazard_at u p rows l i ≡ Some hazard
+  pub before : (k : ℕ) → k < i → hazard_at u p rows l k ≡ None
+
+-- the instruction neither begins nor ends a branch
+abbrev pub is_plain : Instruction → Bool
+is_plain (When name wanted) = false
+is_plain Otherwise = false
+is_plain EndWhen = false
+is_plain _ = true
+
+-- the hazard of place i is told
+pub record IsToldHere (u : Universe) (p : Plan) (rows : Rows) (l i : ℕ) (hazard : Hazard)
+    (told number : ℕ) : Type 0 where
+  pub lane : told ≡ l
+  pub numbered : number ≡ told_at p l i hazard + 1
+  pub here : hazard_at u p rows l i ≡ Some hazard
+
+-- the instruction at place i is safe, and this is what may be held behind it; or its hazard is told
+abbrev pub IsAdvanced : Universe → Plan → Rows → (l i : ℕ) → LaneMay → Result (Unit {0}) WalkError
+    → Type 0
+IsAdvanced u p rows l i next (Ok done) =
+    (hazard_at u p rows l i ≡ None) × IsAt u p rows l (suc i) next
+IsAdvanced u p rows l i next (Err (Unsafe told number trap)) =
+    IsToldHere u p rows l i (Meets trap) told number
+IsAdvanced u p rows l i next (Err (Uneven told number)) =
+    IsToldHere u p rows l i Parts told number
+IsAdvanced u p rows l i next (Err Memory) = Unit {0}
+
+-- each instruction of the lane is safe, and this is its cost; or the lane's first hazard is told
 abbrev pub Walked : Universe → Plan → Rows → ℕ → Result ℕ WalkError → Type 0
 Walked u p rows l (Ok cost) =
-    ((i : ℕ) → risk_at u p rows l i ≡ None) × (cost ≡ lane_cost u p rows l)
-Walked u p rows l (Err (Unsafe told number trap)) =
-    (i : ℕ) × (told ≡ l) × (number ≡ i + 1) × (risk_at u p rows l i ≡ Some trap)
-    × ((k : ℕ) → k < i → risk_at u p rows l k ≡ None)
+    ((i : ℕ) → hazard_at u p rows l i ≡ None) × (cost ≡ lane_cost u p rows l)
+Walked u p rows l (Err (Unsafe told number trap)) = IsTold u p rows l (Meets trap) told number
+Walked u p rows l (Err (Uneven told number)) = IsTold u p rows l Parts told number
 Walked u p rows l (Err Memory) = Unit {0}

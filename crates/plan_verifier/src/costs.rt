@@ -3,6 +3,7 @@
 ghost use Rattle.std.specs.Prelude.{◌≡◌, ◌<◌, length};
 ghost use Rattle.plan_model.specs.Known.{KeepsRows};
 ghost use Rattle.plan_model.specs.Plan.{lane};
+ghost use Rattle.plan_model.specs.Safety.{Meets, Parts};
 ghost use Rattle.plan_model.specs.Sound.{IsSound};
 ghost use Rattle.plan_verifier.specs.Costs.{AreWalked, IsWalked, IsToldUnsafe};
 ghost use Rattle.plan_verifier.specs.Stage.{IsStage};
@@ -23,8 +24,9 @@ use wait_order::{Known, KnownWords};
 ///
 /// # Errors
 ///
-/// [`WalkError::Unsafe`] with the first unsafe instruction of the first lane that has one, and the
-/// first trap that it may meet. [`WalkError::Memory`] where memory ran out.
+/// Of the first lane that has an unsafe instruction: [`WalkError::Unsafe`] with the first one and the
+/// first trap that it may meet, or [`WalkError::Uneven`] where that is an `end` of branches that leave
+/// some name in different phases. [`WalkError::Memory`] where memory ran out.
 pub fn walk_lanes<K: KnownWords>(alloc: Global, stage: &Stage<'_, K>) -> Result<Vec<u64>, WalkError>
     requires stage { IsStage stage.now.universe.now stage.now.plan.now.lanes
         stage.now.tables.now stage.now.outputs.now (K.known stage.now.known.now) }
@@ -44,7 +46,7 @@ pub fn walk_lanes<K: KnownWords>(alloc: Global, stage: &Stage<'_, K>) -> Result<
 
 /// The refusal of a lane of this name, whose instruction of this number may meet a trap.
 fn unsafe_refusal(alloc: Global, name: &[u8], instruction: u32, trap: Trap) -> Refusal
-    ensures { IsToldUnsafe name.now instruction trap result }
+    ensures { IsToldUnsafe name.now instruction (Meets trap) result }
 {
     match Vec::from_slice(alloc, name) {
         Ok(lane) => Refusal::Unsafe {
@@ -56,12 +58,23 @@ fn unsafe_refusal(alloc: Global, name: &[u8], instruction: u32, trap: Trap) -> R
     }
 }
 
+/// The refusal of a lane of this name, of which the branches of the `when` of this number part.
+fn uneven_refusal(alloc: Global, name: &[u8], instruction: u32) -> Refusal
+    ensures { IsToldUnsafe name.now instruction Parts result }
+{
+    match Vec::from_slice(alloc, name) {
+        Ok(lane) => Refusal::Uneven { lane, instruction },
+        Err(_) => Refusal::Memory,
+    }
+}
+
 /// What [`walk_lanes`] gives, or its error as a refusal, by the lane's name.
 ///
 /// # Errors
 ///
-/// [`Refusal::Unsafe`] with the first unsafe instruction of the first lane that has one, and the
-/// first trap that it may meet. [`Refusal::Memory`] where memory ran out.
+/// Of the first lane that has an unsafe instruction: [`Refusal::Unsafe`] with the first one and the
+/// first trap that it may meet, or [`Refusal::Uneven`] with the `when` whose branches leave some name
+/// in different phases, found at their `end`. [`Refusal::Memory`] where memory ran out.
 pub fn check_lanes(
     alloc: Global,
     universe: &Universe,
@@ -94,6 +107,10 @@ pub fn check_lanes(
         ) => {
             let name = plan.lane(lane as usize).name();
             Err(unsafe_refusal(alloc, name, instruction, trap))
+        }
+        Err(WalkError::Uneven { lane, instruction }) => {
+            let name = plan.lane(lane as usize).name();
+            Err(uneven_refusal(alloc, name, instruction))
         }
         Err(WalkError::Memory) => Err(Refusal::Memory),
     }

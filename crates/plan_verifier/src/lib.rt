@@ -2,6 +2,7 @@
 #![tactic(auto)]
 
 mod accepted;
+mod branch;
 mod costs;
 mod laws;
 mod message;
@@ -16,7 +17,7 @@ pub use accepted::Accepted;
 pub use costs::{check_lanes, walk_lanes};
 pub use laws::{refusals_are_right, verdicts_are_one};
 pub use possible::{add_outputs, possible_row};
-pub use refusal::{Refusal, STUCK, UNSAFE};
+pub use refusal::{Refusal, STUCK, UNEVEN, UNSAFE};
 pub use stage::Stage;
 pub use verdict::check;
 pub use walk::WalkError;

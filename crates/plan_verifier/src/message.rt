@@ -90,6 +90,13 @@ impl Display for Refusal {
                     "instruction {instruction} of lane {lane} may meet {trap}"
                 )
             }
+            Refusal::Uneven { lane, instruction } => {
+                let lane = Escaped(lane);
+                write!(
+                    f,
+                    "the branches of instruction {instruction} of lane {lane} end in different phases"
+                )
+            }
             Refusal::Stuck { lanes } => write!(f, "stuck lanes:{}", Spaced(lanes)),
             Refusal::Memory => write!(f, "out of memory"),
         }

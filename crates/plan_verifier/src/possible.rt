@@ -53,7 +53,10 @@ pub fn add_outputs(
         | Instruction::Deconfigure(_)
         | Instruction::Remove(_)
         | Instruction::Build(_)
-        | Instruction::Wait(_) => Ok(()),
+        | Instruction::Wait(_)
+        | Instruction::When { .. }
+        | Instruction::Otherwise
+        | Instruction::EndWhen => Ok(()),
     }
 }
 

@@ -10,6 +10,9 @@ use std::alloc::{AllocError, AllocFailed};
 /// The code of [`Refusal::Unsafe`].
 pub const UNSAFE: u16 = 401;
 
+/// The code of [`Refusal::Uneven`].
+pub const UNEVEN: u16 = 403;
+
 /// The code of [`Refusal::Stuck`].
 pub const STUCK: u16 = 402;
 
@@ -25,6 +28,12 @@ pub enum Refusal {
         lane: Vec<u8>,
         instruction: u32,
         trap: Trap,
+    },
+    /// The branches of the `when` of this number, from 1, of the lane of this name leave some name in
+    /// different phases ([`UNEVEN`]).
+    Uneven {
+        lane: Vec<u8>,
+        instruction: u32,
     },
     /// The lanes of these names wait, and no order of the lanes brings them past their last wait
     /// ([`STUCK`]).

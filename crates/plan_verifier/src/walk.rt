@@ -1,14 +1,17 @@
 //! The walk over the instructions of a lane, up to the first unsafe one.
 
-ghost use Rattle.std.specs.Prelude.{◌≡◌, ◌<◌, ◌≤◌, ℕ, true, length};
+ghost use Rattle.std.specs.Prelude.{◌≡◌, ◌<◌, ◌≤◌, ℕ, true, Some, length};
 ghost use Rattle.clause_kernel.specs.Rows.{word_has};
 ghost use Rattle.may_rows.specs.Walk.{AreWordsFor};
 ghost use Rattle.plan_model.specs.Known.{possible};
-ghost use Rattle.plan_model.specs.Plan.{lane};
+ghost use Rattle.plan_model.specs.declared.instructions.Instruction.TheVariants.{EndWhen};
+ghost use Rattle.plan_model.specs.Plan.{lane, instruction_at};
 ghost use Rattle.plan_model.specs.Sound.{IsInstruction};
 ghost use Rattle.plan_verifier.specs.Stage.{IsStage};
-ghost use Rattle.plan_verifier.specs.Walk.{Walked};
+ghost use Rattle.plan_verifier.specs.Branch.{IsAt};
+ghost use Rattle.plan_verifier.specs.Walk.{is_plain, IsAdvanced, Walked};
 
+use crate::branch::{Branch, LaneMay};
 use crate::stage::Stage;
 use farm_universe::Trap;
 use may_rows::{ArchiveWords, Dependents, Doubts, MayHold, step};
@@ -25,6 +28,12 @@ pub enum WalkError {
         lane: u32,
         instruction: u32,
         trap: Trap,
+    },
+    /// The branches of the `when` of this number, from 1, of the lane of this number leave some name
+    /// in different phases.
+    Uneven {
+        lane: u32,
+        instruction: u32,
     },
     /// Memory ran out.
     Memory,
@@ -82,7 +91,122 @@ fn words_at<K: KnownWords>(
         | Instruction::Remove(_)
         | Instruction::Build(_)
         | Instruction::Publish(_)
-        | Instruction::Wait(_) => ArchiveWords { known: 0, there: 0 },
+        | Instruction::Wait(_)
+        | Instruction::When { .. }
+        | Instruction::Otherwise
+        | Instruction::EndWhen => ArchiveWords { known: 0, there: 0 },
+    }
+}
+
+/// Goes on by an instruction that neither begins nor ends a branch.
+fn step_on<K: KnownWords>(
+    stage: &Stage<'_, K>,
+    dependents: &Dependents,
+    number: usize,
+    place: usize,
+    instruction: &Instruction,
+    may: &mut LaneMay,
+) -> Result<(), WalkError>
+    requires stage { IsStage stage.now.universe.now stage.now.plan.now.lanes
+        stage.now.tables.now stage.now.outputs.now (K.known stage.now.known.now) }
+    requires dependents { dependents.now ≡ stage.now.universe.now }
+    requires lane { number < length stage.now.plan.now.lanes }
+    requires here { instruction_at stage.now.plan.now.lanes number place ≡ Some instruction.now }
+    requires place { place < length (lane stage.now.plan.now.lanes number).instructions }
+    requires plain { is_plain instruction.now ≡ true }
+    requires at { IsAt stage.now.universe.now stage.now.plan.now.lanes
+        (K.known stage.now.known.now).rows number place may.old }
+    ensures { IsAdvanced stage.now.universe.now stage.now.plan.now.lanes
+        (K.known stage.now.known.now).rows number place may.new result }
+{
+    let _lanes = stage.plan.lanes();
+    let lane = stage.plan.lane(number);
+    let words = words_at(stage, number, place, instruction);
+    let stepped = step(
+        stage.universe,
+        stage.tables,
+        dependents,
+        lane,
+        &mut may.here,
+        &mut may.doubts,
+        instruction,
+        words,
+    );
+    match stepped {
+        Ok(()) => Ok(()),
+        Err(trap) => Err(WalkError::Unsafe {
+            lane: number as u32,
+            instruction: place as u32 + 1,
+            trap,
+        }),
+    }
+}
+
+/// Goes behind an `end`, where its branches leave each name in one phase.
+fn end_branch<K: KnownWords>(
+    stage: &Stage<'_, K>,
+    number: usize,
+    _place: usize,
+    may: &mut LaneMay,
+) -> Result<(), WalkError>
+    requires stage { IsStage stage.now.universe.now stage.now.plan.now.lanes
+        stage.now.tables.now stage.now.outputs.now (K.known stage.now.known.now) }
+    requires lane { number < length stage.now.plan.now.lanes }
+    requires here { instruction_at stage.now.plan.now.lanes number _place ≡ Some EndWhen }
+    requires place { _place < length (lane stage.now.plan.now.lanes number).instructions }
+    requires at { IsAt stage.now.universe.now stage.now.plan.now.lanes
+        (K.known stage.now.known.now).rows number _place may.old }
+    ensures { IsAdvanced stage.now.universe.now stage.now.plan.now.lanes
+        (K.known stage.now.known.now).rows number _place may.new result }
+{
+    let _lanes = stage.plan.lanes();
+    let lane = stage.plan.lane(number);
+    match may.end(stage.universe, lane) {
+        Some(at) => Err(WalkError::Uneven {
+            lane: number as u32,
+            instruction: at + 1,
+        }),
+        None => Ok(()),
+    }
+}
+
+/// Goes on by the instruction at a place of a lane.
+fn advance<K: KnownWords>(
+    stage: &Stage<'_, K>,
+    dependents: &Dependents,
+    number: usize,
+    place: usize,
+    may: &mut LaneMay,
+) -> Result<(), WalkError>
+    requires stage { IsStage stage.now.universe.now stage.now.plan.now.lanes
+        stage.now.tables.now stage.now.outputs.now (K.known stage.now.known.now) }
+    requires dependents { dependents.now ≡ stage.now.universe.now }
+    requires lane { number < length stage.now.plan.now.lanes }
+    requires place { place < length (lane stage.now.plan.now.lanes number).instructions }
+    requires at { IsAt stage.now.universe.now stage.now.plan.now.lanes
+        (K.known stage.now.known.now).rows number place may.old }
+    ensures { IsAdvanced stage.now.universe.now stage.now.plan.now.lanes
+        (K.known stage.now.known.now).rows number place may.new result }
+{
+    let _lanes = stage.plan.lanes();
+    let instruction = &stage.plan.lane(number).instructions()[place];
+    match instruction {
+        Instruction::When { .. } => {
+            may.begin(place as u32)?;
+            Ok(())
+        }
+        Instruction::Otherwise => {
+            may.turn();
+            Ok(())
+        }
+        Instruction::EndWhen => end_branch(stage, number, place, may),
+        Instruction::Unpack { .. }
+        | Instruction::Configure(_)
+        | Instruction::Deconfigure(_)
+        | Instruction::Remove(_)
+        | Instruction::Build(_)
+        | Instruction::Publish(_)
+        | Instruction::Wait(_) => step_on(stage, dependents, number, place, instruction, may),
     }
 }
 
@@ -100,33 +224,15 @@ pub fn walk<K: KnownWords>(
     ensures { Walked stage.now.universe.now stage.now.plan.now.lanes
         (K.known stage.now.known.now).rows number result }
 {
-    let universe = stage.universe;
-    let plan = stage.plan;
-    let _lanes = plan.lanes();
-    let lane = plan.lane(number);
-    let instructions = lane.instructions();
-    let mut state = MayHold::of_base(alloc, universe, lane.base())?;
-    let mut doubts = Doubts::new(alloc);
-    for place in 0..instructions.len() {
-        let instruction = &instructions[place];
-        let words = words_at(stage, number, place, instruction);
-        let stepped = step(
-            universe,
-            stage.tables,
-            dependents,
-            lane,
-            &mut state,
-            &mut doubts,
-            instruction,
-            words,
-        );
-        if let Err(trap) = stepped {
-            return Err(WalkError::Unsafe {
-                lane: number as u32,
-                instruction: place as u32 + 1,
-                trap,
-            });
-        }
+    let _lanes = stage.plan.lanes();
+    let lane = stage.plan.lane(number);
+    let mut may = LaneMay {
+        here: MayHold::of_base(alloc, stage.universe, lane.base())?,
+        doubts: Doubts::new(alloc),
+        branch: Branch::Outside,
+    };
+    for place in 0..lane.instructions().len() {
+        advance(stage, dependents, number, place, &mut may)?;
     }
-    Ok(state.cost())
+    Ok(may.here.cost())
 }

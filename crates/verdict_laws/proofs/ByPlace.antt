@@ -7,8 +7,8 @@ use Rattle.farm_model.specs.Sound.{IsUniverse}
 use Rattle.farm_model.proofs.BelowLaws.{every_below-all}
 use Rattle.plan_model.specs.declared.instructions.Instruction.{Instruction}
 use Rattle.plan_model.specs.Plan.{Plan, lane, instruction_at}
-use Rattle.plan_model.specs.Known.{Rows, Adds, KeepsRows}
-use Rattle.verdict_laws.specs.Greatest.{adds_some, allowed, is_settled, AreKnown}
+use Rattle.plan_model.specs.Known.{Rows, Adds, row_before, KeepsRows}
+use Rattle.verdict_laws.specs.Greatest.{adds_some, row_before_some, allowed, is_settled, AreKnown}
 use Rattle.verdict_laws.proofs.Inclusions.{every_variant-all, every_variant-at, adds-sound, adds-complete}
 use Rattle.verdict_laws.proofs.Rounds.{settled_rows_keep}
 use Rattle.verdict_laws.proofs.Unions.{there}
@@ -17,18 +17,23 @@ use Rattle.verdict_laws.specs.Places.{IsJustified, is_justified, EachTestIsExact
 module _ (u : Universe) (p : Plan) (rows : Rows) (is : IsUniverse u) (l : ℕ) where
   -- of one variant
   allowed-sound : (i : ℕ) (v : Variant) → allowed u p rows l (suc i) v ≡ true → (x : Instruction)
-      → instruction_at p l i ≡ Some x → (rows l i v ≡ true) ⊎ Adds u p rows l i v x
+      → instruction_at p l i ≡ Some x
+      → (rows l (row_before p l i x) v ≡ true) ⊎ Adds u p rows l i v x
   allowed-sound i v e x at =
-      elim (or_cases (rows l i v) _ e) [
-        | inl old ↦ inl old
-        | inr new ↦ inr (adds-sound u is p rows l i v x (sym (ap (adds_some u p rows l i v) at) ∙ new))
+      elim (or_cases (rows l (row_before_some p l i (instruction_at p l i)) v) _ e) [
+        | inl old ↦ inl (sym (ap (λ o. rows l (row_before_some p l i o) v) at) ∙ old)
+        | inr new ↦
+            inr (adds-sound u is p rows l i v x (sym (ap (adds_some u p rows l i v) at) ∙ new))
       ]
 
   allowed-complete : (i : ℕ) (v : Variant) (x : Instruction) → instruction_at p l i ≡ Some x
-      → (rows l i v ≡ true) ⊎ Adds u p rows l i v x → allowed u p rows l (suc i) v ≡ true
-  allowed-complete i v x at (inl old) = or_left (rows l i v) _ old
+      → (rows l (row_before p l i x) v ≡ true) ⊎ Adds u p rows l i v x
+      → allowed u p rows l (suc i) v ≡ true
+  allowed-complete i v x at (inl old) =
+      or_left (rows l (row_before_some p l i (instruction_at p l i)) v) _
+      (ap (λ o. rows l (row_before_some p l i o) v) at ∙ old)
   allowed-complete i v x at (inr new) =
-      or_right (rows l i v) _ (ap (adds_some u p rows l i v) at ∙ adds-complete u is p rows l i v x new)
+      or_right (rows l (row_before_some p l i (instruction_at p l i)) v) _ (ap (adds_some u p rows l i v) at ∙ adds-complete u is p rows l i v x new)
 
   -- of all that the row has
   tested : (known : AreKnown u rows) (i : ℕ) → is_justified u p rows l i ≡ true → (v : Variant)

@@ -2,50 +2,50 @@
 use Rattle.std.proofs.Common.{◌≡◌, ◌⊎◌, inl, inr, ℕ, zero, suc, ◌<◌, ◌≤◌, length, Option, Some, None, refl, sym, ap, ◌∙◌, arith}
 use Rattle.std.proofs.lemmas.Bool.{cases_lt, cases_eq, cases_order}
 use Rattle.std.proofs.lemmas.Option.{none-some, same_Some, slice_get_past}
-use Rattle.farm_model.specs.declared.types.Trap.{Trap}
 use Rattle.farm_model.specs.Universe.{Universe}
 use Rattle.plan_model.specs.Plan.{Plan, lane}
 use Rattle.plan_model.specs.Known.{Rows}
-use Rattle.plan_model.specs.Safety.{risk_of, risk_at}
+use Rattle.plan_model.specs.MayAt.{maps_at}
+use Rattle.plan_model.specs.Safety.{Hazard, risk_of, risk_at, parts_of, hazard_of, hazard_at}
 use Rattle.verdict_laws.specs.FirstUnsafe.{FirstUnsafeIsOne, SafeOrFirstUnsafe}
 
 -- there is one such instruction
 pub first_unsafe_is_one : FirstUnsafeIsOne
-first_unsafe_is_one u p rows l i k j t t' a b =
+first_unsafe_is_one u p rows l i k j h h' a b =
     elim (cases_order l k) [
       | inl same ↦ of_lane same (cases_order i j)
       | inr other ↦
           elim other [
             | inl lt ↦ absurd
-                (none-some t (sym (b.lanes_before l i lt) ∙ a.here))
+                (none-some h (sym (b.lanes_before l i lt) ∙ a.here))
             | inr lt ↦ absurd
-                (none-some t' (sym (a.lanes_before k j lt) ∙ b.here))
+                (none-some h' (sym (a.lanes_before k j lt) ∙ b.here))
           ]
     ]
   where
-    of_lane : l ≡ k → (i ≡ j) ⊎ ((i < j) ⊎ (j < i)) → (l ≡ k) × (i ≡ j) × (t ≡ t')
+    of_lane : l ≡ k → (i ≡ j) ⊎ ((i < j) ⊎ (j < i)) → (l ≡ k) × (i ≡ j) × (h ≡ h')
     of_lane same (inl place) = (
       same,
       place,
-      same_Some t t'
-          (sym a.here ∙ ap (λ n. risk_at u p rows n i) same
-          ∙ ap (risk_at u p rows k) place ∙ b.here),
+      same_Some h h'
+          (sym a.here ∙ ap (λ n. hazard_at u p rows n i) same
+          ∙ ap (hazard_at u p rows k) place ∙ b.here),
     )
     of_lane same (inr (inl lt)) =
-        absurd (none-some t (sym (b.before i lt) ∙ ap (λ n. risk_at u p rows n i) (sym same)
+        absurd (none-some h (sym (b.before i lt) ∙ ap (λ n. hazard_at u p rows n i) (sym same)
         ∙ a.here))
     of_lane same (inr (inr lt)) =
-        absurd (none-some t' (sym (a.before j lt) ∙ ap (λ n. risk_at u p rows n j) same ∙ b.here))
+        absurd (none-some h' (sym (a.before j lt) ∙ ap (λ n. hazard_at u p rows n j) same ∙ b.here))
 
--- the first of the numbers below n that has a trap
-record FirstBelow (f : ℕ → Option Trap) (n : ℕ) : Type 0 where
+-- the first of the numbers below n that has a hazard
+record FirstBelow (f : ℕ → Option Hazard) (n : ℕ) : Type 0 where
   pub place : ℕ
-  pub trap : Trap
+  pub hazard : Hazard
   pub below : place < n
-  pub is : f place ≡ Some trap
+  pub is : f place ≡ Some hazard
   pub before : (k : ℕ) → k < place → f k ≡ None
 
-first_below : (f : ℕ → Option Trap) (n : ℕ) → ((k : ℕ) → k < n → f k ≡ None) ⊎ FirstBelow f n
+first_below : (f : ℕ → Option Hazard) (n : ℕ) → ((k : ℕ) → k < n → f k ≡ None) ⊎ FirstBelow f n
 first_below f zero = inl (λ k lt. absurd (omega arith))
 first_below f (suc n) =
     elim (first_below f n) [
@@ -53,7 +53,7 @@ first_below f (suc n) =
       | inr r ↦
           inr (record {
             place = r.place;
-            trap = r.trap;
+            hazard = r.hazard;
             below = omega
                 (arith, r.below);
             is = r.is;
@@ -61,7 +61,7 @@ first_below f (suc n) =
           })
     ]
   where
-    here : ((k : ℕ) → k < n → f k ≡ None) → (o : Option Trap) → f n ≡ o
+    here : ((k : ℕ) → k < n → f k ≡ None) → (o : Option Hazard) → f n ≡ o
         → ((k : ℕ) → k < suc n → f k ≡ None) ⊎ FirstBelow f (suc n)
     here none None e =
         inl (λ k lt. elim (cases_eq k n) [
@@ -69,27 +69,30 @@ first_below f (suc n) =
               ∙ e
           | inr other ↦ none k (omega arith)
         ])
-    here none (Some t) e =
-        inr (record { place = n; trap = t; below = omega arith; is = e; before = none })
+    here none (Some hazard) e =
+        inr (record { place = n; hazard = hazard; below = omega arith; is = e; before = none })
 
 module _ (u : Universe) (p : Plan) (rows : Rows) where
   -- past the end of a lane there is none
-  none_past : (l k : ℕ) → length (lane p l).instructions ≤ k → risk_at u p rows l k ≡ None
-  unfolding risk_at
-  none_past l k past = ap (risk_of u p rows l k) (slice_get_past (lane p l).instructions k past)
+  none_past : (l k : ℕ) → length (lane p l).instructions ≤ k → hazard_at u p rows l k ≡ None
+  unfolding hazard_at risk_at
+  none_past l k past =
+      ap (λ o. hazard_of (risk_of u p rows l k o) (parts_of u (maps_at u p rows l k) o))
+      (slice_get_past (lane p l).instructions k past)
 
   -- the first lane, of those below n, that has an unsafe instruction
   record FirstLane (n : ℕ) : Type 0 where
     pub lane_number : ℕ
     pub below : lane_number < n
-    pub first : FirstBelow (risk_at u p rows lane_number) (length (lane p lane_number).instructions)
-    pub before : (j k : ℕ) → j < lane_number → risk_at u p rows j k ≡ None
+    pub first : FirstBelow (hazard_at u p rows lane_number)
+        (length (lane p lane_number).instructions)
+    pub before : (j k : ℕ) → j < lane_number → hazard_at u p rows j k ≡ None
 
-  first_lane : (n : ℕ) → ((j k : ℕ) → j < n → risk_at u p rows j k ≡ None) ⊎ FirstLane n
+  first_lane : (n : ℕ) → ((j k : ℕ) → j < n → hazard_at u p rows j k ≡ None) ⊎ FirstLane n
   first_lane zero = inl (λ j k lt. absurd (omega arith))
   first_lane (suc n) =
       elim (first_lane n) [
-        | inl none ↦ here none (first_below (risk_at u p rows n) (length (lane p n).instructions))
+        | inl none ↦ here none (first_below (hazard_at u p rows n) (length (lane p n).instructions))
         | inr r ↦
             inr (record {
               lane_number = r.lane_number;
@@ -100,14 +103,14 @@ module _ (u : Universe) (p : Plan) (rows : Rows) where
             })
       ]
     where
-      here : ((j k : ℕ) → j < n → risk_at u p rows j k ≡ None)
-          → ((k : ℕ) → k < length (lane p n).instructions → risk_at u p rows n k ≡ None)
-          ⊎ FirstBelow (risk_at u p rows n) (length (lane p n).instructions)
-          → ((j k : ℕ) → j < suc n → risk_at u p rows j k ≡ None) ⊎ FirstLane (suc n)
+      here : ((j k : ℕ) → j < n → hazard_at u p rows j k ≡ None)
+          → ((k : ℕ) → k < length (lane p n).instructions → hazard_at u p rows n k ≡ None)
+          ⊎ FirstBelow (hazard_at u p rows n) (length (lane p n).instructions)
+          → ((j k : ℕ) → j < suc n → hazard_at u p rows j k ≡ None) ⊎ FirstLane (suc n)
       here none (inl safe) =
           inl (λ j k lt. elim (cases_eq j n) [
             | inl same ↦
-                ap (λ m. risk_at u p rows m k) same
+                ap (λ m. hazard_at u p rows m k) same
                 ∙ elim (cases_lt k (length (lane p
                 n).instructions)) [ inl within ↦ safe k within | inr past ↦ none_past n k past ]
             | inr other ↦ none j k (omega arith)
@@ -123,7 +126,7 @@ safe_or_first_unsafe u p rows =
       | inr r ↦ inr (record {
         lane = r.lane_number;
         place = r.first.place;
-        trap = r.first.trap;
+        hazard = r.first.hazard;
         is =
             record {
               in_plan = r.below;

@@ -12,11 +12,11 @@ use Rattle.farm_model.specs.Packages.{variant, names, variants, same, contains, 
 use Rattle.farm_model.specs.Sound.{IsKnown, IsUniverse}
 use Rattle.farm_model.proofs.BelowLaws.{some_below-found, every_below-at, every_below-all}
 use Rattle.plan_model.specs.declared.instructions.Instruction.{Instruction}
-use Rattle.plan_model.specs.declared.instructions.Instruction.TheVariants.{Unpack, Configure, Deconfigure, Remove, Build, Publish, Wait}
+use Rattle.plan_model.specs.declared.instructions.Instruction.TheVariants.{Publish, Wait, When}
 use Rattle.plan_model.specs.Plan.{Plan, lane, instruction_at}
-use Rattle.plan_model.specs.Known.{Rows, gives, within_reach, possible, IsFact, Adds}
+use Rattle.plan_model.specs.Known.{Rows, gives, within_reach, possible, IsFact, Follows, is_of, Adds}
 use Rattle.farm_laws.proofs.Archive.{same-true, same-refl, list_any-take}
-use Rattle.verdict_laws.specs.Greatest.{every_variant, is_that, follows_at, is_fact, adds}
+use Rattle.verdict_laws.specs.Greatest.{every_variant, is_that, follows_at, is_fact, follows, adds}
 
 pub every_variant-all : (u : Universe) (test : Variant → Bool) → ((v : Variant) → test v ≡ true)
     → every_variant u test ≡ true
@@ -59,13 +59,8 @@ given_by P test (x ∷ xs) h e =
 
 module _ (u : Universe) (is : IsUniverse u) where
   gives-known : (v : Variant) (x : Instruction) → gives u v x ≡ true → IsKnown u v
-  gives-known v (Unpack name wanted) e = absurd (false≢true e)
-  gives-known v (Configure members) e = absurd (false≢true e)
-  gives-known v (Deconfigure members) e = absurd (false≢true e)
-  gives-known v (Remove members) e = absurd (false≢true e)
-  gives-known v (Build r) e = absurd (false≢true e)
   gives-known v (Publish r) e = contained (IsKnown u) (outputs u r) v (is.outputs_known r) e
-  gives-known v (Wait entry) e = absurd (false≢true e)
+  gives-known v _ e = absurd (false≢true e)
 
   -- what may be in the archive is known to the universe
   pub possible-known : (p : Plan) (l i : ℕ) (v : Variant) → possible u p l i v ≡ true → IsKnown u v
@@ -130,11 +125,6 @@ module _ (u : Universe) (is : IsUniverse u) where
         → (o : Option Instruction) → instruction_at p j k ≡ o
         → follows_at u (rows j k v) c v o ≡ true
     fact_at c v f j k lt None at = refl
-    fact_at c v f j k lt (Some (Unpack name wanted)) at = refl
-    fact_at c v f j k lt (Some (Configure members)) at = refl
-    fact_at c v f j k lt (Some (Deconfigure members)) at = refl
-    fact_at c v f j k lt (Some (Remove members)) at = refl
-    fact_at c v f j k lt (Some (Build r)) at = refl
     fact_at c v f j k lt (Some (Publish r)) at =
         every_below-all (length (outputs u r)) _
         (λ m in_outputs. by m (slice_get (outputs u r) m) refl)
@@ -158,7 +148,7 @@ module _ (u : Universe) (is : IsUniverse u) where
                   or_left (not (is_that (slice_get (outputs u r) m) c)) _
                   (not_from_false _ (ap (λ o. is_that o c) out ∙ not_it))
             ]
-    fact_at c v f j k lt (Some (Wait e)) at = refl
+    fact_at c v f j k lt (Some _) at = refl
 
     pub fact-complete : (c v : Variant) → IsFact u p rows c v → is_fact u p rows c v ≡ true
     unfolding is_fact
@@ -173,44 +163,46 @@ module _ (u : Universe) (is : IsUniverse u) where
         (λ j lt. every_below-all (length (lane p j).instructions) _
         (λ k lt'. fact_at c v f j k lt (instruction_at p j k) refl)))
 
-    -- the test of what an instruction adds
-    pub adds-sound : (l i : ℕ) (v : Variant) (x : Instruction) → adds u p rows l i v x ≡ true
-        → Adds u p rows l i v x
-    adds-sound l i v (Unpack name wanted) e = absurd (false≢true e)
-    adds-sound l i v (Configure members) e = absurd (false≢true e)
-    adds-sound l i v (Deconfigure members) e = absurd (false≢true e)
-    adds-sound l i v (Remove members) e = absurd (false≢true e)
-    adds-sound l i v (Build r) e = absurd (false≢true e)
-    adds-sound l i v (Publish r) e = e
-    adds-sound l i v (Wait entry) e =
+    -- the test of what follows
+    follows-sound : (l i : ℕ) (v : Variant) (passes : Variant → Bool)
+        → follows u p rows l i v passes ≡ true → Follows u p rows l i v passes
+    follows-sound l i v passes e =
         let parts = and_parts (possible u p l i v) _ e in (
           parts.0,
           λ c may sat. elim (or_cases _ _
               (every_variant-at u (λ c. not
-              (possible u p l i c && satisfies_entry u entry c) || is_fact u p rows c v) c
+              (possible u p l i c && passes c) || is_fact u p rows c v) c
               (possible-known p l i c may) parts.1)) [
                 | inl none ↦ absurd (both_ways _ (not-true _ none) (and_from _ _ may sat))
                 | inr fact ↦ fact-sound c v fact
               ],
         )
 
-    pub adds-complete : (l i : ℕ) (v : Variant) (x : Instruction) → Adds u p rows l i v x
-        → adds u p rows l i v x ≡ true
-    adds-complete l i v (Unpack name wanted) add = absurd add
-    adds-complete l i v (Configure members) add = absurd add
-    adds-complete l i v (Deconfigure members) add = absurd add
-    adds-complete l i v (Remove members) add = absurd add
-    adds-complete l i v (Build r) add = absurd add
-    adds-complete l i v (Publish r) add = add
-    adds-complete l i v (Wait entry) add =
+    follows-complete : (l i : ℕ) (v : Variant) (passes : Variant → Bool)
+        → Follows u p rows l i v passes → follows u p rows l i v passes ≡ true
+    follows-complete l i v passes add =
         and_from _ _ add.0
-        (every_variant-all u (λ c. not
-        (possible u p l i c && satisfies_entry u entry c) || is_fact u p rows c v)
-        (λ c. elim (cases_Bool (possible u p l i c && satisfies_entry u entry c)) [
-          | inl both ↦ let parts =
-              and_parts _ _ both in or_right (not (possible u p l i c && satisfies_entry u entry c))
-              (is_fact u p rows c v) (fact-complete c v (add.1 c parts.0 parts.1))
+        (every_variant-all u (λ c. not (possible u p l i c && passes c) || is_fact u p rows c v)
+        (λ c. elim (cases_Bool (possible u p l i c && passes c)) [
+          | inl both ↦ let parts = and_parts _ _ both in
+              or_right (not (possible u p l i c && passes c)) (is_fact u p rows c v)
+              (fact-complete c v (add.1 c parts.0 parts.1))
           | inr none ↦
-              or_left (not (possible u p l i c && satisfies_entry u entry c)) (is_fact u p rows c v)
+              or_left (not (possible u p l i c && passes c)) (is_fact u p rows c v)
               (not_from_false _ none)
         ]))
+
+    -- the test of what an instruction adds
+    pub adds-sound : (l i : ℕ) (v : Variant) (x : Instruction) → adds u p rows l i v x ≡ true
+        → Adds u p rows l i v x
+    adds-sound l i v (Publish r) e = e
+    adds-sound l i v (Wait entry) e = follows-sound l i v (satisfies_entry u entry) e
+    adds-sound l i v (When name wanted) e = follows-sound l i v (is_of u name wanted) e
+    adds-sound l i v _ e = absurd (false≢true e)
+
+    pub adds-complete : (l i : ℕ) (v : Variant) (x : Instruction) → Adds u p rows l i v x
+        → adds u p rows l i v x ≡ true
+    adds-complete l i v (Publish r) add = add
+    adds-complete l i v (Wait entry) add = follows-complete l i v (satisfies_entry u entry) add
+    adds-complete l i v (When name wanted) add = follows-complete l i v (is_of u name wanted) add
+    adds-complete l i v _ add = absurd add

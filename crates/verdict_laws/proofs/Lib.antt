@@ -1,12 +1,14 @@
 pub mod FirstOne
 pub mod AtRest
 pub mod ToRest
+pub mod RowBefore
 pub mod Unions
 pub mod Quiet
 pub mod Inclusions
 pub mod Rounds
 pub mod Narrower
 pub mod NarrowMaps
+pub mod NarrowJoins
 pub mod Candidates
 pub mod MoreSafe
 pub mod ByPlace

@@ -1,25 +1,27 @@
 -- What is safe under fewer known variants is safe under more.
-use Rattle.std.proofs.Common.{◌≡◌, inl, inr, ℕ, zero, suc, ◌<◌, ◌≤◌, Bool, true, ◌==◌, List, length, Option, Some, None, refl, sym, ap, ◌∙◌, subst, arith}
+use Rattle.std.proofs.Common.{◌≡◌, inl, inr, ℕ, zero, suc, ◌<◌, ◌≤◌, Bool, true, false, ◌==◌, List, length, Option, Some, None, refl, sym, ap, ◌∙◌, subst, arith}
 use Rattle.std.proofs.lemmas.Bool.{cases_eq, ne_eqb}
 use Rattle.std.proofs.lemmas.Option.{none-some, slice_get_within}
 use Rattle.deb_relation.specs.declared.operator.Op.{Op}
+use Rattle.farm_model.specs.declared.types.Trap.{Trap}
 use Rattle.farm_model.specs.declared.types.Variant.{Variant}
 use Rattle.farm_model.specs.Universe.{Universe}
 use Rattle.farm_model.specs.Packages.{variant, variants, recipe}
 use Rattle.farm_model.specs.Chroot.{member}
 use Rattle.plan_model.specs.declared.instructions.Instruction.{Instruction}
-use Rattle.plan_model.specs.declared.instructions.Instruction.TheVariants.{Unpack, Configure, Deconfigure, Remove, Build, Publish, Wait}
+use Rattle.plan_model.specs.declared.instructions.Instruction.TheVariants.{Unpack, Configure, Deconfigure, Remove, Build, Publish, When, Otherwise, EndWhen}
 use Rattle.plan_model.specs.Plan.{Lane, Plan, lane, instruction_at}
 use Rattle.plan_model.specs.Turn.{newest, with_built}
 use Rattle.plan_model.specs.Known.{Rows, possible, KeepsRows}
 use Rattle.plan_model.specs.May.{MaySlot, MayAbsent, May}
 use Rattle.plan_model.specs.Risk.{candidates, unpack_risk, risk}
-use Rattle.plan_model.specs.MayAt.{may_unpack, may_be_configured, may_be_deconfigured, may_change, may_after, may_base, may_at}
-use Rattle.plan_model.specs.Safety.{risk_of, risk_at, IsSafeUnder}
+use Rattle.plan_model.specs.MayAt.{may_unpack, may_be_configured, may_be_deconfigured, may_change, may_after, may_base, Maps, maps_behind, maps_at, may_at}
+use Rattle.plan_model.specs.Safety.{risk_of, risk_at, Hazard, Meets, Parts, parts_of, hazard_of, hazard_at, IsSafeUnder}
 use Rattle.farm_laws.proofs.MayMaps.{no_trap}
 use Rattle.verdict_laws.specs.Families.{IsWithin}
 use Rattle.verdict_laws.specs.MoreKnown.{SafeUnderMore, GreatestIsAnnotation, GreatestRowsAnnotate}
 use Rattle.verdict_laws.proofs.Narrower.{IsPart, Narrows, both_absent, both_unpacked, NarrowsAll, narrows_itself, greatest_size-mono, last-narrower, configured-narrower, deconfigured-narrower, cond-narrower}
+use Rattle.verdict_laws.proofs.NarrowJoins.{NarrowsMaps, phases-narrower, joined-narrower}
 use Rattle.verdict_laws.proofs.Candidates.{higher, candidates-part}
 use Rattle.verdict_laws.proofs.NarrowMaps.{unpack_covers, configure_covers, deconfigure_covers, remove_covers, build_covers, publish_covers}
 use Rattle.verdict_laws.proofs.Unions.{there, known_are_possible}
@@ -52,7 +54,7 @@ module _ (u : Universe) (of : Lane) (known more may : Variant → Bool) (m w : M
   instruction_safe (Remove members) safe = no_trap (remove_covers u m w narrow of members) safe
   instruction_safe (Build r) safe = no_trap (build_covers u m w narrow of (recipe u r)) safe
   instruction_safe (Publish r) safe = no_trap (publish_covers u m w narrow of r) safe
-  instruction_safe (Wait e) safe = refl
+  instruction_safe _ safe = refl
 
   unpack_narrows : (name : ℕ) (wanted : Option (Op × List ℕ)) (o : Option ℕ)
       → newest u known name wanted ≡ o
@@ -118,49 +120,102 @@ module _ (u : Universe) (of : Lane) (known more may : Variant → Bool) (m w : M
       }
   instruction_narrows (Publish r) safe =
       record { each = narrow.each; cost = omega (arith, narrow.cost); built = narrow.built }
-  instruction_narrows (Wait e) safe = narrow
+  instruction_narrows _ safe = narrow
+
+itself_narrows : (u : Universe) (m : May) → NarrowsAll u m m
+itself_narrows u m =
+    record {
+      each = λ n. narrows_itself (variants u n) (m.slots n);
+      cost = omega arith;
+      built = refl;
+    }
+
+-- the maps behind the instruction
+maps_narrow : (u : Universe) (of : Lane) (known more may : Variant → Bool) (m w : Maps)
+    → NarrowsMaps u m w → ((v : Variant) → known v ≡ true → more v ≡ true)
+    → ((v : Variant) → more v ≡ true → may v ≡ true) → (x : Instruction)
+    → risk u of known may w.here x ≡ None
+    → NarrowsMaps u (maps_behind u more may m x) (maps_behind u known may w x)
+maps_narrow u of known more may m w narrow less fits (When name wanted) safe =
+    record { here = narrow.here; ahead = narrow.here; first = narrow.first }
+maps_narrow u of known more may m w narrow less fits Otherwise safe =
+    record { here = narrow.ahead; ahead = narrow.ahead; first = narrow.here }
+maps_narrow u of known more may m w narrow less fits EndWhen safe =
+    record {
+      here = joined-narrower u m.first w.first m.here w.here narrow.first narrow.here;
+      ahead = narrow.ahead;
+      first = narrow.first;
+    }
+maps_narrow u of known more may m w narrow less fits x safe =
+    record {
+      here = instruction_narrows u of known more may m.here w.here narrow.here less fits x safe;
+      ahead = narrow.ahead;
+      first = narrow.first;
+    }
+
+-- branches part just where they do under the other maps
+parts-narrower : (u : Universe) (m w : Maps) → NarrowsMaps u m w → (x : Instruction)
+    → parts_of u m (Some x) ≡ parts_of u w (Some x)
+parts-narrower u m w narrow EndWhen =
+    phases-narrower u m.first w.first m.here w.here narrow.first narrow.here
+parts-narrower u m w narrow _ = refl
+
+no_hazard : (risk : Option Trap) (part : Bool) → hazard_of risk part ≡ None
+    → (risk ≡ None) × (part ≡ false)
+no_hazard (Some trap) part e = absurd (none-some (Meets trap) (sym e))
+no_hazard None true e = absurd (none-some Parts (sym e))
+no_hazard None false e = (refl, refl)
+
+without_hazard : (risk : Option Trap) (part : Bool) → risk ≡ None → part ≡ false
+    → hazard_of risk part ≡ None
+without_hazard risk part e h = rw (e, h) refl
 
 module _ (u : Universe) (p : Plan) (rows more : Rows) (keeps : KeepsRows u p more)
     (within : IsWithin p rows more) (safe : IsSafeUnder u p rows) where
+  -- what is unsafe at an instruction, or at none
+  abbrev hazard_some : Rows → ℕ → ℕ → Option Instruction → Option Hazard
+  hazard_some r l i o = hazard_of (risk_of u p r l i o) (parts_of u (maps_at u p r l i) o)
+
   -- where the rows call an instruction safe
   safe_at : (l i : ℕ) (x : Instruction) → l < length p → instruction_at p l i ≡ Some x
-      → risk u (lane p l) (rows l i) (possible u p l i) (may_at u p rows l i) x ≡ None
-  unfolding risk_at
-  safe_at l i x lt at = ap (risk_of u p rows l i) (sym at) ∙ safe l i lt
+      → (risk u (lane p l) (rows l i) (possible u p l i) (may_at u p rows l i) x ≡ None)
+      × (parts_of u (maps_at u p rows l i) (Some x) ≡ false)
+  unfolding hazard_at risk_at
+  safe_at l i x lt at = no_hazard _ _ (ap (hazard_some rows l i) (sym at) ∙ safe l i lt)
 
-  -- the map under more known variants is narrower
+  -- the maps under more known variants are narrower
   narrower_at : (l i : ℕ) → l < length p → i ≤ length (lane p l).instructions
-      → NarrowsAll u (may_at u p more l i) (may_at u p rows l i)
+      → NarrowsMaps u (maps_at u p more l i) (maps_at u p rows l i)
   narrower_at l zero lt le =
-      record {
-        each = λ n. narrows_itself (variants u n)
-            ((may_base u (lane p l)).slots n);
-        cost = omega arith;
-        built = refl;
-      }
+      let base = itself_narrows u (may_base u (lane p l)) in
+      record { here = base; ahead = base; first = base }
   narrower_at l (suc i) lt le =
-      let x = there p l i (omega arith) in
+      let x = there p l i (omega (arith, le)) in
       let next =
-      instruction_narrows u (lane p l) (rows l i) (more l i) (possible u p l i)
-      (may_at u p more l i) (may_at u p rows l i) (narrower_at l i lt (omega arith))
-      (λ v e. within l i v lt (omega arith) e)
-      (λ v e. known_are_possible u p more keeps l i v lt (omega arith) e) x.0
-      (safe_at l i x.0 lt x.1) in
+      maps_narrow u (lane p l) (rows l i) (more l i) (possible u p l i)
+      (maps_at u p more l i) (maps_at u p rows l i) (narrower_at l i lt (omega (arith, le)))
+      (λ v e. within l i v lt (omega (arith, le)) e)
+      (λ v e. known_are_possible u p more keeps l i v lt (omega (arith, le)) e) x.0
+      (safe_at l i x.0 lt x.1).0 in
       rw x.1 next
 
-  safe_under_more_at : (l i : ℕ) → l < length p → risk_at u p more l i ≡ None
-  unfolding risk_at
+  safe_under_more_at : (l i : ℕ) → l < length p → hazard_at u p more l i ≡ None
+  unfolding hazard_at risk_at
   safe_under_more_at l i lt = by (instruction_at p l i) refl
     where
-      by : (o : Option Instruction) → instruction_at p l i ≡ o → risk_of u p more l i o ≡ None
+      by : (o : Option Instruction) → instruction_at p l i ≡ o → hazard_some more l i o ≡ None
       by None at = refl
       by (Some x) at =
           let below = slice_get_within (lane p l).instructions i x at in
-          instruction_safe u (lane p l) (rows l i) (more l i) (possible u p l i)
-          (may_at u p more l i) (may_at u p rows l i) (narrower_at l i lt (omega arith))
-          (λ v e. within l i v lt (omega arith) e)
-          (λ v e. known_are_possible u p more keeps l i v lt (omega arith) e) x
-          (safe_at l i x lt at)
+          let narrow = narrower_at l i lt (omega (arith, below)) in
+          let fine = safe_at l i x lt at in
+          without_hazard _ _
+          (instruction_safe u (lane p l) (rows l i) (more l i) (possible u p l i)
+          (may_at u p more l i) (may_at u p rows l i) narrow.here
+          (λ v e. within l i v lt (omega (arith, below)) e)
+          (λ v e. known_are_possible u p more keeps l i v lt (omega (arith, below)) e) x
+          fine.0)
+          (parts-narrower u (maps_at u p more l i) (maps_at u p rows l i) narrow x ∙ fine.1)
 
 pub safe_under_more : SafeUnderMore
 safe_under_more u p rows more keeps within safe l i lt =

@@ -8,11 +8,12 @@ use Rattle.farm_model.specs.Universe.{Universe}
 use Rattle.farm_model.specs.Packages.{variant, names, variants}
 use Rattle.farm_model.specs.Sound.{IsUniverse}
 use Rattle.farm_model.proofs.BelowLaws.{every_below-at, every_below-fails, sum_below-mono}
-use Rattle.plan_model.specs.Plan.{Plan, lane}
-use Rattle.plan_model.specs.Known.{Rows, possible, KeepsRows}
+use Rattle.plan_model.specs.Plan.{Plan, lane, instruction_at}
+use Rattle.plan_model.specs.Known.{Rows, possible, row_before, KeepsRows}
 use Rattle.verdict_laws.specs.Families.{IsWithin}
-use Rattle.verdict_laws.specs.Greatest.{every_variant, adds_some, allowed, is_settled, without_excess, one_if, rows_size, settled_after, greatest_rows, AreKnown, SettledRowsKeep, GreatestRowsAreGreatest}
+use Rattle.verdict_laws.specs.Greatest.{every_variant, adds_some, row_before_some, allowed, is_settled, without_excess, one_if, rows_size, settled_after, greatest_rows, AreKnown, SettledRowsKeep, GreatestRowsAreGreatest}
 use Rattle.verdict_laws.proofs.Inclusions.{every_variant-at, possible-known, adds-sound, adds-complete}
+use Rattle.verdict_laws.proofs.RowBefore.{row_before-le}
 use Rattle.verdict_laws.proofs.Unions.{there, Adds-mono, known_are_possible}
 
 -- a sum that is less at one place and more at none is less
@@ -132,8 +133,9 @@ module _ (u : Universe) (p : Plan) (is : IsUniverse u) where
         at_start = λ l v lt here. at l 0 v lt (omega arith) here;
         after = λ l i x v lt is_x here.
             let below = slice_get_within (lane p l).instructions i x is_x in
-            elim (or_cases (rows l i v) _ (at l (suc i) v lt (omega arith) here)) [
-              | inl old ↦ inl old
+            elim (or_cases (rows l (row_before_some p l i (instruction_at p l i)) v) _
+            (at l (suc i) v lt (omega arith) here)) [
+              | inl old ↦ inl (ap (λ o. rows l (row_before_some p l i o) v) (sym is_x) ∙ old)
               | inr new ↦
                   inr (adds-sound u is p rows l i v x
                   (ap (adds_some u p rows l i v) (sym is_x) ∙ new))
@@ -182,10 +184,15 @@ module _ (u : Universe) (p : Plan) (is : IsUniverse u) where
       by zero le e = keeps.at_start l v lt e
       by (suc i) le e =
           let x = there p l i (omega arith) in
+          let back = row_before-le p l i x.0 in
           elim (keeps.after l i x.0 v lt x.1 e) [
-            | inl old ↦ or_left (rows l i v) _ (within l i v lt (omega arith) old)
+            | inl old ↦
+                or_left (rows l (row_before_some p l i (instruction_at p l i)) v) _
+                (ap (λ o. rows l (row_before_some p l i o) v) x.1
+                ∙ within l (row_before p l i x.0) v lt (omega (arith, back, le)) old)
             | inr new ↦
-                or_right (rows l i v) _ (ap (adds_some u p rows l i v) x.1
+                or_right (rows l (row_before_some p l i (instruction_at p l i)) v) _
+                (ap (adds_some u p rows l i v) x.1
                 ∙ adds-complete u is p rows l i v x.0
                 (Adds-mono u p other rows l i v x.0 within new))
           ]

@@ -1,10 +1,10 @@
 -- The stuck lanes of a plan are one list, which is empty where there is an order.
-use Rattle.std.proofs.Common.{◌≡◌, ◌≢◌, ◌⊎◌, inl, inr, ℕ, zero, suc, ◌<◌, List, [], ◌∷◌, length, slice_index_or, Contains, refl, sym, subst, ◌∙◌, arith}
+use Rattle.std.proofs.Common.{◌≡◌, ◌⊎◌, inl, inr, ℕ, zero, suc, ◌<◌, List, [], ◌∷◌, length, Contains, refl, sym, subst, arith}
 use Rattle.std.specs.List.{AllPairs}
 use Rattle.std.proofs.lemmas.List.Kept.{AllPairs-from_increasing}
 use Rattle.farm_model.specs.Universe.{Universe}
 use Rattle.plan_model.specs.Plan.{Plan}
-use Rattle.plan_model.specs.Order.{CannotEnd, IsOrder, AreStuck}
+use Rattle.plan_model.specs.Order.{CannotEnd, AreStuck}
 use Rattle.verdict_laws.specs.Stuck.{StuckAreOne, OrdersLeaveNoneStuck}
 
 -- an element of a list is its first or one of the others

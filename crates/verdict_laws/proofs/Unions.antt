@@ -1,5 +1,5 @@
 -- Families that keep to the inclusions: what they have is possible, and a union of them keeps.
-use Rattle.std.proofs.Common.{◌≡◌, ◌⊎◌, inl, inr, ℕ, zero, suc, ◌<◌, Bool, true, false, [], ◌∷◌, length, take, get_or, Some, refl, sym, ap, ◌∙◌, arith, add-one}
+use Rattle.std.proofs.Common.{◌≡◌, ◌⊎◌, inl, inr, ℕ, zero, suc, ◌<◌, ◌≤◌, true, [], ◌∷◌, length, take, get_or, Some, refl, ap, ◌∙◌, subst, arith, add-one}
 use Rattle.std.specs.List.{list_any}
 use Rattle.std.proofs.lemmas.Bool.{or_cases, or_left, or_right, cases_eq, eq-eqb, ne_eqb}
 use Rattle.std.proofs.lemmas.List.Folds.{list_any-append, list_any_kept}
@@ -10,10 +10,11 @@ use Rattle.farm_model.specs.Universe.{Universe}
 use Rattle.farm_model.specs.Packages.{contains, initial, outputs}
 use Rattle.farm_model.proofs.BelowLaws.{some_below-at, some_below-mono}
 use Rattle.plan_model.specs.declared.instructions.Instruction.{Instruction}
-use Rattle.plan_model.specs.declared.instructions.Instruction.TheVariants.{Unpack, Configure, Deconfigure, Remove, Build, Publish, Wait}
+use Rattle.plan_model.specs.declared.instructions.Instruction.TheVariants.{Publish, Wait, When}
 use Rattle.plan_model.specs.Plan.{Plan, lane, instruction_at}
-use Rattle.plan_model.specs.Known.{Rows, gives, within_reach, possible, IsFact, Adds}
+use Rattle.plan_model.specs.Known.{Rows, gives, within_reach, possible, IsFact, Adds, row_before, KeepsRows}
 use Rattle.farm_laws.proofs.Archive.{take_some}
+use Rattle.verdict_laws.proofs.RowBefore.{row_before-le, each_place}
 use Rattle.verdict_laws.specs.Families.{IsWithin, KnownArePossible, UnionsKeep, UnionOfTwoKeeps, GreatestIsOne}
 
 -- the instruction at a place of a lane
@@ -41,14 +42,11 @@ IsFact-mono u p rows more c v within f =
 
 pub Adds-mono : (u : Universe) (p : Plan) (rows more : Rows) (l i : ℕ) (v : Variant)
     (x : Instruction) → IsWithin p rows more → Adds u p rows l i v x → Adds u p more l i v x
-Adds-mono u p rows more l i v (Unpack name wanted) within add = add
-Adds-mono u p rows more l i v (Configure members) within add = add
-Adds-mono u p rows more l i v (Deconfigure members) within add = add
-Adds-mono u p rows more l i v (Remove members) within add = add
-Adds-mono u p rows more l i v (Build r) within add = add
-Adds-mono u p rows more l i v (Publish r) within add = add
 Adds-mono u p rows more l i v (Wait e) within add =
     (add.0, λ c may sat. IsFact-mono u p rows more c v within (add.1 c may sat))
+Adds-mono u p rows more l i v (When name wanted) within add =
+    (add.0, λ c may sat. IsFact-mono u p rows more c v within (add.1 c may sat))
+Adds-mono u p rows more l i v _ within add = add
 
 -- a place further on, no less is possible
 more_possible : (u : Universe) (p : Plan) (l i : ℕ) (v : Variant) → possible u p l i v ≡ true
@@ -72,6 +70,17 @@ more_possible u p l i v e =
         let all : list_any (gives u v) (lane p j).instructions ≡ true =
         rw (ne_eqb j l other) at h in rw (ne_eqb j l other) all
 
+-- nor at any later place
+possible_on : (u : Universe) (p : Plan) (l k i : ℕ) (v : Variant) → k ≤ i
+    → possible u p l k v ≡ true → possible u p l i v ≡ true
+possible_on u p l k zero v le e = let same : k ≡ 0 = omega (arith, le) in
+    subst (λ j. possible u p l j v ≡ true) same e
+possible_on u p l k (suc i) v le e =
+    elim (cases_eq k (suc i)) [
+      | inl same ↦ subst (λ j. possible u p l j v ≡ true) same e
+      | inr other ↦ more_possible u p l i v (possible_on u p l k i v (omega (arith, le, other)) e)
+    ]
+
 -- behind a publish its outputs are possible
 published_possible : (u : Universe) (p : Plan) (l i r : ℕ) (v : Variant) → l < length p
     → instruction_at p l i ≡ Some (Publish r) → contains (outputs u r) v ≡ true
@@ -88,29 +97,40 @@ published_possible u p l i r v lt at e =
 adds_possible : (u : Universe) (p : Plan) (rows : Rows) (l i : ℕ) (v : Variant) (x : Instruction)
     → l < length p → instruction_at p l i ≡ Some x → Adds u p rows l i v x
     → possible u p l (suc i) v ≡ true
-adds_possible u p rows l i v (Unpack name wanted) lt at add = absurd add
-adds_possible u p rows l i v (Configure members) lt at add = absurd add
-adds_possible u p rows l i v (Deconfigure members) lt at add = absurd add
-adds_possible u p rows l i v (Remove members) lt at add = absurd add
-adds_possible u p rows l i v (Build r) lt at add = absurd add
 adds_possible u p rows l i v (Publish r) lt at add = published_possible u p l i r v lt at add
 adds_possible u p rows l i v (Wait e) lt at add = more_possible u p l i v add.0
+adds_possible u p rows l i v (When name wanted) lt at add = more_possible u p l i v add.0
+adds_possible u p rows l i v _ lt at add = absurd add
 
 possible_at_start : (u : Universe) (p : Plan) (l : ℕ) (v : Variant) → initial u v ≡ true
     → possible u p l 0 v ≡ true
 unfolding possible
 possible_at_start u p l v e = or_left (initial u v) _ e
 
+module _ (u : Universe) (p : Plan) (rows : Rows) (keeps : KeepsRows u p rows) (l : ℕ)
+    (lt : l < length p) where
+  -- what is known at the place is possible there
+  abbrev KnownAt : ℕ → Type 0
+  KnownAt i = (v : Variant) → i ≤ length (lane p l).instructions → rows l i v ≡ true
+      → possible u p l i v ≡ true
+
+  known_behind : (i : ℕ) → ((k : ℕ) → k ≤ i → KnownAt k) → KnownAt (suc i)
+  known_behind i before v le e =
+      let x = there p l i (omega (arith, le)) in
+      let back = row_before-le p l i x.0 in
+      elim (keeps.after l i x.0 v lt x.1 e) [
+        | inl old ↦
+            possible_on u p l (row_before p l i x.0) (suc i) v (omega (arith, back))
+            (before (row_before p l i x.0) back v (omega (arith, back, le)) old)
+        | inr new ↦ adds_possible u p rows l i v x.0 lt x.1 new
+      ]
+
+  known_at : (i : ℕ) → KnownAt i
+  known_at = each_place KnownAt
+      (λ v le e. possible_at_start u p l v (keeps.at_start l v lt e)) known_behind
+
 pub known_are_possible : KnownArePossible
-known_are_possible u p rows keeps l zero v lt le e =
-    possible_at_start u p l v (keeps.at_start l v lt e)
-known_are_possible u p rows keeps l (suc i) v lt le e =
-    let x = there p l i (omega arith) in
-    elim (keeps.after l i x.0 v lt x.1 e) [
-      | inl old ↦
-          more_possible u p l i v (known_are_possible u p rows keeps l i v lt (omega arith) old)
-      | inr new ↦ adds_possible u p rows l i v x.0 lt x.1 new
-    ]
+known_are_possible u p rows keeps l i v lt le e = known_at u p rows keeps l lt i v le e
 
 pub unions_keep : UnionsKeep
 unions_keep u p rows union =
@@ -119,9 +139,11 @@ unions_keep u p rows union =
           λ l v lt e. let part = union l 0 v lt (omega arith) e in part.1.at_start l v lt part.3;
       after = λ l i x v lt at e.
           let below = slice_get_within (lane p l).instructions i x at in
+          let back = row_before-le p l i x in
           let part = union l (suc i) v lt (omega arith) e in
           elim (part.1.after l i x v lt at part.3) [
-            | inl old ↦ inl (part.2 l i v lt (omega arith) old)
+            | inl old ↦
+                inl (part.2 l (row_before p l i x) v lt (omega (arith, below, back)) old)
             | inr new ↦ inr (Adds-mono u p part.0 rows l i v x part.2 new)
           ];
     }

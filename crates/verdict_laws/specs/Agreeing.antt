@@ -9,7 +9,7 @@ use Rattle.farm_model.specs.Universe.{Universe}
 use Rattle.plan_model.specs.Plan.{Plan, lane}
 use Rattle.plan_model.specs.Known.{Rows}
 use Rattle.plan_model.specs.MayAt.{lane_cost}
-use Rattle.plan_model.specs.Safety.{risk_at}
+use Rattle.plan_model.specs.Safety.{hazard_at}
 use Rattle.verdict_laws.specs.Places.{IsJustified}
 
 -- the same variants at each place of the plan
@@ -22,8 +22,8 @@ Agree p rows other =
 pub record AreAlike (u : Universe) (p : Plan) (rows other : Rows) : Type 0 where
   -- their rows are justified at the same places of the lanes;
   pub justified : (l i : ℕ) → l < length p → IsJustified u p rows l i ↔ IsJustified u p other l i
-  -- each instruction has the same risk under them;
-  pub risks : (l i : ℕ) → l < length p → risk_at u p rows l i ≡ risk_at u p other l i
+  -- the same is unsafe at each instruction under them;
+  pub hazards : (l i : ℕ) → l < length p → hazard_at u p rows l i ≡ hazard_at u p other l i
   -- and each lane has the same cost.
   pub costs : (l : ℕ) → l < length p → lane_cost u p rows l ≡ lane_cost u p other l
 

@@ -1,19 +1,22 @@
 -- The greatest known rows along a lane. The project's own rules.
-use Rattle.std.specs.Prelude.{◌≡◌, ℕ, suc, ◌<◌, ◌≤◌, true, length}
+use Rattle.std.specs.Prelude.{◌≡◌, ℕ, suc, ◌<◌, ◌≤◌, true, length, Some}
 use Rattle.farm_model.specs.declared.types.Variant.{Variant}
 use Rattle.farm_model.specs.Universe.{Universe}
 use Rattle.farm_model.specs.Packages.{initial}
-use Rattle.plan_model.specs.Plan.{Plan, lane}
-use Rattle.plan_model.specs.Known.{Rows, IsGreatest}
+use Rattle.plan_model.specs.declared.instructions.Instruction.{Instruction}
+use Rattle.plan_model.specs.Plan.{Plan, lane, instruction_at}
+use Rattle.plan_model.specs.Known.{Rows, row_before, IsGreatest}
 
 -- Of the greatest rows, at the plan's places:
 pub record IsCarried (u : Universe) (p : Plan) (rows : Rows) : Type 0 where
   -- each has the initial archive;
   pub initial_known : (l i : ℕ) (v : Variant) → l < length p
       → i ≤ length (lane p l).instructions → initial u v ≡ true → rows l i v ≡ true
-  -- and what is known at a place is known at the next one.
-  pub kept : (l i : ℕ) (v : Variant) → l < length p → suc i ≤ length (lane p l).instructions
-      → rows l i v ≡ true → rows l (suc i) v ≡ true
+  -- and what is known ahead of an instruction is known behind it; what is known ahead of a `when`
+  -- is known behind its `else` and behind its `end`.
+  pub kept : (l i : ℕ) (x : Instruction) (v : Variant) → l < length p
+      → instruction_at p l i ≡ Some x → rows l (row_before p l i x) v ≡ true
+      → rows l (suc i) v ≡ true
 
 abbrev pub GreatestIsCarried : Type 0
 GreatestIsCarried =

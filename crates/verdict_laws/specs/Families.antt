@@ -5,11 +5,10 @@
 --   KnownArePossible                          known rows are possible
 --   UnionsKeep, UnionOfTwoKeeps               a union of keeping families keeps
 --   GreatestIsOne                             the greatest family is one
---   InitialRowsAreGreatest                    what it is where nothing is published
-use Rattle.std.specs.Prelude.{◌≡◌, ℕ, ◌<◌, ◌≤◌, Bool, true, false, ◌||◌, length, Some}
+--   InitialRowsAreGreatest                    what it is where nothing is learnt
+use Rattle.std.specs.Prelude.{◌≡◌, ℕ, ◌<◌, ◌≤◌, true, false, ◌||◌, length, Some}
 use Rattle.farm_model.specs.declared.types.Variant.{Variant}
 use Rattle.farm_model.specs.Universe.{Universe}
-use Rattle.farm_model.specs.Packages.{initial}
 use Rattle.plan_model.specs.declared.instructions.Instruction.{Instruction}
 use Rattle.plan_model.specs.Plan.{Plan, lane, instruction_at}
 use Rattle.plan_model.specs.Known.{Rows, possible, teaches, KeepsRows, IsGreatest, initial_rows}
@@ -49,13 +48,13 @@ GreatestIsOne =
     → (l i : ℕ) (v : Variant) → l < length p → i ≤ length (lane p l).instructions
     → rows l i v ≡ more l i v
 
--- no lane waits or publishes
+-- no lane waits, publishes or takes a branch
 abbrev pub HasNoNews : Plan → Type 0
 HasNoNews p =
     (l i : ℕ) (x : Instruction) → l < length p → instruction_at p l i ≡ Some x
     → teaches x ≡ false
 
--- where no lane waits or publishes, each knows just the initial archive at each place
+-- where none does, each knows just the initial archive at each place
 abbrev pub InitialRowsAreGreatest : Type 0
 InitialRowsAreGreatest =
     (u : Universe) (p : Plan) → HasNoNews p → IsGreatest u p (initial_rows u)

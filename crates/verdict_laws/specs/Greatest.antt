@@ -2,7 +2,7 @@
 -- do not allow is taken away until nothing changes. The project's own rules. Parameters: u a
 -- universe, p a plan, l a lane, i a place, c and v variants, x an instruction.
 --
---   is_fact, adds, allowed          the inclusions as tests
+--   is_fact, follows, adds, allowed the inclusions as tests
 --   is_settled, without_excess      nothing is left to take away; one round of taking away
 --   greatest_rows                   the rows after all rounds
 --   SettledRowsKeep                 rows that pass the test keep to the inclusions
@@ -13,9 +13,9 @@ use Rattle.farm_model.specs.Universe.{Universe}
 use Rattle.farm_model.specs.Packages.{variant, names, variants, same, contains, satisfies_entry, initial, outputs}
 use Rattle.farm_model.specs.Sound.{IsKnown}
 use Rattle.plan_model.specs.declared.instructions.Instruction.{Instruction}
-use Rattle.plan_model.specs.declared.instructions.Instruction.TheVariants.{Publish, Wait}
+use Rattle.plan_model.specs.declared.instructions.Instruction.TheVariants.{Publish, Wait, When}
 use Rattle.plan_model.specs.Plan.{Plan, lane, instruction_at, outputs_of}
-use Rattle.plan_model.specs.Known.{Rows, possible, KeepsRows, IsGreatest}
+use Rattle.plan_model.specs.Known.{Rows, possible, is_of, row_before, KeepsRows, IsGreatest}
 use Rattle.plan_model.specs.Sound.{IsSound}
 
 -- each variant of the universe passes
@@ -42,22 +42,34 @@ is_fact u p rows c v =
     (λ j. every_below (length (lane p j).instructions)
     (λ k. follows_at u (rows j k v) c v (instruction_at p j k)))
 
+-- v is a fact of each possible variant that passes
+abbrev pub follows : Universe → Plan → Rows → ℕ → ℕ → Variant → (Variant → Bool) → Bool
+follows u p rows l i v passes =
+    possible u p l i v && every_variant u
+    (λ c. not (possible u p l i c && passes c) || is_fact u p rows c v)
+
 -- the instruction may add the variant to the row
 abbrev pub adds : Universe → Plan → Rows → ℕ → ℕ → Variant → Instruction → Bool
 adds u p rows l i v (Publish r) = contains (outputs u r) v
-adds u p rows l i v (Wait e) =
-    possible u p l i v && every_variant u
-    (λ c. not (possible u p l i c && satisfies_entry u e c) || is_fact u p rows c v)
+adds u p rows l i v (Wait e) = follows u p rows l i v (satisfies_entry u e)
+adds u p rows l i v (When name wanted) = follows u p rows l i v (is_of u name wanted)
 adds u p rows l i v _ = false
 
 abbrev pub adds_some : Universe → Plan → Rows → ℕ → ℕ → Variant → Option Instruction → Bool
 adds_some u p rows l i v None = false
 adds_some u p rows l i v (Some x) = adds u p rows l i v x
 
+-- the place whose row goes on behind the instruction there, if there is one
+abbrev pub row_before_some : Plan → ℕ → ℕ → Option Instruction → ℕ
+row_before_some p l i None = i
+row_before_some p l i (Some x) = row_before p l i x
+
 -- the inclusions allow the variant in the row
 abbrev pub allowed : Universe → Plan → Rows → ℕ → ℕ → Variant → Bool
 allowed u p rows l zero v = initial u v
-allowed u p rows l (suc i) v = rows l i v || adds_some u p rows l i v (instruction_at p l i)
+allowed u p rows l (suc i) v =
+    rows l (row_before_some p l i (instruction_at p l i)) v
+    || adds_some u p rows l i v (instruction_at p l i)
 
 -- each row has only what is allowed
 unfoldable pub is_settled : Universe → Plan → Rows → Bool

@@ -11,17 +11,18 @@ use Rattle.farm_model.specs.Universe.{Universe}
 use Rattle.farm_model.specs.Packages.{initial}
 use Rattle.plan_model.specs.declared.instructions.Instruction.{Instruction}
 use Rattle.plan_model.specs.Plan.{Plan, lane, instruction_at}
-use Rattle.plan_model.specs.Known.{Rows, Adds, KeepsRows}
+use Rattle.plan_model.specs.Known.{Rows, Adds, row_before, KeepsRows}
 use Rattle.plan_model.specs.Sound.{IsSound}
 use Rattle.verdict_laws.specs.Greatest.{every_variant, allowed, is_settled, AreKnown}
 
 -- the row of a place has no more than it may: that of a lane's beginning the initial archive, and
--- that behind an instruction what was known ahead of it and what the instruction adds
+-- that behind an instruction what was known ahead of it (behind an `else` and an `end` ahead of
+-- their `when`) and what the instruction adds
 abbrev pub IsJustified : Universe → Plan → Rows → ℕ → ℕ → Type 0
 IsJustified u p rows l zero = (v : Variant) → rows l 0 v ≡ true → initial u v ≡ true
 IsJustified u p rows l (suc i) =
     (x : Instruction) (v : Variant) → instruction_at p l i ≡ Some x → rows l (suc i) v ≡ true
-    → (rows l i v ≡ true) ⊎ Adds u p rows l i v x
+    → (rows l (row_before p l i x) v ≡ true) ⊎ Adds u p rows l i v x
 
 -- each variant of the row is allowed there
 unfoldable pub is_justified : Universe → Plan → Rows → ℕ → ℕ → Bool

@@ -5,12 +5,12 @@
 --   RestIsExact             what such a board says of the plan
 --   StuckAreOne, OrdersLeaveNoneStuck
 --                           the stuck lanes are one list, and none where there is an order
-use Rattle.std.specs.Prelude.{◌≡◌, ◌≢◌, ℕ, Bool, true, false, List, [], ◌∷◌, length, None, All, Contains}
+use Rattle.std.specs.Prelude.{◌≡◌, ◌≢◌, ℕ, Bool, true, false, List, [], ◌∷◌, length, All, Contains}
 use Rattle.std.specs.List.{filter, range_with_len}
 use Rattle.std.specs.List.Sorted.{IsStrictlyIncreasing}
 use Rattle.farm_model.specs.Universe.{Universe}
 use Rattle.plan_model.specs.Plan.{Plan}
-use Rattle.plan_model.specs.Order.{Item, Board, start_board, rest_of, board_after, Reaches, IsOrder, CannotEnd, AreStuck, IsAtRest}
+use Rattle.plan_model.specs.Order.{Item, Board, start_board, rest_of, Reaches, IsOrder, CannotEnd, AreStuck, IsAtRest}
 
 -- these are all lanes that have something left, in file order
 pub record AreLeft (b : Board) (lanes : List ℕ) : Type 0 where

@@ -34,7 +34,8 @@ pub fn greatest_is_one()
     ensures { GreatestIsOne }
 {}
 
-/// Where no lane waits or publishes, the greatest known rows are the initial archive at each place.
+/// Where no lane waits, publishes or takes a branch, the greatest known rows are the initial
+/// archive at each place.
 pub fn initial_rows_are_greatest()
     ensures { InitialRowsAreGreatest }
 {}

@@ -24,13 +24,14 @@ pub fn first_unjustified_is_one()
     ensures { FirstUnjustifiedIsOne }
 {}
 
-/// Rows that agree at the places of a plan are justified at the same places and have the same
-/// risks.
+/// Rows that agree at the places of a plan are justified at the same places, and the same is unsafe
+/// under them.
 pub fn agreeing_rows_are_alike()
     ensures { AgreeingRowsAreAlike }
 {}
 
-/// The greatest rows have the initial archive at each place, and lose nothing along a lane.
+/// The greatest rows have the initial archive at each place, and lose nothing along a lane but what
+/// its branches taught.
 pub fn greatest_is_carried()
     ensures { GreatestIsCarried }
 {}

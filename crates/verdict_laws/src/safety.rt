@@ -3,7 +3,7 @@
 ghost use Rattle.verdict_laws.specs.FirstUnsafe.{FirstUnsafeIsOne, SafeOrFirstUnsafe};
 ghost use Rattle.verdict_laws.specs.MoreKnown.{SafeUnderMore, GreatestIsAnnotation, GreatestRowsAnnotate};
 
-/// Two instructions that are the first unsafe one are the same lane, place and trap.
+/// Two instructions that are the first unsafe one are the same lane, place and hazard.
 pub fn first_unsafe_is_one()
     ensures { FirstUnsafeIsOne }
 {}

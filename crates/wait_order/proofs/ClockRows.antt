@@ -1,5 +1,5 @@
 -- Rows of clocks, lane by lane.
-use Rattle.std.proofs.Common.{◌≡◌, ℕ, ◌+◌, ◌<◌, ◌==◌, Bool, true, false, ◌||◌, List, [], ◌∷◌, length, map, take, min, Option, Some, None, refl, sym, ap, subst, ◌∙◌, arith, add-one}
+use Rattle.std.proofs.Common.{◌≡◌, ℕ, ◌+◌, ◌<◌, ◌==◌, Bool, true, false, ◌||◌, List, [], ◌∷◌, length, map, take, min, Option, refl, sym, ap, subst, ◌∙◌, arith, add-one}
 use Rattle.std.specs.Prelude.{if◌then◌else◌}
 use Rattle.std.specs.List.{list_any}
 use Rattle.std.proofs.Math.Bool.{or-false}
@@ -16,7 +16,7 @@ use Rattle.wait_order.specs.Column.{count_at, IsIn}
 use Rattle.wait_order.specs.Columns.{column_of, counts_of}
 use Rattle.wait_order.specs.KnownRows.{HasCounts}
 use Rattle.wait_order.specs.Marks.{lane_outputs}
-use Rattle.wait_order.specs.Waits.{last_wait, clock_of}
+use Rattle.wait_order.specs.Points.{last_point, clock_of}
 use Rattle.wait_order.proofs.Numbering.{last-in}
 use Rattle.wait_order.proofs.RowSteps.{variant_of, outputs-made}
 use Rattle.wait_order.proofs.ArchiveRows.{row_same}
@@ -78,18 +78,15 @@ module _ (u : Universe) (p : Plan) where
         → IsRowOf u (so_far (length p)) row
     all_lanes n row end is = subst (λ k. IsRowOf u (so_far k) row) end is
 
-  -- the last wait has a count in each column
-  pub wait_in : (columns : List (List ℕ)) (l i : ℕ) → HasCounts p columns → l < length p
-      → (j : ℕ) → j < length p → IsIn (length (column_of columns j)) (last_wait p l i)
-  wait_in columns l i has lt j j_lt = by (last_wait p l i) refl
-    where
-      by : (o : Option ℕ) → last_wait p l i ≡ o → IsIn (length (column_of columns j)) o
-      by None e = tt
-      by (Some w) e = omega (arith, last-in p l i w lt e, has.each j j_lt)
+  -- the point of a place has a count in each column
+  pub point_in : (columns : List (List ℕ)) (l i : ℕ) → HasCounts p columns → l < length p
+      → (j : ℕ) → j < length p → IsIn (length (column_of columns j)) (last_point p l i)
+  point_in columns l i has lt j j_lt =
+      subst (λ n. IsIn n (last_point p l i)) (sym (has.each j j_lt)) (last-in p l i lt)
 
   -- the clock of a place
   pub clock_is : (columns : List (List ℕ)) (l i own : ℕ) (last : Option ℕ)
-      → own ≡ count_before u p l i → last ≡ last_wait p l i
+      → own ≡ count_before u p l i → last ≡ last_point p l i
       → (λ j. if j == l then own else count_at (counts_of columns j) last)
       ≡ clock_of u p (counts_of columns) l i
   clock_is columns l i own last own_is last_is =

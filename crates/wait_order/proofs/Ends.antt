@@ -6,10 +6,10 @@ use Rattle.std.proofs.lemmas.List.{get_or_past, length-map}
 use Rattle.farm_model.specs.Universe.{Universe}
 use Rattle.farm_model.specs.Packages.{variant, variants, initial}
 use Rattle.farm_laws.proofs.Archive.{or-false}
-use Rattle.farm_laws.proofs.EventsLeft.{drop_some}
+use Rattle.farm_laws.proofs.Branches.{drop_some}
 use Rattle.std.proofs.lemmas.List.Elements.{filter-append}
 use Rattle.plan_model.specs.declared.instructions.Instruction.{Instruction}
-use Rattle.plan_model.specs.declared.instructions.Instruction.TheVariants.{Unpack, Configure, Deconfigure, Remove, Build, Publish, Wait}
+use Rattle.plan_model.specs.declared.instructions.Instruction.TheVariants.{Wait}
 use Rattle.plan_model.specs.Plan.{Lane, Plan, lane}
 use Rattle.plan_model.specs.Order.{Item, items_of, items, Board, start_board, on_board, rest_of, board_after, IsOrder, AreStuck, IsAtRest}
 use Rattle.sat_rows.specs.Rows.{IsRowOf}
@@ -39,14 +39,9 @@ record Blocked (u : Universe) (b : Board) (l : ℕ) (is : List Item) : Type 0 wh
 
 blocked : (u : Universe) (b : Board) (l : ℕ) (t : List ℕ) (x : Instruction) (more : List Item)
     → IsRowOf u (on_board u b) t → Holds u t x → Blocked u b l (items_of u x ++ more)
-blocked u b l t (Unpack name wanted) more row holds = absurd holds
-blocked u b l t (Configure members) more row holds = absurd holds
-blocked u b l t (Deconfigure members) more row holds = absurd holds
-blocked u b l t (Remove members) more row holds = absurd holds
-blocked u b l t (Build r) more row holds = absurd holds
-blocked u b l t (Publish r) more row holds = absurd holds
 blocked u b l t (Wait e) more row holds =
     record { none = rw (holds (on_board u b) row) refl; left = refl }
+blocked u b l t _ more row holds = absurd holds
 
 module _ (u : Universe) (p : Plan) (order t : List ℕ) (ats : List Standing)
     (standing : AreStanding u p ats) (r : IsReached u p order t (left_of u p ats))

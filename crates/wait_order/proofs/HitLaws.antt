@@ -1,13 +1,12 @@
--- The first output that a row has, and the initial variants that satisfy a wait.
+-- The first output that a row has, and the initial variants that a point looks for.
 use Rattle.std.proofs.Common.{◌≡◌, ℕ, zero, suc, ◌<◌, Bool, true, false, nat_lt, List, [], ◌∷◌, length, get_or, Some, None, slice_get, refl, sym, ap, subst, ◌∙◌}
 use Rattle.std.specs.Prelude.{◌↔◌, IsTrue}
 use Rattle.std.proofs.lemmas.Option.{none-some, same_Some, slice_get-get_or, slice_get_within, get_or_from_slice_get}
 use Rattle.std.proofs.lemmas.Bool.{and_parts, and_from, lt-ltb, both_ways}
 use Rattle.bit_rows.specs.Sets.{variants_of, HaveCommon}
-use Rattle.deb_relation.specs.Relations.{Entry}
 use Rattle.farm_model.specs.declared.types.Variant.{Variant}
 use Rattle.farm_model.specs.Universe.{Universe}
-use Rattle.farm_model.specs.Packages.{variant, variants, satisfies_entry, initial}
+use Rattle.farm_model.specs.Packages.{variant, variants, initial}
 use Rattle.farm_model.specs.Sound.{IsKnown, IsUniverse}
 use Rattle.plan_model.specs.Plan.{Plan, lane}
 use Rattle.sat_rows.specs.Rows.{IsRowOf}
@@ -16,7 +15,7 @@ use Rattle.wait_order.specs.declared.marks.Output.{Output}
 use Rattle.wait_order.specs.declared.marks.LaneOutputs.{LaneOutputs}
 use Rattle.wait_order.specs.Marks.{lane_outputs, AreLanes}
 use Rattle.wait_order.specs.ByName.{AreKnownLanes}
-use Rattle.wait_order.specs.Waits.{IsNothing}
+use Rattle.wait_order.specs.Points.{IsNothing}
 use Rattle.wait_order.specs.Hits.{AreKnownOutputs, AreSourcesBelow}
 use Rattle.wait_order.proofs.Sources.{comes_from, start_sources}
 
@@ -38,10 +37,11 @@ pub lanes_known : (u : Universe) (p : Plan) (lanes : List LaneOutputs) → AreLa
 lanes_known u p lanes are sound l of at =
     lane_known u p l of.outputs.items (are.each l of at) sound
 
-module _ (u : Universe) (sound : IsUniverse u) (e : Entry) (archive row : List ℕ) (hit : Bool)
+module _ (u : Universe) (sound : IsUniverse u) (test : Variant → Bool) (archive row : List ℕ)
+    (hit : Bool)
     (common : IsTrue hit ↔ HaveCommon (variants_of archive) (variants_of row))
-    (archive_is : IsRowOf u (initial u) archive) (row_is : IsRowOf u (satisfies_entry u e) row) where
-  met : (c : Variant) → initial u c ≡ true → satisfies_entry u e c ≡ true → hit ≡ true
+    (archive_is : IsRowOf u (initial u) archive) (row_is : IsRowOf u test row) where
+  met : (c : Variant) → initial u c ≡ true → test c ≡ true → hit ≡ true
   met c is sat =
       let known = lt-ltb c.bit (variants u c.name) (sound.initial_known c is) in
       common.1 (
@@ -52,9 +52,9 @@ module _ (u : Universe) (sound : IsUniverse u) (e : Entry) (archive row : List �
       )
 
   pub start_none : (p : Plan) (l i : ℕ) (ss : List Source) → ss ≡ [] → hit ≡ false
-      → AreSourcesBelow u p l i e ss 0
+      → AreSourcesBelow u p l i test ss 0
   start_none p l i ss empty miss =
-      start_sources u p l i e ss (λ c is sat. absurd (both_ways hit miss (met c is sat)))
+      start_sources u p l i test ss (λ c is sat. absurd (both_ways hit miss (met c is sat)))
       (λ k s at. absurd (none-some s (ap (λ xs. slice_get xs k) (sym empty) ∙ at)))
 
   one_source : (s t : Source) (k : ℕ) → slice_get (s ∷ []) k ≡ Some t → s ≡ t
@@ -63,12 +63,12 @@ module _ (u : Universe) (sound : IsUniverse u) (e : Entry) (archive row : List �
 
   pub start_some : (p : Plan) (l i : ℕ) (ss : List Source)
       → ss ≡ record { point = None; lane = 0; count = 0 } ∷ [] → hit ≡ true
-      → AreSourcesBelow u p l i e ss 0
+      → AreSourcesBelow u p l i test ss 0
   start_some p l i ss is here =
-      subst (λ xs. AreSourcesBelow u p l i e xs 0) (sym is)
-      (start_sources u p l i e (zero_source ∷ [])
+      subst (λ xs. AreSourcesBelow u p l i test xs 0) (sym is)
+      (start_sources u p l i test (zero_source ∷ [])
       (λ c _ sat. record { index = 0; source = zero_source; at = refl; count = refl; point = refl })
-      (λ k s at. subst (IsNothing u e) (one_source zero_source s k at) (nothing)))
+      (λ k s at. subst (IsNothing u test) (one_source zero_source s k at) (nothing)))
     where
       zero_source : Source
       zero_source = record { point = None; lane = 0; count = 0 }
@@ -79,12 +79,13 @@ module _ (u : Universe) (sound : IsUniverse u) (e : Entry) (archive row : List �
       v : Variant
       v = variant found.0 found.1
 
-      nothing : IsNothing u e zero_source
+      nothing : IsNothing u test zero_source
       nothing =
           record {
             variant = v;
             is_initial = (and_parts (nat_lt found.1 (variants u found.0)) (initial u v) (sym (archive_is.set found.0 found.1) ∙ found.2)).1;
-            satisfies = (and_parts (nat_lt found.1 (variants u found.0)) (satisfies_entry u e v) (sym (row_is.set found.0 found.1) ∙ found.3)).1;
+            satisfies = (and_parts (nat_lt found.1 (variants u found.0)) (test v)
+                (sym (row_is.set found.0 found.1) ∙ found.3)).1;
             count = refl;
             point = refl;
           }

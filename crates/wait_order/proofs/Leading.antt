@@ -10,7 +10,7 @@ use Rattle.farm_model.specs.declared.types.Variant.{Variant}
 use Rattle.farm_model.specs.Universe.{Universe}
 use Rattle.farm_model.specs.Packages.{names, outputs}
 use Rattle.farm_model.specs.Sound.{IsKnown, IsUniverse}
-use Rattle.farm_laws.proofs.EventsLeft.{drop_some}
+use Rattle.farm_laws.proofs.Branches.{drop_some}
 use Rattle.plan_model.specs.declared.instructions.Instruction.{Instruction}
 use Rattle.plan_model.specs.declared.instructions.Instruction.TheVariants.{Wait}
 use Rattle.plan_model.specs.Plan.{Plan, lane, instruction_at}

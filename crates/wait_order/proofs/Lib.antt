@@ -7,8 +7,11 @@ pub mod Written
 pub mod Ends
 pub mod Falls
 pub mod Numbering
+pub mod Asked
+pub mod Carried
 pub mod Possibly
 pub mod Bounds
+pub mod Growing
 pub mod Linked
 pub mod MarkLaws
 pub mod MarkPlaces

@@ -1,9 +1,9 @@
--- The sources that a wait of a lane may meet, of those of its entry.
+-- The sources that a point of a lane may meet, of those of what it looks for.
 use Rattle.std.proofs.Common.{◌≡◌, inl, inr, ℕ, zero, suc, ◌<◌, ◌≤◌, Bool, true, false, nat_le, cond, List, [], ◌∷◌, length, Some, slice_get, refl, sym, ap, ◌∙◌, arith}
 use Rattle.std.specs.List.{filter}
 use Rattle.std.proofs.lemmas.Option.{none-some, same_Some}
 use Rattle.std.proofs.lemmas.Bool.{cases_eq, cases_lt, eq-eqb, ne_eqb, le-leb, leb-true, false≢true}
-use Rattle.deb_relation.specs.Relations.{Entry}
+use Rattle.farm_model.specs.declared.types.Variant.{Variant}
 use Rattle.farm_model.specs.Universe.{Universe}
 use Rattle.farm_model.specs.Packages.{outputs}
 use Rattle.plan_model.specs.declared.instructions.Instruction.TheVariants.{Publish}
@@ -12,7 +12,7 @@ use Rattle.clock_laws.specs.Clocks.{count_before}
 use Rattle.clock_laws.proofs.Sets.{some_below_length}
 use Rattle.wait_order.specs.declared.column.Source.{Source}
 use Rattle.wait_order.specs.declared.marks.Mark.{Mark}
-use Rattle.wait_order.specs.Waits.{IsSource, AreSources}
+use Rattle.wait_order.specs.Points.{IsSource, AreSources}
 use Rattle.wait_order.specs.Hits.{may_meet}
 use Rattle.wait_order.proofs.Numbering.{count-next, count-mono}
 
@@ -58,7 +58,7 @@ module _ {X : Type 0} (f : X → Bool) where
   there_kept (y ∷ ys) (suc k) x e t =
       there_step (filter f ys) y x (f y) (there_kept ys k x e t)
 
-module _ (u : Universe) (p : Plan) (e : Entry) (mark : Mark) (lt : mark.lane < length p)
+module _ (u : Universe) (p : Plan) (test : Variant → Bool) (mark : Mark) (lt : mark.lane < length p)
     (own : mark.own ≡ count_before u p mark.lane mark.place) where
   meets_own : (s : Source) → s.lane ≡ mark.lane → may_meet mark s ≡ nat_le s.count mark.own
   meets_own s same = rw (eq-eqb s.lane mark.lane same) refl
@@ -82,8 +82,8 @@ module _ (u : Universe) (p : Plan) (e : Entry) (mark : Mark) (lt : mark.lane < l
         absurd (omega (arith, le, here, few, more, own))
   ]
 
-  of_lane : (s : Source) → may_meet mark s ≡ true → IsSource u p (length p) 0 e s
-      → IsSource u p mark.lane mark.place e s
+  of_lane : (s : Source) → may_meet mark s ≡ true → IsSource u p (length p) 0 test s
+      → IsSource u p mark.lane mark.place test s
   of_lane s meets f =
       record {
         place = f.place;
@@ -101,8 +101,8 @@ module _ (u : Universe) (p : Plan) (e : Entry) (mark : Mark) (lt : mark.lane < l
         point = f.point;
       }
 
-  pub met_are : (all : List Source) → AreSources u p (length p) 0 e all
-      → AreSources u p mark.lane mark.place e (filter (may_meet mark) all)
+  pub met_are : (all : List Source) → AreSources u p (length p) 0 test all
+      → AreSources u p mark.lane mark.place test (filter (may_meet mark) all)
   met_are all are =
       record {
         sound = λ k s at.

@@ -1,47 +1,40 @@
--- The numbers of waits.
-use Rattle.std.proofs.Common.{◌≡◌, inl, inr, ℕ, zero, suc, ◌+◌, ◌<◌, ◌≤◌, List, [], ◌∷◌, ◌++◌, length, take, Some, refl, ap, ◌∙◌, arith}
+-- The numbers of points.
+use Rattle.std.proofs.Common.{◌≡◌, inl, inr, ℕ, zero, suc, ◌+◌, ◌<◌, ◌≤◌, List, [], ◌∷◌, ◌++◌, length, take, Option, None, Some, refl, ap, ◌∙◌, arith}
 use Rattle.std.proofs.lemmas.List.{append-nil, length-append}
 use Rattle.std.proofs.lemmas.Grind.{flat_map-append}
-use Rattle.std.proofs.lemmas.Option.{none-some, same_Some}
 use Rattle.std.proofs.lemmas.Bool.{cases_eq}
 use Rattle.farm_model.specs.Below.{sum_below}
 use Rattle.farm_model.specs.Universe.{Universe}
 use Rattle.farm_laws.proofs.Archive.{take_some}
 use Rattle.plan_model.specs.declared.instructions.Instruction.{Instruction}
+use Rattle.plan_model.specs.declared.instructions.Instruction.TheVariants.{Wait, When, Otherwise, EndWhen}
 use Rattle.plan_model.specs.Plan.{Plan, lane, instruction_at, outputs_of}
 use Rattle.clock_laws.specs.Clocks.{made, lane_made, count_before}
-use Rattle.wait_order.specs.Waits.{one_wait, wait_count, waits_before, first_wait, wait_number, last_of, last_wait}
+use Rattle.wait_order.specs.declared.marks.LastPoints.{LastPoints}
+use Rattle.wait_order.specs.Column.{IsIn}
+use Rattle.wait_order.specs.Points.{one_point, point_count, points_before, first_point, point_number, last_after, last_after_some, lasts_at, last_point}
 
-wait_count-append : (xs ys : List Instruction) → wait_count (xs ++ ys) ≡ wait_count xs + wait_count ys
-wait_count-append [] ys = omega arith
-wait_count-append (x ∷ xs) ys = omega (arith, wait_count-append xs ys)
+point_count-append : (xs ys : List Instruction) → point_count (xs ++ ys) ≡ point_count xs +
+    point_count ys
+point_count-append [] ys = omega arith
+point_count-append (x ∷ xs) ys = omega (arith, point_count-append xs ys)
 
-wait_count-take : (i : ℕ) (xs : List Instruction) → wait_count (take i xs) ≤ wait_count xs
-wait_count-take zero xs = omega arith
-wait_count-take (suc i) [] = omega arith
-wait_count-take (suc i) (x ∷ xs) = omega (arith, wait_count-take i xs)
+point_count-take : (i : ℕ) (xs : List Instruction) → point_count (take i xs) ≤ point_count xs
+point_count-take zero xs = omega arith
+point_count-take (suc i) [] = omega arith
+point_count-take (suc i) (x ∷ xs) = omega (arith, point_count-take i xs)
 
-pub waits-next : (p : Plan) (l i : ℕ) (x : Instruction) → instruction_at p l i ≡ Some x
-    → waits_before p l (suc i) ≡ waits_before p l i + one_wait x
-waits-next p l i x at =
-    let e = ap wait_count (take_some (lane p l).instructions i x at) in
-    let f = wait_count-append (take i (lane p l).instructions) (x ∷ []) in omega (arith, e, f)
+pub points-next : (p : Plan) (l i : ℕ) (x : Instruction) → instruction_at p l i ≡ Some x
+    → points_before p l (suc i) ≡ points_before p l i + one_point x
+points-next p l i x at =
+    let e = ap point_count (take_some (lane p l).instructions i x at) in
+    let f = point_count-append (take i (lane p l).instructions) (x ∷ []) in omega (arith, e, f)
 
-pub last-quiet : (p : Plan) (l i : ℕ) (x : Instruction) → instruction_at p l i ≡ Some x
-    → one_wait x ≡ 0 → last_wait p l (suc i) ≡ last_wait p l i
-last-quiet p l i x at none =
-    ap (last_of (first_wait p l)) (let e = waits-next p l i x at in
-    let f : waits_before p l (suc i) ≡ waits_before p l i = omega (arith, e, none) in f)
-
-pub last-wait : (p : Plan) (l i : ℕ) (x : Instruction) → instruction_at p l i ≡ Some x
-    → one_wait x ≡ 1 → last_wait p l (suc i) ≡ Some (wait_number p l i)
-last-wait p l i x at one =
-    ap (last_of (first_wait p l)) (let e = waits-next p l i x at in
-    let f : waits_before p l (suc i) ≡ suc (waits_before p l i) = omega (arith, e, one) in f)
-
-last_of-below : (first k w : ℕ) → last_of first k ≡ Some w → w < first + k
-last_of-below first zero w e = absurd (none-some w e)
-last_of-below first (suc k) w e = let s = same_Some (first + k) w e in omega (arith, s)
+-- one more instruction
+pub lasts-next : (p : Plan) (l i : ℕ) (x : Instruction) → instruction_at p l i ≡ Some x
+    → lasts_at p l (suc i) ≡ last_after x (point_number p l i) (lasts_at p l i)
+lasts-next p l i x at =
+    ap (λ o. last_after_some o (point_number p l i) (lasts_at p l i)) at
 
 sum_below-le : (n l : ℕ) (f : ℕ → ℕ) → l < n → sum_below l f + f l ≤ sum_below n f
 sum_below-le zero l f lt = absurd (omega (arith, lt))
@@ -53,13 +46,40 @@ sum_below-le (suc n) l f lt =
       | inr other ↦ omega (arith, sum_below-le n l f (omega (arith, lt, other)))
     ]
 
-pub last-in : (p : Plan) (l i w : ℕ) → l < length p → last_wait p l i ≡ Some w
-    → w < first_wait p (length p)
-last-in p l i w lt e =
-    let a = last_of-below (first_wait p l) (waits_before p l i) w e in
-    let b = wait_count-take i (lane p l).instructions in
-    let c = sum_below-le (length p) l (λ h. wait_count (lane p h).instructions) lt in
-    omega (arith, a, b, c)
+-- the points of a state are below a number
+record AreIn (n : ℕ) (last : LastPoints) : Type 0 where
+  pub here : IsIn n last.here
+  pub ahead : IsIn n last.ahead
+
+in-after : (x : Instruction) (next n : ℕ) (last : LastPoints) → next + one_point x ≤ n
+    → AreIn n last → AreIn n (last_after x next last)
+in-after (Wait e) next n last le are = record { here = omega (arith, le); ahead = are.ahead }
+in-after (When name wanted) next n last le are =
+    record { here = omega (arith, le); ahead = are.here }
+in-after Otherwise next n last le are = record { here = are.ahead; ahead = are.ahead }
+in-after EndWhen next n last le are = record { here = are.ahead; ahead = are.ahead }
+in-after _ next n last le are = are
+
+lasts-in : (p : Plan) (l n i : ℕ)
+    → first_point p l + point_count (lane p l).instructions ≤ n → AreIn n (lasts_at p l i)
+lasts-in p l n zero le = record { here = tt; ahead = tt }
+lasts-in p l n (suc i) le = by (instruction_at p l i) refl (lasts-in p l n i le)
+  where
+    by : (o : Option Instruction) → instruction_at p l i ≡ o → AreIn n (lasts_at p l i)
+        → AreIn n (last_after_some o (point_number p l i) (lasts_at p l i))
+    by None e are = are
+    by (Some x) e are =
+        in-after x (point_number p l i) n (lasts_at p l i)
+        (let next = points-next p l i x e in
+        let few = point_count-take (suc i) (lane p l).instructions in omega (arith, next, few, le))
+        are
+
+-- the point of a place is one of the plan's
+pub last-in : (p : Plan) (l i : ℕ) → l < length p
+    → IsIn (first_point p (length p)) (last_point p l i)
+last-in p l i lt =
+    (lasts-in p l (first_point p (length p)) i
+    (sum_below-le (length p) l (λ h. point_count (lane p h).instructions) lt)).here
 
 -- outputs before the next place
 pub count-next : (u : Universe) (p : Plan) (l i : ℕ) (x : Instruction)

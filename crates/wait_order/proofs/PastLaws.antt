@@ -9,12 +9,12 @@ use Rattle.plan_model.specs.Plan.{Plan}
 use Rattle.clock_laws.specs.Clocks.{count_before}
 use Rattle.wait_order.specs.declared.marks.Past.{Past}
 use Rattle.wait_order.specs.Marks.{past_at, no_past, ArePast}
-use Rattle.wait_order.specs.Waits.{last_wait}
+use Rattle.wait_order.specs.Points.{last_point}
 use Rattle.wait_order.proofs.MarkPlaces.{split}
 
 -- one more place
 pub past_next : (u : Universe) (p : Plan) (l n : ℕ) (past : List Past) (own : ℕ) (last : Option ℕ)
-    → ArePast u p l n past → own ≡ count_before u p l n → last ≡ last_wait p l n
+    → ArePast u p l n past → own ≡ count_before u p l n → last ≡ last_point p l n
     → ArePast u p l (n + 1) (past ++ record { own = own; last = last } ∷ [])
 past_next u p l n past own last so_far own_is last_is =
     let new : Past = record { own = own; last = last } in

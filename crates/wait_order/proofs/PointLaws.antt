@@ -1,17 +1,20 @@
--- The points of all waits.
-use Rattle.std.proofs.Common.{◌≡◌, inl, inr, ℕ, ◌+◌, ◌<◌, List, ◌∷◌, [], ◌++◌, length, get_or, Some, slice_get, refl, sym, ap, subst, ◌∙◌, arith}
+-- The points of all marks.
+use Rattle.std.proofs.Common.{◌≡◌, inl, inr, ℕ, ◌+◌, ◌<◌, Bool, List, ◌∷◌, [], ◌++◌, length, get_or, Option, Some, slice_get, refl, sym, ap, subst, ◌∙◌, arith}
 use Rattle.std.proofs.lemmas.Option.{same_Some, slice_get-get_or, slice_get_within}
 use Rattle.std.proofs.lemmas.Bool.{cases_eq}
-use Rattle.deb_relation.specs.Relations.{Entry}
+use Rattle.deb_relation.specs.declared.operator.Op.{Op}
+use Rattle.farm_model.specs.declared.types.Variant.{Variant}
 use Rattle.farm_model.specs.Universe.{Universe}
+use Rattle.farm_model.specs.Packages.{names}
 use Rattle.plan_model.specs.declared.instructions.Instruction.{Instruction}
-use Rattle.plan_model.specs.declared.instructions.Instruction.TheVariants.{Wait}
+use Rattle.plan_model.specs.declared.instructions.Instruction.TheVariants.{When}
+use Rattle.plan_model.specs.Sound.{IsSound}
 use Rattle.plan_model.specs.Plan.{Plan, lane, instruction_at}
 use Rattle.clock_laws.specs.Clocks.{count_before}
 use Rattle.wait_order.specs.declared.column.Point.{Point}
 use Rattle.wait_order.specs.declared.marks.Mark.{Mark}
 use Rattle.wait_order.specs.Marks.{all_marks}
-use Rattle.wait_order.specs.Waits.{wait_number, IsPointAt, HasPoint, IsWait, ArePoints}
+use Rattle.wait_order.specs.Points.{asked, point_number, IsPointAt, HasPoint, HasPlace, ArePoints}
 use Rattle.wait_order.specs.Hits.{IsPointOf, HasPointOf}
 use Rattle.wait_order.proofs.MarkLaws.{get-first, get-then, all_marks-long}
 use Rattle.wait_order.proofs.MarkPlaces.{mark_at, in_all, all_back}
@@ -19,26 +22,28 @@ use Rattle.wait_order.proofs.MarkPlaces.{mark_at, in_all, all_back}
 module _ (u : Universe) (p : Plan) (marks : List Mark) (ps : List Point)
     (marks_are : marks ≡ all_marks u p (length p)) (long : length ps ≡ length marks)
     (have : (k : ℕ) (mark : Mark) → slice_get marks k ≡ Some mark → HasPointOf u p ps k mark) where
-  here : (l i : ℕ) (e : Entry) (of : Point) → instruction_at p l i ≡ Some (Wait e)
-      → IsPointOf u p (mark_at u p l i) of → IsPointAt u p l i e of
-  here l i e of at is =
+  here : (l i : ℕ) (x : Instruction) (test : Variant → Bool) (of : Point)
+      → instruction_at p l i ≡ Some x → asked u x ≡ Some test
+      → IsPointOf u p (mark_at u p l i) of → IsPointAt u p l i test of
+  here l i x test of at asks is =
       record {
         lane = is.lane;
         place = is.place;
         own = is.own;
         before = is.before;
-        sources = is.sources e at;
+        sources = is.sources x test at asks;
       }
 
-  each : (l i : ℕ) (e : Entry) → l < length p → instruction_at p l i ≡ Some (Wait e)
-      → HasPoint u p ps l i e
-  each l i e lt at =
+  each : (l i : ℕ) (x : Instruction) (test : Variant → Bool) → l < length p
+      → instruction_at p l i ≡ Some x → asked u x ≡ Some test → HasPoint u p ps l i test
+  each l i x test lt at asks =
       let h =
-      have (wait_number p l i) (mark_at u p l i)
-      (ap (λ ms. slice_get ms (wait_number p l i)) marks_are ∙ in_all u p (length p) l i e lt at) in
-      record { point = h.point; at = h.at; is = here l i e h.point at h.is }
+      have (point_number p l i) (mark_at u p l i)
+      (ap (λ ms. slice_get ms (point_number p l i)) marks_are ∙ in_all u p (length p) l i x test lt
+      at asks) in
+      record { point = h.point; at = h.at; is = here l i x test h.point at asks h.is }
 
-  back : (w : ℕ) (of : Point) → slice_get ps w ≡ Some of → IsWait u p w of
+  back : (w : ℕ) (of : Point) → slice_get ps w ≡ Some of → HasPlace u p w of
   back w of at =
       let lt = slice_get_within ps w of at in
       let mark = get_or marks w (mark_at u p 0 0) in
@@ -49,11 +54,13 @@ module _ (u : Universe) (p : Plan) (marks : List Mark) (ps : List Point)
       record {
         lane = m.in_lane_of;
         place = m.at_place;
-        entry = m.entry;
+        instruction = m.instruction;
+        test = m.asks.test;
         below = m.below;
-        wait = m.wait;
+        there = m.there;
+        asks = m.asks.is;
         number = m.number;
-        is = here m.in_lane_of m.at_place m.entry of m.wait
+        is = here m.in_lane_of m.at_place m.instruction m.asks.test of m.there m.asks.is
             (subst (λ k. IsPointOf u p k of) m.is (subst (IsPointOf u p mark) same h.is));
       }
 
@@ -92,15 +99,28 @@ mark_facts u p marks w d marks_are lt =
     let m = all_back u p (length p) w (get_or marks w d) (ap (λ ms. slice_get ms w) (sym marks_are) ∙ got) in
     subst
     (λ (z : Mark). (z.own ≡ count_before u p z.lane z.place) × (z.lane < length p)
-    × (z.place < length (lane p z.lane).instructions)) (sym m.is)
-    (refl, m.below, slice_get_within (lane p m.in_lane_of).instructions m.at_place (Wait m.entry) m.wait)
+    × (z.place < length (lane p z.lane).instructions)) (sym m.is) (
+      refl,
+      m.below,
+      slice_get_within (lane p m.in_lane_of).instructions m.at_place m.instruction
+          m.there,
+    )
 
--- the entry of the wait that was read
-pub wait_here : (p : Plan) (l i : ℕ) (xs : List Instruction) (x : Instruction) (e f : Entry)
-    → xs ≡ (lane p l).instructions → i < length xs → get_or xs i x ≡ Wait e
-    → instruction_at p l i ≡ Some (Wait f) → e ≡ f
-wait_here p l i xs x e f are lt is at =
-    let read = ap (λ ys. slice_get ys i) are ∙ at in
-    let got = slice_get-get_or xs i x lt in
-    let same : Wait e ≡ Wait f = sym is ∙ same_Some (get_or xs i x) (Wait f) (sym got ∙ read) in
-    cc
+-- the instruction that was read stands at the place
+pub read_here : (p : Plan) (l i : ℕ) (xs : List Instruction) (d x : Instruction)
+    → xs ≡ (lane p l).instructions → i < length xs → get_or xs i d ≡ x
+    → instruction_at p l i ≡ Some x
+read_here p l i xs d x are lt is =
+    ap (λ ys. slice_get ys i) (sym are) ∙ slice_get-get_or xs i d lt ∙ ap Some is
+
+-- what the instruction that was read looks for
+pub asked_here : (u : Universe) (p : Plan) (l i : ℕ) (xs : List Instruction) (d x y : Instruction)
+    (test : Variant → Bool) → xs ≡ (lane p l).instructions → i < length xs → get_or xs i d ≡ x
+    → instruction_at p l i ≡ Some y → asked u y ≡ Some test → asked u x ≡ Some test
+asked_here u p l i xs d x y test are lt is at asks =
+    ap (asked u) (same_Some x y (sym (read_here p l i xs d x are lt is) ∙ at)) ∙ asks
+
+-- a `when` speaks of a known name
+pub when_named : (u : Universe) (p : Plan) (l i name : ℕ) (wanted : Option (Op × List ℕ))
+    → IsSound u p → l < length p → instruction_at p l i ≡ Some (When name wanted) → name < names u
+when_named u p l i name wanted sound lt at = sound.plan.instructions l i (When name wanted) lt at

@@ -8,7 +8,7 @@ use Rattle.farm_model.specs.Packages.{same, contains, initial, outputs}
 use Rattle.farm_model.proofs.BelowLaws.{some_below-at, some_below-found}
 use Rattle.farm_laws.proofs.Archive.{list_any-some, same-true, same-refl}
 use Rattle.plan_model.specs.declared.instructions.Instruction.{Instruction}
-use Rattle.plan_model.specs.declared.instructions.Instruction.TheVariants.{Unpack, Configure, Deconfigure, Remove, Build, Publish, Wait}
+use Rattle.plan_model.specs.declared.instructions.Instruction.TheVariants.{Publish}
 use Rattle.plan_model.specs.Plan.{Plan, lane, instruction_at}
 use Rattle.plan_model.specs.Known.{gives, within_reach, possible}
 use Rattle.plan_model.specs.Sound.{IsSound}
@@ -83,15 +83,10 @@ contained (v ∷ vs) c e =
     ]
 
 given : (u : Universe) (c : Variant) (x : Instruction) → gives u c x ≡ true → Given u c x
-given u c (Unpack name wanted) e = absurd (false≢true e)
-given u c (Configure members) e = absurd (false≢true e)
-given u c (Deconfigure members) e = absurd (false≢true e)
-given u c (Remove members) e = absurd (false≢true e)
-given u c (Build r) e = absurd (false≢true e)
-given u c (Wait entry) e = absurd (false≢true e)
 given u c (Publish r) e =
     let n = contained (outputs u r) c e in
     record { recipe = r; number = n.0; publish = refl; output = n.1 }
+given u c _ e = absurd (false≢true e)
 
 module _ (u : Universe) (p : Plan) (sound : IsSound u p) where
   one_place : (h k r m : ℕ) (c : Variant) → h < length p → instruction_at p h k ≡ Some (Publish r)

@@ -11,7 +11,7 @@ use Rattle.verdict_laws.proofs.Unions.{there}
 use Rattle.clock_laws.specs.Clocks.{made}
 use Rattle.wait_order.specs.declared.marks.Output.{Output}
 use Rattle.wait_order.specs.Marks.{output_with, outputs_at, lane_outputs}
-use Rattle.wait_order.specs.Waits.{last_wait}
+use Rattle.wait_order.specs.Points.{last_point}
 
 abbrev pub variant_of : Output → Variant
 variant_of o = o.variant
@@ -38,8 +38,10 @@ outputs-made u p l zero le = sym (made-none u)
 outputs-made u p l (suc n) le =
     let x = there p l n (omega (arith, le)) in
     ap (λ o. map variant_of (lane_outputs u p l n ++ outputs_at u p l n o)) x.1
-    ∙ map-append variant_of (lane_outputs u p l n) (map (output_with (last_wait p l n)) (outputs_of u x.0))
-    ∙ ap (λ vs. vs ++ map variant_of (map (output_with (last_wait p l n)) (outputs_of u x.0)))
+    ∙ map-append variant_of (lane_outputs u p l n) (map (output_with (last_point p l n))
+    (outputs_of u x.0))
+    ∙ ap (λ vs. vs ++ map variant_of (map (output_with (last_point p l n)) (outputs_of u x.0)))
     (outputs-made u p l n (omega (arith, le)))
-    ∙ ap (λ vs. made u (take n (lane p l).instructions) ++ vs) (map-variant (last_wait p l n) (outputs_of u x.0))
+    ∙ ap (λ vs. made u (take n (lane p l).instructions) ++ vs)
+    (map-variant (last_point p l n) (outputs_of u x.0))
     ∙ sym (made-next u (lane p l).instructions n x.0 x.1)

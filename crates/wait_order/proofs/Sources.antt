@@ -1,13 +1,12 @@
--- The sources of a wait, lane by lane.
-use Rattle.std.proofs.Common.{◌≡◌, ◌⊎◌, inl, inr, ℕ, zero, suc, ◌+◌, ◌<◌, ◌≤◌, true, ◌==◌, nat_lt, List, [], ◌∷◌, ◌++◌, length, map, get_or, Some, slice_get, refl, sym, ap, subst, ◌∙◌, arith}
+-- The sources of a point, lane by lane.
+use Rattle.std.proofs.Common.{◌≡◌, ◌⊎◌, inl, inr, ℕ, zero, suc, ◌+◌, ◌<◌, ◌≤◌, Bool, true, ◌==◌, nat_lt, List, [], ◌∷◌, ◌++◌, length, map, get_or, Some, slice_get, refl, sym, ap, subst, ◌∙◌, arith}
 use Rattle.std.specs.Prelude.{if◌then◌else◌}
 use Rattle.std.proofs.lemmas.Option.{none-some, same_Some, slice_get-get_or, slice_get_within, get_or_from_slice_get}
 use Rattle.std.proofs.lemmas.List.{take_all}
 use Rattle.std.proofs.lemmas.Bool.{cases_eq, cases_lt, and_parts, and_from, lt-ltb, both_ways, eq-eqb, ne_eqb}
-use Rattle.deb_relation.specs.Relations.{Entry}
 use Rattle.farm_model.specs.declared.types.Variant.{Variant}
 use Rattle.farm_model.specs.Universe.{Universe}
-use Rattle.farm_model.specs.Packages.{variants, satisfies_entry, initial, outputs}
+use Rattle.farm_model.specs.Packages.{variants, initial, outputs}
 use Rattle.farm_model.specs.Sound.{IsKnown, IsUniverse}
 use Rattle.plan_model.specs.declared.instructions.Instruction.TheVariants.{Publish}
 use Rattle.plan_model.specs.Plan.{Plan, lane, instruction_at}
@@ -18,7 +17,7 @@ use Rattle.sat_rows.specs.Rows.{IsRowOf}
 use Rattle.wait_order.specs.declared.column.Source.{Source}
 use Rattle.wait_order.specs.declared.marks.Output.{Output}
 use Rattle.wait_order.specs.Marks.{output_with, outputs_at, lane_outputs}
-use Rattle.wait_order.specs.Waits.{last_wait, IsNothing, IsSource, HasNothing, AreSources}
+use Rattle.wait_order.specs.Points.{last_point, IsNothing, IsSource, HasNothing, AreSources}
 use Rattle.wait_order.specs.Hits.{HasNoHit, IsHitSource, IsPushed, AreSourcesBelow}
 use Rattle.wait_order.proofs.Numbering.{count-next, count-mono, count-few}
 use Rattle.wait_order.proofs.MarkLaws.{get-first, get-then, lane_outputs-long}
@@ -33,7 +32,8 @@ slice_get-map f (y ∷ ys) (suc k) x e = slice_get-map f ys k x e
 pub output-get : (u : Universe) (p : Plan) (l n k r m : ℕ) (c : Variant)
     → n ≤ length (lane p l).instructions → k < n → instruction_at p l k ≡ Some (Publish r)
     → slice_get (outputs u r) m ≡ Some c
-    → slice_get (lane_outputs u p l n) (count_before u p l k + m) ≡ Some (output_with (last_wait p l k) c)
+    → slice_get (lane_outputs u p l n) (count_before u p l k + m) ≡ Some
+    (output_with (last_point p l k) c)
 output-get u p l zero k r m c le lt at out = absurd (omega (arith, lt))
 output-get u p l (suc n) k r m c le lt at out =
     elim (cases_eq k n) [
@@ -42,11 +42,11 @@ output-get u p l (suc n) k r m c le lt at out =
           (let a = lane_outputs-long u p l n (omega (arith, le)) in
           let b = ap (count_before u p l) here in omega (arith, a, b))
           ∙ ap (λ o. slice_get (outputs_at u p l n o) m) (ap (instruction_at p l) (sym here) ∙ at)
-          ∙ slice_get-map (output_with (last_wait p l n)) (outputs u r) m c out
-          ∙ ap (λ j. Some (output_with (last_wait p l j) c)) (sym here)
+          ∙ slice_get-map (output_with (last_point p l n)) (outputs u r) m c out
+          ∙ ap (λ j. Some (output_with (last_point p l j) c)) (sym here)
       | inr other ↦
           get-first (lane_outputs u p l n) (outputs_at u p l n (instruction_at p l n)) (count_before u p l k + m)
-          (output_with (last_wait p l k) c)
+          (output_with (last_point p l k) c)
           (output-get u p l n k r m c (omega (arith, le)) (omega (arith, lt, other)) at out)
     ]
 
@@ -58,7 +58,7 @@ pub record ComesFrom (u : Universe) (p : Plan) (l n : ℕ) (o : Output) : Type 0
   pub publish : instruction_at p l place ≡ Some (Publish recipe)
   pub output : slice_get (outputs u recipe) number ≡ Some o.variant
   pub counted : n ≡ count_before u p l place + number
-  pub point : o.point ≡ last_wait p l place
+  pub point : o.point ≡ last_point p l place
 
 module _ (u : Universe) (p : Plan) (h : ℕ) (outs : List Output)
     (outs_are : outs ≡ lane_outputs u p h (length (lane p h).instructions)) where
@@ -76,8 +76,8 @@ module _ (u : Universe) (p : Plan) (h : ℕ) (outs : List Output)
       let k_lt = slice_get_within (lane p h).instructions a.place (Publish a.recipe) a.publish in
       let got =
       output-get u p h (length (lane p h).instructions) a.place a.recipe a.number v (omega arith) k_lt a.publish a.output in
-      let same : o ≡ output_with (last_wait p h a.place) v =
-      same_Some o (output_with (last_wait p h a.place) v)
+      let same : o ≡ output_with (last_point p h a.place) v =
+      same_Some o (output_with (last_point p h a.place) v)
       (sym at ∙ ap (λ os. slice_get os n) outs_are
       ∙ ap (slice_get (lane_outputs u p h (length (lane p h).instructions))) a.counted ∙ got) in
       record {
@@ -90,8 +90,8 @@ module _ (u : Universe) (p : Plan) (h : ℕ) (outs : List Output)
         point = ap (λ (w : Output). w.point) same;
       }
 
-  module _ (sound : IsUniverse u) (l i : ℕ) (e : Entry) (row : List ℕ)
-      (row_is : IsRowOf u (satisfies_entry u e) row) (lt : h < length p) (limit : ℕ)
+  module _ (sound : IsUniverse u) (l i : ℕ) (test : Variant → Bool) (row : List ℕ)
+      (row_is : IsRowOf u test row) (lt : h < length p) (limit : ℕ)
       (limit_is : limit ≡ (if h == l then count_before u p l i else length outs)) where
     known_out : (r m : ℕ) (c : Variant) → slice_get (outputs u r) m ≡ Some c → IsKnown u c
     known_out r m c out =
@@ -104,12 +104,13 @@ module _ (u : Universe) (p : Plan) (h : ℕ) (outs : List Output)
     other-limit : ((h ≡ l) → ⊥) → limit ≡ length outs
     other-limit other = limit_is ∙ (rw (ne_eqb h l other) refl)
 
-    is_source : (s : Source) → IsHitSource row outs limit h s → IsSource u p l i e s
+    is_source : (s : Source) → IsHitSource row outs limit h s → IsSource u p l i test s
     is_source s hit =
         let f = comes_from hit.number hit.output hit.at in
-        let sat = and_parts (nat_lt hit.output.variant.bit (variants u hit.output.variant.name)) (satisfies_entry u e hit.output.variant)
+        let sat = and_parts (nat_lt hit.output.variant.bit (variants u hit.output.variant.name))
+        (test hit.output.variant)
         (sym (row_is.set hit.output.variant.name hit.output.variant.bit) ∙ hit.first.hit hit.output hit.at) in
-        subst (IsSource u p l i e) (sym hit.is) (record {
+        subst (IsSource u p l i test) (sym hit.is) (record {
           place = f.place;
           recipe = f.recipe;
           number = f.number;
@@ -126,7 +127,7 @@ module _ (u : Universe) (p : Plan) (h : ℕ) (outs : List Output)
           point = f.point;
         })
 
-    -- the first hit is no later than any output that satisfies the wait
+    -- the first hit is no later than any output that is looked for
     number_below : (k r m : ℕ) (c : Variant) → instruction_at p h k ≡ Some (Publish r)
         → slice_get (outputs u r) m ≡ Some c → (h ≡ l → k < i) → count_before u p h k + m < limit
     number_below k r m c at out own =
@@ -138,7 +139,7 @@ module _ (u : Universe) (p : Plan) (h : ℕ) (outs : List Output)
         ]
 
     hit_at : (k r m : ℕ) (c : Variant) → instruction_at p h k ≡ Some (Publish r)
-        → slice_get (outputs u r) m ≡ Some c → satisfies_entry u e c ≡ true
+        → slice_get (outputs u r) m ≡ Some c → test c ≡ true
         → (n : ℕ) → HasNoHit row outs n → n ≤ count_before u p h k + m
     hit_at k r m c at out sat n none =
         elim (cases_lt (count_before u p h k + m) n) [
@@ -146,7 +147,8 @@ module _ (u : Universe) (p : Plan) (h : ℕ) (outs : List Output)
               let k_lt = slice_get_within (lane p h).instructions k (Publish r) at in
               let got = ap (λ os. slice_get os (count_before u p h k + m)) outs_are
               ∙ output-get u p h (length (lane p h).instructions) k r m c (omega arith) k_lt at out in
-              let miss = none (count_before u p h k + m) (output_with (last_wait p h k) c) below got in
+              let miss = none (count_before u p h k + m) (output_with (last_point p h k) c) below
+              got in
               let has = row_is.set c.name c.bit ∙ and_from _ _ (lt-ltb c.bit (variants u c.name) (known_out r m c out)) sat in
               absurd (both_ways _ miss has)
           | inr le ↦ le
@@ -162,10 +164,10 @@ module _ (u : Universe) (p : Plan) (h : ℕ) (outs : List Output)
     last-get : (ss : List Source) (s : Source) → slice_get (ss ++ s ∷ []) (length ss) ≡ Some s
     last-get ss s = get-then ss (s ∷ []) (length ss) 0 (omega arith)
 
-    pub pushed : (ss next : List Source) → AreSourcesBelow u p l i e ss h
-        → IsPushed row outs limit h ss next → AreSourcesBelow u p l i e next (h + 1)
+    pub pushed : (ss next : List Source) → AreSourcesBelow u p l i test ss h
+        → IsPushed row outs limit h ss next → AreSourcesBelow u p l i test next (h + 1)
     pushed ss next so_far (inl (none, same)) =
-        subst (λ xs. AreSourcesBelow u p l i e xs (h + 1)) (sym same) (record {
+        subst (λ xs. AreSourcesBelow u p l i test xs (h + 1)) (sym same) (record {
           sound = so_far.sound;
           nothing = so_far.nothing;
           outputs = λ g k r m c g_lt at out sat own. elim (cases_eq g h) [
@@ -180,10 +182,10 @@ module _ (u : Universe) (p : Plan) (h : ℕ) (outs : List Output)
           ];
         })
     pushed ss next so_far (inr (s, hit, same)) =
-        subst (λ xs. AreSourcesBelow u p l i e xs (h + 1)) (sym same) (record {
+        subst (λ xs. AreSourcesBelow u p l i test xs (h + 1)) (sym same) (record {
           sound = λ k t at. elim (push-get ss s k t at) [
             | inl old ↦ so_far.sound k t old
-            | inr new ↦ inr (subst (IsSource u p l i e) new (is_source s hit))
+            | inr new ↦ inr (subst (IsSource u p l i test) new (is_source s hit))
           ];
           nothing = λ c is sat.
               let z = so_far.nothing c is sat in
@@ -221,21 +223,21 @@ module _ (u : Universe) (p : Plan) (h : ℕ) (outs : List Output)
           ];
         })
 
-pub all_sources : (u : Universe) (p : Plan) (l i n : ℕ) (e : Entry) (ss : List Source)
-    → length p ≤ n → AreSourcesBelow u p l i e ss n → AreSources u p l i e ss
-all_sources u p l i n e ss le below =
+pub all_sources : (u : Universe) (p : Plan) (l i n : ℕ) (test : Variant → Bool) (ss : List Source)
+    → length p ≤ n → AreSourcesBelow u p l i test ss n → AreSources u p l i test ss
+all_sources u p l i n test ss le below =
     record {
       sound = below.sound;
       nothing = below.nothing;
       outputs = λ h k r m c lt at out sat own. below.outputs h k r m c (omega (arith, lt, le)) at out sat own;
     }
 
--- with an initial variant that satisfies the wait nothing is known
-pub start_sources : (u : Universe) (p : Plan) (l i : ℕ) (e : Entry) (ss : List Source)
-    → ((c : Variant) → initial u c ≡ true → satisfies_entry u e c ≡ true → HasNothing ss)
-    → ((k : ℕ) (s : Source) → slice_get ss k ≡ Some s → IsNothing u e s)
-    → AreSourcesBelow u p l i e ss 0
-start_sources u p l i e ss nothing sound =
+-- with an initial variant that is looked for nothing is known
+pub start_sources : (u : Universe) (p : Plan) (l i : ℕ) (test : Variant → Bool) (ss : List Source)
+    → ((c : Variant) → initial u c ≡ true → test c ≡ true → HasNothing ss)
+    → ((k : ℕ) (s : Source) → slice_get ss k ≡ Some s → IsNothing u test s)
+    → AreSourcesBelow u p l i test ss 0
+start_sources u p l i test ss nothing sound =
     record {
       sound = λ k s at. inl (sound k s at);
       nothing = nothing;

@@ -20,12 +20,12 @@ use Rattle.wait_order.specs.ByName.{IsOutput}
 use Rattle.wait_order.specs.Column.{count_at, IsIn}
 use Rattle.wait_order.specs.Columns.{column_of, counts_of}
 
--- of its own lane the outputs made, of another those that its last wait knows
+-- of its own lane the outputs made, of another those that its last point knows
 abbrev pub count_of : Clock → ℕ → ℕ
 count_of clock j =
     if j == clock.lane then clock.own else count_at (counts_of clock.columns.now j) clock.last
 
--- the last wait has a count of each of so many lanes
+-- the last point has a count of each of so many lanes
 pub record IsClockFor (lanes : ℕ) (clock : Clock) : Type 0 where
   pub long : length clock.columns.now ≡ lanes
   pub there : (j : ℕ) → j < lanes → IsIn (length (column_of clock.columns.now j)) clock.last

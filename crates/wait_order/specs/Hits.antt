@@ -1,4 +1,4 @@
--- The first output of a lane that a row has, and the sources of a wait so far.
+-- The first output of a lane that a row has, and the sources of a point so far.
 use Rattle.std.specs.Prelude.{◌≡◌, ◌⊎◌, ℕ, suc, ◌+◌, ◌<◌, ◌≤◌, Bool, true, false, ◌==◌, nat_le, List, [], ◌∷◌, ◌++◌, length, Some, slice_get, if◌then◌else◌}
 use Rattle.bit_rows.specs.Sets.{variants_of}
 use Rattle.deb_relation.specs.Relations.{Entry}
@@ -6,7 +6,8 @@ use Rattle.farm_model.specs.declared.types.Variant.{Variant}
 use Rattle.farm_model.specs.Universe.{Universe}
 use Rattle.farm_model.specs.Packages.{satisfies_entry, initial, outputs}
 use Rattle.farm_model.specs.Sound.{IsKnown}
-use Rattle.plan_model.specs.declared.instructions.Instruction.TheVariants.{Publish, Wait}
+use Rattle.plan_model.specs.declared.instructions.Instruction.{Instruction}
+use Rattle.plan_model.specs.declared.instructions.Instruction.TheVariants.{Publish}
 use Rattle.plan_model.specs.Plan.{Plan, instruction_at}
 use Rattle.clock_laws.specs.Clocks.{count_before}
 use Rattle.wait_order.specs.declared.column.Source.{Source}
@@ -14,7 +15,7 @@ use Rattle.wait_order.specs.declared.column.Sources.{Sources}
 use Rattle.wait_order.specs.declared.column.Point.{Point}
 use Rattle.wait_order.specs.declared.marks.Mark.{Mark}
 use Rattle.wait_order.specs.declared.marks.Output.{Output}
-use Rattle.wait_order.specs.Waits.{IsNothing, IsSource, HasNothing, HasFirst, AreSources}
+use Rattle.wait_order.specs.Points.{asked, IsNothing, IsSource, HasNothing, HasFirst, AreSources}
 
 -- the row has none of the first n outputs
 abbrev pub HasNoHit : List ℕ → List Output → ℕ → Type 0
@@ -52,24 +53,25 @@ IsPushed row outs limit l ss next =
     (HasNoHit row outs limit × (next ≡ ss))
     ⊎ ((s : Source) × IsHitSource row outs limit l s × (next ≡ ss ++ s ∷ []))
 
--- the sources of a wait in the lanes below n
-pub record AreSourcesBelow (u : Universe) (p : Plan) (l i : ℕ) (e : Entry) (ss : List Source)
-    (n : ℕ) : Type 0 where
+-- the sources of a point in the lanes below n
+pub record AreSourcesBelow (u : Universe) (p : Plan) (l i : ℕ) (test : Variant → Bool)
+    (ss : List Source) (n : ℕ) : Type 0 where
   pub sound : (k : ℕ) (s : Source) → slice_get ss k ≡ Some s
-      → IsNothing u e s ⊎ IsSource u p l i e s
-  pub nothing : (c : Variant) → initial u c ≡ true → satisfies_entry u e c ≡ true → HasNothing ss
+      → IsNothing u test s ⊎ IsSource u p l i test s
+  pub nothing : (c : Variant) → initial u c ≡ true → test c ≡ true → HasNothing ss
   pub outputs : (h k r m : ℕ) (c : Variant) → h < n → instruction_at p h k ≡ Some (Publish r)
-      → slice_get (outputs u r) m ≡ Some c → satisfies_entry u e c ≡ true → (h ≡ l → k < i)
-      → HasFirst u p l i e ss h (count_before u p h k + suc m)
+      → slice_get (outputs u r) m ≡ Some c → test c ≡ true → (h ≡ l → k < i)
+      → HasFirst u p l i test ss h (count_before u p h k + suc m)
 
--- the wait as a point
+-- the point of a mark
 pub record IsPointOf (u : Universe) (p : Plan) (mark : Mark) (of : Point) : Type 0 where
   pub lane : of.lane ≡ mark.lane
   pub place : of.place ≡ mark.place
   pub own : of.own ≡ mark.own
   pub before : of.before ≡ mark.before
-  pub sources : (e : Entry) → instruction_at p mark.lane mark.place ≡ Some (Wait e)
-      → AreSources u p mark.lane mark.place e of.sources.items
+  pub sources : (x : Instruction) (test : Variant → Bool)
+      → instruction_at p mark.lane mark.place ≡ Some x → asked u x ≡ Some test
+      → AreSources u p mark.lane mark.place test of.sources.items
 
 pub record HasPointOf (u : Universe) (p : Plan) (ps : List Point) (k : ℕ) (mark : Mark)
     : Type 0 where
@@ -77,10 +79,10 @@ pub record HasPointOf (u : Universe) (p : Plan) (ps : List Point) (k : ℕ) (mar
   pub at : slice_get ps k ≡ Some point
   pub is : IsPointOf u p mark point
 
--- of its own lane a wait may meet an output before it alone
+-- of its own lane a point may meet an output before it alone
 abbrev pub may_meet : Mark → Source → Bool
 may_meet mark s = if s.lane == mark.lane then nat_le s.count mark.own else true
 
--- the sources of a wait in no lane of the plan
+-- the sources of an entry, for a wait in no lane of the plan
 abbrev pub AreEntrySources : Universe → Plan → Entry → Sources → Type 0
-AreEntrySources u p e ss = AreSources u p (length p) 0 e ss.sources.items
+AreEntrySources u p e ss = AreSources u p (length p) 0 (satisfies_entry u e) ss.sources.items

@@ -2,7 +2,7 @@ pub mod KnownRows
 pub mod Standing
 pub mod Answer
 pub mod Column
-pub mod Waits
+pub mod Points
 pub mod Marks
 pub mod Hits
 pub mod ByName

@@ -1,35 +1,33 @@
--- The waits of a plan as a list, lane by lane, and the outputs of a lane with the last wait before
--- each. The project's own rules. Parameters: u a universe, p a plan, l a lane, i a place.
+-- The points of a plan as a list, lane by lane, and the outputs of a lane, each with the point
+-- whose counts hold at its publish. The project's own rules. Parameters: u a universe, p a plan, l
+-- a lane, i a place.
 use Rattle.std.specs.Prelude.{◌≡◌, ℕ, zero, suc, ◌<◌, List, [], ◌∷◌, ◌++◌, length, map, Option, Some, None, slice_get, slice_index_or}
 use Rattle.farm_model.specs.declared.types.Variant.{Variant}
 use Rattle.farm_model.specs.Universe.{Universe}
 use Rattle.plan_model.specs.declared.instructions.Instruction.{Instruction}
-use Rattle.plan_model.specs.declared.instructions.Instruction.TheVariants.{Wait}
+use Rattle.plan_model.specs.declared.instructions.Instruction.TheVariants.{Wait, When}
 use Rattle.plan_model.specs.Plan.{Plan, lane, instruction_at, outputs_of}
 use Rattle.clock_laws.specs.Clocks.{count_before}
 use Rattle.wait_order.specs.declared.marks.Mark.{Mark}
 use Rattle.wait_order.specs.declared.marks.Output.{Output}
 use Rattle.wait_order.specs.declared.marks.Past.{Past}
 use Rattle.wait_order.specs.declared.marks.LaneOutputs.{LaneOutputs}
-use Rattle.wait_order.specs.Waits.{last_wait}
+use Rattle.wait_order.specs.Points.{last_point}
 
 abbrev pub output_with : Option ℕ → Variant → Output
 output_with point v = record { variant = v; point = point }
 
--- the last wait behind an instruction, where the next wait has this number
-abbrev pub last_after : Instruction → ℕ → Option ℕ → Option ℕ
-last_after (Wait e) next last = Some next
-last_after _ next last = last
-
 abbrev pub marks_of : Instruction → ℕ → ℕ → ℕ → Option ℕ → List Mark
 marks_of (Wait e) l i own last = record { lane = l; place = i; own = own; before = last } ∷ []
+marks_of (When name wanted) l i own last =
+    record { lane = l; place = i; own = own; before = last } ∷ []
 marks_of _ l i own last = []
 
 abbrev pub marks_at : Universe → Plan → ℕ → ℕ → Option Instruction → List Mark
 marks_at u p l i None = []
-marks_at u p l i (Some x) = marks_of x l i (count_before u p l i) (last_wait p l i)
+marks_at u p l i (Some x) = marks_of x l i (count_before u p l i) (last_point p l i)
 
--- the waits of a lane before a place
+-- the points of a lane before a place
 abbrev pub lane_marks : Universe → Plan → ℕ → ℕ → List Mark
 lane_marks u p l zero = []
 lane_marks u p l (suc i) = lane_marks u p l i ++ marks_at u p l i (instruction_at p l i)
@@ -41,7 +39,7 @@ all_marks u p (suc l) = all_marks u p l ++ lane_marks u p l (length (lane p l).i
 
 abbrev pub outputs_at : Universe → Plan → ℕ → ℕ → Option Instruction → List Output
 outputs_at u p l i None = []
-outputs_at u p l i (Some x) = map (output_with (last_wait p l i)) (outputs_of u x)
+outputs_at u p l i (Some x) = map (output_with (last_point p l i)) (outputs_of u x)
 
 -- the outputs of a lane before a place
 abbrev pub lane_outputs : Universe → Plan → ℕ → ℕ → List Output
@@ -56,7 +54,7 @@ pub record AreLanes (u : Universe) (p : Plan) (lanes : List LaneOutputs) : Type 
 
 -- what lane l has behind it at place i
 abbrev pub past_at : Universe → Plan → ℕ → ℕ → Past
-past_at u p l i = record { own = count_before u p l i; last = last_wait p l i }
+past_at u p l i = record { own = count_before u p l i; last = last_point p l i }
 
 -- what is read past the last place
 abbrev pub no_past : Past

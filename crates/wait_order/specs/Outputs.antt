@@ -2,7 +2,7 @@
 -- universe, p a plan, lanes the outputs of each lane, lists their places by name.
 --
 --   PlanOutputs     the universe and the plan that they are about
---   AreTotals       as a wait would have them that knows all outputs
+--   AreTotals       as a point would have them that knows all outputs
 --   AreOutputs      what is kept of them
 use Rattle.std.specs.Prelude.{◌≡◌, ℕ, ◌<◌, List, [], ◌∷◌, length}
 use Rattle.farm_model.specs.Universe.{Universe}

@@ -22,7 +22,7 @@ use farm_universe::Universe;
 use std::alloc::{AllocError, Global};
 
 /// How many outputs of each lane count at a place of a lane: of its own the `own` ones that it made,
-/// of each other lane those that its last wait has in `columns`.
+/// of each other lane those that its last point has in `columns`.
 #[derive(Clone, Copy, Debug)]
 pub struct Clock<'k> {
     pub lane: usize,

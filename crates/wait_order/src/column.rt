@@ -1,4 +1,4 @@
-//! How many outputs of one lane each wait knows: the greatest counts, by rounds over the waits.
+//! How many outputs of one lane each point knows: the greatest counts, by rounds over the points.
 
 ghost use Rattle.std.specs.Prelude.{◌≡◌, ℕ, ◌<◌, ◌≤◌, length, All, Some, slice_get, slice_index, true, false, IfOk};
 ghost use Rattle.std.specs.List.{sum};
@@ -8,8 +8,8 @@ ghost use Rattle.wait_order.specs.Column.{of_list, IsIn, ArePlaced, IsPlaced, Ar
 
 use std::alloc::{AllocError, Global};
 
-/// An output that satisfies a wait: the last wait before its publish, its lane, and its number
-/// there, from 1.
+/// An output that a point looks for: the point whose counts hold at its publish, its lane, and its
+/// number there, from 1.
 #[derive(Clone, Copy, Debug)]
 pub struct Source {
     pub point: Option<usize>,
@@ -23,8 +23,8 @@ pub struct Sources {
     pub sources: Vec<Source>,
 }
 
-/// A wait: its lane and place, the outputs of the lane before it, the wait before it, and what
-/// satisfies it.
+/// A wait or a `when`: its lane and place, the outputs of the lane before it, the point whose
+/// counts hold ahead of it, and the outputs that it looks for.
 #[derive(Debug, Drop)]
 pub struct Point {
     pub lane: usize,
@@ -34,7 +34,7 @@ pub struct Point {
     pub sources: Vec<Source>,
 }
 
-/// What the wait before knows, or 0 where there is none.
+/// What a point knows, or 0 where there is none.
 pub fn count_at(x: &[u64], point: Option<usize>) -> u64
     requires { IsIn (length x.now) point }
     ensures { result ≡ spec.count_at (of_list x.now) point }
@@ -79,7 +79,7 @@ fn bound(lane: usize, total: u64, x: &[u64], p: &Point) -> u64
     }
 }
 
-/// Takes the count of a wait down to what it may know, and tells whether it was more.
+/// Takes the count of a point down to what it may know, and tells whether it was more.
 fn tighten(lane: usize, total: u64, points: &[Point], x: &mut [u64], w: usize) -> bool
     requires placed { ArePointsIn (length x.old) points.now }
     requires long { length x.old ≡ length points.now }
@@ -117,7 +117,7 @@ fn round(lane: usize, total: u64, points: &[Point], x: &mut [u64]) -> bool
 }
 
 /// The greatest counts of the outputs of one lane, of which there are `total`. `visit` is the order
-/// of the first look at the waits: it decides the time and not the answer.
+/// of the first look at the points: it decides the time and not the answer.
 pub fn column(
     alloc: Global,
     lane: usize,

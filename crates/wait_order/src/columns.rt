@@ -13,7 +13,7 @@ use plan_asm::Plan;
 use std::alloc::{AllocError, Global};
 use std::marker::Model;
 
-/// How many outputs of one lane each wait knows.
+/// How many outputs of one lane each point knows.
 #[derive(Debug, Drop)]
 pub struct Counts {
     counts: Vec<u64>,
@@ -28,7 +28,7 @@ impl Model for Counts {
 }
 
 impl Counts {
-    /// The count of one wait.
+    /// The count of one point.
     pub fn one(alloc: Global, count: u64) -> Result<Counts, AllocError>
         ensures { IfOk result (λ counts. counts ≡ count ∷ []) }
     {
@@ -37,12 +37,12 @@ impl Counts {
         })
     }
 
-    /// What a wait knows, or 0 where there is none.
-    pub fn at(&self, wait: Option<usize>) -> u64
-        requires { IsIn (length self.now) wait }
-        ensures { result ≡ spec.count_at (of_list self.now) wait }
+    /// What a point knows, or 0 where there is none.
+    pub fn at(&self, point: Option<usize>) -> u64
+        requires { IsIn (length self.now) point }
+        ensures { result ≡ spec.count_at (of_list self.now) point }
     {
-        count_at(&self.counts, wait)
+        count_at(&self.counts, point)
     }
 }
 

@@ -30,7 +30,7 @@ pub trait KnownWords {
 
 /// What each lane of a plan knows of the archive at each place: the variants that are there whenever
 /// it stands there. A place is a number of instructions done. Kept is how many outputs of each lane
-/// each wait knows. A contract sees the universe, the plan and these counts.
+/// each wait and `when` knows. A contract sees the universe, the plan and these counts.
 #[derive(Drop)]
 pub struct Known {
     outputs: Outputs,
@@ -53,7 +53,7 @@ impl Model for Known {
 }
 
 impl Known {
-    /// Puts the outputs of a plan and what each wait knows of them together.
+    /// Puts the outputs of a plan and what each wait and `when` knows of them together.
     pub(crate) fn new(outputs: Outputs, columns: Vec<Counts>) -> Known
         requires { HasCounts outputs.plan columns.items }
         ensures { result ≡ record {

@@ -1,16 +1,19 @@
-//! The waits of a plan by number, and the outputs of its lanes, each with the last wait before it.
+//! The points of a plan, its waits and its `when`s, by number, and the outputs of its lanes, each
+//! with the point whose counts hold at its publish.
 
 ghost use Rattle.std.specs.Prelude.{◌≡◌, ◌<◌, ◌+◌, ◌++◌, suc, length, map, IfOk, OnOk};
 ghost use Rattle.farm_model.specs.Packages.{outputs};
 ghost use Rattle.plan_model.specs.Plan.{lane, outputs_of};
-ghost use Rattle.wait_order.specs.Marks.{output_with, last_after, marks_of, all_marks, lane_outputs, AreLanes, ArePast, HavePast};
+ghost use Rattle.wait_order.specs.Points.{last_after};
+ghost use Rattle.wait_order.specs.Marks.{output_with, marks_of, all_marks, lane_outputs, AreLanes, ArePast, HavePast};
 
 use farm_model::Variant;
 use farm_universe::Universe;
 use plan_asm::{Instruction, Plan};
 use std::alloc::{AllocError, Global};
 
-/// A wait: its lane and place, how many outputs the lane has before it, and the wait before it.
+/// A wait or a `when`: its lane and place, how many outputs the lane has before it, and the point
+/// whose counts hold there.
 #[derive(Clone, Copy, Debug)]
 pub struct Mark {
     pub lane: usize,
@@ -19,14 +22,21 @@ pub struct Mark {
     pub before: Option<usize>,
 }
 
-/// An output of a lane, and the number of the lane's last wait before its publish.
+/// An output of a lane, and the number of the point whose counts hold at its publish.
 #[derive(Clone, Copy, Debug)]
 pub struct Output {
     pub variant: Variant,
     pub point: Option<usize>,
 }
 
-/// What a lane has behind it at a place: how many outputs it made, and its last wait.
+/// The points whose counts hold at a place, and ahead of the `when` that is open there.
+#[derive(Clone, Copy, Debug)]
+pub struct LastPoints {
+    pub here: Option<usize>,
+    pub ahead: Option<usize>,
+}
+
+/// What a lane has behind it at a place: how many outputs it made, and the point whose counts hold.
 #[derive(Clone, Copy, Debug)]
 pub struct Past {
     pub own: usize,
@@ -40,10 +50,10 @@ pub struct LaneOutputs {
     pub past: Vec<Past>,
 }
 
-/// The waits of a plan, lane by lane, and the outputs of each lane.
+/// The points of a plan, lane by lane, and the outputs of each lane.
 #[derive(Debug, Drop)]
 pub struct Marks {
-    pub waits: Vec<Mark>,
+    pub marks: Vec<Mark>,
     pub lanes: Vec<LaneOutputs>,
 }
 
@@ -67,59 +77,120 @@ fn push_outputs(
     Ok(())
 }
 
-/// Goes past one instruction of a lane.
-pub fn pass(
-    universe: &Universe,
-    number: usize,
-    place: usize,
-    instruction: &Instruction,
-    last: &mut Option<usize>,
-    waits: &mut Vec<Mark>,
-    outputs: &mut Vec<Output>,
-) -> Result<(), AllocError>
-    ensures last { OnOk result
-        (last.new ≡ last_after instruction.now (length waits.old.items) last.old) }
-    ensures waits { OnOk result (waits.new.items ≡ waits.old.items
-        ++ marks_of instruction.now number place (length outputs.old.items) last.old) }
-    ensures outputs { OnOk result (outputs.new.items ≡ outputs.old.items
-        ++ map (output_with last.old) (outputs_of universe.now instruction.now)) }
+/// Puts a point behind the others, if the instruction is one.
+fn push_mark(instruction: &Instruction, mark: Mark, marks: &mut Vec<Mark>) -> Result<(), AllocError>
+    ensures { OnOk result (marks.new.items ≡ marks.old.items
+        ++ marks_of instruction.now mark.lane mark.place mark.own mark.before) }
 {
     match instruction {
-        Instruction::Wait(_) => {
-            let wait = waits.len();
-            waits.push(Mark {
-                lane: number,
-                place,
-                own: outputs.len(),
-                before: *last,
-            })?;
-            *last = Some(wait);
-            Ok(())
-        }
-        Instruction::Publish(recipe) => {
-            push_outputs(universe, *recipe, *last, outputs)?;
+        Instruction::Wait(_) | Instruction::When { .. } => {
+            marks.push(mark)?;
             Ok(())
         }
         Instruction::Unpack { .. }
         | Instruction::Configure(_)
         | Instruction::Deconfigure(_)
         | Instruction::Remove(_)
-        | Instruction::Build(_) => Ok(()),
+        | Instruction::Build(_)
+        | Instruction::Publish(_)
+        | Instruction::Otherwise
+        | Instruction::EndWhen => Ok(()),
     }
 }
 
-/// Goes over a lane: its waits are put behind those of the lanes before it.
+/// Puts the outputs of an instruction behind the others, if it is a publish.
+fn push_made(
+    universe: &Universe,
+    instruction: &Instruction,
+    point: Option<usize>,
+    found: &mut Vec<Output>,
+) -> Result<(), AllocError>
+    ensures { OnOk result (found.new.items ≡ found.old.items
+        ++ map (output_with point) (outputs_of universe.now instruction.now)) }
+{
+    match instruction {
+        Instruction::Publish(recipe) => push_outputs(universe, *recipe, point, found),
+        Instruction::Unpack { .. }
+        | Instruction::Configure(_)
+        | Instruction::Deconfigure(_)
+        | Instruction::Remove(_)
+        | Instruction::Build(_)
+        | Instruction::Wait(_)
+        | Instruction::When { .. }
+        | Instruction::Otherwise
+        | Instruction::EndWhen => Ok(()),
+    }
+}
+
+/// The points behind an instruction, where the next point has this number. What a `when` looks for
+/// counts in its first branch alone: behind it lies what counted ahead of the `when`.
+fn behind(instruction: &Instruction, next: usize, last: LastPoints) -> LastPoints
+    ensures { result ≡ last_after instruction.now next last }
+{
+    match instruction {
+        Instruction::Wait(_) => LastPoints {
+            here: Some(next),
+            ahead: last.ahead,
+        },
+        Instruction::When { .. } => LastPoints {
+            here: Some(next),
+            ahead: last.here,
+        },
+        Instruction::Otherwise | Instruction::EndWhen => LastPoints {
+            here: last.ahead,
+            ahead: last.ahead,
+        },
+        Instruction::Unpack { .. }
+        | Instruction::Configure(_)
+        | Instruction::Deconfigure(_)
+        | Instruction::Remove(_)
+        | Instruction::Build(_)
+        | Instruction::Publish(_) => last,
+    }
+}
+
+/// Goes past one instruction of a lane.
+pub fn pass(
+    universe: &Universe,
+    number: usize,
+    place: usize,
+    instruction: &Instruction,
+    last: &mut LastPoints,
+    marks: &mut Vec<Mark>,
+    outputs: &mut Vec<Output>,
+) -> Result<(), AllocError>
+    ensures last { OnOk result
+        (last.new ≡ last_after instruction.now (length marks.old.items) last.old) }
+    ensures marks { OnOk result (marks.new.items ≡ marks.old.items
+        ++ marks_of instruction.now number place (length outputs.old.items) last.old.here) }
+    ensures outputs { OnOk result (outputs.new.items ≡ outputs.old.items
+        ++ map (output_with last.old.here) (outputs_of universe.now instruction.now)) }
+{
+    let next = marks.len();
+    let mark = Mark {
+        lane: number,
+        place,
+        own: outputs.len(),
+        before: last.here,
+    };
+    push_mark(instruction, mark, marks)?;
+    push_made(universe, instruction, last.here, outputs)?;
+    *last = behind(instruction, next, *last);
+    Ok(())
+}
+
+/// Goes over a lane: its points are put behind those of the lanes before it.
 fn walk_lane(
     alloc: Global,
     universe: &Universe,
     plan: &Plan,
     number: usize,
-    waits: &mut Vec<Mark>,
+    marks: &mut Vec<Mark>,
 ) -> Result<LaneOutputs, AllocError>
     requires lane { number < length plan.now.lanes }
-    requires waits { waits.old.items ≡ all_marks universe.now plan.now.lanes number }
-    ensures waits { OnOk result
-        (waits.new.items ≡ all_marks universe.now plan.now.lanes (number + 1)) }
+    requires marks { marks.old.items ≡ all_marks universe.now plan.now.lanes number }
+    ensures marks { OnOk result
+        (marks.new.items ≡ all_marks universe.now plan.now.lanes (number + 1)) }
     ensures outputs { IfOk result (λ found. found.outputs.items
         ≡ lane_outputs universe.now plan.now.lanes number
         (length (lane plan.now.lanes number).instructions)) }
@@ -129,11 +200,14 @@ fn walk_lane(
     let instructions = plan.lane(number).instructions();
     let mut outputs = Vec::new(alloc);
     let mut past = Vec::new(alloc);
-    let mut last = None;
+    let mut last = LastPoints {
+        here: None,
+        ahead: None,
+    };
     for place in 0..instructions.len() {
         past.push(Past {
             own: outputs.len(),
-            last,
+            last: last.here,
         })?;
         pass(
             universe,
@@ -141,28 +215,28 @@ fn walk_lane(
             place,
             &instructions[place],
             &mut last,
-            waits,
+            marks,
             &mut outputs,
         )?;
     }
     past.push(Past {
         own: outputs.len(),
-        last,
+        last: last.here,
     })?;
     Ok(LaneOutputs { outputs, past })
 }
 
 /// Goes over all lanes.
 pub fn walk(alloc: Global, universe: &Universe, plan: &Plan) -> Result<Marks, AllocError>
-    ensures waits { IfOk result (λ found. found.waits.items
+    ensures marks { IfOk result (λ found. found.marks.items
         ≡ all_marks universe.now plan.now.lanes (length plan.now.lanes)) }
     ensures lanes { IfOk result (λ found. AreLanes universe.now plan.now.lanes found.lanes.items) }
     ensures past { IfOk result (λ found. HavePast universe.now plan.now.lanes found.lanes.items) }
 {
-    let mut waits = Vec::new(alloc);
+    let mut marks = Vec::new(alloc);
     let mut lanes = Vec::new(alloc);
     for number in 0..plan.lanes() {
-        lanes.push(walk_lane(alloc, universe, plan, number, &mut waits)?)?;
+        lanes.push(walk_lane(alloc, universe, plan, number, &mut marks)?)?;
     }
-    Ok(Marks { waits, lanes })
+    Ok(Marks { marks, lanes })
 }

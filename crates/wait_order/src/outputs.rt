@@ -46,7 +46,7 @@ impl Model for Outputs {
         outputs.lanes.items outputs.by_name outputs.totals.items };
 }
 
-/// For each lane one count, of all its outputs: that of a wait that knows all of them.
+/// For each lane one count, of all its outputs: that of a point that knows all of them.
 fn totals(
     alloc: Global,
     _universe: &Universe,

@@ -1,15 +1,18 @@
-//! The waits of a plan as points of the columns: each with the outputs that satisfy it.
+//! The waits and `when`s of a plan as points of the columns, each with the outputs that it looks
+//! for.
 
-ghost use Rattle.std.specs.Prelude.{◌≡◌, ℕ, ◌<◌, ◌≤◌, ◌++◌, ◌∷◌, [], length, Some, slice_get, if◌then◌else◌, IsNone, IfSome, IfOk, OnOk};
+ghost use Rattle.std.specs.Prelude.{◌≡◌, ℕ, Bool, ◌<◌, ◌≤◌, ◌++◌, ◌∷◌, [], length, Some, slice_get, if◌then◌else◌, IsNone, IfSome, IfOk, OnOk};
 ghost use Rattle.std.specs.List.{filter};
+ghost use Rattle.farm_model.specs.declared.types.Variant.{Variant};
 ghost use Rattle.farm_model.specs.Packages.{names, initial, satisfies_entry};
 ghost use Rattle.farm_model.specs.Sound.{IsUniverse};
 ghost use Rattle.plan_model.specs.Plan as model;
 ghost use Rattle.plan_model.specs.Plan.{lane};
+ghost use Rattle.plan_model.specs.Known.{is_of};
 ghost use Rattle.plan_model.specs.Sound.{IsSound};
 ghost use Rattle.clock_laws.specs.Clocks.{count_before};
 ghost use Rattle.sat_rows.specs.Rows.{IsRowOf};
-ghost use Rattle.wait_order.specs.Waits.{AreSources, ArePoints};
+ghost use Rattle.wait_order.specs.Points.{AreSources, ArePoints};
 ghost use Rattle.wait_order.specs.Marks.{all_marks, AreLanes};
 ghost use Rattle.wait_order.specs.Hits as hits;
 ghost use Rattle.wait_order.specs.ByName.{AreListed};
@@ -23,10 +26,11 @@ use crate::first_hits::first_hits;
 use crate::marks::{LaneOutputs, Mark, Marks, Output};
 use crate::standing::initial_row;
 use bit_rows::Row;
-use deb_relation::Entry;
+use deb_relation::{Entry, Op};
+use deb_version::Version;
 use farm_universe::Universe;
 use plan_asm::{Instruction, Plan};
-use sat_rows::Tables;
+use sat_rows::{Tables, mask};
 use std::alloc::{AllocError, Global};
 
 /// Puts the first output of a lane that a row has behind the sources, where there is one.
@@ -52,19 +56,18 @@ fn push_hit(
     Ok(())
 }
 
-/// The source of the initial variants that satisfy a wait, where there are any.
+/// The source of the initial variants that a row has, where there are any.
 fn initial_sources(
     alloc: Global,
     _universe: &Universe,
     archive: &Row,
     row: &Row,
-    _entry: &Entry,
 ) -> Result<Vec<Source>, AllocError>
     requires sound { IsUniverse _universe.now }
     requires archive { IsRowOf _universe.now (initial _universe.now) archive.now }
-    requires row { IsRowOf _universe.now (satisfies_entry _universe.now _entry.now) row.now }
-    ensures { IfOk result (λ sources. (p : model.Plan) (l i : ℕ)
-        → AreSourcesBelow _universe.now p l i _entry.now sources.items 0) }
+    requires long { length row.now ≡ names _universe.now }
+    ensures { IfOk result (λ sources. (test : Variant → Bool) → IsRowOf _universe.now test row.now
+        → (p : model.Plan) (l i : ℕ) → AreSourcesBelow _universe.now p l i test sources.items 0) }
 {
     let mut sources = Vec::new(alloc);
     if !archive.hits(row) {
@@ -78,37 +81,35 @@ fn initial_sources(
     Ok(sources)
 }
 
-/// The sources of a wait of an entry that stands in no lane of the plan.
+/// The sources of a point that stands in no lane of the plan, and looks for what a row has.
 fn sources_of(
     alloc: Global,
     universe: &Universe,
-    tables: &Tables,
     _plan: &Plan,
     archive: &Row,
     lanes: &[LaneOutputs],
     by_name: &ByName,
-    entry: &Entry,
+    row: &Row,
 ) -> Result<Vec<Source>, AllocError>
     requires sound { IsSound universe.now _plan.now.lanes }
-    requires tables { tables.now ≡ universe.now }
     requires archive { IsRowOf universe.now (initial universe.now) archive.now }
     requires lanes { AreLanes universe.now _plan.now.lanes lanes.now }
     requires lists { length by_name.now ≡ names universe.now }
     requires listed { AreListed by_name.now lanes.now (length lanes.now) }
-    ensures { IfOk result (λ sources. AreSources universe.now _plan.now.lanes
-        (length _plan.now.lanes) 0 entry.now sources.items) }
+    requires long { length row.now ≡ names universe.now }
+    ensures { IfOk result (λ sources. (test : Variant → Bool) → IsRowOf universe.now test row.now
+        → AreSources universe.now _plan.now.lanes (length _plan.now.lanes) 0 test sources.items) }
 {
-    let row = tables.entry_row(alloc, universe, entry)?;
-    let mut sources = initial_sources(alloc, universe, archive, &row, entry)?;
-    let firsts = first_hits(alloc, universe, &row, lanes, by_name)?;
+    let mut sources = initial_sources(alloc, universe, archive, row)?;
+    let firsts = first_hits(alloc, universe, row, lanes, by_name)?;
     for number in 0..lanes.len() {
         let outputs = lanes[number].outputs.as_slice();
-        push_hit(&row, number, outputs, firsts[number], &mut sources)?;
+        push_hit(row, number, outputs, firsts[number], &mut sources)?;
     }
     Ok(sources)
 }
 
-/// Tells whether a wait may meet a source: of its own lane only an output before it.
+/// Tells whether a point may meet a source: of its own lane only an output before it.
 fn may_meet(mark: Mark, source: Source) -> bool
     ensures { result ≡ hits.may_meet mark source }
 {
@@ -119,7 +120,7 @@ fn may_meet(mark: Mark, source: Source) -> bool
     }
 }
 
-/// Puts a source that a wait may meet behind the others.
+/// Puts a source that a point may meet behind the others.
 fn push_met(source: Source, mark: Mark, sources: &mut Vec<Source>) -> Result<(), AllocError>
     ensures { OnOk result (sources.new.items
         ≡ sources.old.items ++ (if hits.may_meet mark source then source ∷ [] else [])) }
@@ -130,7 +131,7 @@ fn push_met(source: Source, mark: Mark, sources: &mut Vec<Source>) -> Result<(),
     Ok(())
 }
 
-/// Those of some sources that a wait may meet.
+/// Those of some sources that a point may meet.
 fn met_sources(alloc: Global, all: &[Source], mark: Mark) -> Result<Vec<Source>, AllocError>
     ensures { IfOk result (λ sources. sources.items ≡ filter (hits.may_meet mark) all.now) }
 {
@@ -172,7 +173,7 @@ fn sources_at<'p>(
     requires found { AreFor (AreEntrySources universe.now plan.now.lanes) found.old.entries
         found.old.sources.items }
     ensures sources { IfOk result (λ sources. AreSources universe.now plan.now.lanes mark.lane
-        mark.place entry.now sources.items) }
+        mark.place (satisfies_entry universe.now entry.now) sources.items) }
     ensures found { OnOk result (AreFor (AreEntrySources universe.now plan.now.lanes)
         found.new.entries found.new.sources.items) }
 {
@@ -180,9 +181,8 @@ fn sources_at<'p>(
     if number < found.sources.len() {
         return Ok(met_sources(alloc, &found.sources[number].sources, mark)?);
     }
-    let all = sources_of(
-        alloc, universe, tables, plan, archive, lanes, by_name, entry,
-    )?;
+    let row = tables.entry_row(alloc, universe, entry)?;
+    let all = sources_of(alloc, universe, plan, archive, lanes, by_name, &row)?;
     let sources = met_sources(alloc, &all, mark)?;
     if number != found.sources.len() {
         return Ok(sources);
@@ -191,7 +191,51 @@ fn sources_at<'p>(
     Ok(sources)
 }
 
-/// A wait with its sources.
+/// The variants of a name that a `when` looks for, as a row.
+fn name_row(
+    alloc: Global,
+    universe: &Universe,
+    name: u32,
+    relation: &Option<(Op, Version)>,
+) -> Result<Row, AllocError>
+    requires { name < names universe.now }
+    ensures { IfOk result (IsRowOf universe.now (is_of universe.now name relation.now)) }
+{
+    let mut row = Row::new(alloc, universe.names() as usize)?;
+    row.set_word(name as usize, mask(universe, name, relation.as_ref()))?;
+    Ok(row)
+}
+
+/// The sources of a `when`.
+fn when_sources(
+    alloc: Global,
+    universe: &Universe,
+    plan: &Plan,
+    archive: &Row,
+    lanes: &[LaneOutputs],
+    by_name: &ByName,
+    mark: Mark,
+    name: u32,
+    relation: &Option<(Op, Version)>,
+) -> Result<Vec<Source>, AllocError>
+    requires sound { IsSound universe.now plan.now.lanes }
+    requires archive { IsRowOf universe.now (initial universe.now) archive.now }
+    requires lanes { AreLanes universe.now plan.now.lanes lanes.now }
+    requires lists { length by_name.now ≡ names universe.now }
+    requires listed { AreListed by_name.now lanes.now (length lanes.now) }
+    requires lane { mark.lane < length plan.now.lanes }
+    requires own { mark.own ≡ count_before universe.now plan.now.lanes mark.lane mark.place }
+    requires name { name < names universe.now }
+    ensures { IfOk result (λ sources. AreSources universe.now plan.now.lanes mark.lane mark.place
+        (is_of universe.now name relation.now) sources.items) }
+{
+    let row = name_row(alloc, universe, name, relation)?;
+    let all = sources_of(alloc, universe, plan, archive, lanes, by_name, &row)?;
+    let sources = met_sources(alloc, &all, mark)?;
+    Ok(sources)
+}
+
+/// A point with its sources.
 fn point_with(mark: Mark, sources: Vec<Source>) -> Point
     ensures { result ≡ record {
       lane = mark.lane;
@@ -210,7 +254,7 @@ fn point_with(mark: Mark, sources: Vec<Source>) -> Point
     }
 }
 
-/// A wait as a point.
+/// The point of a mark.
 fn point_of<'p>(
     alloc: Global,
     universe: &Universe,
@@ -244,16 +288,24 @@ fn point_of<'p>(
             )?;
             Ok(point_with(mark, sources))
         }
+        Instruction::When { name, relation } => {
+            let sources = when_sources(
+                alloc, universe, plan, archive, lanes, by_name, mark, *name, relation,
+            )?;
+            Ok(point_with(mark, sources))
+        }
         Instruction::Unpack { .. }
         | Instruction::Configure(_)
         | Instruction::Deconfigure(_)
         | Instruction::Remove(_)
         | Instruction::Build(_)
-        | Instruction::Publish(_) => Ok(point_with(mark, Vec::new(alloc))),
+        | Instruction::Publish(_)
+        | Instruction::Otherwise
+        | Instruction::EndWhen => Ok(point_with(mark, Vec::new(alloc))),
     }
 }
 
-/// The waits of a plan as points.
+/// The points of a plan.
 pub fn points(
     alloc: Global,
     universe: &Universe,
@@ -263,20 +315,20 @@ pub fn points(
 ) -> Result<Vec<Point>, AllocError>
     requires sound { IsSound universe.now plan.now.lanes }
     requires tables { tables.now ≡ universe.now }
-    requires waits { marks.now.waits.items
+    requires marks { marks.now.marks.items
         ≡ all_marks universe.now plan.now.lanes (length plan.now.lanes) }
     requires lanes { AreLanes universe.now plan.now.lanes marks.now.lanes.items }
     ensures { IfOk result (λ points. ArePoints universe.now plan.now.lanes points.items) }
 {
     let archive = initial_row(alloc, universe)?;
     let by_name = ByName::of(alloc, universe, &marks.lanes)?;
-    let waits = marks.waits.as_slice();
+    let all = marks.marks.as_slice();
     let mut found = Found {
         entries: Entries::new(alloc)?,
         sources: Vec::new(alloc),
     };
     let mut points = Vec::new(alloc);
-    for w in 0..waits.len() {
+    for w in 0..all.len() {
         points.push(point_of(
             alloc,
             universe,
@@ -285,7 +337,7 @@ pub fn points(
             &archive,
             &marks.lanes,
             &by_name,
-            waits[w],
+            all[w],
             &mut found,
         )?)?;
     }

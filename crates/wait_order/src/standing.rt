@@ -94,7 +94,10 @@ fn make<'p>(
         | Instruction::Configure(_)
         | Instruction::Deconfigure(_)
         | Instruction::Remove(_)
-        | Instruction::Build(_) => Ok(true),
+        | Instruction::Build(_)
+        | Instruction::When { .. }
+        | Instruction::Otherwise
+        | Instruction::EndWhen => Ok(true),
     }
 }
 

@@ -1,11 +1,11 @@
-//! An order in which the waits of a plan may pass, for the first look of the columns at them.
+//! An order in which the points of a plan may pass, for the first look of the columns at them.
 
-ghost use Rattle.std.specs.Prelude.{◌≡◌, length, OnOk};
+ghost use Rattle.std.specs.Prelude.{◌≡◌, ◌<◌, length, OnOk};
 
 use crate::column::{Point, Source};
 use std::alloc::{AllocError, Global};
 
-/// Tells whether a wait has passed. Where there is none, the lane's beginning has.
+/// Tells whether a point has passed. Where there is none, the lane's beginning has.
 fn has_passed(passed: &[bool], point: Option<usize>) -> bool {
     match point {
         None => true,
@@ -23,7 +23,8 @@ fn is_there(passed: &[bool], sources: &[Source]) -> bool {
     false
 }
 
-/// The number of the first wait of each lane that has one.
+/// The numbers of the points with none ahead of them: the first of a lane, and those behind `when`s
+/// that a lane begins with.
 fn starts(alloc: Global, points: &[Point]) -> Result<Vec<usize>, AllocError> {
     let mut starts = Vec::new(alloc);
     for w in 0..points.len() {
@@ -34,7 +35,23 @@ fn starts(alloc: Global, points: &[Point]) -> Result<Vec<usize>, AllocError> {
     Ok(starts)
 }
 
-/// Takes a lane as far as it goes, from one of its waits on, and gives the wait at which it stops.
+/// Tells whether a lane goes on past a point that does not pass: it is a `when`, and the next point
+/// does not build on it.
+fn is_passed_over(points: &[Point], w: usize, end: usize) -> bool
+    requires { w < length points.now }
+{
+    let next = w + 1;
+    if next >= end || next >= points.len() {
+        return false;
+    }
+    match points[next].before {
+        None => true,
+        Some(before) => before != w,
+    }
+}
+
+/// Takes a lane as far as it goes, from one of its points on, and gives the point at which it
+/// stops.
 fn advance(
     points: &[Point],
     from: usize,
@@ -46,16 +63,20 @@ fn advance(
     ensures { OnOk result (length passed.new ≡ length points.now) }
 {
     for w in from..end.min(points.len()) {
-        if !has_passed(passed, points[w].before) || !is_there(passed, &points[w].sources) {
+        if !has_passed(passed, points[w].before) {
             return Ok(w);
         }
-        passed[w] = true;
-        visit.push(w)?;
+        if is_there(passed, &points[w].sources) {
+            passed[w] = true;
+            visit.push(w)?;
+        } else if !is_passed_over(points, w, end) {
+            return Ok(w);
+        }
     }
     Ok(end)
 }
 
-/// Takes each lane as far as it goes, and tells whether a wait passed.
+/// Takes each lane as far as it goes, and tells whether a point passed.
 fn round(
     points: &[Point],
     starts: &[usize],
@@ -82,7 +103,18 @@ fn round(
     Ok(moved)
 }
 
-/// The waits that pass, in an order in which they do.
+/// Puts the points that did not pass behind the others.
+fn add_others(passed: &[bool], visit: &mut Vec<usize>) -> Result<(), AllocError> {
+    for w in 0..passed.len() {
+        if !passed[w] {
+            visit.push(w)?;
+        }
+    }
+    Ok(())
+}
+
+/// The points that pass, in an order in which they do, and then the others. No point builds on a
+/// `when`, so one that does not pass is looked at once the others have their counts.
 pub fn visit(alloc: Global, points: &[Point]) -> Result<Vec<usize>, AllocError> {
     let starts = starts(alloc, points)?;
     let mut nexts = starts.clone()?;
@@ -90,8 +122,9 @@ pub fn visit(alloc: Global, points: &[Point]) -> Result<Vec<usize>, AllocError> 
     let mut visit = Vec::new(alloc);
     for _turn in 0..points.len() {
         if !round(points, &starts, &mut nexts, &mut passed, &mut visit)? {
-            return Ok(visit);
+            break;
         }
     }
+    add_others(&passed, &mut visit)?;
     Ok(visit)
 }

@@ -20,7 +20,7 @@ use Rattle.word_archive.specs.Serials.{AreFew, IsPublishedBelow, IsSerials, Seri
 use Rattle.word_archive.proofs.HaltWord.{halts_stay, same_world}
 use Rattle.word_archive.proofs.KnownPublished.{known_published, one_place}
 use Rattle.word_archive.proofs.Lists.{index_set, index_set_other, some_length}
-use Rattle.word_archive.proofs.Loads.{stands_at}
+use Rattle.word_archive.proofs.Loads.{in_plan, stands_at}
 use Rattle.word_archive.proofs.Moves.{changed}
 use Rattle.word_archive.proofs.Publishes.{given_next}
 use Rattle.word_archive.proofs.SerialsDrawn.{front_at, last_at, once_next, times_append}
@@ -128,7 +128,9 @@ module _ (a : AcceptedPlan) (accepted : IsAccepted a) (words : List ℕ) (record
             | inl old ↦ st.serials.above l k j x r v here old of known new
             | inr last ↦
                 let same_place : k ≡ place =
-                one_place a.universe (lane a.plan l) k place j of
+                one_place a.universe (lane a.plan l)
+                (accepted.sound.plan.branched l
+                (in_plan a accepted words records stopped st l r here)) k place j of
                 (subst (λ n. IsOutputOf a.universe (lane a.plan l) place n) (sym last.0)
                 is_output) in
                 subst (IsPublishedBelow a records v) last.1

@@ -1,19 +1,24 @@
 -- What a lane knows ahead of a publish was published under a serial.
-use Rattle.std.proofs.Common.{All, Bool, List, Some, [], ap, arith, false, get_or, get_or-set_same, inl, inr, length, slice_get, subst, suc, sym, take, true, ℕ, ◌+◌, ◌-◌, ◌<◌, ◌∙◌, ◌≡◌, ◌≤◌, ◌⊎◌}
+use Rattle.std.proofs.Common.{All, Bool, List, Some, [], ap, arith, false, get_or, get_or-set_same, inl, inr, length, refl, slice_get, subst, suc, sym, take, true, ℕ, ◌+◌, ◌-◌, ◌<◌, ◌∙◌, ◌≡◌, ◌≤◌, ◌⊎◌}
 use Rattle.std.proofs.lemmas.Bool.{cases_lt, false≢true, or_cases}
 use Rattle.farm_model.proofs.BelowLaws.{some_below-found}
 use Rattle.farm_model.specs.Below.{some_below}
 use Rattle.farm_model.specs.Packages.{contains, has_bit, initial}
 use Rattle.farm_model.specs.Universe.{Universe}
 use Rattle.farm_model.specs.declared.types.Variant.{Variant}
-use Rattle.plan_model.specs.Plan.{Lane, lane, lane_outputs, outputs_before}
+use Rattle.farm_laws.proofs.Branches.{is_inner, landed}
+use Rattle.plan_model.specs.declared.instructions.Instruction.{Instruction}
+use Rattle.plan_model.specs.declared.instructions.Instruction.TheVariants.{Publish, Otherwise, EndWhen}
+use Rattle.plan_model.specs.Branches.{IsBranched, landing}
+use Rattle.plan_model.specs.Plan.{Lane, lane, lane_outputs, outputs_before, outputs_of}
 use Rattle.plan_model.specs.Run.{no_state, start}
 use Rattle.plan_model.specs.Turn.{LaneState}
 use Rattle.plan_model.specs.World.{World, ready, world_lane}
 use Rattle.archive_laws.proofs.Foreseen.{worlds_are_foreseen}
-use Rattle.archive_laws.proofs.OutputPlaces.{before, before_more}
+use Rattle.archive_laws.proofs.OutputPlaces.{before, before_more, before_next}
 use Rattle.archive_laws.proofs.Recorded.{words_are_recorded}
 use Rattle.archive_laws.proofs.Settles.{ready_reached}
+use Rattle.archive_laws.specs.LaneMoves.{IsOutputOf}
 use Rattle.archive_laws.specs.Shown.{ready_lane, recorded, with_lane}
 use Rattle.lane_records.specs.Records.{Record, ready_in}
 use Rattle.plan_verifier.specs.Accepted.{AcceptedPlan, IsAccepted, known_rows}
@@ -29,15 +34,36 @@ use Rattle.word_archive.proofs.SerialsDrawn.{all_less, found_at, less_at, times_
 no_record : Record
 no_record = record { at = no_state; serials = []; loaded = []; halted = false; saw = false }
 
+-- an instruction that stays in a branch has no output
+inner_none : (u : Universe) (x : Instruction) → is_inner x ≡ true → length (outputs_of u x) ≡ 0
+inner_none u (Publish r) inner = absurd (false≢true inner)
+inner_none u _ inner = refl
+
+-- so there are as many outputs before where a lane goes on as before where it comes to
+before_landing : (u : Universe) (xs : List Instruction) → IsBranched xs → (k : ℕ)
+    → before u xs (landing xs k) ≡ before u xs k
+before_landing u xs branched k =
+    landed xs branched (λ j. before u xs j ≡ before u xs k) (λ w j. before u xs j ≡ before u xs k)
+    (λ j. before u xs j ≡ before u xs k) (λ j stands same. same)
+    (λ w j side is same. behind j Otherwise is refl same)
+    (λ w j x is side inner same. behind j x is (inner_none u x inner) same)
+    (λ w j side is same. behind j EndWhen is refl same)
+    (λ w j side is same. behind j EndWhen is refl same) k refl
+  where
+    behind : (j : ℕ) (x : Instruction) → slice_get xs j ≡ Some x → length (outputs_of u x) ≡ 0
+        → before u xs j ≡ before u xs k → before u xs (suc j) ≡ before u xs k
+    behind j x is none same = let next = before_next u xs j x is in omega (arith, next, none, same)
+
 -- where an output is one of two instructions, they are one
-pub one_place : (u : Universe) (of : Lane) (k m j : ℕ)
-    → (outputs_before u of k 0 ≤ j) × (j < outputs_before u of (suc k) 0)
-    → (outputs_before u of m 0 ≤ j) × (j < outputs_before u of (suc m) 0) → k ≡ m
-one_place u of k m j a b =
+pub one_place : (u : Universe) (of : Lane) → IsBranched of.instructions → (k m j : ℕ)
+    → IsOutputOf u of k j → IsOutputOf u of m j → k ≡ m
+one_place u of branched k m j a b =
+    let ends_k = before_landing u of.instructions branched (suc k) in
+    let ends_m = before_landing u of.instructions branched (suc m) in
     elim (cases_lt k m) [
-      | inl lt ↦ absurd (apart k m j a.1 b.0 lt)
+      | inl lt ↦ absurd (apart k m j (omega (arith, a.1, ends_k)) b.0 lt)
       | inr ge ↦ elim (cases_lt m k) [
-        | inl lt ↦ absurd (apart m k j b.1 a.0 lt)
+        | inl lt ↦ absurd (apart m k j (omega (arith, b.1, ends_m)) a.0 lt)
         | inr le ↦ omega arith
       ]
     ]

@@ -4,6 +4,7 @@ use Rattle.std.specs.Prelude.{slice_index_or}
 use Rattle.farm_model.specs.Below.{sum_below}
 use Rattle.farm_model.specs.Universe.{Universe}
 use Rattle.plan_model.specs.Plan.{Plan, count, lane_outputs, no_lane}
+use Rattle.plan_model.specs.Sound.{IsPlan}
 use Rattle.farm_archive.proofs.Outputs.{outputs-counted}
 use Rattle.farm_archive.specs.Room.{outputs_in}
 use Rattle.plan_verifier.specs.Accepted.{AcceptedPlan}
@@ -31,5 +32,12 @@ unfolding outputs_in
 all_in u p = outputs_below u p
 
 -- a plan has no more outputs than events, which fit
-pub is_small : (a : AcceptedPlan) → count a.universe a.plan < 2 ^ 64 → SerialsFit a
-is_small a lt = omega (arith, lt, all_in a.universe a.plan, outputs-counted a.universe a.plan)
+pub is_small : (a : AcceptedPlan) → IsPlan a.universe a.plan → count a.universe a.plan < 2 ^ 64
+    → SerialsFit a
+is_small a plan lt =
+    omega (
+      arith,
+      lt,
+      all_in a.universe a.plan,
+      outputs-counted a.universe a.plan plan.branched,
+    )

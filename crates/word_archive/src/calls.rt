@@ -22,7 +22,8 @@ fn single(bit: u32) -> u64
 impl SharedArchive<'_> {
     /// Gives the word of a name: bit b is set where variant b is there. Where the seat stands at an
     /// unpack of that name with a variant in its relation, or at a wait that the word satisfies, it
-    /// moves on; else only what it has loaded changes.
+    /// moves on. From a `when` of that name it goes to the branch that the word decides. Else only
+    /// what it has loaded changes.
     pub fn load(&self, seat: &mut LaneSeat, name: usize) -> u64
         requires table { seat.old.table ≡ self.now.table.shared.table_id }
         requires about { seat.old.about ≡ self.now.accepted.now }

@@ -9,7 +9,8 @@ use atomic_table::Seat;
 use farm_universe::Variant;
 use std::marker::Model;
 
-/// A lane's seat. It stands at the lane's next archive step: an unpack, a wait, or an output.
+/// A lane's seat. It stands at the lane's next archive step: an unpack, a wait, a `when`,
+/// or an output.
 #[derive(Drop)]
 pub struct LaneSeat {
     pub(crate) seat: Seat<(), View>,

@@ -1,7 +1,6 @@
 use Rattle.std.proofs.Common.{sym, ◌∙◌, arith}
-use Rattle.std.specs.List.{sum_by}
 use Rattle.plan_asm.proofs.Counts.{count-lanes, lane-short, sum-goes, sum-ends}
-use Rattle.plan_model.specs.Plan.{Lane, events_of}
+use Rattle.plan_model.specs.Plan.{Lane, ways}
 use Rattle.plan_asm.proofs.events.count_events.Goals as goal
 
 pub lane_events-events-requires : goal.lane_events-events-requires
@@ -25,7 +24,7 @@ loop-lane-preserved c =
     let few = rw c.instructions.ensures at c.lane_events-events.ensures.few in
     record {
       so_far = rw (c.lane_events-events.ensures.events, c.instructions.ensures)
-          (sum-goes (λ (of : Lane). sum_by (events_of u) of.instructions)
+          (sum-goes (λ (of : Lane). (ways u of.instructions).here)
           c.args.lanes.now c.loop-lane.lane-index c.lane-item.result _ _
           c.loop-lane-test.true c.lane-item.is c.loop-lane.invariant.so_far);
       few = omega (arith, short, few, c.requires.instructions, c.loop-lane.invariant.few);
@@ -34,6 +33,6 @@ loop-lane-preserved c =
 pub returns : goal.returns
 returns c =
     let u = c.args.universe.now in
-    sum-ends (λ (of : Lane). sum_by (events_of u) of.instructions)
+    sum-ends (λ (of : Lane). (ways u of.instructions).here)
     c.args.lanes.now c.loop-lane.lane-index _ _ (omega arith) c.loop-lane.invariant.so_far
     ∙ sym (count-lanes u c.args.lanes.now)

@@ -1,11 +1,10 @@
-use Rattle.std.proofs.Common.{◌≡◌, ◌≤◌, ◌+◌, ◌*◌, ◌^◌, drop}
-use Rattle.std.specs.List.{sum_by}
-use Rattle.plan_model.specs.Plan.{events_of}
+use Rattle.std.proofs.Common.{◌≡◌, ◌-◌, ◌*◌, ◌^◌, length, drop}
+use Rattle.plan_asm.specs.LongestWays.{ways_of, AreWithin}
+use Rattle.plan_model.specs.Plan.{ways}
 use Rattle.plan_asm.proofs.events.lane_events.Given as goal
 
-abbrev pub invariant-loop-instruction : goal.invariant-loop-instruction
-invariant-loop-instruction l = record {
-  so_far : l.events + sum_by (events_of l.universe) (drop l.instruction-index l.instructions)
-      ≡ sum_by (events_of l.universe) l.instructions;
-  few : l.events ≤ l.instruction-index * 2 ^ 32;
+abbrev pub invariant-loop-i : goal.invariant-loop-i
+invariant-loop-i l = record {
+  so_far : ways_of l.ways ≡ ways l.universe (drop l.i l.instructions);
+  few : AreWithin ((length l.instructions - l.i) * 2 ^ 32) l.ways;
 }

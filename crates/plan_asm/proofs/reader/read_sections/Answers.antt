@@ -2,12 +2,12 @@ use Rattle.std.proofs.Common.{◌<◌, length, [], refl, arith}
 use Rattle.std.proofs.lemmas.Result.{err_from_is_err_and}
 use Rattle.deb_text.proofs.StepLaws.{place-goes, place-stops, place-ends}
 use Rattle.deb_text.specs.Answers.{refusal_of}
-use Rattle.plan_asm.specs.PlanText.{take_line, draft_of}
+use Rattle.plan_asm.specs.PlanText.{take_line, reading_of}
 use Rattle.plan_asm.proofs.reader.read_sections.Goals as goal
 
 pub loop-i-init : goal.loop-i-init
-unfolding draft_of
-loop-i-init c = rw c.new-so_far.ensures refl
+unfolding reading_of
+loop-i-init c = rw (c.outside-so_far.ensures, c.new.ensures) refl
 
 pub returns-in_err-so_far : goal.returns-in_err-so_far
 returns-in_err-so_far c =

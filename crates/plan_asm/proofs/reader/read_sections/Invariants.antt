@@ -1,8 +1,9 @@
 use Rattle.std.proofs.Common.{◌≡◌, drop}
 use Rattle.deb_text.specs.Steps.{steps}
-use Rattle.plan_asm.specs.PlanText.{take_line, draft_of}
+use Rattle.plan_asm.specs.PlanText.{take_line, reading_of}
 use Rattle.plan_asm.proofs.reader.read_sections.Given as goal
 
 abbrev pub invariant-loop-i : goal.invariant-loop-i
 invariant-loop-i l =
-    steps (take_line l.universe) l.so_far (drop l.i l.lines) ≡ draft_of l.universe (drop 1 l.lines)
+    steps (take_line l.universe) l.so_far (drop l.i l.lines)
+    ≡ reading_of l.universe (drop 1 l.lines)

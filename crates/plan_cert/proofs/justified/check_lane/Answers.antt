@@ -7,6 +7,8 @@ use Rattle.plan_verifier.proofs.Steps.{lane-short}
 use Rattle.verdict_laws.specs.Places.{IsJustified}
 use Rattle.wait_order.proofs.Leading.{read_at}
 use Rattle.plan_cert.specs.PlaceRows.{rows_of}
+use Rattle.plan_cert.specs.Opens.{open_behind}
+use Rattle.plan_cert.proofs.HeldLaws.{open-next}
 use Rattle.plan_cert.proofs.JustifiedLaws.{past-justified}
 use Rattle.plan_cert.proofs.justified.check_lane.Goals as goal
 
@@ -36,6 +38,8 @@ loop-place-preserved c =
     read_at p l c.instructions-instructions.result.now i x xs c.loop-place-test.true
     c.index-instructions-place.is in
     record {
+      when_is = c.open_behind-when.ensures
+          ∙ ap (λ o. open_behind i o x) c.loop-place.invariant.when_is ∙ sym (open-next p l i x here);
       there = rw add-one
           (possible_after u p l c.requires.lane i x here c.add_outputs.new.row
           (c.in_ok-add_outputs.ensures.added (possible u p l i) c.loop-place.invariant.there));

@@ -1,7 +1,8 @@
-use Rattle.std.proofs.Common.{ℕ, suc, ◌<◌}
+use Rattle.std.proofs.Common.{◌≡◌, ℕ, suc, ◌<◌}
 use Rattle.plan_model.specs.Known.{possible}
 use Rattle.verdict_laws.specs.Places.{IsJustified}
 use Rattle.sat_rows.specs.Rows.{IsRowOf}
+use Rattle.plan_cert.specs.Opens.{open_at}
 use Rattle.plan_cert.specs.PlaceRows.{rows_of}
 use Rattle.plan_cert.proofs.justified.check_lane.Given as goal
 
@@ -12,4 +13,5 @@ invariant-loop-place l =
       there : IsRowOf l.universe (possible l.universe l.plan.lanes l.number l.place) l.there;
       justified : (k : ℕ) → k < l.place
           → IsJustified l.universe l.plan.lanes (rows_of l.known) l.number (suc k);
+      when_is : l.when ≡ open_at l.plan.lanes l.number l.place;
     }

@@ -1,12 +1,17 @@
-use Rattle.std.proofs.Common.{◌≡◌, ◌+◌, suc, Some, length, refl, ap, subst, ◌∙◌, List, ℕ, arith}
+use Rattle.std.proofs.Common.{◌≡◌, ◌+◌, suc, Some, length, ap, subst, ◌∙◌, List, ℕ, arith}
 use Rattle.bit_rows.specs.Sets.{variants_of, IsDifference}
 use Rattle.farm_model.specs.Universe.{Universe}
-use Rattle.plan_model.specs.Plan.{instruction_at}
+use Rattle.plan_model.specs.declared.instructions.Instruction.TheVariants.{Publish}
+use Rattle.plan_model.specs.Known.{row_before}
+use Rattle.plan_model.specs.Plan.{lane, instruction_at}
 use Rattle.plan_verifier.proofs.Steps.{lane-short}
 use Rattle.sat_rows.specs.Rows.{IsRowOf}
 use Rattle.wait_order.proofs.Leading.{read_at}
+use Rattle.verdict_laws.proofs.RowBefore.{row_before-le}
 use Rattle.plan_cert.specs.PlaceRows.{rows_of}
-use Rattle.plan_cert.proofs.JustifiedLaws.{quiet-justified, publish-justified, wait-justified, adds-nothing}
+use Rattle.plan_cert.specs.Opens.{place_before, IsAskedRow}
+use Rattle.plan_cert.proofs.HeldLaws.{before-is}
+use Rattle.plan_cert.proofs.JustifiedLaws.{quiet-justified, publish-justified, asked-justified, adds-nothing}
 use Rattle.plan_cert.proofs.justified.is_justified.Goals as goal
 
 pub overflow_add-place : goal.overflow_add-place
@@ -27,22 +32,28 @@ returns-in-Some c =
     let at : instruction_at p l i ≡ Some x =
     read_at p l c.instructions.result.now i x xs (omega (arith, ap length xs, c.requires.place))
     c.index-instructions-place.is in
-    let before_is : IsRowOf u (rows l i) c.row-before.result.now =
-    subst (λ (w : Universe). IsRowOf w (rows l i) c.row-before.result.now) c.requires.of_universe
-    c.row-before.ensures in
+    let place : c.place_before.result ≡ row_before p l i x =
+    c.place_before.ensures ∙ ap (λ o. place_before i o x) c.requires.when ∙ before-is p l i x in
+    let before_is : IsRowOf u (rows l (row_before p l i x)) c.row-before.result.now =
+    subst (λ (k : ℕ). IsRowOf u (rows l k) c.row-before.result.now) place
+    (subst (λ (w : Universe). IsRowOf w (rows l c.place_before.result) c.row-before.result.now)
+    c.requires.of_universe c.row-before.ensures) in
     let next : i + 1 ≡ suc i = omega arith in
     let after_is : IsRowOf u (rows l (suc i)) c.row-after.result.now =
     subst (λ (k : ℕ). IsRowOf u (rows l k) c.row-after.result.now) next
     (subst (λ (w : Universe). IsRowOf w (rows l (i + 1)) c.row-after.result.now)
     c.requires.of_universe c.row-after.ensures) in
+    let publish : x ≡ Publish c.in-Some.recipe = c.in-Some.ensures.some in
+    let ahead_is : IsRowOf u (rows l i) c.row-before.result.now =
+    subst (λ y. IsRowOf u (rows l (row_before p l i y)) c.row-before.result.now) publish before_is in
     publish-justified u p rows l i c.requires.lane c.requires.place c.requires.known
-    c.row-before.result.now c.row-after.result.now before_is after_is c.in-Some.recipe
-    (length c.outputs-count.result.now) (at ∙ ap Some c.in-Some.ensures.some) c.requires.sound
+    c.row-before.result.now c.row-after.result.now ahead_is after_is c.in-Some.recipe
+    (length c.outputs-count.result.now) (at ∙ ap Some publish) c.requires.sound.universe
     (ap length c.outputs-count.ensures.outputs) c.in_ok-row.row
-    (c.in_ok-row.ensures.added (rows l i) before_is) c.within.result c.within.ensures.set
+    (c.in_ok-row.ensures.added (rows l i) ahead_is) c.within.result c.within.ensures.set
 
-pub returns-in-Some-waited : goal.returns-in-Some-waited
-returns-in-Some-waited c =
+pub returns-in-Some-2 : goal.returns-in-Some-2
+returns-in-Some-2 c =
     let u = c.args.universe.now in
     let p = c.args.plan.now.lanes in
     let rows = rows_of c.args.known.now in
@@ -53,20 +64,24 @@ returns-in-Some-waited c =
     let at : instruction_at p l i ≡ Some x =
     read_at p l c.instructions.result.now i x xs (omega (arith, ap length xs, c.requires.place))
     c.index-instructions-place.is in
-    let before_is : IsRowOf u (rows l i) c.row-before.result.now =
-    subst (λ (w : Universe). IsRowOf w (rows l i) c.row-before.result.now) c.requires.of_universe
-    c.row-before.ensures in
+    let place : c.place_before.result ≡ row_before p l i x =
+    c.place_before.ensures ∙ ap (λ o. place_before i o x) c.requires.when ∙ before-is p l i x in
+    let before_is : IsRowOf u (rows l (row_before p l i x)) c.row-before.result.now =
+    subst (λ (k : ℕ). IsRowOf u (rows l k) c.row-before.result.now) place
+    (subst (λ (w : Universe). IsRowOf w (rows l c.place_before.result) c.row-before.result.now)
+    c.requires.of_universe c.row-before.ensures) in
     let next : i + 1 ≡ suc i = omega arith in
     let after_is : IsRowOf u (rows l (suc i)) c.row-after.result.now =
     subst (λ (k : ℕ). IsRowOf u (rows l k) c.row-after.result.now) next
     (subst (λ (w : Universe). IsRowOf w (rows l (i + 1)) c.row-after.result.now)
     c.requires.of_universe c.row-after.ensures) in
-    wait-justified u p rows l i c.requires.lane c.requires.place c.requires.known
-    c.row-before.result.now c.row-after.result.now before_is after_is c.in-Some-waited.entry.now
-    (at ∙ ap Some c.in-Some-waited.ensures.some) c.take_out.new.self
+    let asks = subst (IsAskedRow u x) c.in-Some-2.is c.in_ok-asked.ensures in
+    asked-justified u p rows l i c.requires.lane c.requires.place c.requires.known x at
+    c.row-before.result.now c.row-after.result.now before_is after_is asks.0 asks.1
+    c.take_out.new.self
     (subst (λ (row : List ℕ). IsDifference (variants_of row) (variants_of c.row-before.result.now)
     (variants_of c.take_out.new.self)) c.in_ok-new.ensures.cases c.take_out.ensures.set)
-    c.in_ok-yes.yes c.in_ok-yes.ensures
+    c.in_ok-yes.yes (c.in_ok-yes.ensures asks.0 asks.2)
 
 pub returns : goal.returns
 returns c =
@@ -80,15 +95,42 @@ returns c =
     let at : instruction_at p l i ≡ Some x =
     read_at p l c.instructions.result.now i x xs (omega (arith, ap length xs, c.requires.place))
     c.index-instructions-place.is in
-    let before_is : IsRowOf u (rows l i) c.row-before.result.now =
-    subst (λ (w : Universe). IsRowOf w (rows l i) c.row-before.result.now) c.requires.of_universe
-    c.row-before.ensures in
+    let place : c.place_before.result ≡ row_before p l i x =
+    c.place_before.ensures ∙ ap (λ o. place_before i o x) c.requires.when ∙ before-is p l i x in
+    let before_is : IsRowOf u (rows l (row_before p l i x)) c.row-before.result.now =
+    subst (λ (k : ℕ). IsRowOf u (rows l k) c.row-before.result.now) place
+    (subst (λ (w : Universe). IsRowOf w (rows l c.place_before.result) c.row-before.result.now)
+    c.requires.of_universe c.row-before.ensures) in
     let next : i + 1 ≡ suc i = omega arith in
     let after_is : IsRowOf u (rows l (suc i)) c.row-after.result.now =
     subst (λ (k : ℕ). IsRowOf u (rows l k) c.row-after.result.now) next
     (subst (λ (w : Universe). IsRowOf w (rows l (i + 1)) c.row-after.result.now)
     c.requires.of_universe c.row-after.ensures) in
-    quiet-justified u p rows l i c.requires.lane c.requires.place c.requires.known
-    c.row-before.result.now c.row-after.result.now before_is after_is x at
-    (adds-nothing u p rows l i x c.in_default.ensures.none (c.in_default-waited.ensures.none refl))
+    quiet-justified u p rows l i c.requires.lane c.requires.place c.requires.known x at
+    c.row-before.result.now c.row-after.result.now before_is after_is
+    (λ v. adds-nothing u p rows l i v x c.in_default.ensures.none
+    (subst (IsAskedRow u x) c.in_default-2.is c.in_ok-asked.ensures))
     c.within-2.result c.within-2.ensures.set
+
+pub row-before-requires-clause-place : goal.row-before-requires-clause-place
+row-before-requires-clause-place c =
+    let p = c.args.plan.now.lanes in
+    let l = c.args.number in
+    let i = c.args.place in
+    let x = c.index-instructions-place.result in
+    let place : c.place_before.result ≡ row_before p l i x =
+    c.place_before.ensures ∙ ap (λ o. place_before i o x) c.requires.when ∙ before-is p l i x in
+    let le = row_before-le p l i x in
+    let same = ap (λ q. length (lane q l).instructions) c.requires.of_plan in
+    omega (arith, place, le, c.requires.place, same)
+
+pub asked_row-requires-clause-instruction : goal.asked_row-requires-clause-instruction
+asked_row-requires-clause-instruction c =
+    let p = c.args.plan.now.lanes in
+    let l = c.args.number in
+    let i = c.args.place in
+    let x = c.index-instructions-place.result in
+    let xs = c.instructions.ensures ∙ ap (λ of. of.instructions) c.lane.ensures in
+    c.requires.sound.plan.instructions l i x c.requires.lane
+    (read_at p l c.instructions.result.now i x xs (omega (arith, ap length xs, c.requires.place))
+    c.index-instructions-place.is)

@@ -1,8 +1,9 @@
-use Rattle.std.proofs.Common.{◌≡◌, ◌+◌, ◌<◌, true, length, get_or, sym, ap, ◌∙◌, arith}
+use Rattle.std.proofs.Common.{◌≡◌, ◌+◌, ◌-◌, ◌<◌, true, [], ◌∷◌, length, get_or, sym, ap, ◌∙◌, arith}
+use Rattle.std.proofs.lemmas.List.{length-append}
 use Rattle.cert_text.specs.Certificates.{lane_rows, learns}
-use Rattle.plan_cert.proofs.PlaceLaws.{last_push}
+use Rattle.plan_cert.proofs.PlaceLaws.{row_push}
 use Rattle.plan_cert.specs.Stated.{stated_rows}
-use Rattle.plan_cert.proofs.StatedLaws.{next-quiet, next-learns, row-there, last-quiet, row-listed, listed-new}
+use Rattle.plan_cert.proofs.StatedLaws.{next-quiet, next-learns, row-there, row-quiet, row-listed, listed-new}
 use Rattle.plan_cert.proofs.stated.add_row.Goals as goal
 
 pub returns-then-not-learns-clause-used : goal.returns-then-not-learns-clause-used
@@ -13,10 +14,10 @@ returns-then-not-learns-clause-used c =
 
 pub returns-then-not-learns-clause-row : goal.returns-then-not-learns-clause-row
 returns-then-not-learns-clause-row c =
-    last-quiet c.args.universe.now c.args._plan.now.lanes c.args.certificate.now
-    c.requires.certificate c.args.number c.args._place (c.args._place + 1) c.args.rows.now.items
-    (next-quiet c.args._plan.now.lanes c.args.number c.args._place c.args.instruction.now
-    c.requires.at (sym c.learns.ensures ∙ c.if-not-learns.true)) c.requires.row
+    row-quiet c.args.universe.now c.args._plan.now.lanes c.args.certificate.now
+    c.requires.certificate c.args.number c.args._place c.args.before c.args.instruction.now
+    c.args.rows.now.items c.requires.at (sym c.learns.ensures ∙ c.if-not-learns.true)
+    c.requires.before
 
 pub bounds-lane_rows-used : goal.bounds-lane_rows-used
 bounds-lane_rows-used c =
@@ -61,11 +62,14 @@ returns-clause-row c =
     let there = row-there p l c.args._place c.args.instruction.now c.requires.at learnt in
     let k : c.args.used < length (lane_rows cert l) =
     omega (arith, there, c.requires.used, c.requires.certificate.counts l c.requires.lane) in
-    let more = next-learns p l c.args._place c.args.instruction.now c.requires.at learnt in
-    last_push u (stated_rows u p cert l (c.args._place + 1)) c.args.rows.now.items
-    c.push.new.self.items c.in_ok-with_archive.field-0 c.in_ok-push.ensures.items
-    (row-listed u p cert c.requires.certificate l (c.args._place + 1) c.args.used
-    c.index-lane_rows-used.result c.in_ok-with_archive.field-0 (omega (arith, more, c.requires.used)) k
+    row_push u (stated_rows u p cert l (c.args._place + 1)) c.args.rows.now.items
+    c.push.new.self.items c.in_ok-with_archive.field-0 (c.len.result - 1) c.in_ok-push.ensures.items
+    (let n = ap length c.in_ok-push.ensures.items in
+    let a = length-append c.args.rows.now.items (c.in_ok-with_archive.field-0 ∷ []) in
+    omega (arith, n, a, c.len.ensures))
+    (row-listed u p cert c.requires.certificate l c.args._place c.args.used
+    c.args.instruction.now c.index-lane_rows-used.result c.in_ok-with_archive.field-0 c.requires.at
+    learnt c.requires.used k
     (c.index-lane_rows-used.is
     ∙ ap (λ rows. get_or rows c.args.used c.index-lane_rows-used.result) c.lane_rows.ensures)
     c.in_ok-with_archive.ensures)

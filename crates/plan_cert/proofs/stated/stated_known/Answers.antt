@@ -28,6 +28,6 @@ returns-clause-rows c = λ l i v lt le.
     omega (arith, lt, c.lanes-number-end.ensures.lanes, c.loop-number-test.false) in
     let row : IsRowOf u (known l i) (words_at c.new.result l i) =
     subst (λ k. IsRowOf u (known l i) (words_at k l i)) (sym c.new.ensures)
-    ((c.loop-number.invariant.places.each l below).are i le) in
+    ((c.loop-number.invariant.places.each l below).each i le).row in
     row-has u (known l i) (words_at c.new.result l i) row
     (stated-known u p c.args.certificate.now c.requires.certificate c.requires.sound l i) v

@@ -1,24 +1,25 @@
 use Rattle.std.proofs.Common.{Err, ap, subst, ◌∙◌}
 use Rattle.plan_model.specs.Plan.{Lane}
+use Rattle.plan_model.specs.Safety.{Meets, Parts}
 use Rattle.wait_order.specs.KnownRows.{rows_of}
-use Rattle.plan_verifier.specs.Costs.{AreWalked}
+use Rattle.plan_verifier.specs.Costs.{AreWalked, IsFirstTold}
 use Rattle.plan_verifier.specs.declared.walk.WalkError.{WalkError}
 use Rattle.plan_verifier.proofs.Walks.{refused}
 use Rattle.plan_verifier.proofs.costs.check_lanes.Goals as goal
 
 pub lane-requires : goal.lane-requires
 lane-requires c =
-    let walked : AreWalked c.args.universe.now c.args.plan.now.lanes (rows_of c.args.known.now)
-    (Err (WalkError.Unsafe c.in-Err-Unsafe.lane c.in-Err-Unsafe.instruction c.in-Err-Unsafe.trap)) =
+    let walked : IsFirstTold c.args.universe.now c.args.plan.now.lanes (rows_of c.args.known.now)
+    c.in-Err-Unsafe.lane (Meets c.in-Err-Unsafe.trap) c.in-Err-Unsafe.instruction =
     subst
     (λ e. AreWalked c.args.universe.now c.args.plan.now.lanes (rows_of c.args.known.now) (Err e))
     c.in-Err-Unsafe.field-0-is c.in-Err-Unsafe.ensures in
-    walked.2.in_plan
+    walked.first.in_plan
 
 pub returns-in-Err-Unsafe : goal.returns-in-Err-Unsafe
 returns-in-Err-Unsafe c =
     refused c.args.universe.now c.args.plan.now.lanes (rows_of c.args.known.now)
-    c.in-Err-Unsafe.lane c.in-Err-Unsafe.instruction c.in-Err-Unsafe.trap
+    c.in-Err-Unsafe.lane c.in-Err-Unsafe.instruction (Meets c.in-Err-Unsafe.trap)
     (subst
     (λ e. AreWalked c.args.universe.now c.args.plan.now.lanes (rows_of c.args.known.now) (Err e))
     c.in-Err-Unsafe.field-0-is c.in-Err-Unsafe.ensures)

@@ -1,6 +1,6 @@
 use Rattle.std.proofs.Common.{◌≡◌, ◌+◌, inl, inr, None, sym, subst, length, arith}
 use Rattle.std.proofs.lemmas.Bool.{cases_eq}
-use Rattle.plan_model.specs.Safety.{risk_at}
+use Rattle.plan_model.specs.Safety.{hazard_at}
 use Rattle.plan_verifier.specs.Accepted.{AreCosts}
 use Rattle.plan_verifier.proofs.Walks.{more_costs, walk_ends}
 use Rattle.plan_verifier.proofs.costs.walk_lanes.Goals as goal
@@ -25,7 +25,7 @@ loop-number-preserved g c =
     let l = c.loop-number.number in
     record {
       safe = λ j i lt. elim (cases_eq j l) [
-        | inl same ↦ subst (λ k. risk_at u p rows k i ≡ None) (sym same) (c.in-Ok.ensures.0 i)
+        | inl same ↦ subst (λ k. hazard_at u p rows k i ≡ None) (sym same) (c.in-Ok.ensures.0 i)
         | inr other ↦ c.loop-number.invariant.safe j i (omega arith)
       ];
       costs = subst (AreCosts u p rows (l + 1)) (sym c.in_ok-push-in-Ok.ensures.items)

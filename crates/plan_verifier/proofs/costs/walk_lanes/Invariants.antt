@@ -1,11 +1,11 @@
 use Rattle.std.proofs.Common.{◌≡◌, ℕ, ◌<◌, None}
-use Rattle.plan_model.specs.Safety.{risk_at}
+use Rattle.plan_model.specs.Safety.{hazard_at}
 use Rattle.plan_verifier.specs.Accepted.{AreCosts}
 use Rattle.plan_verifier.proofs.costs.walk_lanes.Given as goal
 
 abbrev pub invariant-loop-number : goal.invariant-loop-number
 invariant-loop-number g l = record {
   safe : (j i : ℕ) → j < l.number
-      → risk_at l.stage.universe.now l.stage.plan.now.lanes (g.K.KnownWords.known l.stage.known.now).rows j i ≡ None;
+      → hazard_at l.stage.universe.now l.stage.plan.now.lanes (g.K.KnownWords.known l.stage.known.now).rows j i ≡ None;
   costs : AreCosts l.stage.universe.now l.stage.plan.now.lanes (g.K.KnownWords.known l.stage.known.now).rows l.number l.costs.items;
 }

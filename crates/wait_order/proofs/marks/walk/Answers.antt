@@ -14,7 +14,7 @@ loop-number-preserved c =
     let more = c.push.new.self.items in
     let of = c.in_ok-walk_lane.field-0 in
     record {
-      waits = c.in_ok-walk_lane.ensures.waits;
+      marks = c.in_ok-walk_lane.ensures.marks;
       long = omega (arith, c.in_ok-push.ensures.len, so_far.long);
       each = each_next
           (λ k (w : LaneOutputs). w.outputs.items ≡ lane_outputs u p k (length (lane p k).instructions))

@@ -8,7 +8,7 @@ use Rattle.wait_order.proofs.marks.walk.Given as goal
 abbrev pub invariant-loop-number : goal.invariant-loop-number
 invariant-loop-number l =
     record {
-      waits : l.waits.items ≡ all_marks l.universe l.plan.lanes l.number;
+      marks : l.marks.items ≡ all_marks l.universe l.plan.lanes l.number;
       long : length l.lanes.items ≡ l.number;
       each : (k : ℕ) (of : LaneOutputs) → slice_get l.lanes.items k ≡ Some of
           → of.outputs.items ≡ lane_outputs l.universe l.plan.lanes k

@@ -1,5 +1,6 @@
 use Rattle.std.proofs.Common.{◌≡◌, ◌+◌, suc, length, sym, ap, subst, ◌∙◌, arith}
 use Rattle.plan_model.specs.Plan.{lane}
+use Rattle.wait_order.specs.declared.marks.LastPoints.{LastPoints}
 use Rattle.wait_order.specs.Marks.{ArePast}
 use Rattle.wait_order.proofs.Leading.{read_at}
 use Rattle.wait_order.proofs.MarkLaws.{passed, lane_outputs-long}
@@ -19,14 +20,16 @@ loop-place-preserved c =
     let so_far = c.loop-place.invariant.passed in
     let long = lane_outputs-long u p l i (omega (arith, c.loop-place-test.true, ap length xs)) in
     record {
-      passed = passed u p l i c.index-instructions-place.result c.loop-place.waits.items
-          c.pass.new.waits.items c.loop-place.outputs.items c.pass.new.outputs.items c.loop-place.last
+      passed = passed u p l i c.index-instructions-place.result c.loop-place.marks.items
+          c.pass.new.marks.items c.loop-place.outputs.items c.pass.new.outputs.items
+          c.loop-place.last
           c.pass.new.last at so_far c.in_ok-pass.ensures.last
-          c.in_ok-pass.ensures.waits c.in_ok-pass.ensures.outputs;
+          c.in_ok-pass.ensures.marks c.in_ok-pass.ensures.outputs;
       past = subst (ArePast u p l (i + 1)) (sym c.in_ok-push.ensures.items)
-          (past_next u p l i c.loop-place.past.items c.len.result c.loop-place.last
+          (past_next u p l i c.loop-place.past.items c.len.result c.loop-place.last.here
           c.loop-place.invariant.past
-          (omega (arith, c.len.ensures, ap length so_far.outputs_are, long)) so_far.last_is);
+          (omega (arith, c.len.ensures, ap length so_far.outputs_are, long))
+          (ap (λ (o : LastPoints). o.here) so_far.last_is));
     }
 
 pub returns-clause-past : goal.returns-clause-past
@@ -43,6 +46,7 @@ returns-clause-past c =
     subst (λ k. ArePast u p l k c.push-2.new.self.items)
     (let e : i + 1 ≡ suc n = omega (arith, end) in e)
     (subst (ArePast u p l (i + 1)) (sym c.in_ok-push-2.ensures.items)
-    (past_next u p l i c.loop-place.past.items c.len-2.result c.loop-place.last
+    (past_next u p l i c.loop-place.past.items c.len-2.result c.loop-place.last.here
     c.loop-place.invariant.past
-    (omega (arith, c.len-2.ensures, ap length so_far.outputs_are, long)) so_far.last_is))
+    (omega (arith, c.len-2.ensures, ap length so_far.outputs_are, long))
+    (ap (λ (o : LastPoints). o.here) so_far.last_is)))

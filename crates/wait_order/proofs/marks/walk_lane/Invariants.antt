@@ -5,6 +5,6 @@ use Rattle.wait_order.proofs.marks.walk_lane.Given as goal
 -- the instructions so far
 abbrev pub invariant-loop-place : goal.invariant-loop-place
 invariant-loop-place l = record {
-  passed : IsPassed l.universe l.plan.lanes l.number l.place l.waits.items l.outputs.items l.last;
+  passed : IsPassed l.universe l.plan.lanes l.number l.place l.marks.items l.outputs.items l.last;
   past : ArePast l.universe l.plan.lanes l.number l.place l.past.items;
 }

@@ -2,10 +2,11 @@ use Rattle.std.proofs.Common.{◌≡◌, ℕ, List, sym, ap, subst, ◌∙◌}
 use Rattle.farm_model.specs.Universe.{Universe}
 use Rattle.plan_model.specs.Known.{IsGreatest}
 use Rattle.plan_model.specs.Plan.{Plan}
-use Rattle.wait_order.specs.Waits.{ArePoints}
+use Rattle.wait_order.specs.Points.{ArePoints}
 use Rattle.wait_order.specs.Columns.{column_of}
 use Rattle.wait_order.specs.KnownRows.{KnownRows, rows_of}
-use Rattle.wait_order.proofs.Linked.{points_in, rows_are_greatest}
+use Rattle.wait_order.proofs.Growing.{points_in}
+use Rattle.wait_order.proofs.Linked.{rows_are_greatest}
 use Rattle.wait_order.proofs.plan_rows.knowledge.Goals as goal
 
 make : Universe → Plan → List (List ℕ) → KnownRows

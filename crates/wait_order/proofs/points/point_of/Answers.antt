@@ -1,7 +1,8 @@
-use Rattle.std.proofs.Common.{◌<◌, length, refl, sym, ap, subst, ◌∙◌}
-use Rattle.wait_order.specs.Waits.{AreSources}
+use Rattle.std.proofs.Common.{◌≡◌, ◌<◌, inl, inr, length, None, refl, sym, ap, subst, ◌∙◌}
+use Rattle.std.proofs.lemmas.Option.{none-some, same_Some}
+use Rattle.wait_order.specs.Points.{asked, AreSources}
 use Rattle.wait_order.specs.Hits.{IsPointOf}
-use Rattle.wait_order.proofs.PointLaws.{wait_here}
+use Rattle.wait_order.proofs.PointLaws.{read_here, asked_here, when_named}
 use Rattle.wait_order.proofs.points.point_of.Goals as goal
 
 pub returns-in_ok-sources-in-Wait-clause-point : goal.returns-in_ok-sources-in-Wait-clause-point
@@ -15,11 +16,85 @@ returns-in_ok-sources-in-Wait-clause-point c =
       place = refl;
       own = refl;
       before = refl;
-      sources = λ f at. subst
-          (λ g. AreSources u p c.args.mark.lane c.args.mark.place g
+      sources = λ y test at asks. subst
+          (λ t. AreSources u p c.args.mark.lane c.args.mark.place t
           c.in_ok-sources-in-Wait.sources.items)
-          (wait_here p c.args.mark.lane c.args.mark.place c.instructions.result.now
-          c.index-instructions-mark.result _ f xs lt
-          (sym c.index-instructions-mark.is ∙ c.in-Wait.is) at)
+          (same_Some _ test (asked_here u p c.args.mark.lane c.args.mark.place
+          c.instructions.result.now
+          c.index-instructions-mark.result _ y test xs lt
+          (sym c.index-instructions-mark.is ∙ c.in-Wait.is) at asks))
           c.in_ok-sources-in-Wait.ensures.sources;
+    })
+
+pub returns-in_ok-sources-in-When-clause-point : goal.returns-in_ok-sources-in-When-clause-point
+returns-in_ok-sources-in-When-clause-point c =
+    let u = c.args.universe.now in
+    let p = c.args.plan.now.lanes in
+    let xs = c.instructions.ensures ∙ ap (λ of. of.instructions) c.lane.ensures in
+    let lt = subst (λ ys. c.args.mark.place < length ys) (sym xs) c.requires.place in
+    subst (IsPointOf u p c.args.mark) (sym c.point_with-in-When.ensures) (record {
+      lane = refl;
+      place = refl;
+      own = refl;
+      before = refl;
+      sources = λ y test at asks. subst
+          (λ t. AreSources u p c.args.mark.lane c.args.mark.place t
+          c.in_ok-sources-in-When.sources.items)
+          (same_Some _ test (asked_here u p c.args.mark.lane c.args.mark.place
+          c.instructions.result.now
+          c.index-instructions-mark.result _ y test xs lt
+          (sym c.index-instructions-mark.is ∙ c.in-When.is) at asks))
+          c.in_ok-sources-in-When.ensures;
+    })
+
+pub when_sources-requires-clause-name : goal.when_sources-requires-clause-name
+when_sources-requires-clause-name c =
+    let u = c.args.universe.now in
+    let p = c.args.plan.now.lanes in
+    let xs = c.instructions.ensures ∙ ap (λ of. of.instructions) c.lane.ensures in
+    let lt = subst (λ ys. c.args.mark.place < length ys) (sym xs) c.requires.place in
+    when_named u p c.args.mark.lane c.args.mark.place c.in-When.name c.in-When.relation
+    c.requires.sound c.requires.lane
+    (read_here p c.args.mark.lane c.args.mark.place c.instructions.result.now
+    c.index-instructions-mark.result _ xs lt (sym c.index-instructions-mark.is ∙ c.in-When.is))
+
+pub returns-in-Unpack-clause-point : goal.returns-in-Unpack-clause-point
+returns-in-Unpack-clause-point c =
+    let u = c.args.universe.now in
+    let p = c.args.plan.now.lanes in
+    let x = c.index-instructions-mark.result in
+    let xs = c.instructions.ensures ∙ ap (λ of. of.instructions) c.lane.ensures in
+    let lt = subst (λ ys. c.args.mark.place < length ys) (sym xs) c.requires.place in
+    let none : asked u x ≡ None =
+    elim c.in-Unpack.is [
+      | inl a ↦ ap (asked u) a.2
+      | inr b ↦ elim b [
+        | inl a ↦ ap (asked u) a.1
+        | inr b ↦ elim b [
+          | inl a ↦ ap (asked u) a.1
+          | inr b ↦ elim b [
+            | inl a ↦ ap (asked u) a.1
+            | inr b ↦ elim b [
+              | inl a ↦ ap (asked u) a.1
+              | inr b ↦ elim b [
+                | inl a ↦ ap (asked u) a.1
+                | inr b ↦ elim b [
+                  | inl a ↦ ap (asked u) a
+                  | inr a ↦ ap (asked u) a
+                ]
+              ]
+            ]
+          ]
+        ]
+      ]
+    ] in
+    subst (IsPointOf u p c.args.mark) (sym c.point_with-in-Unpack.ensures) (record {
+      lane = refl;
+      place = refl;
+      own = refl;
+      before = refl;
+      sources = λ y test at asks. absurd (none-some test (sym none
+          ∙ asked_here u p c.args.mark.lane c.args.mark.place c.instructions.result.now x x y test
+          xs lt
+          (sym c.index-instructions-mark.is) at asks));
     })

@@ -20,36 +20,37 @@ of-requires c =
 pub point_of-requires-clause-own : goal.point_of-requires-clause-own
 unfolding none
 point_of-requires-clause-own c =
-    (mark_facts c.args.universe.now c.args.plan.now.lanes c.as_slice-waits.result.now c.loop-w.w none
-    (c.as_slice-waits.ensures.value ∙ c.requires.waits) c.loop-w-test.true).0
+    (mark_facts c.args.universe.now c.args.plan.now.lanes c.as_slice-all.result.now c.loop-w.w none
+    (c.as_slice-all.ensures.value ∙ c.requires.marks) c.loop-w-test.true).0
 
 pub point_of-requires-clause-lane : goal.point_of-requires-clause-lane
 unfolding none
 point_of-requires-clause-lane c =
-    (mark_facts c.args.universe.now c.args.plan.now.lanes c.as_slice-waits.result.now c.loop-w.w none
-    (c.as_slice-waits.ensures.value ∙ c.requires.waits) c.loop-w-test.true).1
+    (mark_facts c.args.universe.now c.args.plan.now.lanes c.as_slice-all.result.now c.loop-w.w none
+    (c.as_slice-all.ensures.value ∙ c.requires.marks) c.loop-w-test.true).1
 
 pub point_of-requires-clause-place : goal.point_of-requires-clause-place
 unfolding none
 point_of-requires-clause-place c =
-    (mark_facts c.args.universe.now c.args.plan.now.lanes c.as_slice-waits.result.now c.loop-w.w none
-    (c.as_slice-waits.ensures.value ∙ c.requires.waits) c.loop-w-test.true).2
+    (mark_facts c.args.universe.now c.args.plan.now.lanes c.as_slice-all.result.now c.loop-w.w none
+    (c.as_slice-all.ensures.value ∙ c.requires.marks) c.loop-w-test.true).2
 
 pub loop-w-preserved : goal.loop-w-preserved
 loop-w-preserved c =
     let u = c.args.universe.now in
     let p = c.args.plan.now.lanes in
-    let waits = c.as_slice-waits.result.now in
+    let marks = c.as_slice-all.result.now in
     let w = c.loop-w.w in
     let items = c.in_ok-push.ensures.items in
-    let at = slice_get-get_or waits w (record { lane = 0; place = 0; own = 0; before = None }) c.loop-w-test.true in
+    let at = slice_get-get_or marks w (record { lane = 0; place = 0; own = 0; before = None })
+    c.loop-w-test.true in
     record {
       long = ap length items ∙ length-append c.loop-w.points.items (c.in_ok-point_of.field-0 ∷ [])
           ∙ ap (λ n. n + 1) c.loop-w.invariant.long;
       have =
           λ k m lt at_k. subst (λ ps. HasPointOf u p ps k m) (sym items)
-          (points_next u p waits c.loop-w.points.items w
-          (get_or waits w (record { lane = 0; place = 0; own = 0; before = None }))
+          (points_next u p marks c.loop-w.points.items w
+          (get_or marks w (record { lane = 0; place = 0; own = 0; before = None }))
           c.in_ok-point_of.field-0 c.loop-w.invariant.long c.loop-w.invariant.have at
           c.in_ok-point_of.ensures.point k m lt at_k);
       found = c.in_ok-point_of.ensures.found;
@@ -57,11 +58,11 @@ loop-w-preserved c =
 
 pub returns : goal.returns
 returns c =
-    let waits = c.as_slice-waits.result.now in
-    let end : length waits ≤ c.loop-w.w = c.loop-w-test.false in
-    let last : c.loop-w.w ≤ length waits = c.loop-w.auto.w-end in
-    points_are c.args.universe.now c.args.plan.now.lanes waits c.loop-w.points.items
-    (c.as_slice-waits.ensures.value ∙ c.requires.waits)
+    let marks = c.as_slice-all.result.now in
+    let end : length marks ≤ c.loop-w.w = c.loop-w-test.false in
+    let last : c.loop-w.w ≤ length marks = c.loop-w.auto.w-end in
+    points_are c.args.universe.now c.args.plan.now.lanes marks c.loop-w.points.items
+    (c.as_slice-all.ensures.value ∙ c.requires.marks)
     (omega (arith, c.loop-w.invariant.long, end, last))
     (λ k m at. c.loop-w.invariant.have k m
-    (omega (arith, slice_get_within waits k m at, end)) at)
+    (omega (arith, slice_get_within marks k m at, end)) at)

@@ -4,12 +4,12 @@ use Rattle.wait_order.specs.Entries.{AreFor}
 use Rattle.wait_order.specs.Hits.{HasPointOf, AreEntrySources}
 use Rattle.wait_order.proofs.points.points.Given as goal
 
--- the waits so far
+-- the points so far
 abbrev pub invariant-loop-w : goal.invariant-loop-w
 invariant-loop-w l =
     record {
       long : length l.points.items ≡ l.w;
-      have : (k : ℕ) (m : Mark) → k < l.w → slice_get l.waits k ≡ Some m
+      have : (k : ℕ) (m : Mark) → k < l.w → slice_get l.all k ≡ Some m
           → HasPointOf l.universe l.plan.lanes l.points.items k m;
       found : AreFor (AreEntrySources l.universe l.plan.lanes) l.found.entries
           l.found.sources.items;

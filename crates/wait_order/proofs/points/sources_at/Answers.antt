@@ -1,11 +1,20 @@
-use Rattle.std.proofs.Common.{◌≡◌, length, slice_get, refl, sym, ap, subst, ◌∙◌, arith}
+use Rattle.std.proofs.Common.{◌≡◌, ℕ, List, length, slice_get, refl, sym, ap, subst, ◌∙◌, arith}
 use Rattle.std.specs.List.{filter}
 use Rattle.std.proofs.lemmas.Option.{slice_get_read}
+use Rattle.deb_relation.specs.Relations.{Entry}
+use Rattle.farm_model.specs.Universe.{Universe}
+use Rattle.farm_model.specs.Packages.{satisfies_entry}
+use Rattle.sat_rows.specs.Rows.{IsRowOf}
 use Rattle.wait_order.specs.Hits.{may_meet, AreEntrySources}
-use Rattle.wait_order.specs.Waits.{AreSources}
+use Rattle.wait_order.specs.Points.{AreSources}
 use Rattle.wait_order.proofs.KeptLaws.{for_longer, for_push, for_at}
 use Rattle.wait_order.proofs.MetSources.{met_are}
 use Rattle.wait_order.proofs.points.sources_at.Goals as goal
+
+-- the row that the tables gave is one of this universe
+row_is : (t u : Universe) (e : Entry) (row : List ℕ) → t ≡ u → IsRowOf t (satisfies_entry t e) row
+    → IsRowOf u (satisfies_entry u e) row
+row_is t u e row same is = subst (λ v. IsRowOf v (satisfies_entry v e) row) same is
 
 pub returns-then-number-len-clause-sources : goal.returns-then-number-len-clause-sources
 returns-then-number-len-clause-sources c =
@@ -21,9 +30,10 @@ returns-then-number-len-clause-sources c =
     c.number.ensures.longer c.requires.found) c.in_ok-number.ensures.at
     (slice_get_read kept (length kept) n c.index.result.now refl
     (omega (arith, c.if-number-len.true, c.len.ensures)) c.index.ensures) in
-    subst (AreSources u p mark.lane mark.place e)
+    subst (AreSources u p mark.lane mark.place (satisfies_entry u e))
     (sym (c.in_ok-met_sources.ensures ∙ ap (filter (may_meet mark)) c.deref.ensures.value))
-    (met_are u p e mark c.requires.lane c.requires.own c.index.result.now.sources.items are)
+    (met_are u p (satisfies_entry u e) mark c.requires.lane c.requires.own
+    c.index.result.now.sources.items are)
 
 pub returns-then-number-len-clause-found : goal.returns-then-number-len-clause-found
 returns-then-number-len-clause-found c =
@@ -37,9 +47,11 @@ returns-then-number-len-2-clause-sources c =
     let p = c.args.plan.now.lanes in
     let e = c.args.entry.now in
     let mark = c.args.mark in
-    subst (AreSources u p mark.lane mark.place e)
+    subst (AreSources u p mark.lane mark.place (satisfies_entry u e))
     (sym (c.in_ok-sources.ensures ∙ ap (filter (may_meet mark)) c.deref-2.ensures.value))
-    (met_are u p e mark c.requires.lane c.requires.own c.in_ok-all.all.items c.in_ok-all.ensures)
+    (met_are u p (satisfies_entry u e) mark c.requires.lane c.requires.own c.in_ok-all.all.items
+    (c.in_ok-all.ensures (satisfies_entry u e) (row_is c.args.tables.now u e c.in_ok-row.row
+    c.requires.tables c.in_ok-row.ensures)))
 
 pub returns-then-number-len-2-clause-found : goal.returns-then-number-len-2-clause-found
 returns-then-number-len-2-clause-found c =
@@ -53,9 +65,11 @@ returns-clause-sources c =
     let p = c.args.plan.now.lanes in
     let e = c.args.entry.now in
     let mark = c.args.mark in
-    subst (AreSources u p mark.lane mark.place e)
+    subst (AreSources u p mark.lane mark.place (satisfies_entry u e))
     (sym (c.in_ok-sources.ensures ∙ ap (filter (may_meet mark)) c.deref-2.ensures.value))
-    (met_are u p e mark c.requires.lane c.requires.own c.in_ok-all.all.items c.in_ok-all.ensures)
+    (met_are u p (satisfies_entry u e) mark c.requires.lane c.requires.own c.in_ok-all.all.items
+    (c.in_ok-all.ensures (satisfies_entry u e) (row_is c.args.tables.now u e c.in_ok-row.row
+    c.requires.tables c.in_ok-row.ensures)))
 
 pub returns-clause-found : goal.returns-clause-found
 returns-clause-found c =
@@ -69,4 +83,7 @@ returns-clause-found c =
     (let same : c.in_ok-number.number ≡ length kept =
     omega (arith, c.if-number-len-2.false, c.len-2.ensures) in
     ap (slice_get c.number.new.self) (sym same) ∙ c.in_ok-number.ensures.at)
-    c.in_ok-all.ensures c.in_ok-push.ensures.items
+    (c.in_ok-all.ensures (satisfies_entry u c.args.entry.now)
+    (row_is c.args.tables.now u c.args.entry.now c.in_ok-row.row c.requires.tables
+    c.in_ok-row.ensures))
+    c.in_ok-push.ensures.items

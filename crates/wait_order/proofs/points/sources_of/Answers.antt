@@ -1,14 +1,12 @@
-use Rattle.std.proofs.Common.{◌≡◌, ◌==◌, ◌<◌, length, get_or, refl, sym, subst, ◌∙◌, arith}
+use Rattle.std.proofs.Common.{◌≡◌, ◌==◌, ◌<◌, ◌≤◌, length, get_or, refl, sym, subst, ◌∙◌, arith}
 use Rattle.std.proofs.lemmas.Bool.{ne_eqb}
 use Rattle.std.proofs.lemmas.List.{get_or_default}
-use Rattle.farm_model.specs.Packages.{satisfies_entry}
 use Rattle.clock_laws.specs.Clocks.{count_before}
-use Rattle.sat_rows.specs.Rows.{IsRowOf}
 use Rattle.std.specs.Prelude.{if◌then◌else◌}
 use Rattle.std.proofs.lemmas.Option.{slice_get-get_or}
 use Rattle.wait_order.specs.Hits.{IsFirst}
 use Rattle.wait_order.proofs.HitLaws.{lanes_known}
-use Rattle.wait_order.proofs.Sources.{pushed}
+use Rattle.wait_order.proofs.Sources.{pushed, all_sources}
 use Rattle.wait_order.proofs.points.sources_of.Goals as goal
 
 pub first_hits-requires-clause-known : goal.first_hits-requires-clause-known
@@ -25,8 +23,8 @@ push_hit-requires c =
     let within : h < length firsts =
     omega (arith, c.loop-number-test.true, c.in_ok-firsts.ensures.long) in
     let first = c.index.ensures ∙ get_or_default firsts h c.index.result.now 0 within in
-    subst (IsFirst c.in_ok-row.row c.as_slice-outputs.result.now) (sym first)
-    (subst (λ outs. IsFirst c.in_ok-row.row outs (get_or firsts h 0))
+    subst (IsFirst c.args.row.now c.as_slice-outputs.result.now) (sym first)
+    (subst (λ outs. IsFirst c.args.row.now outs (get_or firsts h 0))
     (sym c.as_slice-outputs.ensures.value)
     (c.in_ok-firsts.ensures.each h of
     (slice_get-get_or lanes h c.index-lanes-number.result c.loop-number-test.true)))
@@ -42,13 +40,18 @@ loop-number-preserved c =
     let are =
     c.as_slice-outputs.ensures.value ∙ c.requires.lanes.each h of
     (slice_get-get_or lanes h c.index-lanes-number.result c.loop-number-test.true) in
-    let row =
-    subst (λ v. IsRowOf v (satisfies_entry v c.args.entry.now) c.in_ok-row.row) c.requires.tables
-    c.in_ok-row.ensures in
     let lt : h < length p = omega (arith, c.loop-number-test.true, c.requires.lanes.long) in
     let limit : length outs ≡ (if h == length p then count_before u p (length p) 0 else length outs) =
     rw (ne_eqb h (length p) (λ same. absurd (omega (arith, same, lt)))) refl in
-    pushed u p h outs are c.requires.sound.universe (length p) 0 c.args.entry.now c.in_ok-row.row
-    row lt (length outs) limit
-    c.loop-number.sources.items c.push_hit.new.sources.items c.loop-number.invariant
-    c.in_ok-push_hit.ensures
+    λ test row_is. pushed u p h outs are c.requires.sound.universe (length p) 0 test c.args.row.now
+    row_is lt (length outs) limit c.loop-number.sources.items c.push_hit.new.sources.items
+    (c.loop-number.invariant test row_is) c.in_ok-push_hit.ensures
+
+pub returns : goal.returns
+returns c =
+    let u = c.args.universe.now in
+    let p = c.args._plan.now.lanes in
+    let n = c.loop-number.number in
+    let le : length p ≤ n = omega (arith, c.loop-number-test.false, c.requires.lanes.long) in
+    λ test row_is. all_sources u p (length p) 0 n test c.loop-number.sources.items le
+    (c.loop-number.invariant test row_is)

@@ -20,5 +20,6 @@ returns-clause-initial c =
 
 pub returns-clause-outputs : goal.returns-clause-outputs
 returns-clause-outputs c =
-    let counted = outputs-counted c.args.universe.now c.args.plan.now.lanes in
-    omega (arith, counted, c.in_ok-history.ensures.exact, c.count.ensures, c.requires)
+    let counted = outputs-counted c.args.universe.now c.args.plan.now.lanes
+    c.requires.plan.branched in
+    omega (arith, counted, c.in_ok-history.ensures.exact, c.count.ensures, c.requires.counted)

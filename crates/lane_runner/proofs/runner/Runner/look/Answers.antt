@@ -1,7 +1,9 @@
-use Rattle.std.proofs.Common.{◌≡◌, ◌&&◌, true, false, sym, subst, ◌∙◌}
+use Rattle.std.proofs.Common.{◌≡◌, ◌&&◌, true, false, sym, ap, subst, ◌∙◌}
 use Rattle.farm_model.specs.Below.{some_below}
 use Rattle.farm_model.specs.Packages.{variant, variants, word_has, satisfies_entry}
 use Rattle.farm_model.specs.Universe.{Universe}
+use Rattle.plan_model.specs.Plan.{Lane}
+use Rattle.lane_runner.specs.OnWay.{passed}
 use Rattle.lane_runner.proofs.Accepts.{waits, passes}
 use Rattle.lane_runner.proofs.runner.Runner.look.Goals as goal
 
@@ -18,7 +20,9 @@ returns-then-some_satisfies-clause-running g c =
     passes c.args.accepted.now c.keeps.ensures c.args.self.now c.args.chroot.now _ _ _
     c.requires.running c.args.entry.now c.requires.here name word _ _ _
     c.load-word.ensures.log same.about_is same.lane_is c.pass.new.self
-    c.pass.ensures c.load-word.ensures.bounds found
+    (c.pass.ensures
+    ∙ ap (λ (of : Lane). passed of c.args.self.now 0) c.lane_of-lane.ensures.lane)
+    c.load-word.ensures.bounds found
 
 pub returns-clause-running : goal.returns-clause-running
 returns-clause-running g c =

@@ -1,8 +1,7 @@
-use Rattle.std.proofs.Common.{◌≡◌, ◌≤◌, ◌+◌, ◌⊎◌, List, length, refl, sym, ap, subst, ◌∙◌}
+use Rattle.std.proofs.Common.{◌≡◌, ◌<◌, ◌≤◌, ◌+◌, ◌⊎◌, List, length, refl, sym, ap, subst, ◌∙◌}
 use Rattle.farm_model.specs.declared.types.Variant.{Variant}
 use Rattle.farm_model.specs.Packages.{outputs}
 use Rattle.lane_records.specs.Records.{Record}
-use Rattle.plan_asm.specs.declared.error.TheConstants.{MOST_INSTRUCTIONS}
 use Rattle.plan_model.specs.declared.instructions.Instruction.TheVariants.{Publish}
 use Rattle.plan_model.specs.Plan.{Lane}
 use Rattle.plan_model.specs.Turn.{first_only}
@@ -40,10 +39,10 @@ publish_next-requires-clause-last g c =
 
 pub give-requires-clause-next : goal.give-requires-clause-next
 give-requires-clause-next g c =
-    place_below c.args.accepted.now c.keeps.ensures c.args.self.now c.args.chroot.now _ _ _
-    c.requires.running (Publish c.args.recipe) c.requires.here
-    (subst (λ (of : Lane). length of.instructions ≤ MOST_INSTRUCTIONS)
-    c.lane_of-lane.ensures.lane c.lane_of-lane.ensures.short)
+    subst (λ (of : Lane). c.args.self.now.done < length of.instructions)
+    (sym c.lane_of-lane.ensures.lane)
+    (place_below c.args.accepted.now c.keeps.ensures c.args.self.now c.args.chroot.now _ _ _
+    c.requires.running (Publish c.args.recipe) c.requires.here)
 
 pub give-requires-clause-paid : goal.give-requires-clause-paid
 give-requires-clause-paid g c =
@@ -67,5 +66,6 @@ returns-clause-running g c =
     c.args.recipe c.requires.here c.draw-serial.result _ c.draw-serial.ensures.log _ _
     drawn.about_is drawn.lane_is _ _ _ c.publish_next.ensures.log given.about_is given.lane_is
     c.give.new.self
-    (subst (λ (vs : List Variant). c.give.new.self
-    ≡ given_one (length vs) w (first_only w.made (length vs))) outs c.give.ensures)
+    (subst (λ (x : Lane × List Variant). c.give.new.self
+    ≡ given_one x.0 (length x.1) w (first_only w.made (length x.1)))
+    (λ i. (c.lane_of-lane.ensures.lane i, outs i)) c.give.ensures)

@@ -4,7 +4,7 @@ use Rattle.wait_order.specs.declared.marks.Past.{Past}
 use Rattle.wait_order.specs.Column.{IsIn}
 use Rattle.wait_order.specs.Columns.{column_of}
 use Rattle.wait_order.specs.KnownRows.{KnownRows}
-use Rattle.wait_order.proofs.ClockRows.{wait_in}
+use Rattle.wait_order.proofs.ClockRows.{point_in}
 use Rattle.wait_order.proofs.known.Known.clock.Goals as goal
 
 pub returns-clause-fits : goal.returns-clause-fits
@@ -22,6 +22,6 @@ returns-clause-fits c =
           subst (λ (cs : List (List ℕ)). IsIn (length (column_of cs j)) c.past-past.result.last)
           (sym c.deref.ensures.value)
           (subst (λ (o : Option ℕ). IsIn (length (column_of columns j)) o) (sym last)
-          (wait_in u q columns c.args.number c.args.place c.self.invariant
+          (point_in u q columns c.args.number c.args.place c.self.invariant
           (omega (arith, c.requires.lane, long)) j (omega (arith, lt, long))));
     }

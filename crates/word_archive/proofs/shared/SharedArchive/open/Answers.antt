@@ -26,4 +26,5 @@ invariant_of-archive-clause-wide c =
 
 pub invariant_of-archive-clause-small : goal.invariant_of-archive-clause-small
 invariant_of-archive-clause-small c =
-    is_small c.args.accepted.now (omega (arith, c.plan.ensures.counted))
+    is_small c.args.accepted.now c.keeps.ensures.sound.plan
+    (omega (arith, c.plan.ensures.counted))
