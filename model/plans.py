@@ -24,10 +24,12 @@ class Instruction:
 
 
 class Lane:
-    """A lane. Its instruction of number n is `instructions[n - 1]`; at place n the next one is `instructions[n]`."""
+    """A lane. Its instruction of number n is `instructions[n - 1]`; at place n the next one is `instructions[n]`. For
+    each instruction `lines` has its line, and the line of the `use` in the lane that brings it in, or None."""
 
     def __init__(self, name, chroot, budget):
         self.name, self.chroot, self.budget, self.instructions = name, chroot, budget, []
+        self.lines, self.first_line, self.last_line = [], None, None
 
     def first(self, verb, place):
         """The number of the first instruction of a verb behind a place. So the `else` and the `end` of a `when` are
@@ -39,9 +41,17 @@ class Lane:
         return max(n for n, it in enumerate(self.instructions[:place]) if it.verb == "when")
 
 
+class Plan(list):
+    """The lanes of a plan, and the line that says `plan 1`."""
+
+    def __init__(self, lanes, first_line):
+        super().__init__(lanes)
+        self.first_line = first_line
+
+
 class Block:
     def __init__(self, name):
-        self.name, self.instructions = name, []
+        self.name, self.instructions, self.lines = name, [], []
 
 
 class Reader:
@@ -59,6 +69,7 @@ class Reader:
         found = [piece for piece in text.replace("\t", " ").split(" ") if piece]
         if head == "lane":
             self.begin_lane(found)
+            self.open.first_line = line
             self.first_lines.append(line)
         elif head == "block":
             self.begin_block(found)
@@ -66,14 +77,16 @@ class Reader:
         elif self.open is None or self.branch and head in NOT_IN_BRANCHES:
             raise Fault(302)
         elif head == "else" and not found:
-            self.otherwise()
+            self.otherwise(line)
         elif head == "end" and not found:
-            self.end()
+            self.end(line)
             self.first_lines.pop()
         elif head == "use":
-            self.add(self.used(found))
+            block = self.used(found)
+            is_lane = isinstance(self.open, Lane)
+            self.add(block.instructions, [(own, line if is_lane else None) for own, _ in block.lines])
         else:
-            self.add([read_instruction(self.universe, head, text, found)])
+            self.add([read_instruction(self.universe, head, text, found)], [(line, None)])
             if head == "when":
                 self.branch = "when"
                 self.first_lines.append(line)
@@ -100,22 +113,24 @@ class Reader:
             raise Fault(308)
         self.open = Block(found[0])
 
-    def otherwise(self):
+    def otherwise(self, line):
         if self.branch != "when":
             raise Fault(302)
-        self.add([Instruction("else")])
+        self.add([Instruction("else")], [(line, None)])
         self.branch = "else"
 
-    def end(self):
+    def end(self, line):
         """Ends the second branch, if one is open, or else the lane or block."""
         if self.branch == "when":
             raise Fault(302)
         if self.branch == "else":
-            self.add([Instruction("end")])
+            self.add([Instruction("end")], [(line, None)])
             self.branch = None
             return
         if isinstance(self.open, Block):
             self.blocks[self.open.name] = self.open
+        else:
+            self.open.last_line = line
         self.open = None
 
     def used(self, found):
@@ -123,9 +138,9 @@ class Reader:
             raise Fault(302)
         if found[0] not in self.blocks:
             raise Fault(305)
-        return self.blocks[found[0]].instructions
+        return self.blocks[found[0]]
 
-    def add(self, instructions):
+    def add(self, instructions, numbers):
         if isinstance(self.open, Lane):
             for instruction in instructions:
                 if instruction.verb == "publish":
@@ -133,6 +148,7 @@ class Reader:
                         raise Fault(307)
                     self.published.add(instruction.recipe)
         self.open.instructions += instructions
+        self.open.lines += numbers
         together = self.lanes if isinstance(self.open, Lane) else [self.open]
         if sum(len(it.instructions) for it in together) > INSTRUCTIONS:
             raise Fault(309)
@@ -189,7 +205,7 @@ def read_plan(universe, text):
     """The lanes of a plan, or its first fault."""
     if len(text) > TEXT_LIMIT:
         raise Fault(105, 0, "plan")
-    reader, begun = Reader(universe), False
+    reader, begun = Reader(universe), None
     for line, content in enumerate(lines(text), 1):
         if content.startswith("#") or content.strip(" \t") == "":
             continue
@@ -197,7 +213,7 @@ def read_plan(universe, text):
         if not begun:
             if content.replace("\t", " ").split(" ")[0] != "plan" or content[4:].strip(" \t") != "1":
                 raise Fault(301, line, "plan")
-            begun = True
+            begun = line
             continue
         try:
             reader.read(content, line)
@@ -207,20 +223,24 @@ def read_plan(universe, text):
         raise Fault(301, 0, "plan")
     if reader.open is not None:
         raise Fault(306, reader.first_lines[-1], "plan")
-    return reader.lanes
+    return Plan(reader.lanes, begun)
 
 
 def listing(plan):
     """The plan with its blocks put in."""
-    written = ["plan 1"]
+    return [content for _, _, content in numbered(plan)]
+
+
+def numbered(plan):
+    """The lines of the listing, each with the number of its instruction and its line in the plan, or None."""
+    yield None, plan.first_line, "plan 1"
     for lane in plan:
-        written.append(f"lane {lane.name} chroot {lane.chroot.name} budget {lane.budget}")
+        yield None, lane.first_line, f"lane {lane.name} chroot {lane.chroot.name} budget {lane.budget}"
         indent = "  "
-        for it in lane.instructions:
+        for place, it in enumerate(lane.instructions):
             if it.verb in ("else", "end"):
                 indent = "  "
-            written.append(f"{indent}{it}")
+            yield place + 1, lane.lines[place][0], f"{indent}{it}"
             if it.verb in ("when", "else"):
                 indent = "    "
-        written.append("end")
-    return written
+        yield None, lane.last_line, "end"

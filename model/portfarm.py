@@ -1,19 +1,22 @@
 #!/usr/bin/env python3
 """A plain model of portfarm, written from docs/RULES.md and docs/FORMATS.md: the same words, answers and statuses.
 
-  model/portfarm.py check|list|cert PACKAGES SOURCES FARM PLAN
+  model/portfarm.py check|explain|list|cert PACKAGES SOURCES FARM PLAN
+  model/portfarm.py list --number PACKAGES SOURCES FARM PLAN
   model/portfarm.py verify-cert PACKAGES SOURCES FARM PLAN CERT
-  model/portfarm.py step --schedule LIST PACKAGES SOURCES FARM PLAN
+  model/portfarm.py step --schedule LIST|@FILE PACKAGES SOURCES FARM PLAN
   model/portfarm.py                   the verdict on the four texts of standard input, divided by lines `%%`
 
-It is slow, it shares no code with the crates, and the texts of wrong words are its own.
+It is slow, it shares no code with the crates, and the texts of wrong words are its own. Of a fault of a text `explain`
+tells the line alone. The program has no `explain`, no `list --number` and no `@FILE` yet: here they come first.
 """
 
 import sys
 
 import certificates
 from core import step
-from plans import listing, read_plan
+from explain import unsafe_lines
+from plans import listing, numbered, read_plan
 from texts import DIGITS, FILES, Fault
 from universe import read_universe
 from verdict import judge
@@ -46,6 +49,22 @@ def read_schedule(text):
     return [int(piece) for piece in found]
 
 
+def named_turns(plan, text):
+    """The lanes of a schedule that stands in a file, by number or name, or None where a word is no lane's."""
+    numbers = {lane.name: number for number, lane in reversed(list(enumerate(plan)))}
+    found = []
+    for word in text.replace(",", " ").replace("\t", " ").replace("\n", " ").split(" "):
+        if word and set(word) <= DIGITS:
+            found.append(int(word) if int(word) < len(plan) else None)
+        elif word:
+            found.append(numbers.get(word))
+    return None if None in found else found
+
+
+def numbered_line(number, line, content):
+    return f"{number or '-'} {line or '-'} {content}"
+
+
 def answer(command, texts, more=None):
     """The lines that a command writes, and its status."""
     try:
@@ -53,8 +72,14 @@ def answer(command, texts, more=None):
         plan = read_plan(universe, texts["plan"])
     except Fault as fault:
         return [f"refused {fault.code} {fault.file} line {fault.line}"], 1
+    if command == "list" and more == "--number":
+        return [numbered_line(*found) for found in numbered(plan)], 0
     if command == "list":
         return listing(plan), 0
+    if command == "step" and isinstance(more, str):
+        more = named_turns(plan, more)
+    if command == "step" and more is None:
+        return None, 2
     if command == "step":
         written, is_well = step(universe, plan, more)
         return written, 0 if is_well else 1
@@ -62,6 +87,8 @@ def answer(command, texts, more=None):
         line, is_one = certificates.check(universe, plan, more)
         return [line], 0 if is_one else 1
     written, accepts, rows, order = judge(universe, plan)
+    if command == "explain" and written[0].startswith(("refused 401", "refused 403")):
+        written = list(unsafe_lines(universe, rows))
     if command == "cert" and accepts:
         written = certificates.certificate(universe, plan, rows, order)
     return written, 0 if accepts else 1
@@ -79,19 +106,27 @@ def main(words):
         command, texts = "check", cut_input(sys.stdin.buffer.read().decode("latin-1"))
     else:
         command, *rest = words
-        if command == "step" and rest[:1] == ["--schedule"] and len(rest) > 1:
+        by_file = command == "step" and rest[:1] == ["--schedule"] and rest[1:2] and rest[1].startswith("@")
+        if by_file:
+            rest = [*rest[2:], rest[1][1:]]
+        elif command == "step" and rest[:1] == ["--schedule"] and len(rest) > 1:
             more, rest = read_schedule(rest[1]), rest[2:]
             if more is None:
                 print("portfarm: bad schedule", file=sys.stderr)
                 return 2
-        paths = 5 if command == "verify-cert" else 4
-        if command not in ("check", "list", "cert", "verify-cert", "step") or len(rest) != paths:
+        elif command == "list" and rest[:1] == ["--number"]:
+            more, rest = rest[0], rest[1:]
+        paths = 5 if command == "verify-cert" or by_file else 4
+        if command not in ("check", "explain", "list", "cert", "verify-cert", "step") or len(rest) != paths:
             print(__doc__, file=sys.stderr)
             return 2
         found = [text_of(path) for path in rest]
         texts = dict(zip(FILES, found))
-        more = found[4] if command == "verify-cert" else more
+        more = found[4] if paths == 5 else more
     written, status = answer(command, texts, more)
+    if written is None:
+        print("portfarm: bad schedule", file=sys.stderr)
+        return status
     sys.stdout.buffer.write("".join(f"{line}\n" for line in written).encode("latin-1"))
     return status
 

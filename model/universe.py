@@ -40,6 +40,11 @@ class Variant:
             return False
         return self.name == alternative.name and alternative.in_relation(self.version) or self.provides(alternative)
 
+    def is_like(self, alternative):
+        """Whether it is or provides what the alternative names, in any version."""
+        items = (item for [item] in self.relations["Provides"])
+        return self.name == alternative.name or any(item.name == alternative.name for item in items)
+
     def needs(self):
         return self.relations["Pre-Depends"] + self.relations["Depends"]
 

@@ -2,8 +2,9 @@
 
 use farm_archive::Publication;
 use farm_executor::Bell;
-use farm_report::{lane_name, name_of, version_of};
-use lane_runner::{Gate, Go};
+use farm_report::lane_name;
+use farm_spelling::{name_of, version_of};
+use lane_runner::{Gate, Go, LaneArchive};
 use plan_asm::Plan;
 use plan_verifier::Accepted;
 use std::alloc::{AllocError, Global};
@@ -107,10 +108,11 @@ impl<R: Wait + Eprint> Gate for Teller<'_, R> {
         self.bell.pause(lane, instruction)
     }
 
-    fn published(&self, accepted: &Accepted, publication: Publication) {
+    fn published<A: LaneArchive>(&self, accepted: &Accepted, end: &A, publication: Publication) {
         if self.tells {
             self.tell_publication(accepted, publication);
         }
+        self.bell.published(accepted, end, publication);
     }
 
     fn ring(&self) {

@@ -3,6 +3,7 @@
 --
 --   AreBases             the base chroots of the first lanes
 --   blank_log_of         the record of a lane that has not begun
+--   blank_seat           its seat then
 --   IsSeatedAt           a lane with its chroot and its seat
 --   IsJobOf              that one, in its base chroot
 --   IsSeatOf             a seat of that table, plan and lane
@@ -24,6 +25,10 @@ pub record AreBases (a : AcceptedPlan) (n : ℕ) (chroots : List Held) : Type 0 
 abbrev pub blank_log_of : AcceptedPlan → ℕ → Option Record
 blank_log_of a l = Some (blank a.universe (lane a.plan l))
 
+-- the seat of a lane that has not begun
+abbrev pub blank_seat : TableId → AcceptedPlan → ℕ → LaneSeatOf
+blank_seat t a l = seat_of t a l (blank a.universe (lane a.plan l))
+
 -- a seat of that table, plan and lane, whatever its record
 abbrev pub IsSeatOf : TableId → AcceptedPlan → ℕ → LaneSeatOf → Type 0
 IsSeatOf t a l q = q ≡ seat_of t a l q.log
@@ -33,7 +38,7 @@ pub record IsSeatedAt (t : TableId) (a : AcceptedPlan) (l : ℕ) (base : Held) (
     (c : Held) (q : LaneSeatOf) : Type 0 where
   pub number_is : number ≡ l
   pub chroot_is : c ≡ base
-  pub seat_is : q ≡ seat_of t a l (blank a.universe (lane a.plan l))
+  pub seat_is : q ≡ blank_seat t a l
 
 -- lane l has its base chroot, and its seat with a blank record
 pub record IsJobOf (t : TableId) (a : AcceptedPlan) (l : ℕ) (number : ℕ) (c : Held)

@@ -3,7 +3,7 @@
 ghost use Rattle.lane_runner.specs.declared.gate.Go.TheVariants.{GiveUp};
 
 use farm_archive::Publication;
-use lane_runner::{Gate, Go};
+use lane_runner::{Gate, Go, LaneArchive};
 use plan_verifier::Accepted;
 use std::alloc::{AllocError, Global};
 use std::sync::{Condvar, Mutex, Wait};
@@ -72,7 +72,9 @@ impl<R: Wait> Gate for Bell<'_, R> {
         Go::Continue
     }
 
-    fn published(&self, _accepted: &Accepted, _publication: Publication) {}
+    fn published<A: LaneArchive>(&self, _accepted: &Accepted, _end: &A, _output: Publication) {
+        self.ring();
+    }
 
     fn ring(&self) {
         let mut counts = self.counts.lock(self.rt);

@@ -22,8 +22,8 @@ pub struct LaneJob<E> {
     pub end: E,
 }
 
-/// A lane that was run: how it ended, with code 0 where it came to its end, what it spent, in steps,
-/// and what it was given.
+/// A lane that was run: how it ended, with code 0 where it came to its end, what it spent, in
+/// steps, and what it was given.
 #[derive(Drop)]
 pub struct LaneEnd<E> {
     pub stop: LaneStop,
@@ -114,6 +114,15 @@ fn lane_thread<R: Wait, Q: Judged, E: LaneArchive, G: Gate>(
     }
 }
 
+/// What all lanes of a run have in common: what their threads may do, the accepted plan, and the
+/// gate.
+#[derive(Drop)]
+pub struct Setting<'s, R, Q, G> {
+    pub rt: &'s R,
+    pub judged: &'s Q,
+    pub gate: &'s G,
+}
+
 /// The promise of a lane's thread: the end of this job, at this gate.
 #[derive(Drop)]
 pub struct EndOf<E: LaneArchive + Drop, G: Gate> {
@@ -141,21 +150,22 @@ fn start<
     G: Gate + Sync,
 >(
     scope: &Scope<'s, S>,
-    rt: &'s R,
-    judged: &'s Q,
-    gate: &'s G,
+    setting: &Setting<'s, R, Q, G>,
     refused: &'s AtomicU64,
     job: LaneJob<E>,
 ) -> Started<E, G>
-    requires ready { IsReady (Q.plan judged.now) job.lane (E.about job.end) (E.lane job.end) job.chroot
-        (E.log job.end) }
+    requires ready { IsReady (Q.plan setting.now.judged.now) job.lane (E.about job.end)
+        (E.lane job.end) job.chroot (E.log job.end) }
     ensures { MatchResult result
-        (λ h. (h.promise.job.value ≡ job) × (h.promise.gate.value ≡ gate.now))
+        (λ h. (h.promise.job.value ≡ job) × (h.promise.gate.value ≡ setting.now.gate.now))
         (λ e. IsSameEnd (E.home job.end) (E.about job.end) (E.lane job.end) (E.home e.end)
         (E.about e.end) (E.lane e.end)
-        × IsEndOf (E.about job.end) (G.may_give_up gate.now) job.lane job.chroot (E.log job.end)
-        e.chroot (E.log e.end) e.stop e.spent) }
+        × IsEndOf (E.about job.end) (G.may_give_up setting.now.gate.now) job.lane job.chroot
+        (E.log job.end) e.chroot (E.log e.end) e.stop e.spent) }
 {
+    let rt = setting.rt;
+    let judged = setting.judged;
+    let gate = setting.gate;
     let promise = EndOf {
         job: Snapshot::of(&job),
         gate: Snapshot::of(gate),
@@ -179,27 +189,25 @@ fn start_next<
     G: Gate + Sync,
 >(
     scope: &Scope<'s, S>,
-    rt: &'s R,
-    judged: &'s Q,
-    gate: &'s G,
+    setting: &Setting<'s, R, Q, G>,
     refused: &'s AtomicU64,
     failed: bool,
     job: LaneJob<E>,
 ) -> Started<E, G>
-    requires ready { IsReady (Q.plan judged.now) job.lane (E.about job.end) (E.lane job.end) job.chroot
-        (E.log job.end) }
+    requires ready { IsReady (Q.plan setting.now.judged.now) job.lane (E.about job.end)
+        (E.lane job.end) job.chroot (E.log job.end) }
     ensures { MatchResult result
-        (λ h. (h.promise.job.value ≡ job) × (h.promise.gate.value ≡ gate.now))
+        (λ h. (h.promise.job.value ≡ job) × (h.promise.gate.value ≡ setting.now.gate.now))
         (λ e. IsSameEnd (E.home job.end) (E.about job.end) (E.lane job.end) (E.home e.end)
         (E.about e.end) (E.lane e.end)
-        × IsEndOf (E.about job.end) (G.may_give_up gate.now) job.lane job.chroot (E.log job.end)
-        e.chroot (E.log e.end) e.stop e.spent) }
+        × IsEndOf (E.about job.end) (G.may_give_up setting.now.gate.now) job.lane job.chroot
+        (E.log job.end) e.chroot (E.log e.end) e.stop e.spent) }
 {
     if failed {
         refused.store(1, Ordering::SeqCst);
-        return Err(lane_thread(rt, judged, gate, refused, job));
+        return Err(lane_thread(setting.rt, setting.judged, setting.gate, refused, job));
     }
-    start(scope, rt, judged, gate, refused, job)
+    start(scope, setting, refused, job)
 }
 
 /// Starts each lane, until one can't be started: from there on each lane ends as never started. The
@@ -213,30 +221,29 @@ pub fn start_all<
     G: Gate + Sync,
 >(
     scope: &Scope<'s, S>,
-    rt: &'s R,
-    judged: &'s Q,
-    gate: &'s G,
+    setting: &Setting<'s, R, Q, G>,
     refused: &'s [AtomicU64],
     jobs: Vec<LaneJob<E>>,
     mut handles: Vec<Started<E, G>>,
 ) -> Vec<Started<E, G>>
     requires ready { (k : ℕ) (j : _) → slice_get jobs.items k ≡ Some j
-        → IsReady (Q.plan judged.now) j.lane (E.about j.end) (E.lane j.end) j.chroot (E.log j.end) }
+        → IsReady (Q.plan setting.now.judged.now) j.lane (E.about j.end) (E.lane j.end) j.chroot
+        (E.log j.end) }
     requires flags { length refused.now ≡ length jobs.items }
     requires handles { (handles.items ≡ []) × (length jobs.items ≤ vec_capacity handles) }
     ensures long { length result.items ≡ length jobs.items }
     ensures each { (k : ℕ) (j : _) (h : _) → slice_get jobs.items k ≡ Some j
         → slice_get result.items k ≡ Some h → MatchResult h
-        (λ p. (p.promise.job.value ≡ j) × (p.promise.gate.value ≡ gate.now))
+        (λ p. (p.promise.job.value ≡ j) × (p.promise.gate.value ≡ setting.now.gate.now))
         (λ e. IsSameEnd (E.home j.end) (E.about j.end) (E.lane j.end) (E.home e.end)
         (E.about e.end) (E.lane e.end)
-        × IsEndOf (E.about j.end) (G.may_give_up gate.now) j.lane j.chroot (E.log j.end)
-        e.chroot (E.log e.end) e.stop e.spent) }
+        × IsEndOf (E.about j.end) (G.may_give_up setting.now.gate.now) j.lane j.chroot
+        (E.log j.end) e.chroot (E.log e.end) e.stop e.spent) }
 {
     let mut failed = false;
     for job in jobs {
         let flag = &refused[handles.len()];
-        let started = start_next(scope, rt, judged, gate, flag, failed, job);
+        let started = start_next(scope, setting, flag, failed, job);
         failed = started.is_err();
         handles.push_reserved(started);
     }

@@ -9,7 +9,7 @@ ghost use Rattle.lane_runner.specs.Calls.{IsSameEnd};
 use crate::base::Base;
 use crate::causes::NOT_STARTED;
 use crate::judged::Judged;
-use crate::lanes::{LaneEnd, LaneJob, Started, join_all, start_all};
+use crate::lanes::{LaneEnd, LaneJob, Setting, Started, join_all, start_all};
 use lane_runner::{Gate, LaneArchive};
 use std::alloc::{AllocError, Global};
 use std::sync::Wait;
@@ -40,6 +40,16 @@ fn some_unstarted<E: LaneArchive + Drop, G: Gate>(handles: &[Started<E, G>]) -> 
     false
 }
 
+/// What is made for the lanes of a run before the first of them starts: their jobs, a flag for
+/// each, and room for their handles and their ends.
+#[derive(Drop)]
+pub struct Prepared<'s, E: LaneArchive + Drop, G: Gate> {
+    pub refused: &'s [AtomicU64],
+    pub jobs: Vec<LaneJob<E>>,
+    pub handles: Vec<Started<E, G>>,
+    pub ends: Vec<LaneEnd<E>>,
+}
+
 /// Starts the lanes, halts the archive where one was not started, and joins them.
 pub fn in_scope<
     's,
@@ -51,37 +61,41 @@ pub fn in_scope<
     G: Gate + Sync,
 >(
     scope: &Scope<'s, S>,
-    rt: &'s R,
-    judged: &'s Q,
-    gate: &'s G,
-    refused: &'s [AtomicU64],
-    jobs: Vec<LaneJob<E>>,
-    handles: Vec<Started<E, G>>,
-    ends: Vec<LaneEnd<E>>,
+    setting: &Setting<'s, R, Q, G>,
+    prepared: Prepared<'s, E, G>,
     mut base: B,
 ) -> (Vec<LaneEnd<E>>, B)
-    requires ready { (k : ℕ) (j : _) → slice_get jobs.items k ≡ Some j
-        → IsReady (Q.plan judged.now) j.lane (E.about j.end) (E.lane j.end) j.chroot (E.log j.end) }
-    requires flags { length refused.now ≡ length jobs.items }
-    requires handles { (handles.items ≡ []) × (length jobs.items ≤ vec_capacity handles) }
-    requires ends { (ends.items ≡ []) × (length jobs.items ≤ vec_capacity ends) }
-    ensures long { length result.0.items ≡ length jobs.items }
-    ensures each { (k : ℕ) (j : _) (e : _) → slice_get jobs.items k ≡ Some j
+    requires ready { (k : ℕ) (j : _) → slice_get prepared.jobs.items k ≡ Some j
+        → IsReady (Q.plan setting.now.judged.now) j.lane (E.about j.end) (E.lane j.end) j.chroot
+        (E.log j.end) }
+    requires flags { length prepared.refused.now ≡ length prepared.jobs.items }
+    requires handles { (prepared.handles.items ≡ [])
+        × (length prepared.jobs.items ≤ vec_capacity prepared.handles) }
+    requires ends { (prepared.ends.items ≡ [])
+        × (length prepared.jobs.items ≤ vec_capacity prepared.ends) }
+    ensures long { length result.0.items ≡ length prepared.entry.jobs.items }
+    ensures each { (k : ℕ) (j : _) (e : _) → slice_get prepared.entry.jobs.items k ≡ Some j
         → slice_get result.0.items k ≡ Some e
         → IsSameEnd (E.home j.end) (E.about j.end) (E.lane j.end) (E.home e.end) (E.about e.end)
         (E.lane e.end)
-        × IsEndOf (E.about j.end) (G.may_give_up gate.now) j.lane j.chroot (E.log j.end) e.chroot
-        (E.log e.end) e.stop e.spent }
+        × IsEndOf (E.about j.end) (G.may_give_up setting.now.gate.now) j.lane j.chroot
+        (E.log j.end) e.chroot (E.log e.end) e.stop e.spent }
     ensures base { (result.1 ≡ base) ⊎ (B.stops base result.1
         × ((k : ℕ) × (e : _) × (slice_get result.0.items k ≡ Some e)
         × (e.stop.code ≡ NOT_STARTED))) }
 {
-    let handles = start_all(scope, rt, judged, gate, refused, jobs, handles);
+    let Prepared {
+        refused,
+        jobs,
+        handles,
+        ends,
+    } = prepared;
+    let handles = start_all(scope, setting, refused, jobs, handles);
     if some_unstarted(handles.as_slice()) {
         base.stop();
-        gate.ring();
+        setting.gate.ring();
     }
-    (join_all(rt, handles, ends), base)
+    (join_all(setting.rt, handles, ends), base)
 }
 
 /// A flag for each lane, not set.
@@ -153,6 +167,15 @@ pub fn run_lanes<
             ensures base { (result.1 ≡ base) ⊎ (B.stops base result.1
                 × ((k : ℕ) × (e : _) × (slice_get result.0.items k ≡ Some e)
                 × (e.stop.code ≡ NOT_STARTED))) }
-        { in_scope(scope, rt, judged, gate, refused, jobs, handles, ends, base) },
+        {
+            let setting = Setting { rt, judged, gate };
+            let prepared = Prepared {
+                refused,
+                jobs,
+                handles,
+                ends,
+            };
+            in_scope(scope, &setting, prepared, base)
+        },
     ))
 }

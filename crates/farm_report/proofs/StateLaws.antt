@@ -1,6 +1,5 @@
 -- Names, versions and slots, as a state tells them.
-use Rattle.std.proofs.Common.{◌≡◌, ◌≤◌, ℕ, List, [], slice_index_or, refl, ap, option_map, Some, None, arith}
-use Rattle.std.proofs.lemmas.List.{get_or_past}
+use Rattle.std.proofs.Common.{◌≡◌, ℕ, List, [], refl, ap, option_map, Some, None}
 use Rattle.std.specs.List.{flat_map, range_with_len}
 use Rattle.chroot_state.specs.Held.{Held}
 use Rattle.chroot_state.specs.Slots.{bit_of, phase_of}
@@ -9,23 +8,10 @@ use Rattle.farm_model.specs.declared.types.Variant.{Variant}
 use Rattle.farm_model.specs.declared.types.Slot.{Slot}
 use Rattle.farm_model.specs.declared.types.Slot.TheVariants.{Absent, Unpacked, Configured}
 use Rattle.farm_model.specs.Chroot.{slot}
-use Rattle.farm_model.specs.Packages.{names, variant, variants, package_of, no_package}
-use Rattle.farm_model.specs.Universe.{Universe, Package}
+use Rattle.farm_model.specs.Packages.{names, variant}
+use Rattle.farm_model.specs.Universe.{Universe}
 use Rattle.plan_model.specs.Plan.{Plan}
 use Rattle.farm_report.specs.StateText.{published_text, variant_text, held_text, lane_lines}
-
--- a number past the last name has no variants
-pub not_named : (u : Universe) (v : Variant) → names u ≤ v.name → variants u v.name ≤ v.bit
-unfolding names variants
-not_named u v past = rw (get_or_past u.packages v.name [] past) (omega arith)
-
--- what is no variant has no version
-pub not_known : (u : Universe) (v : Variant) → variants u v.name ≤ v.bit
-    → (package_of u v).version ≡ []
-unfolding variants package_of
-not_known u v past =
-    ap (λ (q : Package). q.version)
-    (get_or_past (slice_index_or u.packages v.name []) v.bit no_package past)
 
 -- nothing is told of what is absent
 pub absent_is : (u : Universe) (n : ℕ) (s : Slot) → option_map (variant n) (bit_of s) ≡ None

@@ -4,7 +4,7 @@
 --   lane_lines                    a lane by its parts: place, cost, chroot
 --   lane_text, state_text         a lane in its state; a state
 --   step_text                     what a schedule comes to
-use Rattle.std.specs.Prelude.{ℕ, List, [], ◌++◌, length, codes, Option, Some, None, slice_index_or}
+use Rattle.std.specs.Prelude.{ℕ, List, [], ◌++◌, length, codes, Option, Some, None}
 use Rattle.std.specs.List.{flat_map, range_with_len}
 use Rattle.chroot_state.specs.declared.phase.Phase.{Phase}
 use Rattle.chroot_state.specs.declared.phase.Phase.TheVariants.{Absent as IsAbsent, Unpacked as IsUnpacked, Configured as IsConfigured}
@@ -16,21 +16,15 @@ use Rattle.farm_model.specs.declared.types.Variant.{Variant}
 use Rattle.farm_model.specs.declared.types.Slot.{Slot}
 use Rattle.farm_model.specs.declared.types.Slot.TheVariants.{Absent, Unpacked, Configured}
 use Rattle.farm_model.specs.Chroot.{Chroot, slot, used}
-use Rattle.farm_model.specs.Packages.{names, variant, package_of}
+use Rattle.farm_model.specs.Packages.{names, variant}
 use Rattle.farm_model.specs.TrapText.{trap_text}
 use Rattle.farm_model.specs.Universe.{Universe}
 use Rattle.plan_model.specs.Plan.{Plan, Lane, lane}
 use Rattle.plan_model.specs.Run.{State, lane_state}
 use Rattle.plan_model.specs.Turn.{LaneState}
+use Rattle.farm_spelling.specs.Variants.{version_of}
+use Rattle.plan_asm.specs.Listing.{name_of}
 use Rattle.farm_report.specs.AnswerLines.{counted_line, trap_line, published_line, at_line, variant_line}
-
--- a name by its number
-abbrev pub name_of : Universe → ℕ → List ℕ
-name_of u n = slice_index_or u.names n []
-
--- a version as the packages text spells it
-abbrev pub version_of : Universe → Variant → List ℕ
-version_of u v = (package_of u v).version
 
 -- a publication, with its serial
 abbrev pub published_text : Universe → Plan → Publication → List ℕ

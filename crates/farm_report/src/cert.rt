@@ -4,8 +4,8 @@ ghost use Rattle.std.specs.Prelude.{◌≡◌, is_err};
 ghost use Rattle.farm_report.specs.CertText as spec;
 ghost use Rattle.report_sink.specs.Sinks.{IsWritten};
 
+use crate::lane_names::lane_name;
 use crate::lines::{write_memory, write_refused_at, write_row, write_unsafe};
-use crate::spelling::lane_name;
 use cert_text::{BAD_ORDER, BAD_TEXT, CertFault, NOT_JUSTIFIED, UNEVEN, UNSAFE};
 use plan_asm::Plan;
 use report_sink::{Sink, WriteFailed, write_text};

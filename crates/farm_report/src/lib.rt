@@ -3,8 +3,8 @@
 
 mod cert;
 mod finished;
+mod lane_names;
 mod lines;
-mod spelling;
 mod state;
 mod state_lines;
 mod step;
@@ -12,7 +12,7 @@ mod verdict;
 
 pub use cert::write_cert_verdict;
 pub use finished::write_run;
+pub use lane_names::lane_name;
 pub use report_sink::{Sink, SinkFailed, WRITE_FAILED, WriteFailed, WriteSink, write_text};
-pub use spelling::{lane_name, name_of, version_of};
 pub use step::write_step;
 pub use verdict::{verdict_text, write_check};

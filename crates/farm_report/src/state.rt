@@ -9,10 +9,11 @@ ghost use Rattle.plan_model.specs.Plan.{lane};
 ghost use Rattle.plan_model.specs.Run.{lane_state};
 ghost use Rattle.report_sink.specs.Sinks.{IsWritten};
 
-use crate::spelling::{lane_name, name_of, version_of};
+use crate::lane_names::lane_name;
 use crate::state_lines::{write_at, write_published, write_variant};
 use chroot_state::{Chroot, Phase};
 use farm_core::{Core, Publication};
+use farm_spelling::{name_of, version_of};
 use farm_universe::Universe;
 use plan_asm::Plan;
 use report_sink::{Sink, WriteFailed, whether_written};

@@ -4,8 +4,8 @@ ghost use Rattle.std.specs.Prelude.{◌≡◌, is_err};
 ghost use Rattle.farm_report.specs.StateText as spec;
 ghost use Rattle.report_sink.specs.Sinks.{IsWritten};
 
+use crate::lane_names::lane_name;
 use crate::lines::write_counted;
-use crate::spelling::lane_name;
 use crate::state::write_state;
 use crate::state_lines::write_trap;
 use farm_core::{Outcome, Stop};

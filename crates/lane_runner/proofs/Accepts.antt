@@ -6,6 +6,7 @@ use Rattle.archive_laws.specs.LaneMoves.{outputs_made}
 use Rattle.chroot_state.specs.Held.{Held, IsHeld, room, with_slots}
 use Rattle.deb_relation.specs.declared.operator.Op.{Op}
 use Rattle.deb_relation.specs.Relations.{Entry}
+use Rattle.farm_archive.specs.declared.publication.Publication.{Publication}
 use Rattle.farm_model.specs.declared.types.Variant.{Variant}
 use Rattle.farm_model.specs.Below.{highest_below}
 use Rattle.farm_model.specs.Packages.{base, outputs, variant, variants, is_wanted, word_has}
@@ -20,13 +21,13 @@ use Rattle.plan_model.specs.Plan.{lane, instruction_at, capacity, unpack_cost}
 use Rattle.plan_model.specs.Safety.{IsAnnotation}
 use Rattle.plan_model.specs.Turn.{LaneState, first_only}
 use Rattle.plan_verifier.specs.Accepted.{AcceptedPlan, IsAccepted, known_rows}
-use Rattle.lane_runner.specs.Calls.{IsRunning}
+use Rattle.lane_runner.specs.Calls.{IsRunning, IsLastOutput}
 use Rattle.lane_runner.specs.OnWay.{gone_to, passed, given_one, branch_place, CanPass}
 use Rattle.lane_runner.specs.declared.runner.Runner.{Runner}
 use Rattle.lane_runner.proofs.Unpacks.{some_newest, unpack_free, unpack_goes}
 use Rattle.lane_runner.proofs.Whens.{when_goes}
 use Rattle.lane_runner.proofs.Waits.{one_word, waits_on, passes_on}
-use Rattle.lane_runner.proofs.Publishes.{given_lane, output_left, output_next, one_drawn, output_paid, publishes_on}
+use Rattle.lane_runner.proofs.Publishes.{given_lane, output_left, output_next, one_drawn, output_paid, publishes_on, is_last}
 
 -- an accepted plan is annotated
 pub annotated : (a : AcceptedPlan) → IsAccepted a
@@ -199,6 +200,20 @@ module _ (a : AcceptedPlan) (accepted : IsAccepted a) (w : Runner) (c : Held) (b
             on = publishes_on u a.plan (known_rows a) accepted.sound (annotated a accepted) w c r
                 run.on recipe here serial q q' drawn told v v_is;
           }
+
+      -- what was published is the lane's last output
+      pub last : (q' : Record) (l'' : ℕ) → q' ≡ after_publish b'.universe b'.plan l' q → l'' ≡ l'
+          → (h : Publication) → h.lane ≡ w.lane → h.serial ≡ serial
+          → slice_get (outputs u recipe) w.made ≡ Some h.variant → IsLastOutput u a.plan l'' q' h
+      last q' l'' q_is next_lane h lane_here serial_is variant_is =
+          let plan_is = same_plan ∙ run.about_is in
+          let lane_is = same_lane ∙ run.lane_is in
+          let told : q' ≡ after_publish a.universe a.plan w.lane q =
+          subst (λ (x : AcceptedPlan × ℕ). q' ≡ after_publish x.0.universe x.0.plan x.1 q)
+          (λ i. (plan_is i, lane_is i)) q_is in
+          subst (λ (m : ℕ). IsLastOutput u a.plan m q' h) (sym (next_lane ∙ lane_is))
+          (is_last u a.plan (known_rows a) accepted.sound (annotated a accepted) w c r run.on recipe
+          here serial q q' drawn told h lane_here serial_is variant_is)
 
     -- what the output costs is within the budget, or nothing
     pub can_give : (w.spent + first_only w.made (length (outputs u recipe))

@@ -4,6 +4,7 @@ use Rattle.std.proofs.Common.{◌≡◌, ◌⊎◌, inl, inr, ℕ, zero, suc, �
 use Rattle.std.specs.Prelude.{◌==◌}
 use Rattle.std.proofs.lemmas.Bool.{cases_lt, lt-ltb, le-ltb}
 use Rattle.chroot_state.specs.Held.{Held}
+use Rattle.farm_archive.specs.declared.publication.Publication.{Publication}
 use Rattle.farm_laws.proofs.EventsLeft.{InPlace, StandsAt}
 use Rattle.farm_laws.proofs.Safe.{Agrees, AgreesAfter}
 use Rattle.farm_model.specs.declared.types.Variant.{Variant}
@@ -13,6 +14,7 @@ use Rattle.farm_model.specs.Universe.{Universe}
 use Rattle.archive_laws.specs.LaneMoves.{output_of, behind_output, outputs_made}
 use Rattle.lane_records.specs.Records.{Record, ready_in, next_of, next_output, after_draw, after_publish}
 use Rattle.archive_laws.proofs.Counted.{gives_count}
+use Rattle.archive_laws.proofs.OutputPlaces.{output_there}
 use Rattle.lane_records.proofs.Safe.{local_safe}
 use Rattle.plan_model.specs.declared.instructions.Instruction.{Instruction}
 use Rattle.plan_model.specs.declared.instructions.Instruction.TheVariants.{Publish}
@@ -21,6 +23,7 @@ use Rattle.plan_model.specs.Plan.{Lane, Plan, lane, next_place, instruction_at, 
 use Rattle.plan_model.specs.Safety.{IsAnnotation}
 use Rattle.plan_model.specs.Sound.{IsSound}
 use Rattle.plan_model.specs.Turn.{LaneState, Gives, given, first_only, over_budget, unless, publish_traps, publishes, turn_of}
+use Rattle.lane_runner.specs.Calls.{IsLastOutput}
 use Rattle.lane_runner.specs.OnWay.{state_of, passed, given_one, IsOnWay}
 use Rattle.lane_runner.specs.declared.runner.Runner.{Runner}
 use Rattle.lane_runner.proofs.Traps.{unless_agrees, first_free, within_budget}
@@ -190,3 +193,24 @@ module _ (u : Universe) (p : Plan) (rows : Rows) (sound : IsSound u p) (ann : Is
           subst (λ x. IsOnWay u p rows x c q') (sym v_last)
           (on_next (next_place of w.done) 0 (w.spent + cost) (rw last refl))
     ]
+
+    -- what it publishes is the lane's last output
+    pub is_last : (h : Publication) → h.lane ≡ w.lane → h.serial ≡ serial
+        → slice_get (outputs u recipe) w.made ≡ Some h.variant → IsLastOutput u p w.lane q' h
+    is_last h lane_is serial_is variant_is =
+        let d = on.drawn in
+        let one = (gives_count u of (sound.plan.branched w.lane on.in_plan) (rows w.lane w.done) st
+        next (Publish recipe) output.0 here on.there turn_is).0 in
+        let here_made = made_is u p rows sound w c r on (Publish recipe) refl here in
+        let there_made : outputs_made u of q'.at ≡ outputs_made u of next =
+        ap (outputs_made u of) moved in
+        record {
+          lane_is = lane_is;
+          number = outputs_made u of st;
+          last = omega (arith, one, there_made);
+          variant = output_there u of.instructions w.done w.made (Publish recipe) h.variant here
+              variant_is;
+          serial = ap (λ xs. slice_get xs (outputs_made u of st)) serials_are
+              ∙ ap (slice_get (r.serials ++ serial ∷ [])) (here_made ∙ sym d)
+              ∙ last_there r.serials serial ∙ ap (λ x. Some x) (sym serial_is);
+        }

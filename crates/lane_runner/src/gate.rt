@@ -1,8 +1,10 @@
 //! Where a lane's thread stops and waits.
 
 ghost use Rattle.std.specs.Prelude.{◌≡◌};
+ghost use Rattle.lane_runner.specs.Calls.{IsLastOutput};
 ghost use Rattle.lane_runner.specs.declared.gate.Go.TheVariants.{GiveUp};
 
+use crate::archive::LaneArchive;
 use farm_archive::Publication;
 use plan_verifier::Accepted;
 
@@ -15,8 +17,8 @@ pub enum Go {
     GiveUp,
 }
 
-/// Where a lane's thread stops and waits. The lanes of a run share one gate. Lanes are numbered from
-/// 0 in file order, the instructions of a lane from 1.
+/// Where a lane's thread stops and waits. The lanes of a run share one gate. Lanes are numbered
+/// from 0 in file order, the instructions of a lane from 1.
 pub trait Gate {
     /// What holds of a gate that may give up: a gate of which it can't hold never does.
     ghost may_give_up: { Self → Type 0 };
@@ -31,9 +33,13 @@ pub trait Gate {
     fn pause(&self, lane: u32, instruction: u32) -> Go
         ensures { result ≡ GiveUp → may_give_up self.now };
 
-    /// Is told of each output, once it is in the archive.
-    fn published(&self, accepted: &Accepted, publication: Publication);
+    /// Is told of each output by its lane, once the output is in the archive: it is the last one
+    /// that the lane's end has made. It wakes the lanes that pause.
+    fn published<A: LaneArchive>(&self, accepted: &Accepted, end: &A, publication: Publication)
+        requires ours { A.about end.now ≡ accepted.now }
+        requires there { IsLastOutput accepted.now.universe accepted.now.plan (A.lane end.now)
+            (A.log end.now) publication };
 
-    /// Is called behind each output and each halt. It wakes the lanes that pause.
+    /// Is called behind each halt. It wakes the lanes that pause.
     fn ring(&self);
 }

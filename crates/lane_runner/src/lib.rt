@@ -9,6 +9,7 @@ mod publish;
 mod run;
 mod runner;
 mod turn;
+mod turns;
 mod unpack;
 mod wait;
 
@@ -17,3 +18,4 @@ pub use gate::{Gate, Go};
 pub use run::{GAVE_UP, HALTED, LaneStop, run_lane};
 pub use runner::Runner;
 pub use turn::Turn;
+pub use turns::LaneTurns;

@@ -1,7 +1,8 @@
 //! The next output of a publish.
 
 ghost use Rattle.std.specs.Prelude.{◌≡◌, ◌<◌, ◌≤◌, ◌+◌, ◌⊎◌, Some, length};
-ghost use Rattle.lane_runner.specs.Calls.{HasKept, IsRunning, IsSameEnd};
+ghost use Rattle.lane_records.specs.Records.{after_draw};
+ghost use Rattle.lane_runner.specs.Calls.{HasKept, IsLastOutput, IsRunning, IsSameEnd};
 ghost use Rattle.lane_runner.specs.OnWay.{given_one};
 ghost use Rattle.plan_asm.specs.declared.error.TheConstants.{MOST_INSTRUCTIONS};
 ghost use Rattle.plan_model.specs.declared.instructions.Instruction.TheVariants.{Publish};
@@ -37,6 +38,26 @@ impl Runner {
         }
     }
 
+    /// Draws a serial for the next output of a recipe, which is not made.
+    pub(crate) fn draw<A: LaneArchive>(
+        &self,
+        accepted: &Accepted,
+        chroot: &Chroot,
+        archive: &mut A,
+        recipe: u32,
+    ) -> u64
+        requires running { IsRunning accepted.now self.now chroot.now (A.about archive.old)
+            (A.lane archive.old) (A.log archive.old) }
+        requires here { instruction_at accepted.now.plan self.now.lane self.now.done
+            ≡ Some (Publish recipe) }
+        ensures same { IsSameEnd (A.home archive.old) (A.about archive.old) (A.lane archive.old)
+            (A.home archive.new) (A.about archive.new) (A.lane archive.new) }
+        ensures log { A.log archive.new ≡ after_draw result (A.log archive.old) }
+    {
+        accepted.keeps();
+        archive.draw()
+    }
+
     /// Makes the next output of a recipe: draws a serial for it and publishes it. Tells what was
     /// published.
     pub(crate) fn publish<A: LaneArchive>(
@@ -55,6 +76,8 @@ impl Runner {
         ensures kept { HasKept (A.log archive.old) (A.log archive.new) }
         ensures running { IsRunning accepted.now self.new chroot.now (A.about archive.new)
             (A.lane archive.new) (A.log archive.new) }
+        ensures last { IsLastOutput accepted.now.universe accepted.now.plan (A.lane archive.new)
+            (A.log archive.new) result }
     {
         accepted.keeps();
         let serial = archive.draw();

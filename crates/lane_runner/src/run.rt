@@ -47,13 +47,14 @@ fn give_up<A: LaneArchive, G: Gate>(archive: &mut A, gate: &G, done: u32) -> Lan
     }
 }
 
-/// Runs a lane from its beginning to its end, and answers with the steps that it has spent. It takes
-/// no memory of its own, and may wait.
+/// Runs a lane from its beginning to its end, and answers with the steps that it has spent. It
+/// takes no memory of its own, and may wait.
 ///
 /// # Errors
 ///
-/// [`GAVE_UP`] where the gate gives up. The archive is then halted. [`HALTED`] where the archive was
-/// halted by another. The lane stands ahead of its instruction then, with the chroot of that place.
+/// [`GAVE_UP`] where the gate gives up. The archive is then halted. [`HALTED`] where the archive
+/// was halted by another. The lane stands ahead of its instruction then, with the chroot of that
+/// place.
 pub fn run_lane<A: LaneArchive, G: Gate>(
     rt: &impl Wait,
     accepted: &Accepted,
@@ -81,8 +82,7 @@ pub fn run_lane<A: LaneArchive, G: Gate>(
     ensures quiet { IfOk result (λ spent. ((A.log archive.new).halted ≡ false)
         × ((A.log archive.new).saw ≡ false)) }
 {
-    accepted.keeps();
-    let mut runner = Runner::new(lane);
+    let mut runner = Runner::new(accepted, lane, chroot, archive);
     let mut begun = false;
     for _ in rt.forever() {
         if runner.has_ended(accepted) {
@@ -100,8 +100,7 @@ pub fn run_lane<A: LaneArchive, G: Gate>(
         match runner.turn(accepted, chroot, archive) {
             Turn::Moved => begun = false,
             Turn::Published(publication) => {
-                gate.published(accepted, publication);
-                gate.ring();
+                gate.published(accepted, archive, publication);
                 begun = runner.made > 0;
             }
             Turn::Waits => {

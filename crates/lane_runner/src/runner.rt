@@ -1,10 +1,15 @@
 //! Where a lane's runner stands.
 
 ghost use Rattle.std.specs.Prelude.{◌≡◌, ◌<◌, ◌≤◌, ◌+◌, ◌^◌, length};
-ghost use Rattle.lane_runner.specs.OnWay.{gone_to, passed, started};
+ghost use Rattle.chroot_state.specs.Held.{IsHeld, opened};
+ghost use Rattle.lane_runner.specs.Calls.{IsRunning};
+ghost use Rattle.lane_runner.specs.OnWay.{IsFresh, gone_to, passed, started};
 ghost use Rattle.plan_asm.specs.declared.error.TheConstants.{MOST_INSTRUCTIONS};
+ghost use Rattle.plan_model.specs.Plan as plan;
 ghost use Rattle.plan_model.specs.Plan.{lane};
 
+use crate::archive::LaneArchive;
+use chroot_state::Chroot;
 use plan_asm::Lane;
 use plan_verifier::Accepted;
 
@@ -19,10 +24,20 @@ pub struct Runner {
 }
 
 impl Runner {
-    /// A runner at the beginning of a lane.
-    pub fn new(lane: u32) -> Runner
-        ensures { result ≡ started lane }
+    /// A runner at the beginning of a lane, over the lane's base chroot and an end of the archive
+    /// that has not been used.
+    pub fn new<A: LaneArchive>(accepted: &Accepted, lane: u32, chroot: &Chroot, end: &A) -> Runner
+        requires lane { lane < length accepted.now.plan }
+        requires ours { (A.about end.now ≡ accepted.now) × (A.lane end.now ≡ lane) }
+        requires chroot { (chroot.now ≡ opened accepted.now.universe
+            (plan.lane accepted.now.plan lane).base) × IsHeld accepted.now.universe chroot.now }
+        requires fresh { IsFresh accepted.now.universe (plan.lane accepted.now.plan lane)
+            (A.log end.now) }
+        ensures started { result ≡ started lane }
+        ensures running { IsRunning accepted.now result chroot.now (A.about end.now)
+            (A.lane end.now) (A.log end.now) }
     {
+        accepted.keeps();
         Runner {
             lane,
             done: 0,

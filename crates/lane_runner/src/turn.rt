@@ -1,10 +1,11 @@
 //! One turn of a lane.
 
 ghost use Rattle.std.specs.Prelude.{◌≡◌, ◌<◌, ◌≤◌, ℕ, true, false, Some, length};
+ghost use Rattle.farm_archive.specs.declared.publication.Publication as publication;
 ghost use Rattle.lane_records.specs.Records.{Record};
-ghost use Rattle.lane_runner.specs.Calls.{HasKept, IsRunning, IsSameEnd};
+ghost use Rattle.lane_runner.specs.Calls.{HasKept, IsLastOutput, IsRunning, IsSameEnd};
 ghost use Rattle.lane_runner.specs.OnWay.{IsOnWay};
-ghost use Rattle.lane_runner.specs.declared.turn.Turn.TheVariants.{Waits};
+ghost use Rattle.lane_runner.specs.declared.turn.Turn.TheVariants.{Published, Waits};
 ghost use Rattle.plan_asm.specs.declared.error.TheConstants.{MOST_INSTRUCTIONS};
 ghost use Rattle.plan_model.specs.Plan.{instruction_at, lane};
 ghost use Rattle.plan_model.specs.World.{is_archive_step};
@@ -90,6 +91,9 @@ impl Runner {
         ensures kept { HasKept (A.log archive.old) (A.log archive.new) }
         ensures running { IsRunning accepted.now self.new chroot.new (A.about archive.new)
             (A.lane archive.new) (A.log archive.new) }
+        ensures last { (h : publication.Publication) → result ≡ Published h
+            → IsLastOutput accepted.now.universe accepted.now.plan (A.lane archive.new)
+            (A.log archive.new) h }
         ensures waits { result ≡ Waits → self.new ≡ self.old }
     {
         let instruction = &lane_of(accepted, self.lane).instructions()[self.done as usize];

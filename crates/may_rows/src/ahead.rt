@@ -69,8 +69,9 @@ fn meets_alternative(
     )
 }
 
-/// Tells whether a Pre-Depends entry is surely met ahead of an unpack.
-fn meets_ahead(
+/// Tells whether a Pre-Depends entry is surely met ahead of an unpack, where the state holds nothing of
+/// the name that is unpacked.
+pub fn meets_ahead(
     universe: &Universe,
     tables: &Tables,
     state: &MayHold,

@@ -60,35 +60,35 @@ fn word_at(words: &[u64], name: u32) -> u64
 
 impl MayHold {
     /// What may be present of a name.
-    pub(crate) fn here_word(&self, name: u32) -> u64
+    pub fn here_word(&self, name: u32) -> u64
         ensures { result ≡ slice_index self.now.here name }
     {
         word_at(&self.here, name)
     }
 
     /// What may be configured of a name.
-    pub(crate) fn ready_word(&self, name: u32) -> u64
+    pub fn ready_word(&self, name: u32) -> u64
         ensures { result ≡ slice_index self.now.ready name }
     {
         word_at(&self.ready, name)
     }
 
     /// What may have been configured last of a name.
-    pub(crate) fn last_word(&self, name: u32) -> u64
+    pub fn last_word(&self, name: u32) -> u64
         ensures { result ≡ slice_index self.now.last name }
     {
         word_at(&self.last, name)
     }
 
     /// Tells whether a name surely holds an unpacked variant that is not configured.
-    pub(crate) fn is_unpacked(&self, name: u32) -> bool
+    pub fn is_unpacked(&self, name: u32) -> bool
         ensures { result ≡ is_surely_unpacked ((may_of self.now).slots name) }
     {
         self.here_word(name) != 0 && self.ready_word(name) == 0
     }
 
     /// Tells whether a name surely holds a configured variant.
-    pub(crate) fn is_configured(&self, name: u32) -> bool
+    pub fn is_configured(&self, name: u32) -> bool
         ensures { (u : Universe) → AreWords u self.now
             → result ≡ is_surely_configured ((may_of self.now).slots name) }
     {
@@ -96,14 +96,14 @@ impl MayHold {
     }
 
     /// Tells whether a name surely holds a variant.
-    pub(crate) fn is_present(&self, name: u32) -> bool
+    pub fn is_present(&self, name: u32) -> bool
         ensures { result ≡ is_surely_present ((may_of self.now).slots name) }
     {
         self.here_word(name) != 0
     }
 
     /// Tells whether a recipe was surely built.
-    pub(crate) fn was_built(&self, recipe: u32) -> bool
+    pub fn was_built(&self, recipe: u32) -> bool
         ensures { result ≡ was_built self.now.built recipe }
     {
         match self.built.get(recipe as usize) {
@@ -113,7 +113,7 @@ impl MayHold {
     }
 
     /// The most disk space that may be taken, in KiB.
-    pub(crate) fn used(&self) -> u64
+    pub fn used(&self) -> u64
         ensures { result ≡ self.now.used }
     {
         self.used
@@ -127,7 +127,7 @@ impl MayHold {
     }
 
     /// Tells whether an entry is surely met, by the row of what satisfies it (Debian Policy 7.2).
-    pub(crate) fn surely_meets(&self, row: &Row) -> bool
+    pub fn surely_meets(&self, row: &Row) -> bool
         requires { length self.now.ready ≡ length row.now }
         ensures { (u : Universe) (e : Entry) → AreWords u self.now
             → IsRowOf u (satisfies_entry u e) row.now
@@ -137,7 +137,7 @@ impl MayHold {
     }
 
     /// Tells whether a present variant may be in a row.
-    pub(crate) fn may_hit(&self, row: &Row) -> bool
+    pub fn may_hit(&self, row: &Row) -> bool
         requires { length self.now.here ≡ length row.now }
         ensures { (u : Universe) (p : Variant → Bool) → AreWords u self.now → IsRowOf u p row.now
             → result ≡ some_name u (may_of self.now)
@@ -147,7 +147,7 @@ impl MayHold {
     }
 
     /// Tells whether some name has configured variants, and all of them are in a row.
-    pub(crate) fn has_ready_inside(&self, row: &Row) -> bool
+    pub fn has_ready_inside(&self, row: &Row) -> bool
         requires { length self.now.ready ≡ length row.now }
         ensures { (u : Universe) (p : Variant → Bool) → AreWords u self.now → IsRowOf u p row.now
             → result ≡ some_name_inside u self.now.ready p }
@@ -157,7 +157,7 @@ impl MayHold {
 
     /// Tells whether some name was configured before, and its present and its last configured
     /// variants are all in a row.
-    pub(crate) fn has_both_inside(&self, row: &Row) -> bool
+    pub fn has_both_inside(&self, row: &Row) -> bool
         requires { length self.now.both ≡ length row.now }
         ensures { (u : Universe) (p : Variant → Bool) → AreWords u self.now → IsRowOf u p row.now
             → result ≡ some_name_inside u self.now.both p }

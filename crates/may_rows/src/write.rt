@@ -46,7 +46,7 @@ impl MayHold {
     }
 
     /// Writes the words of a name, and keeps the space that may be taken.
-    pub(crate) fn put(&mut self, universe: &Universe, name: u32, here: u64, ready: u64, last: u64)
+    pub fn put(&mut self, universe: &Universe, name: u32, here: u64, ready: u64, last: u64)
         requires state { AreWords universe.now self.old }
         requires named { name < names universe.now }
         requires words { AreOfName (variants universe.now name) here ready last

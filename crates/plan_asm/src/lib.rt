@@ -16,9 +16,10 @@ mod reader;
 mod side;
 
 pub use error::{
-    BAD_LINE, FILE, MOST_INSTRUCTIONS, MOST_LANES, NAME_TAKEN, NAME_TWICE, NO_PLAN, OVER_LIMIT,
-    PUBLISHED_TWICE, UNCLOSED, UNKNOWN_BLOCK, UNKNOWN_NAME,
+    BAD_LINE, FILE, LineError, MOST_INSTRUCTIONS, MOST_LANES, NAME_TAKEN, NAME_TWICE, NO_PLAN,
+    OVER_LIMIT, PUBLISHED_TWICE, UNCLOSED, UNKNOWN_BLOCK, UNKNOWN_NAME,
 };
+pub use form::{Form, LaneHead, Wording, read_form};
 pub use lane::Lane;
 pub use plan::Plan;
 pub use plan_model::{Instruction, Members};

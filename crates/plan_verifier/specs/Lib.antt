@@ -2,6 +2,7 @@ pub mod Stage
 pub mod Branch
 pub mod Walk
 pub mod Accepted
+pub mod Examined
 pub mod Verdict
 pub mod Costs
 pub mod Messages

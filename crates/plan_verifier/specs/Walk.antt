@@ -3,7 +3,7 @@
 --
 --   told_at, IsTold     where a hazard is told
 --   IsAdvanced          what is answered to an instruction
---   Walked              what is answered to a lane
+--   WalkedTo, Walked    what is answered to the instructions ahead of a place, and to a lane
 use Rattle.std.specs.Prelude.{◌≡◌, ℕ, suc, ◌+◌, ◌<◌, Bool, true, false, Some, None, Result, Ok, Err}
 use Rattle.farm_model.specs.Universe.{Universe}
 use Rattle.plan_model.specs.declared.instructions.Instruction.{Instruction}
@@ -56,6 +56,16 @@ IsAdvanced u p rows l i next (Err (Unsafe told number trap)) =
 IsAdvanced u p rows l i next (Err (Uneven told number)) =
     IsToldHere u p rows l i Parts told number
 IsAdvanced u p rows l i next (Err Memory) = Unit {0}
+
+-- each instruction ahead of place i is safe, and this is what may be held there; or the lane's first
+-- hazard is told
+abbrev pub WalkedTo : Universe → Plan → Rows → (l i : ℕ) → Result LaneMay WalkError → Type 0
+WalkedTo u p rows l i (Ok may) =
+    ((k : ℕ) → k < i → hazard_at u p rows l k ≡ None) × IsAt u p rows l i may
+WalkedTo u p rows l i (Err (Unsafe told number trap)) =
+    IsTold u p rows l (Meets trap) told number
+WalkedTo u p rows l i (Err (Uneven told number)) = IsTold u p rows l Parts told number
+WalkedTo u p rows l i (Err Memory) = Unit {0}
 
 -- each instruction of the lane is safe, and this is its cost; or the lane's first hazard is told
 abbrev pub Walked : Universe → Plan → Rows → ℕ → Result ℕ WalkError → Type 0

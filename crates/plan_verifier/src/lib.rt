@@ -4,6 +4,7 @@
 mod accepted;
 mod branch;
 mod costs;
+mod examined;
 mod laws;
 mod message;
 mod possible;
@@ -11,10 +12,12 @@ mod refusal;
 mod stage;
 mod stuck;
 mod verdict;
-mod walk;
+pub mod walk;
 
 pub use accepted::Accepted;
+pub use branch::{Branch, LaneMay};
 pub use costs::{check_lanes, walk_lanes};
+pub use examined::{Examined, Grounds};
 pub use laws::{refusals_are_right, verdicts_are_one};
 pub use possible::{add_outputs, possible_row};
 pub use refusal::{Refusal, STUCK, UNEVEN, UNSAFE};

@@ -1,87 +1,19 @@
 //! The verdict on four texts.
 
-ghost use Rattle.std.specs.Prelude.{◌≡◌, Err, IfErr, IfOk};
+ghost use Rattle.std.specs.Prelude.{◌≡◌, IfOk};
 ghost use Rattle.plan_model.specs.Promise.{IsSafe};
 ghost use Rattle.plan_model.specs.Plan.{count};
 ghost use Rattle.plan_model.specs.Sound.{IsSound};
-ghost use Rattle.plan_verifier.specs.Accepted.{IsAccepted, StaysForeseen};
+ghost use Rattle.plan_verifier.specs.Accepted.{StaysForeseen};
 ghost use Rattle.farm_input.specs.Planned.{planned_of};
 ghost use Rattle.plan_verifier.specs.Verdict.{IsVerdict, IsVerdictOn};
 
 use crate::accepted::Accepted;
-use crate::costs::check_lanes;
+use crate::examined::Examined;
 use crate::refusal::Refusal;
-use crate::stuck::stuck_refusal;
 use farm_input::{Planned, read_texts};
-use farm_universe::Universe;
-use plan_asm::Plan;
-use sat_rows::Tables;
 use std::alloc::Global;
 use std::thread::Threads;
-use wait_order::{Known, OrderError, knowledge, order};
-
-/// What the acceptance of a plan rests on.
-#[derive(Drop)]
-struct Grounds {
-    known: Known,
-    order: Vec<u32>,
-    costs: Vec<u64>,
-}
-
-/// Finds what the acceptance of a plan rests on, by the rows of its universe.
-fn find_grounds(
-    alloc: Global,
-    universe: &Universe,
-    tables: &Tables,
-    plan: &Plan,
-) -> Result<Grounds, Refusal>
-    requires sound { IsSound universe.now plan.now.lanes }
-    requires tables { tables.now ≡ universe.now }
-    ensures accepted { IfOk result (λ grounds. IsAccepted (record {
-      universe = universe.now;
-      plan = plan.now.lanes;
-      known = grounds.known;
-      order = grounds.order.items;
-      costs = grounds.costs.items;
-    })) }
-    ensures refused { IfErr result (λ refusal.
-        IsVerdictOn universe.now plan.now.lanes (Err refusal)) }
-{
-    let known = knowledge(alloc, universe, tables, plan)?;
-    let costs = check_lanes(alloc, universe, tables, plan, &known)?;
-    match order(alloc, universe, tables, plan) {
-        Ok(order) => Ok(Grounds {
-            known,
-            order,
-            costs,
-        }),
-        Err(OrderError::Stuck(lanes)) => Err(stuck_refusal(alloc, plan, &lanes)),
-        Err(OrderError::Memory) => Err(Refusal::Memory),
-    }
-}
-
-/// Makes the rows of a universe, and finds what the acceptance of a plan rests on. The rows are let
-/// go here, apart from the universe, which keeps the proof of each small.
-fn examine(
-    rt: &(impl Threads + Sync),
-    alloc: Global,
-    universe: &Universe,
-    plan: &Plan,
-) -> Result<Grounds, Refusal>
-    requires sound { IsSound universe.now plan.now.lanes }
-    ensures accepted { IfOk result (λ grounds. IsAccepted (record {
-      universe = universe.now;
-      plan = plan.now.lanes;
-      known = grounds.known;
-      order = grounds.order.items;
-      costs = grounds.costs.items;
-    })) }
-    ensures refused { IfErr result (λ refusal.
-        IsVerdictOn universe.now plan.now.lanes (Err refusal)) }
-{
-    let tables = Tables::build(rt, alloc, universe)?;
-    find_grounds(alloc, universe, &tables, plan)
-}
 
 /// Judges a plan over a universe.
 fn judge(rt: &(impl Threads + Sync), alloc: Global, planned: Planned) -> Result<Accepted, Refusal>
@@ -89,13 +21,9 @@ fn judge(rt: &(impl Threads + Sync), alloc: Global, planned: Planned) -> Result<
     requires sound { IsSound planned.universe planned.plan.lanes }
     ensures { IsVerdictOn planned.universe planned.plan.lanes result }
 {
-    let Planned { universe, plan } = planned;
-    let Grounds {
-        known,
-        order,
-        costs,
-    } = examine(rt, alloc, &universe, &plan)?;
-    Ok(Accepted::new(universe, plan, known, order, costs))
+    let examined = Examined::of(rt, alloc, planned)?;
+    let grounds = examined.verdict(alloc)?;
+    Ok(examined.accept(grounds))
 }
 
 /// Checks the plan of a farm before anything is built: the packages index, the sources index, the

@@ -9,7 +9,7 @@ ghost use Rattle.plan_model.specs.Plan.{lane, instruction_at};
 ghost use Rattle.plan_model.specs.Sound.{IsInstruction};
 ghost use Rattle.plan_verifier.specs.Stage.{IsStage};
 ghost use Rattle.plan_verifier.specs.Branch.{IsAt};
-ghost use Rattle.plan_verifier.specs.Walk.{is_plain, IsAdvanced, Walked};
+ghost use Rattle.plan_verifier.specs.Walk.{is_plain, IsAdvanced, Walked, WalkedTo};
 
 use crate::branch::{Branch, LaneMay};
 use crate::stage::Stage;
@@ -210,7 +210,47 @@ fn advance<K: KnownWords>(
     }
 }
 
+/// Walks over the instructions of a lane ahead of a place: gives what its chroot may hold at the place,
+/// or the first unsafe instruction.
+///
+/// # Errors
+///
+/// [`WalkError::Unsafe`] or [`WalkError::Uneven`] of the first unsafe instruction ahead of the place.
+/// [`WalkError::Memory`] where memory ran out.
+pub fn walk_to<K: KnownWords>(
+    alloc: Global,
+    stage: &Stage<'_, K>,
+    dependents: &Dependents,
+    number: usize,
+    end: usize,
+) -> Result<LaneMay, WalkError>
+    requires stage { IsStage stage.now.universe.now stage.now.plan.now.lanes
+        stage.now.tables.now stage.now.outputs.now (K.known stage.now.known.now) }
+    requires lane { number < length stage.now.plan.now.lanes }
+    requires end { end ≤ length (lane stage.now.plan.now.lanes number).instructions }
+    requires dependents { dependents.now ≡ stage.now.universe.now }
+    ensures { WalkedTo stage.now.universe.now stage.now.plan.now.lanes
+        (K.known stage.now.known.now).rows number end result }
+{
+    let _lanes = stage.plan.lanes();
+    let lane = stage.plan.lane(number);
+    let mut may = LaneMay {
+        here: MayHold::of_base(alloc, stage.universe, lane.base())?,
+        doubts: Doubts::new(alloc),
+        branch: Branch::Outside,
+    };
+    for place in 0..end {
+        advance(stage, dependents, number, place, &mut may)?;
+    }
+    Ok(may)
+}
+
 /// Walks over a lane: gives its cost, or its first unsafe instruction.
+///
+/// # Errors
+///
+/// [`WalkError::Unsafe`] or [`WalkError::Uneven`] of the lane's first unsafe instruction.
+/// [`WalkError::Memory`] where memory ran out.
 pub fn walk<K: KnownWords>(
     alloc: Global,
     stage: &Stage<'_, K>,
@@ -224,15 +264,7 @@ pub fn walk<K: KnownWords>(
     ensures { Walked stage.now.universe.now stage.now.plan.now.lanes
         (K.known stage.now.known.now).rows number result }
 {
-    let _lanes = stage.plan.lanes();
-    let lane = stage.plan.lane(number);
-    let mut may = LaneMay {
-        here: MayHold::of_base(alloc, stage.universe, lane.base())?,
-        doubts: Doubts::new(alloc),
-        branch: Branch::Outside,
-    };
-    for place in 0..lane.instructions().len() {
-        advance(stage, dependents, number, place, &mut may)?;
-    }
+    let end = stage.plan.lane(number).instructions().len();
+    let may = walk_to(alloc, stage, dependents, number, end)?;
     Ok(may.here.cost())
 }

@@ -3,7 +3,7 @@
 use crate::toolchain::{FARM, PACKAGES, PLAN, SOURCES};
 use farm_archive::Publication;
 use farm_executor::{RunFault, run_farm};
-use lane_runner::{GAVE_UP, Gate, Go, HALTED};
+use lane_runner::{GAVE_UP, Gate, Go, HALTED, LaneArchive};
 use plan_verifier::{Accepted, check};
 use std::test::Fail;
 
@@ -44,7 +44,7 @@ impl Gate for GivesUp {
         }
     }
 
-    fn published(&self, _accepted: &Accepted, _publication: Publication) {}
+    fn published<A: LaneArchive>(&self, _accepted: &Accepted, _end: &A, _output: Publication) {}
 
     fn ring(&self) {}
 }

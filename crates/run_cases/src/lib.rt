@@ -1,11 +1,18 @@
-//! Tests of whole runs: a thread for each lane of a plan, over one archive and a gate.
+//! Tests of whole runs, over one archive: a thread for each lane of a plan and a gate, or lanes
+//! that take turns in one thread.
 #![tactic(auto)]
 
 #[cfg(test)]
 mod giving_up;
 #[cfg(test)]
+mod in_turns;
+#[cfg(test)]
 mod many_lanes;
+#[cfg(test)]
+mod patience;
 #[cfg(test)]
 mod tests;
 #[cfg(test)]
 mod toolchain;
+#[cfg(test)]
+mod watched;

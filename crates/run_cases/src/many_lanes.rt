@@ -2,7 +2,7 @@
 
 use farm_archive::Publication;
 use farm_executor::{Bell, run_farm};
-use lane_runner::{Gate, Go};
+use lane_runner::{Gate, Go, LaneArchive};
 use plan_verifier::{Accepted, check};
 use std::alloc::{AllocError, Global};
 use std::sync::{Condvar, Mutex, Wait};
@@ -70,7 +70,9 @@ impl<R: Wait> Gate for InTurn<'_, R> {
         self.bell.pause(lane, instruction)
     }
 
-    fn published(&self, _accepted: &Accepted, _publication: Publication) {}
+    fn published<A: LaneArchive>(&self, accepted: &Accepted, end: &A, publication: Publication) {
+        self.bell.published(accepted, end, publication);
+    }
 
     fn ring(&self) {
         self.bell.ring();

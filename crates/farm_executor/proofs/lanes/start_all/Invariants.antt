@@ -12,10 +12,10 @@ invariant-loop-job g l = record {
   room : length l.refused ≤ vec_capacity l.handles;
   each : (k : ℕ) (j : _) (h : _) → slice_get l.fn.jobs.items k ≡ Some j
       → slice_get l.handles.items k ≡ Some h → MatchResult h
-      (λ p. (p.promise.job.value ≡ j) × (p.promise.gate.value ≡ l.gate))
+      (λ p. (p.promise.job.value ≡ j) × (p.promise.gate.value ≡ l.setting.gate.now))
       (λ e. IsSameEnd (g.E.LaneArchive.home j.end) (g.E.LaneArchive.about j.end)
       (g.E.LaneArchive.lane j.end) (g.E.LaneArchive.home e.end) (g.E.LaneArchive.about e.end)
       (g.E.LaneArchive.lane e.end)
-      × IsEndOf (g.E.LaneArchive.about j.end) (g.G.Gate.may_give_up l.gate) j.lane j.chroot
+      × IsEndOf (g.E.LaneArchive.about j.end) (g.G.Gate.may_give_up l.setting.gate.now) j.lane j.chroot
       (g.E.LaneArchive.log j.end) e.chroot (g.E.LaneArchive.log e.end) e.stop e.spent);
 }

@@ -7,9 +7,9 @@ use Rattle.farm_executor.proofs.scope.in_scope.Goals as goal
 
 pub returns-clause-each : goal.returns-clause-each
 returns-clause-each g c k j e is there =
-    let h = some_at c.args.jobs.items c.start_all-handles.result.items k j
+    let h = some_at c.args.prepared.jobs.items c.start_all-handles.result.items k j
     c.start_all-handles.ensures.long is in
-    c.join_all.ensures.each k h.0 e h.1 there j c.args.gate.now
+    c.join_all.ensures.each k h.0 e h.1 there j c.args.setting.now.gate.now
     (c.start_all-handles.ensures.each k j h.0 is h.1)
 
 pub returns-clause-base : goal.returns-clause-base

@@ -1,15 +1,12 @@
-use Rattle.std.proofs.Common.{refl, sym, ap, subst}
-use Rattle.lane_runner.specs.Calls.{IsRunning}
+use Rattle.std.proofs.Common.{refl, ap, subst}
 use Rattle.lane_runner.specs.OnWay.{IsEnded}
 use Rattle.lane_runner.specs.declared.runner.Runner.{Runner}
 use Rattle.plan_verifier.specs.Accepted.{known_rows}
-use Rattle.lane_runner.proofs.Accepts.{annotated}
-use Rattle.lane_runner.proofs.Ends.{starts, ends}
+use Rattle.lane_runner.proofs.Ends.{ends}
 use Rattle.lane_runner.proofs.run.run_lane.Goals as goal
 
 pub loop-init : goal.loop-init
 loop-init g c =
-    let a = c.args.accepted.now in
     let fresh = c.requires.fresh in
     record {
       can = tt;
@@ -17,16 +14,8 @@ loop-init g c =
       same = record { home_is = refl; about_is = refl; lane_is = refl };
       unhalted = fresh.unhalted;
       unseen = fresh.unseen;
-      number = ap (λ (w : Runner). w.lane) c.new-runner.ensures;
-      running = subst (λ w. IsRunning a w c.args.chroot.now
-          (g.A.LaneArchive.about c.args.archive.now) (g.A.LaneArchive.lane c.args.archive.now)
-          (g.A.LaneArchive.log c.args.archive.now)) (sym c.new-runner.ensures) (record {
-            about_is = c.requires.ours.0;
-            lane_is = c.requires.ours.1;
-            on = starts a.universe a.plan (known_rows a) c.keeps.ensures.sound
-                (annotated a c.keeps.ensures) c.args.lane c.requires.lane c.args.chroot.now _
-                c.requires.chroot.0 c.requires.chroot.1 fresh.at fresh.undrawn;
-          });
+      number = ap (λ (w : Runner). w.lane) c.new-runner.ensures.started;
+      running = c.new-runner.ensures.running;
     }
 
 pub returns-then-has_ended-clause-ended : goal.returns-then-has_ended-clause-ended
@@ -37,3 +26,7 @@ returns-then-has_ended-clause-ended g c =
     c.loop.invariant.number
     (ends a.universe a.plan (known_rows a) w c.loop.chroot _ c.loop.invariant.running.on
     (c.has_ended.ensures.ends c.if-has_ended.true))
+
+pub published-requires-clause-there : goal.published-requires-clause-there
+published-requires-clause-there g c =
+    c.turn.ensures.last c.in-Published.publication c.in-Published.is

@@ -1,4 +1,5 @@
-use Rattle.std.proofs.Common.{◌≡◌, ◌<◌, ◌≤◌, ◌+◌, ◌⊎◌, List, length, refl, sym, ap, subst, ◌∙◌}
+use Rattle.std.proofs.Common.{◌≡◌, ◌<◌, ◌≤◌, ◌+◌, ◌⊎◌, List, length, slice_get, refl, sym, ap, subst, ◌∙◌, arith}
+use Rattle.std.proofs.lemmas.Option.{slice_get-get_or}
 use Rattle.farm_model.specs.declared.types.Variant.{Variant}
 use Rattle.farm_model.specs.Packages.{outputs}
 use Rattle.lane_records.specs.Records.{Record}
@@ -6,7 +7,7 @@ use Rattle.plan_model.specs.declared.instructions.Instruction.TheVariants.{Publi
 use Rattle.plan_model.specs.Plan.{Lane}
 use Rattle.plan_model.specs.Turn.{first_only}
 use Rattle.lane_runner.specs.OnWay.{given_one}
-use Rattle.lane_runner.proofs.Accepts.{place_below, some_output, one_unused, publishes, can_give}
+use Rattle.lane_runner.proofs.Accepts.{place_below, some_output, one_unused, publishes, last, more_left, can_give}
 use Rattle.lane_runner.proofs.runner.Runner.publish.Goals as goal
 
 pub draw-serial-requires-clause-output : goal.draw-serial-requires-clause-output
@@ -69,3 +70,18 @@ returns-clause-running g c =
     (subst (λ (x : Lane × List Variant). c.give.new.self
     ≡ given_one x.0 (length x.1) w (first_only w.made (length x.1)))
     (λ i. (c.lane_of-lane.ensures.lane i, outs i)) c.give.ensures)
+
+pub returns-clause-last : goal.returns-clause-last
+returns-clause-last g c =
+    let w = c.args.self.now in
+    let drawn = c.draw-serial.ensures.same in
+    let given = c.publish_next.ensures.same in
+    let outs = c.outputs-outputs.ensures.outputs ∙ ap (λ u. outputs u c.args.recipe) c.universe.ensures in
+    let made = c.outputs-outputs.result.now in
+    let more = more_left c.args.accepted.now c.keeps.ensures w c.args.chroot.now _ _ _
+    c.requires.running c.args.recipe c.requires.here in
+    last c.args.accepted.now c.keeps.ensures w c.args.chroot.now _ _ _ c.requires.running
+    c.args.recipe c.requires.here c.draw-serial.result _ c.draw-serial.ensures.log _ _
+    drawn.about_is drawn.lane_is _ _ c.publish_next.ensures.log given.lane_is _ refl refl
+    (ap (λ xs. slice_get xs w.made) (sym outs)
+    ∙ slice_get-get_or made w.made _ (omega (arith, more, ap length outs)))

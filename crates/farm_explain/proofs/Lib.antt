@@ -1,0 +1,6 @@
+pub mod Slots
+pub mod Unknown
+pub mod Below
+pub mod KnownWords
+pub mod NoteLaws
+pub mod Outcomes

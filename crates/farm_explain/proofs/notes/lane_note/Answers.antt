@@ -1,0 +1,76 @@
+use Rattle.std.proofs.Common.{◌≡◌, ◌+◌, ◌-◌, ◌++◌, Err, sym, ap, ◌∙◌, subst, arith}
+use Rattle.farm_report.specs.AnswerLines.{row_line}
+use Rattle.plan_model.specs.Plan.{lane}
+use Rattle.plan_model.specs.Safety.{Meets, Parts}
+use Rattle.plan_verifier.specs.declared.refusal.TheConstants.{UNEVEN}
+use Rattle.plan_verifier.specs.Walk.{told_at, IsTold, Walked}
+use Rattle.farm_explain.specs.LaneNotes.{hazard_note, lane_note}
+use Rattle.farm_explain.specs.ReasonText.{where_text}
+use Rattle.farm_explain.proofs.NoteLaws.{note_none, within, note_first}
+use Rattle.farm_explain.proofs.Outcomes.{if_ok}
+use Rattle.farm_explain.proofs.notes.lane_note.Goals as goal
+
+pub trap_note-requires-clause-place : goal.trap_note-requires-clause-place
+trap_note-requires-clause-place g c =
+    let u = c.args.stage.now.universe.now in
+    let p = c.args.stage.now.plan.now.lanes in
+    let rows = (g.K.KnownWords.known c.args.stage.now.known.now).rows in
+    let told : IsTold u p rows c.args.number (Meets c.in-Err-Unsafe.trap)
+    c.in-Err-Unsafe.field-0-0 c.in-Err-Unsafe.instruction =
+    subst (λ e. Walked u p rows c.args.number (Err e)) c.in-Err-Unsafe.field-0-is
+    c.in-Err-Unsafe.ensures in
+    omega (
+      arith,
+      told.numbered,
+      within u p rows c.args.lines.now.lanes c.args.number told.i (Meets c.in-Err-Unsafe.trap) told.here,
+    )
+
+pub returns-in-Ok : goal.returns-in-Ok
+returns-in-Ok g c =
+    let u = c.args.stage.now.universe.now in
+    let p = c.args.stage.now.plan.now.lanes in
+    let rows = (g.K.KnownWords.known c.args.stage.now.known.now).rows in
+    c.new.ensures.items
+    ∙ note_none u p rows c.args.lines.now.lanes c.args.number (λ i. c.in-Ok.ensures.0 i)
+
+pub returns-in-Err-Unsafe : goal.returns-in-Err-Unsafe
+returns-in-Err-Unsafe g c =
+    let u = c.args.stage.now.universe.now in
+    let p = c.args.stage.now.plan.now.lanes in
+    let rows = (g.K.KnownWords.known c.args.stage.now.known.now).rows in
+    let ls = c.args.lines.now.lanes in
+    let l = c.args.number in
+    let hazard = Meets c.in-Err-Unsafe.trap in
+    let told : IsTold u p rows l hazard c.in-Err-Unsafe.field-0-0 c.in-Err-Unsafe.instruction =
+    subst (λ e. Walked u p rows l (Err e)) c.in-Err-Unsafe.field-0-is c.in-Err-Unsafe.ensures in
+    let place : c.in-Err-Unsafe.instruction - 1 ≡ told.i = omega (arith, told.numbered) in
+    let same : hazard_note u p rows ls l (c.in-Err-Unsafe.instruction - 1) hazard
+    ≡ lane_note u p rows ls l =
+    ap (λ k. hazard_note u p rows ls l k hazard) place
+    ∙ sym (note_first u p rows ls l told.i hazard told.here told.before) in
+    if_ok (λ text. text.items ≡ hazard_note u p rows ls l (c.in-Err-Unsafe.instruction - 1) hazard)
+    (λ text. text.items ≡ lane_note u p rows ls l) c.trap_note.result (λ text is. is ∙ same)
+    c.trap_note.ensures
+
+pub returns-in-Err-Uneven : goal.returns-in-Err-Uneven
+returns-in-Err-Uneven g c =
+    let u = c.args.stage.now.universe.now in
+    let p = c.args.stage.now.plan.now.lanes in
+    let rows = (g.K.KnownWords.known c.args.stage.now.known.now).rows in
+    let ls = c.args.lines.now.lanes in
+    let l = c.args.number in
+    let n = c.in-Err-Uneven.instruction in
+    let told : IsTold u p rows l Parts c.in-Err-Uneven.field-0-0 n =
+    subst (λ e. Walked u p rows l (Err e)) c.in-Err-Uneven.field-0-is c.in-Err-Uneven.ensures in
+    let place : n - 1 ≡ told_at p l told.i Parts = omega (arith, told.numbered) in
+    let line : row_line UNEVEN (lane p l).name n
+    ≡ row_line UNEVEN (lane p l).name (told_at p l told.i Parts + 1) =
+    ap (row_line UNEVEN (lane p l).name) told.numbered in
+    let at : where_text u p ls l (n - 1) ≡ where_text u p ls l (told_at p l told.i Parts) =
+    ap (where_text u p ls l) place in
+    let same : row_line UNEVEN (lane p l).name n ++ where_text u p ls l (n - 1)
+    ≡ lane_note u p rows ls l =
+    (λ i. line i ++ at i) ∙ sym (note_first u p rows ls l told.i Parts told.here told.before) in
+    if_ok (λ text. text.items ≡ row_line UNEVEN (lane p l).name n ++ where_text u p ls l (n - 1))
+    (λ text. text.items ≡ lane_note u p rows ls l) c.uneven_note.result (λ text is. is ∙ same)
+    c.uneven_note.ensures

@@ -1,0 +1,76 @@
+-- What is said of the unsafe instructions of a plan's lanes. The project's own format. Parameters: u a
+-- universe, p a plan, rows what its lanes know, ls the lines of its text, l a lane.
+--
+--   first_hazard     the place of a lane's first unsafe instruction, and what is unsafe there
+--   lane_note        what is said of it
+--   unsafe_text      what is said of all lanes
+use Rattle.std.specs.Prelude.{◌≡◌, ℕ, ◌+◌, ◌<◌, Bool, List, [], ◌++◌, length, Option, Some, None, option_map}
+use Rattle.clause_kernel.specs.Rows.{word_has}
+use Rattle.farm_model.specs.declared.types.Variant.{Variant}
+use Rattle.farm_model.specs.TrapText.{trap_text}
+use Rattle.farm_model.specs.Packages.{variant, variants}
+use Rattle.farm_model.specs.Universe.{Universe}
+use Rattle.farm_report.specs.AnswerLines.{unsafe_line, row_line}
+use Rattle.plan_lines.specs.Origins.{LaneLines}
+use Rattle.plan_model.specs.declared.instructions.Instruction.{Instruction}
+use Rattle.plan_model.specs.Known.{Rows}
+use Rattle.plan_model.specs.May.{May}
+use Rattle.plan_model.specs.MayAt.{may_at}
+use Rattle.plan_model.specs.Plan.{Plan, lane, instruction_at}
+use Rattle.plan_model.specs.Safety.{Hazard, Meets, Parts, hazard_at}
+use Rattle.plan_verifier.specs.declared.refusal.TheConstants.{UNSAFE, UNEVEN}
+use Rattle.plan_verifier.specs.Walk.{told_at}
+use Rattle.refusal_reasons.specs.declared.types.Reason.{Reason}
+use Rattle.refusal_reasons.specs.First.{first_below}
+use Rattle.refusal_reasons.specs.Reasons.{reason_at}
+use Rattle.farm_explain.specs.ReasonText.{where_text, is_unpack, reason_text}
+use Rattle.farm_explain.specs.Texts.{text_below}
+
+abbrev pub first_hazard : Universe → Plan → Rows → ℕ → Option (ℕ × Hazard)
+first_hazard u p rows l =
+    first_below (length (lane p l).instructions)
+    (λ i. option_map (λ hazard. (i, hazard)) (hazard_at u p rows l i))
+
+-- why the instruction that is there, if any, may meet a trap
+abbrev pub why_of : Universe → Plan → List LaneLines → ℕ → (Variant → Bool) → May
+    → Option Instruction → Reason → List ℕ
+why_of u p ls l known m None reason = []
+why_of u p ls l known m (Some x) reason = reason_text u p ls l known m (is_unpack x) reason
+
+-- the same at place i
+abbrev pub why_text : Universe → Plan → (Variant → Bool) → List LaneLines → (l i : ℕ) → May → Reason
+    → List ℕ
+why_text u p known ls l i m reason = why_of u p ls l known m (instruction_at p l i) reason
+
+-- the reason at place i, if there is one
+abbrev pub reason_lines : Universe → Plan → Rows → List LaneLines → (l i : ℕ) → Option Reason
+    → List ℕ
+reason_lines u p rows ls l i None = []
+reason_lines u p rows ls l i (Some reason) =
+    why_text u p (rows l i) ls l i (may_at u p rows l i) reason
+
+-- the word has what is known of a name that is missing
+abbrev pub IsKnownWord : Universe → (Variant → Bool) → Reason → ℕ → Type 0
+IsKnownWord u known (Reason.Missing n) word =
+    (b : ℕ) → b < variants u n → word_has word b ≡ known (variant n b)
+IsKnownWord u known reason word = Unit {0}
+
+-- the line of the refusal, where, and why
+abbrev pub hazard_note : Universe → Plan → Rows → List LaneLines → (l i : ℕ) → Hazard → List ℕ
+hazard_note u p rows ls l i (Meets trap) =
+    unsafe_line UNSAFE (lane p l).name (i + 1) (trap_text trap)
+    ++ (where_text u p ls l i ++ reason_lines u p rows ls l i (reason_at u p rows l i trap))
+hazard_note u p rows ls l i Parts =
+    row_line UNEVEN (lane p l).name (told_at p l i Parts + 1)
+    ++ where_text u p ls l (told_at p l i Parts)
+
+abbrev pub note_of : Universe → Plan → Rows → List LaneLines → ℕ → Option (ℕ × Hazard) → List ℕ
+note_of u p rows ls l None = []
+note_of u p rows ls l (Some (i, hazard)) = hazard_note u p rows ls l i hazard
+
+unfoldable pub lane_note : Universe → Plan → Rows → List LaneLines → ℕ → List ℕ
+lane_note u p rows ls l = note_of u p rows ls l (first_hazard u p rows l)
+
+-- lane by lane, in file order
+unfoldable pub unsafe_text : Universe → Plan → Rows → List LaneLines → List ℕ
+unsafe_text u p rows ls = text_below (length p) (lane_note u p rows ls)

@@ -1,0 +1,296 @@
+//! What is said of the unsafe instructions of a plan's lanes.
+
+ghost use Rattle.std.specs.Prelude.{◌≡◌, ℕ, ◌<◌, ◌≤◌, ◌-◌, ◌++◌, length, IfOk, OnOk};
+ghost use Rattle.clause_kernel.specs.Rows.{word_has};
+ghost use Rattle.farm_model.specs.Packages.{variant, variants};
+ghost use Rattle.farm_model.specs.TrapText.{trap_text};
+ghost use Rattle.farm_report.specs.AnswerLines.{row_line, unsafe_line};
+ghost use Rattle.farm_report.specs.VerdictText.{refusal_text};
+ghost use Rattle.may_rows.specs.Words.{may_of};
+ghost use Rattle.plan_model.specs.MayAt.{may_at};
+ghost use Rattle.plan_model.specs.Plan.{lane};
+ghost use Rattle.plan_model.specs.Safety.{Meets};
+ghost use Rattle.plan_verifier.specs.Stage.{IsStage};
+ghost use Rattle.plan_verifier.specs.declared.refusal.TheConstants.{UNSAFE, UNEVEN};
+ghost use Rattle.farm_explain.specs.LaneNotes as spec;
+ghost use Rattle.farm_explain.specs.ReasonText.{is_unpack, where_text};
+
+use crate::could_meet::ChrootText;
+use crate::missing::LaneText;
+use crate::place::push_where;
+use crate::reasons::push_reason;
+use farm_report::verdict_text;
+use farm_universe::Trap;
+use may_rows::Dependents;
+use plan_asm::Instruction;
+use plan_lines::PlanLines;
+use plan_verifier::walk::{walk, walk_to};
+use plan_verifier::{Accepted, LaneMay, Refusal, Stage, WalkError};
+use refusal_reasons::{Reason, reason};
+use std::alloc::{AllocError, Global};
+use wait_order::KnownWords;
+
+/// The line of a refusal.
+fn refusal_line(alloc: Global, refusal: Refusal) -> Result<Vec<u8>, AllocError>
+    ensures { IfOk result (λ text. text.items ≡ refusal_text refusal) }
+{
+    let verdict: Result<Accepted, Refusal> = Err(refusal);
+    verdict_text(alloc, &verdict)
+}
+
+/// What of a name is surely in the archive, as a word; nothing for a number that is none's.
+fn missing_word<K: KnownWords>(stage: &Stage<'_, K>, number: usize, place: usize, name: u32) -> u64
+    requires stage { IsStage stage.now.universe.now stage.now.plan.now.lanes
+        stage.now.tables.now stage.now.outputs.now (K.known stage.now.known.now) }
+    requires lane { number < length stage.now.plan.now.lanes }
+    requires place { place < length (lane stage.now.plan.now.lanes number).instructions }
+    ensures { (b : ℕ) → b < variants stage.now.universe.now name
+        → word_has result b ≡ (K.known stage.now.known.now).rows number place (variant name b) }
+{
+    if name < stage.universe.names() {
+        stage.known.word(stage.universe, number, place, name)
+    } else {
+        0
+    }
+}
+
+/// What of the name that is missing is surely in the archive; nothing for other reasons.
+fn known_word<K: KnownWords>(
+    stage: &Stage<'_, K>,
+    number: usize,
+    place: usize,
+    reason: Reason,
+) -> u64
+    requires stage { IsStage stage.now.universe.now stage.now.plan.now.lanes
+        stage.now.tables.now stage.now.outputs.now (K.known stage.now.known.now) }
+    requires lane { number < length stage.now.plan.now.lanes }
+    requires place { place < length (lane stage.now.plan.now.lanes number).instructions }
+    ensures { spec.IsKnownWord stage.now.universe.now
+        ((K.known stage.now.known.now).rows number place) reason result }
+{
+    match reason {
+        Reason::Missing { name } => missing_word(stage, number, place, name),
+        _ => 0,
+    }
+}
+
+/// Tells whether an instruction is an unpack.
+fn is_unpack(instruction: &Instruction) -> bool
+    ensures { result ≡ is_unpack instruction.now }
+{
+    matches!(instruction, Instruction::Unpack { .. })
+}
+
+/// Why an instruction may meet a trap, behind a text.
+fn push_why<K: KnownWords>(
+    text: &mut Vec<u8>,
+    stage: &Stage<'_, K>,
+    of: LaneText<'_>,
+    place: usize,
+    may: &LaneMay,
+    reason: Reason,
+) -> Result<(), AllocError>
+    requires stage { IsStage stage.now.universe.now stage.now.plan.now.lanes
+        stage.now.tables.now stage.now.outputs.now (K.known stage.now.known.now) }
+    requires universe { of.universe.now ≡ stage.now.universe.now }
+    requires plan { of.plan.now.lanes ≡ stage.now.plan.now.lanes }
+    requires lane { of.number < length stage.now.plan.now.lanes }
+    requires place { place < length (lane stage.now.plan.now.lanes of.number).instructions }
+    ensures { OnOk result (text.new.items ≡ text.old.items
+        ++ spec.why_text of.entry.universe.now of.entry.plan.now.lanes
+        ((K.known stage.now.known.now).rows of.entry.number place) of.entry.lines.now.lanes
+        of.entry.number place (may_of may.now.here) reason) }
+{
+    let instruction = &of.plan.lane(of.number).instructions()[place];
+    let chroot = ChrootText {
+        universe: of.universe,
+        state: &may.here,
+        is_unpack: is_unpack(instruction),
+    };
+    let known = known_word(stage, of.number, place, reason);
+    push_reason(text, of, chroot, known, reason)
+}
+
+/// A trap that the instruction of this number, from 1, may meet.
+#[derive(Clone, Copy, Debug)]
+struct Met {
+    instruction: u32,
+    trap: Trap,
+}
+
+/// The line of the refusal of a trap, and where.
+fn trap_head<K: KnownWords>(
+    alloc: Global,
+    stage: &Stage<'_, K>,
+    lines: &PlanLines,
+    number: usize,
+    met: Met,
+) -> Result<Vec<u8>, AllocError>
+    requires lane { number < length stage.now.plan.now.lanes }
+    requires instruction { 0 < met.instruction }
+    ensures { IfOk result (λ text. text.items
+        ≡ unsafe_line UNSAFE (lane stage.now.plan.now.lanes number).name met.instruction
+        (trap_text met.trap)
+        ++ where_text stage.now.universe.now stage.now.plan.now.lanes lines.now.lanes number
+        (met.instruction - 1)) }
+{
+    let refusal = Refusal::Unsafe {
+        lane: Vec::from_slice(alloc, stage.plan.lane(number).name())?,
+        instruction: met.instruction,
+        trap: met.trap,
+    };
+    let place = met.instruction as usize - 1;
+    let mut text = refusal_line(alloc, refusal)?;
+    push_where(&mut text, stage.universe, stage.plan, lines, number, place)?;
+    Ok(text)
+}
+
+/// Why an instruction may meet a trap, behind a text; nothing where there is no reason.
+fn push_reasons<K: KnownWords>(
+    text: &mut Vec<u8>,
+    stage: &Stage<'_, K>,
+    of: LaneText<'_>,
+    place: usize,
+    may: &LaneMay,
+    told: Option<Reason>,
+) -> Result<(), AllocError>
+    requires stage { IsStage stage.now.universe.now stage.now.plan.now.lanes
+        stage.now.tables.now stage.now.outputs.now (K.known stage.now.known.now) }
+    requires universe { of.universe.now ≡ stage.now.universe.now }
+    requires plan { of.plan.now.lanes ≡ stage.now.plan.now.lanes }
+    requires lane { of.number < length stage.now.plan.now.lanes }
+    requires place { place < length (lane stage.now.plan.now.lanes of.number).instructions }
+    requires at { may_of may.now.here ≡ may_at stage.now.universe.now stage.now.plan.now.lanes
+        (K.known stage.now.known.now).rows of.number place }
+    ensures { OnOk result (text.new.items ≡ text.old.items
+        ++ spec.reason_lines of.entry.universe.now of.entry.plan.now.lanes
+        (K.known stage.now.known.now).rows of.entry.lines.now.lanes of.entry.number place told) }
+{
+    match told {
+        Some(reason) => push_why(text, stage, of, place, may, reason),
+        None => Ok(()),
+    }
+}
+
+/// The note on a trap of a lane's instruction.
+fn trap_note<K: KnownWords>(
+    alloc: Global,
+    stage: &Stage<'_, K>,
+    dependents: &Dependents,
+    lines: &PlanLines,
+    number: usize,
+    met: Met,
+) -> Result<Vec<u8>, AllocError>
+    requires stage { IsStage stage.now.universe.now stage.now.plan.now.lanes
+        stage.now.tables.now stage.now.outputs.now (K.known stage.now.known.now) }
+    requires dependents { dependents.now ≡ stage.now.universe.now }
+    requires lane { number < length stage.now.plan.now.lanes }
+    requires instruction { 0 < met.instruction }
+    requires place { met.instruction
+        ≤ length (lane stage.now.plan.now.lanes number).instructions }
+    ensures { IfOk result (λ text. text.items ≡ spec.hazard_note stage.now.universe.now
+        stage.now.plan.now.lanes (K.known stage.now.known.now).rows lines.now.lanes number
+        (met.instruction - 1) (Meets met.trap)) }
+{
+    let place = met.instruction as usize - 1;
+    let mut text = trap_head(alloc, stage, lines, number, met)?;
+    let of = LaneText {
+        universe: stage.universe,
+        plan: stage.plan,
+        lines,
+        number,
+    };
+    // The walk has come to this place before: it can end for want of memory alone.
+    let Ok(may) = walk_to(alloc, stage, dependents, number, place) else {
+        return Err(AllocError);
+    };
+    let told = reason(alloc, stage, number, place, &may, met.trap)?;
+    push_reasons(&mut text, stage, of, place, &may, told)?;
+    Ok(text)
+}
+
+/// The note on branches that part: of the `when` of this number, from 1.
+fn uneven_note<K: KnownWords>(
+    alloc: Global,
+    stage: &Stage<'_, K>,
+    lines: &PlanLines,
+    number: usize,
+    instruction: u32,
+) -> Result<Vec<u8>, AllocError>
+    requires lane { number < length stage.now.plan.now.lanes }
+    requires instruction { 0 < instruction }
+    ensures { IfOk result (λ text. text.items
+        ≡ row_line UNEVEN (lane stage.now.plan.now.lanes number).name instruction
+        ++ where_text stage.now.universe.now stage.now.plan.now.lanes lines.now.lanes number
+        (instruction - 1)) }
+{
+    let refusal = Refusal::Uneven {
+        lane: Vec::from_slice(alloc, stage.plan.lane(number).name())?,
+        instruction,
+    };
+    let place = instruction as usize - 1;
+    let mut text = refusal_line(alloc, refusal)?;
+    push_where(&mut text, stage.universe, stage.plan, lines, number, place)?;
+    Ok(text)
+}
+
+/// What is said of a lane: nothing where each of its instructions is safe.
+fn lane_note<K: KnownWords>(
+    alloc: Global,
+    stage: &Stage<'_, K>,
+    dependents: &Dependents,
+    lines: &PlanLines,
+    number: usize,
+) -> Result<Vec<u8>, AllocError>
+    requires stage { IsStage stage.now.universe.now stage.now.plan.now.lanes
+        stage.now.tables.now stage.now.outputs.now (K.known stage.now.known.now) }
+    requires dependents { dependents.now ≡ stage.now.universe.now }
+    requires lane { number < length stage.now.plan.now.lanes }
+    ensures { IfOk result (λ text. text.items ≡ spec.lane_note stage.now.universe.now
+        stage.now.plan.now.lanes (K.known stage.now.known.now).rows lines.now.lanes number) }
+{
+    match walk(alloc, stage, dependents, number) {
+        Ok(_) => Ok(Vec::new(alloc)),
+        Err(
+            WalkError::Unsafe {
+                instruction,
+                trap,
+                ..
+            },
+        ) => {
+            let met = Met { instruction, trap };
+            trap_note(alloc, stage, dependents, lines, number, met)
+        }
+        Err(WalkError::Uneven { instruction, .. }) => {
+            uneven_note(alloc, stage, lines, number, instruction)
+        }
+        Err(WalkError::Memory) => Err(AllocError),
+    }
+}
+
+/// Gives what is said of the unsafe instructions of a plan: for each lane that has one, of the first,
+/// the line of its refusal, its line in the plan, and why. Nothing for a plan that is safe. `lines` are
+/// those of the plan's text.
+///
+/// # Errors
+///
+/// [`AllocError`] where memory is refused.
+#[tactic(auto, unfolding(crate::specs::LaneNotes::unsafe_text))]
+pub fn unsafe_notes<K: KnownWords>(
+    alloc: Global,
+    stage: &Stage<'_, K>,
+    lines: &PlanLines,
+) -> Result<Vec<u8>, AllocError>
+    requires { IsStage stage.now.universe.now stage.now.plan.now.lanes
+        stage.now.tables.now stage.now.outputs.now (K.known stage.now.known.now) }
+    ensures { IfOk result (λ text. text.items ≡ spec.unsafe_text stage.now.universe.now
+        stage.now.plan.now.lanes (K.known stage.now.known.now).rows lines.now.lanes) }
+{
+    let dependents = Dependents::build(alloc, stage.universe, stage.tables)?;
+    let mut text = Vec::new(alloc);
+    for number in 0..stage.plan.lanes() {
+        let note = lane_note(alloc, stage, &dependents, lines, number)?;
+        text.extend_from_slice(&note)?;
+    }
+    Ok(text)
+}

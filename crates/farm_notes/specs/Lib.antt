@@ -1,0 +1,5 @@
+pub mod Bases
+pub mod Items
+pub mod Lines
+pub mod Notes
+pub mod Parts

@@ -1,0 +1,77 @@
+-- The parts of the texts that a refusal of the farm text is about: its paragraph, the list of
+-- variants in it, and the universe that stands before it.
+--
+--   text_before text line          what stands before the line of this number
+--   paragraph_place ps line        the place of the paragraph whose first line this is
+--   list_name place p              the field of it that has a list of variants
+--   entries_in value               the items of such a list
+--   members_of u items             their variants
+--   universe_before                what the texts say before the paragraph
+use Rattle.std.specs.Prelude.{ℕ, zero, suc, ◌-◌, ◌==◌, List, [], ◌∷◌, length, position, take, Option, Some, None, Result, Ok, Err, codes, is_some, if◌then◌else◌}
+use Rattle.std.specs.Option.{unwrap_or, option_and_then}
+use Rattle.deb_text.specs.Bytes.{is_newline}
+use Rattle.deb_text.specs.Cuts.{after}
+use Rattle.deb_text.specs.Numbers.{number_at}
+use Rattle.deb_stanza.specs.Stanza.{Paragraph, value_of}
+use Rattle.deb_relation.specs.declared.kind.Kind.TheVariants.{Provide}
+use Rattle.deb_relation.specs.Field.{relations_at}
+use Rattle.deb_relation.specs.Relations.{Entry, Relations}
+use Rattle.farm_model.specs.declared.types.Variant.{Variant}
+use Rattle.farm_model.specs.Universe.{Universe}
+use Rattle.farm_universe.specs.UniverseText.{universe_of}
+use Rattle.farm_notes.specs.Items.{item_variant}
+
+-- what can be read, unless it is refused
+abbrev pub readable : {X E : Type 0} → Result X E → Option X
+readable (Ok x) = Some x
+readable (Err e) = None
+
+-- what stands behind so many lines
+abbrev pub behind_lines : ℕ → List ℕ → List ℕ
+behind_lines zero text = text
+behind_lines (suc n) text = behind_lines n (after is_newline text)
+
+unfoldable pub text_before : List ℕ → ℕ → List ℕ
+text_before text line = take (length text - length (behind_lines (line - 1) text)) text
+
+abbrev pub paragraph_place : List Paragraph → ℕ → Option ℕ
+paragraph_place ps line = position (λ (p : Paragraph). p.line == line) ps
+
+-- `Archive` of the first paragraph, `Outputs` of a recipe, `Packages` of a base chroot
+abbrev pub list_name : ℕ → Paragraph → List ℕ
+list_name place p =
+    if place == 0 then codes "Archive"
+    else if is_some (value_of p (codes "Recipe")) then codes "Outputs"
+    else codes "Packages"
+
+abbrev pub entries_of : Option Relations → Relations
+entries_of None = []
+entries_of (Some es) = es
+
+-- the items of a list; none where there is no list
+abbrev pub entries_in : Option (List ℕ) → Relations
+entries_in None = []
+entries_in (Some text) = entries_of (readable (relations_at Provide text))
+
+-- the variants of items, less what names none
+abbrev pub with_variant : Option Variant → List Variant → List Variant
+with_variant None vs = vs
+with_variant (Some v) vs = v ∷ vs
+
+abbrev pub members_of : Universe → List Entry → List Variant
+members_of u [] = []
+members_of u (e ∷ es) = with_variant (item_variant u e) (members_of u es)
+
+-- the number in a field
+abbrev pub number_in : Option (List ℕ) → ℕ
+number_in value = unwrap_or (option_and_then number_at value) 0
+
+-- the farm text before a paragraph of this place; before the first one a text that says nothing
+unfoldable pub farm_before : List ℕ → ℕ → ℕ → List ℕ
+farm_before farm place line =
+    if place == 0 then codes "Architecture-Names: none" else text_before farm line
+
+-- what the packages, the sources and the farm text before the paragraph say
+unfoldable pub universe_before : List ℕ → List ℕ → List ℕ → ℕ → ℕ → Option Universe
+universe_before packages sources farm place line =
+    readable (universe_of packages sources (farm_before farm place line))

@@ -1,0 +1,18 @@
+//! What to say of a text that is refused: its line, what was expected there, and what its bytes
+//! look like.
+#![tactic(auto)]
+
+mod escapes;
+mod looks;
+mod notes;
+mod places;
+mod sentences;
+
+pub use escapes::write_escaped;
+pub use looks::{Look, is_looked_at, look_of};
+pub use notes::write_fault_note;
+pub use places::{file_name, line_at};
+pub use sentences::sentence;
+
+#[cfg(test)]
+mod tests;

@@ -1,0 +1,104 @@
+//! What is said of a text that is refused.
+
+ghost use Rattle.std.specs.Prelude.{◌≡◌, is_err, take, Some};
+ghost use Rattle.std.specs.Option.{option_map};
+ghost use Rattle.fault_notes.specs.Notes as spec;
+ghost use Rattle.fault_notes.specs.Places.{file_name as named};
+ghost use Rattle.report_sink.specs.Sinks.{IsWritten};
+
+use crate::escapes::write_escaped;
+use crate::looks::{Look, is_looked_at, look_of};
+use crate::places::{file_name, line_at};
+use crate::sentences::sentence;
+use deb_text::Fault;
+use itoa::Buffer;
+use report_sink::{Sink, WriteFailed, whether_written, write_pieces, write_text};
+
+/// The most bytes of a line that are shown.
+const MOST_SHOWN: usize = 200;
+
+/// The first bytes of a line.
+#[tactic(auto, using(std::proofs::lemmas::List::take_min))]
+fn shown(line: &[u8]) -> &[u8]
+    ensures { result.now ≡ take MOST_SHOWN line.now }
+{
+    &line[..MOST_SHOWN.min(line.len())]
+}
+
+/// A line of a text, as `plan line 5: unpak libgmp`.
+fn write_line<S: Sink>(
+    out: &mut S,
+    file: &[u8],
+    number: u32,
+    line: &[u8],
+) -> Result<(), WriteFailed>
+    ensures written { IsWritten (S.state out.old) (S.state out.new)
+        (spec.place_line file.now number (Some line.now)) }
+    ensures told { is_err result ≡ (S.state out.new).failed }
+{
+    let mut digits = Buffer::new();
+    let number = digits.format(number);
+    write_pieces(out, &[file, b" line ", number.as_bytes(), b": "])?;
+    write_escaped(out, shown(line))?;
+    write_text(out, b"\n")
+}
+
+/// The line where there is one.
+fn write_place<S: Sink>(out: &mut S, fault: &Fault, line: Option<&[u8]>) -> Result<(), WriteFailed>
+    ensures written { IsWritten (S.state out.old) (S.state out.new)
+        (spec.place_line (named fault.now.file) fault.now.line
+        (option_map (λ line. line.now) line.entry)) }
+    ensures told { is_err result ≡ (S.state out.new).failed }
+{
+    match line {
+        Some(line) => write_line(out, file_name(fault.file), fault.line, line),
+        None => whether_written(out),
+    }
+}
+
+fn write_sentence<S: Sink>(out: &mut S, sentence: &[u8]) -> Result<(), WriteFailed>
+    ensures written { IsWritten (S.state out.old) (S.state out.new)
+        (spec.sentence_line sentence.now) }
+    ensures told { is_err result ≡ (S.state out.new).failed }
+{
+    write_pieces(out, &[b"  ", sentence, b"\n"])
+}
+
+fn write_look<S: Sink>(out: &mut S, look: Option<Look>) -> Result<(), WriteFailed>
+    ensures written { IsWritten (S.state out.old) (S.state out.new) (spec.look_line look) }
+    ensures told { is_err result ≡ (S.state out.new).failed }
+{
+    match look {
+        Some(look) => write_sentence(out, look.sentence()),
+        None => whether_written(out),
+    }
+}
+
+/// What the text looks like, where its refusal is one of such a text.
+fn fault_look(fault: &Fault, text: &[u8], line: Option<&[u8]>) -> Option<Look>
+    ensures { result ≡ spec.fault_look fault.now text.now
+        (option_map (λ line. line.now) line.entry) }
+{
+    if !is_looked_at(fault.code) {
+        return None;
+    }
+    look_of(fault.file, text, line.unwrap_or(b""))
+}
+
+/// Writes what is to say of a text that is refused, below the line of its refusal: the line where
+/// there is one, what was expected there, and what the text looks like where it is of another
+/// kind. It takes no memory, and a sink that had failed before is not written to.
+///
+/// # Errors
+///
+/// [`WriteFailed`] where the sink has failed. It has then taken a first part of the lines.
+pub fn write_fault_note<S: Sink>(out: &mut S, fault: &Fault, text: &[u8]) -> Result<(), WriteFailed>
+    ensures written { IsWritten (S.state out.old) (S.state out.new)
+        (spec.note_text fault.now text.now) }
+    ensures told { is_err result ≡ (S.state out.new).failed }
+{
+    let line = line_at(text, fault.line);
+    write_place(out, fault, line)?;
+    write_sentence(out, sentence(fault.code))?;
+    write_look(out, fault_look(fault, text, line))
+}

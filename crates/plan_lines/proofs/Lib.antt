@@ -1,0 +1,6 @@
+mod JoinLaws
+mod TurnLaws
+mod BlockLaws
+mod LineLaws
+mod TakeLaws
+mod ReadLaws

@@ -1,0 +1,29 @@
+-- What the code keeps of lanes.
+use Rattle.std.specs.Prelude.{◌≡◌, ◌≤◌, ℕ, ◌+◌, List, [], ◌∷◌, ◌++◌, length}
+use Rattle.plan_asm.specs.declared.error.TheConstants.{MOST_INSTRUCTIONS}
+use Rattle.plan_lines.specs.declared.origin.Origin.{Origin}
+use Rattle.plan_lines.specs.Origins.{LaneLines, with_room, count_of}
+
+-- the lanes that have ended, and where the instructions of the open one come from so far
+pub record LaneList : Type 0 where
+  pub ended : List LaneLines
+  pub begun : List Origin
+
+-- the instructions of the lanes that have ended are counted, and there are not too many in all
+pub record IsCounted (lanes : List LaneLines) (n : ℕ) (begun : List Origin) : Type 0 where
+  pub counted : n ≡ count_of lanes
+  pub few : n + length begun ≤ MOST_INSTRUCTIONS
+
+-- origins come into the open lane
+abbrev pub put : LaneList → List Origin → LaneList
+put lanes xs = record {
+  ended = lanes.ended;
+  begun = with_room (count_of lanes.ended) lanes.begun xs;
+}
+
+-- the open lane, of the line head, ends at a line
+abbrev pub end_lane : LaneList → ℕ → ℕ → LaneList
+end_lane lanes head end = record {
+  ended = lanes.ended ++ record { head = head; origins = lanes.begun; end = end } ∷ [];
+  begun = [];
+}

@@ -1,0 +1,21 @@
+use Rattle.std.proofs.Common.{◌≢◌, [], subst}
+use Rattle.plan_model.specs.Order.{AreStuck}
+use Rattle.wait_order.specs.KnownRows.{rows_of}
+use Rattle.wait_order.specs.Answer.{IsWhyNone}
+use Rattle.wait_order.specs.declared.rounds.OrderError.TheVariants.{Stuck}
+use Rattle.plan_verifier.specs.Stuck.{IsToldStuck}
+use Rattle.plan_verifier.proofs.Walks.{stuck_verdict}
+use Rattle.plan_verifier.proofs.examined.find_grounds.Goals as goal
+
+pub returns-in-Err-Stuck-clause-refused : goal.returns-in-Err-Stuck-clause-refused
+returns-in-Err-Stuck-clause-refused c =
+    let u = c.args.universe.now in
+    let p = c.args.plan.now.lanes in
+    let lanes = c.in-Err-Stuck.lanes.items in
+    let why : IsWhyNone u p (Stuck c.in-Err-Stuck.lanes) =
+    subst (IsWhyNone u p) c.in-Err-Stuck.field-0-is c.in-Err-Stuck.ensures.stuck in
+    let stuck : AreStuck u p lanes × (lanes ≢ []) = why in
+    stuck_verdict u p (rows_of c.args.known.now) c.requires.greatest
+    c.in_ok-costs.ensures.0 lanes stuck.0 stuck.1 c.stuck_refusal.result
+    (subst (λ ls. IsToldStuck p ls c.stuck_refusal.result) c.deref.ensures.value
+    c.stuck_refusal.ensures)

@@ -1,0 +1,178 @@
+//! What the verdict on a plan is asked of.
+
+ghost use Rattle.std.specs.Prelude.{◌≡◌, Err, IfErr, IfOk};
+ghost use Rattle.plan_model.specs.Known.{IsGreatest};
+ghost use Rattle.plan_model.specs.Plan.{count};
+ghost use Rattle.plan_model.specs.Sound.{IsSound};
+ghost use Rattle.plan_verifier.specs.Examined.{accepted_with, knowledge_of, IsGrounds};
+ghost use Rattle.plan_verifier.specs.Stage.{IsStage};
+ghost use Rattle.plan_verifier.specs.Verdict.{IsVerdictOn};
+ghost use Rattle.wait_order.specs.KnownRows.{rows_of};
+
+use crate::accepted::Accepted;
+use crate::costs::check_lanes;
+use crate::refusal::Refusal;
+use crate::stage::Stage;
+use crate::stuck::stuck_refusal;
+use farm_input::Planned;
+use farm_universe::Universe;
+use plan_asm::Plan;
+use sat_rows::Tables;
+use std::alloc::{AllocError, Global};
+use std::marker::Model;
+use std::thread::Threads;
+use wait_order::{Known, OrderError, knowledge, order};
+
+/// What the acceptance of a plan rests on.
+#[derive(Drop)]
+pub struct Grounds {
+    order: Vec<u32>,
+    costs: Vec<u64>,
+}
+
+/// A plan over a universe, with what the verdict on it is asked of: the rows of the universe, and what
+/// the plan's lanes know of the archive.
+#[derive(Drop)]
+pub struct Examined {
+    universe: Universe,
+    plan: Plan,
+    tables: Tables,
+    known: Known,
+}
+
+impl Model for Examined {
+    ghost use Rattle.plan_verifier.specs.Examined.{ExaminedPlan, IsExamined};
+    ghost use Rattle.std.specs.Prelude.{◌≡◌};
+    ghost use Rattle.plan_model.specs.Plan.{count};
+
+    ghost Value = { ExaminedPlan };
+
+    ghost view = { λ e. record {
+      universe = e.universe;
+      plan = e.plan.lanes;
+      known = e.known;
+    } };
+
+    ghost invariant = { λ e. IsExamined (record {
+      universe = e.universe;
+      plan = e.plan.lanes;
+      known = e.known;
+    }) × (e.tables ≡ e.universe) × (e.plan.count ≡ count e.universe e.plan.lanes) };
+}
+
+/// Finds what the acceptance of a plan rests on, by the rows of its universe and what its lanes know.
+fn find_grounds(
+    alloc: Global,
+    universe: &Universe,
+    tables: &Tables,
+    plan: &Plan,
+    known: &Known,
+) -> Result<Grounds, Refusal>
+    requires sound { IsSound universe.now plan.now.lanes }
+    requires tables { tables.now ≡ universe.now }
+    requires of_universe { known.now.universe ≡ universe.now }
+    requires of_plan { known.now.plan ≡ plan.now.lanes }
+    requires greatest { IsGreatest universe.now plan.now.lanes (rows_of known.now) }
+    ensures accepted { IfOk result (IsGrounds (record {
+      universe = universe.now;
+      plan = plan.now.lanes;
+      known = known.now;
+    })) }
+    ensures refused { IfErr result (λ refusal.
+        IsVerdictOn universe.now plan.now.lanes (Err refusal)) }
+{
+    let costs = check_lanes(alloc, universe, tables, plan, known)?;
+    match order(alloc, universe, tables, plan) {
+        Ok(order) => Ok(Grounds { order, costs }),
+        Err(OrderError::Stuck(lanes)) => Err(stuck_refusal(alloc, plan, &lanes)),
+        Err(OrderError::Memory) => Err(Refusal::Memory),
+    }
+}
+
+impl Examined {
+    /// Examines what four texts stand for.
+    ///
+    /// # Errors
+    ///
+    /// [`AllocError`] where memory ran out.
+    pub fn of(
+        rt: &(impl Threads + Sync),
+        alloc: Global,
+        planned: Planned,
+    ) -> Result<Examined, AllocError>
+        requires counted { planned.plan.count ≡ count planned.universe planned.plan.lanes }
+        requires sound { IsSound planned.universe planned.plan.lanes }
+        ensures universe { IfOk result (λ examined. examined.universe ≡ planned.universe) }
+        ensures plan { IfOk result (λ examined. examined.plan ≡ planned.plan.lanes) }
+    {
+        let Planned { universe, plan } = planned;
+        let tables = Tables::build(rt, alloc, &universe)?;
+        let known = knowledge(alloc, &universe, &tables, &plan)?;
+        Ok(Examined {
+            universe,
+            plan,
+            tables,
+            known,
+        })
+    }
+
+    /// The universe of the packages, the sources and the farm.
+    pub fn universe(&self) -> &Universe
+        ensures { result.now ≡ self.now.universe }
+    {
+        &self.universe
+    }
+
+    /// The plan.
+    pub fn plan(&self) -> &Plan
+        ensures lanes { result.now.lanes ≡ self.now.plan }
+        ensures counted { result.now.count ≡ count self.now.universe self.now.plan }
+    {
+        &self.plan
+    }
+
+    /// What walks over the plan's lanes go by.
+    pub fn stage(&self) -> Stage<'_, Known>
+        ensures universe { result.universe.now ≡ self.now.universe }
+        ensures plan { result.plan.now.lanes ≡ self.now.plan }
+        ensures known { result.known.now ≡ self.now.known }
+        ensures stage { IsStage self.now.universe self.now.plan result.tables.now
+            result.outputs.now (knowledge_of self.now.known) }
+    {
+        Stage {
+            universe: &self.universe,
+            tables: &self.tables,
+            plan: &self.plan,
+            outputs: self.known.outputs(),
+            known: &self.known,
+        }
+    }
+
+    /// The verdict: what an acceptance rests on, or why the plan is refused.
+    ///
+    /// # Errors
+    ///
+    /// As those of [`check`](crate::check) for a plan that can be read.
+    pub fn verdict(&self, alloc: Global) -> Result<Grounds, Refusal>
+        ensures accepted { IfOk result (IsGrounds self.now) }
+        ensures refused { IfErr result (λ refusal.
+            IsVerdictOn self.now.universe self.now.plan (Err refusal)) }
+    {
+        find_grounds(alloc, &self.universe, &self.tables, &self.plan, &self.known)
+    }
+
+    /// The plan as an accepted one.
+    pub fn accept(self, grounds: Grounds) -> Accepted
+        requires { IsGrounds self grounds }
+        ensures { result ≡ accepted_with self grounds.order.items grounds.costs.items }
+    {
+        let Examined {
+            universe,
+            plan,
+            known,
+            ..
+        } = self;
+        let Grounds { order, costs } = grounds;
+        Accepted::new(universe, plan, known, order, costs)
+    }
+}

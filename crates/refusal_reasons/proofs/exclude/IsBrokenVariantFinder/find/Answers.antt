@@ -1,0 +1,31 @@
+use Rattle.std.proofs.Common.{◌≡◌, ℕ, Bool, false, List, subst, ◌∙◌}
+use Rattle.farm_model.specs.declared.types.Variant.{Variant}
+use Rattle.farm_model.specs.Below.{some_below}
+use Rattle.farm_model.specs.Packages.{names, breaks}
+use Rattle.sat_rows.specs.Rows.{of_another_name}
+use Rattle.refusal_reasons.specs.declared.types.Reason.{Reason}
+use Rattle.refusal_reasons.specs.Hits.{hits, IsFirstHit}
+use Rattle.refusal_reasons.proofs.Excluded.{held-some, held-none}
+use Rattle.refusal_reasons.proofs.exclude.IsBrokenVariantFinder.find.Goals as goal
+
+pub returns-in-Some : goal.returns-in-Some
+returns-in-Some c =
+    let u = c.args.universe.now in
+    let v = c.args.variant in
+    let n = c.in-Some.name in
+    let q : Variant → Bool = λ (d : Variant). breaks u d v in
+    c.first_held.ensures
+    ∙ held-some u c.args.self.now.state.now c.requires.fits.1.0 v q
+    (λ (d : Variant). Reason.Breaks d v) n
+    (subst (λ (words : List ℕ). IsFirstHit u words (of_another_name v q) n) c.requires.fits.1.1
+    c.in-Some.ensures.some)
+
+pub returns-in-None : goal.returns-in-None
+returns-in-None c =
+    let u = c.args.universe.now in
+    let v = c.args.variant in
+    let q : Variant → Bool = λ (d : Variant). breaks u d v in
+    held-none u c.args.self.now.state.now c.requires.fits.1.0 v q
+    (λ (d : Variant). Reason.Breaks d v)
+    (subst (λ (words : List ℕ). some_below (names u) (hits u words (of_another_name v q)) ≡ false)
+    c.requires.fits.1.1 c.in-None.ensures.none)

@@ -1,0 +1,27 @@
+use Rattle.std.proofs.Common.{not, ◌&&◌, sym, ap, ◌∙◌}
+use Rattle.farm_model.specs.Packages.{satisfies_entry}
+use Rattle.plan_model.specs.May.{surely_met}
+use Rattle.sat_rows.specs.Rows.{entry_at}
+use Rattle.may_rows.specs.Words.{may_of}
+use Rattle.refusal_reasons.specs.Reasons.{field_of}
+use Rattle.refusal_reasons.proofs.needed.NeededEntriesEntryTest.passes.Goals as goal
+
+pub returns-then-may_hit : goal.returns-then-may_hit
+returns-then-may_hit c =
+    let u = c.args.universe.now in
+    let t = c.args.self.now in
+    let e = entry_at (field_of u t.variant t.field) c.args.number in
+    ap not (c.surely_meets.ensures u e c.requires.fits.1.1.0 c.entry_row-row.ensures)
+    ∙ ap (λ hit. hit && not (surely_met u (may_of t.outside.now) e))
+    (sym (sym (c.may_hit.ensures u (satisfies_entry u e) c.requires.fits.1.0
+    c.entry_row-row.ensures) ∙ c.if-may_hit.true))
+
+pub returns-else-may_hit : goal.returns-else-may_hit
+returns-else-may_hit c =
+    let u = c.args.universe.now in
+    let t = c.args.self.now in
+    let e = entry_at (field_of u t.variant t.field) c.args.number in
+    c.if-may_hit.false
+    ∙ ap (λ hit. hit && not (surely_met u (may_of t.outside.now) e))
+    (sym (sym (c.may_hit.ensures u (satisfies_entry u e) c.requires.fits.1.0
+    c.entry_row-row.ensures) ∙ c.if-may_hit.false))

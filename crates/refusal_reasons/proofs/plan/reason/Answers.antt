@@ -1,0 +1,43 @@
+use Rattle.std.proofs.Common.{◌≡◌, Option, IfOk, ap, subst, ◌∙◌, arith}
+use Rattle.plan_model.specs.Known.{possible}
+use Rattle.plan_model.specs.Plan.{Lane}
+use Rattle.may_rows.specs.Words.{may_of}
+use Rattle.plan_verifier.proofs.Steps.{of_archive, instruction-is, below-lane}
+use Rattle.refusal_reasons.specs.declared.types.Reason.{Reason}
+use Rattle.refusal_reasons.specs.Reasons as reasons
+use Rattle.refusal_reasons.proofs.HasReason.{has-reason-at, reason-at}
+use Rattle.refusal_reasons.proofs.Told.{some-told}
+use Rattle.refusal_reasons.proofs.plan.reason.Goals as goal
+
+pub returns-clause-told : goal.returns-clause-told
+returns-clause-told g c =
+    let u = c.args.stage.now.universe.now in
+    let p = c.args.stage.now.plan.now.lanes in
+    let rows = (g.K.KnownWords.known c.args.stage.now.known.now).rows in
+    let l = c.args.number in
+    let i = c.args.place in
+    let m = may_of c.args.may.now.here in
+    let x = c.index-instructions-place.result in
+    let archive = of_archive u p rows c.requires.stage.sound.universe c.requires.stage.keeps l i
+    c.requires.lane (omega (arith, c.requires.place)) in
+    let is = instruction-is p l i c.lane-lane.result.now c.instructions.result.now x
+    c.lane-lane.ensures c.instructions.ensures
+    (below-lane p l i c.lane-lane.result.now c.instructions.result.now c.lane-lane.ensures
+    c.instructions.ensures c.requires.place)
+    c.index-instructions-place.is in
+    subst (λ (answer : Option Reason). IfOk c.instruction_reason.result (λ told. told ≡ answer))
+    (ap (λ (of : Lane). reasons.reason u of (rows l i) (possible u p l i) m x c.args.trap)
+    c.lane-lane.ensures
+    ∙ reason-at u p rows l i c.args.trap x m is c.requires.at.here)
+    (c.instruction_reason.ensures (rows l i) (possible u p l i) archive
+    c.words_at-words.ensures.words)
+
+pub returns-clause-there : goal.returns-clause-there
+returns-clause-there g c risky =
+    let u = c.args.stage.now.universe.now in
+    let p = c.args.stage.now.plan.now.lanes in
+    let rows = (g.K.KnownWords.known c.args.stage.now.known.now).rows in
+    let l = c.args.number in
+    let i = c.args.place in
+    some-told c.instruction_reason.result (reasons.reason_at u p rows l i c.args.trap)
+    (returns-clause-told g c) (has-reason-at u p rows l i c.args.trap risky)

@@ -1,0 +1,23 @@
+//! Why an instruction may meet a trap: the first witness, in the order of the rules.
+#![tactic(auto)]
+
+mod ahead;
+mod build;
+mod changed;
+mod configure;
+mod entries;
+mod exclude;
+mod first;
+mod held;
+mod hits;
+mod instruction;
+mod limits;
+mod needed;
+mod place;
+mod plan;
+mod types;
+mod unpack;
+mod withdraw;
+
+pub use plan::reason;
+pub use types::{Field, Reason};

@@ -1,0 +1,53 @@
+//! A gate that gives up where a run has waited too often.
+
+use crate::toolchain::{FARM, PACKAGES, PLAN, SOURCES};
+use farm_archive::Publication;
+use farm_executor::run_farm;
+use lane_runner::{Gate, Go, LaneArchive};
+use plan_verifier::{Accepted, check};
+use std::sync::atomic::{AtomicU64, Ordering};
+use std::test::Fail;
+
+// How often the lanes of a run may wait in vain.
+const MOST: u64 = 1_000_000;
+
+#[derive(Drop)]
+struct Patient {
+    pauses: AtomicU64,
+}
+
+impl Gate for Patient {
+    ghost may_give_up = { λ _. Unit {0} };
+
+    fn before(&self, _lane: u32, _instruction: u32) -> Go {
+        Go::Continue
+    }
+
+    fn pause(&self, _lane: u32, _instruction: u32) -> Go {
+        if self.pauses.fetch_add(1, Ordering::Relaxed) >= MOST {
+            return Go::GiveUp;
+        }
+        std::thread::yield_now();
+        Go::Continue
+    }
+
+    fn published<A: LaneArchive>(&self, _accepted: &Accepted, _end: &A, _output: Publication) {}
+
+    fn ring(&self) {}
+}
+
+// A lane sees what the other one publishes, though nothing wakes it.
+#[test]
+fn sees_an_output_in_time(rt: HostRuntime) -> Result<(), Fail> {
+    let mut accepted = check(&rt, rt.alloc(), PACKAGES, SOURCES, FARM, PLAN)?;
+    for _ in 0..20 {
+        let gate = Patient {
+            pauses: AtomicU64::new(0),
+        };
+        let Ok(run) = run_farm(&rt, rt.alloc(), accepted, &gate) else {
+            panic!(rt; "a lane waited in vain");
+        };
+        accepted = run.accepted;
+    }
+    Ok(())
+}

@@ -1,0 +1,111 @@
+//! Ends of an archive that tell what their lanes saw.
+
+ghost use Rattle.std.specs.Prelude.{◌≡◌};
+ghost use Rattle.lane_runner.specs.Calls.{IsRunning};
+
+use lane_runner::{LaneArchive, LaneTurns};
+
+/// What a lane saw of its archive: the name whose word it loaded last, with the word; the serial
+/// that it drew last; and the one under which it published last.
+#[derive(Clone, Copy, Debug, PartialEq, Eq)]
+pub struct Seen {
+    pub loaded: Option<(u32, u64)>,
+    pub drawn: Option<u64>,
+    pub published: Option<u64>,
+}
+
+pub const NOTHING: Seen = Seen {
+    loaded: None,
+    drawn: None,
+    published: None,
+};
+
+/// A load of a name's word.
+pub fn loaded(name: u32, word: u64) -> Seen {
+    Seen {
+        loaded: Some((name, word)),
+        drawn: None,
+        published: None,
+    }
+}
+
+/// An output under a serial.
+pub fn drew(serial: u64) -> Seen {
+    Seen {
+        loaded: None,
+        drawn: Some(serial),
+        published: Some(serial),
+    }
+}
+
+/// An end of an archive, and what its lane saw.
+#[derive(Drop)]
+pub struct Watched<E> {
+    pub end: E,
+    pub seen: Seen,
+}
+
+impl<E: LaneArchive> LaneArchive for Watched<E> {
+    ghost home = { λ w. E.home w.end };
+
+    ghost about = { λ w. E.about w.end };
+
+    ghost lane = { λ w. E.lane w.end };
+
+    ghost log = { λ w. E.log w.end };
+
+    fn providers(&self, text: &[u8]) -> usize {
+        self.end.providers(text)
+    }
+
+    fn provider(&self, text: &[u8], number: usize) -> Option<u32> {
+        self.end.provider(text, number)
+    }
+
+    fn load(&mut self, name: u32) -> u64 {
+        let word = self.end.load(name);
+        self.seen.loaded = Some((name, word));
+        word
+    }
+
+    fn draw(&mut self) -> u64 {
+        let serial = self.end.draw();
+        self.seen.drawn = Some(serial);
+        serial
+    }
+
+    fn publish_next(&mut self, serial: u64) {
+        self.end.publish_next(serial);
+        self.seen.published = Some(serial);
+    }
+
+    fn halt(&mut self) {
+        self.end.halt();
+    }
+
+    fn halted(&mut self) -> bool {
+        self.end.halted()
+    }
+}
+
+/// Watches a lane.
+pub fn watch<'a, E: LaneArchive + Drop>(lane: LaneTurns<'a, E>) -> LaneTurns<'a, Watched<E>>
+    requires running { IsRunning lane.accepted.now lane.runner lane.chroot (E.about lane.end)
+        (E.lane lane.end) (E.log lane.end) }
+    ensures end { result.end.end ≡ lane.entry.end }
+    ensures running { IsRunning result.accepted.now result.runner result.chroot
+        (E.about result.end.end) (E.lane result.end.end) (E.log result.end.end) }
+{
+    let LaneTurns {
+        accepted,
+        runner,
+        chroot,
+        end,
+    } = lane;
+    LaneTurns {
+        accepted,
+        runner,
+        chroot,
+        end: Watched { end, seen: NOTHING },
+    }
+}
