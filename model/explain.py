@@ -1,8 +1,9 @@
-"""Why a plan is refused, for a person: FORMATS, section 15. The first witness is told: members, entries and alternatives
-as they are written, names by their numbers, variants from the lowest version up."""
+"""Why a plan is refused, and what the waits of an accepted one wait for, for a person: FORMATS, section 15. The first
+witness is told: members, entries and alternatives as they are written, names by their numbers, variants from the lowest
+version up."""
 
 from core import ABSENT, CONFIGURED
-from verdict import MaySlot, Unsafe, Walk, is_surely, is_surely_pre_met
+from verdict import MaySlot, Unsafe, Walk, find_order, is_surely, is_surely_pre_met
 
 
 def spelled(variant):
@@ -18,6 +19,26 @@ def where(lane, number):
     line, used = lane.lines[number - 1]
     by = f", by the use at line {used}" if used else ""
     return f"plan line {line}{by}: {lane.instructions[number - 1]}"
+
+
+def names_like(universe, entry):
+    """The names that could satisfy an alternative by themselves or by a Provides, whatever the version."""
+    return [name for name, variants in universe.variants.items()
+            if any(it.is_like(alternative) for it in variants for alternative in entry)]
+
+
+def published(plan, variant):
+    """Where a variant is published: a lane's number and an instruction's, from 0, or None."""
+    for number, lane in enumerate(plan):
+        for place, it in enumerate(lane.instructions):
+            if it.verb == "publish" and variant in it.recipe.outputs:
+                return number, place
+    return None
+
+
+def behind(lane, place):
+    """`(instruction N, plan line N)`."""
+    return f"(instruction {place + 1}, plan line {lane.lines[place][0]})"
 
 
 def first_unsafe(rows, number):
@@ -79,13 +100,11 @@ class Reason:
         return [it for name in self.it.names for it in self.held(name)]
 
     def names_for(self, entry, is_ahead=False):
-        """The names that could satisfy an alternative by themselves or by a Provides, whatever the version."""
-        found = False
-        for name, variants in self.universe.variants.items():
-            if any(it.is_like(alternative) for it in variants for alternative in entry):
-                found = True
-                yield slot_line(self.universe, name, self.slot(name), entry, is_ahead)
-        if not found:
+        """What may be held of the names that could meet an entry."""
+        names = names_like(self.universe, entry)
+        for name in names:
+            yield slot_line(self.universe, name, self.slot(name), entry, is_ahead)
+        if not names:
             yield "no package is or provides that"
 
     def unmet(self, variant, field, is_met, is_ahead=False):
@@ -111,14 +130,6 @@ class Reason:
     def others(self, name, but_configured=False):
         return [it for other in self.universe.variants if other != name for it in self.held(other, but_configured)]
 
-    def published(self, variant):
-        """Where a variant is published: a lane's number and an instruction's, or None."""
-        for number, lane in enumerate(self.rows.plan):
-            for place, it in enumerate(lane.instructions):
-                if it.verb == "publish" and variant in it.recipe.outputs:
-                    return number, place
-        return None
-
     def x1(self):
         name = self.it.wanted.name
         sure = [it for it in self.universe.variants[name] if it in self.known]
@@ -128,17 +139,16 @@ class Reason:
             if it in sure:
                 yield f"surely in the archive: {spelled(it)}"
                 continue
-            found = self.published(it)
+            found = published(self.rows.plan, it)
             if found is None:
                 yield f"nobody publishes {spelled(it)}"
                 continue
             number, place = found
             lane = self.rows.plan[number]
-            line = f"(instruction {place + 1}, plan line {lane.lines[place][0]})"
             if number == self.number:
-                yield f"published later: {spelled(it)}, by this lane {line}"
+                yield f"published later: {spelled(it)}, by this lane {behind(lane, place)}"
             else:
-                yield f"may be there: {spelled(it)}, which lane {lane.name} publishes {line}"
+                yield f"may be there: {spelled(it)}, which lane {lane.name} publishes {behind(lane, place)}"
 
     def x2(self):
         if self.it.verb == "unpack":
@@ -227,6 +237,16 @@ class Reason:
         yield f"{spelled(next(it for it in self.members() if it.is_essential))} is Essential"
 
 
+def parting(universe, first, second):
+    """The first name that two branches leave in different phases, with what may be held of it behind each."""
+    for name in universe.variants:
+        if first is not None and first.phase(name) != second.phase(name):
+            for words, may in (("first", first), ("second", second)):
+                slot = may.slots.get(name) or MaySlot(ABSENT, set(), set())
+                yield f"behind the {words} branch {slot_line(universe, name, slot)}"
+            return
+
+
 def unsafe_lines(universe, rows):
     """Of each lane that has one, its first unsafe instruction: the line of the refusal, its line in the plan and why."""
     for number, lane in enumerate(rows.plan):
@@ -235,8 +255,124 @@ def unsafe_lines(universe, rows):
             continue
         yield unsafe.text(trapping=401, uneven=403)
         yield where(lane, unsafe.instruction)
-        reasons = []
+        reasons = parting(universe, way.first, way.may)
         if unsafe.trap is not None:
             reasons = getattr(Reason(universe, rows, number, place, way.may), unsafe.trap.lower())()
         for line in reasons:
             yield f"  {line}"
+
+
+def waiting_place(lane, made):
+    """The wait that a lane stands at once so many of its waits and outputs are made, or its end."""
+    for place, it in enumerate(lane.instructions):
+        if it.verb == "wait":
+            if made == 0:
+                return place
+            made -= 1
+        elif it.verb == "publish":
+            made -= len(it.recipe.outputs)
+    return len(lane.instructions)
+
+
+class Stuck:
+    """A plan whose lanes stand where none goes on any more."""
+
+    def __init__(self, universe, plan):
+        self.universe, self.plan = universe, plan
+        order, _lanes = find_order(universe, plan)
+        self.places = [waiting_place(lane, order.count(number)) for number, lane in enumerate(plan)]
+        self.lanes = [number for number, lane in enumerate(plan) if self.places[number] < len(lane.instructions)]
+
+    def entry(self, number):
+        return self.plan[number].instructions[self.places[number]].entry
+
+    def has_ahead(self, number, entry):
+        """Whether a lane publishes what satisfies the entry, where it stands or behind."""
+        ahead = self.plan[number].instructions[self.places[number]:]
+        return any(it.satisfies(entry) for one in ahead if one.verb == "publish" for it in one.recipe.outputs)
+
+    def waits_for(self, number):
+        """The first lane that publishes what a stuck lane waits for, or None."""
+        return next((it for it in self.lanes if self.has_ahead(it, self.entry(number))), None)
+
+    def circle(self, number):
+        """The lanes from one to itself, or None."""
+        found = [number]
+        while True:
+            further = self.waits_for(found[-1])
+            if further == number:
+                return found
+            if further is None or further in found:
+                return None
+            found.append(further)
+
+    def group(self, number):
+        if self.waits_for(number) is None:
+            return "waits for what no lane publishes"
+        return "waits in a circle" if self.circle(number) else "waits for stuck lanes"
+
+    def source(self, number, variant):
+        """Who publishes a variant that lane `number` waits for."""
+        found = published(self.plan, variant)
+        if found is None:
+            return f"nobody publishes {spelled(variant)}"
+        lane = self.plan[found[0]]
+        if found[0] == number:
+            return f"{spelled(variant)}, which this lane publishes behind it {behind(lane, found[1])}"
+        return f"{spelled(variant)}, which lane {lane.name} publishes {behind(lane, found[1])}"
+
+    def sources(self, number):
+        """What satisfies the entry of a stuck lane, with who publishes it; or what does not, of the names that could."""
+        entry = self.entry(number)
+        satisfying = [it for it in self.universe.all_variants() if it.satisfies(entry)]
+        if satisfying:
+            return [self.source(number, it) for it in satisfying]
+        likely = [it for name in names_like(self.universe, entry) for it in self.universe.variants[name]]
+        return [f"{spelled(it)} does not satisfy it" for it in likely] or ["no package is or provides that"]
+
+    def note(self, number):
+        lane, place = self.plan[number], self.places[number]
+        yield f"lane {lane.name} instruction {place + 1} {self.group(number)}"
+        yield where(lane, place + 1)
+        for line in self.sources(number):
+            yield f"  {line}"
+
+
+def stuck_lines(universe, plan):
+    """Of each lane that is stuck: where, why, and what could let it go on; then one circle of lanes."""
+    stuck = Stuck(universe, plan)
+    for group in ("waits for what no lane publishes", "waits in a circle", "waits for stuck lanes"):
+        for number in stuck.lanes:
+            if stuck.group(number) == group:
+                yield from stuck.note(number)
+    circle = next(filter(None, map(stuck.circle, stuck.lanes)), None)
+    if circle:
+        names = [plan[number].name for number in circle]
+        yield ", ".join(f"{one} waits for {other}" for one, other in zip(names, names[1:] + names[:1]))
+
+
+def wait_line(universe, plan, number, place):
+    """What a wait waits for: the line, or None where nothing could let it pass."""
+    lane, entry = plan[number], plan[number].instructions[place].entry
+    satisfying = [it for it in universe.all_variants() if it.satisfies(entry)]
+    head = f"lane {lane.name} instruction {place + 1} waits for"
+    for it in satisfying:
+        if it in universe.archive:
+            return f"{head} nothing: {spelled(it)} is in the archive from the start"
+    coming = [(it, published(plan, it)) for it in satisfying]
+    coming = [(it, at) for it, at in coming if at is not None and not (at[0] == number and at[1] >= place)]
+    if not coming:
+        return None
+    (first, (other, its_place)), more = coming[0], len(coming) - 1
+    line = f"{head} {spelled(first)} of lane {plan[other].name} instruction {its_place + 1}"
+    return line + (f", or {more} more" if more else "")
+
+
+def waits_lines(universe, plan):
+    """What each wait of an accepted plan waits for, lane by lane and in each lane in order."""
+    for number, lane in enumerate(plan):
+        for place, it in enumerate(lane.instructions):
+            if it.verb == "wait":
+                line = wait_line(universe, plan, number, place)
+                if line is not None:
+                    yield line

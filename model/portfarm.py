@@ -8,14 +8,15 @@
   model/portfarm.py                   the verdict on the four texts of standard input, divided by lines `%%`
 
 It is slow, it shares no code with the crates, and the texts of wrong words are its own. Of a fault of a text `explain`
-tells the line alone. The program has no `explain`, no `list --number` and no `@FILE` yet: here they come first.
+tells the line alone.
 """
 
 import sys
 
 import certificates
 from core import step
-from explain import unsafe_lines
+from explain import stuck_lines, unsafe_lines, waits_lines
+from farm_warnings import warnings
 from plans import listing, numbered, read_plan
 from texts import DIGITS, FILES, Fault
 from universe import read_universe
@@ -89,6 +90,12 @@ def answer(command, texts, more=None):
     written, accepts, rows, order = judge(universe, plan)
     if command == "explain" and written[0].startswith(("refused 401", "refused 403")):
         written = list(unsafe_lines(universe, rows))
+    if command == "explain" and written[0].startswith("refused 402"):
+        written += stuck_lines(universe, plan)
+    if command == "explain" and accepts:
+        written += waits_lines(universe, plan)
+    if command == "explain":
+        written += warnings(universe, plan, texts)
     if command == "cert" and accepts:
         written = certificates.certificate(universe, plan, rows, order)
     return written, 0 if accepts else 1

@@ -2,9 +2,12 @@
 #![tactic(auto)]
 
 mod cases;
+mod escapes;
 mod lines;
 mod run;
+mod tables;
 
 pub use cases::{Case, Cases};
 pub use lines::LineFault;
-pub use run::{Answers, print_judged, run_file};
+pub use run::{Answers, print_judged, run_files};
+pub use tables::{TableAnswers, TableRow, columns_of, row_of, run_tables};

@@ -3,7 +3,7 @@
 ghost use Rattle.plan_model.specs.Sound.{IsSound};
 
 use crate::replaced::answer_replaced;
-use case_files::Case;
+use case_files::{Answers, Case};
 use cert_text::{CertFault, print, read};
 use deb_text::{cut_at_first, cut_at_last, read_number};
 use farm_input::{Planned, read_texts, texts_of};
@@ -12,6 +12,7 @@ use plan_asm::Plan;
 use plan_cert::check_certificate;
 use plan_verifier::Refusal;
 use std::alloc::{AllocError, Global};
+use std::str;
 use std::thread::Threads;
 
 /// What the checker of a certificate answers, as it is printed.
@@ -83,13 +84,18 @@ fn answer_on_plan(
     requires sound { IsSound planned.now.universe planned.now.plan.lanes }
 {
     let (word, rest) = cut_at_first(b' ', question).unwrap_or((question, b""));
-    match (word, read_number(rest)) {
-        (b"", None) => answer_checked(rt, alloc, planned, text),
-        (b"print", None) => answer_printed(alloc, planned, text),
-        (b"length", None) => answer_length(alloc, planned, text),
-        (b"replaced", Some(byte)) => answer_replaced(rt, alloc, planned, text, (byte % 256) as u8),
+    match str::from_utf8(word).unwrap_or("?") {
+        "" => answer_checked(rt, alloc, planned, text),
+        "print" => answer_printed(alloc, planned, text),
+        "length" => answer_length(alloc, planned, text),
+        "replaced" => answer_replaced(rt, alloc, planned, text, byte_of(rest)),
         _ => Vec::from_slice(alloc, b"no such question\n"),
     }
+}
+
+/// The byte of a number.
+fn byte_of(number: &[u8]) -> u8 {
+    (read_number(number).unwrap_or(0) % 256) as u8
 }
 
 /// Cuts an input at its last line `%%`, behind which the certificate stands. A certificate in a
@@ -104,12 +110,7 @@ fn cut_certificate(input: &[u8]) -> (&[u8], &[u8]) {
     )
 }
 
-/// Answers to a case.
-///
-/// # Errors
-///
-/// [`AllocError`] where memory is refused.
-pub fn answer_to(
+fn answer_to(
     rt: &(impl Threads + Sync),
     alloc: Global,
     case: &Case,
@@ -120,5 +121,15 @@ pub fn answer_to(
     match read {
         Ok(planned) => answer_on_plan(rt, alloc, &planned, case.question, certificate),
         Err(fault) => verdict_text(alloc, &Err(Refusal::from(fault))),
+    }
+}
+
+/// The answers to the questions of cases.
+#[derive(Drop)]
+pub struct CertAnswers;
+
+impl<R: Threads + Sync> Answers<R> for CertAnswers {
+    fn answer_to(&self, rt: &R, alloc: Global, case: &Case) -> Result<Vec<u8>, AllocError> {
+        answer_to(rt, alloc, case)
     }
 }

@@ -7,6 +7,7 @@ use case_files::Case;
 use deb_text::cut_at_first;
 use std::alloc::{AllocError, Global};
 use std::io::Eprint;
+use std::str;
 use std::sync::Wait;
 use std::thread::Threads;
 
@@ -71,6 +72,27 @@ fn cut_text(alloc: Global, run: &Run, whole: &[u8]) -> Result<Vec<u8>, AllocErro
     Ok(text)
 }
 
+/// Answers `run`, `narrow`, `mute`, `heads`, `failing` and `stuck`, each with the words to run.
+fn answer_on(
+    rt: &(impl Threads + Wait + Eprint + Sync),
+    alloc: Global,
+    parts: &Parts,
+    question: &str,
+    words: &[&str],
+) -> Result<Vec<u8>, AllocError> {
+    let (whole, narrow) = (Manner::WHOLE, Manner::NARROW);
+    let mute = Manner::stops_after(0, Failure::Error);
+    match question {
+        "run" => run_text(rt, alloc, parts, words, whole, whole),
+        "narrow" => run_text(rt, alloc, parts, words, narrow, narrow),
+        "mute" => run_text(rt, alloc, parts, words, whole, mute),
+        "heads" => heads_text(rt, alloc, parts, words),
+        "failing" => stops_text(rt, alloc, parts, words, Failure::Error),
+        "stuck" => stops_text(rt, alloc, parts, words, Failure::Nothing),
+        _ => Vec::from_slice(alloc, b"no such question\n"),
+    }
+}
+
 /// Answers the question of a case; where it is not known, by a line that says so.
 ///
 /// # Errors
@@ -81,19 +103,9 @@ pub fn answer_to(
     alloc: Global,
     case: &Case,
 ) -> Result<Vec<u8>, AllocError> {
-    let parts = &parts_of(alloc, &case.input)?;
     let (question, words) = cut_at_first(b' ', case.question).unwrap_or((case.question, b""));
-    let words = &words_of(alloc, words)?;
-    match question {
-        b"run" => run_text(rt, alloc, parts, words, Manner::WHOLE, Manner::WHOLE),
-        b"narrow" => run_text(rt, alloc, parts, words, Manner::NARROW, Manner::NARROW),
-        b"mute" => {
-            let mute = Manner::stops_after(0, Failure::Error);
-            run_text(rt, alloc, parts, words, Manner::WHOLE, mute)
-        }
-        b"heads" => heads_text(rt, alloc, parts, words),
-        b"failing" => stops_text(rt, alloc, parts, words, Failure::Error),
-        b"stuck" => stops_text(rt, alloc, parts, words, Failure::Nothing),
-        _ => Vec::from_slice(alloc, b"no such question\n"),
-    }
+    let question = str::from_utf8(question).unwrap_or("?");
+    let parts = parts_of(alloc, &case.input)?;
+    let words = words_of(alloc, words)?;
+    answer_on(rt, alloc, &parts, question, &words)
 }

@@ -8,6 +8,8 @@ const PORTFARM: &str = "portfarm";
 
 pub const CHECK: &str = "check";
 
+pub const EXPLAIN: &str = "explain";
+
 pub const LIST: &str = "list";
 
 pub const CERT: &str = "cert";
@@ -31,6 +33,11 @@ pub const CERTIFICATE: &str = "certificate";
 pub const SCHEDULE: &str = "schedule";
 
 pub const PROGRESS: &str = "progress";
+
+pub const NUMBER: &str = "number";
+
+/// What stands for standard input in place of the name of a file.
+pub const INPUT: &str = "-";
 
 /// The name of a file, which its command requires.
 fn file<'a>(alloc: Global, id: &'a str, name: &'a str, about: &'a str) -> Arg<'a> {
@@ -85,6 +92,19 @@ fn program<'a>(alloc: Global) -> Result<Command<'a>, AllocError> {
     Ok(program)
 }
 
+/// A word that may stand behind a command or not.
+fn flag<'a>(alloc: Global, id: &'a str, about: &'a str) -> Arg<'a> {
+    Arg::new(alloc, id)
+        .long(id)
+        .action(ArgAction::SetTrue)
+        .help(about)
+}
+
+/// The command that prints the plan.
+fn list<'a>(alloc: Global) -> Result<Command<'a>, AllocError> {
+    on_files(alloc, LIST, help::LIST, help::LIST_MORE)?.arg(flag(alloc, NUMBER, help::NUMBER))
+}
+
 /// The command that checks a certificate.
 fn verify_cert<'a>(alloc: Global) -> Result<Command<'a>, AllocError> {
     on_files(
@@ -103,11 +123,7 @@ fn step<'a>(alloc: Global) -> Result<Command<'a>, AllocError> {
 
 /// The command that runs the lanes.
 fn run<'a>(alloc: Global) -> Result<Command<'a>, AllocError> {
-    let progress = Arg::new(alloc, PROGRESS)
-        .long(PROGRESS)
-        .action(ArgAction::SetTrue)
-        .help(help::PROGRESS);
-    on_files(alloc, RUN, help::RUN, help::RUN_MORE)?.arg(progress)
+    on_files(alloc, RUN, help::RUN, help::RUN_MORE)?.arg(flag(alloc, PROGRESS, help::PROGRESS))
 }
 
 /// Adds a command over the files of the four texts.
@@ -126,13 +142,14 @@ fn with_files<'a>(
 fn with_plain_commands<'a>(alloc: Global) -> Result<Command<'a>, AllocError> {
     let program = program(alloc)?;
     let program = with_files(alloc, program, CHECK, help::CHECK, help::CHECK_MORE)?;
-    let program = with_files(alloc, program, LIST, help::LIST, help::LIST_MORE)?;
+    let program = with_files(alloc, program, EXPLAIN, help::EXPLAIN, help::EXPLAIN_MORE)?;
     with_files(alloc, program, CERT, help::CERT, help::CERT_MORE)
 }
 
 /// The commands of the program, whose words begin behind its name.
 pub fn portfarm<'a>(alloc: Global) -> Result<Command<'a>, AllocError> {
     let program = with_plain_commands(alloc)?;
+    let program = program.subcommand(list(alloc)?)?;
     let program = program.subcommand(verify_cert(alloc)?)?;
     let program = program.subcommand(step(alloc)?)?;
     program.subcommand(run(alloc)?)

@@ -9,7 +9,8 @@ pub const PORTFARM_MORE: &str = "\
 A plan has lanes of instructions, each over one chroot, which share one archive that only grows.
 
 With no word at all, portfarm reads the four texts from standard input, divided by the first three
-lines that are exactly `%%`, and answers as `check` does.
+lines that are exactly `%%`, and answers as `check` does. `-` in place of the name of one file is
+standard input.
 
 Example:
   portfarm check packages sources farm plan
@@ -34,6 +35,20 @@ Example:
 
 Status: 0 accepted, 1 refused, 2 wrong words, 3 nothing could be answered";
 
+pub const EXPLAIN: &str = "\
+Tells whether the plan is safe, and for a person why it is not";
+
+pub const EXPLAIN_MORE: &str = "\
+The answer is that of `check`, and where the plan is refused, why. For a fault of a text these are the
+line and what was expected there. For an instruction that may go wrong they are its line in the plan
+and the first reason; and the same for each further lane that has one.
+
+Example:
+  portfarm explain packages sources farm plan
+
+Status: 0 accepted, 1 refused, 2 wrong words, 3 nothing could be answered, or memory ran out behind
+the verdict";
+
 pub const LIST: &str = "\
 Prints the plan with its blocks expanded, one instruction a line";
 
@@ -41,6 +56,10 @@ pub const LIST_MORE: &str = "\
 The answer is a plan that means the same, and that can be checked in place of the given one. The plan
 need not be safe. Where a text cannot be read, the answer is its first fault, as
 `refused 303 plan line 2`.
+
+With `--number` two numbers stand before each line: that of the instruction in its lane, as refusals
+tell it, and that of the line of the plan that it comes from. A line that is no instruction has `-` in
+place of the first.
 
 Example:
   portfarm list packages sources farm plan > plan.expanded
@@ -89,6 +108,9 @@ its place in the schedule; then what was published, and of each lane how far it 
 and what its chroot holds. The plan need not be safe. Where a text cannot be read, the answer is its
 first fault.
 
+Behind `@` stands the name of a file that has the schedule: lanes by their numbers or names, with
+commas, blanks or newlines between them. Each must be a lane of the plan.
+
 Example, in which the first lane takes two turns and then the second one:
   portfarm step --schedule 0,0,1 packages sources farm plan
 
@@ -125,4 +147,7 @@ pub const CERTIFICATE: &str = "The certificate of the plan, as `cert` prints it"
 
 pub const PROGRESS: &str = "Tell on the error output what is published, and which lanes wait";
 
-pub const SCHEDULE: &str = "Lanes in the order of their turns, as 0,0,1: 0 is the first lane";
+pub const NUMBER: &str = "Put before each line its instruction's number, and its line in the plan";
+
+pub const SCHEDULE: &str = "\
+Lanes in the order of their turns, as 0,0,1: 0 is the first lane; or @FILE, a file that has them";

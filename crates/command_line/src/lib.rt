@@ -6,5 +6,6 @@ mod help;
 mod request;
 mod schedule;
 
+pub use command::INPUT;
 pub use request::{Asked, Paths, Request, WordsFault, read_words};
-pub use schedule::{ScheduleFault, read_schedule};
+pub use schedule::{ScheduleFault, read_lane, read_schedule, space_lanes};

@@ -3,8 +3,8 @@
 ghost use Rattle.std.specs.Prelude.{◌≡◌, IsOkAnd, length};
 
 use crate::command::{
-    CERT, CERTIFICATE, CHECK, FARM, LIST, PACKAGES, PLAN, PROGRESS, RUN, SCHEDULE, SOURCES, STEP,
-    VERIFY_CERT, portfarm,
+    CERT, CERTIFICATE, CHECK, EXPLAIN, FARM, INPUT, LIST, NUMBER, PACKAGES, PLAN, PROGRESS, RUN,
+    SCHEDULE, SOURCES, STEP, VERIFY_CERT, portfarm,
 };
 use crate::schedule::{ScheduleFault, read_schedule};
 use clap::error::ErrorKind;
@@ -28,8 +28,13 @@ pub enum Request<'a> {
     CheckInput,
     /// The verdict on four texts.
     Check(Paths<'a>),
-    /// The listing of a plan.
-    List(Paths<'a>),
+    /// The verdict on four texts, and why they are refused.
+    Explain(Paths<'a>),
+    /// The listing of a plan; and whether its lines are numbered.
+    List {
+        paths: Paths<'a>,
+        number: bool,
+    },
     /// A certificate of a plan.
     Cert(Paths<'a>),
     /// The verdict on the certificate of a plan, which stands in a file too.
@@ -40,6 +45,11 @@ pub enum Request<'a> {
     /// What a schedule of lanes comes to.
     Step {
         schedule: Vec<u32>,
+        paths: Paths<'a>,
+    },
+    /// What a schedule of lanes comes to that stands in a file.
+    StepBy {
+        list: &'a str,
         paths: Paths<'a>,
     },
 }
@@ -111,6 +121,34 @@ fn paths_of<'a>(matches: &ArgMatches<'a>) -> Paths<'a> {
     }
 }
 
+/// The name of one file more that a command reads: that of a certificate, or of a schedule. Empty where
+/// it reads none.
+fn one_more<'a>(command: &str, matches: &ArgMatches<'a>) -> &'a str {
+    match command {
+        VERIFY_CERT => word_of(matches, CERTIFICATE),
+        STEP => word_of(matches, SCHEDULE).strip_prefix('@').unwrap_or(""),
+        _ => "",
+    }
+}
+
+/// Tells whether standard input stands for more than one file.
+fn asks_twice(paths: &Paths<'_>, more: &str) -> bool {
+    let names = [paths.packages, paths.sources, paths.farm, paths.plan, more];
+    names.iter().filter(|name| **name == INPUT).count() > 1
+}
+
+/// What `step` asks for, by what stands behind `--schedule`: a list of lanes, or behind `@` the file
+/// that has one.
+fn step_of<'a>(alloc: Global, list: &'a str, paths: Paths<'a>) -> Result<Request<'a>, WordsFault> {
+    match list.strip_prefix('@') {
+        Some(list) => Ok(Request::StepBy { list, paths }),
+        None => Ok(Request::Step {
+            schedule: read_schedule(alloc, list.as_bytes())?,
+            paths,
+        }),
+    }
+}
+
 fn request_of<'a>(
     alloc: Global,
     command: &str,
@@ -119,17 +157,17 @@ fn request_of<'a>(
     let paths = paths_of(matches);
     match command {
         CHECK => Ok(Request::Check(paths)),
-        LIST => Ok(Request::List(paths)),
+        EXPLAIN => Ok(Request::Explain(paths)),
+        LIST => Ok(Request::List {
+            paths,
+            number: matches.get_flag(NUMBER),
+        }),
         CERT => Ok(Request::Cert(paths)),
         VERIFY_CERT => Ok(Request::VerifyCert {
             cert: word_of(matches, CERTIFICATE),
             paths,
         }),
-        STEP => {
-            let list = word_of(matches, SCHEDULE);
-            let schedule = read_schedule(alloc, list.as_bytes())?;
-            Ok(Request::Step { schedule, paths })
-        }
+        STEP => step_of(alloc, word_of(matches, SCHEDULE), paths),
         _ => Err(no_command(alloc)),
     }
 }
@@ -140,24 +178,33 @@ fn asked_of<'a>(
     command: &str,
     matches: &ArgMatches<'a>,
 ) -> Result<Asked<'a>, WordsFault> {
+    let paths = paths_of(matches);
+    if asks_twice(&paths, one_more(command, matches)) {
+        return Err(wrong(alloc, "error: `-` can stand for one file alone\n"));
+    }
     if command == RUN {
         return Ok(Asked::Run {
-            paths: paths_of(matches),
+            paths,
             progress: matches.get_flag(PROGRESS),
         });
     }
     Ok(Asked::Answer(request_of(alloc, command, matches)?))
 }
 
-fn no_command(alloc: Global) -> WordsFault {
-    match String::from_str(alloc, "error: expected a command\n") {
+/// That words are wrong, as this text says.
+fn wrong(alloc: Global, text: &str) -> WordsFault {
+    match String::from_str(alloc, text) {
         Ok(text) => WordsFault::Wrong(text),
         Err(AllocError) => WordsFault::Memory,
     }
 }
 
+fn no_command(alloc: Global) -> WordsFault {
+    wrong(alloc, "error: expected a command\n")
+}
+
 /// Reads the words behind the program's name. No word at all asks for the verdict on standard
-/// input.
+/// input, and [`INPUT`] stands for it in place of the name of one file.
 ///
 /// # Errors
 ///

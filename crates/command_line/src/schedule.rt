@@ -1,12 +1,14 @@
 //! Schedules as the command line has them.
 
-ghost use Rattle.std.specs.Prelude.{◌≡◌, ◌+◌, ◌≤◌, min, true};
+ghost use Rattle.std.specs.Prelude.{◌≡◌, ◌+◌, ◌≤◌, min, true, IfOk};
 ghost use Rattle.std.specs.List.{list_all, slice_split};
 ghost use Rattle.deb_text.specs.Answers.{Gives};
 ghost use Rattle.deb_text.specs.Bytes.{is_byte, is_digit};
 ghost use Rattle.deb_text.specs.Numbers.{number};
 ghost use Rattle.deb_text.specs.Steps.{traverse};
-ghost use Rattle.command_line.specs.Schedule.{lane_at, schedule_of, refusal_of};
+ghost use Rattle.deb_text.specs.Words.{words};
+ghost use Rattle.command_line.specs.Schedule as spec;
+ghost use Rattle.command_line.specs.Schedule.{lane_at, lane_words, schedule_of, refusal_of};
 
 use deb_text::{Class, all_in, next_part};
 use std::alloc::{AllocError, AllocFailed, Global};
@@ -57,7 +59,11 @@ fn capped_number(digits: &[u8]) -> u64
 }
 
 /// Reads the number of a lane: one digit or more.
-fn read_lane(text: &[u8]) -> Result<u32, ScheduleFault>
+///
+/// # Errors
+///
+/// [`ScheduleFault::BadSchedule`] for any other text, and for a number over 4,294,967,295.
+pub fn read_lane(text: &[u8]) -> Result<u32, ScheduleFault>
     ensures { Gives refusal_of (λ lane. lane) result (lane_at text.now) }
 {
     if text.is_empty() || !all_in(Class::Digit, text) {
@@ -83,6 +89,23 @@ fn read_lanes(alloc: Global, text: &[u8]) -> Result<Vec<u32>, ScheduleFault>
         left = behind;
     }
     Ok(lanes)
+}
+
+fn spaced(byte: u8) -> u8
+    ensures { result ≡ spec.spaced byte }
+{
+    if byte == b',' { b' ' } else { byte }
+}
+
+/// Puts spaces in place of the commas of a file of lanes. Its words are then those between blanks.
+///
+/// # Errors
+///
+/// Where memory is refused.
+pub fn space_lanes(alloc: Global, text: &[u8]) -> Result<Vec<u8>, AllocError>
+    ensures { IfOk result (λ lanes. words lanes.items ≡ lane_words text.now) }
+{
+    text.iter().map(|byte| spaced(*byte)).collect(alloc)
 }
 
 /// Reads a schedule: numbers of lanes in decimal, at most 4,294,967,295, joined by commas. Zeros may

@@ -99,8 +99,8 @@ fn answer_on_input(alloc: Global, input: &[u8], question: &[u8]) -> Result<Vec<u
 #[derive(Drop)]
 pub struct CoreAnswers;
 
-impl Answers for CoreAnswers {
-    fn answer_to(&self, alloc: Global, case: &Case) -> Result<Vec<u8>, AllocError> {
+impl<R> Answers<R> for CoreAnswers {
+    fn answer_to(&self, _rt: &R, alloc: Global, case: &Case) -> Result<Vec<u8>, AllocError> {
         answer_on_input(alloc, &case.input, case.question)
     }
 }

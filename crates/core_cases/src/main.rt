@@ -10,12 +10,9 @@ mod spelling;
 mod turns;
 
 use crate::answers::CoreAnswers;
-use case_files::run_file;
-use std::{env, io};
+use case_files::run_files;
+use std::io;
 
 fn main(rt: HostRuntime) -> io::Result<()> {
-    for word in env::args(&rt)?.skip(1) {
-        run_file(&rt, &CoreAnswers, word.as_str())?;
-    }
-    Ok(())
+    run_files(&rt, &CoreAnswers)
 }

@@ -3,70 +3,17 @@
 use crate::plans::push_plan;
 use crate::relations::{Test, push_all_passing};
 use crate::universes::push_universe;
-use case_files::Case;
+use crate::verdicts::verdict_answer;
+use case_files::{Answers, Case};
 use deb_relation::{Kind, Relations};
 use deb_text::{Fault, cut_at_first};
 use farm_input::{Texts, texts_of};
-use farm_report::verdict_text;
 use farm_universe::{Trap, Universe};
-use plan_asm::{assemble, listing};
-use plan_verifier::{Accepted, Refusal, check};
+use plan_asm::{Plan, assemble, listing};
+use plan_verifier::check;
 use std::alloc::{AllocError, Global};
+use std::str;
 use std::thread::Threads;
-
-fn verdict_on(
-    rt: &(impl Threads + Sync),
-    alloc: Global,
-    texts: Texts,
-) -> Result<Accepted, Refusal> {
-    check(
-        rt,
-        alloc,
-        texts.packages,
-        texts.sources,
-        texts.farm,
-        texts.plan,
-    )
-}
-
-fn verdict(rt: &(impl Threads + Sync), alloc: Global, texts: Texts) -> Result<Vec<u8>, AllocError> {
-    verdict_text(alloc, &verdict_on(rt, alloc, texts))
-}
-
-fn refusal_text(alloc: Global, refusal: &Refusal) -> Result<Vec<u8>, AllocError> {
-    Ok(format!(in alloc; "{refusal}\n")?.into_bytes())
-}
-
-/// The message of the verdict's refusal, or nothing.
-fn message(rt: &(impl Threads + Sync), alloc: Global, texts: Texts) -> Result<Vec<u8>, AllocError> {
-    match verdict_on(rt, alloc, texts) {
-        Ok(_) => Ok(Vec::new(alloc)),
-        Err(refusal) => refusal_text(alloc, &refusal),
-    }
-}
-
-fn accepted_text(alloc: Global, accepted: &Accepted) -> Result<Vec<u8>, AllocError> {
-    let mut text = String::new(alloc);
-    push_universe(&mut text, accepted.universe())?;
-    push_plan(&mut text, accepted.universe(), accepted.plan())?;
-    Ok(text.into_bytes())
-}
-
-/// The universe and the plan that an accepted plan keeps, or nothing.
-fn accepted(
-    rt: &(impl Threads + Sync),
-    alloc: Global,
-    texts: Texts,
-) -> Result<Vec<u8>, AllocError> {
-    match verdict_on(rt, alloc, texts) {
-        Ok(accepted) => accepted_text(alloc, &accepted),
-        Err(_) => Ok(Vec::new(alloc)),
-    }
-}
-
-fn read_universe(alloc: Global, texts: Texts) -> Result<Universe, Fault> {
-    Universe::read(alloc, texts.packages, texts.sources, texts.farm)
-}
 
 fn fault_text(alloc: Global, fault: Fault) -> Result<Vec<u8>, AllocError> {
     Ok(format!(in alloc; "{fault}\n")?.into_bytes())
@@ -78,22 +25,22 @@ fn universe(alloc: Global, universe: &Universe) -> Result<Vec<u8>, AllocError> {
     Ok(text.into_bytes())
 }
 
-/// The plan, or its first fault.
-fn plan(alloc: Global, universe: &Universe, plan: &[u8]) -> Result<Vec<u8>, AllocError> {
-    match assemble(alloc, universe, plan) {
-        Ok(plan) => {
-            let mut text = String::new(alloc);
-            push_plan(&mut text, universe, &plan)?;
-            Ok(text.into_bytes())
-        }
-        Err(fault) => fault_text(alloc, fault),
-    }
+fn plan(alloc: Global, universe: &Universe, plan: &Plan) -> Result<Vec<u8>, AllocError> {
+    let mut text = String::new(alloc);
+    push_plan(&mut text, universe, plan)?;
+    Ok(text.into_bytes())
 }
 
-/// The plan's listing, or its first fault.
-fn listed(alloc: Global, universe: &Universe, plan: &[u8]) -> Result<Vec<u8>, AllocError> {
-    match assemble(alloc, universe, plan) {
-        Ok(plan) => listing(alloc, universe, &plan),
+/// The plan or its listing, or its first fault.
+fn answer_on_plan(
+    alloc: Global,
+    universe: &Universe,
+    text: &[u8],
+    is_listed: bool,
+) -> Result<Vec<u8>, AllocError> {
+    match assemble(alloc, universe, text) {
+        Ok(read) if is_listed => listing(alloc, universe, &read),
+        Ok(read) => plan(alloc, universe, &read),
         Err(fault) => fault_text(alloc, fault),
     }
 }
@@ -166,17 +113,17 @@ fn traps(alloc: Global) -> Result<Vec<u8>, AllocError> {
 fn answer_on(
     alloc: Global,
     read: &Universe,
-    plan_text: &[u8],
-    word: &[u8],
+    plan: &[u8],
+    word: &str,
     rest: &[u8],
 ) -> Result<Vec<u8>, AllocError> {
     match word {
-        b"universe" => universe(alloc, read),
-        b"plan" => plan(alloc, read, plan_text),
-        b"listing" => listed(alloc, read, plan_text),
-        b"find" => find(alloc, read, rest),
-        b"satisfies" => passing(alloc, read, rest, Test::Satisfies),
-        b"wanted" => passing(alloc, read, rest, Test::IsWanted),
+        "universe" => universe(alloc, read),
+        "plan" => answer_on_plan(alloc, read, plan, false),
+        "listing" => answer_on_plan(alloc, read, plan, true),
+        "find" => find(alloc, read, rest),
+        "satisfies" => passing(alloc, read, rest, Test::Satisfies),
+        "wanted" => passing(alloc, read, rest, Test::IsWanted),
         _ => Vec::from_slice(alloc, b"no such question\n"),
     }
 }
@@ -185,33 +132,47 @@ fn answer_on(
 fn answer_on_universe(
     alloc: Global,
     texts: Texts,
-    word: &[u8],
+    word: &str,
     rest: &[u8],
 ) -> Result<Vec<u8>, AllocError> {
-    match read_universe(alloc, texts) {
+    match Universe::read(alloc, texts.packages, texts.sources, texts.farm) {
         Ok(read) => answer_on(alloc, &read, texts.plan, word, rest),
         Err(fault) => fault_text(alloc, fault),
     }
 }
 
-/// Answers the question of a case; where it is not known, by a line that says so.
-///
-/// # Errors
-///
-/// [`AllocError`] where memory is refused.
-pub fn answer_to(
+/// Answers a question about the verdict.
+fn answer_on_verdict(
     rt: &(impl Threads + Sync),
     alloc: Global,
-    case: &Case,
+    texts: Texts,
+    word: &str,
 ) -> Result<Vec<u8>, AllocError> {
-    let texts = texts_of(&case.input);
-    let (word, rest) = cut_at_first(b' ', case.question).unwrap_or((case.question, b""));
-    match word {
-        b"" => verdict(rt, alloc, texts),
-        b"message" => message(rt, alloc, texts),
-        b"accepted" => accepted(rt, alloc, texts),
-        b"texts" => cut(alloc, texts),
-        b"traps" => traps(alloc),
-        _ => answer_on_universe(alloc, texts, word, rest),
+    let verdict = check(
+        rt,
+        alloc,
+        texts.packages,
+        texts.sources,
+        texts.farm,
+        texts.plan,
+    );
+    verdict_answer(alloc, word, &verdict)
+}
+
+/// The answers to the questions of cases.
+#[derive(Drop)]
+pub struct FarmAnswers;
+
+impl<R: Threads + Sync> Answers<R> for FarmAnswers {
+    fn answer_to(&self, rt: &R, alloc: Global, case: &Case) -> Result<Vec<u8>, AllocError> {
+        let texts = texts_of(&case.input);
+        let (word, rest) = cut_at_first(b' ', case.question).unwrap_or((case.question, b""));
+        let word = str::from_utf8(word).unwrap_or("?");
+        match word {
+            "" | "message" | "accepted" => answer_on_verdict(rt, alloc, texts, word),
+            "texts" => cut(alloc, texts),
+            "traps" => traps(alloc),
+            _ => answer_on_universe(alloc, texts, word, rest),
+        }
     }
 }

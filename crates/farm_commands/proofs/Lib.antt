@@ -2,3 +2,4 @@ pub mod AnswerLaws
 pub mod CertLaws
 pub mod ReadLaws
 mod RunLaws
+pub mod ExplainLaws

@@ -1,11 +1,13 @@
 -- What the commands answer to four texts: a text and a status. The project's own rules.
 --
---   AnswersCheck, AnswersList, AnswersStep
+--   AnswersCheck, AnswersListing, AnswersStep, AnswersStepBy
 --                                  that this text and this status are what a command answers
 --   IsAnswered                     an answer is written to a sink, and its status is told
-use Rattle.std.specs.Prelude.{◌≡◌, ◌≢◌, ℕ, Bool, true, false, List, length, Option, Result, Ok, Err, if◌then◌else◌}
+--   IsReadFault                    what ends a command whose files or input cannot be read
+use Rattle.std.specs.Prelude.{◌≡◌, ◌≢◌, ℕ, Bool, true, false, List, [], length, Option, Result, Ok, Err, if◌then◌else◌}
 use Rattle.std.specs.Option.{is_none}
 use Rattle.std.specs.Result.{is_ok}
+use Rattle.command_line.specs.declared.schedule.ScheduleFault.{ScheduleFault}
 use Rattle.deb_text.specs.declared.fault.Fault.{Fault}
 use Rattle.farm_core.specs.Endings.{ended}
 use Rattle.farm_core.specs.Farm.{Farm}
@@ -15,6 +17,8 @@ use Rattle.farm_model.specs.Universe.{Universe}
 use Rattle.farm_report.specs.StateText.{step_text}
 use Rattle.farm_report.specs.VerdictText.{verdict_text}
 use Rattle.plan_asm.specs.Listing.{listing_of}
+use Rattle.plan_lines.specs.Numbered.{numbered_listing_of}
+use Rattle.plan_lines.specs.Readings.{TextLines, lines_of}
 use Rattle.plan_model.specs.Plan.{Plan}
 use Rattle.plan_model.specs.Run.{result_of}
 use Rattle.plan_verifier.specs.Accepted.{AcceptedPlan}
@@ -24,8 +28,9 @@ use Rattle.farm_input.specs.Planned.{FarmPlan, planned_of}
 use Rattle.plan_verifier.specs.Verdict.{IsVerdict}
 use Rattle.report_sink.specs.Sinks.{SinkState, IsWritten}
 use Rattle.farm_commands.specs.declared.fault.OutsideFault.{OutsideFault}
-use Rattle.farm_commands.specs.declared.fault.OutsideFault.TheVariants.{CannotRead, OutOfMemory, WriteFailed}
-use Rattle.farm_commands.specs.declared.status.TheConstants.{FINE, REFUSED}
+use Rattle.farm_commands.specs.declared.fault.OutsideFault.TheVariants.{CannotRead, OutOfMemory, CutShort, BadSchedule, WriteFailed}
+use Rattle.farm_commands.specs.declared.status.TheConstants.{FINE, REFUSED, WRONG_WORDS, OUTSIDE}
+use Rattle.farm_commands.specs.Turns.{turns_of}
 
 -- what four texts stand for, or their first fault
 abbrev pub planned_in : Texts → Result FarmPlan Fault
@@ -57,6 +62,22 @@ Lists (Err fault) text status = TellsVerdict (Err (Text fault)) text status
 abbrev pub AnswersList : Texts → List ℕ → ℕ → Type 0
 AnswersList texts text status = Lists (planned_in texts) text status
 
+-- the same with the lines of the plan's text
+abbrev pub ListsLines : List ℕ → Result FarmPlan Fault → List ℕ → ℕ → Type 0
+ListsLines plan (Ok of) text status =
+    (lines : TextLines) × (lines_of plan ≡ Ok lines)
+    × (text ≡ numbered_listing_of of.universe of.plan lines) × (status ≡ FINE)
+ListsLines plan (Err fault) text status = TellsVerdict (Err (Text fault)) text status
+
+-- `list --number`
+abbrev pub AnswersNumbered : Texts → List ℕ → ℕ → Type 0
+AnswersNumbered texts text status = ListsLines texts.plan (planned_in texts) text status
+
+-- `list`, with numbers or without
+abbrev pub AnswersListing : Bool → Texts → List ℕ → ℕ → Type 0
+AnswersListing true texts text status = AnswersNumbered texts text status
+AnswersListing false texts text status = AnswersList texts text status
+
 -- Of a schedule over a plan, how it ended and the state that it led to; its status tells whether it
 -- met no trap:
 pub record ShowsRun (u : Universe) (p : Plan) (schedule : List ℕ) (text : List ℕ) (status : ℕ)
@@ -77,17 +98,44 @@ Steps schedule (Err fault) text status = TellsVerdict (Err (Text fault)) text st
 abbrev pub AnswersStep : List ℕ → Texts → List ℕ → ℕ → Type 0
 AnswersStep schedule texts text status = Steps schedule (planned_in texts) text status
 
+-- what a schedule of a file comes to; of a file that has none no text, and its status
+abbrev pub TakesTurns : FarmPlan → Result (List ℕ) ScheduleFault → List ℕ → ℕ → Type 0
+TakesTurns of (Ok schedule) text status = ShowsRun of.universe of.plan schedule text status
+TakesTurns of (Err fault) text status = (text ≡ []) × (status ≡ WRONG_WORDS)
+
+-- that, or the first fault of the texts
+abbrev pub StepsBy : List ℕ → Result FarmPlan Fault → List ℕ → ℕ → Type 0
+StepsBy list (Ok of) text status = TakesTurns of (turns_of of.plan list) text status
+StepsBy list (Err fault) text status = TellsVerdict (Err (Text fault)) text status
+
+-- `step` with a file of lanes
+abbrev pub AnswersStepBy : List ℕ → Texts → List ℕ → ℕ → Type 0
+AnswersStepBy list texts text status = StepsBy list (planned_in texts) text status
+
 -- this text and this status, and no others
 abbrev pub IsJust : List ℕ → ℕ → List ℕ → ℕ → Type 0
 IsJust just fine text status = (text ≡ just) × (status ≡ fine)
 
 -- Where a status is told, the text of its answer is written whole; where the sink fails, a first
--- part of it. Where the texts cannot be read, or memory is refused, nothing is written.
+-- part of it. Where the texts cannot be read, or memory is refused, nothing is written. Where memory
+-- is refused behind a text, that is one whose status is that of such a fault; and a schedule that is
+-- none is an answer without a text, whose status is that of wrong words.
 abbrev pub IsAnswered : (List ℕ → ℕ → Type 0) → SinkState → SinkState → Result ℕ OutsideFault → Type 0
 IsAnswered Answers old new (Ok status) =
     (text : List ℕ) × Answers text status × IsWritten old new text × (new.failed ≡ false)
 IsAnswered Answers old new (Err WriteFailed) =
     (text : List ℕ) × (status : ℕ) × Answers text status × IsWritten old new text
     × (new.failed ≡ true)
+IsAnswered Answers old new (Err CutShort) =
+    (text : List ℕ) × Answers text OUTSIDE × IsWritten old new text × (new.failed ≡ false)
+IsAnswered Answers old new (Err BadSchedule) = Answers [] WRONG_WORDS × (new ≡ old)
 IsAnswered Answers old new (Err OutOfMemory) = new ≡ old
 IsAnswered Answers old new (Err (CannotRead name)) = new ≡ old
+
+-- the fault of a file or of standard input, or of memory
+abbrev pub IsReadFault : OutsideFault → Type 0
+IsReadFault (CannotRead name) = Unit {0}
+IsReadFault OutOfMemory = Unit {0}
+IsReadFault CutShort = ⊥
+IsReadFault BadSchedule = ⊥
+IsReadFault WriteFailed = ⊥

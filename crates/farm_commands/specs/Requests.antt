@@ -1,15 +1,22 @@
 -- What requests read, and what is answered to them. The project's own rules.
 --
+--   named             the bytes that a name stands for
 --   AreRead           the texts of files, each up to the limit
 --   AnswersRequest    that this text and this status are what is answered to a request
-use Rattle.std.specs.Prelude.{◌≡◌, ◌≤◌, ℕ, List, length, take, Option, IfSome}
+use Rattle.std.specs.Prelude.{◌≡◌, ◌≤◌, ℕ, List, length, take, codes, Option, IfSome, if◌then◌else◌}
+use Rattle.std.specs.Str.{bytes_eq}
 use Rattle.farm_input.specs.Input.{Texts, texts_in}
 use Rattle.command_line.specs.declared.request.Paths.{Paths}
 use Rattle.command_line.specs.declared.request.Request.{Request}
-use Rattle.command_line.specs.declared.request.Request.TheVariants.{CheckInput, Check, List as ListPlan, Cert, VerifyCert, Step}
-use Rattle.farm_commands.specs.Answers.{AnswersCheck, AnswersList, AnswersStep}
+use Rattle.command_line.specs.declared.request.Request.TheVariants.{CheckInput, Check, Explain, List as ListPlan, Cert, VerifyCert, Step, StepBy}
+use Rattle.farm_commands.specs.Answers.{AnswersCheck, AnswersListing, AnswersStep, AnswersStepBy}
 use Rattle.farm_commands.specs.CertAnswers.{AnswersCert, AnswersVerifyCert}
+use Rattle.farm_commands.specs.Explanations.{AnswersExplain}
 use Rattle.farm_commands.specs.declared.source.TheConstants.{MOST_FILE, MOST_INPUT}
+
+-- `-` stands for standard input, and any other name for its file
+abbrev pub named : (List ℕ → Option (List ℕ)) → Option (List ℕ) → List ℕ → Option (List ℕ)
+named held given name = if bytes_eq name (codes "-") then given else held name
 
 -- a text is the first bytes of a file, where these are known
 abbrev pub IsRead : Option (List ℕ) → List ℕ → Type 0
@@ -37,20 +44,27 @@ abbrev pub OnFiles : (List ℕ → Option (List ℕ)) → Paths → (Texts → L
 OnFiles held paths Answers text status =
     (texts : Texts) × AreRead held paths texts × Answers texts text status
 
--- what is answered to the texts of these files, and to the certificate in one more
-abbrev pub OnFilesAndCert : (List ℕ → Option (List ℕ)) → Paths → List ℕ → List ℕ → ℕ → Type 0
-OnFilesAndCert held paths name text status =
-    (cert : List ℕ) × IsRead (held name) cert
-    × OnFiles held paths (AnswersVerifyCert cert) text status
+-- what is answered to the texts of these files, and to that of one more
+abbrev pub OnFilesAndOne : (List ℕ → Option (List ℕ)) → Paths → List ℕ
+    → (List ℕ → Texts → List ℕ → ℕ → Type 0) → List ℕ → ℕ → Type 0
+OnFilesAndOne held paths name Answers text status =
+    (more : List ℕ) × IsRead (held name) more × OnFiles held paths (Answers more) text status
 
 -- what is answered, by the bytes that files and standard input are known to have
 abbrev pub AnswersRequest : (List ℕ → Option (List ℕ)) → Option (List ℕ) → Request → List ℕ → ℕ
     → Type 0
 AnswersRequest held given CheckInput text status = OnInput given text status
-AnswersRequest held given (Check paths) text status = OnFiles held paths AnswersCheck text status
-AnswersRequest held given (ListPlan paths) text status = OnFiles held paths AnswersList text status
-AnswersRequest held given (Cert paths) text status = OnFiles held paths AnswersCert text status
+AnswersRequest held given (Check paths) text status =
+    OnFiles (named held given) paths AnswersCheck text status
+AnswersRequest held given (Explain paths) text status =
+    OnFiles (named held given) paths AnswersExplain text status
+AnswersRequest held given (ListPlan paths number) text status =
+    OnFiles (named held given) paths (AnswersListing number) text status
+AnswersRequest held given (Cert paths) text status =
+    OnFiles (named held given) paths AnswersCert text status
 AnswersRequest held given (VerifyCert cert paths) text status =
-    OnFilesAndCert held paths cert.now text status
+    OnFilesAndOne (named held given) paths cert.now AnswersVerifyCert text status
 AnswersRequest held given (Step schedule paths) text status =
-    OnFiles held paths (AnswersStep schedule.items) text status
+    OnFiles (named held given) paths (AnswersStep schedule.items) text status
+AnswersRequest held given (StepBy list paths) text status =
+    OnFilesAndOne (named held given) paths list.now AnswersStepBy text status

@@ -10,26 +10,44 @@ use Rattle.std.specs.Prelude.{◌≡◌, ◌≢◌, ◌⊎◌, ℕ, List, ◌++�
 use Rattle.command_line.specs.declared.request.Paths.{Paths}
 use Rattle.command_line.specs.declared.request.Request.{Request}
 use Rattle.report_sink.specs.Sinks.{SinkState, IsWritten}
+use Rattle.fault_notes.specs.Escapes.{escaped}
 use Rattle.farm_commands.specs.Answers.{IsAnswered}
 use Rattle.farm_commands.specs.FarmAnswers.{RunsTo}
-use Rattle.farm_commands.specs.Requests.{AnswersRequest, OnInput}
+use Rattle.farm_commands.specs.Requests.{AnswersRequest, OnInput, named}
 use Rattle.farm_commands.specs.declared.fault.OutsideFault.{OutsideFault}
-use Rattle.farm_commands.specs.declared.fault.OutsideFault.TheVariants.{CannotRead, OutOfMemory, WriteFailed}
+use Rattle.farm_commands.specs.declared.fault.OutsideFault.TheVariants.{CannotRead, OutOfMemory, CutShort, BadSchedule, WriteFailed}
 use Rattle.farm_commands.specs.declared.status.TheConstants.{FINE, OUTSIDE, WRONG_WORDS}
 
 -- what is answered where words ask for help or the version: some text
 abbrev pub Shows : List ℕ → ℕ → Type 0
 Shows text status = status ≡ FINE
 
+-- the status of a fault outside of the texts
+abbrev pub fault_status : OutsideFault → ℕ
+fault_status (CannotRead name) = OUTSIDE
+fault_status OutOfMemory = OUTSIDE
+fault_status CutShort = OUTSIDE
+fault_status BadSchedule = WRONG_WORDS
+fault_status WriteFailed = OUTSIDE
+
 -- the status that is told, or that of a fault outside of the texts
 abbrev pub status_told : Result ℕ OutsideFault → ℕ
 status_told (Ok status) = status
-status_told (Err fault) = OUTSIDE
+status_told (Err fault) = fault_status fault
+
+-- a name, of which those bytes are escaped that are not printable ASCII
+abbrev pub escaped_line : List ℕ → List ℕ
+escaped_line name = escaped name ++ codes "\n"
+
+abbrev pub cannot_read_line : List ℕ → List ℕ
+cannot_read_line name = codes "portfarm: cannot read " ++ escaped_line name
 
 -- the line that is said of a fault outside of the texts
 abbrev pub fault_line : OutsideFault → List ℕ
-fault_line (CannotRead name) = codes "portfarm: cannot read " ++ (name.now ++ codes "\n")
+fault_line (CannotRead name) = cannot_read_line name.now
 fault_line OutOfMemory = codes "portfarm: out of memory\n"
+fault_line CutShort = codes "portfarm: out of memory\n"
+fault_line BadSchedule = codes "portfarm: bad schedule\n"
 fault_line WriteFailed = codes "portfarm: write failed\n"
 
 -- a fault outside of the texts is said on the error output
@@ -56,4 +74,4 @@ abbrev pub MayComeTo : ℕ → (List ℕ → Option (List ℕ)) → Option (List
     → SinkState → SinkState → Result ℕ OutsideFault → Type 0
 MayComeTo words held given old new before after told =
     ComesTo words held given old new told
-    ⊎ ((words ≢ 0) × (paths : Paths) × RunsTo held paths old new before after told)
+    ⊎ ((words ≢ 0) × (paths : Paths) × RunsTo (named held given) paths old new before after told)

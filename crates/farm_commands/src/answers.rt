@@ -1,23 +1,29 @@
 //! What is answered to four texts.
 
-ghost use Rattle.std.specs.Prelude.{◌≡◌};
+ghost use Rattle.std.specs.Prelude.{◌≡◌, ◌++◌, is_err};
 ghost use Rattle.std.specs.Option.{is_none};
+ghost use Rattle.std.specs.Result.{is_ok};
 ghost use Rattle.farm_commands.specs.Answers as spec;
-ghost use Rattle.farm_commands.specs.Answers.{AnswersCheck, AnswersList, AnswersStep, AnswersVerdict, IsAnswered, IsJust, ShowsRun};
+ghost use Rattle.farm_commands.specs.Answers.{AnswersCheck, AnswersList, AnswersNumbered, AnswersStep, AnswersStepBy, AnswersVerdict, IsAnswered, IsJust, ShowsRun};
+ghost use Rattle.farm_commands.specs.declared.status.TheConstants.{OUTSIDE};
 ghost use Rattle.farm_input.specs.View.{texts_view};
 ghost use Rattle.farm_report.specs.StateText.{step_text};
+ghost use Rattle.farm_report.specs.VerdictText.{verdict_text};
 ghost use Rattle.plan_model.specs.Plan.{count};
 ghost use Rattle.plan_model.specs.Sound.{IsSound};
+ghost use Rattle.report_sink.specs.Sinks.{IsWritten};
 
 use crate::fault::OutsideFault;
 use crate::status::{FINE, REFUSED};
+use crate::turns::read_turns;
 use deb_text::Fault;
 use farm_core::{Outcome, run_schedule};
 use farm_input::{Planned, Texts, read_texts};
 use farm_report::{write_check, write_step};
 use plan_asm::listing;
+use plan_lines::{PlanLines, numbered_listing};
 use plan_verifier::{Accepted, Refusal, check};
-use report_sink::{Sink, write_text};
+use report_sink::{Sink, WriteFailed, write_text};
 use std::alloc::Global;
 use std::mem::ManuallyDrop;
 use std::thread::Threads;
@@ -43,6 +49,54 @@ pub fn write_answer<'a, S: Sink>(
 {
     write_text(out, text)?;
     Ok(status)
+}
+
+/// Writes a verdict alone, where no memory is left to say more.
+///
+/// # Errors
+///
+/// [`OutsideFault::CutShort`]; and [`OutsideFault::WriteFailed`] where the sink fails, with a first part
+/// of the verdict.
+pub fn write_alone<'a, S: Sink>(
+    verdict: &Result<Accepted, Refusal>,
+    out: &mut S,
+) -> Result<u8, OutsideFault<'a>>
+    ensures { IsAnswered (IsJust (verdict_text verdict.now) OUTSIDE) (S.state out.old)
+        (S.state out.new) result }
+{
+    write_check(out, verdict)?;
+    Err(OutsideFault::CutShort)
+}
+
+/// Writes the lines of a verdict, and notes behind them.
+fn write_notes<S: Sink>(
+    out: &mut S,
+    verdict: &Result<Accepted, Refusal>,
+    notes: &[u8],
+) -> Result<(), WriteFailed>
+    ensures written { IsWritten (S.state out.old) (S.state out.new)
+        (verdict_text verdict.now ++ notes.now) }
+    ensures told { is_err result ≡ (S.state out.new).failed }
+{
+    write_check(out, verdict)?;
+    write_text(out, notes)
+}
+
+/// Writes a verdict and notes behind it, and gives the status.
+///
+/// # Errors
+///
+/// [`OutsideFault::WriteFailed`] where the sink fails, with a first part of the answer.
+pub fn write_noted<'a, S: Sink>(
+    verdict: &Result<Accepted, Refusal>,
+    notes: &[u8],
+    out: &mut S,
+) -> Result<u8, OutsideFault<'a>>
+    ensures { IsAnswered (IsJust (verdict_text verdict.now ++ notes.now)
+        (spec.status_of (is_ok verdict.now))) (S.state out.old) (S.state out.new) result }
+{
+    write_notes(out, verdict, notes)?;
+    Ok(status_of(verdict.is_ok()))
 }
 
 /// Answers with a verdict. Want of memory is none.
@@ -115,6 +169,32 @@ pub fn answer_list<'a, S: Sink>(
     write_answer(out, &text, FINE)
 }
 
+/// Answers as [`answer_list`], with the number of each instruction and the line of the plan's text
+/// before each line.
+///
+/// # Errors
+///
+/// As those of [`answer_list`].
+pub fn answer_numbered<'a, S: Sink>(
+    alloc: Global,
+    texts: Texts<'_>,
+    out: &mut S,
+) -> Result<u8, OutsideFault<'a>>
+    ensures { IsAnswered (AnswersNumbered (texts_view texts.entry)) (S.state out.old)
+        (S.state out.new) result }
+{
+    let planned = match read_texts(alloc, texts.packages, texts.sources, texts.farm, texts.plan) {
+        Ok(planned) => planned,
+        Err(fault) => return answer_verdict(Err(Refusal::from(fault)), out),
+    };
+    // A text that was read as a plan has lines, so that memory alone can be wanting.
+    let Ok(lines) = PlanLines::read(alloc, texts.plan) else {
+        return Err(OutsideFault::OutOfMemory);
+    };
+    let text = numbered_listing(alloc, &planned.universe, &planned.plan, &lines)?;
+    write_answer(out, &text, FINE)
+}
+
 /// Writes what a schedule of this length came to, and gives the status.
 fn write_turns<'a, S: Sink>(
     out: &mut S,
@@ -166,4 +246,27 @@ pub fn answer_step<'a, S: Sink>(
         Err(first) => return answer_verdict(Err(Refusal::from(first)), out),
     };
     answer_turns(alloc, &planned, schedule, out)
+}
+
+/// Answers as [`answer_step`] by the schedule that is the text of a file.
+///
+/// # Errors
+///
+/// [`OutsideFault::BadSchedule`] where that text has a word that is no lane of the plan, and nothing
+/// is written then; else as those of [`answer_step`].
+pub fn answer_step_by<'a, S: Sink>(
+    alloc: Global,
+    texts: Texts<'_>,
+    list: &[u8],
+    out: &mut S,
+) -> Result<u8, OutsideFault<'a>>
+    ensures { IsAnswered (AnswersStepBy list.now (texts_view texts.entry)) (S.state out.old)
+        (S.state out.new) result }
+{
+    let planned = match read_texts(alloc, texts.packages, texts.sources, texts.farm, texts.plan) {
+        Ok(planned) => planned,
+        Err(first) => return answer_verdict(Err(Refusal::from(first)), out),
+    };
+    let schedule = read_turns(alloc, &planned.plan, list)?;
+    answer_turns(alloc, &planned, &schedule, out)
 }

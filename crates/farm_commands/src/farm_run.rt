@@ -3,6 +3,7 @@
 ghost use Rattle.std.specs.Prelude.{◌≡◌, OnErr};
 ghost use Rattle.farm_commands.specs.Answers.{IsAnswered};
 ghost use Rattle.farm_commands.specs.FarmAnswers.{AnswersRun, ComesToEnd, RunsTo, ShowsEnd, StopsRun, TellsStop, stopped_line};
+ghost use Rattle.farm_commands.specs.Requests.{named};
 ghost use Rattle.farm_executor.specs.FarmRuns.{IsFarmRun, IsStoppedRun};
 ghost use Rattle.farm_input.specs.View.{texts_view};
 ghost use Rattle.report_sink.specs.Sinks.{IsWritten};
@@ -134,8 +135,8 @@ pub fn run_files<'a, R: Threads + Wait + Eprint + Sync, F: Source, S: Sink, E: S
     out: &mut S,
     errors: &mut E,
 ) -> Result<u8, OutsideFault<'a>>
-    ensures end { RunsTo (F.held source.now) of.entry.paths (S.state out.old) (S.state out.new)
-        (E.state errors.old) (E.state errors.new) result }
+    ensures end { RunsTo (named (F.held source.now) (F.given source.now)) of.entry.paths
+        (S.state out.old) (S.state out.new) (E.state errors.old) (E.state errors.new) result }
     ensures quiet { OnErr result (E.state errors.new ≡ E.state errors.old) }
 {
     let files = read_files(alloc, source, of.paths)?;

@@ -3,6 +3,8 @@
 
 mod answers;
 mod certificates;
+mod errors;
+mod explain;
 mod farm_run;
 mod fault;
 mod request;
@@ -10,9 +12,12 @@ mod run;
 mod source;
 mod status;
 mod teller;
+mod text_faults;
+mod turns;
 
-pub use answers::{answer_check, answer_list, answer_step};
+pub use answers::{answer_check, answer_list, answer_numbered, answer_step, answer_step_by};
 pub use certificates::{answer_cert, answer_verify_cert};
+pub use explain::answer_explain;
 pub use farm_run::answer_run;
 pub use fault::OutsideFault;
 pub use request::answer_request;

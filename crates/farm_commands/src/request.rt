@@ -1,14 +1,16 @@
 //! What is answered to a request.
 
-ghost use Rattle.std.specs.Prelude.{IfErr, IfOk, ◌≡◌, ◌≢◌};
-ghost use Rattle.farm_commands.specs.Answers.{AnswersCheck, AnswersList, AnswersStep, IsAnswered};
-ghost use Rattle.farm_commands.specs.CertAnswers.{AnswersCert};
+ghost use Rattle.std.specs.Prelude.{IfErr, IfOk, ◌≡◌};
+ghost use Rattle.farm_commands.specs.Answers.{AnswersCheck, AnswersListing, AnswersStep, AnswersStepBy, IsAnswered, IsReadFault};
+ghost use Rattle.farm_commands.specs.CertAnswers.{AnswersCert, AnswersVerifyCert};
+ghost use Rattle.farm_commands.specs.Explanations.{AnswersExplain};
 ghost use Rattle.farm_input.specs.View.{texts_view};
-ghost use Rattle.farm_commands.specs.Requests.{AnswersRequest, AreRead, OnFiles, OnFilesAndCert, OnInput};
+ghost use Rattle.farm_commands.specs.Requests.{AnswersRequest, AreRead, OnFiles, OnFilesAndOne, OnInput, named};
 ghost use Rattle.farm_commands.specs.View.{texts_in_files};
 
-use crate::answers::{answer_check, answer_list, answer_step};
+use crate::answers::{answer_check, answer_list, answer_numbered, answer_step, answer_step_by};
 use crate::certificates::{answer_cert, answer_verify_cert};
+use crate::explain::answer_explain;
 use crate::fault::OutsideFault;
 use crate::source::{Source, read_file, read_input};
 use command_line::{Paths, Request};
@@ -51,8 +53,8 @@ pub fn read_files<'a, F: Source>(
     paths: Paths<'a>,
 ) -> Result<FileTexts, OutsideFault<'a>>
     ensures read { IfOk result (λ files.
-        AreRead (F.held source.now) paths.entry (texts_in_files files)) }
-    ensures fault { IfErr result (λ fault. fault ≢ OutsideFault.WriteFailed) }
+        AreRead (named (F.held source.now) (F.given source.now)) paths.entry (texts_in_files files)) }
+    ensures fault { IfErr result IsReadFault }
 {
     Ok(FileTexts {
         packages: read_file(alloc, source, paths.packages)?,
@@ -83,11 +85,45 @@ fn check_files<'a, F: Source, S: Sink>(
     paths: Paths<'a>,
     out: &mut S,
 ) -> Result<u8, OutsideFault<'a>>
-    ensures { IsAnswered (OnFiles (F.held source.now) paths.entry AnswersCheck)
+    ensures { IsAnswered
+        (OnFiles (named (F.held source.now) (F.given source.now)) paths.entry AnswersCheck)
         (S.state out.old) (S.state out.new) result }
 {
     let files = read_files(alloc, source, paths)?;
     answer_check(rt, alloc, files.texts(), out)
+}
+
+/// The verdict on the texts of files, and why they are refused.
+fn explain_files<'a, F: Source, S: Sink>(
+    rt: &(impl Threads + Sync),
+    alloc: Global,
+    source: &F,
+    paths: Paths<'a>,
+    out: &mut S,
+) -> Result<u8, OutsideFault<'a>>
+    ensures { IsAnswered
+        (OnFiles (named (F.held source.now) (F.given source.now)) paths.entry AnswersExplain)
+        (S.state out.old) (S.state out.new) result }
+{
+    let files = read_files(alloc, source, paths)?;
+    answer_explain(rt, alloc, files.texts(), out)
+}
+
+/// The listing of a plan, with numbers or without.
+fn answer_listing<'a, S: Sink>(
+    alloc: Global,
+    texts: Texts<'_>,
+    number: bool,
+    out: &mut S,
+) -> Result<u8, OutsideFault<'a>>
+    ensures { IsAnswered (AnswersListing number (texts_view texts.entry))
+        (S.state out.old) (S.state out.new) result }
+{
+    if number {
+        answer_numbered(alloc, texts, out)
+    } else {
+        answer_list(alloc, texts, out)
+    }
 }
 
 /// The listing of the plan of files.
@@ -95,13 +131,15 @@ fn list_files<'a, F: Source, S: Sink>(
     alloc: Global,
     source: &F,
     paths: Paths<'a>,
+    number: bool,
     out: &mut S,
 ) -> Result<u8, OutsideFault<'a>>
-    ensures { IsAnswered (OnFiles (F.held source.now) paths.entry AnswersList)
+    ensures { IsAnswered
+        (OnFiles (named (F.held source.now) (F.given source.now)) paths.entry (AnswersListing number))
         (S.state out.old) (S.state out.new) result }
 {
     let files = read_files(alloc, source, paths)?;
-    answer_list(alloc, files.texts(), out)
+    answer_listing(alloc, files.texts(), number, out)
 }
 
 /// The certificate of the plan of files.
@@ -112,7 +150,8 @@ fn cert_files<'a, F: Source, S: Sink>(
     paths: Paths<'a>,
     out: &mut S,
 ) -> Result<u8, OutsideFault<'a>>
-    ensures { IsAnswered (OnFiles (F.held source.now) paths.entry AnswersCert)
+    ensures { IsAnswered
+        (OnFiles (named (F.held source.now) (F.given source.now)) paths.entry AnswersCert)
         (S.state out.old) (S.state out.new) result }
 {
     let files = read_files(alloc, source, paths)?;
@@ -128,8 +167,8 @@ fn verify_files<'a, F: Source, S: Sink>(
     cert: &'a str,
     out: &mut S,
 ) -> Result<u8, OutsideFault<'a>>
-    ensures { IsAnswered (OnFilesAndCert (F.held source.now) paths.entry cert.entry.now)
-        (S.state out.old) (S.state out.new) result }
+    ensures { IsAnswered (OnFilesAndOne (named (F.held source.now) (F.given source.now)) paths.entry
+        cert.entry.now AnswersVerifyCert) (S.state out.old) (S.state out.new) result }
 {
     let files = read_files(alloc, source, paths)?;
     let read = read_file(alloc, source, cert)?;
@@ -144,11 +183,28 @@ fn step_files<'a, F: Source, S: Sink>(
     schedule: &[u32],
     out: &mut S,
 ) -> Result<u8, OutsideFault<'a>>
-    ensures { IsAnswered (OnFiles (F.held source.now) paths.entry (AnswersStep schedule.now))
+    ensures { IsAnswered
+        (OnFiles (named (F.held source.now) (F.given source.now)) paths.entry (AnswersStep schedule.now))
         (S.state out.old) (S.state out.new) result }
 {
     let files = read_files(alloc, source, paths)?;
     answer_step(alloc, files.texts(), schedule, out)
+}
+
+/// What the schedule of a file comes to over the plan of files; it is read behind these.
+fn step_by_files<'a, F: Source, S: Sink>(
+    alloc: Global,
+    source: &F,
+    paths: Paths<'a>,
+    list: &'a str,
+    out: &mut S,
+) -> Result<u8, OutsideFault<'a>>
+    ensures { IsAnswered (OnFilesAndOne (named (F.held source.now) (F.given source.now)) paths.entry
+        list.entry.now AnswersStepBy) (S.state out.old) (S.state out.new) result }
+{
+    let files = read_files(alloc, source, paths)?;
+    let read = read_file(alloc, source, list)?;
+    answer_step_by(alloc, files.texts(), &read, out)
 }
 
 /// Reads the texts that a request is about, all before the first is looked at, writes the answer to
@@ -157,9 +213,11 @@ fn step_files<'a, F: Source, S: Sink>(
 /// # Errors
 ///
 /// [`OutsideFault::CannotRead`] where a file or standard input cannot be read, the first of them in
-/// the order of the words, and [`OutsideFault::OutOfMemory`] where memory is refused: nothing is
-/// written then. And [`OutsideFault::WriteFailed`] where the sink fails, with a first part of the
-/// answer.
+/// the order of the words; [`OutsideFault::OutOfMemory`] where memory is refused; and
+/// [`OutsideFault::BadSchedule`] where a file of lanes has a word that is no lane of the plan: nothing
+/// is written then. [`OutsideFault::CutShort`] where memory is refused while a verdict is explained,
+/// and the verdict is written then. And [`OutsideFault::WriteFailed`] where the sink fails, with a
+/// first part of the answer.
 pub fn answer_request<'a, F: Source, S: Sink>(
     rt: &(impl Threads + Sync),
     alloc: Global,
@@ -173,9 +231,11 @@ pub fn answer_request<'a, F: Source, S: Sink>(
     match request {
         Request::CheckInput => check_input(rt, alloc, source, out),
         Request::Check(paths) => check_files(rt, alloc, source, paths, out),
-        Request::List(paths) => list_files(alloc, source, paths, out),
+        Request::Explain(paths) => explain_files(rt, alloc, source, paths, out),
+        Request::List { paths, number } => list_files(alloc, source, paths, number, out),
         Request::Cert(paths) => cert_files(rt, alloc, source, paths, out),
         Request::VerifyCert { cert, paths } => { verify_files(rt, alloc, source, paths, cert, out) }
         Request::Step { schedule, paths } => step_files(alloc, source, paths, &schedule, out),
+        Request::StepBy { list, paths } => step_by_files(alloc, source, paths, list, out),
     }
 }

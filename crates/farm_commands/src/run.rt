@@ -1,29 +1,21 @@
 //! What words come to.
 
 ghost use Rattle.std.specs.Prelude.{◌≡◌, ℕ, IfOk, Result, OnErr, length};
-ghost use Rattle.farm_commands.specs.Runs.{ComesTo, MayComeTo, TellsFault, TellsWords, fault_line, status_told};
-ghost use Rattle.report_sink.specs.Sinks.{IsWritten};
+ghost use Rattle.farm_commands.specs.Runs.{ComesTo, MayComeTo, TellsFault, TellsWords, status_told};
 
+use crate::errors::{say, tell};
 use crate::farm_run::{RunFiles, run_files};
 use crate::fault::OutsideFault;
 use crate::request::answer_request;
 use crate::source::Source;
-use crate::status::{FINE, OUTSIDE, WRONG_WORDS};
+use crate::status::{FINE, WRONG_WORDS};
 use command_line::{Asked, WordsFault, read_words};
-use report_sink::{Sink, write_pieces, write_text};
+use report_sink::{Sink, write_text};
 use std::alloc::Global;
 use std::convert::AsStr;
 use std::io::Eprint;
 use std::sync::Wait;
 use std::thread::Threads;
-
-/// Says on the error output why words ask for nothing.
-fn wrong_words<E: Sink>(errors: &mut E, text: &[u8]) -> u8
-    ensures { result ≡ WRONG_WORDS }
-{
-    let _written = write_text(errors, text);
-    WRONG_WORDS
-}
 
 /// Shows help, or says on the error output why words ask for nothing.
 fn tell_words<'a, S: Sink, E: Sink>(
@@ -39,8 +31,8 @@ fn tell_words<'a, S: Sink, E: Sink>(
             write_text(out, text.as_bytes())?;
             Ok(FINE)
         }
-        WordsFault::Wrong(text) => Ok(wrong_words(errors, text.as_bytes())),
-        WordsFault::BadSchedule => Ok(wrong_words(errors, b"portfarm: bad schedule\n")),
+        WordsFault::Wrong(text) => Ok(say(errors, text.as_bytes(), WRONG_WORDS)),
+        WordsFault::BadSchedule => Ok(say(errors, b"portfarm: bad schedule\n", WRONG_WORDS)),
         WordsFault::Memory => Err(OutsideFault::OutOfMemory),
     }
 }
@@ -64,7 +56,7 @@ fn answer_words<'a, W: AsStr, F: Source, S: Sink, E: Sink>(
 {
     match read_words(alloc, words) {
         Ok(Asked::Answer(request)) => answer_request(rt, alloc, request, source, out),
-        Ok(Asked::Run { .. }) => Ok(wrong_words(errors, b"portfarm: no lanes are run here\n")),
+        Ok(Asked::Run { .. }) => Ok(say(errors, b"portfarm: no lanes are run here\n", WRONG_WORDS)),
         Err(fault) => tell_words(fault, out, errors),
     }
 }
@@ -94,22 +86,6 @@ fn do_words<'a, R: Threads + Wait + Eprint + Sync, W: AsStr, F: Source, S: Sink,
         }
         Err(fault) => tell_words(fault, out, errors),
     }
-}
-
-/// Ends with a fault outside of the texts: says it on the error output, without memory of its own.
-fn tell<E: Sink>(fault: OutsideFault<'_>, errors: &mut E) -> u8
-    ensures status { result ≡ OUTSIDE }
-    ensures line { IsWritten (E.state errors.old) (E.state errors.new) (fault_line fault.entry) }
-{
-    let _written = match fault {
-        OutsideFault::CannotRead(name) => {
-            let head: &[u8] = b"portfarm: cannot read ";
-            write_pieces(errors, &[head, name.as_bytes(), b"\n"])
-        }
-        OutsideFault::OutOfMemory => write_text(errors, b"portfarm: out of memory\n"),
-        OutsideFault::WriteFailed => write_text(errors, b"portfarm: write failed\n"),
-    };
-    OUTSIDE
 }
 
 /// The status that is told, or that of a fault outside of the texts, which is said on the error
@@ -153,7 +129,7 @@ pub fn quiet_words<'a, W: AsStr, F: Source, S: Sink, E: Sink>(
 /// or listed, the schedule meets no trap, the run has come to its end, or help is shown; 1 for a
 /// refusal or a trap; 2 for wrong words or a schedule that is none; and 3 where a file cannot be
 /// read, memory is refused, a lane cannot be started, or the output fails. What is said of wrong
-/// words, and of the last four, stands on the error output.
+/// words and schedules, and of the last four, stands on the error output.
 pub fn run_words<'a, R: Threads + Wait + Eprint + Sync, W: AsStr, F: Source, S: Sink, E: Sink>(
     rt: &R,
     alloc: Global,

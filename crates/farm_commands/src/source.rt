@@ -1,8 +1,11 @@
 //! Where the texts come from.
 
-ghost use Rattle.std.specs.Prelude.{◌≡◌, ◌≢◌, ◌≤◌, ℕ, List, Option, IfOk, IfErr, IfSome, Some, take, vec_len};
+ghost use Rattle.std.specs.Prelude.{◌≡◌, ◌≤◌, ℕ, List, Option, IfOk, IfErr, IfSome, Some, take, vec_len};
+ghost use Rattle.farm_commands.specs.Answers.{IsReadFault};
+ghost use Rattle.farm_commands.specs.Requests.{named};
 
 use crate::fault::OutsideFault;
+use command_line::INPUT;
 use std::alloc::Global;
 use std::io::{self, ErrorKind, Read};
 
@@ -50,7 +53,7 @@ fn read_up_to<'a, R: Read + Drop>(
 ) -> Result<Vec<u8>, OutsideFault<'a>>
     ensures bytes { IfOk result (λ read. IfSome (R.remaining reader) (λ bytes.
         read.items ≡ take most bytes)) }
-    ensures fault { IfErr result (λ fault. fault ≢ OutsideFault.WriteFailed) }
+    ensures fault { IfErr result IsReadFault }
 {
     let mut read = Vec::new(alloc);
     match reader.take(u64::from(most)).read_to_end(&mut read) {
@@ -60,7 +63,7 @@ fn read_up_to<'a, R: Read + Drop>(
     }
 }
 
-/// Reads a file, up to [`MOST_FILE`] bytes of it.
+/// Reads a file, up to [`MOST_FILE`] bytes of it, or standard input where its name is [`INPUT`].
 ///
 /// # Errors
 ///
@@ -71,10 +74,14 @@ pub fn read_file<'a, S: Source>(
     source: &S,
     path: &'a str,
 ) -> Result<Vec<u8>, OutsideFault<'a>>
-    ensures bytes { IfOk result (λ read. IfSome (S.held source.now path.entry.now) (λ bytes.
+    ensures bytes { IfOk result (λ read.
+        IfSome (named (S.held source.now) (S.given source.now) path.entry.now) (λ bytes.
         read.items ≡ take MOST_FILE bytes)) }
-    ensures fault { IfErr result (λ fault. fault ≢ OutsideFault.WriteFailed) }
+    ensures fault { IfErr result IsReadFault }
 {
+    if path.as_bytes() == INPUT.as_bytes() {
+        return read_up_to(alloc, source.input(), MOST_FILE, INPUT_NAME);
+    }
     match source.open(path) {
         Ok(file) => read_up_to(alloc, file, MOST_FILE, path),
         Err(error) if error.kind() == ErrorKind::OutOfMemory => Err(OutsideFault::OutOfMemory),
@@ -92,14 +99,14 @@ pub fn read_input<'a, S: Source>(alloc: Global, source: &S) -> Result<Vec<u8>, O
     ensures bytes { IfOk result (λ read. IfSome (S.given source.now) (λ bytes.
         read.items ≡ bytes)) }
     ensures most { IfOk result (λ read. vec_len read ≤ MOST_INPUT) }
-    ensures fault { IfErr result (λ fault. fault ≢ OutsideFault.WriteFailed) }
+    ensures fault { IfErr result IsReadFault }
 {
-    let read = read_up_to(alloc, source.input(), MOST_INPUT + 1, INPUT)?;
+    let read = read_up_to(alloc, source.input(), MOST_INPUT + 1, INPUT_NAME)?;
     if read.len() > MOST_INPUT as usize {
-        return Err(OutsideFault::CannotRead(INPUT));
+        return Err(OutsideFault::CannotRead(INPUT_NAME));
     }
     Ok(read)
 }
 
 /// What standard input is called.
-const INPUT: &str = "standard input";
+const INPUT_NAME: &str = "standard input";

@@ -4,3 +4,4 @@ pub mod Below
 pub mod KnownWords
 pub mod NoteLaws
 pub mod Outcomes
+pub mod Beginning

@@ -23,6 +23,7 @@ use Rattle.plan_verifier.specs.Walk.{told_at}
 use Rattle.refusal_reasons.specs.declared.types.Reason.{Reason}
 use Rattle.refusal_reasons.specs.First.{first_below}
 use Rattle.refusal_reasons.specs.Reasons.{reason_at}
+use Rattle.farm_explain.specs.Parting.{end_behind, parts_text}
 use Rattle.farm_explain.specs.ReasonText.{where_text, is_unpack, reason_text}
 use Rattle.farm_explain.specs.Texts.{text_below}
 
@@ -55,14 +56,19 @@ IsKnownWord u known (Reason.Missing n) word =
     (b : ℕ) → b < variants u n → word_has word b ≡ known (variant n b)
 IsKnownWord u known reason word = Unit {0}
 
+-- the line of the refusal of branches, told by the number of their `when`, where, and why
+abbrev pub parting_note : Universe → Plan → Rows → List LaneLines → (l number w : ℕ) → List ℕ
+parting_note u p rows ls l number w =
+    row_line UNEVEN (lane p l).name number
+    ++ (where_text u p ls l w ++ parts_text u p rows l (end_behind p l w))
+
 -- the line of the refusal, where, and why
 abbrev pub hazard_note : Universe → Plan → Rows → List LaneLines → (l i : ℕ) → Hazard → List ℕ
 hazard_note u p rows ls l i (Meets trap) =
     unsafe_line UNSAFE (lane p l).name (i + 1) (trap_text trap)
     ++ (where_text u p ls l i ++ reason_lines u p rows ls l i (reason_at u p rows l i trap))
 hazard_note u p rows ls l i Parts =
-    row_line UNEVEN (lane p l).name (told_at p l i Parts + 1)
-    ++ where_text u p ls l (told_at p l i Parts)
+    parting_note u p rows ls l (told_at p l i Parts + 1) (told_at p l i Parts)
 
 abbrev pub note_of : Universe → Plan → Rows → List LaneLines → ℕ → Option (ℕ × Hazard) → List ℕ
 note_of u p rows ls l None = []

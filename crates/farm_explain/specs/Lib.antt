@@ -1,4 +1,6 @@
 pub mod Words
 pub mod Texts
 pub mod ReasonText
+pub mod Parting
 pub mod LaneNotes
+pub mod Beginning

@@ -54,7 +54,7 @@ fn goes_by(universe: &Universe, number: u32, name: &[u8]) -> bool
 }
 
 /// Tells whether a name could meet the entry, in some version.
-fn could_meet(universe: &Universe, entry: &Entry, number: u32) -> bool
+pub fn could_meet(universe: &Universe, entry: &Entry, number: u32) -> bool
     ensures { result ≡ spec.could_meet universe.now entry.now number }
 {
     entry
@@ -121,7 +121,7 @@ fn push_lines(text: &mut Vec<u8>, chroot: ChrootText<'_>, entry: &Entry) -> Resu
 }
 
 /// Tells whether some name could meet the entry.
-fn some_could_meet(universe: &Universe, entry: &Entry) -> bool
+pub fn some_could_meet(universe: &Universe, entry: &Entry) -> bool
     ensures { result ≡ some_below (names universe.now) (spec.could_meet universe.now entry.now) }
 {
     for name in 0..universe.names() {

@@ -17,6 +17,7 @@ ghost use Rattle.farm_explain.specs.ReasonText.{is_unpack, where_text};
 
 use crate::could_meet::ChrootText;
 use crate::missing::LaneText;
+use crate::parting::{end_behind, push_parting};
 use crate::place::push_where;
 use crate::reasons::push_reason;
 use farm_report::verdict_text;
@@ -209,8 +210,8 @@ fn trap_note<K: KnownWords>(
     Ok(text)
 }
 
-/// The note on branches that part: of the `when` of this number, from 1.
-fn uneven_note<K: KnownWords>(
+/// The line of the refusal of branches that part, and where.
+fn uneven_head<K: KnownWords>(
     alloc: Global,
     stage: &Stage<'_, K>,
     lines: &PlanLines,
@@ -231,6 +232,30 @@ fn uneven_note<K: KnownWords>(
     let place = instruction as usize - 1;
     let mut text = refusal_line(alloc, refusal)?;
     push_where(&mut text, stage.universe, stage.plan, lines, number, place)?;
+    Ok(text)
+}
+
+/// The note on branches that part: of the `when` of this number, from 1.
+fn uneven_note<K: KnownWords>(
+    alloc: Global,
+    stage: &Stage<'_, K>,
+    dependents: &Dependents,
+    lines: &PlanLines,
+    number: usize,
+    instruction: u32,
+) -> Result<Vec<u8>, AllocError>
+    requires stage { IsStage stage.now.universe.now stage.now.plan.now.lanes
+        stage.now.tables.now stage.now.outputs.now (K.known stage.now.known.now) }
+    requires dependents { dependents.now ≡ stage.now.universe.now }
+    requires lane { number < length stage.now.plan.now.lanes }
+    requires instruction { 0 < instruction }
+    ensures { IfOk result (λ text. text.items ≡ spec.parting_note stage.now.universe.now
+        stage.now.plan.now.lanes (K.known stage.now.known.now).rows lines.now.lanes number
+        instruction (instruction - 1)) }
+{
+    let mut text = uneven_head(alloc, stage, lines, number, instruction)?;
+    let end = end_behind(stage.plan, number, instruction as usize - 1);
+    push_parting(&mut text, alloc, stage, dependents, number, end)?;
     Ok(text)
 }
 
@@ -262,7 +287,7 @@ fn lane_note<K: KnownWords>(
             trap_note(alloc, stage, dependents, lines, number, met)
         }
         Err(WalkError::Uneven { instruction, .. }) => {
-            uneven_note(alloc, stage, lines, number, instruction)
+            uneven_note(alloc, stage, dependents, lines, number, instruction)
         }
         Err(WalkError::Memory) => Err(AllocError),
     }

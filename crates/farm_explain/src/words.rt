@@ -42,6 +42,8 @@ pub enum Word {
     BuildDepends,
     BuildConflicts,
     Recipe,
+    BehindFirst,
+    BehindSecond,
 }
 
 impl Word {
@@ -82,6 +84,8 @@ impl Word {
             Word::BuildDepends => b" Build-Depends: ",
             Word::BuildConflicts => b" Build-Conflicts: ",
             Word::Recipe => b"recipe ",
+            Word::BehindFirst => b"behind the first branch ",
+            Word::BehindSecond => b"behind the second branch ",
         }
     }
 }

@@ -1,19 +1,18 @@
 //! What a question is answered with: a text, or why there is none.
 
-use crate::spelling::push_field;
-use deb_relation::{RelationError, Relations};
+use deb_relation::RelationError;
 use deb_text::Fault;
 use deb_version::VersionError;
 use std::alloc::{AllocError, AllocFailed, Global};
 
 /// Why a question has no text for an answer.
-#[derive(Drop)]
+#[derive(Clone, Copy)]
 pub enum Refusal {
     /// A value is refused with this code.
     Code(u16),
     /// A text is refused with this fault.
     Told(Fault),
-    /// The question has other columns, or a word that no question has.
+    /// No layer has such a question.
     NoQuestion,
 }
 
@@ -60,7 +59,7 @@ pub fn text_or_none(alloc: Global, found: Option<&[u8]>) -> Answer {
     text(alloc, found.unwrap_or(b"(none)"))
 }
 
-/// Two texts.
+/// Two texts, with ` / ` between them.
 pub fn two_texts(alloc: Global, first: &[u8], second: &[u8]) -> Answer {
     let mut answer = Vec::from_slice(alloc, first)?;
     answer.extend_from_slice(b" / ")?;
@@ -76,13 +75,6 @@ pub fn yes_or_no(alloc: Global, holds: bool) -> Answer {
 /// A number.
 pub fn number(alloc: Global, number: u64) -> Answer {
     Ok(format!(in alloc; "{number}")?.into_bytes())
-}
-
-/// A relation field in one spelling.
-pub fn spelled_field(alloc: Global, field: &Relations) -> Answer {
-    let mut answer = Vec::new(alloc);
-    push_field(&mut answer, field)?;
-    Ok(answer)
 }
 
 /// The text of an answer or of a refusal.

@@ -1,48 +1,50 @@
 //! Questions about relation fields, and about which package satisfies an alternative.
 
-use crate::answer::{Answer, Refusal, spelled_field, yes_or_no};
-use crate::spelling::{push_atom, push_entry};
+use crate::answer::{Answer, Refusal, yes_or_no};
+use crate::profiles;
+use crate::spelling::{spelled_atom, spelled_entry, spelled_field};
+use case_files::TableRow;
 use deb_relation::{Atom, Entry, Facts, Kind, RelationError, Relations, in_relation, satisfies};
 use deb_text::read_number;
 use deb_version::Version;
-use std::alloc::Global;
+use std::alloc::{AllocError, Global};
 
-/// Answers `field KIND TEXT`, `entry KIND TEXT`, `alternative KIND TEXT`, `unrestricted KIND TEXT`,
-/// `sizes KIND TEXT`, `in_relation ALTERNATIVE VERSION`,
-/// `satisfies NAME VERSION PROVIDES ALTERNATIVE` and `relation_message CODE`.
-pub fn answer(alloc: Global, question: &[u8], args: &[Vec<u8>]) -> Answer {
-    match args {
-        [code] if question == b"relation_message".as_slice() => message(alloc, code),
-        [atom, version] if question == b"in_relation".as_slice() => {
-            stands_in(alloc, atom, version)
-        }
-        [kind, text] => read(alloc, question, kind_of(kind)?, text),
-        [name, version, provides, atom] if question == b"satisfies".as_slice() => {
-            is_satisfied(alloc, name, version, provides, atom)
-        }
-        _ => Err(Refusal::NoQuestion),
+/// Answers `relation_message CODE`, `in_relation ALTERNATIVE VERSION`,
+/// `satisfies NAME VERSION PROVIDES ALTERNATIVE`, and what is read of a field.
+pub fn answer(alloc: Global, row: TableRow) -> Answer {
+    match row.question {
+        "relation_message" => message(alloc, row.arg(0)),
+        "in_relation" => stands_in(alloc, row.arg(0), row.arg(1)),
+        "satisfies" => is_satisfied(alloc, row),
+        _ => match kind_of(row.word(0)) {
+            Some(kind) => read(alloc, kind, row),
+            None => profiles::answer(alloc, row),
+        },
     }
 }
 
-fn kind_of(word: &[u8]) -> Result<Kind, Refusal> {
+fn kind_of(word: &str) -> Option<Kind> {
     match word {
-        b"Need" => Ok(Kind::Need),
-        b"Clash" => Ok(Kind::Clash),
-        b"Provide" => Ok(Kind::Provide),
-        b"BuildNeed" => Ok(Kind::BuildNeed),
-        b"BuildClash" => Ok(Kind::BuildClash),
-        _ => Err(Refusal::NoQuestion),
+        "Need" => Some(Kind::Need),
+        "Clash" => Some(Kind::Clash),
+        "Provide" => Some(Kind::Provide),
+        "BuildNeed" => Some(Kind::BuildNeed),
+        "BuildClash" => Some(Kind::BuildClash),
+        _ => None,
     }
 }
 
-fn read(alloc: Global, question: &[u8], kind: Kind, text: &[u8]) -> Answer {
-    match question {
-        b"field" => spell_field(alloc, kind, text),
-        b"entry" => spell_entry(alloc, kind, text),
-        b"alternative" => spell_alternative(alloc, kind, text),
-        b"unrestricted" => spell_unrestricted(alloc, kind, text),
-        b"sizes" => spell_sizes(alloc, kind, text),
-        _ => Err(Refusal::NoQuestion),
+/// Answers `field KIND TEXT`, `entry KIND TEXT`, `alternative KIND TEXT`, `unrestricted KIND TEXT`
+/// and `sizes KIND TEXT`.
+fn read(alloc: Global, kind: Kind, row: TableRow) -> Answer {
+    let text = row.arg(1);
+    match row.question {
+        "field" => spell_field(alloc, kind, text),
+        "entry" => spell_entry(alloc, kind, text),
+        "alternative" => spell_alternative(alloc, kind, text),
+        "unrestricted" => spell_unrestricted(alloc, kind, text),
+        "sizes" => spell_sizes(alloc, kind, text),
+        _ => profiles::answer(alloc, row),
     }
 }
 
@@ -61,25 +63,20 @@ fn spell_entry(alloc: Global, kind: Kind, text: &[u8]) -> Answer {
 /// The entry of one alternative.
 fn spell_alternative(alloc: Global, kind: Kind, text: &[u8]) -> Answer {
     let atom = Atom::parse(alloc, text, kind)?;
-    let entry = Entry::from_alternatives(only(alloc, atom)?);
-    let mut answer = Vec::new(alloc);
-    push_entry(&mut answer, &entry)?;
-    Ok(answer)
+    spelled_entry(alloc, &Entry::from_alternatives(only(alloc, atom)?))
 }
 
 /// An alternative without its restrictions.
 fn spell_unrestricted(alloc: Global, kind: Kind, text: &[u8]) -> Answer {
-    let atom = Atom::parse(alloc, text, kind)?.clone_unrestricted()?;
-    let mut answer = Vec::new(alloc);
-    push_atom(&mut answer, &atom)?;
-    Ok(answer)
+    without_restrictions(alloc, &Atom::parse(alloc, text, kind)?)
+}
+
+fn without_restrictions(alloc: Global, atom: &Atom) -> Answer {
+    spelled_atom(alloc, &atom.clone_unrestricted()?)
 }
 
 fn spell_sizes(alloc: Global, kind: Kind, text: &[u8]) -> Answer {
-    let field = Relations::parse(alloc, text, kind)?;
-    let mut answer = Vec::new(alloc);
-    push_sizes(alloc, &mut answer, &field)?;
-    Ok(answer)
+    sizes_of(alloc, &Relations::parse(alloc, text, kind)?)
 }
 
 /// A list of one item.
@@ -89,45 +86,52 @@ fn only<T: Drop>(alloc: Global, item: T) -> Result<Vec<T>, Refusal> {
     Ok(items)
 }
 
-/// Adds how many alternatives each entry has, and the name of each entry's last one.
-fn push_sizes(alloc: Global, answer: &mut Vec<u8>, field: &Relations) -> Result<(), Refusal> {
+/// How many alternatives each entry has, and the name of each entry's last one.
+fn sizes_of(alloc: Global, field: &Relations) -> Answer {
+    let mut answer = String::new(alloc);
     if field.is_empty() {
-        answer.extend_from_slice(b"(none)")?;
+        answer.push_str("(none)")?;
     }
     for number in 0..field.len() {
-        let entry = field.entry(number);
-        let alternatives = entry.len();
-        answer.extend_from_slice(format!(in alloc; "{alternatives} ")?.as_bytes())?;
-        if !entry.is_empty() {
-            answer.extend_from_slice(&entry.alternative(alternatives - 1).name)?;
-        }
-        answer.push(b' ')?;
+        push_size(&mut answer, field.entry(number))?;
     }
-    Ok(())
+    Ok(answer.into_bytes())
+}
+
+fn push_size(answer: &mut String, entry: &Entry) -> Result<(), AllocError> {
+    let alternatives = entry.len();
+    let last = match entry.alternatives().last() {
+        Some(atom) => &atom.name,
+        None => b"".as_slice(),
+    };
+    write!(answer, "{alternatives} {} ", last.escape_ascii())
 }
 
 fn stands_in(alloc: Global, atom: &[u8], version: &[u8]) -> Answer {
     let atom = Atom::parse(alloc, atom, Kind::Need)?;
+    holds_of(alloc, &atom, version)
+}
+
+/// Tells whether a version stands in an alternative's relation.
+fn holds_of(alloc: Global, atom: &Atom, version: &[u8]) -> Answer {
     let version = Version::parse(alloc, version)?;
     yes_or_no(alloc, in_relation(atom.relation.as_ref(), &version))
 }
 
-fn is_satisfied(
-    alloc: Global,
-    name: &[u8],
-    version: &[u8],
-    provides: &[u8],
-    atom: &[u8],
-) -> Answer {
-    let version = Version::parse(alloc, version)?;
-    let provides = Relations::parse(alloc, provides, Kind::Provide)?;
-    let atom = Atom::parse(alloc, atom, Kind::Need)?;
+fn is_satisfied(alloc: Global, row: TableRow) -> Answer {
+    let version = Version::parse(alloc, row.arg(1))?;
+    let provides = Relations::parse(alloc, row.arg(2), Kind::Provide)?;
     let facts = Facts {
-        name,
+        name: row.arg(0),
         version: &version,
         provides: &provides,
     };
-    yes_or_no(alloc, satisfies(&facts, &atom))
+    is_satisfied_by(alloc, &facts, row.arg(3))
+}
+
+fn is_satisfied_by(alloc: Global, facts: &Facts, atom: &[u8]) -> Answer {
+    let atom = Atom::parse(alloc, atom, Kind::Need)?;
+    yes_or_no(alloc, satisfies(facts, &atom))
 }
 
 fn message(alloc: Global, code: &[u8]) -> Answer {

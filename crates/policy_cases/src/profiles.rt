@@ -1,6 +1,9 @@
 //! Questions about restrictions. The text above them has the names of the architecture.
 
-use crate::answer::{Answer, Refusal, spelled_field, yes_or_no};
+use crate::answer::{Answer, Refusal, yes_or_no};
+use crate::spelling::spelled_field;
+use crate::stanzas;
+use case_files::TableRow;
 use deb_profile::{ArchNames, ProfileSet, keeps, reduce};
 use deb_relation::{Atom, Entry, Facts, Kind, Relations, satisfies};
 use deb_version::Version;
@@ -9,23 +12,15 @@ use std::alloc::Global;
 /// Answers `arch_names TEXT`, `matches NAME`, `is_active PROFILES PROFILE`,
 /// `keeps PROFILES ALTERNATIVE`, `reduced PROFILES FIELD` and
 /// `satisfies_reduced NAME VERSION PROVIDES ALTERNATIVE`.
-pub fn answer(alloc: Global, names: &[u8], question: &[u8], args: &[Vec<u8>]) -> Answer {
-    match args {
-        [text] if question == b"arch_names".as_slice() => spell_names(alloc, text),
-        [name] if question == b"matches".as_slice() => {
-            yes_or_no(alloc, ArchNames::parse(alloc, names)?.matches(name))
-        }
-        [active, profile] if question == b"is_active".as_slice() => {
-            yes_or_no(alloc, profiles(alloc, active)?.is_active(profile))
-        }
-        [active, atom] if question == b"keeps".as_slice() => is_kept(alloc, names, active, atom),
-        [active, field] if question == b"reduced".as_slice() => {
-            spell_reduced(alloc, names, active, field)
-        }
-        [name, version, provides, atom] if question == b"satisfies_reduced".as_slice() => {
-            is_satisfied(alloc, names, name, version, provides, atom)
-        }
-        _ => Err(Refusal::NoQuestion),
+pub fn answer(alloc: Global, row: TableRow) -> Answer {
+    match row.question {
+        "arch_names" => spell_names(alloc, row.arg(0)),
+        "matches" => is_matched(alloc, row.text, row.arg(0)),
+        "is_active" => is_active(alloc, row.arg(0), row.arg(1)),
+        "keeps" => is_kept(alloc, row),
+        "reduced" => spell_reduced(alloc, row),
+        "satisfies_reduced" => is_satisfied(alloc, row),
+        _ => stanzas::answer(alloc, row),
     }
 }
 
@@ -45,13 +40,26 @@ fn spell_names(alloc: Global, text: &[u8]) -> Answer {
     Ok(answer)
 }
 
-fn is_kept(alloc: Global, names: &[u8], active: &[u8], atom: &[u8]) -> Answer {
-    let names = ArchNames::parse(alloc, names)?;
-    let active = profiles(alloc, active)?;
-    let atom = Atom::parse(alloc, atom, Kind::BuildNeed)?;
-    yes_or_no(alloc, keeps(&atom, &names, &active))
+fn is_matched(alloc: Global, names: &[u8], name: &[u8]) -> Answer {
+    yes_or_no(alloc, ArchNames::parse(alloc, names)?.matches(name))
 }
 
+fn is_active(alloc: Global, active: &[u8], profile: &[u8]) -> Answer {
+    yes_or_no(alloc, profiles(alloc, active)?.is_active(profile))
+}
+
+fn is_kept(alloc: Global, row: TableRow) -> Answer {
+    let names = ArchNames::parse(alloc, row.text)?;
+    let active = profiles(alloc, row.arg(0))?;
+    is_kept_for(alloc, &names, &active, row.arg(1))
+}
+
+fn is_kept_for(alloc: Global, names: &ArchNames, active: &ProfileSet, atom: &[u8]) -> Answer {
+    let atom = Atom::parse(alloc, atom, Kind::BuildNeed)?;
+    yes_or_no(alloc, keeps(&atom, names, active))
+}
+
+/// What is left of a field for the architecture of these names.
 fn reduced(
     alloc: Global,
     names: &[u8],
@@ -61,36 +69,48 @@ fn reduced(
 ) -> Result<Relations, Refusal> {
     let names = ArchNames::parse(alloc, names)?;
     let active = profiles(alloc, active)?;
-    let field = Relations::parse(alloc, field, kind)?;
-    Ok(reduce(alloc, &field, &names, &active)?)
+    reduced_for(alloc, &names, &active, kind, field)
 }
 
-fn spell_reduced(alloc: Global, names: &[u8], active: &[u8], field: &[u8]) -> Answer {
-    let left = reduced(alloc, names, active, Kind::BuildNeed, field)?;
+fn reduced_for(
+    alloc: Global,
+    names: &ArchNames,
+    active: &ProfileSet,
+    kind: Kind,
+    field: &[u8],
+) -> Result<Relations, Refusal> {
+    let field = Relations::parse(alloc, field, kind)?;
+    Ok(reduce(alloc, &field, names, active)?)
+}
+
+fn spell_reduced(alloc: Global, row: TableRow) -> Answer {
+    let left = reduced(alloc, row.text, row.arg(0), Kind::BuildNeed, row.arg(1))?;
     spelled_field(alloc, &left)
 }
 
-fn is_satisfied(
-    alloc: Global,
-    names: &[u8],
-    name: &[u8],
-    version: &[u8],
-    provides: &[u8],
-    atom: &[u8],
-) -> Answer {
-    let version = Version::parse(alloc, version)?;
-    let provides = reduced(alloc, names, b"", Kind::Provide, provides)?;
-    let wanted = reduced(alloc, names, b"", Kind::Need, atom)?;
+fn is_satisfied(alloc: Global, row: TableRow) -> Answer {
+    let version = Version::parse(alloc, row.arg(1))?;
+    let provides = reduced(alloc, row.text, b"", Kind::Provide, row.arg(2))?;
     let facts = Facts {
-        name,
+        name: row.arg(0),
         version: &version,
         provides: &provides,
     };
-    let mut satisfied = true;
-    for entry in wanted.entries() {
-        satisfied = satisfied && satisfies_some(&facts, entry);
+    is_satisfied_by(alloc, &facts, row.text, row.arg(3))
+}
+
+fn is_satisfied_by(alloc: Global, facts: &Facts, names: &[u8], atom: &[u8]) -> Answer {
+    let wanted = reduced(alloc, names, b"", Kind::Need, atom)?;
+    yes_or_no(alloc, satisfies_all(facts, wanted.entries()))
+}
+
+fn satisfies_all(facts: &Facts, entries: &[Entry]) -> bool {
+    for entry in entries {
+        if !satisfies_some(facts, entry) {
+            return false;
+        }
     }
-    yes_or_no(alloc, satisfied)
+    true
 }
 
 fn satisfies_some(facts: &Facts, entry: &Entry) -> bool {

@@ -1,28 +1,22 @@
 //! Questions about the control data in the text above them.
 
 use crate::answer::{Answer, Refusal, number, text_or_none};
+use crate::texts;
+use case_files::TableRow;
 use deb_stanza::{Paragraphs, plain_lines};
 use deb_text::read_number;
 use std::alloc::Global;
 
 /// Answers `paragraphs`, `line_of PARAGRAPH`, `value PARAGRAPH NAME`, `plain_lines` and
 /// `plain_line PLACE`. Paragraphs and places count from 0.
-pub fn answer(alloc: Global, text: &[u8], question: &[u8], args: &[Vec<u8>]) -> Answer {
-    match args {
-        [] if question == b"paragraphs".as_slice() => {
-            number(alloc, Paragraphs::read(alloc, text)?.count() as u64)
-        }
-        [] if question == b"plain_lines".as_slice() => {
-            number(alloc, plain_lines(alloc, text)?.count() as u64)
-        }
-        [place] if question == b"line_of".as_slice() => line_of(alloc, text, place_of(place)?),
-        [place] if question == b"plain_line".as_slice() => {
-            plain_line(alloc, text, place_of(place)?)
-        }
-        [place, name] if question == b"value".as_slice() => {
-            value(alloc, text, place_of(place)?, name)
-        }
-        _ => Err(Refusal::NoQuestion),
+pub fn answer(alloc: Global, row: TableRow) -> Answer {
+    match row.question {
+        "paragraphs" => paragraphs(alloc, row.text),
+        "plain_lines" => count_of_lines(alloc, row.text),
+        "line_of" => line_of(alloc, row.text, place_of(row.arg(0))?),
+        "plain_line" => plain_line(alloc, row.text, place_of(row.arg(0))?),
+        "value" => value(alloc, row.text, place_of(row.arg(0))?, row.arg(1)),
+        _ => texts::answer(alloc, row),
     }
 }
 
@@ -31,6 +25,14 @@ fn place_of(word: &[u8]) -> Result<usize, Refusal> {
         Some(place) => Ok(place as usize),
         None => Err(Refusal::NoQuestion),
     }
+}
+
+fn paragraphs(alloc: Global, text: &[u8]) -> Answer {
+    number(alloc, Paragraphs::read(alloc, text)?.count() as u64)
+}
+
+fn count_of_lines(alloc: Global, text: &[u8]) -> Answer {
+    number(alloc, plain_lines(alloc, text)?.count() as u64)
 }
 
 fn line_of(alloc: Global, text: &[u8], place: usize) -> Answer {
@@ -55,8 +57,11 @@ fn plain_line(alloc: Global, text: &[u8], place: usize) -> Answer {
     if place >= lines.count() {
         return text_or_none(alloc, None);
     }
-    let mut answer = number(alloc, u64::from(lines.number(place)))?;
-    answer.push(b':')?;
-    answer.extend_from_slice(lines.line(place))?;
+    numbered(alloc, lines.number(place), lines.line(place))
+}
+
+fn numbered(alloc: Global, place: u32, line: &[u8]) -> Answer {
+    let mut answer = format!(in alloc; "{place}:")?.into_bytes();
+    answer.extend_from_slice(line)?;
     Ok(answer)
 }

@@ -1,102 +1,68 @@
 //! Questions about plain texts, as the readers of control data ask them.
 
-use crate::answer::{Answer, Refusal, number, text, text_or_none, two_texts, yes_or_no};
+use crate::answer::{Answer, number, text, text_or_none, two_texts, yes_or_no};
+use crate::classes;
+use case_files::TableRow;
 use deb_text::{
-    Class, Fault, all_in, begins_with, cut_at_first, cut_at_last, has, is_blank_line, is_comment,
-    is_name, is_number, is_word, next_line, next_part, next_word, number_of, read_number,
-    skip_front, split_front, trim,
+    Fault, cut_at_first, cut_at_last, is_blank_line, is_comment, is_name, is_number, is_word,
+    next_line, next_part, next_word, number_of, read_number, trim,
 };
 use std::alloc::Global;
 
-/// Answers the questions below, and `fault FILE LINE CODE`.
-pub fn answer(alloc: Global, question: &[u8], args: &[Vec<u8>]) -> Answer {
-    match args {
-        [a] => of_text(alloc, question, a),
-        [a, b] => match class_of(a) {
-            Some(class) => of_class(alloc, question, class, b),
-            None => of_byte(alloc, question, a, b),
-        },
-        [file, line, code] if question == b"fault".as_slice() => fault(alloc, file, line, code),
-        _ => Err(Refusal::NoQuestion),
-    }
-}
-
-/// Answers `is_comment`, `is_blank_line`, `is_word`, `is_name` and `is_number`, or what is read of
-/// the text.
-fn of_text(alloc: Global, question: &[u8], a: &[u8]) -> Answer {
-    let holds = match question {
-        b"is_comment" => is_comment(a),
-        b"is_blank_line" => is_blank_line(a),
-        b"is_word" => is_word(a),
-        b"is_name" => is_name(a),
-        b"is_number" => is_number(a),
-        _ => return read_of_text(alloc, question, a),
+/// Answers `is_comment TEXT`, `is_blank_line TEXT`, `is_word TEXT`, `is_name TEXT` and
+/// `is_number TEXT`, or what is read of a text.
+pub fn answer(alloc: Global, row: TableRow) -> Answer {
+    let text = row.arg(0);
+    let holds = match row.question {
+        "is_comment" => is_comment(text),
+        "is_blank_line" => is_blank_line(text),
+        "is_word" => is_word(text),
+        "is_name" => is_name(text),
+        "is_number" => is_number(text),
+        _ => return read(alloc, row),
     };
     yes_or_no(alloc, holds)
 }
 
-/// Answers `trim`, `next_line`, `next_word`, `read_number` and `number_of`.
-fn read_of_text(alloc: Global, question: &[u8], a: &[u8]) -> Answer {
-    match question {
-        b"trim" => text(alloc, trim(a)),
-        b"next_line" => cut(alloc, next_line(a)),
-        b"next_word" => cut(alloc, next_word(a)),
-        b"read_number" => match read_number(a) {
-            Some(read) => number(alloc, read),
-            None => text_or_none(alloc, None),
-        },
-        b"number_of" if is_number(a) => number(alloc, number_of(a)),
-        _ => Err(Refusal::NoQuestion),
+/// Answers `trim TEXT`, `next_line TEXT`, `next_word TEXT`, `read_number TEXT` and
+/// `number_of DIGITS`, or how a text is cut.
+fn read(alloc: Global, row: TableRow) -> Answer {
+    let given = row.arg(0);
+    match row.question {
+        "trim" => text(alloc, trim(given)),
+        "next_line" => pieces(alloc, next_line(given)),
+        "next_word" => pieces(alloc, next_word(given)),
+        "read_number" => number_or_none(alloc, read_number(given)),
+        "number_of" if is_number(given) => number(alloc, number_of(given)),
+        _ => cut(alloc, row),
     }
 }
 
-/// Answers `cut_at_first BYTE TEXT`, `cut_at_last BYTE TEXT` and `next_part BYTE TEXT`.
-fn of_byte(alloc: Global, question: &[u8], byte: &[u8], b: &[u8]) -> Answer {
-    let byte = byte.first().copied().unwrap_or(b' ');
-    match question {
-        b"cut_at_first" => cut(alloc, cut_at_first(byte, b)),
-        b"cut_at_last" => cut(alloc, cut_at_last(byte, b)),
-        b"next_part" => {
-            let (part, rest) = next_part(byte, b);
-            two_texts(alloc, part, rest.unwrap_or(b"(none)"))
-        }
-        _ => Err(Refusal::NoQuestion),
+/// Answers `cut_at_first BYTE TEXT`, `cut_at_last BYTE TEXT`, `next_part BYTE TEXT` and
+/// `fault FILE LINE CODE`.
+fn cut(alloc: Global, row: TableRow) -> Answer {
+    let byte = row.arg(0).first().copied().unwrap_or(b' ');
+    match row.question {
+        "cut_at_first" => pieces(alloc, cut_at_first(byte, row.arg(1))),
+        "cut_at_last" => pieces(alloc, cut_at_last(byte, row.arg(1))),
+        "next_part" => part(alloc, next_part(byte, row.arg(1))),
+        "fault" => fault(alloc, row),
+        _ => classes::answer(alloc, row),
     }
 }
 
-/// Answers `split_front CLASS TEXT`, `skip_front CLASS TEXT`, `has CLASS BYTE`,
-/// `all_in CLASS TEXT` and `begins_with CLASS TEXT`.
-fn of_class(alloc: Global, question: &[u8], class: Class, b: &[u8]) -> Answer {
-    match question {
-        b"split_front" => {
-            let (front, rest) = split_front(class, b);
-            two_texts(alloc, front, rest)
-        }
-        b"skip_front" => text(alloc, skip_front(class, b)),
-        b"has" => yes_or_no(alloc, has(class, b.first().copied().unwrap_or(b' '))),
-        b"all_in" => yes_or_no(alloc, all_in(class, b)),
-        b"begins_with" => yes_or_no(alloc, begins_with(class, b)),
-        _ => Err(Refusal::NoQuestion),
+fn number_or_none(alloc: Global, found: Option<u64>) -> Answer {
+    match found {
+        Some(found) => number(alloc, found),
+        None => text_or_none(alloc, None),
     }
 }
 
-fn class_of(word: &[u8]) -> Option<Class> {
-    match word {
-        b"Space" => Some(Class::Space),
-        b"Blank" => Some(Class::Blank),
-        b"Solid" => Some(Class::Solid),
-        b"Digit" => Some(Class::Digit),
-        b"Lower" => Some(Class::Lower),
-        b"Name" => Some(Class::Name),
-        b"Qualifier" => Some(Class::Qualifier),
-        b"Operator" => Some(Class::Operator),
-        b"Version" => Some(Class::Version),
-        b"Word" => Some(Class::Word),
-        _ => None,
-    }
+fn part(alloc: Global, found: (&[u8], Option<&[u8]>)) -> Answer {
+    two_texts(alloc, found.0, found.1.unwrap_or(b"(none)"))
 }
 
-fn cut(alloc: Global, found: Option<(&[u8], &[u8])>) -> Answer {
+fn pieces(alloc: Global, found: Option<(&[u8], &[u8])>) -> Answer {
     match found {
         Some((first, rest)) => two_texts(alloc, first, rest),
         None => text_or_none(alloc, None),
@@ -104,10 +70,10 @@ fn cut(alloc: Global, found: Option<(&[u8], &[u8])>) -> Answer {
 }
 
 /// The message of a fault, placed at a line of a file.
-fn fault(alloc: Global, file: &[u8], line: &[u8], code: &[u8]) -> Answer {
-    let file = read_number(file).unwrap_or(0).min(9) as u8;
-    let line = read_number(line).unwrap_or(0).min(999) as u32;
-    let code = read_number(code).unwrap_or(0).min(999) as u16;
+fn fault(alloc: Global, row: TableRow) -> Answer {
+    let file = read_number(row.arg(0)).unwrap_or(0).min(9) as u8;
+    let line = read_number(row.arg(1)).unwrap_or(0).min(999) as u32;
+    let code = read_number(row.arg(2)).unwrap_or(0).min(999) as u16;
     let fault = Fault::place(file, line, code);
     Ok(format!(in alloc; "{fault}")?.into_bytes())
 }

@@ -1,18 +1,20 @@
 //! Questions about versions.
 
-use crate::answer::{Answer, Refusal, text};
+use crate::answer::{Answer, text};
+use crate::fields;
+use case_files::TableRow;
 use deb_text::read_number;
 use deb_version::{Version, VersionError};
 use std::alloc::Global;
 use std::cmp::Ordering;
 
 /// Answers `version TEXT`, `order A B` and `version_message CODE`.
-pub fn answer(alloc: Global, question: &[u8], args: &[Vec<u8>]) -> Answer {
-    match args {
-        [a] if question == b"version".as_slice() => read(alloc, a),
-        [a] if question == b"version_message".as_slice() => message(alloc, a),
-        [a, b] if question == b"order".as_slice() => order(alloc, a, b),
-        _ => Err(Refusal::NoQuestion),
+pub fn answer(alloc: Global, row: TableRow) -> Answer {
+    match row.question {
+        "version" => read(alloc, row.arg(0)),
+        "version_message" => message(alloc, row.arg(0)),
+        "order" => order(alloc, row.arg(0), row.arg(1)),
+        _ => fields::answer(alloc, row),
     }
 }
 
@@ -28,22 +30,26 @@ fn message(alloc: Global, code: &[u8]) -> Answer {
     Ok(format!(in alloc; "{error}")?.into_bytes())
 }
 
-/// `<`, `=` or `>`, where all ways to compare the versions say so.
 fn order(alloc: Global, a: &[u8], b: &[u8]) -> Answer {
     let a = Version::parse(alloc, a)?;
     let b = Version::parse(alloc, b)?;
-    let order = a.compare(&b);
-    let same = b.compare(&a) == order.reverse()
-        && a.cmp(&b) == order
-        && a.partial_cmp(&b) == Some(order)
-        && (a == b) == order.is_eq();
-    text(alloc, if same { sign(order) } else { b"?" })
+    text(alloc, order_of(&a, &b).as_bytes())
 }
 
-fn sign(order: Ordering) -> &'static [u8] {
+/// `<`, `=` or `>`, where all ways to compare the versions say so.
+fn order_of(a: &Version, b: &Version) -> &'static str {
+    let order = a.compare(b);
+    let same = b.compare(a) == order.reverse()
+        && a.cmp(b) == order
+        && a.partial_cmp(b) == Some(order)
+        && (a == b) == order.is_eq();
+    if same { sign(order) } else { "?" }
+}
+
+fn sign(order: Ordering) -> &'static str {
     match order {
-        Ordering::Less => b"<",
-        Ordering::Equal => b"=",
-        Ordering::Greater => b">",
+        Ordering::Less => "<",
+        Ordering::Equal => "=",
+        Ordering::Greater => ">",
     }
 }

@@ -4,20 +4,14 @@
 
 mod answer;
 mod one_name;
+mod questions;
 mod spelling;
-mod table;
 mod two_rows;
 
-use crate::table::tell_table;
-use std::io::{self, BufWriter, Write};
-use std::{env, fs};
+use crate::questions::RowAnswers;
+use case_files::run_tables;
+use std::io;
 
 fn main(rt: HostRuntime) -> io::Result<()> {
-    let alloc = rt.alloc();
-    let mut out = BufWriter::new(alloc, io::writer(&rt))?;
-    for name in env::args(&rt)?.skip(1) {
-        let table = fs::read(&rt, name.as_str())?;
-        tell_table(alloc, &mut out, name.as_str(), &table)?;
-    }
-    out.flush()
+    run_tables(&rt, &RowAnswers)
 }

@@ -19,7 +19,7 @@ pub fn new_row(alloc: Global, n: u64) -> Result<Answer, AllocError> {
 /// Answers `skip`.
 pub fn skip(alloc: Global, words: &[u64], from: u64) -> Result<Answer, AllocError> {
     if from > words.len() as u64 {
-        return Ok(Answer::None);
+        return Ok(Answer::NoQuestion);
     }
     let row = row_of(alloc, words)?;
     Ok(Answer::Number(Some(row.skip(from as usize) as u64)))
@@ -28,31 +28,31 @@ pub fn skip(alloc: Global, words: &[u64], from: u64) -> Result<Answer, AllocErro
 /// Answers questions about a name, and a bit or a word of it.
 pub fn answer(
     alloc: Global,
-    question: &[u8],
+    question: &str,
     words: &[u64],
     name: u64,
     value: u64,
 ) -> Result<Answer, AllocError> {
     if name >= words.len() as u64 {
-        return Ok(Answer::None);
+        return Ok(Answer::NoQuestion);
     }
     let name = name as usize;
     let row = row_of(alloc, words)?;
     match said_of(question, &row, name, value) {
-        Some(said) => Ok(Answer::Say(vec![in alloc; said]?)),
+        Some(said) => Ok(Answer::Holds(said)),
         None => change(alloc, question, row, name, value),
     }
 }
 
 /// What the row says to `has`, `is_hit_at`, `is_met_at` and `has_all_at`.
-fn said_of(question: &[u8], row: &Row, name: usize, value: u64) -> Option<bool>
+fn said_of(question: &str, row: &Row, name: usize, value: u64) -> Option<bool>
     requires { name < length row.now }
 {
     match question {
-        b"has" if value < 64 => Some(row.has(name, value as u32)),
-        b"is_hit_at" => Some(row.is_hit_at(name, value)),
-        b"is_met_at" => Some(row.is_met_at(name, value)),
-        b"has_all_at" => Some(row.has_all_at(name, value)),
+        "has" if value < 64 => Some(row.has(name, value as u32)),
+        "is_hit_at" => Some(row.is_hit_at(name, value)),
+        "is_met_at" => Some(row.is_met_at(name, value)),
+        "has_all_at" => Some(row.has_all_at(name, value)),
         _ => None,
     }
 }
@@ -60,7 +60,7 @@ fn said_of(question: &[u8], row: &Row, name: usize, value: u64) -> Option<bool>
 /// Answers `set_bit` and `set_word`.
 fn change(
     alloc: Global,
-    question: &[u8],
+    question: &str,
     mut row: Row,
     name: usize,
     value: u64,
@@ -68,9 +68,9 @@ fn change(
     requires { name < length row }
 {
     match question {
-        b"set_bit" if value < 64 => row.set_bit(name, value as u32)?,
-        b"set_word" => row.set_word(name, value)?,
-        _ => return Ok(Answer::None),
+        "set_bit" if value < 64 => row.set_bit(name, value as u32)?,
+        "set_word" => row.set_word(name, value)?,
+        _ => return Ok(Answer::NoQuestion),
     }
     Ok(Answer::Row(words_of(alloc, &row)?))
 }

@@ -1,6 +1,7 @@
 //! Numbers and rows, as tables spell them. A row is words divided by commas, where `8*0` is the
 //! word 0 eight times. The row without words is `-`.
 
+use deb_text::cut_at_first;
 use std::alloc::{AllocError, Global};
 
 /// The longest run of equal words that is read.
@@ -17,20 +18,20 @@ pub fn read_number(digits: &[u8]) -> u64 {
     number
 }
 
+/// Adds a word, or a run of them.
+fn push_piece(words: &mut Vec<u64>, piece: &[u8]) -> Result<(), AllocError> {
+    let (count, word) = cut_at_first(b'*', piece).unwrap_or((b"1", piece));
+    let run = read_number(count).min(LONGEST_RUN) as usize;
+    words.resize(words.len().saturating_add(run), read_number(word))
+}
+
 pub fn read_row(alloc: Global, text: &[u8]) -> Result<Vec<u64>, AllocError> {
     let mut words = Vec::new(alloc);
     if text == b"-".as_slice() {
         return Ok(words);
     }
-    for piece in text.split(|b| *b == b',') {
-        match piece.iter().position(|b| *b == b'*') {
-            Some(star) => {
-                for _ in 0..read_number(&piece[..star]).min(LONGEST_RUN) {
-                    words.push(read_number(&piece[star + 1..]))?;
-                }
-            }
-            None => words.push(read_number(piece))?,
-        }
+    for piece in text.split(|byte| *byte == b',') {
+        push_piece(&mut words, piece)?;
     }
     Ok(words)
 }
@@ -41,17 +42,20 @@ pub fn spelled_row(alloc: Global, words: &[u64]) -> Result<String, AllocError> {
         return String::from_str(alloc, "-");
     }
     let mut text = String::new(alloc);
-    let mut rest = words;
-    while let [word, ..] = rest {
-        let run = rest.iter().take_while(|other| *other == word).count();
-        push_run(&mut text, run, *word)?;
-        rest = &rest[run.max(1)..];
+    let mut run = 1u64;
+    for (place, word) in words.iter().enumerate() {
+        if words.get(place + 1) == Some(word) {
+            run = run.saturating_add(1);
+        } else {
+            push_run(&mut text, run, *word)?;
+            run = 1;
+        }
     }
     Ok(text)
 }
 
 /// Adds a word that stands so many times.
-fn push_run(text: &mut String, run: usize, word: u64) -> Result<(), AllocError> {
+fn push_run(text: &mut String, run: u64, word: u64) -> Result<(), AllocError> {
     if !text.is_empty() {
         text.push_str(",")?;
     }

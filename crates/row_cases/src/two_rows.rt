@@ -2,7 +2,7 @@
 
 ghost use Rattle.std.specs.Prelude.{◌≡◌, length, IfOk};
 
-use crate::answer::Answer;
+use crate::answer::{Answer, agreed};
 use bit_rows::Row;
 use clause_kernel as kernel;
 use std::alloc::{AllocError, Global};
@@ -24,49 +24,41 @@ pub fn words_of(alloc: Global, row: &Row) -> Result<Vec<u64>, AllocError> {
 }
 
 /// Answers `hits`, `met`, `within` and `same`, or what changes a row.
-pub fn answer(alloc: Global, question: &[u8], a: &[u64], b: &[u64]) -> Result<Answer, AllocError> {
+pub fn answer(alloc: Global, question: &str, a: &[u64], b: &[u64]) -> Result<Answer, AllocError> {
     if a.len() != b.len() {
-        return Ok(Answer::None);
+        return Ok(Answer::NoQuestion);
     }
     let (x, y) = (row_of(alloc, a)?, row_of(alloc, b)?);
-    match said_of(alloc, question, a, &x, b, &y)? {
-        Some(said) => Ok(Answer::Say(said)),
+    match said_of(question, a, &x, b, &y) {
+        Some(said) => Ok(agreed(said)),
         None => change(alloc, question, x, &y),
     }
 }
 
 /// What kernels say to `hits`, `met`, `within` and `same` over words, and rows over the same words.
-fn said_of(
-    alloc: Global,
-    question: &[u8],
-    a: &[u64],
-    x: &Row,
-    b: &[u64],
-    y: &Row,
-) -> Result<Option<Vec<bool>>, AllocError>
+fn said_of(question: &str, a: &[u64], x: &Row, b: &[u64], y: &Row) -> Option<[bool; 3]>
     requires words { length a.now ≡ length b.now }
     requires first { length x.now ≡ length a.now }
     requires second { length y.now ≡ length b.now }
 {
-    let said = match question {
-        b"hits" => vec![in alloc; kernel::hits(a, b), x.hits(y), y.is_hit_by(a)]?,
-        b"met" => vec![in alloc; kernel::met(a, b), x.met(y), y.is_met_by(a)]?,
-        b"within" => vec![in alloc; kernel::within(a, b), x.within(y), y.has_all(a)]?,
-        b"same" => vec![in alloc; kernel::same(a, b), x.same(y)]?,
-        _ => return Ok(None),
-    };
-    Ok(Some(said))
+    match question {
+        "hits" => Some([kernel::hits(a, b), x.hits(y), y.is_hit_by(a)]),
+        "met" => Some([kernel::met(a, b), x.met(y), y.is_met_by(a)]),
+        "within" => Some([kernel::within(a, b), x.within(y), y.has_all(a)]),
+        "same" => Some([kernel::same(a, b), x.same(y), y.same(x)]),
+        _ => None,
+    }
 }
 
 /// Answers `or_into`, `and_into` and `take_out`.
-fn change(alloc: Global, question: &[u8], mut x: Row, y: &Row) -> Result<Answer, AllocError>
+fn change(alloc: Global, question: &str, mut x: Row, y: &Row) -> Result<Answer, AllocError>
     requires { length x ≡ length y.now }
 {
     match question {
-        b"or_into" => x.or_into(y)?,
-        b"and_into" => x.and_into(y),
-        b"take_out" => x.take_out(y),
-        _ => return Ok(Answer::None),
+        "or_into" => x.or_into(y)?,
+        "and_into" => x.and_into(y),
+        "take_out" => x.take_out(y),
+        _ => return Ok(Answer::NoQuestion),
     }
     Ok(Answer::Row(words_of(alloc, &x)?))
 }

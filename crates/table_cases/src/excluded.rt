@@ -18,16 +18,6 @@ pub enum Exclusion {
 }
 
 impl Exclusion {
-    /// The one that a question is about.
-    pub fn of(question: &[u8]) -> Option<Exclusion> {
-        match question {
-            b"conflicts" => Some(Exclusion::Conflicts),
-            b"breaks" => Some(Exclusion::Breaks),
-            b"broken-by" => Some(Exclusion::BrokenBy),
-            _ => None,
-        }
-    }
-
     /// Tells whether the words have a variant that a variant so excludes.
     fn holds(self, tables: &Tables, variant: Variant, words: &[u64]) -> bool
         requires { IsKnown tables.now variant }

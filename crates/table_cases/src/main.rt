@@ -4,19 +4,17 @@
 
 mod answer;
 mod excluded;
-mod file;
+mod farm;
 mod plain;
 mod question;
+mod time;
 
-use crate::file::tell_file;
-use std::io::{self, BufWriter, Write};
-use std::{env, fs};
+use crate::farm::tell_file;
+use std::{env, io};
 
 fn main(rt: HostRuntime) -> io::Result<()> {
-    let mut out = BufWriter::new(rt.alloc(), io::writer(&rt))?;
-    for name in env::args(&rt)?.skip(1) {
-        let text = fs::read(&rt, name.as_str())?;
-        tell_file(&rt, &mut out, name.as_str(), &text)?;
+    for word in env::args(&rt)?.skip(1) {
+        tell_file(&rt, word.as_str())?;
     }
-    out.flush()
+    Ok(())
 }

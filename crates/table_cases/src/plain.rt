@@ -83,8 +83,37 @@ fn masks_are_plain(universe: &Universe, name: u32, entry: &Entry) -> bool
     entry.alternatives().iter().all(|atom| mask_is_plain(universe, name, atom.relation.as_ref()))
 }
 
-/// Tells whether the rows of the entries of a variant are plain.
+/// Tells whether the rows of an entry of a variant are plain.
 #[tactic(auto, using(farm_universe::proofs::PlaceLaws::named))]
+fn entry_is_plain(
+    alloc: Global,
+    universe: &Universe,
+    tables: &Tables,
+    variant: Variant,
+    number: usize,
+) -> Result<bool, AllocError>
+    requires same { tables.now ≡ universe.now }
+    requires known { IsKnown universe.now variant }
+    requires there { number < length (packages.depends universe.now variant) }
+{
+    let entry = universe.relations(variant).depends.entry(number);
+    Ok(
+        is_plain(
+            universe,
+            tables.depends(variant, number),
+            &SatisfiesEntry { entry },
+            None,
+        ) && masks_are_plain(universe, variant.name, entry)
+            && entry_row_is_plain(universe, &entry_row(alloc, universe, entry)?, entry)
+            && entry_row_is_plain(universe, &tables.entry_row(alloc, universe, entry)?, entry),
+    )
+}
+
+fn entry_row_is_plain(universe: &Universe, row: &Row, entry: &Entry) -> bool {
+    is_plain(universe, row, &SatisfiesEntry { entry }, None)
+}
+
+/// Tells whether the rows of the entries of a variant are plain.
 fn entries_are_plain(
     alloc: Global,
     universe: &Universe,
@@ -94,27 +123,24 @@ fn entries_are_plain(
     requires same { tables.now ≡ universe.now }
     requires known { IsKnown universe.now variant }
 {
-    let relations = universe.relations(variant);
-    for number in 0..relations.depends.len() {
-        let test = SatisfiesEntry {
-            entry: relations.depends.entry(number),
-        };
-        let by_itself = entry_row(alloc, universe, test.entry)?;
-        let looked_up = tables.entry_row(alloc, universe, test.entry)?;
-        if !is_plain(universe, tables.depends(variant, number), &test, None)
-            || !is_plain(universe, &by_itself, &test, None)
-            || !is_plain(universe, &looked_up, &test, None)
-            || !masks_are_plain(universe, variant.name, test.entry)
-        {
+    for number in 0..universe.relations(variant).depends.len() {
+        if !entry_is_plain(alloc, universe, tables, variant, number)? {
             return Ok(false);
         }
     }
-    for number in 0..relations.pre_depends.len() {
+    Ok(pre_entries_are_plain(universe, tables, variant))
+}
+
+fn pre_entries_are_plain(universe: &Universe, tables: &Tables, variant: Variant) -> bool
+    requires same { tables.now ≡ universe.now }
+    requires known { IsKnown universe.now variant }
+{
+    for number in 0..universe.relations(variant).pre_depends.len() {
         if !pre_entry_is_plain(universe, tables, variant, number) {
-            return Ok(false);
+            return false;
         }
     }
-    Ok(true)
+    true
 }
 
 fn pre_entry_is_plain(universe: &Universe, tables: &Tables, variant: Variant, number: usize) -> bool
@@ -144,6 +170,22 @@ fn pre_entry_is_plain(universe: &Universe, tables: &Tables, variant: Variant, nu
     )
 }
 
+/// Tells whether the variants that a variant so excludes are those that pass.
+fn excludes_plainly<T: VariantTest>(
+    alloc: Global,
+    universe: &Universe,
+    tables: &Tables,
+    kind: Exclusion,
+    variant: Variant,
+    test: &T,
+) -> Result<bool, AllocError>
+    requires fits { T.fits universe.now test.now }
+    requires known { IsKnown tables.now variant }
+{
+    let row = excluded(alloc, universe, tables, kind, variant)?;
+    Ok(is_plain(universe, &row, test, Some(variant.name)))
+}
+
 /// Tells whether what a variant excludes is plain.
 fn others_are_plain(
     alloc: Global,
@@ -154,14 +196,25 @@ fn others_are_plain(
     requires same { tables.now ≡ universe.now }
     requires known { IsKnown universe.now variant }
 {
-    let own = Some(variant.name);
-    let conflicts = excluded(alloc, universe, tables, Exclusion::Conflicts, variant)?;
-    let breaks = excluded(alloc, universe, tables, Exclusion::Breaks, variant)?;
-    let broken_by = excluded(alloc, universe, tables, Exclusion::BrokenBy, variant)?;
+    let (conflicts, breaks) = (ConflictsWith { variant }, IsBrokenBy { variant });
+    let broken_by = BreakersOf { variant };
     Ok(
-        is_plain(universe, &conflicts, &ConflictsWith { variant }, own)
-            && is_plain(universe, &breaks, &IsBrokenBy { variant }, own)
-            && is_plain(universe, &broken_by, &BreakersOf { variant }, own),
+        excludes_plainly(
+            alloc,
+            universe,
+            tables,
+            Exclusion::Conflicts,
+            variant,
+            &conflicts,
+        )? && excludes_plainly(alloc, universe, tables, Exclusion::Breaks, variant, &breaks)?
+            && excludes_plainly(
+                alloc,
+                universe,
+                tables,
+                Exclusion::BrokenBy,
+                variant,
+                &broken_by,
+            )?,
     )
 }
 
@@ -188,30 +241,60 @@ fn recipe_is_plain(universe: &Universe, tables: &Tables, number: u32) -> bool
     )
 }
 
+/// The first variant of a name of which a row differs.
+fn first_variant(
+    alloc: Global,
+    universe: &Universe,
+    tables: &Tables,
+    name: u32,
+) -> Result<Option<u32>, AllocError>
+    requires same { tables.now ≡ universe.now }
+    requires named { name < packages.names universe.now }
+{
+    for bit in 0..universe.variants(name) {
+        let variant = Variant { name, bit };
+        if !others_are_plain(alloc, universe, tables, variant)?
+            || !entries_are_plain(alloc, universe, tables, variant)?
+        {
+            return Ok(Some(bit));
+        }
+    }
+    Ok(None)
+}
+
+/// The first recipe of which a row differs.
+fn first_recipe(universe: &Universe, tables: &Tables) -> Option<u32>
+    requires { tables.now ≡ universe.now }
+{
+    for number in 0..universe.recipes() {
+        if !recipe_is_plain(universe, tables, number) {
+            return Some(number);
+        }
+    }
+    None
+}
+
+fn recipe_text(alloc: Global, differs: Option<u32>) -> Result<Vec<u8>, AllocError> {
+    match differs {
+        Some(number) => Ok(format!(in alloc; "recipe {number}")?.into_bytes()),
+        None => Vec::from_slice(alloc, b"same"),
+    }
+}
+
 /// Compares every row with the plain question: `same`, or the first variant or recipe of which a
 /// row differs.
 pub fn first_difference(
     alloc: Global,
     universe: &Universe,
     tables: &Tables,
-) -> Result<String, AllocError>
+) -> Result<Vec<u8>, AllocError>
     requires { tables.now ≡ universe.now }
 {
     for name in 0..universe.names() {
-        for bit in 0..universe.variants(name) {
-            let variant = Variant { name, bit };
-            if !others_are_plain(alloc, universe, tables, variant)?
-                || !entries_are_plain(alloc, universe, tables, variant)?
-            {
-                let name = universe.name_text(name).escape_ascii();
-                return format!(in alloc; "variant {bit} of {name}");
-            }
+        if let Some(bit) = first_variant(alloc, universe, tables, name)? {
+            let name = universe.name_text(name).escape_ascii();
+            return Ok(format!(in alloc; "variant {bit} of {name}")?.into_bytes());
         }
     }
-    for number in 0..universe.recipes() {
-        if !recipe_is_plain(universe, tables, number) {
-            return format!(in alloc; "recipe {number}");
-        }
-    }
-    String::from_str(alloc, "same")
+    recipe_text(alloc, first_recipe(universe, tables))
 }

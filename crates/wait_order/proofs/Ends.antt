@@ -18,6 +18,7 @@ use Rattle.verdict_laws.proofs.AtRest.{each_rest_is_exact, lanes_left_are_left}
 use Rattle.verdict_laws.proofs.Unions.{there}
 use Rattle.wait_order.proofs.Written.{drop-past}
 use Rattle.wait_order.specs.declared.standing.Standing.{Standing}
+use Rattle.wait_order.specs.Settled.{IsSettled}
 use Rattle.wait_order.specs.Standing.{items_at, IsReached, Holds, IsHeldAt, place_of, AreStanding, left_of}
 
 -- the first item of a lane that waits
@@ -127,24 +128,33 @@ some_lanes xs ys is e none =
     let empty : (length ys == 0) ≡ true = ap (λ zs. length zs == 0) (is ∙ none) in
     absurd (false≢true (sym e ∙ empty))
 
+-- where no lane moved in a round, the lanes are settled
+pub settled : (u : Universe) (p : Plan) (order t : List ℕ) (ats seen : List Standing)
+    → IsReached u p order t (left_of u p ats)
+    → ((l : ℕ) → l < length p → IsHeldAt u p l (place_of ats l) t) → seen ≡ ats
+    → IsSettled u p order seen
+settled u p order t ats seen r held same =
+    subst (IsSettled u p order) (sym same) (record { there = t; reached = r; held = held })
+
 -- what the lanes that are left say
-module _ (u : Universe) (p : Plan) (order t : List ℕ) (ats seen : List Standing)
-    (standing : AreStanding u p ats) (r : IsReached u p order t (left_of u p ats))
-    (held : (l : ℕ) → l < length p → IsHeldAt u p l (place_of ats l) t) (same : seen ≡ ats)
+module _ (u : Universe) (p : Plan) (order : List ℕ) (ats seen : List Standing)
+    (standing : AreStanding u p ats) (s : IsSettled u p order ats) (same : seen ≡ ats)
     (lanes : List ℕ)
     (is : lanes ≡ filter (λ l. nat_lt (place_of seen l) (length (lane p l).instructions))
     (range_with_len 0 (length p))) where
-  seen_left : lanes ≡ filter (goes_on u p order t ats standing r held) (range_with_len 0 (length p))
+  seen_left : lanes
+      ≡ filter (goes_on u p order s.there ats standing s.reached s.held) (range_with_len 0 (length p))
   seen_left = subst
       (λ xs. lanes ≡ filter (λ l. nat_lt (place_of xs l) (length (lane p l).instructions))
       (range_with_len 0 (length p)))
       same is
 
   pub order_found : lanes ≡ [] → IsOrder u p order
-  order_found none = is_order u p order t ats standing r held lanes seen_left none
+  order_found none =
+      is_order u p order s.there ats standing s.reached s.held lanes seen_left none
 
   pub stuck_found : AreStuck u p lanes
-  stuck_found = are_stuck u p order t ats standing r held lanes seen_left
+  stuck_found = are_stuck u p order s.there ats standing s.reached s.held lanes seen_left
 
 -- one lane more is looked at
 pub filter_next : (f : ℕ → Bool) (n : ℕ) → filter f (range_with_len 0 (n + 1))

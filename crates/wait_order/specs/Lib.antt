@@ -1,5 +1,6 @@
 pub mod KnownRows
 pub mod Standing
+pub mod Settled
 pub mod Answer
 pub mod Column
 pub mod Points

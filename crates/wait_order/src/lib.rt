@@ -20,5 +20,5 @@ mod wait_rows;
 pub use known::{Known, KnownWords};
 pub use outputs::Outputs;
 pub use plan_rows::knowledge;
-pub use rounds::{OrderError, order};
-pub use standing::initial_row;
+pub use rounds::{OrderError, Settled, order, settle};
+pub use standing::{Standing, initial_row};

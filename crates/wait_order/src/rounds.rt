@@ -8,6 +8,7 @@ ghost use Rattle.plan_model.specs.Plan.{lane};
 ghost use Rattle.plan_model.specs.Order.{IsOrder};
 ghost use Rattle.plan_model.specs.Sound.{IsSound};
 ghost use Rattle.wait_order.specs.Standing.{place_of, AreStanding, IsRound};
+ghost use Rattle.wait_order.specs.Settled.{IsSettled};
 ghost use Rattle.wait_order.specs.Answer.{IsWhyNone};
 
 use crate::standing::{Standing, advance, initial_row};
@@ -135,8 +136,53 @@ fn lanes_left(alloc: Global, plan: &Plan, ats: &[Standing]) -> Result<Vec<u32>, 
     Ok(lanes)
 }
 
+/// The lanes of a plan where none of them goes on.
+#[derive(Debug, Drop)]
+pub struct Settled {
+    /// Where each lane stands, in file order.
+    pub standings: Vec<Standing>,
+    /// The lanes whose waits and outputs were made, one after another.
+    pub order: Vec<u32>,
+}
+
+/// Makes the waits and outputs of a plan's lanes until none goes on: in rounds, each lane as far as it
+/// goes, in file order.
+///
+/// # Errors
+///
+/// [`AllocError`] where memory is refused.
+pub fn settle(
+    alloc: Global,
+    universe: &Universe,
+    tables: &Tables,
+    plan: &Plan,
+) -> Result<Settled, AllocError>
+    requires sound { IsSound universe.now plan.now.lanes }
+    requires tables { tables.now ≡ universe.now }
+    ensures standing { IfOk result (λ settled.
+        AreStanding universe.now plan.now.lanes settled.standings.items) }
+    ensures settled { IfOk result (λ settled. IsSettled universe.now plan.now.lanes
+        settled.order.items settled.standings.items) }
+{
+    let mut archive = initial_row(alloc, universe)?;
+    let mut standings = starts(alloc, universe, plan)?;
+    let mut rows = WaitRows::new(alloc, universe)?;
+    let mut order = Vec::new(alloc);
+    while round(
+        alloc,
+        universe,
+        tables,
+        plan,
+        &mut standings,
+        &mut rows,
+        &mut archive,
+        &mut order,
+    )? {}
+    Ok(Settled { standings, order })
+}
+
 /// Finds an order in which the waits of a plan pass: the lanes whose waits and outputs are made,
-/// one after another. The lanes are taken on in rounds, each as far as it goes, in file order.
+/// one after another, as [`settle`] makes them.
 ///
 /// # Errors
 ///
@@ -152,20 +198,10 @@ pub fn order(
     ensures order { IfOk result (λ order. IsOrder universe.now plan.now.lanes order.items) }
     ensures stuck { IfErr result (IsWhyNone universe.now plan.now.lanes) }
 {
-    let mut archive = initial_row(alloc, universe)?;
-    let mut ats = starts(alloc, universe, plan)?;
-    let mut rows = WaitRows::new(alloc, universe)?;
-    let mut order = Vec::new(alloc);
-    while round(
-        alloc,
-        universe,
-        tables,
-        plan,
-        &mut ats,
-        &mut rows,
-        &mut archive,
-        &mut order,
-    )? {}
+    let Settled {
+        standings: ats,
+        order,
+    } = settle(alloc, universe, tables, plan)?;
     let stuck = lanes_left(alloc, plan, &ats)?;
     if stuck.as_slice().is_empty() {
         Ok(order)

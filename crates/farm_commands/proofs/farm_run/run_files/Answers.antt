@@ -1,6 +1,6 @@
 use Rattle.std.proofs.Common.{subst}
 use Rattle.farm_commands.specs.FarmAnswers.{AnswersRun, StopsRun}
-use Rattle.farm_commands.specs.Requests.{AreRead, OnFiles}
+use Rattle.farm_commands.specs.Requests.{AreRead, OnFiles, named}
 use Rattle.farm_commands.specs.View.{texts_in_files}
 use Rattle.farm_commands.proofs.RunLaws.{comes-by}
 use Rattle.farm_commands.proofs.farm_run.run_files.Goals as goal
@@ -9,7 +9,8 @@ use Rattle.farm_input.specs.View.{texts_view}
 
 pub returns-clause-end : goal.returns-clause-end
 returns-clause-end g c =
-    let held = g.F.Source.held c.args.source.now in
+    let held = named (g.F.Source.held c.args.source.now)
+    (g.F.Source.given c.args.source.now) in
     let texts = texts_in_files c.in_ok-files.files in
     comes-by (AnswersRun (texts_view c.texts.result)) (OnFiles held c.args.of.paths AnswersRun)
     (StopsRun (texts_view c.texts.result))

@@ -1,6 +1,6 @@
 use Rattle.std.proofs.Common.{subst, sym}
 use Rattle.farm_commands.specs.Answers.{AnswersStep, IsAnswered}
-use Rattle.farm_commands.specs.Requests.{AnswersRequest, OnFiles}
+use Rattle.farm_commands.specs.Requests.{AnswersRequest, OnFiles, named}
 use Rattle.farm_commands.proofs.request.answer_request.Goals as goal
 
 pub returns-in-Step : goal.returns-in-Step
@@ -11,5 +11,5 @@ returns-in-Step g c =
     let new = g.S.Sink.state c.step_files.new.out in
     subst (λ request. IsAnswered (AnswersRequest held given request) old new c.step_files.result)
     (sym c.in-Step.is)
-    (subst (λ lanes. IsAnswered (OnFiles held c.in-Step.paths (AnswersStep lanes)) old new
+    (subst (λ lanes. IsAnswered (OnFiles (named held given) c.in-Step.paths (AnswersStep lanes)) old new
     c.step_files.result) c.deref.ensures.value c.step_files.ensures)

@@ -1,6 +1,6 @@
 use Rattle.std.proofs.Common.{subst}
-use Rattle.farm_commands.specs.Answers.{AnswersList}
-use Rattle.farm_commands.specs.Requests.{OnFiles}
+use Rattle.farm_commands.specs.Answers.{AnswersListing}
+use Rattle.farm_commands.specs.Requests.{OnFiles, named}
 use Rattle.farm_commands.specs.View.{texts_in_files}
 use Rattle.farm_commands.proofs.AnswerLaws.{answered-by}
 use Rattle.farm_commands.proofs.request.list_files.Goals as goal
@@ -8,11 +8,13 @@ use Rattle.farm_input.specs.View.{texts_view}
 
 pub returns : goal.returns
 returns g c =
-    answered-by (AnswersList (texts_view c.texts.result))
-    (OnFiles (g.F.Source.held c.args.source.now) c.args.paths AnswersList) _ _ _
+    answered-by (AnswersListing c.args.number (texts_view c.texts.result))
+    (OnFiles (named (g.F.Source.held c.args.source.now) (g.F.Source.given c.args.source.now))
+    c.args.paths
+    (AnswersListing c.args.number)) _ _ _
     (λ text status is. (
       texts_in_files c.in_ok-files.files,
       c.in_ok-files.ensures.read,
-      subst (λ texts. AnswersList texts text status) c.texts.ensures is,
+      subst (λ texts. AnswersListing c.args.number texts text status) c.texts.ensures is,
     ))
-    c.answer_list.ensures
+    c.answer_listing.ensures

@@ -1,6 +1,6 @@
 use Rattle.std.proofs.Common.{subst}
 use Rattle.farm_commands.specs.Answers.{AnswersStep}
-use Rattle.farm_commands.specs.Requests.{OnFiles}
+use Rattle.farm_commands.specs.Requests.{OnFiles, named}
 use Rattle.farm_commands.specs.View.{texts_in_files}
 use Rattle.farm_commands.proofs.AnswerLaws.{answered-by}
 use Rattle.farm_commands.proofs.request.step_files.Goals as goal
@@ -9,7 +9,8 @@ use Rattle.farm_input.specs.View.{texts_view}
 pub returns : goal.returns
 returns g c =
     answered-by (AnswersStep c.args.schedule.now (texts_view c.texts.result))
-    (OnFiles (g.F.Source.held c.args.source.now) c.args.paths (AnswersStep c.args.schedule.now))
+    (OnFiles (named (g.F.Source.held c.args.source.now) (g.F.Source.given c.args.source.now))
+    c.args.paths (AnswersStep c.args.schedule.now))
     _ _ _
     (λ text status is. (
       texts_in_files c.in_ok-files.files,

@@ -1,6 +1,6 @@
 use Rattle.std.proofs.Common.{subst}
 use Rattle.farm_commands.specs.CertAnswers.{AnswersVerifyCert}
-use Rattle.farm_commands.specs.Requests.{OnFilesAndCert}
+use Rattle.farm_commands.specs.Requests.{OnFilesAndOne, named}
 use Rattle.farm_commands.specs.View.{texts_in_files}
 use Rattle.farm_commands.proofs.AnswerLaws.{answered-by}
 use Rattle.farm_commands.proofs.request.verify_files.Goals as goal
@@ -9,7 +9,9 @@ use Rattle.farm_input.specs.View.{texts_view}
 pub returns : goal.returns
 returns g c =
     answered-by (AnswersVerifyCert c.deref.result.now (texts_view c.texts.result))
-    (OnFilesAndCert (g.F.Source.held c.args.source.now) c.args.paths c.args.cert.now) _ _ _
+    (OnFilesAndOne (named (g.F.Source.held c.args.source.now) (g.F.Source.given c.args.source.now))
+    c.args.paths c.args.cert.now
+    AnswersVerifyCert) _ _ _
     (λ text status is. (
       c.in_ok-read.read.items,
       c.in_ok-read.ensures.bytes,

@@ -1,11 +1,7 @@
-use Rattle.std.proofs.Common.{◌≡◌, ◌+◌, ◌-◌, ◌++◌, Err, sym, ap, ◌∙◌, subst, arith}
-use Rattle.farm_report.specs.AnswerLines.{row_line}
-use Rattle.plan_model.specs.Plan.{lane}
+use Rattle.std.proofs.Common.{◌≡◌, ◌+◌, ◌-◌, Err, sym, ap, ◌∙◌, subst, arith}
 use Rattle.plan_model.specs.Safety.{Meets, Parts}
-use Rattle.plan_verifier.specs.declared.refusal.TheConstants.{UNEVEN}
 use Rattle.plan_verifier.specs.Walk.{told_at, IsTold, Walked}
-use Rattle.farm_explain.specs.LaneNotes.{hazard_note, lane_note}
-use Rattle.farm_explain.specs.ReasonText.{where_text}
+use Rattle.farm_explain.specs.LaneNotes.{hazard_note, parting_note, lane_note}
 use Rattle.farm_explain.proofs.NoteLaws.{note_none, within, note_first}
 use Rattle.farm_explain.proofs.Outcomes.{if_ok}
 use Rattle.farm_explain.proofs.notes.lane_note.Goals as goal
@@ -63,14 +59,10 @@ returns-in-Err-Uneven g c =
     let told : IsTold u p rows l Parts c.in-Err-Uneven.field-0-0 n =
     subst (λ e. Walked u p rows l (Err e)) c.in-Err-Uneven.field-0-is c.in-Err-Uneven.ensures in
     let place : n - 1 ≡ told_at p l told.i Parts = omega (arith, told.numbered) in
-    let line : row_line UNEVEN (lane p l).name n
-    ≡ row_line UNEVEN (lane p l).name (told_at p l told.i Parts + 1) =
-    ap (row_line UNEVEN (lane p l).name) told.numbered in
-    let at : where_text u p ls l (n - 1) ≡ where_text u p ls l (told_at p l told.i Parts) =
-    ap (where_text u p ls l) place in
-    let same : row_line UNEVEN (lane p l).name n ++ where_text u p ls l (n - 1)
-    ≡ lane_note u p rows ls l =
-    (λ i. line i ++ at i) ∙ sym (note_first u p rows ls l told.i Parts told.here told.before) in
-    if_ok (λ text. text.items ≡ row_line UNEVEN (lane p l).name n ++ where_text u p ls l (n - 1))
+    let same : parting_note u p rows ls l n (n - 1) ≡ lane_note u p rows ls l =
+    ap (λ k. parting_note u p rows ls l k (n - 1)) told.numbered
+    ∙ ap (parting_note u p rows ls l (told_at p l told.i Parts + 1)) place
+    ∙ sym (note_first u p rows ls l told.i Parts told.here told.before) in
+    if_ok (λ text. text.items ≡ parting_note u p rows ls l n (n - 1))
     (λ text. text.items ≡ lane_note u p rows ls l) c.uneven_note.result (λ text is. is ∙ same)
     c.uneven_note.ensures

@@ -1,0 +1,27 @@
+use Rattle.std.proofs.Common.{subst}
+use Rattle.farm_commands.specs.Answers.{AnswersStepBy}
+use Rattle.farm_commands.specs.Requests.{OnFilesAndOne, named}
+use Rattle.farm_commands.specs.View.{texts_in_files}
+use Rattle.farm_commands.proofs.AnswerLaws.{answered-by}
+use Rattle.farm_commands.proofs.request.step_by_files.Goals as goal
+use Rattle.farm_input.specs.View.{texts_view}
+
+pub returns : goal.returns
+returns g c =
+    answered-by (AnswersStepBy c.deref.result.now (texts_view c.texts.result))
+    (OnFilesAndOne (named (g.F.Source.held c.args.source.now) (g.F.Source.given c.args.source.now))
+    c.args.paths c.args.list.now
+    AnswersStepBy) _ _ _
+    (λ text status is. (
+      c.in_ok-read.read.items,
+      c.in_ok-read.ensures.bytes,
+      (
+        texts_in_files c.in_ok-files.files,
+        c.in_ok-files.ensures.read,
+        subst (λ bytes. AnswersStepBy bytes (texts_in_files c.in_ok-files.files) text status)
+            c.deref.ensures.value
+            (subst (λ texts. AnswersStepBy c.deref.result.now texts text status)
+            c.texts.ensures is),
+      ),
+    ))
+    c.answer_step_by.ensures

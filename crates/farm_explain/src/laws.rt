@@ -1,0 +1,9 @@
+//! A law of notes.
+
+ghost use Rattle.farm_explain.specs.Beginning.{NotesBeginWithTheVerdict};
+
+/// What is said of the unsafe instructions of a plan that is refused for one, or for branches that part,
+/// begins with the line of that refusal. It does nothing.
+pub fn notes_begin_with_the_verdict()
+    ensures { NotesBeginWithTheVerdict }
+{}

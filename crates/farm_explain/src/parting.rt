@@ -1,0 +1,182 @@
+//! Why branches part: the first name that they leave in different phases.
+
+ghost use Rattle.std.specs.Prelude.{◌≡◌, ◌<◌, ◌++◌, length, Some, IfSome, OnOk};
+ghost use Rattle.may_rows.specs.Words.{may_of};
+ghost use Rattle.plan_model.specs.Join as join;
+ghost use Rattle.plan_model.specs.Plan.{lane, instruction_at};
+ghost use Rattle.plan_verifier.specs.Stage.{IsStage};
+ghost use Rattle.farm_explain.specs.Parting as spec;
+
+use crate::held::push_slot;
+use crate::words::Word;
+use deb_text::push_pieces;
+use farm_universe::Universe;
+use may_rows::{Dependents, MayHold};
+use plan_asm::{Instruction, Plan};
+use plan_verifier::walk::walk_to;
+use plan_verifier::{Branch, Stage};
+use std::alloc::{AllocError, Global};
+use wait_order::KnownWords;
+
+fn instruction_count(plan: &Plan, number: usize) -> usize
+    requires { number < length plan.now.lanes }
+    ensures { result ≡ length (lane plan.now.lanes number).instructions }
+{
+    plan.lane(number).instructions().len()
+}
+
+/// Tells whether the instruction of a lane at a place, if there is one, is an `end` of branches.
+fn is_end(plan: &Plan, number: usize, at: usize) -> bool
+    requires { number < length plan.now.lanes }
+    ensures { result ≡ spec.is_end (instruction_at plan.now.lanes number at) }
+{
+    match plan.lane(number).instructions().get(at) {
+        Some(Instruction::EndWhen) => true,
+        _ => false,
+    }
+}
+
+/// Tells whether it is one behind the `when` at a place.
+fn ends(plan: &Plan, number: usize, start: usize, at: usize) -> bool
+    requires { number < length plan.now.lanes }
+    ensures { result ≡ spec.ends plan.now.lanes number start at }
+{
+    start < at && is_end(plan, number, at)
+}
+
+/// The place of the `end` of the `when` at a place of a lane.
+pub fn end_behind(plan: &Plan, number: usize, start: usize) -> Option<usize>
+    requires { number < length plan.now.lanes }
+    ensures end { result ≡ spec.end_behind plan.now.lanes number start }
+    ensures within { IfSome result (λ at. at < length (lane plan.now.lanes number).instructions) }
+{
+    for at in 0..instruction_count(plan, number) {
+        if ends(plan, number, start, at) {
+            return Some(at);
+        }
+    }
+    None
+}
+
+/// Tells whether a name is in one phase in two chroots.
+#[tactic(auto, using(crate::proofs::Slots::phase_is))]
+fn is_same_phase(first: &MayHold, second: &MayHold, name: u32) -> bool
+    ensures { result ≡ join.is_same_phase ((may_of first.now).slots name)
+        ((may_of second.now).slots name) }
+{
+    if first.here_word(name) == 0 {
+        second.here_word(name) == 0
+    } else if second.here_word(name) == 0 {
+        false
+    } else if first.ready_word(name) == 0 {
+        second.ready_word(name) == 0
+    } else {
+        second.ready_word(name) != 0
+    }
+}
+
+/// The first name that is not in one phase.
+fn parting_name(universe: &Universe, first: &MayHold, second: &MayHold) -> Option<u32>
+    ensures { result ≡ spec.parting_name universe.now (may_of first.now) (may_of second.now) }
+{
+    for name in 0..universe.names() {
+        if !is_same_phase(first, second, name) {
+            return Some(name);
+        }
+    }
+    None
+}
+
+/// The line of a name, behind these words.
+fn push_phase(
+    text: &mut Vec<u8>,
+    universe: &Universe,
+    word: Word,
+    state: &MayHold,
+    name: u32,
+) -> Result<(), AllocError>
+    ensures { OnOk result (text.new.items ≡ text.old.items
+        ++ spec.phase_line universe.now word name ((may_of state.now).slots name)) }
+{
+    push_pieces(text, &[b"  ", word.text()])?;
+    push_slot(text, universe, state, name)?;
+    push_pieces(text, &[b"\n"])
+}
+
+/// The lines of the first name that is not in one phase, where there is one.
+fn push_phases(
+    text: &mut Vec<u8>,
+    universe: &Universe,
+    first: &MayHold,
+    second: &MayHold,
+) -> Result<(), AllocError>
+    ensures { OnOk result (text.new.items ≡ text.old.items
+        ++ spec.phase_lines universe.now (may_of first.now) (may_of second.now)
+        (spec.parting_name universe.now (may_of first.now) (may_of second.now))) }
+{
+    match parting_name(universe, first, second) {
+        Some(name) => {
+            push_phase(text, universe, Word::BehindFirst, first, name)?;
+            push_phase(text, universe, Word::BehindSecond, second, name)
+        }
+        None => Ok(()),
+    }
+}
+
+/// The lines of the branches that end at a place.
+fn push_ends<K: KnownWords>(
+    text: &mut Vec<u8>,
+    alloc: Global,
+    stage: &Stage<'_, K>,
+    dependents: &Dependents,
+    number: usize,
+    end: usize,
+) -> Result<(), AllocError>
+    requires stage { IsStage stage.now.universe.now stage.now.plan.now.lanes
+        stage.now.tables.now stage.now.outputs.now (K.known stage.now.known.now) }
+    requires dependents { dependents.now ≡ stage.now.universe.now }
+    requires lane { number < length stage.now.plan.now.lanes }
+    requires end { end < length (lane stage.now.plan.now.lanes number).instructions }
+    ensures { OnOk result (text.new.items ≡ text.old.items
+        ++ spec.parts_text stage.now.universe.now stage.now.plan.now.lanes
+        (K.known stage.now.known.now).rows number (Some end)) }
+{
+    // The walk has come to this place before: it can end for want of memory alone.
+    let Ok(may) = walk_to(alloc, stage, dependents, number, end) else {
+        return Err(AllocError);
+    };
+    match &may.branch {
+        Branch::Second { first, .. } => push_phases(text, stage.universe, first, &may.here),
+        Branch::Outside | Branch::First { .. } => Ok(()),
+    }
+}
+
+/// Puts the first name that the branches of a `when` leave in different phases behind a text, with what
+/// may be held of it behind each. `end` is the place of their `end`; where there is none, so is no text.
+///
+/// # Errors
+///
+/// [`AllocError`] where memory is refused.
+pub fn push_parting<K: KnownWords>(
+    text: &mut Vec<u8>,
+    alloc: Global,
+    stage: &Stage<'_, K>,
+    dependents: &Dependents,
+    number: usize,
+    end: Option<usize>,
+) -> Result<(), AllocError>
+    requires stage { IsStage stage.now.universe.now stage.now.plan.now.lanes
+        stage.now.tables.now stage.now.outputs.now (K.known stage.now.known.now) }
+    requires dependents { dependents.now ≡ stage.now.universe.now }
+    requires lane { number < length stage.now.plan.now.lanes }
+    requires end { IfSome end (λ at.
+        at < length (lane stage.now.plan.now.lanes number).instructions) }
+    ensures { OnOk result (text.new.items ≡ text.old.items
+        ++ spec.parts_text stage.now.universe.now stage.now.plan.now.lanes
+        (K.known stage.now.known.now).rows number end) }
+{
+    match end {
+        Some(end) => push_ends(text, alloc, stage, dependents, number, end),
+        None => Ok(()),
+    }
+}

@@ -1,0 +1,13 @@
+use Rattle.std.proofs.Common.{◌≡◌, ◌≤◌, length}
+use Rattle.farm_warnings.specs.Lines.{paragraphs_of}
+use Rattle.farm_warnings.proofs.lines.Lines.next_paragraph.Given as goal
+
+abbrev pub invariant-loop-line : goal.invariant-loop-line
+invariant-loop-line l = record {
+  same : paragraphs_of l.fn.self ≡ paragraphs_of l.self;
+  begun : l.begun ≡ l.self;
+  shorter : length l.self ≤ length l.fn.self;
+}
+
+abbrev pub decreases-loop-line : goal.decreases-loop-line
+decreases-loop-line l = length l.self

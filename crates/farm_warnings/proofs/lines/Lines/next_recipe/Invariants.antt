@@ -1,0 +1,12 @@
+use Rattle.std.proofs.Common.{◌≡◌, ◌≤◌, filter, length}
+use Rattle.farm_warnings.specs.Lines.{is_recipe, paragraphs_of}
+use Rattle.farm_warnings.proofs.lines.Lines.next_recipe.Given as goal
+
+abbrev pub invariant-loop-paragraph : goal.invariant-loop-paragraph
+invariant-loop-paragraph l = record {
+  same : filter is_recipe (paragraphs_of l.fn.self) ≡ filter is_recipe (paragraphs_of l.self);
+  shorter : length l.self ≤ length l.fn.self;
+}
+
+abbrev pub decreases-loop-paragraph : goal.decreases-loop-paragraph
+decreases-loop-paragraph l = length l.self

@@ -1,0 +1,9 @@
+pub mod Words
+pub mod Sets
+pub mod Lines
+pub mod Fields
+pub mod Recipes
+pub mod Profiles
+pub mod Packages
+pub mod Waits
+pub mod Warnings

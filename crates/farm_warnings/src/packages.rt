@@ -1,0 +1,171 @@
+//! Packages that lack what a farm is judged by.
+
+ghost use Rattle.std.specs.Prelude.{◌≡◌, ◌++◌, ◌<◌, filter, length, fold, IfOk, OnOk};
+ghost use Rattle.std.specs.Option.{option_map};
+ghost use Rattle.std.specs.Str.{bytes_eq};
+ghost use Rattle.deb_text.specs.Groups.{distinct};
+ghost use Rattle.deb_profile.specs.Restriction.{is_among};
+ghost use Rattle.deb_stanza.specs.Stanza.{paragraph_at};
+ghost use Rattle.farm_warnings.specs.Packages as spec;
+
+use crate::paragraphs::read_paragraphs;
+use crate::word_set::WordSet;
+use crate::words::{Word, push_count};
+use deb_stanza::Paragraphs;
+use deb_text::push_pieces;
+use farm_universe::Universe;
+use itoa::Buffer;
+use std::alloc::{AllocError, Global};
+
+/// What a paragraph of the packages text lacks: an `Installed-Size`, or an architecture that the
+/// farm names.
+#[derive(Clone, Copy, Debug)]
+pub enum Lack {
+    Size,
+    Architecture,
+}
+
+impl Lack {
+    fn word(self) -> Word
+        ensures { result ≡ spec.lack_word self }
+    {
+        match self {
+            Lack::Size => Word::NoSize,
+            Lack::Architecture => Word::NoArchitecture,
+        }
+    }
+}
+
+/// The names of the farm's architecture, as a set.
+fn architecture_set(alloc: Global, universe: &Universe) -> Result<WordSet, AllocError>
+    ensures { IfOk result (λ set. set ≡ distinct bytes_eq universe.now.architectures) }
+{
+    let mut set = WordSet::new(alloc);
+    let mut left = universe.arch_names().names();
+    while let [name, rest @ ..] = left {
+        set.add(alloc, name.text())?;
+        left = rest;
+    }
+    Ok(set)
+}
+
+/// Tells whether a name is one of the farm's architecture, whose names are in the set.
+fn is_named(universe: &Universe, names: &WordSet, name: &[u8]) -> bool
+    requires { names.now ≡ distinct bytes_eq universe.now.architectures }
+    ensures { result ≡ is_among universe.now.architectures name.now }
+{
+    names.has(name)
+}
+
+/// Tells whether an architecture is there and is none of the farm's.
+fn is_foreign(universe: &Universe, names: &WordSet, value: Option<&[u8]>) -> bool
+    requires { names.now ≡ distinct bytes_eq universe.now.architectures }
+    ensures { result
+        ≡ spec.is_foreign universe.now.architectures (option_map (λ v. v.now) value.entry) }
+{
+    match value {
+        Some(text) => text != b"all".as_slice() && !is_named(universe, names, text),
+        None => false,
+    }
+}
+
+/// Tells whether a paragraph lacks this.
+#[tactic(auto, unfolding(crate::specs::Packages::lacks))]
+fn lacks(
+    universe: &Universe,
+    names: &WordSet,
+    lack: Lack,
+    paragraphs: &Paragraphs,
+    place: usize,
+) -> bool
+    requires names { names.now ≡ distinct bytes_eq universe.now.architectures }
+    requires place { place < length paragraphs.now }
+    ensures { result
+        ≡ spec.lacks universe.now.architectures lack (paragraph_at paragraphs.now place) }
+{
+    match lack {
+        Lack::Size => paragraphs.field(place, b"Installed-Size").is_none(),
+        Lack::Architecture => {
+            is_foreign(universe, names, paragraphs.field(place, b"Architecture"))
+        }
+    }
+}
+
+/// How many paragraphs lack this, and the first line of the first; 0 where there is none.
+fn count_lacking(
+    universe: &Universe,
+    names: &WordSet,
+    lack: Lack,
+    paragraphs: &Paragraphs,
+) -> (usize, u32)
+    requires { names.now ≡ distinct bytes_eq universe.now.architectures }
+    ensures count { result.0
+        ≡ length (filter (spec.lacks universe.now.architectures lack) paragraphs.now) }
+    ensures first { result.1
+        ≡ spec.first_of (filter (spec.lacks universe.now.architectures lack) paragraphs.now) }
+{
+    let mut count = 0;
+    let mut first = 0;
+    let mut place = paragraphs.count();
+    while 0 < place {
+        place -= 1;
+        if lacks(universe, names, lack, paragraphs, place) {
+            count += 1;
+            first = paragraphs.line_of(place);
+        }
+    }
+    (count, first)
+}
+
+/// The warning of so many paragraphs, of which the first begins at this line.
+fn push_warning(text: &mut Vec<u8>, word: Word, count: usize, line: u32) -> Result<(), AllocError>
+    ensures { OnOk result (text.new.items ≡ text.old.items ++ spec.count_said word count line) }
+{
+    if count == 0 {
+        return Ok(());
+    }
+    let mut digits = Buffer::new();
+    let number = digits.format(count as u64);
+    push_count(text, Word::PackagesLine, u64::from(line))?;
+    push_pieces(text, &[b": ", number.as_bytes(), word.text()])
+}
+
+/// What is said of the paragraphs that lack this.
+fn push_lack(
+    text: &mut Vec<u8>,
+    universe: &Universe,
+    names: &WordSet,
+    lack: Lack,
+    paragraphs: &Paragraphs,
+) -> Result<(), AllocError>
+    requires { names.now ≡ distinct bytes_eq universe.now.architectures }
+    ensures { OnOk result (text.new.items
+        ≡ text.old.items ++ spec.lack_said universe.now.architectures paragraphs.now lack) }
+{
+    let (count, line) = count_lacking(universe, names, lack, paragraphs);
+    push_warning(text, lack.word(), count, line)
+}
+
+/// Puts a warning of the packages without an `Installed-Size` behind a text, and one of those whose
+/// architecture the farm does not name.
+///
+/// # Errors
+///
+/// [`AllocError`] where memory is refused.
+#[tactic(auto, unfolding(crate::specs::Packages::packages_text))]
+pub fn push_packages(
+    alloc: Global,
+    text: &mut Vec<u8>,
+    universe: &Universe,
+    packages: &[u8],
+) -> Result<(), AllocError>
+    ensures { OnOk result (text.new.items
+        ≡ text.old.items ++ spec.packages_text universe.now packages.now) }
+{
+    let Some(paragraphs) = read_paragraphs(alloc, packages)? else {
+        return Ok(());
+    };
+    let names = architecture_set(alloc, universe)?;
+    push_lack(text, universe, &names, Lack::Size, &paragraphs)?;
+    push_lack(text, universe, &names, Lack::Architecture, &paragraphs)
+}

@@ -1,0 +1,170 @@
+//! The build profiles of recipes that no source asks for.
+
+ghost use Rattle.std.specs.Prelude.{◌≡◌, ◌++◌, OnOk};
+ghost use Rattle.std.specs.List.{flat_map};
+ghost use Rattle.deb_text.specs.Cuts.{after};
+ghost use Rattle.deb_stanza.specs.Stanza.{continuation, is_colon};
+ghost use Rattle.farm_warnings.specs.Lines.{recipes_in};
+ghost use Rattle.farm_warnings.specs.Profiles as spec;
+
+use crate::field_name::FieldName;
+use crate::lines::{Line, Lines, ParagraphLines};
+use crate::profile_words::asked_for;
+use crate::word_set::WordSet;
+use crate::words::{Word, push_count};
+use deb_text::{cut_at_first, next_word, push_pieces};
+use std::alloc::{AllocError, Global};
+
+/// The warning of a profile, the line being that of its field.
+fn push_warning(text: &mut Vec<u8>, line: usize, profile: &[u8]) -> Result<(), AllocError>
+    ensures { OnOk result (text.new.items
+        ≡ text.old.items ++ spec.profile_warning line profile.now) }
+{
+    push_count(text, Word::FarmLine, line as u64)?;
+    push_pieces(text, &[Word::NoSource.text()])?;
+    push_pieces(text, &[profile])?;
+    push_pieces(text, &[b"\n"])
+}
+
+/// What is said of a profile.
+fn push_profile(
+    text: &mut Vec<u8>,
+    asked: &WordSet,
+    line: usize,
+    profile: &[u8],
+) -> Result<(), AllocError>
+    ensures { OnOk result (text.new.items
+        ≡ text.old.items ++ spec.profile_said asked.now line profile.now) }
+{
+    if asked.has(profile) {
+        Ok(())
+    } else {
+        push_warning(text, line, profile)
+    }
+}
+
+/// What is said of the words of a text.
+fn push_words(
+    text: &mut Vec<u8>,
+    asked: &WordSet,
+    line: usize,
+    words: &[u8],
+) -> Result<(), AllocError>
+    ensures { OnOk result (text.new.items
+        ≡ text.old.items ++ spec.words_said asked.now line words.now) }
+{
+    let mut left = words;
+    while let Some((word, rest)) = next_word(left) {
+        push_profile(text, asked, line, word)?;
+        left = rest;
+    }
+    Ok(())
+}
+
+/// What is said of the lines that go on with a field.
+fn push_more(
+    text: &mut Vec<u8>,
+    asked: &WordSet,
+    line: usize,
+    more: &ParagraphLines,
+) -> Result<(), AllocError>
+    ensures { OnOk result (text.new.items
+        ≡ text.old.items ++ spec.more_said asked.now line (continuation more.now)) }
+{
+    let mut left = more.copied();
+    while let Some(next) = left.next() {
+        if !next.continues() {
+            return Ok(());
+        }
+        push_words(text, asked, line, next.bytes)?;
+    }
+    Ok(())
+}
+
+/// What stands behind the first colon of a line.
+fn behind_colon(line: &[u8]) -> &[u8]
+    ensures { result.now ≡ after is_colon line.now }
+{
+    match cut_at_first(b':', line) {
+        Some((_, behind)) => behind,
+        None => b"",
+    }
+}
+
+/// What is said of a field, of which this is the first line, and of the paragraph these are left.
+fn push_field(
+    text: &mut Vec<u8>,
+    asked: &WordSet,
+    line: &Line,
+    more: &ParagraphLines,
+) -> Result<(), AllocError>
+    ensures { OnOk result (text.new.items
+        ≡ text.old.items ++ spec.field_said asked.now line.now more.now) }
+{
+    push_words(text, asked, line.number, behind_colon(line.bytes))?;
+    push_more(text, asked, line.number, more)
+}
+
+/// What is said of a line of a recipe, of whose paragraph these are left.
+fn push_line(
+    text: &mut Vec<u8>,
+    asked: &WordSet,
+    line: &Line,
+    more: &ParagraphLines,
+) -> Result<(), AllocError>
+    ensures { OnOk result (text.new.items
+        ≡ text.old.items ++ spec.line_said asked.now line.now more.now) }
+{
+    if line.begins(FieldName::Profiles) {
+        push_field(text, asked, line, more)
+    } else {
+        Ok(())
+    }
+}
+
+/// What is said of the profiles of a recipe.
+fn push_recipe(
+    text: &mut Vec<u8>,
+    asked: &WordSet,
+    recipe: &ParagraphLines,
+) -> Result<(), AllocError>
+    ensures { OnOk result (text.new.items
+        ≡ text.old.items ++ spec.recipe_profiles asked.now recipe.now) }
+{
+    let mut left = recipe.copied();
+    while let Some(line) = left.next() {
+        push_line(text, asked, &line, &left)?;
+    }
+    Ok(())
+}
+
+/// What is said of the profiles of all recipes.
+fn push_all(text: &mut Vec<u8>, asked: &WordSet, farm: &[u8]) -> Result<(), AllocError>
+    ensures { OnOk result (text.new.items ≡ text.old.items
+        ++ flat_map (spec.recipe_profiles asked.now) (recipes_in farm.now)) }
+{
+    let mut left = Lines::behind_first(farm);
+    while let Some(recipe) = left.next_recipe() {
+        push_recipe(text, asked, &recipe)?;
+    }
+    Ok(())
+}
+
+/// Puts a warning of each profile of a recipe that no source asks for behind a text.
+///
+/// # Errors
+///
+/// [`AllocError`] where memory is refused.
+#[tactic(auto, unfolding(crate::specs::Profiles::profiles_text))]
+pub fn push_profiles(
+    alloc: Global,
+    text: &mut Vec<u8>,
+    sources: &[u8],
+    farm: &[u8],
+) -> Result<(), AllocError>
+    ensures { OnOk result (text.new.items
+        ≡ text.old.items ++ spec.profiles_text sources.now farm.now) }
+{
+    let asked = asked_for(alloc, sources)?;
+    push_all(text, &asked, farm)
+}

@@ -1,0 +1,13 @@
+use Rattle.std.proofs.Common.{take, Some, None, if◌then◌else◌}
+use Rattle.farm_model.specs.Packages.{contains}
+use Rattle.wait_notes.specs.Places.{Adds, HasSlots, place_of}
+use Rattle.wait_notes.proofs.publications.Publications.put_outputs.Given as goal
+
+-- the outputs so far
+abbrev pub invariant-loop-i : goal.invariant-loop-i
+invariant-loop-i l =
+    record {
+      slots : HasSlots l.universe l.self;
+      put : Adds l.fn.self l.self
+          (λ v. if contains (take l.i l.outputs) v then Some (place_of l.place) else None);
+    }

@@ -1,0 +1,42 @@
+-- A table of where variants are published: of each name, for each of its variants. The project's
+-- own words. Parameters: u a universe, p a plan, t a table, v a variant.
+--
+--   found t v              the lane that publishes a variant, and the instruction's number
+--   HasSlots               the table has a place for each variant
+--   Adds                   a table has more than another: what was not found there
+--   IsTableOf              all that a plan publishes
+use Rattle.std.specs.Prelude.{◌≡◌, ℕ, List, [], length, Option, None, slice_index_or, slice_set, Some}
+use Rattle.std.specs.Option.{option_map, option_or}
+use Rattle.farm_explain.specs.ReasonText.{publication}
+use Rattle.farm_model.specs.declared.types.Variant.{Variant}
+use Rattle.farm_model.specs.Packages.{names, variants}
+use Rattle.farm_model.specs.Universe.{Universe}
+use Rattle.plan_model.specs.Plan.{Plan}
+use Rattle.wait_notes.specs.declared.publications.Publication.{Publication}
+
+abbrev pub Table : Type 0
+Table = List (List (Option Publication))
+
+abbrev pub place_of : Publication → ℕ × ℕ
+place_of found = (found.lane, found.instruction)
+
+abbrev pub slot : Table → Variant → Option Publication
+slot t v = slice_index_or (slice_index_or t v.name []) v.bit None
+
+abbrev pub found : Table → Variant → Option (ℕ × ℕ)
+found t v = option_map place_of (slot t v)
+
+-- the table with one publication more
+abbrev pub with_place : Table → Variant → Publication → Table
+with_place t v place =
+    slice_set t v.name (slice_set (slice_index_or t v.name []) v.bit (Some place))
+
+pub record HasSlots (u : Universe) (t : Table) : Type 0 where
+  pub long : length t ≡ names u
+  pub each : (n : ℕ) → length (slice_index_or t n []) ≡ variants u n
+
+abbrev pub Adds : Table → Table → (Variant → Option (ℕ × ℕ)) → Type 0
+Adds old new more = (v : Variant) → found new v ≡ option_or (found old v) (more v)
+
+abbrev pub IsTableOf : Universe → Plan → Table → Type 0
+IsTableOf u p t = (v : Variant) → found t v ≡ publication u p v

@@ -1,0 +1,79 @@
+-- What the waits of an accepted plan wait for. The project's own format. Parameters: u a universe,
+-- p a plan, l a lane, i a place, e the entry of the wait there.
+--
+--   sources                the variants that can let a wait pass, published by lanes
+--   wait_line              what is said of a wait
+--   waits_text             lane by lane, and in each wait by wait
+use Rattle.std.specs.Prelude.{ℕ, zero, suc, ◌+◌, ◌==◌, nat_lt, Bool, false, not, ◌&&◌, List, [], ◌∷◌, ◌++◌, length, codes, Option, Some, None}
+use Rattle.std.specs.List.{concat, filter, find}
+use Rattle.deb_relation.specs.Relations.{Entry}
+use Rattle.farm_explain.specs.ReasonText.{publication}
+use Rattle.farm_explain.specs.Texts.{text_below}
+use Rattle.farm_model.specs.declared.types.Variant.{Variant}
+use Rattle.farm_model.specs.Packages.{initial}
+use Rattle.farm_model.specs.Universe.{Universe}
+use Rattle.farm_spelling.specs.Variants.{variant_text}
+use Rattle.plan_model.specs.Plan.{Plan, lane}
+use Rattle.wait_notes.specs.declared.words.Word.{Word}
+use Rattle.wait_notes.specs.Satisfying.{satisfying}
+use Rattle.wait_notes.specs.Waiting.{wait_at}
+use Rattle.wait_notes.specs.Words.{word_text, counted}
+
+-- a lane publishes it, and not this lane itself at or behind the place
+abbrev pub comes : (l i : ℕ) → Option (ℕ × ℕ) → Bool
+comes l i None = false
+comes l i (Some (j, number)) = not ((j == l) && nat_lt i number)
+
+-- those of some variants that can let the wait pass
+abbrev pub sources : Universe → Plan → (l i : ℕ) → List Variant → List Variant
+sources u p l i vs = filter (λ v. comes l i (publication u p v)) vs
+
+-- `lane NAME instruction N waits for `
+abbrev pub wait_head : Plan → (l number : ℕ) → List ℕ
+wait_head p l number =
+    concat (word_text Word.Lane ∷ (lane p l).name ∷ counted Word.Instruction number
+    ∷ word_text Word.WaitsFor ∷ [])
+
+-- ` of lane NAME instruction N`
+abbrev pub of_text : Plan → Option (ℕ × ℕ) → List ℕ
+of_text p None = []
+of_text p (Some (j, number)) =
+    concat (word_text Word.OfLane ∷ (lane p j).name ∷ counted Word.Instruction number ∷ [])
+
+-- `, or N more`
+abbrev pub more_text : ℕ → List ℕ
+more_text zero = []
+more_text (suc k) = counted Word.Or (suc k) ++ word_text Word.More
+
+abbrev pub coming_text : Universe → Plan → (l number : ℕ) → Variant → ℕ → List ℕ
+coming_text u p l number v more =
+    concat (wait_head p l number ∷ variant_text u v ∷ of_text p (publication u p v)
+    ∷ more_text more ∷ codes "\n" ∷ [])
+
+-- the first of these variants, and how many more there are
+abbrev pub coming_line : Universe → Plan → (l number : ℕ) → List Variant → List ℕ
+coming_line u p l number [] = []
+coming_line u p l number (v ∷ more) = coming_text u p l number v (length more)
+
+abbrev pub nothing_text : Universe → Plan → (l number : ℕ) → Variant → List ℕ
+nothing_text u p l number v =
+    concat (wait_head p l number ∷ word_text Word.Nothing ∷ variant_text u v
+    ∷ word_text Word.FromStart ∷ codes "\n" ∷ [])
+
+-- of the variants that satisfy the entry, one that is there from the start; or else those that come
+abbrev pub wait_text : Universe → Plan → (l i : ℕ) → List Variant → Option Variant → List ℕ
+wait_text u p l i vs None = coming_line u p l (i + 1) (sources u p l i vs)
+wait_text u p l i vs (Some v) = nothing_text u p l (i + 1) v
+
+-- the wait at a place, if there is one
+abbrev pub wait_line : Universe → Plan → (l i : ℕ) → Option Entry → List ℕ
+wait_line u p l i None = []
+wait_line u p l i (Some e) =
+    wait_text u p l i (satisfying u e) (find (initial u) (satisfying u e))
+
+abbrev pub lane_waits : Universe → Plan → ℕ → List ℕ
+lane_waits u p l =
+    text_below (length (lane p l).instructions) (λ i. wait_line u p l i (wait_at p l i))
+
+unfoldable pub waits_text : Universe → Plan → List ℕ
+waits_text u p = text_below (length p) (lane_waits u p)

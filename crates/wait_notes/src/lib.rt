@@ -1,0 +1,16 @@
+//! What the waits of a plan wait for, for a person: of an accepted plan, and of one that is stuck.
+#![tactic(auto)]
+
+mod circles;
+mod groups;
+mod lane;
+mod publications;
+mod satisfying;
+mod sources;
+mod stuck;
+mod waiting;
+mod waits;
+mod words;
+
+pub use stuck::stuck_notes;
+pub use waits::waits_notes;

@@ -1,0 +1,105 @@
+"""Warnings: what is odd in the texts of a farm and refuses no plan. FORMATS, section 15."""
+
+from texts import lines, paragraphs, pieces
+
+HEAD = ["Architecture-Names", "Archive"]
+RECIPE = ["Recipe", "Source", "Mode", "Profiles", "Steps", "Scratch", "Outputs"]
+CHROOT = ["Chroot", "Capacity", "Packages"]
+
+
+def is_one_of(name, names):
+    return name.lower() in (known.lower() for known in names)
+
+
+def fields_by_paragraph(text):
+    """Of each paragraph its fields, each with its own line, its name as it is written, and its value."""
+    found, current = [], None
+    for line, content in enumerate(lines(text), 1):
+        if content.startswith("#"):
+            continue
+        if content.strip(" \t") == "":
+            current = None
+        elif content[0] in " \t":
+            current[-1][2] += "\n" + content
+        else:
+            if current is None:
+                current = []
+                found.append(current)
+            name, _, value = content.partition(":")
+            current.append([line, name, value])
+    return found
+
+
+def is_recipe(fields):
+    return any(is_one_of(name, ["Recipe"]) for _, name, _ in fields)
+
+
+def unknown_fields(farm):
+    """The fields that are passed over."""
+    for place, fields in enumerate(farm):
+        known = HEAD if place == 0 else RECIPE if is_recipe(fields) else CHROOT
+        for line, name, _ in fields:
+            if not is_one_of(name, known):
+                yield f"farm line {line}: the field {name} is not known, and is passed over"
+
+
+def unasked_profiles(universe, recipes):
+    """The profiles of recipes that no build relation of a source names."""
+    relations = [fields for sources in universe.sources.values() for _, fields in sources]
+    entries = [entry for fields in relations for field in fields.values() for entry in field]
+    asked = {word for entry in entries for it in entry for items in it.profiles for word, _ in items}
+    for fields in recipes:
+        for line, name, value in fields:
+            if is_one_of(name, ["Profiles"]):
+                for word in pieces(value):
+                    if word not in asked:
+                        yield f"farm line {line}: no source asks for the profile {word}"
+
+
+def unbuilt_recipes(universe, plan, recipes):
+    built = {it.recipe.name for lane in plan for it in lane.instructions if it.verb == "build"}
+    for name, fields in zip(universe.recipes, recipes):
+        if name not in built:
+            yield f"farm line {fields[0][0]}: no lane builds the recipe {name}"
+
+
+def lacking(packages, words):
+    """One line of the paragraphs that lack something, where there are some."""
+    if packages:
+        yield f"packages line {packages[0].line}: {len(packages)} packages {words}, the first one here"
+
+
+def unsized(packages):
+    return lacking([it for it in packages if it.get("Installed-Size") is None], "have no Installed-Size")
+
+
+def foreign(universe, packages):
+    named = {None, "all", *universe.architectures}
+    words = "have an architecture that the farm does not name"
+    return lacking([it for it in packages if it.get("Architecture") not in named], words)
+
+
+def endless_waits(universe, plan):
+    """The waits whose entry no package could meet in any version."""
+    provided = (entry for variant in universe.all_variants() for entry in variant.relations["Provides"])
+    names = {*universe.variants, *(item.name for [item] in provided)}
+    for lane in plan:
+        for it, (line, _) in zip(lane.instructions, lane.lines):
+            if it.verb == "wait" and not any(alternative.name in names for alternative in it.entry):
+                yield f"plan line {line}: no package is or provides what this waits for"
+
+
+def warnings(universe, plan, texts):
+    """The lines of all warnings."""
+    farm = fields_by_paragraph(texts["farm"])
+    recipes = [fields for fields in farm[1:] if is_recipe(fields)]
+    packages = paragraphs(texts["packages"], "packages")
+    found = [
+        *unknown_fields(farm),
+        *unasked_profiles(universe, recipes),
+        *unbuilt_recipes(universe, plan, recipes),
+        *unsized(packages),
+        *foreign(universe, packages),
+        *endless_waits(universe, plan),
+    ]
+    return [f"warning: {words}" for words in found]
