@@ -1,8 +1,7 @@
 -- The first number that passes.
-use Rattle.std.proofs.Common.{◌≡◌, ℕ, ◌+◌, ◌<◌, Bool, true, false, Option, Some, None, ap, if◌then◌else◌}
+use Rattle.std.proofs.Common.{◌≡◌, ℕ, ◌<◌, Bool, true, Option, Some, None, ap, if◌then◌else◌}
 use Rattle.refusal_reasons.specs.First.{first_below}
 use Rattle.refusal_reasons.proofs.FirstLaws.{first_below-at}
-use Rattle.farm_explain.proofs.Below.{one_more}
 
 module _ {A : Type 0} (test : ℕ → Bool) (answer : ℕ → A) where
   abbrev pub answers : ℕ → Option A
@@ -13,8 +12,3 @@ module _ {A : Type 0} (test : ℕ → Bool) (answer : ℕ → A) where
   found_at n k lt none here =
       first_below-at n k answers (answer k) lt none
       (ap (λ t. if t then Some (answer k) else None) here)
-
-  pub none_at : (k : ℕ) → first_below k answers ≡ None → test k ≡ false
-      → first_below (k + 1) answers ≡ None
-  none_at k none here =
-      one_more k answers none (ap (λ t. if t then Some (answer k) else None) here)
