@@ -110,17 +110,17 @@ pub fn build_trap(
     ensures { result ≡ first_trap (build_traps universe.now room slots.now recipe.now) }
 {
     if is_unsettled(universe, slots) {
-        return Some(Trap::Unsettled);
+        return Some(Trap::Unsettled); // X10
     }
     if misses(universe, slots, recipe.needs()) {
-        return Some(Trap::BuildDepends);
+        return Some(Trap::BuildDepends); // X11
     }
     let clashes = recipe.clashes();
     if some_slot(universe, slots, &Clashes { clashes }) {
-        return Some(Trap::BuildConflict);
+        return Some(Trap::BuildConflict); // X12
     }
     if overflows(room, used, recipe.scratch()) {
-        return Some(Trap::Full);
+        return Some(Trap::Full); // X5
     }
     None
 }

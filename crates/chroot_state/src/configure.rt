@@ -111,16 +111,16 @@ pub fn configure_trap(universe: &Universe, slots: &Slots, members: &[u32]) -> Op
     ensures { result ≡ first_trap (traps.configure_traps universe.now slots.now members.now) }
 {
     if some_not_unpacked(members, slots) {
-        return Some(Trap::WrongState);
+        return Some(Trap::WrongState); // X6
     }
     if some_member(universe, members, slots, &MissesPreDepends { slots }) {
-        return Some(Trap::PreDepends);
+        return Some(Trap::PreDepends); // X2
     }
     if some_member(universe, members, slots, &MissesDepends { members, slots }) {
-        return Some(Trap::Depends);
+        return Some(Trap::Depends); // X7
     }
     if some_member(universe, members, slots, &IsBroken { slots }) {
-        return Some(Trap::Broken);
+        return Some(Trap::Broken); // X8
     }
     None
 }

@@ -76,16 +76,16 @@ pub fn unpack_trap(
 {
     let pre_depends = &universe.relations(variant).pre_depends;
     if misses_ahead(universe, variant.name, slots, pre_depends) {
-        return Some(Trap::PreDepends);
+        return Some(Trap::PreDepends); // X2
     }
     if some_slot(universe, slots, &HoldsConflicting { variant }) {
-        return Some(Trap::Conflict);
+        return Some(Trap::Conflict); // X3
     }
     if some_slot(universe, slots, &HoldsBroken { variant }) {
-        return Some(Trap::BreaksOther);
+        return Some(Trap::BreaksOther); // X4
     }
     if overflows(room, used, universe.size(variant)) {
-        return Some(Trap::Full);
+        return Some(Trap::Full); // X5
     }
     None
 }

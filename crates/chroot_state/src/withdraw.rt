@@ -143,10 +143,10 @@ pub fn deconfigure_trap(universe: &Universe, slots: &Slots, members: &[u32]) -> 
     ensures { result ≡ first_trap (traps.deconfigure_traps universe.now slots.now members.now) }
 {
     if some_not_configured(members, slots) {
-        return Some(Trap::WrongState);
+        return Some(Trap::WrongState); // X6
     }
     if is_needed(universe, members, slots) {
-        return Some(Trap::StillNeeded);
+        return Some(Trap::StillNeeded); // X9
     }
     None
 }
@@ -167,13 +167,13 @@ pub fn remove_trap(universe: &Universe, slots: &Slots, members: &[u32]) -> Optio
     ensures { result ≡ first_trap (traps.remove_traps universe.now slots.now members.now) }
 {
     if some_absent(members, slots) {
-        return Some(Trap::WrongState);
+        return Some(Trap::WrongState); // X6
     }
     if some_member(universe, members, slots, &IsEssential) {
-        return Some(Trap::Essential);
+        return Some(Trap::Essential); // X15
     }
     if is_needed(universe, members, slots) {
-        return Some(Trap::StillNeeded);
+        return Some(Trap::StillNeeded); // X9
     }
     None
 }

@@ -28,7 +28,7 @@ impl LaneRun {
     {
         let cost = size_cost(universe.size(variant));
         if self.is_over(lane, cost) {
-            return Turn::Fails(Trap::OverBudget);
+            return Turn::Fails(Trap::OverBudget); // X14
         }
         if let Err(trap) = self.chroot.unpack(universe, variant) {
             return Turn::Fails(trap);
@@ -48,7 +48,7 @@ impl LaneRun {
     {
         let cost = members.len() as u64;
         if self.is_over(lane, cost) {
-            return Turn::Fails(Trap::OverBudget);
+            return Turn::Fails(Trap::OverBudget); // X14
         }
         if let Err(trap) = self.chroot.configure(universe, members) {
             return Turn::Fails(trap);
@@ -68,7 +68,7 @@ impl LaneRun {
     {
         let cost = members.len() as u64;
         if self.is_over(lane, cost) {
-            return Turn::Fails(Trap::OverBudget);
+            return Turn::Fails(Trap::OverBudget); // X14
         }
         if let Err(trap) = self.chroot.deconfigure(universe, members) {
             return Turn::Fails(trap);
@@ -88,7 +88,7 @@ impl LaneRun {
     {
         let cost = members.len() as u64;
         if self.is_over(lane, cost) {
-            return Turn::Fails(Trap::OverBudget);
+            return Turn::Fails(Trap::OverBudget); // X14
         }
         if let Err(trap) = self.chroot.remove(universe, members) {
             return Turn::Fails(trap);
@@ -108,7 +108,7 @@ impl LaneRun {
     {
         let cost = universe.recipe(recipe).steps();
         if self.is_over(lane, cost) {
-            return Turn::Fails(Trap::OverBudget);
+            return Turn::Fails(Trap::OverBudget); // X14
         }
         if let Err(trap) = self.chroot.can_build(universe, recipe) {
             return Turn::Fails(trap);

@@ -45,10 +45,10 @@ impl LaneRun {
         }
         let cost = universe.outputs(recipe).len() as u64;
         if self.is_over(lane, cost) {
-            return Err(Trap::OverBudget);
+            return Err(Trap::OverBudget); // X14
         }
         if !self.has_built(recipe) {
-            return Err(Trap::NotBuilt);
+            return Err(Trap::NotBuilt); // X13
         }
         Ok(cost)
     }

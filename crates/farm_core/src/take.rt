@@ -40,7 +40,7 @@ impl LaneRun {
     {
         match newest(universe, archive, name, relation) {
             Some(bit) => self.unpack(universe, lane, Variant { name, bit }),
-            None => Turn::Fails(Trap::Missing),
+            None => Turn::Fails(Trap::Missing), // X1
         }
     }
 

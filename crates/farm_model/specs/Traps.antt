@@ -27,16 +27,16 @@ first_trap (x ∷ xs) = if x.0 then Some x.1 else first_trap xs
 -- room, the old and the new variant of the name taken together (the project's own rule)
 abbrev pub unpack_traps : Universe → ℕ → Chroot → Variant → List (Bool × Trap)
 unpack_traps u capacity c v =
-    (unmet (pre_met u v.name c) (pre_depends u v), PreDepends)
+    (unmet (pre_met u v.name c) (pre_depends u v), PreDepends)  -- X2
     ∷ (
       some_slot c (λ n s. not (n == v.name) && holds (λ b. conflict u v (variant n b)) s),
-      Conflict,
+      Conflict,  -- X3
     )
     ∷ (
       some_slot c (λ n s. not (n == v.name) && holds_configured (λ b. breaks u v (variant n b)) s),
-      BreaksOther,
+      BreaksOther,  -- X4
     )
-    ∷ (nat_lt capacity (used u c + size u v), Full)
+    ∷ (nat_lt capacity (used u c + size u v), Full)  -- X5
     ∷ []
 
 -- the name holds the variant, unpacked; its last configured variant stays
@@ -57,13 +57,13 @@ some_member members c p = list_any (λ m. holds (λ b. p (variant m b)) (slot c 
 -- present variant of another name breaks a member (7.3)
 abbrev pub configure_traps : Universe → Chroot → List ℕ → List (Bool × Trap)
 configure_traps u c members =
-    (list_any (λ m. not (is_unpacked (slot c m))) members, WrongState)
-    ∷ (some_member members c (λ v. unmet (met u c) (pre_depends u v)), PreDepends)
-    ∷ (some_member members c (λ v. unmet (met_with u members c) (depends u v)), Depends)
+    (list_any (λ m. not (is_unpacked (slot c m))) members, WrongState)  -- X6
+    ∷ (some_member members c (λ v. unmet (met u c) (pre_depends u v)), PreDepends)  -- X2
+    ∷ (some_member members c (λ v. unmet (met_with u members c) (depends u v)), Depends)  -- X7
     ∷ (
       some_member members c (λ v. some_slot c
           (λ n s. not (n == v.name) && holds (λ b. breaks u (variant n b) v) s)),
-      Broken,
+      Broken,  -- X8
     )
     ∷ []
 
@@ -99,8 +99,8 @@ deconfigured c members = changed deconfigured_slot c members
 -- deconfigure: a member is not configured; a package outside the set still needs one
 abbrev pub deconfigure_traps : Universe → Chroot → List ℕ → List (Bool × Trap)
 deconfigure_traps u c members =
-    (list_any (λ m. not (is_configured (slot c m))) members, WrongState) ∷
-    (still_needed u members c (deconfigured c members), StillNeeded) ∷ []
+    (list_any (λ m. not (is_configured (slot c m))) members, WrongState) ∷  -- X6
+    (still_needed u members c (deconfigured c members), StillNeeded) ∷ []  -- X9
 
 -- the members are absent, as after a purge
 abbrev pub removed : Chroot → List ℕ → Chroot
@@ -110,9 +110,9 @@ removed c members = changed (λ s. Absent) c members
 -- outside the set still needs one
 abbrev pub remove_traps : Universe → Chroot → List ℕ → List (Bool × Trap)
 remove_traps u c members =
-    (list_any (λ m. not (is_present (slot c m))) members, WrongState)
-    ∷ (some_member members c (essential u), Essential)
-    ∷ (still_needed u members c (removed c members), StillNeeded)
+    (list_any (λ m. not (is_present (slot c m))) members, WrongState)  -- X6
+    ∷ (some_member members c (essential u), Essential)  -- X15
+    ∷ (still_needed u members c (removed c members), StillNeeded)  -- X9
     ∷ []
 
 -- build: the chroot is not settled (the project's own rule); a need is not met, or a present
@@ -120,8 +120,11 @@ remove_traps u c members =
 -- as it is
 abbrev pub build_traps : Universe → ℕ → Chroot → Recipe → List (Bool × Trap)
 build_traps u capacity c r =
-    (unsettled u c, Unsettled)
-    ∷ (unmet (met u c) r.needs, BuildDepends)
-    ∷ (some_slot c (λ n s. holds (λ b. satisfies_any u r.clashes (variant n b)) s), BuildConflict)
-    ∷ (nat_lt capacity (used u c + r.scratch), Full)
+    (unsettled u c, Unsettled)  -- X10
+    ∷ (unmet (met u c) r.needs, BuildDepends)  -- X11
+    ∷ (
+      some_slot c (λ n s. holds (λ b. satisfies_any u r.clashes (variant n b)) s),
+      BuildConflict,  -- X12
+    )
+    ∷ (nat_lt capacity (used u c + r.scratch), Full)  -- X5
     ∷ []

@@ -101,19 +101,19 @@ fn build_risk(
     let _names = universe.names();
     let costs = universe.recipe(recipe);
     if may_exceed(lane.budget(), state, costs.steps()) {
-        return Some(Trap::OverBudget);
+        return Some(Trap::OverBudget); // X14
     }
     if may_be_unsettled(universe, tables, dependents, state, doubts) {
-        return Some(Trap::Unsettled);
+        return Some(Trap::Unsettled); // X10
     }
     if misses_needs(universe, tables, state, recipe) {
-        return Some(Trap::BuildDepends);
+        return Some(Trap::BuildDepends); // X11
     }
     if may_clash(universe, tables, state, recipe) {
-        return Some(Trap::BuildConflict);
+        return Some(Trap::BuildConflict); // X12
     }
     if may_overflow(universe, lane, state.used(), costs.scratch()) {
-        return Some(Trap::Full);
+        return Some(Trap::Full); // X5
     }
     None
 }
@@ -158,10 +158,10 @@ fn publish_risk(universe: &Universe, lane: &Lane, state: &MayHold, recipe: u32) 
         ≡ first_trap (publish_risks universe.now lane.now (may_of state.now) recipe) }
 {
     if may_exceed(lane.budget(), state, universe.outputs(recipe).len() as u64) {
-        return Some(Trap::OverBudget);
+        return Some(Trap::OverBudget); // X14
     }
     if !state.was_built(recipe) {
-        return Some(Trap::NotBuilt);
+        return Some(Trap::NotBuilt); // X13
     }
     None
 }

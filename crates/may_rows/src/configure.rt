@@ -102,10 +102,10 @@ fn risk_before(
         ≡ first_trap (risks_before universe.now lane.now (may_of state.now) members.now) }
 {
     if may_exceed(lane.budget(), state, members.len() as u64) {
-        return Some(Trap::OverBudget);
+        return Some(Trap::OverBudget); // X14
     }
     if some_not_unpacked(members, state) {
-        return Some(Trap::WrongState);
+        return Some(Trap::WrongState); // X6
     }
     if some_may_member(
         universe,
@@ -113,7 +113,7 @@ fn risk_before(
         state,
         &MissesPreDepends { tables, state },
     ) {
-        return Some(Trap::PreDepends);
+        return Some(Trap::PreDepends); // X2
     }
     None
 }
@@ -131,10 +131,10 @@ fn risk_after(
     ensures { result ≡ first_trap (risks_after universe.now (may_of state.now) members.now) }
 {
     if some_may_member(universe, members, state, &MissesDepends { tables, state }) {
-        return Some(Trap::Depends);
+        return Some(Trap::Depends); // X7
     }
     if some_may_member(universe, members, state, &MayBeBroken { tables, state }) {
-        return Some(Trap::Broken);
+        return Some(Trap::Broken); // X8
     }
     None
 }

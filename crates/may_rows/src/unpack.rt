@@ -114,19 +114,19 @@ fn unpack_risk(
 {
     let size = greatest_size(universe, name, set);
     if may_exceed(lane.budget(), state, unpack_cost(universe, name, set)) {
-        return Some(Trap::OverBudget);
+        return Some(Trap::OverBudget); // X14
     }
     if some_of(universe, name, set, &MissesAhead { tables, state }) {
-        return Some(Trap::PreDepends);
+        return Some(Trap::PreDepends); // X2
     }
     if some_of(universe, name, set, &MayConflict { tables, state }) {
-        return Some(Trap::Conflict);
+        return Some(Trap::Conflict); // X3
     }
     if some_of(universe, name, set, &MayBreak { tables, state }) {
-        return Some(Trap::BreaksOther);
+        return Some(Trap::BreaksOther); // X4
     }
     if may_overflow(universe, lane, used, size) {
-        return Some(Trap::Full);
+        return Some(Trap::Full); // X5
     }
     None
 }
@@ -160,7 +160,7 @@ pub fn unpack(
     ensures of_lane { OnOk result (IsOfLane universe.now lane.now state.new) }
 {
     let Some(set) = pick(universe, name, relation, known, there) else {
-        return Err(Trap::Missing);
+        return Err(Trap::Missing); // X1
     };
     let _names = universe.names();
     let last = state.last_word(name);

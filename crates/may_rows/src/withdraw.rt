@@ -90,10 +90,10 @@ fn deconfigure_risk(
         ≡ first_trap (deconfigure_risks_before lane.now (may_of state.now) members.now) }
 {
     if may_exceed(lane.budget(), state, members.len() as u64) {
-        return Some(Trap::OverBudget);
+        return Some(Trap::OverBudget); // X14
     }
     if some_not_configured(universe, members, state) {
-        return Some(Trap::WrongState);
+        return Some(Trap::WrongState); // X6
     }
     None
 }
@@ -106,13 +106,13 @@ fn remove_risk(universe: &Universe, lane: &Lane, state: &MayHold, members: &[u32
         ≡ first_trap (remove_risks_before universe.now lane.now (may_of state.now) members.now) }
 {
     if may_exceed(lane.budget(), state, members.len() as u64) {
-        return Some(Trap::OverBudget);
+        return Some(Trap::OverBudget); // X14
     }
     if some_not_present(members, state) {
-        return Some(Trap::WrongState);
+        return Some(Trap::WrongState); // X6
     }
     if some_may_member(universe, members, state, &IsEssential) {
-        return Some(Trap::Essential);
+        return Some(Trap::Essential); // X15
     }
     None
 }
@@ -144,7 +144,7 @@ pub fn deconfigure(
     }
     withdraw_members(universe, state, members);
     if some_needs(universe, tables, dependents, state, members) {
-        return Err(Trap::StillNeeded);
+        return Err(Trap::StillNeeded); // X9
     }
     state.spend(universe, members.len() as u64);
     Ok(())
@@ -177,7 +177,7 @@ pub fn remove(
     }
     withdraw_members(universe, state, members);
     if some_needs(universe, tables, dependents, state, members) {
-        return Err(Trap::StillNeeded);
+        return Err(Trap::StillNeeded); // X9
     }
     remove_members(universe, state, members);
     state.spend(universe, members.len() as u64);

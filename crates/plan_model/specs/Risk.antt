@@ -38,30 +38,30 @@ may_exceed of m cost = nat_lt of.budget (m.cost + cost)
 -- an unpack of one of these variants, for each of them
 abbrev pub unpack_risks : Universe → Lane → May → ℕ → Bits → List (Bool × Trap)
 unpack_risks u of m name set =
-    (may_exceed of m (greatest_cost u name set), OverBudget)
+    (may_exceed of m (greatest_cost u name set), OverBudget)  -- X14
     ∷ (
       some_of u name set (λ b. unmet (surely_pre_met u name m) (pre_depends u (variant name b))),
-      PreDepends,
+      PreDepends,  -- X2
     )
     ∷ (
       some_of u name set (λ b. some_name u m
           (λ n s. not (n == name) && may_hold u n
           (λ d. conflict u (variant name b) (variant n d)) s)),
-      Conflict,
+      Conflict,  -- X3
     )
     ∷ (
       some_of u name set (λ b. some_name u m
           (λ n s. not (n == name) && may_hold_configured u n
           (λ d. breaks u (variant name b) (variant n d)) s)),
-      BreaksOther,
+      BreaksOther,  -- X4
     )
-    ∷ (nat_lt (capacity u of) (may_use u m + greatest_size u name set), Full)
+    ∷ (nat_lt (capacity u of) (may_use u m + greatest_size u name set), Full)  -- X5
     ∷ []
 
 -- no known variant is wanted, or the highest one is this
 abbrev pub unpack_risk : Universe → (Variant → Bool) → Lane → May → ℕ → Option (Op × List ℕ)
     → Option ℕ → Option Trap
-unpack_risk u there of m name wanted None = Some Missing
+unpack_risk u there of m name wanted None = Some Missing  -- X1
 unpack_risk u there of m name wanted (Some highest) =
     first_trap (unpack_risks u of m name (candidates u there name wanted highest))
 
@@ -73,18 +73,21 @@ some_may_member u members m p =
 -- configure: each test of its traps, for every variant that a member may hold
 abbrev pub configure_risks : Universe → Lane → May → List ℕ → List (Bool × Trap)
 configure_risks u of m members =
-    (may_exceed of m (set_cost members), OverBudget)
-    ∷ (list_any (λ k. not (is_surely_unpacked (m.slots k))) members, WrongState)
-    ∷ (some_may_member u members m (λ v. unmet (surely_met u m) (pre_depends u v)), PreDepends)
+    (may_exceed of m (set_cost members), OverBudget)  -- X14
+    ∷ (list_any (λ k. not (is_surely_unpacked (m.slots k))) members, WrongState)  -- X6
+    ∷ (
+      some_may_member u members m (λ v. unmet (surely_met u m) (pre_depends u v)),
+      PreDepends,  -- X2
+    )
     ∷ (
       some_may_member u members m (λ v. unmet (surely_met_with u members m) (depends u v)),
-      Depends,
+      Depends,  -- X7
     )
     ∷ (
       some_may_member u members m
           (λ v. some_name u m (λ n s. not (n == v.name)
           && may_hold u n (λ b. breaks u (variant n b) v) s)),
-      Broken,
+      Broken,  -- X8
     )
     ∷ []
 
@@ -112,18 +115,18 @@ may_be_needed u members m =
 -- deconfigure: each test of its traps
 abbrev pub deconfigure_risks : Universe → Lane → May → List ℕ → List (Bool × Trap)
 deconfigure_risks u of m members =
-    (may_exceed of m (set_cost members), OverBudget)
-    ∷ (list_any (λ k. not (is_surely_configured (m.slots k))) members, WrongState)
-    ∷ (may_be_needed u members m, StillNeeded)
+    (may_exceed of m (set_cost members), OverBudget)  -- X14
+    ∷ (list_any (λ k. not (is_surely_configured (m.slots k))) members, WrongState)  -- X6
+    ∷ (may_be_needed u members m, StillNeeded)  -- X9
     ∷ []
 
 -- remove: each test of its traps, Essential for every variant that a member may hold
 abbrev pub remove_risks : Universe → Lane → May → List ℕ → List (Bool × Trap)
 remove_risks u of m members =
-    (may_exceed of m (set_cost members), OverBudget)
-    ∷ (list_any (λ k. not (is_surely_present (m.slots k))) members, WrongState)
-    ∷ (some_may_member u members m (essential u), Essential)
-    ∷ (may_be_needed u members m, StillNeeded)
+    (may_exceed of m (set_cost members), OverBudget)  -- X14
+    ∷ (list_any (λ k. not (is_surely_present (m.slots k))) members, WrongState)  -- X6
+    ∷ (some_may_member u members m (essential u), Essential)  -- X15
+    ∷ (may_be_needed u members m, StillNeeded)  -- X9
     ∷ []
 
 -- a present name may be unpacked alone, or hold a variant with an entry that is not surely met
@@ -135,20 +138,20 @@ may_be_unsettled u m = some_name u m
 -- build: each test of its traps
 abbrev pub build_risks : Universe → Lane → May → Recipe → List (Bool × Trap)
 build_risks u of m r =
-    (may_exceed of m (build_cost r), OverBudget)
-    ∷ (may_be_unsettled u m, Unsettled)
-    ∷ (unmet (surely_met u m) r.needs, BuildDepends)
+    (may_exceed of m (build_cost r), OverBudget)  -- X14
+    ∷ (may_be_unsettled u m, Unsettled)  -- X10
+    ∷ (unmet (surely_met u m) r.needs, BuildDepends)  -- X11
     ∷ (
       some_name u m (λ n s. may_hold u n (λ b. satisfies_any u r.clashes (variant n b)) s),
-      BuildConflict,
+      BuildConflict,  -- X12
     )
-    ∷ (nat_lt (capacity u of) (may_use u m + r.scratch), Full)
+    ∷ (nat_lt (capacity u of) (may_use u m + r.scratch), Full)  -- X5
     ∷ []
 
 -- publish: the cost may be over the budget; the recipe was not surely built
 abbrev pub publish_risks : Universe → Lane → May → ℕ → List (Bool × Trap)
-publish_risks u of m r = (may_exceed of m (publish_cost u r), OverBudget) ∷
-    (not (was_built m.built r), NotBuilt) ∷ []
+publish_risks u of m r = (may_exceed of m (publish_cost u r), OverBudget) ∷  -- X14
+    (not (was_built m.built r), NotBuilt) ∷ []  -- X13
 
 -- the first trap that an instruction may meet, where `known` is surely in the archive and `there`
 -- may be

@@ -118,11 +118,11 @@ over_budget of st cost = nat_lt of.budget (st.spent + cost)
 -- goes on, unless this cost is over the budget or one of these traps is met
 abbrev pub unless_trapped : Lane → LaneState → ℕ → List (Bool × Trap) → Turn → Turn
 unless_trapped of st cost traps turn =
-    unless (first_trap ((over_budget of st cost, OverBudget) ∷ traps)) turn
+    unless (first_trap ((over_budget of st cost, OverBudget) ∷ traps)) turn  -- X14
 
 -- an unpack of what the archive gives, or of nothing
 abbrev pub unpacks : Universe → Lane → LaneState → ℕ → Option ℕ → Turn
-unpacks u of st name None = Fails Missing
+unpacks u of st name None = Fails Missing  -- X1
 unpacks u of st name (Some b) =
     let v = variant name b in
     unless_trapped of st (unpack_cost u v) (unpack_traps u (capacity u of) st.chroot v)
@@ -150,8 +150,8 @@ first_only (suc made) cost = 0
 -- publish: over the budget; the recipe was not built. Tried with the first output alone
 abbrev pub publish_traps : Universe → Lane → LaneState → ℕ → List (Bool × Trap)
 publish_traps u of st r =
-    ((st.made == 0) && over_budget of st (publish_cost u r), OverBudget) ∷
-    ((st.made == 0) && not (was_built st.built r), NotBuilt) ∷ []
+    ((st.made == 0) && over_budget of st (publish_cost u r), OverBudget) ∷  -- X14
+    ((st.made == 0) && not (was_built st.built r), NotBuilt) ∷ []  -- X13
 
 -- the next output of a publish, or none
 abbrev pub publishes : Universe → Lane → LaneState → ℕ → Option Variant → Turn
