@@ -12,7 +12,8 @@ use Rattle.plan_model.specs.Turn.{LaneState, Turn, Goes, Gives, Waits, Ends, Fai
 use Rattle.plan_model.specs.Run.{no_state}
 use Rattle.plan_model.specs.Sound.{IsSound}
 use Rattle.plan_model.specs.World.{World, world_lane, nothing, goes_on, settled}
-use Rattle.farm_laws.proofs.EventsLeft.{StandsAt, InPlace, fresh_place}
+use Rattle.farm_laws.specs.EventsLeft.{StandsAt, InPlace}
+use Rattle.farm_laws.proofs.EventsLeft.{fresh_place}
 use Rattle.farm_laws.proofs.Branches.{arrives-stands}
 use Rattle.farm_laws.proofs.Places.{IsQuiet, IsWhen, leads_to, GoesOn, GivesOne, PlaceMove, turn_place}
 use Rattle.archive_laws.specs.LaneMoves.{outputs_made}

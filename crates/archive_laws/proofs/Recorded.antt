@@ -21,7 +21,7 @@ use Rattle.plan_model.specs.Run.{archive, State, lane_state, no_state}
 use Rattle.plan_model.specs.Known.{gives, publishing}
 use Rattle.plan_model.specs.World.{world_lane}
 use Rattle.farm_laws.proofs.Branches.{drop_some}
-use Rattle.farm_laws.proofs.EventsLeft.{StandsAt, InPlace}
+use Rattle.farm_laws.specs.EventsLeft.{StandsAt, InPlace}
 use Rattle.farm_laws.proofs.Archive.{made_before, made_by}
 use Rattle.farm_laws.proofs.Possible.{made_in, initial_there}
 use Rattle.farm_laws.proofs.KnownRows.{ArchiveHolds}

@@ -13,7 +13,7 @@ use Rattle.plan_model.specs.Sound.{IsSound}
 use Rattle.plan_model.specs.World.{World, world_lane}
 use Rattle.farm_laws.proofs.Steps.{run_keeps}
 use Rattle.farm_laws.proofs.Branches.{IsStand}
-use Rattle.farm_laws.proofs.EventsLeft.{StandsAt, InPlace}
+use Rattle.farm_laws.specs.EventsLeft.{StandsAt, InPlace}
 use Rattle.farm_laws.proofs.KnownRows.{ArchiveHolds, archive_stays, archive_at_start}
 use Rattle.archive_laws.specs.Shown.{IsReached}
 

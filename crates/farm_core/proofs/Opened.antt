@@ -8,7 +8,8 @@ use Rattle.plan_model.specs.Plan.{Lane, Plan, lane, no_lane, count}
 use Rattle.plan_model.specs.Turn.{start_lane}
 use Rattle.plan_model.specs.Run.{start}
 use Rattle.plan_model.specs.Sound.{IsSound}
-use Rattle.farm_laws.proofs.EventsLeft.{InPlaces, left_in, places_at_start, left_at_start}
+use Rattle.farm_laws.specs.EventsLeft.{InPlaces, left_in}
+use Rattle.farm_laws.proofs.EventsLeft.{places_at_start, left_at_start}
 use Rattle.farm_archive.specs.Kept.{Kept, IsArchive}
 use Rattle.farm_core.specs.Lanes.{shown, IsRun}
 use Rattle.farm_core.specs.Farm.{state_of, published_in, IsCore, AreOpened}

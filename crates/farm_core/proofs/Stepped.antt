@@ -17,7 +17,8 @@ use Rattle.plan_model.specs.Turn.{LaneState, turn_of}
 use Rattle.plan_model.specs.Run as run
 use Rattle.plan_model.specs.Run.{State, publication, archive, lane_state, no_state, outcome, step}
 use Rattle.farm_laws.proofs.Places.{PlaceMove, turn_place}
-use Rattle.farm_laws.proofs.EventsLeft.{InPlaces, left_in, step_places}
+use Rattle.farm_laws.specs.EventsLeft.{InPlaces, left_in}
+use Rattle.farm_laws.proofs.EventsLeft.{step_places}
 use Rattle.farm_archive.specs.declared.publication.Publication.{Publication}
 use Rattle.farm_archive.specs.Kept.{Kept, with_publication, IsArchive}
 use Rattle.farm_archive.proofs.Published.{archive-published}

@@ -13,7 +13,7 @@ use Rattle.std.specs.Prelude.{◌≡◌, ◌≤◌, ◌+◌, ℕ, List, length, 
 use Rattle.chroot_state.specs.Held.{Held}
 use Rattle.farm_archive.specs.declared.publication.Publication.{Publication}
 use Rattle.farm_archive.specs.Kept.{Kept, IsArchive}
-use Rattle.farm_laws.proofs.EventsLeft.{InPlaces, left_in}
+use Rattle.farm_laws.specs.EventsLeft.{InPlaces, left_in}
 use Rattle.farm_model.specs.Universe.{Universe}
 use Rattle.farm_model.specs.Chroot.{used}
 use Rattle.farm_model.specs.Packages.{has_bit}

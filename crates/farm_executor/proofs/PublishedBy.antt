@@ -9,7 +9,8 @@ use Rattle.plan_model.specs.Plan.{Plan, lane, instruction_at, lane_outputs}
 use Rattle.plan_model.specs.Turn.{LaneState, Turn, Goes, Gives, Waits, Ends, Fails, turn_of}
 use Rattle.plan_model.specs.Run.{Publication, publication, archive, State, start, lane_state, no_state, step, Moved, Reachable}
 use Rattle.plan_model.specs.Sound.{IsSound}
-use Rattle.farm_laws.proofs.EventsLeft.{InPlaces, places_at_start, state_at_start, step_places}
+use Rattle.farm_laws.specs.EventsLeft.{InPlaces}
+use Rattle.farm_laws.proofs.EventsLeft.{places_at_start, state_at_start, step_places}
 use Rattle.farm_laws.proofs.Steps.{put, put_output, turn_at, After, step_keeps, run_keeps}
 use Rattle.archive_laws.specs.LaneMoves.{outputs_made}
 use Rattle.archive_laws.proofs.Counted.{goes_count, gives_count}

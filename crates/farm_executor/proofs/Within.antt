@@ -8,7 +8,8 @@ use Rattle.plan_model.specs.Plan.{Plan, lane, instruction_at}
 use Rattle.plan_model.specs.Turn.{LaneState, Turn, Goes, Gives, Waits, Ends, Fails}
 use Rattle.plan_model.specs.Run.{archive, State, start, lane_state, step, Moved, Reachable}
 use Rattle.plan_model.specs.Sound.{IsSound}
-use Rattle.farm_laws.proofs.EventsLeft.{InPlaces, places_at_start, state_at_start, step_places, put_each}
+use Rattle.farm_laws.specs.EventsLeft.{InPlaces}
+use Rattle.farm_laws.proofs.EventsLeft.{places_at_start, state_at_start, step_places, put_each}
 use Rattle.farm_laws.proofs.Branches.{arrives}
 use Rattle.farm_laws.proofs.Places.{LeadsTo, GoesOn, GivesOne, PlaceMove, leads_to, turn_place}
 use Rattle.farm_laws.proofs.Steps.{put, turn_at, After, step_keeps, run_keeps}

@@ -1,5 +1,5 @@
 -- Each lane stands at a place, and no run is longer than the count.
-use Rattle.std.proofs.Common.{◌≡◌, ℕ, zero, suc, ◌+◌, ◌-◌, ◌<◌, ◌≤◌, Bool, true, inl, inr, List, [], ◌∷◌, length, drop, Option, Some, None, slice_get, refl, sym, ap, ◌∙◌, subst, arith, zero-add, length-set, get_or-set_same, get_or-set_other}
+use Rattle.std.proofs.Common.{◌≡◌, ℕ, suc, ◌+◌, ◌<◌, ◌≤◌, Bool, true, inl, inr, List, [], ◌∷◌, length, drop, Option, Some, None, slice_get, refl, sym, ap, ◌∙◌, subst, arith, length-set, get_or-set_same, get_or-set_other}
 use Rattle.std.proofs.lemmas.Bool.{false≢true, cases_eq}
 use Rattle.std.proofs.lemmas.List.{length-map, get_or-map}
 use Rattle.deb_relation.specs.declared.operator.Op.{Op}
@@ -14,32 +14,10 @@ use Rattle.plan_model.specs.Plan.{Plan, else_place, lane, instruction_at, events
 use Rattle.plan_model.specs.Turn.{LaneState, start_lane, Turn, Goes, Gives, Waits, Ends, Fails}
 use Rattle.plan_model.specs.Run.{archive, State, start, lane_state, Moved, step, Run}
 use Rattle.plan_model.specs.Sound.{IsSound}
+use Rattle.farm_laws.specs.EventsLeft.{StandsAt, InPlace, left, InPlaces, left_in}
 use Rattle.farm_laws.proofs.Steps.{put, turn_at, After, step_keeps}
 use Rattle.farm_laws.proofs.Branches.{drop_some, is_inner, IsStand, landed, else_behind, stand-outside, arrives-stands}
 use Rattle.farm_laws.proofs.Places.{IsQuiet, IsWhen, GoesOn, GivesOne, PlaceMove, leads_to, turn_place}
-
--- fewer outputs are made than the instruction has events
-abbrev pub StandsAt : Universe → Option Instruction → ℕ → Type 0
-StandsAt u None made = made ≡ 0
-StandsAt u (Some x) made = made < events_of u x
-
-abbrev pub InPlace : Universe → List Instruction → ℕ → ℕ → Type 0
-InPlace u is done made = StandsAt u (slice_get is done) made
-
--- the events that a lane has left
-unfoldable pub left : Universe → List Instruction → ℕ → ℕ → ℕ
-left u is done made = (ways u (drop done is)).here - made
-
-module _ (u : Universe) (p : Plan) where
-  -- each lane stands at a place
-  pub record InPlaces (s : State) : Type 0 where
-    pub long : length s.lanes ≡ length p
-    pub each : (k : ℕ) → k < length p
-        → InPlace u (lane p k).instructions (lane_state s k).done (lane_state s k).made
-
-  unfoldable pub left_in : State → ℕ
-  left_in s = sum_below (length p)
-      (λ k. left u (lane p k).instructions (lane_state s k).done (lane_state s k).made)
 
 -- what holds of each lane's state holds after a move that keeps it
 pub put_each : (p : Plan) (Q : ℕ → LaneState → Type 0) (s : State) (l : ℕ) (next : LaneState)

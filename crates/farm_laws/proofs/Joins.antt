@@ -1,18 +1,16 @@
 -- What a map allows at the end of a branch, the map behind both branches allows.
-use Rattle.std.proofs.Common.{◌≡◌, ℕ, zero, suc, ◌<◌, ◌≤◌, Bool, true, false, not, ◌&&◌, ◌||◌, inl, inr, List, [], ◌∷◌, length, max, Option, Some, None, refl, sym, ap, ◌∙◌, subst, arith}
-use Rattle.std.specs.Prelude.{slice_index_or, slice_set}
+use Rattle.std.proofs.Common.{◌≡◌, ℕ, zero, suc, ◌<◌, ◌≤◌, Bool, true, false, not, ◌&&◌, ◌||◌, inl, inr, List, [], ◌∷◌, length, Option, Some, refl, sym, ap, subst, arith}
 use Rattle.std.proofs.lemmas.Bool.{false≢true, both_ways, and_parts, and_from, or_left, or_right, cases_lt, cases_Bool}
 use Rattle.std.proofs.lemmas.List.{get_or_past}
 use Rattle.farm_model.specs.declared.types.Slot.{Slot}
-use Rattle.farm_model.specs.declared.types.Slot.TheVariants.{Absent, Unpacked, Configured}
 use Rattle.farm_model.specs.Universe.{Universe}
 use Rattle.farm_model.specs.Packages.{names, variants}
-use Rattle.farm_model.specs.Chroot.{Chroot, slot}
+use Rattle.farm_model.specs.Chroot.{Chroot}
 use Rattle.farm_model.proofs.BelowLaws.{some_below-at, some_below-found}
-use Rattle.plan_model.specs.Turn.{LaneState, was_built}
+use Rattle.plan_model.specs.Turn.{was_built}
 use Rattle.plan_model.specs.May.{Bits, MaySlot, MayAbsent, MayUnpacked, MayConfigured, May, is_some_of}
 use Rattle.plan_model.specs.Allowed.{AllowsLast, unknown, once, Allows, allows_absent, allows_unpacked, allows_configured, AllowsAll}
-use Rattle.plan_model.specs.Join.{is_same_phase, phases_differ, either, either_last, joined_slot, both_built, joined}
+use Rattle.plan_model.specs.Join.{is_same_phase, phases_differ, either_last, joined_slot, both_built, joined}
 
 -- a known variant has a known name
 pub variants_name : (u : Universe) (name b : ℕ) → b < variants u name → name < names u

@@ -19,7 +19,8 @@ use Rattle.plan_model.specs.Sound.{IsSound}
 use Rattle.farm_laws.proofs.Steps.{put, put_output, turn_at, After, step_keeps}
 use Rattle.farm_laws.proofs.Places.{IsQuiet, IsWhen, Holds, GoesOn, GivesOne, PlaceMove, turn_place}
 use Rattle.farm_laws.proofs.Branches.{IsStand, landed, else_behind, past_end-outside}
-use Rattle.farm_laws.proofs.EventsLeft.{InPlaces, put_each, step_places, places_at_start, state_at_start}
+use Rattle.farm_laws.specs.EventsLeft.{InPlaces}
+use Rattle.farm_laws.proofs.EventsLeft.{put_each, step_places, places_at_start, state_at_start}
 use Rattle.farm_laws.proofs.Archive.{same-true, archive-push, made_before, made_by, made_by-zero, made_goes, made_gives, contains-more, publishing-quiet}
 use Rattle.farm_laws.proofs.Possible.{ArchiveIs, archive_goes, archive_gives, nothing_else, initial_there}
 

@@ -19,7 +19,7 @@ use Rattle.farm_model.specs.declared.types.Slot.{Slot}
 use Rattle.farm_model.specs.declared.types.Slot.TheVariants.{Absent}
 use Rattle.farm_model.specs.Chroot.{holds_configured, size_in, used, member, met, met_with, pre_met, unmet, entries, unsettled}
 use Rattle.farm_model.specs.Traps.{unpack_traps, changed, some_member, configure_traps, still_needed, deconfigured_slot, deconfigure_traps, remove_traps, build_traps}
-use Rattle.plan_model.specs.May.{Bits, MaySlot, May, may_hold_configured, surely_configured, surely_met, surely_met_with, surely_pre_met, may_size, may_use}
+use Rattle.plan_model.specs.May.{Bits, May, may_hold_configured, surely_configured, surely_met, surely_met_with, surely_pre_met, may_size, may_use}
 use Rattle.plan_model.specs.Allowed.{Allows, AllowsAll}
 use Rattle.plan_model.specs.Risk.{greatest_cost, unpack_risks, some_may_member, configure_risks, surely_met_outside, may_meet, may_be_needed, deconfigure_risks, remove_risks, may_be_unsettled, build_risks}
 use Rattle.farm_laws.proofs.Slots.{list_any-mono, not-mono, and-mono, or-mono, some_of-at, holds-may, holds_configured-may, surely_configured-holds, surely_holds-holds, surely_pre_meets-meets, size_in-may, is_unpacked-may, is_configured-may, is_present-may, holds-mono, holds_configured-mono}

@@ -1,5 +1,5 @@
 -- How a move changes a lane's place.
-use Rattle.std.proofs.Common.{◌≡◌, ℕ, suc, ◌<◌, ◌≤◌, Bool, true, false, ◌⊎◌, inl, inr, List, length, drop, Option, Some, None, slice_get, refl}
+use Rattle.std.proofs.Common.{◌≡◌, ℕ, suc, ◌<◌, ◌≤◌, Bool, true, false, ◌⊎◌, inl, inr, List, length, Option, Some, None, slice_get, refl}
 use Rattle.std.proofs.lemmas.Bool.{cases_lt, cases_Bool, lt-ltb, le-ltb}
 use Rattle.deb_relation.specs.declared.operator.Op.{Op}
 use Rattle.farm_model.specs.declared.types.Variant.{Variant}
@@ -8,7 +8,6 @@ use Rattle.farm_model.specs.Universe.{Universe}
 use Rattle.farm_model.specs.Packages.{outputs}
 use Rattle.plan_model.specs.declared.instructions.Instruction.{Instruction}
 use Rattle.plan_model.specs.declared.instructions.Instruction.TheVariants.{Unpack, Configure, Deconfigure, Remove, Build, Publish, Wait, When, Otherwise, EndWhen}
-use Rattle.plan_model.specs.Branches.{landing, past_else}
 use Rattle.plan_model.specs.Plan.{Lane, next_place, else_place}
 use Rattle.plan_model.specs.Turn.{LaneState, newest, passes, Turn, Goes, Gives, Waits, Ends, Fails, has_wanted, past_when, unless, unpacks, given, publishes, turn_of}
 

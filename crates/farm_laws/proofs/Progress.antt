@@ -1,5 +1,5 @@
 -- Where no lane traps, an order shows that some lane can move.
-use Rattle.std.proofs.Common.{◌≡◌, ◌≢◌, ℕ, zero, suc, ◌<◌, ◌≤◌, Bool, true, false, ◌||◌, inl, inr, List, [], ◌∷◌, ◌++◌, length, get_or, drop, take, map, Option, Some, None, slice_get, refl, sym, ap, ◌∙◌, subst, arith, append_assoc, take-append-drop}
+use Rattle.std.proofs.Common.{◌≡◌, ◌≢◌, ℕ, suc, ◌<◌, ◌≤◌, Bool, true, false, ◌||◌, inl, inr, List, [], ◌∷◌, ◌++◌, length, get_or, drop, take, map, Option, Some, None, slice_get, refl, sym, ap, ◌∙◌, subst, arith, append_assoc, take-append-drop}
 use Rattle.std.specs.Prelude.{nat_lt}
 use Rattle.std.specs.List.{list_any}
 use Rattle.std.proofs.lemmas.Option.{slice_get-get_or}
@@ -21,7 +21,7 @@ use Rattle.plan_model.specs.Order.{Item, Pass, Give, items_of, items, start_boar
 use Rattle.farm_laws.proofs.Boards.{gives_item, right-nil, NextIs, Behind, Itself, walk}
 use Rattle.farm_laws.proofs.Steps.{turn_at}
 use Rattle.farm_laws.proofs.Branches.{drop_some, drop_none}
-use Rattle.farm_laws.proofs.EventsLeft.{StandsAt, InPlace, InPlaces}
+use Rattle.farm_laws.specs.EventsLeft.{StandsAt, InPlace, InPlaces}
 use Rattle.farm_laws.proofs.Archive.{made_before, made_by, list_any-take}
 use Rattle.farm_laws.proofs.Possible.{ArchiveIs, initial_there}
 

@@ -1,5 +1,5 @@
 -- Under safe rows a lane's turn keeps to its may map, and never traps.
-use Rattle.std.proofs.Common.{◌≡◌, ℕ, zero, suc, ◌+◌, ◌<◌, ◌≤◌, Bool, true, false, not, ◌&&◌, ◌==◌, inl, inr, List, [], length, drop, Option, Some, None, slice_get, refl, sym, ap, ◌∙◌, subst, arith, le_refl, length-set, get_or-set_same, get_or-set_other}
+use Rattle.std.proofs.Common.{◌≡◌, ℕ, zero, suc, ◌+◌, ◌<◌, ◌≤◌, Bool, true, false, not, ◌&&◌, ◌==◌, inl, inr, List, length, drop, Option, Some, None, slice_get, refl, sym, ap, ◌∙◌, subst, arith, le_refl, length-set, get_or-set_same, get_or-set_other}
 use Rattle.std.proofs.lemmas.Option.{none-some}
 use Rattle.std.proofs.lemmas.Bool.{false≢true, both_ways, not-true, and_parts, and_from, cases_lt, cases_eq, cases_Bool, lt-ltb, le-ltb, le-leb, eqb-true}
 use Rattle.std.proofs.lemmas.List.{get_or_past}
@@ -8,7 +8,7 @@ use Rattle.deb_relation.specs.Relations.{Entry}
 use Rattle.farm_model.specs.declared.types.Variant.{Variant}
 use Rattle.farm_model.specs.declared.types.Trap.{Trap}
 use Rattle.farm_model.specs.Universe.{Universe}
-use Rattle.farm_model.specs.Packages.{variant, same, names, variants, size, recipe, outputs, is_wanted}
+use Rattle.farm_model.specs.Packages.{variant, same, variants, size, recipe, outputs, is_wanted}
 use Rattle.farm_model.specs.Chroot.{Chroot}
 use Rattle.farm_model.specs.Traps.{first_trap}
 use Rattle.farm_model.proofs.BelowLaws.{greatest_below-at, highest_below-some, highest_below-there}

@@ -9,7 +9,7 @@ use Rattle.std.specs.Prelude.{◌≡◌, ◌⊎◌, ℕ, suc, ◌<◌, ◌≤◌
 use Rattle.std.specs.Int.{bit_at}
 use Rattle.farm_model.specs.Universe.{Universe}
 use Rattle.farm_model.specs.Packages.{variant, word_has}
-use Rattle.farm_laws.proofs.EventsLeft.{InPlace}
+use Rattle.farm_laws.specs.EventsLeft.{InPlace}
 use Rattle.plan_model.specs.Known.{Rows, possible, publishing}
 use Rattle.plan_model.specs.Plan.{Plan, lane, lane_outputs}
 use Rattle.plan_model.specs.Turn.{LaneState}

@@ -4,7 +4,8 @@ use Rattle.std.proofs.lemmas.Bool.{false≢true}
 use Rattle.chroot_state.specs.Held.{Held}
 use Rattle.farm_laws.proofs.Archive.{publishing-zero}
 use Rattle.farm_laws.proofs.Branches.{drop_some, landing-stands}
-use Rattle.farm_laws.proofs.EventsLeft.{InPlace, StandsAt, fresh_place}
+use Rattle.farm_laws.specs.EventsLeft.{InPlace, StandsAt}
+use Rattle.farm_laws.proofs.EventsLeft.{fresh_place}
 use Rattle.farm_model.specs.Packages.{variant, word_has}
 use Rattle.farm_model.specs.Universe.{Universe}
 use Rattle.archive_laws.specs.LaneMoves.{outputs_made}

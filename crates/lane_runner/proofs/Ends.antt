@@ -2,7 +2,8 @@
 use Rattle.std.proofs.Common.{◌≡◌, ℕ, zero, suc, ◌<◌, ◌≤◌, List, [], ◌∷◌, length, drop, None, slice_get, refl, sym, ap, subst, ◌∙◌, arith}
 use Rattle.chroot_state.specs.Held.{Held, IsHeld, opened}
 use Rattle.farm_laws.proofs.Branches.{stand-outside}
-use Rattle.farm_laws.proofs.EventsLeft.{StandsAt, fresh_place, state_at_start}
+use Rattle.farm_laws.specs.EventsLeft.{StandsAt}
+use Rattle.farm_laws.proofs.EventsLeft.{fresh_place, state_at_start}
 use Rattle.farm_laws.proofs.Safe.{Agrees}
 use Rattle.farm_laws.proofs.Whole.{holds_at_start}
 use Rattle.farm_model.specs.Universe.{Universe}

@@ -5,7 +5,7 @@ use Rattle.std.specs.Prelude.{◌==◌}
 use Rattle.std.proofs.lemmas.Bool.{cases_lt, lt-ltb, le-ltb}
 use Rattle.chroot_state.specs.Held.{Held}
 use Rattle.farm_archive.specs.declared.publication.Publication.{Publication}
-use Rattle.farm_laws.proofs.EventsLeft.{InPlace, StandsAt}
+use Rattle.farm_laws.specs.EventsLeft.{InPlace, StandsAt}
 use Rattle.farm_laws.proofs.Safe.{Agrees, AgreesAfter}
 use Rattle.farm_model.specs.declared.types.Variant.{Variant}
 use Rattle.farm_model.specs.Packages.{outputs}

@@ -6,7 +6,7 @@ use Rattle.std.proofs.lemmas.Option.{slice_get_within}
 use Rattle.archive_laws.proofs.OneWord.{each_word_decides}
 use Rattle.chroot_state.specs.Held.{Held}
 use Rattle.deb_relation.specs.Relations.{Entry}
-use Rattle.farm_laws.proofs.EventsLeft.{InPlace}
+use Rattle.farm_laws.specs.EventsLeft.{InPlace}
 use Rattle.farm_laws.proofs.Safe.{Agrees, AgreesAfter}
 use Rattle.farm_model.specs.declared.types.Variant.{Variant}
 use Rattle.farm_model.specs.Below.{some_below}

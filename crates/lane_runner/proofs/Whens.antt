@@ -7,7 +7,7 @@ use Rattle.archive_laws.specs.LaneMoves.{seen, moved_by, outputs_made}
 use Rattle.archive_laws.proofs.Counted.{goes_count}
 use Rattle.chroot_state.specs.Held.{Held}
 use Rattle.deb_relation.specs.declared.operator.Op.{Op}
-use Rattle.farm_laws.proofs.EventsLeft.{InPlace}
+use Rattle.farm_laws.specs.EventsLeft.{InPlace}
 use Rattle.farm_laws.proofs.Safe.{Agrees}
 use Rattle.farm_model.specs.Below.{some_below, highest_below}
 use Rattle.farm_model.specs.Packages.{variant, variants, is_wanted, word_has}

@@ -12,7 +12,7 @@
 --   IsEnded, IsStopped   where a run of the lane ends
 use Rattle.std.specs.Prelude.{◌≡◌, ℕ, suc, ◌+◌, ◌<◌, ◌≤◌, nat_lt, Bool, false, List, [], length, None, if◌then◌else◌}
 use Rattle.chroot_state.specs.Held.{Held, IsHeld}
-use Rattle.farm_laws.proofs.EventsLeft.{InPlace}
+use Rattle.farm_laws.specs.EventsLeft.{InPlace}
 use Rattle.farm_laws.proofs.Safe.{Agrees}
 use Rattle.farm_model.specs.declared.types.Trap.{Trap}
 use Rattle.farm_model.specs.Traps.{first_trap}

@@ -3,7 +3,7 @@ use Rattle.std.proofs.Common.{Bool, List, Some, arith, length, slice_get, subst,
 use Rattle.plan_model.specs.Plan.{lane}
 use Rattle.plan_model.specs.Safety.{IsAnnotation}
 use Rattle.plan_model.specs.Turn.{LaneState}
-use Rattle.farm_laws.proofs.EventsLeft.{InPlace}
+use Rattle.farm_laws.specs.EventsLeft.{InPlace}
 use Rattle.archive_laws.proofs.Counted.{in_place}
 use Rattle.lane_records.specs.Bounds.{IsRecord}
 use Rattle.lane_records.specs.Records.{Record}
