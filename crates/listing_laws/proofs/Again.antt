@@ -30,24 +30,13 @@ use Rattle.plan_model.specs.declared.instructions.Instruction.TheVariants.{Other
 use Rattle.plan_model.specs.Plan.{Lane, Plan}
 use Rattle.plan_model.specs.Sound.{has_double}
 use Rattle.plan_asm.proofs.BranchLaws.{kind, Leads, leads-next, outside-kind, IsWhole, IsSaid, instruction-said}
-use Rattle.listing_laws.proofs.Drafts.{IsListedLane, Fits, IsNext, AreLanes, IsListedPlan, instructions-push}
+use Rattle.listing_laws.proofs.Drafts.{IsListedLane, Fits, IsNext, AreLanes, IsListedPlan}
+use Rattle.plan_asm.proofs.Doubles.{double-front}
+use Rattle.plan_asm.proofs.DraftLaws.{instructions_of-push}
 use Rattle.listing_laws.proofs.WordLines.{IsLineOf, IsListed, line_of}
 use Rattle.listing_laws.proofs.Names.{word-run}
 
 -- ---- instructions that fit
-
-any-front : (p : ℕ → Bool) (xs ys : List ℕ) → list_any p (xs ++ ys) ≡ false
-    → list_any p xs ≡ false
-any-front p [] ys none = refl
-any-front p (x ∷ xs) ys none =
-    let both = or_parts (p x) (list_any p (xs ++ ys)) none in
-    rw (both.0, any-front p xs ys both.1) refl
-
-double-front : (xs ys : List ℕ) → has_double (xs ++ ys) ≡ false → has_double xs ≡ false
-double-front [] ys once = refl
-double-front (x ∷ xs) ys once =
-    let both = or_parts (member (xs ++ ys) x) (has_double (xs ++ ys)) once in
-    rw (any-front (λ y. y == x) xs ys both.0, double-front xs ys both.1) refl
 
 -- a part in front of instructions that fit
 fits-front : (xs ys : List Instruction) → Fits (xs ++ ys) → Fits xs
@@ -107,7 +96,7 @@ module _ (u : Universe) where
   add-again lanes m l done x fits =
       let all = instructions_of (lanes ++ with_done l done ∷ []) ++ x ∷ [] in
       let now : Fits all =
-      subst (λ xs. Fits (xs ++ x ∷ [])) (sym (instructions-push lanes (with_done l done))) fits in
+      subst (λ xs. Fits (xs ++ x ∷ [])) (sym (instructions_of-push lanes (with_done l done))) fits in
       rw (now.once, le-ltb MOST_INSTRUCTIONS (length all) now.few) refl
 
   -- the line of an instruction, less its end
@@ -334,7 +323,7 @@ module _ (u : Universe) where
       let long : Fits ((before ++ l.instructions) ++ instructions_of ls) =
       subst Fits (sym (append_assoc before l.instructions (instructions_of ls))) fits in
       let whole : Fits (instructions_of (lanes ++ l ∷ []) ++ instructions_of ls) =
-      subst (λ xs. Fits (xs ++ instructions_of ls)) (sym (instructions-push lanes l)) long in
+      subst (λ xs. Fits (xs ++ instructions_of ls)) (sym (instructions_of-push lanes l)) long in
       lane-again (Ok (between (lanes ++ l ∷ ls))) lanes l (flat_map (lane_text u) ls) k are.0
       (All-head (λ (l : Lane). IsWhole l.instructions) l ls branched) are.1
       (fits-front (before ++ l.instructions) (instructions_of ls) long)

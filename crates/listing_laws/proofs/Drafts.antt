@@ -18,6 +18,7 @@ use Rattle.farm_model.specs.Universe.{Universe}
 use Rattle.plan_asm.specs.declared.error.TheConstants.{MOST_LANES, MOST_INSTRUCTIONS}
 use Rattle.plan_asm.specs.Drafts.{Block, Open, Nothing, InBlock, InLane, Draft, is_open, block_named, instructions_of, published, known_base, instruction_of, open_block, fresh_lane, open_lane, end_open, with_instructions, published_once, within_limit, add, Reading, is_outside, may_say, on_side, take_end, take_form}
 use Rattle.plan_asm.specs.Forms.{Form, BlockForm, LaneForm, EndForm, UseForm, InstructionForm, lane_with, lane_form, one_word, wording_by, form_at, first_word, behind_word}
+use Rattle.plan_asm.proofs.DraftLaws.{instructions_of-push}
 use Rattle.plan_model.specs.Branches.{Side, Outside, InFirst, InSecond, side_behind}
 use Rattle.plan_model.specs.declared.instructions.Instruction.{Instruction}
 use Rattle.plan_model.specs.declared.instructions.Instruction.TheVariants.{EndWhen}
@@ -125,16 +126,10 @@ form-has line =
 
 -- ---- instructions of lanes
 
-pub instructions-push : (ls : List Lane) (l : Lane)
-    → instructions_of (ls ++ l ∷ []) ≡ instructions_of ls ++ l.instructions
-instructions-push ls l =
-    flat_map-append (λ (l : Lane). l.instructions) ls (l ∷ [])
-    ∙ ap (λ xs. instructions_of ls ++ xs) (append-nil l.instructions)
-
 instructions-more : (ls : List Lane) (l : Lane) (xs : List Instruction)
     → instructions_of (ls ++ l ∷ []) ++ xs ≡ instructions_of (ls ++ with_instructions l xs ∷ [])
 instructions-more ls l xs =
-    rw (instructions-push ls l, instructions-push ls (with_instructions l xs))
+    rw (instructions_of-push ls l, instructions_of-push ls (with_instructions l xs))
     (append_assoc (instructions_of ls) l.instructions xs)
 
 within-has : (xs : List Instruction)
@@ -231,7 +226,7 @@ module _ (u : Universe) where
       },
       next,
       subst Fits
-          (sym (instructions-push ls (fresh_lane name b budget) ∙ append-nil (instructions_of ls)))
+          (sym (instructions_of-push ls (fresh_lane name b budget) ∙ append-nil (instructions_of ls)))
           is.current,
     );
   }

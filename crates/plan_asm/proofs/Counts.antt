@@ -10,7 +10,7 @@ use Rattle.plan_model.specs.declared.instructions.Instruction.{Instruction}
 use Rattle.plan_model.specs.Plan.{Lane, Plan, lane, Ways, ways_ahead, ways, count}
 
 -- a sum from its first number on
-sum_below-first : (n : ℕ) (f : ℕ → ℕ) → sum_below (suc n) f ≡ f 0 + sum_below n (λ k. f (suc k))
+pub sum_below-first : (n : ℕ) (f : ℕ → ℕ) → sum_below (suc n) f ≡ f 0 + sum_below n (λ k. f (suc k))
 sum_below-first zero f = refl
 sum_below-first (suc n) f = let later = sum_below-first n f in omega (arith, later)
 

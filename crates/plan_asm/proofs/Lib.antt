@@ -14,3 +14,5 @@ pub mod TextLaws
 pub mod TurnLaws
 pub mod WriteLaws
 pub mod Landings
+pub mod Noted
+pub mod PutLaws

@@ -161,7 +161,7 @@ module _ (xs : List Instruction) (rs : List Row) (es : List (Vec ℕ × Whole)) 
         ) refl
 
 -- a block of a new name ends
-lookup-none : {X : Type 0} (o : Option X) → is_some o ≡ false → o ≡ None
+pub lookup-none : {X : Type 0} (o : Option X) → is_some o ≡ false → o ≡ None
 lookup-none (Some x) is = absurd (true≢false is)
 lookup-none None is = refl
 

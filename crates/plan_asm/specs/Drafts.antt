@@ -9,7 +9,7 @@
 --   set_of, instruction_of       the numbers of a set of names; the instruction that a line says
 --   may_say s wording            whether an instruction may stand there
 --   take_form u number r form    what is read with one more line, or the code of the line's fault
-use Rattle.std.specs.Prelude.{ℕ, Bool, true, false, ◌&&◌, nat_le, nat_lt, List, [], ◌∷◌, ◌++◌, length, map, Option, Some, None, Result, Ok, Err, if◌then◌else◌}
+use Rattle.std.specs.Prelude.{ℕ, ◌+◌, Bool, true, false, ◌&&◌, nat_le, nat_lt, List, [], ◌∷◌, ◌++◌, length, map, Option, Some, None, Result, Ok, Err, if◌then◌else◌}
 use Rattle.std.specs.List.{list_any, flat_map}
 use Rattle.std.specs.Str.{bytes_eq}
 use Rattle.deb_profile.specs.Reduction.{reduced_entry}
@@ -206,6 +206,13 @@ add bs ls (InLane line lane) xs =
       lanes = ls;
       current = InLane line (with_instructions lane xs);
     })
+
+-- the recipes that all lanes publish with those of more instructions, where the lanes have so many: no
+-- recipe is published twice, and there are not too many instructions
+abbrev pub noted : ℕ → List ℕ → List Instruction → Result (List ℕ) ℕ
+noted count recipes xs =
+    published_once (recipes ++ published xs)
+    >>= λ all. if nat_lt MOST_INSTRUCTIONS (count + length xs) then Err OVER_LIMIT else Ok all
 
 -- what a block stands for comes into the open block or lane
 abbrev pub add_use : List Block → List Lane → Open → List ℕ → Result Draft ℕ

@@ -1,14 +1,16 @@
 //! What the lines of a plan say so far.
 
-ghost use Rattle.std.specs.Prelude.{◌≡◌, ◌∷◌, ◌++◌, [], true, false, IfOk};
+ghost use Rattle.std.specs.Prelude.{◌≡◌, ◌∷◌, ◌++◌, ◌+◌, ◌≤◌, [], true, false, length, IfOk, OnOk};
 ghost use Rattle.std.specs.List.{list_any};
 ghost use Rattle.std.specs.Str.{bytes_eq};
 ghost use Rattle.deb_text.specs.Answers.{Gives, refusal_of};
-ghost use Rattle.plan_asm.specs.Drafts.{empty, is_open, all_lanes, published_once};
+ghost use Rattle.plan_asm.specs.BlockTable.{write};
+ghost use Rattle.plan_asm.specs.Drafts.{empty, is_open, all_lanes, noted, published_once, with_instructions};
 ghost use Rattle.plan_model.specs.Known.{published_by};
 ghost use Rattle.plan_asm.specs.Drafts.{open_block, open_lane, end_open, published as recipes_of, add, add_use};
 ghost use Rattle.plan_asm.specs.Ends.{finished, IsWithinLimits};
 ghost use Rattle.plan_asm.specs.LineErrors.{refusal_of_line};
+ghost use Rattle.plan_asm.specs.SectionView.{put_in};
 ghost use Rattle.plan_asm.specs.View.{side_of};
 ghost use Rattle.plan_model.specs.Plan.{count};
 ghost use Rattle.plan_model.specs.Sound.{has_double};
@@ -25,6 +27,7 @@ use indexmap::IndexSet;
 use plan_model::Instruction;
 use std::alloc::Global;
 use std::marker::Model;
+use std::mem;
 
 /// What is left open.
 #[derive(Drop)]
@@ -104,6 +107,85 @@ fn note_all(published: &mut IndexSet<u32>, instructions: &[Instruction]) -> Resu
         note_published(published, instruction)?;
     }
     Ok(())
+}
+
+/// Puts an instruction into the open block. Where that fails, no block is left.
+fn put_in_block(
+    alloc: Global,
+    blocks: &mut Blocks,
+    instruction: Instruction,
+) -> Result<(), LineError>
+    ensures { Gives refusal_of_line (λ _. blocks.new) result (write blocks.old (instruction ∷ [])) }
+{
+    let before = mem::replace(blocks, Blocks::new(alloc));
+    *blocks = before.add(instruction)?;
+    Ok(())
+}
+
+/// Puts an instruction behind the others of a lane, where all lanes have so many and publish these.
+fn push_noted(
+    lane: &mut Lane,
+    count: &mut usize,
+    published: &mut IndexSet<u32>,
+    instruction: Instruction,
+) -> Result<(), LineError>
+    requires { has_double published.old.keys ≡ false }
+    ensures noted { Gives refusal_of_line (λ _. published.new.keys) result
+        (noted count.old published.old.keys (instruction ∷ [])) }
+    ensures lane { OnOk result (lane.new ≡ with_instructions lane.old (instruction ∷ [])) }
+    ensures count { OnOk result (count.new ≡ count.old + 1) }
+{
+    note_published(published, &instruction)?;
+    if *count >= MOST_INSTRUCTIONS {
+        return Err(LineError::OverLimit);
+    }
+    lane.push(instruction)?;
+    *count += 1;
+    Ok(())
+}
+
+/// Puts instructions behind the others of a lane, where all lanes have so many and publish these.
+fn append_noted(
+    lane: &mut Lane,
+    count: usize,
+    published: &mut IndexSet<u32>,
+    instructions: Vec<Instruction>,
+) -> Result<usize, LineError>
+    requires once { has_double published.old.keys ≡ false }
+    requires few { count ≤ MOST_INSTRUCTIONS }
+    ensures noted { Gives refusal_of_line (λ _. published.new.keys) result
+        (noted count published.old.keys instructions.items) }
+    ensures lane { OnOk result (lane.new ≡ with_instructions lane.old instructions.items) }
+    ensures count { IfOk result (λ n. n ≡ count + length instructions.items) }
+{
+    note_all(published, &instructions)?;
+    if instructions.len() > MOST_INSTRUCTIONS - count {
+        return Err(LineError::OverLimit);
+    }
+    let count = count + instructions.len();
+    lane.append(instructions)?;
+    Ok(count)
+}
+
+/// Puts an instruction into what is open, where all lanes have so many and publish these recipes.
+fn put_in(
+    alloc: Global,
+    blocks: &mut Blocks,
+    current: &mut Section,
+    count: &mut usize,
+    published: &mut IndexSet<u32>,
+    instruction: Instruction,
+) -> Result<(), LineError>
+    requires { has_double published.old.keys ≡ false }
+    ensures { Gives refusal_of_line
+        (λ _. (blocks.new, current.new, count.new, published.new.keys)) result
+        (put_in blocks.old current.old count.old published.old.keys instruction) }
+{
+    match current {
+        Section::Outside => Err(LineError::BadLine),
+        Section::Block { .. } => put_in_block(alloc, blocks, instruction),
+        Section::Lane { lane, .. } => push_noted(lane, count, published, instruction),
+    }
 }
 
 impl Assembly {
@@ -243,42 +325,23 @@ impl Assembly {
     ///
     /// [`BadLine`](LineError::BadLine) where nothing is open;
     /// [`PublishedTwice`](LineError::PublishedTwice) in a lane; [`OverLimit`](LineError::OverLimit);
-    /// or that memory ran out.
-    pub fn add(self, instruction: Instruction) -> Result<Assembly, LineError>
-        ensures { Gives refusal_of_line (λ next. next) result
-            (add self.blocks self.lanes self.current (instruction ∷ [])) }
+    /// or that memory ran out. What was said so far may be forgotten then.
+    pub fn add(&mut self, alloc: Global, instruction: Instruction) -> Result<(), LineError>
+        ensures { Gives refusal_of_line (λ _. self.new) result
+            (add self.old.blocks self.old.lanes self.old.current (instruction ∷ [])) }
     {
         let Assembly {
             blocks,
-            lanes,
             current,
             count,
-            mut published,
+            published,
+            ..
         } = self;
-        match current {
-            Section::Outside => Err(LineError::BadLine),
-            Section::Block { line, name } => {
-                Ok(Assembly {
-                    blocks: blocks.add(instruction)?,
-                    lanes,
-                    current: Section::Block { line, name },
-                    count,
-                    published,
-                })
-            }
-            Section::Lane { line, mut lane } => {
-                note_published(&mut published, &instruction)?;
-                if count >= MOST_INSTRUCTIONS {
-                    return Err(LineError::OverLimit);
-                }
-                lane.push(instruction)?;
-                Ok(Assembly {
-                    blocks,
-                    lanes,
-                    current: Section::Lane { line, lane },
-                    count: count + 1,
-                    published,
-                })
+        match put_in(alloc, blocks, current, count, published, instruction) {
+            Ok(()) => Ok(()),
+            Err(error) => {
+                *self = Assembly::new(alloc);
+                Err(error)
             }
         }
     }
@@ -315,19 +378,16 @@ impl Assembly {
             }
             Section::Lane { line, mut lane } => {
                 let instructions = blocks.instructions(alloc, block)?;
-                note_all(&mut published, &instructions)?;
-                if instructions.len() > MOST_INSTRUCTIONS - count {
-                    return Err(LineError::OverLimit);
+                match append_noted(&mut lane, count, &mut published, instructions) {
+                    Ok(count) => Ok(Assembly {
+                        blocks,
+                        lanes,
+                        current: Section::Lane { line, lane },
+                        count,
+                        published,
+                    }),
+                    Err(error) => Err(error),
                 }
-                let count = count + instructions.len();
-                lane.append(instructions)?;
-                Ok(Assembly {
-                    blocks,
-                    lanes,
-                    current: Section::Lane { line, lane },
-                    count,
-                    published,
-                })
             }
         }
     }

@@ -27,6 +27,7 @@ use farm_universe::Universe;
 use plan_model::Instruction;
 use std::alloc::Global;
 use std::marker::Model;
+use std::mem;
 
 /// What the lines of a plan say so far, and in which branch the next one stands.
 #[derive(Drop)]
@@ -98,28 +99,28 @@ fn take_use(alloc: Global, before: Reading, name: &[u8]) -> Result<Reading, Line
 fn take_end(alloc: Global, before: Reading) -> Result<Reading, LineError>
     ensures { Gives refusal_of_line (λ next. next) result (take_end before.draft before.side) }
 {
-    let Reading { draft, side } = before;
-    let draft = match side {
-        Side::Outside => draft.end_open(alloc)?,
-        Side::First(_) => return Err(LineError::BadLine),
-        Side::Second(_) => draft.add(Instruction::EndWhen)?,
-    };
-    Ok(Reading {
-        draft,
-        side: Side::Outside,
-    })
+    let Reading { mut draft, side } = before;
+    match side {
+        Side::Outside => Ok(outside(draft.end_open(alloc)?)),
+        Side::First(_) => Err(LineError::BadLine),
+        Side::Second(_) => {
+            draft.add(alloc, Instruction::EndWhen)?;
+            Ok(outside(draft))
+        }
+    }
 }
 
 /// Puts the instruction of the line of this number into what is open.
-fn put(number: u32, before: Reading, instruction: Instruction) -> Result<Reading, LineError>
-    ensures { Gives refusal_of_line (λ next. next) result (put number before instruction) }
+fn put(
+    alloc: Global,
+    number: u32,
+    before: &mut Reading,
+    instruction: Instruction,
+) -> Result<(), LineError>
+    ensures { Gives refusal_of_line (λ _. before.new) result (put number before.old instruction) }
 {
-    let Reading { draft, side } = before;
-    let side = side.behind(number, &instruction);
-    Ok(Reading {
-        draft: draft.add(instruction)?,
-        side,
-    })
+    before.side = before.side.behind(number, &instruction);
+    before.draft.add(alloc, instruction)
 }
 
 /// Puts an instruction into what is open, where it may stand.
@@ -127,16 +128,17 @@ fn take_instruction(
     alloc: Global,
     universe: &Universe,
     number: u32,
-    before: Reading,
+    before: &mut Reading,
     wording: Wording<'_>,
-) -> Result<Reading, LineError>
-    ensures { Gives refusal_of_line (λ next. next) result
-        (take_instruction universe.now number before (wording_of wording.entry)) }
+) -> Result<(), LineError>
+    ensures { Gives refusal_of_line (λ _. before.new) result
+        (take_instruction universe.now number before.old (wording_of wording.entry)) }
 {
     if !before.draft.is_open() || !before.side.may_say(&wording) {
         return Err(LineError::BadLine);
     }
-    put(number, before, read_instruction(alloc, universe, wording)?)
+    let instruction = read_instruction(alloc, universe, wording)?;
+    put(alloc, number, before, instruction)
 }
 
 /// A draft, outside of all branches.
@@ -149,12 +151,13 @@ fn outside(draft: Assembly) -> Reading
     }
 }
 
+/// Goes on by a line that opens or ends something, which makes what was said so far anew.
 #[tactic(auto, unfolding(crate::specs::Drafts::take_form))]
-fn take_form(
+fn take_section(
     alloc: Global,
     universe: &Universe,
     number: u32,
-    before: Reading,
+    mut before: Reading,
     form: Form<'_>,
 ) -> Result<Reading, LineError>
     ensures { Gives refusal_of_line (λ next. next) result
@@ -165,7 +168,48 @@ fn take_form(
         Form::Lane(head) => Ok(outside(take_lane(alloc, universe, number, before.draft, head)?)),
         Form::End => take_end(alloc, before),
         Form::Use(name) => take_use(alloc, before, name),
-        Form::Instruction(wording) => take_instruction(alloc, universe, number, before, wording),
+        Form::Instruction(wording) => {
+            take_instruction(alloc, universe, number, &mut before, wording)?;
+            Ok(before)
+        }
+    }
+}
+
+/// Takes what was said so far away, and leaves nothing in its place.
+fn taken(alloc: Global, so_far: &mut Reading) -> Reading
+    ensures { result ≡ so_far.old }
+{
+    mem::replace(so_far, outside(Assembly::new(alloc)))
+}
+
+fn put_back(so_far: &mut Reading, next: Reading)
+    ensures { so_far.new ≡ next }
+{
+    *so_far = next;
+}
+
+/// Goes on by a line. An instruction is put where it goes, and nothing else is moved for it.
+#[tactic(auto, unfolding(crate::specs::Drafts::take_form))]
+fn take_form(
+    alloc: Global,
+    universe: &Universe,
+    number: u32,
+    so_far: &mut Reading,
+    form: Form<'_>,
+) -> Result<(), LineError>
+    ensures { Gives refusal_of_line (λ _. so_far.new) result
+        (take_form universe.now number so_far.old (form_of form.entry)) }
+{
+    if let Form::Instruction(wording) = form {
+        return take_instruction(alloc, universe, number, so_far, wording);
+    }
+    let before = taken(alloc, so_far);
+    match take_section(alloc, universe, number, before, form) {
+        Ok(next) => {
+            put_back(so_far, next);
+            Ok(())
+        }
+        Err(error) => Err(error),
     }
 }
 
@@ -174,28 +218,28 @@ fn take_text(
     alloc: Global,
     universe: &Universe,
     number: u32,
-    before: Reading,
+    so_far: &mut Reading,
     line: &[u8],
-) -> Result<Reading, LineError>
-    ensures { Gives refusal_of_line (λ next. next) result
-        (take_text universe.now number before line.now) }
+) -> Result<(), LineError>
+    ensures { Gives refusal_of_line (λ _. so_far.new) result
+        (take_text universe.now number so_far.old line.now) }
 {
     let form = read_form(alloc, line)?;
-    take_form(alloc, universe, number, before, form)
+    take_form(alloc, universe, number, so_far, form)
 }
 
 fn take_line(
     alloc: Global,
     universe: &Universe,
-    before: Reading,
+    so_far: &mut Reading,
     number: u32,
     line: &[u8],
-) -> Result<Reading, Fault>
-    ensures { Gives refusal_of (λ next. next) result
-        (take_line universe.now before (number, line.now)) }
+) -> Result<(), Fault>
+    ensures { Gives refusal_of (λ _. so_far.new) result
+        (take_line universe.now so_far.old (number, line.now)) }
 {
-    match take_text(alloc, universe, number, before, line) {
-        Ok(next) => Ok(next),
+    match take_text(alloc, universe, number, so_far, line) {
+        Ok(()) => Ok(()),
         Err(error) => Err(error.at(number)),
     }
 }
@@ -208,7 +252,7 @@ fn read_sections(alloc: Global, universe: &Universe, lines: &Lines) -> Result<Re
 {
     let mut so_far = outside(Assembly::new(alloc));
     for i in 1..lines.count() {
-        so_far = take_line(alloc, universe, so_far, lines.number(i), lines.line(i))?;
+        take_line(alloc, universe, &mut so_far, lines.number(i), lines.line(i))?;
     }
     Ok(so_far)
 }

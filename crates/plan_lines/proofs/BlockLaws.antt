@@ -187,10 +187,6 @@ module _ (bs : List (List ℕ)) (es : List (Vec ℕ × Whole)) (begun : Whole)
       (ap (λ zs. record { ended = zs; begun = [] })
       (map-append (block_of bs) es ((name, begun) ∷ [])))
 
-pub lookup-none : {X : Type 0} (o : Option X) → is_some o ≡ false → o ≡ None
-lookup-none (Some x) is = absurd cc
-lookup-none None is = refl
-
 -- ---- a use in a lane
 
 module _ (bs : List (List ℕ)) (es : List (Vec ℕ × Whole)) (begun : Whole)

@@ -8,6 +8,7 @@ use Rattle.std.proofs.lemmas.List.Folds.{list_any_at}
 use Rattle.std.proofs.lemmas.List.Quantifiers.{position-Some}
 use Rattle.std.proofs.lemmas.Slice.Eq.{bytes_eq-Decides}
 use Rattle.deb_text.specs.Groups.{AllDistinct, place_in}
+use Rattle.deb_text.proofs.ListLaws.{bytes-same}
 use Rattle.deb_text.proofs.PlaceLaws.{place_in-position}
 use Rattle.deb_relation.specs.Relations.{Atom}
 use Rattle.deb_relation.specs.Satisfaction.{is_its_own}
@@ -16,9 +17,6 @@ use Rattle.farm_model.specs.Universe.{Universe}
 use Rattle.farm_universe.proofs.PlaceLaws.{named}
 use Rattle.farm_universe.specs.Kept.{IsKept}
 use Rattle.sat_rows.specs.Rows.{passes}
-
-equal : (x y : List ℕ) → bytes_eq x y ≡ true → x ≡ y
-equal x y is = (bytes_eq-Decides x y).0 is
 
 -- no text stands at two places
 same-place : (ks : List (List ℕ)) → AllDistinct bytes_eq ks → (i j : ℕ) → i < length ks
@@ -52,7 +50,7 @@ module _ (u : Universe) (kept : IsKept u) (a : Atom) where
       let there = named u n b known in (
         known,
         omega (arith, there, kept.sound.listed),
-        equal (get_or u.names n []) a.name own.0,
+        bytes-same (get_or u.names n []) a.name own.0,
         own.1,
       )
 
@@ -68,7 +66,7 @@ module _ (u : Universe) (kept : IsKept u) (a : Atom) where
         let some =
         position-Some (bytes_eq a.name) u.names k []
         (sym (place_in-position bytes_eq u.names a.name) ∙ at) in
-        (some.0, sym (equal a.name (get_or u.names k []) some.1))
+        (some.0, sym (bytes-same a.name (get_or u.names k []) some.1))
 
     on : ((n == k) && has b) ≡ true → own n b ≡ true
     on both =

@@ -7,13 +7,9 @@ use Rattle.plan_model.specs.Plan.{Plan, count, lane_outputs, no_lane}
 use Rattle.plan_model.specs.Sound.{IsPlan}
 use Rattle.farm_archive.proofs.Outputs.{outputs-counted}
 use Rattle.farm_archive.specs.Room.{outputs_in}
+use Rattle.plan_asm.proofs.Counts.{sum_below-first}
 use Rattle.plan_verifier.specs.Accepted.{AcceptedPlan}
 use Rattle.word_archive.specs.Serials.{SerialsFit, all_outputs}
-
--- a sum over the numbers, from the front
-sum_front : (n : ℕ) (f : ℕ → ℕ) → sum_below (suc n) f ≡ f 0 + sum_below n (λ k. f (suc k))
-sum_front zero f = omega arith
-sum_front (suc n) f = let h = sum_front n f in omega arith
 
 -- all outputs, as a sum over the lanes
 outputs_below : (u : Universe) (p : Plan)
@@ -21,7 +17,7 @@ outputs_below : (u : Universe) (p : Plan)
     (lane_outputs u (slice_index_or p l no_lane)))
 outputs_below u [] = refl
 outputs_below u (of ∷ ofs) =
-    let f = sum_front (length ofs) (λ l. length
+    let f = sum_below-first (length ofs) (λ l. length
     (lane_outputs u (slice_index_or (of ∷ ofs) l no_lane))) in
     let h = outputs_below u ofs in
     omega arith

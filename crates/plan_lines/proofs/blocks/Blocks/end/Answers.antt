@@ -3,7 +3,8 @@ use Rattle.std.specs.Prelude.{is_some}
 use Rattle.std.specs.Map.{lookup}
 use Rattle.std.specs.Str.{bytes_eq}
 use Rattle.indexmap.proofs.CallerLemmas.{insert_entry-new}
-use Rattle.plan_lines.proofs.BlockLaws.{put-whole, end-known, end-new, lookup-none}
+use Rattle.plan_lines.proofs.BlockLaws.{put-whole, end-known, end-new}
+use Rattle.plan_asm.proofs.WriteLaws.{lookup-none}
 use Rattle.plan_lines.proofs.blocks.Blocks.end.Goals as goal
 
 pub returns-then-contains_key : goal.returns-then-contains_key
