@@ -25,28 +25,34 @@ use farm_universe::Universe;
 use plan_asm::{Lane, Plan};
 use std::alloc::Global;
 
+/// The lines of a text that is read over a universe, and the number of the line past the last one.
+#[derive(Clone, Copy)]
+struct Source<'a, 't> {
+    universe: &'a Universe,
+    lines: &'a Lines<'t>,
+    end: u32,
+}
+
 /// The row that the line at this place says.
 fn read_first(
     alloc: Global,
-    universe: &Universe,
-    end: u32,
+    source: Source<'_, '_>,
     name: &[u8],
     number: u32,
-    lines: &Lines,
     at: usize,
 ) -> Result<Row, CertFault>
-    requires { at ≤ length lines.now }
-    ensures row { Gives refusal_of (λ row. row) result
-        (first_row universe.now end name.now number (drop at lines.now)) }
-    ensures there { OnOk result (at < length lines.now) }
+    requires { at ≤ length source.lines.now }
+    ensures row { Gives refusal_of (λ row. row) result (first_row source.entry.universe.now
+        source.entry.end name.now number (drop at source.entry.lines.now)) }
+    ensures there { OnOk result (at < length source.entry.lines.now) }
 {
-    if at == lines.count() {
-        return Err(CertFault::Text { line: end });
+    if at == source.lines.count() {
+        return Err(CertFault::Text { line: source.end });
     }
-    match read_known(alloc, universe, name, number, lines.line(at))? {
+    match read_known(alloc, source.universe, name, number, source.lines.line(at))? {
         Some(row) => Ok(row),
         None => Err(CertFault::Text {
-            line: lines.number(at),
+            line: source.lines.number(at),
         }),
     }
 }
@@ -54,65 +60,59 @@ fn read_first(
 /// The rows of a lane, by the lines from this place on.
 fn read_rows(
     alloc: Global,
-    universe: &Universe,
-    end: u32,
+    source: Source<'_, '_>,
     name: &[u8],
     numbers: &[u32],
-    lines: &Lines,
     start: usize,
 ) -> Result<Vec<Row>, CertFault>
-    requires start { start ≤ length lines.now }
-    requires fits { length lines.now < 2 ^ 64 }
-    ensures rows { Gives refusal_of (λ rows. rows.items) result
-        (rows_in universe.now end name.now numbers.now (drop start lines.now)) }
+    requires start { start ≤ length source.lines.now }
+    requires fits { length source.lines.now < 2 ^ 64 }
+    ensures rows { Gives refusal_of (λ rows. rows.items) result (rows_in source.entry.universe.now
+        source.entry.end name.now numbers.now (drop start source.entry.lines.now)) }
     ensures count { IfOk result (λ rows. length rows.items ≡ length numbers.now) }
-    ensures there { OnOk result (start + length numbers.now ≤ length lines.now) }
+    ensures there { OnOk result (start + length numbers.now ≤ length source.entry.lines.now) }
 {
     let mut rows = Vec::new(alloc);
     for i in 0..numbers.len() {
-        rows.push(read_first(alloc, universe, end, name, numbers[i], lines, start + i)?)?;
+        rows.push(read_first(alloc, source, name, numbers[i], start + i)?)?;
     }
     Ok(rows)
 }
 
 fn read_lane(
     alloc: Global,
-    universe: &Universe,
-    end: u32,
+    source: Source<'_, '_>,
     lane: &Lane,
-    lines: &Lines,
     start: usize,
 ) -> Result<Vec<Row>, CertFault>
     requires few { length lane.now.instructions ≤ 65536 }
-    requires start { start ≤ length lines.now }
-    requires fits { length lines.now < 2 ^ 64 }
-    ensures rows { Gives refusal_of (λ rows. rows.items) result
-        (rows_in universe.now end lane.now.name (row_places lane.now) (drop start lines.now)) }
+    requires start { start ≤ length source.lines.now }
+    requires fits { length source.lines.now < 2 ^ 64 }
+    ensures rows { Gives refusal_of (λ rows. rows.items) result (rows_in source.entry.universe.now
+        source.entry.end lane.now.name (row_places lane.now) (drop start source.entry.lines.now)) }
     ensures count { IfOk result (λ rows. length rows.items ≡ count_rows lane.now) }
-    ensures there { OnOk result (start + count_rows lane.now ≤ length lines.now) }
+    ensures there { OnOk result (start + count_rows lane.now ≤ length source.entry.lines.now) }
 {
     let numbers = row_places(alloc, lane)?;
-    read_rows(alloc, universe, end, lane.name(), &numbers, lines, start)
+    read_rows(alloc, source, lane.name(), &numbers, start)
 }
 
 /// The rows of all lanes, by the lines behind the first one, and the place behind those lines.
 fn read_lanes(
     alloc: Global,
-    universe: &Universe,
+    source: Source<'_, '_>,
     plan: &Plan,
-    end: u32,
-    lines: &Lines,
 ) -> Result<(Vec<Vec<Row>>, usize), CertFault>
-    requires some { 0 < length lines.now }
-    requires fits { length lines.now < 2 ^ 64 }
-    ensures rows { Gives refusal_of (λ read. lists read.0.items) result
-        (lanes_in universe.now end plan.now.lanes (drop 1 lines.now)) }
+    requires some { 0 < length source.lines.now }
+    requires fits { length source.lines.now < 2 ^ 64 }
+    ensures rows { Gives refusal_of (λ read. lists read.0.items) result (lanes_in
+        source.entry.universe.now source.entry.end plan.now.lanes (drop 1 source.entry.lines.now)) }
     ensures behind { IfOk result (λ read. read.1 ≡ 1 + sum_by count_rows plan.now.lanes) }
 {
     let mut rows = Vec::new(alloc);
     let mut at = 1;
     for number in 0..plan.lanes() {
-        let lane_rows = read_lane(alloc, universe, end, plan.lane(number), lines, at)?;
+        let lane_rows = read_lane(alloc, source, plan.lane(number), at)?;
         at += lane_rows.len();
         rows.push(lane_rows)?;
     }
@@ -148,42 +148,35 @@ fn read_items(
 
 /// The certificate of the lines behind the first one.
 #[tactic(auto, unfolding(crate::specs::CertText::rest_in))]
-fn read_rest(
-    alloc: Global,
-    universe: &Universe,
-    plan: &Plan,
-    end: u32,
-    lines: &Lines,
-) -> Result<Certificate, CertFault>
-    requires some { 0 < length lines.now }
-    requires fits { length lines.now < 2 ^ 64 }
-    ensures { Gives refusal_of (λ certificate. certificate) result
-        (rest_in universe.now plan.now.lanes end (drop 1 lines.now)) }
+fn read_rest(alloc: Global, source: Source<'_, '_>, plan: &Plan) -> Result<Certificate, CertFault>
+    requires some { 0 < length source.lines.now }
+    requires fits { length source.lines.now < 2 ^ 64 }
+    ensures { Gives refusal_of (λ certificate. certificate) result (rest_in
+        source.entry.universe.now plan.now.lanes source.entry.end (drop 1 source.entry.lines.now)) }
 {
-    let (rows, behind) = read_lanes(alloc, universe, plan, end, lines)?;
-    let order = read_items(alloc, plan, lines, behind)?;
+    let (rows, behind) = read_lanes(alloc, source, plan)?;
+    let order = read_items(alloc, plan, source.lines, behind)?;
     Ok(Certificate::new(rows, order))
 }
 
 fn read_certificate(
     alloc: Global,
-    universe: &Universe,
+    source: Source<'_, '_>,
     plan: &Plan,
-    end: u32,
-    lines: &Lines,
 ) -> Result<Certificate, CertFault>
-    ensures { Gives refusal_of (λ certificate. certificate) result
-        (certificate_in universe.now plan.now.lanes end lines.now) }
+    ensures { Gives refusal_of (λ certificate. certificate) result (certificate_in
+        source.entry.universe.now plan.now.lanes source.entry.end source.entry.lines.now) }
 {
+    let lines = source.lines;
     if lines.count() == 0 {
-        return Err(CertFault::Text { line: end });
+        return Err(CertFault::Text { line: source.end });
     }
     if !is_head(b"cert".as_slice(), lines.line(0)) {
         return Err(CertFault::Text {
             line: lines.number(0),
         });
     }
-    read_rest(alloc, universe, plan, end, lines)
+    read_rest(alloc, source, plan)
 }
 
 /// The fault of a text at its line.
@@ -231,7 +224,12 @@ fn read_text(
         (certificate_of universe.now plan.now.lanes text.now) }
 {
     let lines = read_lines(alloc, text)?;
-    read_certificate(alloc, universe, plan, end_of(text), &lines)
+    let source = Source {
+        universe,
+        lines: &lines,
+        end: end_of(text),
+    };
+    read_certificate(alloc, source, plan)
 }
 
 /// Reads the certificate of a plan over a universe.

@@ -13,8 +13,8 @@ ghost use Rattle.may_rows.specs.Words.{AreWords, may_of};
 ghost use Rattle.may_rows.specs.Met.{AreDoubts};
 ghost use Rattle.may_rows.specs.Walk.{Answers, IsOfLane};
 
-use crate::dependents::Dependents;
 use crate::doubts::Doubts;
+use crate::instruction::LaneOf;
 use crate::numbers::{NumberTest, some_number};
 use crate::settled::may_be_unsettled;
 use crate::space::{may_exceed, may_overflow};
@@ -81,38 +81,29 @@ fn may_clash(_universe: &Universe, tables: &Tables, state: &MayHold, recipe: u32
 
 /// The first trap that a build may meet.
 #[tactic(auto, unfolding(farm_model::specs::Traps::first_trap))]
-fn build_risk(
-    universe: &Universe,
-    tables: &Tables,
-    dependents: &Dependents,
-    lane: &Lane,
-    state: &MayHold,
-    doubts: &Doubts,
-    recipe: u32,
-) -> Option<Trap>
-    requires same { tables.now ≡ universe.now }
-    requires known { recipe < length universe.now.recipes }
-    requires of_lane { IsOfLane universe.now lane.now state.now }
-    requires same_dependents { dependents.now ≡ universe.now }
-    requires doubts { AreDoubts universe.now (may_of state.now) doubts.now }
-    ensures { result ≡ first_trap (build_risks universe.now lane.now (may_of state.now)
-        (packages.recipe universe.now recipe)) }
+fn build_risk(of: LaneOf<'_>, state: &MayHold, doubts: &Doubts, recipe: u32) -> Option<Trap>
+    requires known { recipe < length of.universe.now.recipes }
+    requires of_lane { IsOfLane of.universe.now of.lane.now state.now }
+    requires doubts { AreDoubts of.universe.now (may_of state.now) doubts.now }
+    ensures { result ≡ first_trap (build_risks of.entry.universe.now of.entry.lane.now
+        (may_of state.now) (packages.recipe of.entry.universe.now recipe)) }
 {
+    let universe = of.universe;
     let _names = universe.names();
     let costs = universe.recipe(recipe);
-    if may_exceed(lane.budget(), state, costs.steps()) {
+    if may_exceed(of.lane.budget(), state, costs.steps()) {
         return Some(Trap::OverBudget); // X14
     }
-    if may_be_unsettled(universe, tables, dependents, state, doubts) {
+    if may_be_unsettled(universe, of.tables, of.dependents, state, doubts) {
         return Some(Trap::Unsettled); // X10
     }
-    if misses_needs(universe, tables, state, recipe) {
+    if misses_needs(universe, of.tables, state, recipe) {
         return Some(Trap::BuildDepends); // X11
     }
-    if may_clash(universe, tables, state, recipe) {
+    if may_clash(universe, of.tables, state, recipe) {
         return Some(Trap::BuildConflict); // X12
     }
-    if may_overflow(universe, lane, state.used(), costs.scratch()) {
+    if may_overflow(universe, of.lane, state.used(), costs.scratch()) {
         return Some(Trap::Full); // X5
     }
     None
@@ -124,29 +115,20 @@ fn build_risk(
 /// # Errors
 ///
 /// The first trap that the build may meet. The state is then as it was.
-pub fn build(
-    universe: &Universe,
-    tables: &Tables,
-    dependents: &Dependents,
-    lane: &Lane,
-    state: &mut MayHold,
-    doubts: &Doubts,
-    recipe: u32,
-) -> Result<(), Trap>
-    requires same { tables.now ≡ universe.now }
-    requires known { recipe < length universe.now.recipes }
-    requires of_lane { IsOfLane universe.now lane.now state.old }
-    requires same_dependents { dependents.now ≡ universe.now }
-    requires doubts { AreDoubts universe.now (may_of state.old) doubts.now }
-    ensures answer { (in_it may_be : Variant → Bool) → Answers universe.now lane.now in_it may_be
-        (may_of state.old) (Instruction.Build recipe) (may_of state.new) result }
-    ensures of_lane { OnOk result (IsOfLane universe.now lane.now state.new) }
+pub fn build(of: LaneOf<'_>, state: &mut MayHold, doubts: &Doubts, recipe: u32) -> Result<(), Trap>
+    requires known { recipe < length of.universe.now.recipes }
+    requires of_lane { IsOfLane of.universe.now of.lane.now state.old }
+    requires doubts { AreDoubts of.universe.now (may_of state.old) doubts.now }
+    ensures answer { (in_it may_be : Variant → Bool) → Answers of.entry.universe.now
+        of.entry.lane.now in_it may_be (may_of state.old) (Instruction.Build recipe)
+        (may_of state.new) result }
+    ensures of_lane { OnOk result (IsOfLane of.entry.universe.now of.entry.lane.now state.new) }
 {
-    if let Some(trap) = build_risk(universe, tables, dependents, lane, state, doubts, recipe) {
+    if let Some(trap) = build_risk(of, state, doubts, recipe) {
         return Err(trap);
     }
-    state.spend(universe, universe.recipe(recipe).steps());
-    state.set_built(universe, recipe);
+    state.spend(of.universe, of.universe.recipe(recipe).steps());
+    state.set_built(of.universe, recipe);
     Ok(())
 }
 

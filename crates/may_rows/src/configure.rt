@@ -16,6 +16,7 @@ ghost use Rattle.may_rows.specs.Configures.{risks_before, risks_after, slots_aft
 
 use crate::entries::{misses_depends, misses_pre_depends};
 use crate::exclude::may_be_broken;
+use crate::instruction::LaneOf;
 use crate::members::some_may_member;
 use crate::space::may_exceed;
 use crate::state::MayHold;
@@ -171,25 +172,20 @@ fn configure_members(universe: &Universe, state: &mut MayHold, members: &[u32])
 ///
 /// The first trap that the configure may meet. The members are then configured, or the state is as
 /// it was.
-pub fn configure(
-    universe: &Universe,
-    tables: &Tables,
-    lane: &Lane,
-    state: &mut MayHold,
-    members: &[u32],
-) -> Result<(), Trap>
-    requires same { tables.now ≡ universe.now }
-    requires members { IsNameSet universe.now members.now }
-    requires of_lane { IsOfLane universe.now lane.now state.old }
-    ensures answer { (in_it may_be : Variant → Bool) → Answers universe.now lane.now in_it may_be
-        (may_of state.old) (Instruction.Configure members.now) (may_of state.new) result }
-    ensures of_lane { OnOk result (IsOfLane universe.now lane.now state.new) }
+pub fn configure(of: LaneOf<'_>, state: &mut MayHold, members: &[u32]) -> Result<(), Trap>
+    requires members { IsNameSet of.universe.now members.now }
+    requires of_lane { IsOfLane of.universe.now of.lane.now state.old }
+    ensures answer { (in_it may_be : Variant → Bool) → Answers of.entry.universe.now
+        of.entry.lane.now in_it may_be (may_of state.old) (Instruction.Configure members.now)
+        (may_of state.new) result }
+    ensures of_lane { OnOk result (IsOfLane of.entry.universe.now of.entry.lane.now state.new) }
 {
-    if let Some(trap) = risk_before(universe, tables, lane, state, members) {
+    let universe = of.universe;
+    if let Some(trap) = risk_before(universe, of.tables, of.lane, state, members) {
         return Err(trap);
     }
     configure_members(universe, state, members);
-    if let Some(trap) = risk_after(universe, tables, state, members) {
+    if let Some(trap) = risk_after(universe, of.tables, state, members) {
         return Err(trap);
     }
     state.spend(universe, members.len() as u64);

@@ -27,67 +27,43 @@ pub struct ArchiveWords {
     pub there: u64,
 }
 
+/// A lane over a universe with its rows.
+#[derive(Clone, Copy)]
+pub struct LaneOf<'a> {
+    pub universe: &'a Universe,
+    pub tables: &'a Tables,
+    pub dependents: &'a Dependents,
+    pub lane: &'a Lane,
+    ghost tables_are: { tables.now ≡ universe.now },
+    ghost dependents_are: { dependents.now ≡ universe.now },
+}
+
 /// Goes on by an instruction, where it is safe.
 fn go_on(
-    universe: &Universe,
-    tables: &Tables,
-    dependents: &Dependents,
-    lane: &Lane,
+    of: LaneOf<'_>,
     state: &mut MayHold,
     doubts: &Doubts,
     instruction: &Instruction,
     words: ArchiveWords,
 ) -> Result<(), Trap>
-    requires same { tables.now ≡ universe.now }
-    requires same_dependents { dependents.now ≡ universe.now }
-    requires instruction { IsInstruction universe.now instruction.now }
-    requires of_lane { IsOfLane universe.now lane.now state.old }
+    requires instruction { IsInstruction of.universe.now instruction.now }
+    requires of_lane { IsOfLane of.universe.now of.lane.now state.old }
     requires known_there { (b : ℕ) → word_has words.known b ≡ true → word_has words.there b ≡ true }
-    requires doubts { AreDoubts universe.now (may_of state.old) doubts.now }
-    ensures answer { (in_it may_be : Variant → Bool) → AreOfArchive universe.now in_it may_be
-        → AreWordsFor universe.now in_it may_be instruction.now words
-        → Answers universe.now lane.now in_it may_be (may_of state.old) instruction.now
-        (may_of state.new) result }
-    ensures of_lane { OnOk result (IsOfLane universe.now lane.now state.new) }
+    requires doubts { AreDoubts of.universe.now (may_of state.old) doubts.now }
+    ensures answer { (in_it may_be : Variant → Bool)
+        → AreOfArchive of.entry.universe.now in_it may_be
+        → AreWordsFor of.entry.universe.now in_it may_be instruction.now words
+        → Answers of.entry.universe.now of.entry.lane.now in_it may_be (may_of state.old)
+        instruction.now (may_of state.new) result }
+    ensures of_lane { OnOk result (IsOfLane of.entry.universe.now of.entry.lane.now state.new) }
 {
     match instruction {
-        Instruction::Unpack { name, relation } => unpack(
-            universe,
-            tables,
-            lane,
-            state,
-            *name,
-            relation,
-            words.known,
-            words.there,
-        ),
-        Instruction::Configure(members) => {
-            configure(universe, tables, lane, state, members.as_slice())
-        }
-        Instruction::Deconfigure(members) => {
-            deconfigure(
-                universe,
-                tables,
-                dependents,
-                lane,
-                state,
-                members.as_slice(),
-            )
-        }
-        Instruction::Remove(members) => {
-            remove(
-                universe,
-                tables,
-                dependents,
-                lane,
-                state,
-                members.as_slice(),
-            )
-        }
-        Instruction::Build(recipe) => {
-            build(universe, tables, dependents, lane, state, doubts, *recipe)
-        }
-        Instruction::Publish(recipe) => publish(universe, lane, state, *recipe),
+        Instruction::Unpack { name, relation } => unpack(of, state, *name, relation, words),
+        Instruction::Configure(members) => configure(of, state, members.as_slice()),
+        Instruction::Deconfigure(members) => deconfigure(of, state, members.as_slice()),
+        Instruction::Remove(members) => remove(of, state, members.as_slice()),
+        Instruction::Build(recipe) => build(of, state, doubts, *recipe),
+        Instruction::Publish(recipe) => publish(of.universe, of.lane, state, *recipe),
         Instruction::Wait(_)
         | Instruction::When { .. }
         | Instruction::Otherwise
@@ -104,41 +80,29 @@ fn go_on(
 ///
 /// The first trap that the instruction may meet. The state then is of no further use.
 pub fn step(
-    universe: &Universe,
-    tables: &Tables,
-    dependents: &Dependents,
-    lane: &Lane,
+    of: LaneOf<'_>,
     state: &mut MayHold,
     doubts: &mut Doubts,
     instruction: &Instruction,
     words: ArchiveWords,
 ) -> Result<(), Trap>
-    requires same { tables.now ≡ universe.now }
-    requires same_dependents { dependents.now ≡ universe.now }
-    requires instruction { IsInstruction universe.now instruction.now }
-    requires of_lane { IsOfLane universe.now lane.now state.old }
+    requires instruction { IsInstruction of.universe.now instruction.now }
+    requires of_lane { IsOfLane of.universe.now of.lane.now state.old }
     requires known_there { (b : ℕ) → word_has words.known b ≡ true → word_has words.there b ≡ true }
-    requires doubts { AreDoubts universe.now (may_of state.old) doubts.old }
-    ensures answer { (in_it may_be : Variant → Bool) → AreOfArchive universe.now in_it may_be
-        → AreWordsFor universe.now in_it may_be instruction.now words
-        → Answers universe.now lane.now in_it may_be (may_of state.old) instruction.now
-        (may_of state.new) result }
-    ensures of_lane { OnOk result (IsOfLane universe.now lane.now state.new) }
-    ensures doubts { (in_it may_be : Variant → Bool) → AreOfArchive universe.now in_it may_be
-        → AreWordsFor universe.now in_it may_be instruction.now words
-        → OnOk result (AreDoubts universe.now (may_of state.new) doubts.new) }
+    requires doubts { AreDoubts of.universe.now (may_of state.old) doubts.old }
+    ensures answer { (in_it may_be : Variant → Bool)
+        → AreOfArchive of.entry.universe.now in_it may_be
+        → AreWordsFor of.entry.universe.now in_it may_be instruction.now words
+        → Answers of.entry.universe.now of.entry.lane.now in_it may_be (may_of state.old)
+        instruction.now (may_of state.new) result }
+    ensures of_lane { OnOk result (IsOfLane of.entry.universe.now of.entry.lane.now state.new) }
+    ensures doubts { (in_it may_be : Variant → Bool)
+        → AreOfArchive of.entry.universe.now in_it may_be
+        → AreWordsFor of.entry.universe.now in_it may_be instruction.now words
+        → OnOk result (AreDoubts of.entry.universe.now (may_of state.new) doubts.new) }
 {
-    let upgraded = upgrades(universe, state, instruction);
-    go_on(
-        universe,
-        tables,
-        dependents,
-        lane,
-        state,
-        doubts,
-        instruction,
-        words,
-    )?;
+    let upgraded = upgrades(of.universe, state, instruction);
+    go_on(of, state, doubts, instruction, words)?;
     doubts.pass(instruction, upgraded);
     Ok(())
 }

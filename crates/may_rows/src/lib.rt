@@ -26,7 +26,7 @@ mod write;
 pub use ahead::meets_ahead;
 pub use dependents::Dependents;
 pub use doubts::Doubts;
-pub use instruction::{ArchiveWords, step};
+pub use instruction::{ArchiveWords, LaneOf, step};
 pub use sets::{has_bit, variant_count};
 pub use space::greatest_size;
 pub use state::MayHold;

@@ -17,6 +17,7 @@ ghost use Rattle.may_rows.specs.Unpacks.{cleared_risks};
 
 use crate::ahead::misses_ahead;
 use crate::exclude::{may_break, may_conflict};
+use crate::instruction::{ArchiveWords, LaneOf};
 use crate::pick::pick;
 use crate::sets::some_of;
 use crate::space::{greatest_size, may_exceed, may_overflow};
@@ -26,7 +27,7 @@ use deb_version::Version;
 use farm_universe::limits::{MOST_NAMES, MOST_SIZE};
 use farm_universe::relations::VariantTest;
 use farm_universe::{Trap, Universe, Variant};
-use plan_asm::{Instruction, Lane};
+use plan_asm::Instruction;
 use sat_rows::Tables;
 
 /// The variants with a Pre-Depends entry that may not be met ahead of their unpack.
@@ -95,25 +96,18 @@ fn unpack_cost(universe: &Universe, name: u32, set: u64) -> u64
 /// The first trap that an unpack of a variant of a set may meet, where the state holds nothing of
 /// its name and `used` KiB may be taken before it.
 #[tactic(auto, unfolding(farm_model::specs::Traps::first_trap))]
-fn unpack_risk(
-    universe: &Universe,
-    tables: &Tables,
-    lane: &Lane,
-    state: &MayHold,
-    used: u64,
-    name: u32,
-    set: u64,
-) -> Option<Trap>
-    requires same { tables.now ≡ universe.now }
-    requires state { AreWords universe.now state.now }
-    requires based { lane.now.base < length universe.now.bases }
-    requires within { state.now.cost ≤ lane.now.budget }
+fn unpack_risk(of: LaneOf<'_>, state: &MayHold, used: u64, name: u32, set: u64) -> Option<Trap>
+    requires state { AreWords of.universe.now state.now }
+    requires based { of.lane.now.base < length of.universe.now.bases }
+    requires within { state.now.cost ≤ of.lane.now.budget }
     requires small { used ≤ MOST_NAMES * MOST_SIZE }
-    ensures { result ≡ first_trap
-        (cleared_risks universe.now lane.now (may_of state.now) used name (word_has set)) }
+    ensures { result ≡ first_trap (cleared_risks of.entry.universe.now of.entry.lane.now
+        (may_of state.now) used name (word_has set)) }
 {
+    let universe = of.universe;
+    let tables = of.tables;
     let size = greatest_size(universe, name, set);
-    if may_exceed(lane.budget(), state, unpack_cost(universe, name, set)) {
+    if may_exceed(of.lane.budget(), state, unpack_cost(universe, name, set)) {
         return Some(Trap::OverBudget); // X14
     }
     if some_of(universe, name, set, &MissesAhead { tables, state }) {
@@ -125,48 +119,47 @@ fn unpack_risk(
     if some_of(universe, name, set, &MayBreak { tables, state }) {
         return Some(Trap::BreaksOther); // X4
     }
-    if may_overflow(universe, lane, used, size) {
+    if may_overflow(universe, of.lane, used, size) {
         return Some(Trap::Full); // X5
     }
     None
 }
 
 /// Unpacks a variant of a name, one that is in the relation and as high as the highest that is
-/// surely in the archive, or tells the first trap that this may meet. `known` and `there` are the
-/// words of what of the name is surely in the archive, and of what may be.
+/// surely in the archive, or tells the first trap that this may meet. `words` is what of the name is
+/// in the archive.
 ///
 /// # Errors
 ///
 /// The first trap that the unpack may meet. The state then holds nothing of the name, or is as it
 /// was.
 pub fn unpack(
-    universe: &Universe,
-    tables: &Tables,
-    lane: &Lane,
+    of: LaneOf<'_>,
     state: &mut MayHold,
     name: u32,
     relation: &Option<(Op, Version)>,
-    known: u64,
-    there: u64,
+    words: ArchiveWords,
 ) -> Result<(), Trap>
-    requires same { tables.now ≡ universe.now }
-    requires named { name < packages.names universe.now }
-    requires of_lane { IsOfLane universe.now lane.now state.old }
-    requires known_there { (b : ℕ) → word_has known b ≡ true → word_has there b ≡ true }
-    ensures answer { (in_it may_be : Variant → Bool) → AreOfArchive universe.now in_it may_be
-        → IsWordFor universe.now in_it name known → IsWordFor universe.now may_be name there
-        → Answers universe.now lane.now in_it may_be (may_of state.old)
+    requires named { name < packages.names of.universe.now }
+    requires of_lane { IsOfLane of.universe.now of.lane.now state.old }
+    requires known_there { (b : ℕ) → word_has words.known b ≡ true → word_has words.there b ≡ true }
+    ensures answer { (in_it may_be : Variant → Bool)
+        → AreOfArchive of.entry.universe.now in_it may_be
+        → IsWordFor of.entry.universe.now in_it name words.known
+        → IsWordFor of.entry.universe.now may_be name words.there
+        → Answers of.entry.universe.now of.entry.lane.now in_it may_be (may_of state.old)
         (Instruction.Unpack name relation.now) (may_of state.new) result }
-    ensures of_lane { OnOk result (IsOfLane universe.now lane.now state.new) }
+    ensures of_lane { OnOk result (IsOfLane of.entry.universe.now of.entry.lane.now state.new) }
 {
-    let Some(set) = pick(universe, name, relation, known, there) else {
+    let universe = of.universe;
+    let Some(set) = pick(universe, name, relation, words.known, words.there) else {
         return Err(Trap::Missing); // X1
     };
     let _names = universe.names();
     let last = state.last_word(name);
     let used = state.used();
     state.put(universe, name, 0, 0, 0);
-    if let Some(trap) = unpack_risk(universe, tables, lane, state, used, name, set) {
+    if let Some(trap) = unpack_risk(of, state, used, name, set) {
         return Err(trap);
     }
     state.put(universe, name, set, 0, last);

@@ -12,7 +12,7 @@ ghost use Rattle.may_rows.specs.Walk.{Answers, IsOfLane};
 ghost use Rattle.may_rows.specs.Configures.{slots_after};
 ghost use Rattle.may_rows.specs.Withdraws.{may_be_withdrawn, deconfigure_risks_before, remove_risks_before};
 
-use crate::dependents::Dependents;
+use crate::instruction::LaneOf;
 use crate::members::some_may_member;
 use crate::needed::some_needs;
 use crate::space::may_exceed;
@@ -20,7 +20,6 @@ use crate::state::MayHold;
 use farm_universe::essential::IsEssential;
 use farm_universe::{Trap, Universe};
 use plan_asm::{Instruction, Lane};
-use sat_rows::Tables;
 
 impl MayHold {
     /// Takes what is configured of a name out of what is ready, and keeps it as the last.
@@ -123,27 +122,20 @@ fn remove_risk(universe: &Universe, lane: &Lane, state: &MayHold, members: &[u32
 ///
 /// The first trap that the deconfigure may meet. The members are then withdrawn, or the state is as
 /// it was.
-pub fn deconfigure(
-    universe: &Universe,
-    tables: &Tables,
-    dependents: &Dependents,
-    lane: &Lane,
-    state: &mut MayHold,
-    members: &[u32],
-) -> Result<(), Trap>
-    requires same { tables.now ≡ universe.now }
-    requires same_dependents { dependents.now ≡ universe.now }
-    requires members { IsNameSet universe.now members.now }
-    requires of_lane { IsOfLane universe.now lane.now state.old }
-    ensures answer { (in_it may_be : Variant → Bool) → Answers universe.now lane.now in_it may_be
-        (may_of state.old) (Instruction.Deconfigure members.now) (may_of state.new) result }
-    ensures of_lane { OnOk result (IsOfLane universe.now lane.now state.new) }
+pub fn deconfigure(of: LaneOf<'_>, state: &mut MayHold, members: &[u32]) -> Result<(), Trap>
+    requires members { IsNameSet of.universe.now members.now }
+    requires of_lane { IsOfLane of.universe.now of.lane.now state.old }
+    ensures answer { (in_it may_be : Variant → Bool) → Answers of.entry.universe.now
+        of.entry.lane.now in_it may_be (may_of state.old) (Instruction.Deconfigure members.now)
+        (may_of state.new) result }
+    ensures of_lane { OnOk result (IsOfLane of.entry.universe.now of.entry.lane.now state.new) }
 {
-    if let Some(trap) = deconfigure_risk(universe, lane, state, members) {
+    let universe = of.universe;
+    if let Some(trap) = deconfigure_risk(universe, of.lane, state, members) {
         return Err(trap);
     }
     withdraw_members(universe, state, members);
-    if some_needs(universe, tables, dependents, state, members) {
+    if some_needs(universe, of.tables, of.dependents, state, members) {
         return Err(Trap::StillNeeded); // X9
     }
     state.spend(universe, members.len() as u64);
@@ -156,27 +148,20 @@ pub fn deconfigure(
 ///
 /// The first trap that the remove may meet. The members are then withdrawn, or the state is as it
 /// was.
-pub fn remove(
-    universe: &Universe,
-    tables: &Tables,
-    dependents: &Dependents,
-    lane: &Lane,
-    state: &mut MayHold,
-    members: &[u32],
-) -> Result<(), Trap>
-    requires same { tables.now ≡ universe.now }
-    requires same_dependents { dependents.now ≡ universe.now }
-    requires members { IsNameSet universe.now members.now }
-    requires of_lane { IsOfLane universe.now lane.now state.old }
-    ensures answer { (in_it may_be : Variant → Bool) → Answers universe.now lane.now in_it may_be
-        (may_of state.old) (Instruction.Remove members.now) (may_of state.new) result }
-    ensures of_lane { OnOk result (IsOfLane universe.now lane.now state.new) }
+pub fn remove(of: LaneOf<'_>, state: &mut MayHold, members: &[u32]) -> Result<(), Trap>
+    requires members { IsNameSet of.universe.now members.now }
+    requires of_lane { IsOfLane of.universe.now of.lane.now state.old }
+    ensures answer { (in_it may_be : Variant → Bool) → Answers of.entry.universe.now
+        of.entry.lane.now in_it may_be (may_of state.old) (Instruction.Remove members.now)
+        (may_of state.new) result }
+    ensures of_lane { OnOk result (IsOfLane of.entry.universe.now of.entry.lane.now state.new) }
 {
-    if let Some(trap) = remove_risk(universe, lane, state, members) {
+    let universe = of.universe;
+    if let Some(trap) = remove_risk(universe, of.lane, state, members) {
         return Err(trap);
     }
     withdraw_members(universe, state, members);
-    if some_needs(universe, tables, dependents, state, members) {
+    if some_needs(universe, of.tables, of.dependents, state, members) {
         return Err(Trap::StillNeeded); // X9
     }
     remove_members(universe, state, members);

@@ -1,16 +1,17 @@
 -- The events of the lanes, made one after another.
-use Rattle.std.proofs.Common.{◌≡◌, ◌≢◌, ℕ, zero, suc, ◌+◌, ◌<◌, ◌≤◌, Bool, true, false, List, [], ◌∷◌, ◌++◌, length, map, take, drop, get_or, Option, Some, None, slice_get, slice_index, slice_set, inl, inr, refl, sym, ap, subst, ◌∙◌, arith, length-set, get_or-set_same, get_or-set_other}
+use Rattle.std.proofs.Common.{◌≡◌, ◌≢◌, ℕ, zero, suc, ◌+◌, ◌<◌, ◌≤◌, Bool, true, false, List, [], ◌∷◌, ◌++◌, length, map, take, drop, get_or, Option, Some, None, slice_get, slice_index, slice_set, All, inl, inr, refl, sym, ap, subst, ◌∙◌, arith, length-set, get_or-set_same, get_or-set_other}
 use Rattle.std.proofs.Math.Seq.{drop-cons}
 use Rattle.std.proofs.lemmas.Bool.{cases_eq, cases_lt, eq-eqb, ne_eqb, false≢true}
 use Rattle.std.proofs.lemmas.Grind.{flat_map-append}
-use Rattle.std.proofs.lemmas.List.{append-nil, map-append, get_or_past, take_all, length-map, drop-map, take_more}
+use Rattle.std.proofs.lemmas.List.{append-nil, map-append, get_or_past, take_all, length-map, drop-map}
+use Rattle.std.proofs.lemmas.List.Elements.{All-append, All-map}
 use Rattle.bit_rows.specs.Sets.{variants_of, AddsVariant}
 use Rattle.deb_relation.specs.Relations.{Entry}
 use Rattle.farm_laws.proofs.Archive.{take_some}
 use Rattle.farm_model.specs.declared.types.Variant.{Variant}
 use Rattle.farm_model.specs.Universe.{Universe}
-use Rattle.farm_model.specs.Packages.{names}
-use Rattle.farm_model.specs.Sound.{IsKnown}
+use Rattle.farm_model.specs.Packages.{names, outputs}
+use Rattle.farm_model.specs.Sound.{IsUniverse, IsKnown}
 use Rattle.plan_model.specs.declared.instructions.Instruction.{Instruction}
 use Rattle.plan_model.specs.declared.instructions.Instruction.TheVariants.{Wait}
 use Rattle.plan_model.specs.Order.{Item, Pass, Give, items_of, items, start_board, on_board, rest_of, board_after, Reaches, IsOrder}
@@ -22,7 +23,7 @@ use Rattle.wait_order.proofs.Boards.{reached_same}
 use Rattle.wait_order.proofs.Leading.{makes_none, makes_pass, makes_give}
 use Rattle.plan_cert.specs.declared.events.Event.{Event}
 use Rattle.plan_cert.specs.Broken.{IsBrokenAt}
-use Rattle.plan_cert.specs.Events.{entry_of, item_of, AreEvents, lane_items, left_by, IsMade, IsStep}
+use Rattle.plan_cert.specs.Events.{entry_of, item_of, IsEvent, AreEvents, lane_items, left_by, IsMade, IsStep}
 
 pub items-next : (u : Universe) (is : List Instruction) (i : ℕ) (x : Instruction)
     → slice_get is i ≡ Some x → items u (take (i + 1) is) ≡ items u (take i is) ++ items_of u x
@@ -36,22 +37,26 @@ pub items-start : (u : Universe) (is : List Instruction) → [] ≡ items u (tak
 unfolding items
 items-start u is = refl
 
--- one more output
-pub gives-more : (p : Plan) (l : ℕ) (events : List Event) (vs : List Variant) (i : ℕ) (d v : Variant)
-    (before : List Item) → i < length vs → v ≡ get_or vs i d
-    → map (item_of p l) events ≡ before ++ map Give (take i vs)
-    → map (item_of p l) (events ++ Event.Give v ∷ []) ≡ before ++ map Give (take (i + 1) vs)
-gives-more p l events vs i d v before lt is so_far =
-    map-append (item_of p l) events (Event.Give v ∷ [])
-    ∙ ap (λ xs. xs ++ Give v ∷ []) so_far
-    ∙ assoc before (map Give (take i vs)) (Give v ∷ [])
-    ∙ ap (λ xs. before ++ xs) (sym (map-append Give (take i vs) (v ∷ [])))
-    ∙ ap (λ w. before ++ map Give (take i vs ++ w ∷ [])) is
-    ∙ ap (λ xs. before ++ map Give xs) (sym (take_more vs i d lt))
-  where
-    assoc : (a b c : List Item) → (a ++ b) ++ c ≡ a ++ (b ++ c)
-    assoc [] b c = refl
-    assoc (x ∷ xs) b c = ap (λ ys. x ∷ ys) (assoc xs b c)
+-- the outputs of a recipe behind some events
+pub gives-each : (u : Universe) (p : Plan) (l r : ℕ) (events more : List Event) → IsUniverse u
+    → All (IsEvent u p l) events → more ≡ events ++ map Event.Give (outputs u r)
+    → All (IsEvent u p l) more
+gives-each u p l r events more sound each is =
+    subst (All (IsEvent u p l)) (sym is)
+    (All-append (IsEvent u p l) events (map Event.Give (outputs u r)) each
+    (All-map (IsEvent u p l) Event.Give (outputs u r) (sound.outputs_known r)))
+
+gives : (p : Plan) (l : ℕ) (vs : List Variant)
+    → map (item_of p l) (map Event.Give vs) ≡ map Give vs
+gives p l [] = refl
+gives p l (v ∷ vs) = ap (λ xs. Give v ∷ xs) (gives p l vs)
+
+pub gives-items : (p : Plan) (l : ℕ) (vs : List Variant) (events more : List Event)
+    → more ≡ events ++ map Event.Give vs
+    → map (item_of p l) more ≡ map (item_of p l) events ++ map Give vs
+gives-items p l vs events more is =
+    ap (map (item_of p l)) is ∙ map-append (item_of p l) events (map Event.Give vs)
+    ∙ ap (λ xs. map (item_of p l) events ++ xs) (gives p l vs)
 
 pub pass-more : (u : Universe) (p : Plan) (l place : ℕ) (events : List Event) (x : Instruction)
     (e : Entry) → instruction_at p l place ≡ Some x → x ≡ Wait e

@@ -1,11 +1,10 @@
 -- The row that holds behind an instruction, and the `when` that is open there.
 use Rattle.std.proofs.Common.{◌≡◌, ℕ, zero, suc, ◌+◌, true, false, List, Option, Some, None, slice_get, refl, sym, ap, ◌∙◌, arith}
 use Rattle.std.proofs.lemmas.Bool.{false≢true}
-use Rattle.cert_text.specs.Certificates.{learns}
 use Rattle.plan_model.specs.declared.instructions.Instruction.{Instruction}
 use Rattle.plan_model.specs.declared.instructions.Instruction.TheVariants.{Publish, Wait, When, Otherwise, EndWhen}
 use Rattle.plan_model.specs.Branches.{Side, Outside, InFirst, InSecond, second_of, side_behind, side_behind_some, side_at, home}
-use Rattle.plan_model.specs.Known.{row_before}
+use Rattle.plan_model.specs.Known.{row_before, teaches}
 use Rattle.plan_model.specs.Plan.{Plan, lane, instruction_at}
 use Rattle.plan_cert.specs.Opens.{open_of, open_at, open_behind, or_here, place_before}
 use Rattle.plan_cert.specs.Stated.{rows_before, Held, ended, held_behind, held_behind_some, held_at}
@@ -93,11 +92,11 @@ module _ (p : Plan) (l : ℕ) where
         ap (held_behind_some (side_at xs i) (rows_before p l (suc i)) (held_at p l i)) at
 
     -- what has no row leaves the lane with the row of the place from which it goes on
-    pub held-quiet : learns x ≡ false
+    pub held-quiet : teaches x ≡ false
         → (held_at p l (suc i)).here ≡ (held_at p l (row_before p l i x)).here
     held-quiet quiet = ap (λ (h : Held). h.here) held-next ∙ by x quiet
       where
-        by : (y : Instruction) → learns y ≡ false
+        by : (y : Instruction) → teaches y ≡ false
             → (held_behind (side_at xs i) (rows_before p l (suc i)) (held_at p l i) y).here
             ≡ (held_at p l (row_before p l i y)).here
         by (Publish r) none = absurd (false≢true (sym none))
@@ -108,10 +107,10 @@ module _ (p : Plan) (l : ℕ) where
         by _ none = refl
 
     -- what has a row leaves the lane with it
-    pub held-learns : learns x ≡ true → (held_at p l (suc i)).here ≡ rows_before p l (suc i)
+    pub held-learns : teaches x ≡ true → (held_at p l (suc i)).here ≡ rows_before p l (suc i)
     held-learns learnt = ap (λ (h : Held). h.here) held-next ∙ by x learnt
       where
-        by : (y : Instruction) → learns y ≡ true
+        by : (y : Instruction) → teaches y ≡ true
             → (held_behind (side_at xs i) (rows_before p l (suc i)) (held_at p l i) y).here
             ≡ rows_before p l (suc i)
         by (Publish r) some = refl

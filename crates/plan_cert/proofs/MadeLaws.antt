@@ -4,14 +4,14 @@ use Rattle.std.proofs.lemmas.Bool.{or_cases, or_left, cases_lt, cases_Bool, fals
 use Rattle.std.proofs.lemmas.List.{get_or_past, take_all}
 use Rattle.std.proofs.lemmas.List.Elements.{All-nil}
 use Rattle.std.proofs.lemmas.Option.{slice_get_cases, slice_get_within}
-use Rattle.cert_text.specs.Certificates.{Certificate, lane_rows, learns, IsNewRow, IsCertificate}
+use Rattle.cert_text.specs.Certificates.{Certificate, lane_rows, IsNewRow, IsCertificate}
 use Rattle.farm_model.proofs.TestLaws.{same_tests}
 use Rattle.farm_model.specs.declared.types.Variant.{Variant}
 use Rattle.farm_model.specs.Universe.{Universe}
 use Rattle.farm_model.specs.Packages.{initial}
 use Rattle.plan_model.specs.declared.instructions.Instruction.{Instruction}
 use Rattle.plan_model.specs.declared.instructions.Instruction.TheVariants.{Publish, Wait, When}
-use Rattle.plan_model.specs.Known.{Rows, Adds, row_before, IsGreatest}
+use Rattle.plan_model.specs.Known.{Rows, Adds, row_before, IsGreatest, teaches}
 use Rattle.plan_model.specs.Order.{IsOrder}
 use Rattle.plan_model.specs.Plan.{Plan, lane, instruction_at}
 use Rattle.plan_model.specs.Safety.{IsSafeUnder}
@@ -29,7 +29,7 @@ use Rattle.plan_cert.specs.Stated.{rows_before, held_at, lists, stated_rows}
 
 -- only what teaches adds to what is known
 adds-learns : (u : Universe) (p : Plan) (known : Rows) (l i : ℕ) (v : Variant) (x : Instruction)
-    → learns x ≡ false → Adds u p known l i v x → ⊥
+    → teaches x ≡ false → Adds u p known l i v x → ⊥
 adds-learns u p known l i v (Publish r) quiet adds = false≢true (sym quiet)
 adds-learns u p known l i v (Wait e) quiet adds = false≢true (sym quiet)
 adds-learns u p known l i v (When name wanted) quiet adds = false≢true (sym quiet)
@@ -53,7 +53,7 @@ module _ (u : Universe) (p : Plan) (known : Rows) (order : List ℕ) (lanes : Li
       record {
         lanes = are.long;
         counts = λ l lt. (are.each l lt).counted
-            ∙ ap (count_by learns) (take_all (length (lane p l).instructions) (lane p l).instructions (omega arith));
+            ∙ ap (count_by teaches) (take_all (length (lane p l).instructions) (lane p l).instructions (omega arith));
         rows = λ l. elim (cases_lt l (length p)) [
           | inl lt ↦ (are.each l lt).new
           | inr past ↦ subst (All (IsNewRow u))
@@ -73,7 +73,7 @@ module _ (u : Universe) (p : Plan) (known : Rows) (order : List ℕ) (lanes : Li
 
   -- what it states is what is known
   quiet-same : (l i : ℕ) (v : Variant) (x : Instruction) → l < length p
-      → instruction_at p l i ≡ Some x → learns x ≡ false
+      → instruction_at p l i ≡ Some x → teaches x ≡ false
       → known l (suc i) v ≡ known l (row_before p l i x) v
   quiet-same l i v x lt at quiet =
       same_tests (known l (suc i) v) (known l (row_before p l i x) v)
@@ -92,7 +92,7 @@ module _ (u : Universe) (p : Plan) (known : Rows) (order : List ℕ) (lanes : Li
       → suc i ≤ length (lane p l).instructions → instruction_at p l i ≡ Some x
       → IsSameAt l (row_before p l i x) → known l (suc i) v ≡ stated_rows u p made l (suc i) v
   next-same l i v x lt le at same =
-      elim (cases_Bool (learns x)) [
+      elim (cases_Bool (teaches x)) [
         | inl learnt ↦
             let count : suc (rows_before p l i) ≡ (held_at p l (suc i)).here =
             omega (

@@ -6,12 +6,12 @@ use Rattle.std.proofs.lemmas.List.{length-append, get_or_append_left, take-take}
 use Rattle.std.proofs.lemmas.List.Elements.{All-nil, All-push}
 use Rattle.std.proofs.lemmas.List.Sums.{sum_by-take-le}
 use Rattle.bit_rows.specs.Sets.{variants_of, IsDifference}
-use Rattle.cert_text.specs.Certificates.{learns, IsNewRow}
+use Rattle.cert_text.specs.Certificates.{IsNewRow}
 use Rattle.farm_model.specs.Universe.{Universe}
 use Rattle.farm_model.specs.Packages.{initial}
 use Rattle.farm_model.specs.Sound.{IsUniverse}
 use Rattle.plan_model.specs.declared.instructions.Instruction.{Instruction}
-use Rattle.plan_model.specs.Known.{Rows, KeepsRows}
+use Rattle.plan_model.specs.Known.{Rows, KeepsRows, teaches}
 use Rattle.plan_model.specs.Plan.{Plan, lane, instruction_at}
 use Rattle.sat_rows.specs.Rows.{IsRowOf}
 use Rattle.verdict_laws.proofs.Inclusions.{possible-known}
@@ -52,29 +52,29 @@ rows-none u p known l = record {
 }
 
 abbrev count-one : Instruction → ℕ
-count-one x = cond (learns x) 1 0
+count-one x = cond (teaches x) 1 0
 
 -- a row that is listed before a place is counted there
 row-counted : (p : Plan) (l i k : ℕ) (x : Instruction) → k < i → instruction_at p l k ≡ Some x
-    → learns x ≡ true → rows_before p l k < rows_before p l i
+    → teaches x ≡ true → rows_before p l k < rows_before p l i
 row-counted p l i k x lt at learnt =
     let is = (lane p l).instructions in
     let more = next-learns p l k x at learnt in
     let part = sum_by-take-le count-one (take i is) (k + 1) in
-    let same = ap (count_by learns) (take-take (k + 1) i is (omega (arith, lt))) in
+    let same = ap (count_by teaches) (take-take (k + 1) i is (omega (arith, lt))) in
     omega (arith, more, part, same)
 
 module _ (u : Universe) (p : Plan) (known : Rows) (l i : ℕ) (x : Instruction)
     (at : instruction_at p l i ≡ Some x) (rows : List (List ℕ)) (are : AreNewRows u p known l i rows) where
   -- behind an instruction without a row
-  pub rows-quiet : learns x ≡ false → AreNewRows u p known l (i + 1) rows
+  pub rows-quiet : teaches x ≡ false → AreNewRows u p known l (i + 1) rows
   rows-quiet quiet =
       record {
         counted = are.counted ∙ sym (next-quiet p l i x at quiet);
         new = are.new;
         each = λ k y lt there learnt.
             elim (cases_eq k i) [
-              | inl here ↦ absurd (false≢true (sym quiet ∙ sym (ap learns (same k y here there)) ∙ learnt))
+              | inl here ↦ absurd (false≢true (sym quiet ∙ sym (ap teaches (same k y here there)) ∙ learnt))
               | inr other ↦ are.each k y (omega (arith, lt, other)) there learnt
             ];
       }
@@ -84,7 +84,7 @@ module _ (u : Universe) (p : Plan) (known : Rows) (l i : ℕ) (x : Instruction)
           let e : Some y ≡ Some x = sym there ∙ ap (instruction_at p l) here ∙ at in cc
 
   -- behind one with a row
-  pub rows-learnt : (row : List ℕ) (more : List (List ℕ)) → learns x ≡ true → IsNewRow u row
+  pub rows-learnt : (row : List ℕ) (more : List (List ℕ)) → teaches x ≡ true → IsNewRow u row
       → IsNewAt u known l (i + 1) row → more ≡ rows ++ row ∷ [] → AreNewRows u p known l (i + 1) more
   rows-learnt row more learnt new is items =
       subst (AreNewRows u p known l (i + 1)) (sym items) (record {
@@ -106,7 +106,7 @@ module _ (u : Universe) (p : Plan) (known : Rows) (l i : ℕ) (x : Instruction)
           ∙ ap (λ r. in_row r v) (get_or-append_seam rows row [] [])
           ∙ is v ∙ ap (λ n. known l n v && not (initial u v)) next
 
-      earlier : (k : ℕ) (y : Instruction) → k < i → instruction_at p l k ≡ Some y → learns y ≡ true
+      earlier : (k : ℕ) (y : Instruction) → k < i → instruction_at p l k ≡ Some y → teaches y ≡ true
           → IsNewAt u known l (suc k) (slice_index_or (rows ++ row ∷ []) (rows_before p l k) [])
       earlier k y lt there learns_y v =
           let within = row-counted p l i k y lt there learns_y in

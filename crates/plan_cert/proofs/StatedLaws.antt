@@ -3,7 +3,7 @@ use Rattle.std.proofs.Common.{◌≡◌, ℕ, zero, suc, ◌+◌, ◌<◌, Bool,
 use Rattle.std.proofs.lemmas.Bool.{or_cases, and_parts, and_from, cases_lt, lt-ltb, false≢true}
 use Rattle.std.proofs.lemmas.List.{get_or_past}
 use Rattle.std.proofs.lemmas.List.Sums.{sum_by-append}
-use Rattle.cert_text.specs.Certificates.{Certificate, lane_rows, learns, count_rows, IsNewRow, IsCertificate}
+use Rattle.cert_text.specs.Certificates.{Certificate, lane_rows, count_rows, IsNewRow, IsCertificate}
 use Rattle.clause_kernel.proofs.Words.{word_has_zero}
 use Rattle.farm_laws.proofs.Archive.{take_some}
 use Rattle.farm_model.proofs.TestLaws.{same_tests}
@@ -12,7 +12,7 @@ use Rattle.farm_model.specs.Universe.{Universe}
 use Rattle.farm_model.specs.Packages.{variants, initial}
 use Rattle.farm_model.specs.Sound.{IsKnown, IsUniverse}
 use Rattle.plan_model.specs.declared.instructions.Instruction.{Instruction}
-use Rattle.plan_model.specs.Known.{row_before}
+use Rattle.plan_model.specs.Known.{row_before, teaches}
 use Rattle.plan_model.specs.Plan.{Plan, lane, instruction_at}
 use Rattle.sat_rows.specs.Rows.{IsRowOf}
 use Rattle.wait_order.proofs.ArchiveRows.{row_same}
@@ -22,27 +22,27 @@ use Rattle.plan_cert.specs.Stated.{rows_before, held_at, in_row, lists, stated_r
 
 module _ (p : Plan) (l i : ℕ) (x : Instruction) (at : instruction_at p l i ≡ Some x) where
   abbrev one : Instruction → ℕ
-  one y = cond (learns y) 1 0
+  one y = cond (teaches y) 1 0
 
   next : rows_before p l (i + 1) ≡ rows_before p l i + one x
   next =
       let e : i + 1 ≡ suc i = omega arith in
       let split = sum_by-append one (take i (lane p l).instructions) (x ∷ []) in
-      ap (λ k. count_by learns (take k (lane p l).instructions)) e
-      ∙ ap (count_by learns) (take_some (lane p l).instructions i x at)
+      ap (λ k. count_by teaches (take k (lane p l).instructions)) e
+      ∙ ap (count_by teaches) (take_some (lane p l).instructions i x at)
       ∙ omega (arith, split)
 
-  pub next-quiet : learns x ≡ false → rows_before p l (i + 1) ≡ rows_before p l i
+  pub next-quiet : teaches x ≡ false → rows_before p l (i + 1) ≡ rows_before p l i
   next-quiet e = let none : one x ≡ 0 = rw e refl in omega (arith, next, none)
 
-  pub next-learns : learns x ≡ true → rows_before p l (i + 1) ≡ rows_before p l i + 1
+  pub next-learns : teaches x ≡ true → rows_before p l (i + 1) ≡ rows_before p l i + 1
   next-learns e = let some : one x ≡ 1 = rw e refl in omega (arith, next, some)
 
-  pub row-there : learns x ≡ true → rows_before p l i < count_rows (lane p l)
+  pub row-there : teaches x ≡ true → rows_before p l i < count_rows (lane p l)
   row-there e =
       let is = (lane p l).instructions in
       let split = sum_by-append one (take (i + 1) is) (drop (i + 1) is) in
-      let whole = ap (count_by learns) (take-append-drop (i + 1) is) in
+      let whole = ap (count_by teaches) (take-append-drop (i + 1) is) in
       omega (arith, next-learns e, split, whole)
 
 -- a certificate of the plan
@@ -76,13 +76,13 @@ module _ (u : Universe) (p : Plan) (c : Certificate) (is : IsCertificate u p c) 
 
   -- behind an instruction without a row
   pub stated-quiet : (l i : ℕ) (x : Instruction) (v : Variant) → instruction_at p l i ≡ Some x
-      → learns x ≡ false
+      → teaches x ≡ false
       → stated_rows u p c l (suc i) v ≡ stated_rows u p c l (row_before p l i x) v
   stated-quiet l i x v at quiet =
       ap (λ k. initial u v || lists (lane_rows c l) k v) (held-quiet p l i x at quiet)
 
   pub row-quiet : (l i n : ℕ) (x : Instruction) (rows : List (List ℕ))
-      → instruction_at p l i ≡ Some x → learns x ≡ false
+      → instruction_at p l i ≡ Some x → teaches x ≡ false
       → IsRowAt u (stated_rows u p c l (row_before p l i x)) rows n
       → IsRowAt u (stated_rows u p c l (i + 1)) rows n
   row-quiet l i n x rows at quiet r = record {
@@ -95,7 +95,7 @@ module _ (u : Universe) (p : Plan) (c : Certificate) (is : IsCertificate u p c) 
 
   -- and behind one with a row, of which so many are listed before it
   pub row-listed : (l i k : ℕ) (x : Instruction) (listed row : List ℕ)
-      → instruction_at p l i ≡ Some x → learns x ≡ true → k ≡ rows_before p l i
+      → instruction_at p l i ≡ Some x → teaches x ≡ true → k ≡ rows_before p l i
       → k < length (lane_rows c l) → listed ≡ get_or (lane_rows c l) k listed
       → IsRowOf u (λ v. initial u v || in_row listed v) row
       → IsRowOf u (stated_rows u p c l (i + 1)) row

@@ -7,12 +7,12 @@
 --   AreNewRows           the rows of a lane behind its first i instructions
 --   AreNewLanes          those of the lanes below n
 use Rattle.std.specs.Prelude.{◌≡◌, ℕ, suc, ◌<◌, true, not, ◌&&◌, List, [], length, Some, slice_index_or, All}
-use Rattle.cert_text.specs.Certificates.{Certificate, lane_rows, learns, IsNewRow}
+use Rattle.cert_text.specs.Certificates.{Certificate, lane_rows, IsNewRow}
 use Rattle.farm_model.specs.declared.types.Variant.{Variant}
 use Rattle.farm_model.specs.Universe.{Universe}
 use Rattle.farm_model.specs.Packages.{initial}
 use Rattle.plan_model.specs.declared.instructions.Instruction.{Instruction}
-use Rattle.plan_model.specs.Known.{Rows, IsGreatest}
+use Rattle.plan_model.specs.Known.{Rows, IsGreatest, teaches}
 use Rattle.plan_model.specs.Plan.{Plan, lane, instruction_at}
 use Rattle.plan_cert.specs.Stated.{rows_before, in_row}
 
@@ -32,7 +32,7 @@ pub record IsCertificateOf (u : Universe) (p : Plan) (known : Rows) (lanes : Lis
   -- the row behind each wait, publish and `when` is what is known there, without the initial
   -- archive;
   pub rows : (l i : ℕ) (x : Instruction) → l < length p → instruction_at p l i ≡ Some x
-      → learns x ≡ true → IsNewAt u known l (suc i) (row_behind p c l i)
+      → teaches x ≡ true → IsNewAt u known l (suc i) (row_behind p c l i)
   -- and the lanes are listed in this order.
   pub order : c.order ≡ lanes
 
@@ -41,7 +41,7 @@ pub record AreNewRows (u : Universe) (p : Plan) (known : Rows) (l i : ℕ) (rows
     : Type 0 where
   pub counted : length rows ≡ rows_before p l i
   pub new : All (IsNewRow u) rows
-  pub each : (k : ℕ) (x : Instruction) → k < i → instruction_at p l k ≡ Some x → learns x ≡ true
+  pub each : (k : ℕ) (x : Instruction) → k < i → instruction_at p l k ≡ Some x → teaches x ≡ true
       → IsNewAt u known l (suc k) (slice_index_or rows (rows_before p l k) [])
 
 -- the rows of each lane below n

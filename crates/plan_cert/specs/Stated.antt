@@ -7,19 +7,19 @@
 --   stated_rows        what each lane knows at each place, as the certificate has it
 use Rattle.std.specs.Prelude.{ℕ, zero, suc, Bool, false, ◌||◌, List, [], take, count_by, Option, Some, None, slice_index_or}
 use Rattle.bit_rows.specs.Sets.{variants_of}
-use Rattle.cert_text.specs.Certificates.{Certificate, lane_rows, learns}
+use Rattle.cert_text.specs.Certificates.{Certificate, lane_rows}
 use Rattle.farm_model.specs.declared.types.Variant.{Variant}
 use Rattle.farm_model.specs.Universe.{Universe}
 use Rattle.farm_model.specs.Packages.{initial}
 use Rattle.plan_model.specs.declared.instructions.Instruction.{Instruction}
 use Rattle.plan_model.specs.declared.instructions.Instruction.TheVariants.{Publish, Wait, When, Otherwise, EndWhen}
 use Rattle.plan_model.specs.Branches.{Side, Outside, InFirst, InSecond, side_at}
-use Rattle.plan_model.specs.Known.{Rows}
+use Rattle.plan_model.specs.Known.{Rows, teaches}
 use Rattle.plan_model.specs.Plan.{Plan, lane, instruction_at}
 
 -- one row behind each wait, publish and `when`
 abbrev pub rows_before : Plan → ℕ → ℕ → ℕ
-rows_before p l i = count_by learns (take i (lane p l).instructions)
+rows_before p l i = count_by teaches (take i (lane p l).instructions)
 
 -- of the rows up to the one that holds their number, 0 where none does: at a place, and ahead of the
 -- `when` that is open there

@@ -11,10 +11,10 @@ ghost use Rattle.plan_cert.specs.Checked.{AreSafe};
 ghost use Rattle.plan_cert.specs.Stated.{stated_rows};
 ghost use Rattle.verdict_laws.specs.Agreeing.{Agree};
 
+use crate::claim::Claim;
 use crate::justified::check_rows;
 use crate::order::check_order;
 use crate::stated::stated_known;
-use crate::stated_rows::StatedRows;
 use cert_text::{CertFault, Certificate};
 use farm_universe::Universe;
 use plan_asm::Plan;
@@ -26,28 +26,24 @@ use wait_order::Outputs;
 
 /// Checks that each instruction is safe under known rows.
 fn check_safety(
+    rt: &(impl Threads + Sync),
     alloc: Global,
-    universe: &Universe,
-    tables: &Tables,
-    plan: &Plan,
-    known: &StatedRows,
+    claim: Claim<'_>,
 ) -> Result<(), CertFault>
-    requires sound { IsSound universe.now plan.now.lanes }
-    requires tables { tables.now ≡ universe.now }
-    requires of_universe { known.now.universe ≡ universe.now }
-    requires of_plan { known.now.plan ≡ plan.now.lanes }
-    requires keeps { KeepsRows universe.now plan.now.lanes (rows_of known.now) }
-    ensures { AreSafe universe.now plan.now.lanes (rows_of known.now) result }
+    requires sound { IsSound claim.universe.now claim.plan.now.lanes }
+    requires keeps { KeepsRows claim.universe.now claim.plan.now.lanes (rows_of claim.known.now) }
+    ensures { AreSafe claim.entry.universe.now claim.entry.plan.now.lanes
+        (rows_of claim.entry.known.now) result }
 {
-    let outputs = Outputs::of(alloc, universe, plan)?;
+    let outputs = Outputs::of(alloc, claim.universe, claim.plan)?;
     let stage = Stage {
-        universe,
-        tables,
-        plan,
+        universe: claim.universe,
+        tables: claim.tables,
+        plan: claim.plan,
         outputs: &outputs,
-        known,
+        known: claim.known,
     };
-    match walk_lanes(alloc, &stage) {
+    match walk_lanes(rt, alloc, &stage) {
         Ok(_) => Ok(()),
         Err(
             WalkError::Unsafe {
@@ -67,28 +63,24 @@ fn check_safety(
     }
 }
 
-/// Checks a certificate that states these rows: the rows, then each instruction, then the order.
-fn check_stated(
+/// Checks a certificate that makes this claim: its rows, then each instruction, then its order.
+fn check_claim(
+    rt: &(impl Threads + Sync),
     alloc: Global,
-    universe: &Universe,
-    tables: &Tables,
-    plan: &Plan,
+    claim: Claim<'_>,
     certificate: &Certificate,
-    known: &StatedRows,
 ) -> Result<(), CertFault>
-    requires sound { IsSound universe.now plan.now.lanes }
-    requires certificate { IsCertificate universe.now plan.now.lanes certificate.now }
-    requires tables { tables.now ≡ universe.now }
-    requires of_universe { known.now.universe ≡ universe.now }
-    requires of_plan { known.now.plan ≡ plan.now.lanes }
-    requires rows { Agree plan.now.lanes (rows_of known.now)
-        (stated_rows universe.now plan.now.lanes certificate.now) }
-    ensures verdict { IsCertVerdict universe.now plan.now.lanes certificate.now result }
-    ensures safe { OnOk result (IsSafe universe.now plan.now.lanes) }
+    requires sound { IsSound claim.universe.now claim.plan.now.lanes }
+    requires certificate { IsCertificate claim.universe.now claim.plan.now.lanes certificate.now }
+    requires rows { Agree claim.plan.now.lanes (rows_of claim.known.now)
+        (stated_rows claim.universe.now claim.plan.now.lanes certificate.now) }
+    ensures verdict { IsCertVerdict claim.entry.universe.now claim.entry.plan.now.lanes
+        certificate.now result }
+    ensures safe { OnOk result (IsSafe claim.entry.universe.now claim.entry.plan.now.lanes) }
 {
-    check_rows(alloc, universe, tables, plan, known)?;
-    check_safety(alloc, universe, tables, plan, known)?;
-    check_order(alloc, universe, tables, plan, certificate.order())?;
+    check_rows(alloc, claim)?;
+    check_safety(rt, alloc, claim)?;
+    check_order(alloc, claim, certificate.order())?;
     Ok(())
 }
 
@@ -121,5 +113,11 @@ pub fn check_certificate(
 {
     let known = stated_known(alloc, universe, plan, certificate)?;
     let tables = Tables::build(rt, alloc, universe)?;
-    check_stated(alloc, universe, &tables, plan, certificate, &known)
+    let claim = Claim {
+        universe,
+        tables: &tables,
+        plan,
+        known: &known,
+    };
+    check_claim(rt, alloc, claim, certificate)
 }

@@ -3,8 +3,9 @@
 ghost use Rattle.std.specs.Prelude.{◌≡◌, ◌+◌, ◌<◌, ◌++◌, length, map, All, Some, IfOk, OnOk};
 ghost use Rattle.farm_model.specs.Packages.{outputs};
 ghost use Rattle.farm_model.specs.Sound.{IsUniverse};
-ghost use Rattle.plan_model.specs.Order.{Give, items_of};
+ghost use Rattle.plan_model.specs.Order.{items_of};
 ghost use Rattle.plan_model.specs.Plan.{lane, instruction_at};
+ghost use Rattle.plan_cert.specs.declared.events.Event as of;
 ghost use Rattle.plan_cert.specs.Events.{item_of, IsEvent, AreEvents, AreLaneEvents};
 
 use farm_universe::{Universe, Variant};
@@ -25,20 +26,9 @@ pub struct LaneEvents {
 }
 
 /// Puts the outputs of a recipe behind the others.
-fn push_outputs(
-    universe: &Universe,
-    _plan: &Plan,
-    _number: usize,
-    recipe: u32,
-    events: &mut Vec<Event>,
-) -> Result<(), AllocError>
-    requires sound { IsUniverse universe.now }
-    requires each { All (IsEvent universe.now _plan.now.lanes _number) events.old.items }
-    ensures each { OnOk result
-        (All (IsEvent universe.now _plan.now.lanes _number) events.new.items) }
-    ensures items { OnOk result (map (item_of _plan.now.lanes _number) events.new.items
-        ≡ map (item_of _plan.now.lanes _number) events.old.items
-        ++ map Give (outputs universe.now recipe)) }
+fn push_outputs(universe: &Universe, recipe: u32, events: &mut Vec<Event>) -> Result<(), AllocError>
+    ensures { OnOk result (events.new.items
+        ≡ events.old.items ++ map of.Event.Give (outputs universe.now recipe)) }
 {
     let outputs = universe.outputs(recipe);
     for output in outputs {
@@ -67,7 +57,7 @@ fn push_events(
 {
     match instruction {
         Instruction::Publish(recipe) => {
-            push_outputs(universe, plan, number, *recipe, events)?;
+            push_outputs(universe, *recipe, events)?;
             Ok(())
         }
         Instruction::Wait(_) => {

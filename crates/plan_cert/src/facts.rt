@@ -5,33 +5,44 @@ ghost use Rattle.farm_model.specs.declared.types.Variant.{Variant};
 ghost use Rattle.farm_model.specs.Packages.{names, outputs, contains, initial};
 ghost use Rattle.farm_model.specs.Sound.{IsUniverse, IsKnown};
 ghost use Rattle.plan_model.specs.Plan.{lane};
-ghost use Rattle.plan_model.specs.Sound.{IsSound};
 ghost use Rattle.sat_rows.specs.Rows.{IsRowOf};
 ghost use Rattle.plan_cert.specs.PlaceRows.{rows_of};
 ghost use Rattle.plan_cert.specs.Origins.{AreLanePublishes, AreOrigins};
 ghost use Rattle.plan_cert.specs.Stated.{in_row};
-ghost use Rattle.plan_cert.specs.Places.{HaveKnown};
 ghost use Rattle.plan_cert.specs.Facts.{HasNoSource, IsFirstSource, IsKnownWith, IsKnownAt, AreFacts};
 
+use crate::claim::Claim;
 use crate::origins::Origins;
-use crate::stated_rows::StatedRows;
 use bit_rows::Row;
 use farm_universe::{Universe, Variant};
-use plan_asm::{Instruction, Plan};
+use plan_asm::Instruction;
 use std::alloc::AllocError;
 
-/// The first of these variants that is in a row.
-fn first_source(_universe: &Universe, row: &Row, variants: &[Variant]) -> Option<usize>
-    requires sound { IsUniverse _universe.now }
-    requires long { length row.now ≡ names _universe.now }
-    requires known { All (IsKnown _universe.now) variants.now }
-    ensures found { IfSome result (IsFirstSource (in_row row.now) variants.now) }
+/// Two sets of variants under a claim: what may be facts of all variants of `sources`, and where
+/// what is in an archive comes from.
+#[derive(Clone, Copy)]
+pub struct Question<'a> {
+    pub claim: Claim<'a>,
+    pub origins: &'a Origins,
+    pub sources: &'a Row,
+    pub new: &'a Row,
+    ghost sound: { IsUniverse claim.universe.now },
+    ghost origins_are: { AreOrigins claim.universe.now claim.plan.now.lanes origins.now },
+    ghost sources_long: { length sources.now ≡ names claim.universe.now },
+    ghost new_long: { length new.now ≡ names claim.universe.now },
+}
+
+/// The first of these variants that is among the sources.
+fn first_source(question: Question<'_>, variants: &[Variant]) -> Option<usize>
+    requires { All (IsKnown question.claim.universe.now) variants.now }
+    ensures found { IfSome result
+        (IsFirstSource (in_row question.entry.sources.now) variants.now) }
     ensures none { IsNone result
-        → HasNoSource (in_row row.now) variants.now (length variants.now) }
+        → HasNoSource (in_row question.entry.sources.now) variants.now (length variants.now) }
 {
     for n in 0..variants.len() {
         let variant = variants[n];
-        if row.has(variant.name as usize, variant.bit) {
+        if question.sources.has(variant.name as usize, variant.bit) {
             return Some(n);
         }
     }
@@ -62,86 +73,56 @@ pub fn with_outputs(
     Ok(row)
 }
 
-/// Tells whether all of `new` is there with each output of a recipe that is in `sources`, where
+/// Tells whether all of `new` is there with each output of a recipe that is among the sources, where
 /// `before` is known ahead of its publish.
-fn is_known_with(
-    universe: &Universe,
-    before: &Row,
-    recipe: u32,
-    sources: &Row,
-    new: &Row,
-) -> Result<bool, AllocError>
-    requires sound { IsUniverse universe.now }
-    requires before { length before.now ≡ names universe.now }
-    requires sources { length sources.now ≡ names universe.now }
-    requires new { length new.now ≡ names universe.now }
-    ensures { IfOk result (λ yes. (known : Variant → Bool) → IsRowOf universe.now known before.now
-        → ((v : Variant) → known v ≡ true → IsKnown universe.now v) → IsTrue yes
-        ↔ IsKnownWith universe.now (in_row sources.now) (in_row new.now) known recipe) }
+fn is_known_with(question: Question<'_>, before: &Row, recipe: u32) -> Result<bool, AllocError>
+    requires { length before.now ≡ names question.claim.universe.now }
+    ensures { IfOk result (λ yes. (known : Variant → Bool)
+        → IsRowOf question.entry.claim.universe.now known before.now
+        → ((v : Variant) → known v ≡ true → IsKnown question.entry.claim.universe.now v)
+        → IsTrue yes ↔ IsKnownWith question.entry.claim.universe.now
+        (in_row question.entry.sources.now) (in_row question.entry.new.now) known recipe) }
 {
+    let universe = question.claim.universe;
     let outputs = universe.outputs(recipe);
-    let Some(first) = first_source(universe, sources, outputs) else {
+    let Some(first) = first_source(question, outputs) else {
         return Ok(true);
     };
-    if new.within(before) {
+    if question.new.within(before) {
         return Ok(true);
     }
     let row = with_outputs(universe, before, recipe, first + 1)?;
-    Ok(new.within(&row))
+    Ok(question.new.within(&row))
 }
 
 /// Tells so of the publish at a place, if there is one.
-fn is_known_at(
-    universe: &Universe,
-    plan: &Plan,
-    known: &StatedRows,
-    number: usize,
-    place: usize,
-    sources: &Row,
-    new: &Row,
-) -> Result<bool, AllocError>
-    requires sound { IsUniverse universe.now }
-    requires of_universe { known.now.universe ≡ universe.now }
-    requires of_plan { known.now.plan ≡ plan.now.lanes }
-    requires known { HaveKnown universe.now plan.now.lanes (rows_of known.now) }
-    requires sources { length sources.now ≡ names universe.now }
-    requires new { length new.now ≡ names universe.now }
-    requires lane { number < length plan.now.lanes }
-    requires place { place < length (lane plan.now.lanes number).instructions }
-    ensures { IfOk result (λ yes. IsTrue yes ↔ IsKnownAt universe.now plan.now.lanes
-        (rows_of known.now) (in_row sources.now) (in_row new.now) number place) }
+fn is_known_at(question: Question<'_>, number: usize, place: usize) -> Result<bool, AllocError>
+    requires lane { number < length question.claim.plan.now.lanes }
+    requires place { place < length (lane question.claim.plan.now.lanes number).instructions }
+    ensures { IfOk result (λ yes. IsTrue yes ↔ IsKnownAt question.entry.claim.universe.now
+        question.entry.claim.plan.now.lanes (rows_of question.entry.claim.known.now)
+        (in_row question.entry.sources.now) (in_row question.entry.new.now) number place) }
 {
-    let Some(recipe) = plan.lane(number).instructions()[place].published() else {
+    let claim = question.claim;
+    let Some(recipe) = claim.plan.lane(number).instructions()[place].published() else {
         return Ok(true);
     };
-    let before = known.row(number, place);
-    let yes = is_known_with(universe, before, recipe, sources, new)?;
+    let before = claim.known.row(number, place);
+    let yes = is_known_with(question, before, recipe)?;
     Ok(yes)
 }
 
 /// Tells so of all publishes of a lane, which stand at these places.
-fn is_known_in(
-    universe: &Universe,
-    plan: &Plan,
-    known: &StatedRows,
-    number: usize,
-    places: &[usize],
-    sources: &Row,
-    new: &Row,
-) -> Result<bool, AllocError>
-    requires sound { IsUniverse universe.now }
-    requires of_universe { known.now.universe ≡ universe.now }
-    requires of_plan { known.now.plan ≡ plan.now.lanes }
-    requires known { HaveKnown universe.now plan.now.lanes (rows_of known.now) }
-    requires sources { length sources.now ≡ names universe.now }
-    requires new { length new.now ≡ names universe.now }
-    requires lane { number < length plan.now.lanes }
-    requires places { AreLanePublishes plan.now.lanes number places.now }
-    ensures { IfOk result (λ yes. IsTrue yes ↔ ((k : ℕ) → IsKnownAt universe.now plan.now.lanes
-        (rows_of known.now) (in_row sources.now) (in_row new.now) number k)) }
+fn is_known_in(question: Question<'_>, number: usize, places: &[usize]) -> Result<bool, AllocError>
+    requires lane { number < length question.claim.plan.now.lanes }
+    requires places { AreLanePublishes question.claim.plan.now.lanes number places.now }
+    ensures { IfOk result (λ yes. IsTrue yes
+        ↔ ((k : ℕ) → IsKnownAt question.entry.claim.universe.now
+        question.entry.claim.plan.now.lanes (rows_of question.entry.claim.known.now)
+        (in_row question.entry.sources.now) (in_row question.entry.new.now) number k)) }
 {
     for n in 0..places.len() {
-        if !is_known_at(universe, plan, known, number, places[n], sources, new)? {
+        if !is_known_at(question, number, places[n])? {
             return Ok(false);
         }
     }
@@ -149,46 +130,30 @@ fn is_known_in(
 }
 
 /// Tells whether all of `new` is in the initial archive, if some of `sources` is.
-fn is_initial(_universe: &Universe, archive: &Row, sources: &Row, new: &Row) -> bool
-    requires sound { IsUniverse _universe.now }
-    requires archive { IsRowOf _universe.now (initial _universe.now) archive.now }
-    requires sources { length sources.now ≡ names _universe.now }
-    requires new { length new.now ≡ names _universe.now }
-    ensures { IsTrue result ↔ ((c v : Variant) → in_row sources.now c ≡ true
-        → in_row new.now v ≡ true → initial _universe.now c ≡ true
-        → initial _universe.now v ≡ true) }
+fn is_initial(question: Question<'_>) -> bool
+    ensures { IsTrue result ↔ ((c v : Variant) → in_row question.entry.sources.now c ≡ true
+        → in_row question.entry.new.now v ≡ true
+        → initial question.entry.claim.universe.now c ≡ true
+        → initial question.entry.claim.universe.now v ≡ true) }
 {
-    if !archive.hits(sources) {
+    if !question.origins.archive.hits(question.sources) {
         return true;
     }
-    new.within(archive)
+    question.new.within(&question.origins.archive)
 }
 
 /// Tells whether each variant of `new` is in the archive whenever some variant of `sources` is.
-pub fn are_facts(
-    universe: &Universe,
-    plan: &Plan,
-    known: &StatedRows,
-    origins: &Origins,
-    sources: &Row,
-    new: &Row,
-) -> Result<bool, AllocError>
-    requires sound { IsUniverse universe.now }
-    requires of_universe { known.now.universe ≡ universe.now }
-    requires of_plan { known.now.plan ≡ plan.now.lanes }
-    requires known { HaveKnown universe.now plan.now.lanes (rows_of known.now) }
-    requires origins { AreOrigins universe.now plan.now.lanes origins.now }
-    requires sources { length sources.now ≡ names universe.now }
-    requires new { length new.now ≡ names universe.now }
-    ensures { IfOk result (λ yes. IsTrue yes ↔ AreFacts universe.now plan.now.lanes
-        (rows_of known.now) (in_row sources.now) (in_row new.now)) }
+pub fn are_facts(question: Question<'_>) -> Result<bool, AllocError>
+    ensures { IfOk result (λ yes. IsTrue yes ↔ AreFacts question.entry.claim.universe.now
+        question.entry.claim.plan.now.lanes (rows_of question.entry.claim.known.now)
+        (in_row question.entry.sources.now) (in_row question.entry.new.now)) }
 {
-    if !is_initial(universe, &origins.archive, sources, new) {
+    if !is_initial(question) {
         return Ok(false);
     }
-    for number in 0..plan.lanes() {
-        let places = origins.publishes[number].places.as_slice();
-        if !is_known_in(universe, plan, known, number, places, sources, new)? {
+    for number in 0..question.claim.plan.lanes() {
+        let places = question.origins.publishes[number].places.as_slice();
+        if !is_known_in(question, number, places)? {
             return Ok(false);
         }
     }

@@ -1,13 +1,13 @@
 //! Which rows of a plan are justified: each has no more than the inclusions allow.
 
-ghost use Rattle.std.specs.Prelude.{◌≡◌, ◌≢◌, ◌↔◌, ◌+◌, ◌<◌, ◌≤◌, ℕ, Bool, suc, true, IsTrue, length, Some, IfOk, IsNone, IfSome};
+ghost use Rattle.std.specs.Prelude.{◌≡◌, ◌≢◌, ◌↔◌, ◌<◌, ℕ, Bool, suc, true, IsTrue, length, Some, IfOk, IsNone, IfSome};
 ghost use Rattle.deb_relation.specs.Relations as relations;
 ghost use Rattle.farm_model.specs.declared.types.Variant.{Variant};
 ghost use Rattle.farm_model.specs.Packages.{names, initial};
 ghost use Rattle.farm_model.specs.Sound.{IsUniverse};
 ghost use Rattle.plan_model.specs.declared.instructions.Instruction as model;
 ghost use Rattle.plan_model.specs.Known.{is_of, possible, Follows};
-ghost use Rattle.plan_model.specs.Plan.{lane, instruction_at};
+ghost use Rattle.plan_model.specs.Plan.{lane};
 ghost use Rattle.plan_model.specs.Sound.{IsInstruction, IsSound};
 ghost use Rattle.verdict_laws.specs.Places.{IsJustified};
 ghost use Rattle.sat_rows.specs.Rows.{IsRowOf};
@@ -15,54 +15,62 @@ ghost use Rattle.plan_cert.specs.PlaceRows.{rows_of};
 ghost use Rattle.plan_cert.specs.Opens.{open_at, IsAskedRow};
 ghost use Rattle.plan_cert.specs.Origins.{AreOrigins};
 ghost use Rattle.plan_cert.specs.Stated.{in_row};
-ghost use Rattle.plan_cert.specs.Places.{HaveKnown};
 ghost use Rattle.plan_cert.specs.Checked.{IsLaneChecked, AreChecked};
 
-use crate::facts::{are_facts, with_outputs};
+use crate::claim::Claim;
+use crate::facts::{Question, are_facts, with_outputs};
 use crate::opens::{open_behind, place_before};
 use crate::origins::{Origins, find_origins};
-use crate::stated_rows::StatedRows;
 use bit_rows::Row;
 use cert_text::CertFault;
 use deb_relation::{Entry, Op};
 use deb_version::Version;
 use farm_universe::Universe;
-use plan_asm::{Instruction, Plan};
+use plan_asm::Instruction;
 use plan_verifier::{add_outputs, possible_row};
 use sat_rows::{Tables, mask};
 use std::alloc::{AllocError, Global};
 
+/// A place of a lane under a claim: what may be in the archive there, and the place of the `when`
+/// that is open there, if one is.
+#[derive(Clone, Copy)]
+struct At<'a> {
+    claim: Claim<'a>,
+    origins: &'a Origins,
+    there: &'a Row,
+    number: usize,
+    place: usize,
+    when: Option<usize>,
+    ghost origins_are: { AreOrigins claim.universe.now claim.plan.now.lanes origins.now },
+    ghost there_is: { IsRowOf claim.universe.now
+        (possible claim.universe.now claim.plan.now.lanes number place) there.now },
+    ghost in_plan: { number < length claim.plan.now.lanes },
+    ghost in_lane: { place < length (lane claim.plan.now.lanes number).instructions },
+    ghost when_is: { when ≡ open_at claim.plan.now.lanes number place },
+}
+
 /// Tells whether all of `new` follows from each variant of `asked` that may be there.
-fn may_follow(
-    universe: &Universe,
-    plan: &Plan,
-    known: &StatedRows,
-    origins: &Origins,
-    there: &Row,
-    asked: Row,
-    new: &Row,
-    _number: usize,
-    _place: usize,
-) -> Result<bool, AllocError>
-    requires sound { IsUniverse universe.now }
-    requires of_universe { known.now.universe ≡ universe.now }
-    requires of_plan { known.now.plan ≡ plan.now.lanes }
-    requires known { HaveKnown universe.now plan.now.lanes (rows_of known.now) }
-    requires origins { AreOrigins universe.now plan.now.lanes origins.now }
-    requires there { IsRowOf universe.now (possible universe.now plan.now.lanes _number _place)
-        there.now }
-    requires asked { length asked ≡ names universe.now }
-    requires new { length new.now ≡ names universe.now }
-    ensures { IfOk result (λ yes. (test : Variant → Bool) → IsRowOf universe.now test asked
-        → IsTrue yes ↔ ((v : Variant) → in_row new.now v ≡ true → Follows universe.now
-        plan.now.lanes (rows_of known.now) _number _place v test)) }
+fn may_follow(at: At<'_>, asked: Row, new: &Row) -> Result<bool, AllocError>
+    requires sound { IsUniverse at.claim.universe.now }
+    requires asked { length asked ≡ names at.claim.universe.now }
+    requires new { length new.now ≡ names at.claim.universe.now }
+    ensures { IfOk result (λ yes. (test : Variant → Bool)
+        → IsRowOf at.entry.claim.universe.now test asked → IsTrue yes
+        ↔ ((v : Variant) → in_row new.now v ≡ true → Follows at.entry.claim.universe.now
+        at.entry.claim.plan.now.lanes (rows_of at.entry.claim.known.now) at.entry.number
+        at.entry.place v test)) }
 {
-    if !new.within(there) {
+    if !new.within(at.there) {
         return Ok(false);
     }
     let mut sources = asked;
-    sources.and_into(there);
-    let yes = are_facts(universe, plan, known, origins, &sources, new)?;
+    sources.and_into(at.there);
+    let yes = are_facts(Question {
+        claim: at.claim,
+        origins: at.origins,
+        sources: &sources,
+        new,
+    })?;
     Ok(yes)
 }
 
@@ -132,47 +140,30 @@ fn asked_row(
 }
 
 /// Tells whether the row behind an instruction is justified.
-fn is_justified(
-    alloc: Global,
-    universe: &Universe,
-    tables: &Tables,
-    plan: &Plan,
-    known: &StatedRows,
-    origins: &Origins,
-    there: &Row,
-    number: usize,
-    place: usize,
-    when: Option<usize>,
-) -> Result<bool, AllocError>
-    requires sound { IsSound universe.now plan.now.lanes }
-    requires tables { tables.now ≡ universe.now }
-    requires of_universe { known.now.universe ≡ universe.now }
-    requires of_plan { known.now.plan ≡ plan.now.lanes }
-    requires known { HaveKnown universe.now plan.now.lanes (rows_of known.now) }
-    requires origins { AreOrigins universe.now plan.now.lanes origins.now }
-    requires there { IsRowOf universe.now (possible universe.now plan.now.lanes number place)
-        there.now }
-    requires lane { number < length plan.now.lanes }
-    requires place { place < length (lane plan.now.lanes number).instructions }
-    requires when { when ≡ open_at plan.now.lanes number place }
-    ensures { IfOk result (λ yes. IsTrue yes
-        ↔ IsJustified universe.now plan.now.lanes (rows_of known.now) number (suc place)) }
+fn is_justified(alloc: Global, at: At<'_>) -> Result<bool, AllocError>
+    requires { IsSound at.claim.universe.now at.claim.plan.now.lanes }
+    ensures { IfOk result (λ yes. IsTrue yes ↔ IsJustified at.entry.claim.universe.now
+        at.entry.claim.plan.now.lanes (rows_of at.entry.claim.known.now) at.entry.number
+        (suc at.entry.place)) }
 {
-    let _lanes = plan.lanes();
-    let instruction = &plan.lane(number).instructions()[place];
-    let before = known.row(number, place_before(instruction, place, when));
-    let after = known.row(number, place + 1);
+    let claim = at.claim;
+    let number = at.number;
+    let place = at.place;
+    let _lanes = claim.plan.lanes();
+    let instruction = &claim.plan.lane(number).instructions()[place];
+    let before = claim
+        .known
+        .row(number, place_before(instruction, place, at.when));
+    let after = claim.known.row(number, place + 1);
     if let Some(recipe) = instruction.published() {
-        let count = universe.outputs(recipe).len();
-        let row = with_outputs(universe, before, recipe, count)?;
+        let count = claim.universe.outputs(recipe).len();
+        let row = with_outputs(claim.universe, before, recipe, count)?;
         return Ok(after.within(&row));
     }
-    if let Some(asked) = asked_row(alloc, universe, tables, instruction)? {
+    if let Some(asked) = asked_row(alloc, claim.universe, claim.tables, instruction)? {
         let mut new = after.clone()?;
         new.take_out(before);
-        let yes = may_follow(
-            universe, plan, known, origins, there, asked, &new, number, place,
-        )?;
+        let yes = may_follow(at, asked, &new)?;
         return Ok(yes);
     }
     Ok(after.within(before))
@@ -181,38 +172,37 @@ fn is_justified(
 /// Finds the first row behind an instruction of a lane that is not justified.
 fn check_lane(
     alloc: Global,
-    universe: &Universe,
-    tables: &Tables,
-    plan: &Plan,
-    known: &StatedRows,
+    claim: Claim<'_>,
     origins: &Origins,
     number: usize,
 ) -> Result<(), CertFault>
-    requires sound { IsSound universe.now plan.now.lanes }
-    requires tables { tables.now ≡ universe.now }
-    requires of_universe { known.now.universe ≡ universe.now }
-    requires of_plan { known.now.plan ≡ plan.now.lanes }
-    requires known { HaveKnown universe.now plan.now.lanes (rows_of known.now) }
-    requires origins { AreOrigins universe.now plan.now.lanes origins.now }
-    requires lane { number < length plan.now.lanes }
-    ensures { IsLaneChecked universe.now plan.now.lanes (rows_of known.now) number result }
+    requires sound { IsSound claim.universe.now claim.plan.now.lanes }
+    requires origins { AreOrigins claim.universe.now claim.plan.now.lanes origins.now }
+    requires lane { number < length claim.plan.now.lanes }
+    ensures { IsLaneChecked claim.entry.universe.now claim.entry.plan.now.lanes
+        (rows_of claim.entry.known.now) number result }
 {
-    let _lanes = plan.lanes();
-    let instructions = plan.lane(number).instructions();
-    let mut there = possible_row(alloc, universe, plan, number)?;
+    let _lanes = claim.plan.lanes();
+    let instructions = claim.plan.lane(number).instructions();
+    let mut there = possible_row(alloc, claim.universe, claim.plan, number)?;
     let mut when = None;
     for place in 0..instructions.len() {
-        let justified = is_justified(
-            alloc, universe, tables, plan, known, origins, &there, number, place, when,
-        )?;
-        if !justified {
+        let at = At {
+            claim,
+            origins,
+            there: &there,
+            number,
+            place,
+            when,
+        };
+        if !is_justified(alloc, at)? {
             return Err(CertFault::Row {
                 lane: number as u32,
                 instruction: place as u32 + 1,
             });
         }
         let instruction = &instructions[place];
-        add_outputs(universe, &mut there, instruction)?;
+        add_outputs(claim.universe, &mut there, instruction)?;
         when = open_behind(instruction, place, when);
     }
     Ok(())
@@ -224,25 +214,16 @@ fn check_lane(
 ///
 /// [`CertFault::Row`] with the first row that does not, of the first lane that has one.
 /// [`CertFault::Memory`] where memory is refused.
-pub fn check_rows(
-    alloc: Global,
-    universe: &Universe,
-    tables: &Tables,
-    plan: &Plan,
-    known: &StatedRows,
-) -> Result<(), CertFault>
-    requires sound { IsSound universe.now plan.now.lanes }
-    requires tables { tables.now ≡ universe.now }
-    requires of_universe { known.now.universe ≡ universe.now }
-    requires of_plan { known.now.plan ≡ plan.now.lanes }
-    requires known { HaveKnown universe.now plan.now.lanes (rows_of known.now) }
-    requires starts { (l : ℕ) (v : Variant) → l < length plan.now.lanes
-        → rows_of known.now l 0 v ≡ true → initial universe.now v ≡ true }
-    ensures { AreChecked universe.now plan.now.lanes (rows_of known.now) result }
+pub fn check_rows(alloc: Global, claim: Claim<'_>) -> Result<(), CertFault>
+    requires sound { IsSound claim.universe.now claim.plan.now.lanes }
+    requires starts { (l : ℕ) (v : Variant) → l < length claim.plan.now.lanes
+        → rows_of claim.known.now l 0 v ≡ true → initial claim.universe.now v ≡ true }
+    ensures { AreChecked claim.entry.universe.now claim.entry.plan.now.lanes
+        (rows_of claim.entry.known.now) result }
 {
-    let origins = find_origins(alloc, universe, plan)?;
-    for number in 0..plan.lanes() {
-        check_lane(alloc, universe, tables, plan, known, &origins, number)?;
+    let origins = find_origins(alloc, claim.universe, claim.plan)?;
+    for number in 0..claim.plan.lanes() {
+        check_lane(alloc, claim, &origins, number)?;
     }
     Ok(())
 }

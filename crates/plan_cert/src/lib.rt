@@ -2,6 +2,7 @@
 #![tactic(auto)]
 
 mod checker;
+mod claim;
 mod events;
 mod facts;
 mod justified;

@@ -13,7 +13,6 @@ ghost use Rattle.wait_order.specs.KnownRows.{rows_of};
 ghost use Rattle.plan_cert.specs.Certified.{Certifies};
 ghost use Rattle.plan_cert.specs.Made.{IsNewAt, IsCertificateOf, AreNewRows, AreNewLanes};
 
-use crate::stated::learns;
 use bit_rows::Row;
 use cert_text::Certificate;
 use farm_universe::Universe;
@@ -22,107 +21,93 @@ use plan_verifier::Accepted;
 use std::alloc::{AllocError, Global};
 use wait_order::{Known, initial_row};
 
+/// What the lanes of a plan know, and the initial archive.
+#[derive(Clone, Copy)]
+struct Making<'a> {
+    universe: &'a Universe,
+    plan: &'a Plan,
+    known: &'a Known,
+    archive: &'a Row,
+    ghost of_universe: { known.now.universe ≡ universe.now },
+    ghost of_plan: { known.now.plan ≡ plan.now.lanes },
+    ghost sound: { IsUniverse known.now.universe },
+    ghost archive_is: { IsRowOf known.now.universe (initial known.now.universe) archive.now },
+}
+
 /// What a lane knows at a place, without the initial archive.
 fn new_row(
     alloc: Global,
-    universe: &Universe,
-    known: &Known,
-    archive: &Row,
+    making: Making<'_>,
     number: usize,
     place: usize,
 ) -> Result<Row, AllocError>
-    requires of_universe { known.now.universe ≡ universe.now }
-    requires sound { IsUniverse known.now.universe }
-    requires keeps { KeepsRows known.now.universe known.now.plan (rows_of known.now) }
-    requires archive { IsRowOf known.now.universe (initial known.now.universe) archive.now }
-    requires lane { number < length known.now.plan }
-    requires place { place ≤ length (lane known.now.plan number).instructions }
-    ensures shape { IfOk result (IsNewRow known.now.universe) }
-    ensures exact { IfOk result
-        (IsNewAt known.now.universe (rows_of known.now) number place) }
+    requires keeps { KeepsRows making.known.now.universe making.known.now.plan
+        (rows_of making.known.now) }
+    requires lane { number < length making.known.now.plan }
+    requires place { place ≤ length (lane making.known.now.plan number).instructions }
+    ensures shape { IfOk result (IsNewRow making.entry.known.now.universe) }
+    ensures exact { IfOk result (IsNewAt making.entry.known.now.universe
+        (rows_of making.entry.known.now) number place) }
 {
-    let mut row = known.row(alloc, universe, archive, number, place)?;
-    row.take_out(archive);
+    let mut row = making
+        .known
+        .row(alloc, making.universe, making.archive, number, place)?;
+    row.take_out(making.archive);
     Ok(row)
 }
 
 /// Puts the row behind the instruction at a place behind the others, where there is one.
 fn add_row(
     alloc: Global,
-    universe: &Universe,
-    plan: &Plan,
-    known: &Known,
-    archive: &Row,
+    making: Making<'_>,
     number: usize,
     place: usize,
     rows: &mut Vec<Row>,
 ) -> Result<(), AllocError>
-    requires sound { IsUniverse known.now.universe }
-    requires of_universe { known.now.universe ≡ universe.now }
-    requires of_plan { known.now.plan ≡ plan.now.lanes }
-    requires keeps { KeepsRows known.now.universe known.now.plan (rows_of known.now) }
-    requires archive { IsRowOf known.now.universe (initial known.now.universe) archive.now }
-    requires lane { number < length known.now.plan }
-    requires place { place < length (lane known.now.plan number).instructions }
-    requires rows { AreNewRows known.now.universe known.now.plan (rows_of known.now) number place
-        rows.old.items }
-    ensures { OnOk result (AreNewRows known.now.universe known.now.plan (rows_of known.now) number
-        (place + 1) rows.new.items) }
+    requires keeps { KeepsRows making.known.now.universe making.known.now.plan
+        (rows_of making.known.now) }
+    requires lane { number < length making.known.now.plan }
+    requires place { place < length (lane making.known.now.plan number).instructions }
+    requires rows { AreNewRows making.known.now.universe making.known.now.plan
+        (rows_of making.known.now) number place rows.old.items }
+    ensures { OnOk result (AreNewRows making.entry.known.now.universe making.entry.known.now.plan
+        (rows_of making.entry.known.now) number (place + 1) rows.new.items) }
 {
-    let instructions = plan.lane(number).instructions();
-    if !learns(&instructions[place]) {
+    let instructions = making.plan.lane(number).instructions();
+    if !instructions[place].teaches() {
         return Ok(());
     }
-    rows.push(new_row(alloc, universe, known, archive, number, place + 1)?)?;
+    rows.push(new_row(alloc, making, number, place + 1)?)?;
     Ok(())
 }
 
 /// The rows of a lane, one behind each wait, publish and `when`.
-fn lane_rows(
-    alloc: Global,
-    universe: &Universe,
-    plan: &Plan,
-    known: &Known,
-    archive: &Row,
-    number: usize,
-) -> Result<Vec<Row>, AllocError>
-    requires sound { IsUniverse known.now.universe }
-    requires of_universe { known.now.universe ≡ universe.now }
-    requires of_plan { known.now.plan ≡ plan.now.lanes }
-    requires keeps { KeepsRows known.now.universe known.now.plan (rows_of known.now) }
-    requires archive { IsRowOf known.now.universe (initial known.now.universe) archive.now }
-    requires lane { number < length known.now.plan }
-    ensures { IfOk result (λ rows. AreNewRows known.now.universe known.now.plan
-        (rows_of known.now) number (length (lane known.now.plan number).instructions) rows.items) }
+fn lane_rows(alloc: Global, making: Making<'_>, number: usize) -> Result<Vec<Row>, AllocError>
+    requires keeps { KeepsRows making.known.now.universe making.known.now.plan
+        (rows_of making.known.now) }
+    requires lane { number < length making.known.now.plan }
+    ensures { IfOk result (λ rows. AreNewRows making.entry.known.now.universe
+        making.entry.known.now.plan (rows_of making.entry.known.now) number
+        (length (lane making.entry.known.now.plan number).instructions) rows.items) }
 {
     let mut rows = Vec::new(alloc);
-    for place in 0..plan.lane(number).instructions().len() {
-        add_row(
-            alloc, universe, plan, known, archive, number, place, &mut rows,
-        )?;
+    for place in 0..making.plan.lane(number).instructions().len() {
+        add_row(alloc, making, number, place, &mut rows)?;
     }
     Ok(rows)
 }
 
 /// The rows of each lane.
-fn all_rows(
-    alloc: Global,
-    universe: &Universe,
-    plan: &Plan,
-    known: &Known,
-    archive: &Row,
-) -> Result<Vec<Vec<Row>>, AllocError>
-    requires sound { IsUniverse known.now.universe }
-    requires of_universe { known.now.universe ≡ universe.now }
-    requires of_plan { known.now.plan ≡ plan.now.lanes }
-    requires keeps { KeepsRows known.now.universe known.now.plan (rows_of known.now) }
-    requires archive { IsRowOf known.now.universe (initial known.now.universe) archive.now }
-    ensures { IfOk result (λ lanes. AreNewLanes known.now.universe known.now.plan
-        (rows_of known.now) (length known.now.plan) (lists lanes.items)) }
+fn all_rows(alloc: Global, making: Making<'_>) -> Result<Vec<Vec<Row>>, AllocError>
+    requires { KeepsRows making.known.now.universe making.known.now.plan
+        (rows_of making.known.now) }
+    ensures { IfOk result (λ lanes. AreNewLanes making.entry.known.now.universe
+        making.entry.known.now.plan (rows_of making.entry.known.now)
+        (length making.entry.known.now.plan) (lists lanes.items)) }
 {
     let mut lanes = Vec::new(alloc);
-    for number in 0..plan.lanes() {
-        lanes.push(lane_rows(alloc, universe, plan, known, archive, number)?)?;
+    for number in 0..making.plan.lanes() {
+        lanes.push(lane_rows(alloc, making, number)?)?;
     }
     Ok(lanes)
 }
@@ -145,7 +130,13 @@ pub fn certificate(alloc: Global, accepted: &Accepted) -> Result<Certificate, Al
     accepted.keeps();
     let universe = accepted.universe();
     let archive = initial_row(alloc, universe)?;
-    let rows = all_rows(alloc, universe, accepted.plan(), accepted.known(), &archive)?;
+    let making = Making {
+        universe,
+        plan: accepted.plan(),
+        known: accepted.known(),
+        archive: &archive,
+    };
+    let rows = all_rows(alloc, making)?;
     let order = Vec::from_slice(alloc, accepted.order())?;
     Ok(Certificate::new(rows, order))
 }

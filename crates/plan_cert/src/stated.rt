@@ -1,7 +1,6 @@
 //! The known rows that a certificate states.
 
 ghost use Rattle.std.specs.Prelude.{◌≡◌, ◌+◌, ◌<◌, ◌≤◌, ◌||◌, length, Some, IfOk, OnOk};
-ghost use Rattle.cert_text.specs.Certificates as spec;
 ghost use Rattle.cert_text.specs.Certificates.{IsNewRow, IsCertificate};
 ghost use Rattle.farm_model.specs.Packages.{initial};
 ghost use Rattle.farm_model.specs.Sound.{IsUniverse};
@@ -22,21 +21,32 @@ use plan_asm::{Instruction, Plan};
 use std::alloc::{AllocError, Global};
 use wait_order::initial_row;
 
-/// Tells whether a row stands behind an instruction.
-pub fn learns(instruction: &Instruction) -> bool
-    ensures { result ≡ spec.learns instruction.now }
-{
-    instruction.teaches()
+/// A certificate of a plan over a universe, and the initial archive.
+#[derive(Clone, Copy)]
+struct Stating<'a> {
+    universe: &'a Universe,
+    plan: &'a Plan,
+    certificate: &'a Certificate,
+    archive: &'a Row,
+    ghost certificate_is: { IsCertificate universe.now plan.now.lanes certificate.now },
+    ghost archive_is: { IsRowOf universe.now (initial universe.now) archive.now },
+}
+
+/// An instruction of a lane, by its place.
+#[derive(Clone, Copy)]
+struct LaneAt<'a> {
+    number: usize,
+    place: usize,
+    instruction: &'a Instruction,
 }
 
 /// A row of a certificate, and the initial archive.
-fn with_archive(_universe: &Universe, archive: &Row, listed: &Row) -> Result<Row, AllocError>
-    requires archive { IsRowOf _universe.now (initial _universe.now) archive.now }
-    requires listed { IsNewRow _universe.now listed.now }
-    ensures { IfOk result (IsRowOf _universe.now
-        (λ v. initial _universe.now v || in_row listed.now v)) }
+fn with_archive(stating: Stating<'_>, listed: &Row) -> Result<Row, AllocError>
+    requires { IsNewRow stating.universe.now listed.now }
+    ensures { IfOk result (IsRowOf stating.entry.universe.now
+        (λ v. initial stating.entry.universe.now v || in_row listed.now v)) }
 {
-    let mut row = archive.clone()?;
+    let mut row = stating.archive.clone()?;
     row.or_into(listed)?;
     Ok(row)
 }
@@ -45,79 +55,67 @@ fn with_archive(_universe: &Universe, archive: &Row, listed: &Row) -> Result<Row
 /// the lane there are by then, and the number of the row that holds: without a row of its own that
 /// from which what is known goes on.
 fn add_row(
-    universe: &Universe,
-    _plan: &Plan,
-    certificate: &Certificate,
-    archive: &Row,
-    number: usize,
-    _place: usize,
-    instruction: &Instruction,
+    stating: Stating<'_>,
+    at: LaneAt<'_>,
     used: usize,
     before: usize,
     rows: &mut Vec<Row>,
 ) -> Result<(usize, usize), AllocError>
-    requires certificate { IsCertificate universe.now _plan.now.lanes certificate.now }
-    requires archive { IsRowOf universe.now (initial universe.now) archive.now }
-    requires lane { number < length _plan.now.lanes }
-    requires at { instruction_at _plan.now.lanes number _place ≡ Some instruction.now }
-    requires used { used ≡ rows_before _plan.now.lanes number _place }
-    requires before { IsRowAt universe.now
-        (stated_rows universe.now _plan.now.lanes certificate.now number
-        (row_before _plan.now.lanes number _place instruction.now)) rows.old.items before }
-    ensures used { IfOk result
-        (λ next. next.0 ≡ rows_before _plan.now.lanes number (_place + 1)) }
-    ensures more { OnOk result (IsExtended universe.now rows.old.items rows.new.items) }
-    ensures row { IfOk result (λ next. IsRowAt universe.now
-        (stated_rows universe.now _plan.now.lanes certificate.now number (_place + 1))
-        rows.new.items next.1) }
+    requires lane { at.number < length stating.plan.now.lanes }
+    requires at { instruction_at stating.plan.now.lanes at.number at.place
+        ≡ Some at.instruction.now }
+    requires used { used ≡ rows_before stating.plan.now.lanes at.number at.place }
+    requires before { IsRowAt stating.universe.now
+        (stated_rows stating.universe.now stating.plan.now.lanes stating.certificate.now at.number
+        (row_before stating.plan.now.lanes at.number at.place at.instruction.now))
+        rows.old.items before }
+    ensures used { IfOk result (λ next. next.0
+        ≡ rows_before stating.entry.plan.now.lanes at.entry.number (at.entry.place + 1)) }
+    ensures more { OnOk result
+        (IsExtended stating.entry.universe.now rows.old.items rows.new.items) }
+    ensures row { IfOk result (λ next. IsRowAt stating.entry.universe.now
+        (stated_rows stating.entry.universe.now stating.entry.plan.now.lanes
+        stating.entry.certificate.now at.entry.number (at.entry.place + 1)) rows.new.items
+        next.1) }
 {
-    if !learns(instruction) {
+    if !at.instruction.teaches() {
         return Ok((used, before));
     }
-    let listed = &certificate.lane_rows(number)[used];
-    rows.push(with_archive(universe, archive, listed)?)?;
+    let listed = &stating.certificate.lane_rows(at.number)[used];
+    rows.push(with_archive(stating, listed)?)?;
     Ok((used + 1, rows.len() - 1))
 }
 
 /// Puts the rows of a lane behind the others.
 fn lane_places(
     alloc: Global,
-    universe: &Universe,
-    plan: &Plan,
-    certificate: &Certificate,
-    archive: &Row,
+    stating: Stating<'_>,
     number: usize,
     rows: &mut Vec<Row>,
 ) -> Result<LanePlaces, AllocError>
-    requires certificate { IsCertificate universe.now plan.now.lanes certificate.now }
-    requires archive { IsRowOf universe.now (initial universe.now) archive.now }
-    requires lane { number < length plan.now.lanes }
-    ensures more { OnOk result (IsExtended universe.now rows.old.items rows.new.items) }
-    ensures numbers { IfOk result (λ places. AreRowNumbers universe.now
-        (stated_rows universe.now plan.now.lanes certificate.now number)
-        (length (lane plan.now.lanes number).instructions) places rows.new.items) }
+    requires { number < length stating.plan.now.lanes }
+    ensures more { OnOk result
+        (IsExtended stating.entry.universe.now rows.old.items rows.new.items) }
+    ensures numbers { IfOk result (λ places. AreRowNumbers stating.entry.universe.now
+        (stated_rows stating.entry.universe.now stating.entry.plan.now.lanes
+        stating.entry.certificate.now number)
+        (length (lane stating.entry.plan.now.lanes number).instructions) places rows.new.items) }
 {
-    let instructions = plan.lane(number).instructions();
+    let instructions = stating.plan.lane(number).instructions();
     let mut numbers = Vec::new(alloc);
     let mut used = 0;
     let mut when = None;
-    rows.push(archive.clone()?)?;
+    rows.push(stating.archive.clone()?)?;
     numbers.push(rows.len() - 1)?;
     for place in 0..instructions.len() {
         let instruction = &instructions[place];
         let before = numbers[place_before(instruction, place, when)];
-        let next = add_row(
-            universe,
-            plan,
-            certificate,
-            archive,
+        let at = LaneAt {
             number,
             place,
             instruction,
-            used,
-            before,
-            rows,
-        )?;
+        };
+        let next = add_row(stating, at, used, before, rows)?;
         used = next.0;
         numbers.push(next.1)?;
         when = open_behind(instruction, place, when);
@@ -148,16 +146,14 @@ pub fn stated_known(
     let archive = initial_row(alloc, universe)?;
     let mut rows = Vec::new(alloc);
     let mut places = Vec::new(alloc);
+    let stating = Stating {
+        universe,
+        plan,
+        certificate,
+        archive: &archive,
+    };
     for number in 0..plan.lanes() {
-        places.push(lane_places(
-            alloc,
-            universe,
-            plan,
-            certificate,
-            &archive,
-            number,
-            &mut rows,
-        )?)?;
+        places.push(lane_places(alloc, stating, number, &mut rows)?)?;
     }
     Ok(StatedRows::new(universe, plan, places, rows))
 }

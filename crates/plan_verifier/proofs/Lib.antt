@@ -5,3 +5,5 @@ pub mod Walks
 pub mod Promises
 pub mod Messages
 mod OneVerdict
+pub mod Crossing
+mod SideBySide

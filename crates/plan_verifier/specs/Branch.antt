@@ -5,11 +5,11 @@
 --   turned             behind an `else`
 --   IsJoined           behind an `end`
 --   IsBranch, IsAt     what is kept of the open branch, and at a place of a lane
-use Rattle.std.specs.Prelude.{◌≡◌, ℕ, Bool, true, false, [], Option, Some, None}
+use Rattle.std.specs.Prelude.{◌≡◌, ℕ, true, false, [], Option, Some, None}
 use Rattle.farm_model.specs.Universe.{Universe}
 use Rattle.may_rows.specs.Met.{Doubt, AreDoubts}
 use Rattle.may_rows.specs.Walk.{IsOfLane}
-use Rattle.may_rows.specs.Words.{Words, may_of}
+use Rattle.may_rows.specs.Words.{may_of}
 use Rattle.plan_model.specs.Branches.{Side, Outside, InFirst, InSecond, side_at}
 use Rattle.plan_model.specs.Join.{phases_differ, joined}
 use Rattle.plan_model.specs.Known.{Rows}

@@ -8,3 +8,4 @@ pub mod Costs
 pub mod Messages
 pub mod Stuck
 pub mod OneVerdict
+pub mod SideBySide

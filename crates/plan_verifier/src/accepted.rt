@@ -7,6 +7,7 @@ ghost use Rattle.plan_model.specs.Plan.{lane, count};
 ghost use Rattle.plan_model.specs.Promise.{IsSafe};
 ghost use Rattle.plan_verifier.specs.Accepted.{IsAccepted, StaysForeseen, known_rows};
 
+use farm_input::Planned;
 use farm_universe::Universe;
 use plan_asm::Plan;
 use std::marker::Model;
@@ -15,8 +16,7 @@ use wait_order::Known;
 /// A plan that was accepted, with the universe that it is about.
 #[derive(Drop)]
 pub struct Accepted {
-    universe: Universe,
-    plan: Plan,
+    planned: Planned,
     known: Known,
     order: Vec<u32>,
     costs: Vec<u64>,
@@ -31,50 +31,43 @@ impl Model for Accepted {
     ghost use Rattle.plan_model.specs.Plan.{count};
 
     ghost view = { λ a. record {
-      universe = a.universe;
-      plan = a.plan.lanes;
+      universe = a.planned.universe;
+      plan = a.planned.plan.lanes;
       known = a.known;
       order = a.order.items;
       costs = a.costs.items;
     } };
 
     ghost invariant = { λ a. IsAccepted (record {
-      universe = a.universe;
-      plan = a.plan.lanes;
+      universe = a.planned.universe;
+      plan = a.planned.plan.lanes;
       known = a.known;
       order = a.order.items;
       costs = a.costs.items;
-    }) × (a.plan.count ≡ count a.universe a.plan.lanes) };
+    }) × (a.planned.plan.count ≡ count a.planned.universe a.planned.plan.lanes) };
 }
 
 impl Accepted {
     /// Accepts a plan with what its lanes know, an order of its waits, and its costs.
-    pub(crate) fn new(
-        universe: Universe,
-        plan: Plan,
-        known: Known,
-        order: Vec<u32>,
-        costs: Vec<u64>,
-    ) -> Accepted
+    pub(crate) fn new(planned: Planned, known: Known, order: Vec<u32>, costs: Vec<u64>) -> Accepted
         requires accepted { IsAccepted (record {
-          universe = universe;
-          plan = plan.lanes;
+          universe = planned.universe;
+          plan = planned.plan.lanes;
           known = known;
           order = order.items;
           costs = costs.items;
         }) }
-        requires counted { plan.count ≡ count universe plan.lanes }
+        requires counted { planned.plan.count ≡ count planned.universe planned.plan.lanes }
         ensures { result ≡ record {
-          universe = universe;
-          plan = plan.lanes;
+          universe = planned.universe;
+          plan = planned.plan.lanes;
           known = known;
           order = order.items;
           costs = costs.items;
         } }
     {
         Accepted {
-            universe,
-            plan,
+            planned,
             known,
             order,
             costs,
@@ -85,7 +78,7 @@ impl Accepted {
     pub fn universe(&self) -> &Universe
         ensures { result.now ≡ self.now.universe }
     {
-        &self.universe
+        &self.planned.universe
     }
 
     /// The plan.
@@ -93,7 +86,7 @@ impl Accepted {
         ensures lanes { result.now.lanes ≡ self.now.plan }
         ensures counted { result.now.count ≡ count self.now.universe self.now.plan }
     {
-        &self.plan
+        &self.planned.plan
     }
 
     /// What each lane knows of the archive at each place.

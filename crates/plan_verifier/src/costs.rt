@@ -6,42 +6,71 @@ ghost use Rattle.plan_model.specs.Plan.{lane};
 ghost use Rattle.plan_model.specs.Safety.{Meets, Parts};
 ghost use Rattle.plan_model.specs.Sound.{IsSound};
 ghost use Rattle.plan_verifier.specs.Costs.{AreWalked, IsWalked, IsToldUnsafe};
+ghost use Rattle.plan_verifier.specs.SideBySide.{AreWalks};
 ghost use Rattle.plan_verifier.specs.Stage.{IsStage};
+ghost use Rattle.plan_verifier.specs.Walk.{Walked};
 ghost use Rattle.wait_order.specs.KnownRows.{rows_of};
 
 use crate::refusal::Refusal;
+use crate::side_by_side::{StageLanes, lanes_at_once, walk_each};
 use crate::stage::Stage;
-use crate::walk::{WalkError, walk};
+use crate::walk::WalkError;
 use farm_universe::{Trap, Universe};
 use may_rows::Dependents;
 use plan_asm::Plan;
 use sat_rows::Tables;
 use std::alloc::Global;
+use std::thread::Threads;
 use wait_order::{Known, KnownWords};
 
+/// The costs that the walks over the lanes came to, or the error of the first lane that has one.
+fn costs_of<K: KnownWords>(
+    alloc: Global,
+    stage: &Stage<'_, K>,
+    walks: &[Result<u64, WalkError>],
+) -> Result<Vec<u64>, WalkError>
+    requires walks { AreWalks (Walked stage.now.universe.now stage.now.plan.now.lanes
+        (K.known stage.now.known.now).rows) (length stage.now.plan.now.lanes) walks.now }
+    ensures { AreWalked stage.now.universe.now stage.now.plan.now.lanes
+        (K.known stage.now.known.now).rows result }
+{
+    let mut costs = Vec::new(alloc);
+    for number in 0..stage.plan.lanes() {
+        match walks[number] {
+            Ok(cost) => costs.push(cost)?,
+            Err(error) => return Err(error),
+        }
+    }
+    Ok(costs)
+}
+
 /// What each lane costs at most, in steps, where each instruction is safe under these known rows,
-/// whoever made them.
+/// whoever made them. The lanes of a large plan are walked over by as many threads as there are
+/// processors; which error is told does not go by which of them ends first.
 ///
 /// # Errors
 ///
 /// Of the first lane that has an unsafe instruction: [`WalkError::Unsafe`] with the first one and the
 /// first trap that it may meet, or [`WalkError::Uneven`] where that is an `end` of branches that leave
 /// some name in different phases. [`WalkError::Memory`] where memory ran out.
-pub fn walk_lanes<K: KnownWords>(alloc: Global, stage: &Stage<'_, K>) -> Result<Vec<u64>, WalkError>
+pub fn walk_lanes<K: KnownWords + Sync>(
+    rt: &(impl Threads + Sync),
+    alloc: Global,
+    stage: &Stage<'_, K>,
+) -> Result<Vec<u64>, WalkError>
     requires stage { IsStage stage.now.universe.now stage.now.plan.now.lanes
         stage.now.tables.now stage.now.outputs.now (K.known stage.now.known.now) }
     ensures { AreWalked stage.now.universe.now stage.now.plan.now.lanes
         (K.known stage.now.known.now).rows result }
 {
     let dependents = Dependents::build(alloc, stage.universe, stage.tables)?;
-    let mut costs = Vec::new(alloc);
-    for number in 0..stage.plan.lanes() {
-        match walk(alloc, stage, &dependents, number) {
-            Ok(cost) => costs.push(cost)?,
-            Err(error) => return Err(error),
-        }
-    }
-    Ok(costs)
+    let lanes = StageLanes {
+        stage: &*stage,
+        dependents: &dependents,
+    };
+    let least = lanes_at_once(stage.plan);
+    let walks = walk_each(rt, alloc, &lanes, stage.plan.lanes(), least)?;
+    costs_of(alloc, stage, &walks)
 }
 
 /// The refusal of a lane of this name, whose instruction of this number may meet a trap.
@@ -76,6 +105,7 @@ fn uneven_refusal(alloc: Global, name: &[u8], instruction: u32) -> Refusal
 /// first trap that it may meet, or [`Refusal::Uneven`] with the `when` whose branches leave some name
 /// in different phases, found at their `end`. [`Refusal::Memory`] where memory ran out.
 pub fn check_lanes(
+    rt: &(impl Threads + Sync),
     alloc: Global,
     universe: &Universe,
     tables: &Tables,
@@ -96,7 +126,7 @@ pub fn check_lanes(
         outputs: known.outputs(),
         known,
     };
-    match walk_lanes(alloc, &stage) {
+    match walk_lanes(rt, alloc, &stage) {
         Ok(costs) => Ok(costs),
         Err(
             WalkError::Unsafe {

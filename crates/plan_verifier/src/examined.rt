@@ -34,8 +34,7 @@ pub struct Grounds {
 /// the plan's lanes know of the archive.
 #[derive(Drop)]
 pub struct Examined {
-    universe: Universe,
-    plan: Plan,
+    planned: Planned,
     tables: Tables,
     known: Known,
 }
@@ -48,20 +47,22 @@ impl Model for Examined {
     ghost Value = { ExaminedPlan };
 
     ghost view = { λ e. record {
-      universe = e.universe;
-      plan = e.plan.lanes;
+      universe = e.planned.universe;
+      plan = e.planned.plan.lanes;
       known = e.known;
     } };
 
     ghost invariant = { λ e. IsExamined (record {
-      universe = e.universe;
-      plan = e.plan.lanes;
+      universe = e.planned.universe;
+      plan = e.planned.plan.lanes;
       known = e.known;
-    }) × (e.tables ≡ e.universe) × (e.plan.count ≡ count e.universe e.plan.lanes) };
+    }) × (e.tables ≡ e.planned.universe)
+        × (e.planned.plan.count ≡ count e.planned.universe e.planned.plan.lanes) };
 }
 
 /// Finds what the acceptance of a plan rests on, by the rows of its universe and what its lanes know.
 fn find_grounds(
+    rt: &(impl Threads + Sync),
     alloc: Global,
     universe: &Universe,
     tables: &Tables,
@@ -81,12 +82,31 @@ fn find_grounds(
     ensures refused { IfErr result (λ refusal.
         IsVerdictOn universe.now plan.now.lanes (Err refusal)) }
 {
-    let costs = check_lanes(alloc, universe, tables, plan, known)?;
+    let costs = check_lanes(rt, alloc, universe, tables, plan, known)?;
     match order(alloc, universe, tables, plan) {
         Ok(order) => Ok(Grounds { order, costs }),
         Err(OrderError::Stuck(lanes)) => Err(stuck_refusal(alloc, plan, &lanes)),
         Err(OrderError::Memory) => Err(Refusal::Memory),
     }
+}
+
+/// The rows of a universe, and what the lanes of a plan over it know.
+fn rows_and_known(
+    rt: &(impl Threads + Sync),
+    alloc: Global,
+    universe: &Universe,
+    plan: &Plan,
+) -> Result<(Tables, Known), AllocError>
+    requires { IsSound universe.now plan.now.lanes }
+    ensures tables { IfOk result (λ made. made.0 ≡ universe.now) }
+    ensures universe { IfOk result (λ made. made.1.universe ≡ universe.now) }
+    ensures plan { IfOk result (λ made. made.1.plan ≡ plan.now.lanes) }
+    ensures greatest { IfOk result (λ made. IsGreatest universe.now plan.now.lanes
+        (rows_of made.1)) }
+{
+    let tables = Tables::build(rt, alloc, universe)?;
+    let known = knowledge(alloc, universe, &tables, plan)?;
+    Ok((tables, known))
 }
 
 impl Examined {
@@ -105,22 +125,21 @@ impl Examined {
         ensures universe { IfOk result (λ examined. examined.universe ≡ planned.universe) }
         ensures plan { IfOk result (λ examined. examined.plan ≡ planned.plan.lanes) }
     {
-        let Planned { universe, plan } = planned;
-        let tables = Tables::build(rt, alloc, &universe)?;
-        let known = knowledge(alloc, &universe, &tables, &plan)?;
-        Ok(Examined {
-            universe,
-            plan,
-            tables,
-            known,
-        })
+        match rows_and_known(rt, alloc, &planned.universe, &planned.plan) {
+            Ok((tables, known)) => Ok(Examined {
+                planned,
+                tables,
+                known,
+            }),
+            Err(error) => Err(error),
+        }
     }
 
     /// The universe of the packages, the sources and the farm.
     pub fn universe(&self) -> &Universe
         ensures { result.now ≡ self.now.universe }
     {
-        &self.universe
+        &self.planned.universe
     }
 
     /// The plan.
@@ -128,7 +147,7 @@ impl Examined {
         ensures lanes { result.now.lanes ≡ self.now.plan }
         ensures counted { result.now.count ≡ count self.now.universe self.now.plan }
     {
-        &self.plan
+        &self.planned.plan
     }
 
     /// What walks over the plan's lanes go by.
@@ -140,9 +159,9 @@ impl Examined {
             result.outputs.now (knowledge_of self.now.known) }
     {
         Stage {
-            universe: &self.universe,
+            universe: &self.planned.universe,
             tables: &self.tables,
-            plan: &self.plan,
+            plan: &self.planned.plan,
             outputs: self.known.outputs(),
             known: &self.known,
         }
@@ -153,12 +172,13 @@ impl Examined {
     /// # Errors
     ///
     /// As those of [`check`](crate::check) for a plan that can be read.
-    pub fn verdict(&self, alloc: Global) -> Result<Grounds, Refusal>
+    pub fn verdict(&self, rt: &(impl Threads + Sync), alloc: Global) -> Result<Grounds, Refusal>
         ensures accepted { IfOk result (IsGrounds self.now) }
         ensures refused { IfErr result (λ refusal.
             IsVerdictOn self.now.universe self.now.plan (Err refusal)) }
     {
-        find_grounds(alloc, &self.universe, &self.tables, &self.plan, &self.known)
+        let Planned { universe, plan } = &self.planned;
+        find_grounds(rt, alloc, universe, &self.tables, plan, &self.known)
     }
 
     /// The plan as an accepted one.
@@ -166,13 +186,8 @@ impl Examined {
         requires { IsGrounds self grounds }
         ensures { result ≡ accepted_with self grounds.order.items grounds.costs.items }
     {
-        let Examined {
-            universe,
-            plan,
-            known,
-            ..
-        } = self;
+        let Examined { planned, known, .. } = self;
         let Grounds { order, costs } = grounds;
-        Accepted::new(universe, plan, known, order, costs)
+        Accepted::new(planned, known, order, costs)
     }
 }

@@ -9,6 +9,7 @@ mod laws;
 mod message;
 mod possible;
 mod refusal;
+mod side_by_side;
 mod stage;
 mod stuck;
 mod verdict;

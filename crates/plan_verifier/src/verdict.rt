@@ -15,15 +15,30 @@ use farm_input::{Planned, read_texts};
 use std::alloc::Global;
 use std::thread::Threads;
 
+/// The verdict on an examined plan.
+fn conclude(
+    rt: &(impl Threads + Sync),
+    alloc: Global,
+    examined: Examined,
+) -> Result<Accepted, Refusal>
+    ensures { IsVerdictOn examined.universe examined.plan result }
+{
+    match examined.verdict(rt, alloc) {
+        Ok(grounds) => Ok(examined.accept(grounds)),
+        Err(refusal) => Err(refusal),
+    }
+}
+
 /// Judges a plan over a universe.
 fn judge(rt: &(impl Threads + Sync), alloc: Global, planned: Planned) -> Result<Accepted, Refusal>
     requires counted { planned.plan.count ≡ count planned.universe planned.plan.lanes }
     requires sound { IsSound planned.universe planned.plan.lanes }
     ensures { IsVerdictOn planned.universe planned.plan.lanes result }
 {
-    let examined = Examined::of(rt, alloc, planned)?;
-    let grounds = examined.verdict(alloc)?;
-    Ok(examined.accept(grounds))
+    match Examined::of(rt, alloc, planned) {
+        Ok(examined) => conclude(rt, alloc, examined),
+        Err(_) => Err(Refusal::Memory),
+    }
 }
 
 /// Checks the plan of a farm before anything is built: the packages index, the sources index, the

@@ -14,7 +14,7 @@ ghost use Rattle.plan_verifier.specs.Walk.{is_plain, IsAdvanced, Walked, WalkedT
 use crate::branch::{Branch, LaneMay};
 use crate::stage::Stage;
 use farm_universe::Trap;
-use may_rows::{ArchiveWords, Dependents, Doubts, MayHold, step};
+use may_rows::{ArchiveWords, Dependents, Doubts, LaneOf, MayHold, step};
 use plan_asm::Instruction;
 use std::alloc::{AllocError, AllocFailed, Global};
 use wait_order::KnownWords;
@@ -122,16 +122,13 @@ fn step_on<K: KnownWords>(
     let _lanes = stage.plan.lanes();
     let lane = stage.plan.lane(number);
     let words = words_at(stage, number, place, instruction);
-    let stepped = step(
-        stage.universe,
-        stage.tables,
+    let of = LaneOf {
+        universe: stage.universe,
+        tables: stage.tables,
         dependents,
         lane,
-        &mut may.here,
-        &mut may.doubts,
-        instruction,
-        words,
-    );
+    };
+    let stepped = step(of, &mut may.here, &mut may.doubts, instruction, words);
     match stepped {
         Ok(()) => Ok(()),
         Err(trap) => Err(WalkError::Unsafe {

@@ -11,3 +11,4 @@ pub mod Columns
 pub mod Clock
 pub mod Outputs
 pub mod Entries
+pub mod Supply

@@ -70,3 +70,9 @@ abbrev pub HavePast : Universe → Plan → List LaneOutputs → Type 0
 HavePast u p lanes =
     (l : ℕ) (of : LaneOutputs) → slice_get lanes l ≡ Some of
     → ArePast u p l (suc (length (lane p l).instructions)) of.past.items
+
+-- a point of the plan: an instruction stands at its place, and it counts the outputs before it
+pub record IsMark (u : Universe) (p : Plan) (mark : Mark) : Type 0 where
+  pub lane_there : mark.lane < length p
+  pub place_there : mark.place < length (lane p mark.lane).instructions
+  pub own_is : mark.own ≡ count_before u p mark.lane mark.place

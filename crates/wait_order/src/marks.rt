@@ -29,6 +29,14 @@ pub struct Output {
     pub point: Option<usize>,
 }
 
+/// An instruction of a lane, by its place.
+#[derive(Clone, Copy)]
+pub struct LaneAt<'a> {
+    pub lane: usize,
+    pub place: usize,
+    pub instruction: &'a Instruction,
+}
+
 /// The points whose counts hold at a place, and ahead of the `when` that is open there.
 #[derive(Clone, Copy, Debug)]
 pub struct LastPoints {
@@ -152,30 +160,29 @@ fn behind(instruction: &Instruction, next: usize, last: LastPoints) -> LastPoint
 /// Goes past one instruction of a lane.
 pub fn pass(
     universe: &Universe,
-    number: usize,
-    place: usize,
-    instruction: &Instruction,
+    at: LaneAt<'_>,
     last: &mut LastPoints,
     marks: &mut Vec<Mark>,
     outputs: &mut Vec<Output>,
 ) -> Result<(), AllocError>
     ensures last { OnOk result
-        (last.new ≡ last_after instruction.now (length marks.old.items) last.old) }
+        (last.new ≡ last_after at.entry.instruction.now (length marks.old.items) last.old) }
     ensures marks { OnOk result (marks.new.items ≡ marks.old.items
-        ++ marks_of instruction.now number place (length outputs.old.items) last.old.here) }
+        ++ marks_of at.entry.instruction.now at.entry.lane at.entry.place
+        (length outputs.old.items) last.old.here) }
     ensures outputs { OnOk result (outputs.new.items ≡ outputs.old.items
-        ++ map (output_with last.old.here) (outputs_of universe.now instruction.now)) }
+        ++ map (output_with last.old.here) (outputs_of universe.now at.entry.instruction.now)) }
 {
     let next = marks.len();
     let mark = Mark {
-        lane: number,
-        place,
+        lane: at.lane,
+        place: at.place,
         own: outputs.len(),
         before: last.here,
     };
-    push_mark(instruction, mark, marks)?;
-    push_made(universe, instruction, last.here, outputs)?;
-    *last = behind(instruction, next, *last);
+    push_mark(at.instruction, mark, marks)?;
+    push_made(universe, at.instruction, last.here, outputs)?;
+    *last = behind(at.instruction, next, *last);
     Ok(())
 }
 
@@ -209,15 +216,12 @@ fn walk_lane(
             own: outputs.len(),
             last: last.here,
         })?;
-        pass(
-            universe,
-            number,
+        let at = LaneAt {
+            lane: number,
             place,
-            &instructions[place],
-            &mut last,
-            marks,
-            &mut outputs,
-        )?;
+            instruction: &instructions[place],
+        };
+        pass(universe, at, &mut last, marks, &mut outputs)?;
     }
     past.push(Past {
         own: outputs.len(),

@@ -1,21 +1,18 @@
 //! The waits and `when`s of a plan as points of the columns, each with the outputs that it looks
 //! for.
 
-ghost use Rattle.std.specs.Prelude.{◌≡◌, ℕ, Bool, ◌<◌, ◌≤◌, ◌++◌, ◌∷◌, [], length, Some, slice_get, if◌then◌else◌, IsNone, IfSome, IfOk, OnOk};
+ghost use Rattle.std.specs.Prelude.{◌≡◌, ℕ, Bool, ◌<◌, ◌≤◌, ◌++◌, ◌∷◌, [], List, length, if◌then◌else◌, IfOk, OnOk};
 ghost use Rattle.std.specs.List.{filter};
 ghost use Rattle.farm_model.specs.declared.types.Variant.{Variant};
-ghost use Rattle.farm_model.specs.Packages.{names, initial, satisfies_entry};
-ghost use Rattle.farm_model.specs.Sound.{IsUniverse};
+ghost use Rattle.farm_model.specs.Packages.{names, satisfies_entry};
 ghost use Rattle.plan_model.specs.Plan as model;
-ghost use Rattle.plan_model.specs.Plan.{lane};
 ghost use Rattle.plan_model.specs.Known.{is_of};
 ghost use Rattle.plan_model.specs.Sound.{IsSound};
-ghost use Rattle.clock_laws.specs.Clocks.{count_before};
 ghost use Rattle.sat_rows.specs.Rows.{IsRowOf};
 ghost use Rattle.wait_order.specs.Points.{AreSources, ArePoints};
-ghost use Rattle.wait_order.specs.Marks.{all_marks, AreLanes};
+ghost use Rattle.wait_order.specs.Marks.{all_marks, AreLanes, IsMark};
 ghost use Rattle.wait_order.specs.Hits as hits;
-ghost use Rattle.wait_order.specs.ByName.{AreListed};
+ghost use Rattle.wait_order.specs.Supply.{IsSupply};
 ghost use Rattle.wait_order.specs.Hits.{IsFirst, IsPushed, AreSourcesBelow, IsPointOf, AreEntrySources};
 ghost use Rattle.wait_order.specs.Entries.{AreFor};
 
@@ -33,17 +30,27 @@ use plan_asm::{Instruction, Plan};
 use sat_rows::{Tables, mask};
 use std::alloc::{AllocError, Global};
 
+/// What a plan over a universe supplies: the initial archive, and the outputs of its lanes, by name.
+#[derive(Clone, Copy)]
+struct Supply<'a, 'p> {
+    universe: &'a Universe,
+    tables: &'a Tables,
+    plan: &'p Plan,
+    archive: &'a Row,
+    lanes: &'a [LaneOutputs],
+    by_name: &'a ByName,
+}
+
 /// Puts the first output of a lane that a row has behind the sources, where there is one.
 fn push_hit(
-    _row: &Row,
     number: usize,
     outputs: &[Output],
     first: usize,
     sources: &mut Vec<Source>,
 ) -> Result<(), AllocError>
-    requires { IsFirst _row.now outputs.now first }
-    ensures { OnOk result (IsPushed _row.now outputs.now (length outputs.now) number
-        sources.old.items sources.new.items) }
+    ensures { OnOk result ((row : List ℕ) → IsFirst row outputs.now first
+        → IsPushed row outputs.now (length outputs.now) number sources.old.items
+        sources.new.items) }
 {
     if first >= outputs.len() {
         return Ok(());
@@ -59,18 +66,18 @@ fn push_hit(
 /// The source of the initial variants that a row has, where there are any.
 fn initial_sources(
     alloc: Global,
-    _universe: &Universe,
-    archive: &Row,
+    supply: Supply<'_, '_>,
     row: &Row,
 ) -> Result<Vec<Source>, AllocError>
-    requires sound { IsUniverse _universe.now }
-    requires archive { IsRowOf _universe.now (initial _universe.now) archive.now }
-    requires long { length row.now ≡ names _universe.now }
-    ensures { IfOk result (λ sources. (test : Variant → Bool) → IsRowOf _universe.now test row.now
-        → (p : model.Plan) (l i : ℕ) → AreSourcesBelow _universe.now p l i test sources.items 0) }
+    requires supply { IsSupply supply.universe.now supply.plan.now.lanes supply.tables.now
+        supply.archive.now supply.lanes.now supply.by_name.now }
+    requires row { length row.now ≡ names supply.universe.now }
+    ensures { IfOk result (λ sources. (test : Variant → Bool)
+        → IsRowOf supply.entry.universe.now test row.now → (p : model.Plan) (l i : ℕ)
+        → AreSourcesBelow supply.entry.universe.now p l i test sources.items 0) }
 {
     let mut sources = Vec::new(alloc);
-    if !archive.hits(row) {
+    if !supply.archive.hits(row) {
         return Ok(sources);
     }
     sources.push(Source {
@@ -82,29 +89,21 @@ fn initial_sources(
 }
 
 /// The sources of a point that stands in no lane of the plan, and looks for what a row has.
-fn sources_of(
-    alloc: Global,
-    universe: &Universe,
-    _plan: &Plan,
-    archive: &Row,
-    lanes: &[LaneOutputs],
-    by_name: &ByName,
-    row: &Row,
-) -> Result<Vec<Source>, AllocError>
-    requires sound { IsSound universe.now _plan.now.lanes }
-    requires archive { IsRowOf universe.now (initial universe.now) archive.now }
-    requires lanes { AreLanes universe.now _plan.now.lanes lanes.now }
-    requires lists { length by_name.now ≡ names universe.now }
-    requires listed { AreListed by_name.now lanes.now (length lanes.now) }
-    requires long { length row.now ≡ names universe.now }
-    ensures { IfOk result (λ sources. (test : Variant → Bool) → IsRowOf universe.now test row.now
-        → AreSources universe.now _plan.now.lanes (length _plan.now.lanes) 0 test sources.items) }
+fn sources_of(alloc: Global, supply: Supply<'_, '_>, row: &Row) -> Result<Vec<Source>, AllocError>
+    requires supply { IsSupply supply.universe.now supply.plan.now.lanes supply.tables.now
+        supply.archive.now supply.lanes.now supply.by_name.now }
+    requires row { length row.now ≡ names supply.universe.now }
+    ensures { IfOk result (λ sources. (test : Variant → Bool)
+        → IsRowOf supply.entry.universe.now test row.now
+        → AreSources supply.entry.universe.now supply.entry.plan.now.lanes
+        (length supply.entry.plan.now.lanes) 0 test sources.items) }
 {
-    let mut sources = initial_sources(alloc, universe, archive, row)?;
-    let firsts = first_hits(alloc, universe, row, lanes, by_name)?;
+    let lanes = supply.lanes;
+    let mut sources = initial_sources(alloc, supply, row)?;
+    let firsts = first_hits(alloc, supply.universe, row, lanes, supply.by_name)?;
     for number in 0..lanes.len() {
         let outputs = lanes[number].outputs.as_slice();
-        push_hit(row, number, outputs, firsts[number], &mut sources)?;
+        push_hit(number, outputs, firsts[number], &mut sources)?;
     }
     Ok(sources)
 }
@@ -152,37 +151,28 @@ struct Found<'p> {
 /// The sources of a wait. What its entry has is looked for once.
 fn sources_at<'p>(
     alloc: Global,
-    universe: &Universe,
-    tables: &Tables,
-    plan: &Plan,
-    archive: &Row,
-    lanes: &[LaneOutputs],
-    by_name: &ByName,
+    supply: Supply<'_, '_>,
     mark: Mark,
     entry: &'p Entry,
     found: &mut Found<'p>,
 ) -> Result<Vec<Source>, AllocError>
-    requires sound { IsSound universe.now plan.now.lanes }
-    requires tables { tables.now ≡ universe.now }
-    requires archive { IsRowOf universe.now (initial universe.now) archive.now }
-    requires lanes { AreLanes universe.now plan.now.lanes lanes.now }
-    requires lists { length by_name.now ≡ names universe.now }
-    requires listed { AreListed by_name.now lanes.now (length lanes.now) }
-    requires lane { mark.lane < length plan.now.lanes }
-    requires own { mark.own ≡ count_before universe.now plan.now.lanes mark.lane mark.place }
-    requires found { AreFor (AreEntrySources universe.now plan.now.lanes) found.old.entries
-        found.old.sources.items }
-    ensures sources { IfOk result (λ sources. AreSources universe.now plan.now.lanes mark.lane
-        mark.place (satisfies_entry universe.now entry.now) sources.items) }
-    ensures found { OnOk result (AreFor (AreEntrySources universe.now plan.now.lanes)
-        found.new.entries found.new.sources.items) }
+    requires supply { IsSupply supply.universe.now supply.plan.now.lanes supply.tables.now
+        supply.archive.now supply.lanes.now supply.by_name.now }
+    requires mark { IsMark supply.universe.now supply.plan.now.lanes mark }
+    requires found { AreFor (AreEntrySources supply.universe.now supply.plan.now.lanes)
+        found.old.entries found.old.sources.items }
+    ensures sources { IfOk result (λ sources. AreSources supply.entry.universe.now
+        supply.entry.plan.now.lanes mark.lane mark.place
+        (satisfies_entry supply.entry.universe.now entry.now) sources.items) }
+    ensures found { OnOk result (AreFor (AreEntrySources supply.entry.universe.now
+        supply.entry.plan.now.lanes) found.new.entries found.new.sources.items) }
 {
     let number = found.entries.number(entry)?;
     if number < found.sources.len() {
         return Ok(met_sources(alloc, &found.sources[number].sources, mark)?);
     }
-    let row = tables.entry_row(alloc, universe, entry)?;
-    let all = sources_of(alloc, universe, plan, archive, lanes, by_name, &row)?;
+    let row = supply.tables.entry_row(alloc, supply.universe, entry)?;
+    let all = sources_of(alloc, supply, &row)?;
     let sources = met_sources(alloc, &all, mark)?;
     if number != found.sources.len() {
         return Ok(sources);
@@ -209,28 +199,21 @@ fn name_row(
 /// The sources of a `when`.
 fn when_sources(
     alloc: Global,
-    universe: &Universe,
-    plan: &Plan,
-    archive: &Row,
-    lanes: &[LaneOutputs],
-    by_name: &ByName,
+    supply: Supply<'_, '_>,
     mark: Mark,
     name: u32,
     relation: &Option<(Op, Version)>,
 ) -> Result<Vec<Source>, AllocError>
-    requires sound { IsSound universe.now plan.now.lanes }
-    requires archive { IsRowOf universe.now (initial universe.now) archive.now }
-    requires lanes { AreLanes universe.now plan.now.lanes lanes.now }
-    requires lists { length by_name.now ≡ names universe.now }
-    requires listed { AreListed by_name.now lanes.now (length lanes.now) }
-    requires lane { mark.lane < length plan.now.lanes }
-    requires own { mark.own ≡ count_before universe.now plan.now.lanes mark.lane mark.place }
-    requires name { name < names universe.now }
-    ensures { IfOk result (λ sources. AreSources universe.now plan.now.lanes mark.lane mark.place
-        (is_of universe.now name relation.now) sources.items) }
+    requires supply { IsSupply supply.universe.now supply.plan.now.lanes supply.tables.now
+        supply.archive.now supply.lanes.now supply.by_name.now }
+    requires mark { IsMark supply.universe.now supply.plan.now.lanes mark }
+    requires name { name < names supply.universe.now }
+    ensures { IfOk result (λ sources. AreSources supply.entry.universe.now
+        supply.entry.plan.now.lanes mark.lane mark.place
+        (is_of supply.entry.universe.now name relation.now) sources.items) }
 {
-    let row = name_row(alloc, universe, name, relation)?;
-    let all = sources_of(alloc, universe, plan, archive, lanes, by_name, &row)?;
+    let row = name_row(alloc, supply.universe, name, relation)?;
+    let all = sources_of(alloc, supply, &row)?;
     let sources = met_sources(alloc, &all, mark)?;
     Ok(sources)
 }
@@ -257,41 +240,27 @@ fn point_with(mark: Mark, sources: Vec<Source>) -> Point
 /// The point of a mark.
 fn point_of<'p>(
     alloc: Global,
-    universe: &Universe,
-    tables: &Tables,
-    plan: &'p Plan,
-    archive: &Row,
-    lanes: &[LaneOutputs],
-    by_name: &ByName,
+    supply: Supply<'_, 'p>,
     mark: Mark,
     found: &mut Found<'p>,
 ) -> Result<Point, AllocError>
-    requires sound { IsSound universe.now plan.now.lanes }
-    requires archive { IsRowOf universe.now (initial universe.now) archive.now }
-    requires lanes { AreLanes universe.now plan.now.lanes lanes.now }
-    requires lists { length by_name.now ≡ names universe.now }
-    requires listed { AreListed by_name.now lanes.now (length lanes.now) }
-    requires own { mark.own ≡ count_before universe.now plan.now.lanes mark.lane mark.place }
-    requires lane { mark.lane < length plan.now.lanes }
-    requires place { mark.place < length (lane plan.now.lanes mark.lane).instructions }
-    requires tables { tables.now ≡ universe.now }
-    requires found { AreFor (AreEntrySources universe.now plan.now.lanes) found.old.entries
-        found.old.sources.items }
-    ensures point { IfOk result (IsPointOf universe.now plan.now.lanes mark) }
-    ensures found { OnOk result (AreFor (AreEntrySources universe.now plan.now.lanes)
-        found.new.entries found.new.sources.items) }
+    requires supply { IsSupply supply.universe.now supply.plan.now.lanes supply.tables.now
+        supply.archive.now supply.lanes.now supply.by_name.now }
+    requires mark { IsMark supply.universe.now supply.plan.now.lanes mark }
+    requires found { AreFor (AreEntrySources supply.universe.now supply.plan.now.lanes)
+        found.old.entries found.old.sources.items }
+    ensures point { IfOk result
+        (IsPointOf supply.entry.universe.now supply.entry.plan.now.lanes mark) }
+    ensures found { OnOk result (AreFor (AreEntrySources supply.entry.universe.now
+        supply.entry.plan.now.lanes) found.new.entries found.new.sources.items) }
 {
-    match &plan.lane(mark.lane).instructions()[mark.place] {
+    match &supply.plan.lane(mark.lane).instructions()[mark.place] {
         Instruction::Wait(entry) => {
-            let sources = sources_at(
-                alloc, universe, tables, plan, archive, lanes, by_name, mark, entry, found,
-            )?;
+            let sources = sources_at(alloc, supply, mark, entry, found)?;
             Ok(point_with(mark, sources))
         }
         Instruction::When { name, relation } => {
-            let sources = when_sources(
-                alloc, universe, plan, archive, lanes, by_name, mark, *name, relation,
-            )?;
+            let sources = when_sources(alloc, supply, mark, *name, relation)?;
             Ok(point_with(mark, sources))
         }
         Instruction::Unpack { .. }
@@ -322,6 +291,14 @@ pub fn points(
 {
     let archive = initial_row(alloc, universe)?;
     let by_name = ByName::of(alloc, universe, &marks.lanes)?;
+    let supply = Supply {
+        universe,
+        tables,
+        plan,
+        archive: &archive,
+        lanes: &marks.lanes,
+        by_name: &by_name,
+    };
     let all = marks.marks.as_slice();
     let mut found = Found {
         entries: Entries::new(alloc)?,
@@ -329,17 +306,7 @@ pub fn points(
     };
     let mut points = Vec::new(alloc);
     for w in 0..all.len() {
-        points.push(point_of(
-            alloc,
-            universe,
-            tables,
-            plan,
-            &archive,
-            &marks.lanes,
-            &by_name,
-            all[w],
-            &mut found,
-        )?)?;
+        points.push(point_of(alloc, supply, all[w], &mut found)?)?;
     }
     Ok(points)
 }

@@ -3,7 +3,6 @@
 ghost use Rattle.std.specs.Prelude.{◌≡◌, ◌<◌, ◌++◌, ◌∷◌, [], ℕ, true, false, length, nat_lt, if◌then◌else◌, IfOk, OnOk, IfErr};
 ghost use Rattle.std.specs.List.{filter, range_with_len};
 ghost use Rattle.farm_model.specs.Packages.{names};
-ghost use Rattle.farm_model.specs.Sound.{IsUniverse};
 ghost use Rattle.plan_model.specs.Plan.{lane};
 ghost use Rattle.plan_model.specs.Order.{IsOrder};
 ghost use Rattle.plan_model.specs.Sound.{IsSound};
@@ -11,7 +10,7 @@ ghost use Rattle.wait_order.specs.Standing.{place_of, AreStanding, IsRound};
 ghost use Rattle.wait_order.specs.Settled.{IsSettled};
 ghost use Rattle.wait_order.specs.Answer.{IsWhyNone};
 
-use crate::standing::{Standing, advance, initial_row};
+use crate::standing::{Course, Standing, advance, initial_row};
 use crate::wait_rows::WaitRows;
 use bit_rows::Row;
 use farm_universe::Universe;
@@ -63,38 +62,24 @@ fn starts(alloc: Global, universe: &Universe, plan: &Plan) -> Result<Vec<Standin
 
 /// Takes each lane on as far as it goes, in file order, and tells whether one moved.
 fn round<'p>(
-    alloc: Global,
-    universe: &Universe,
-    tables: &Tables,
-    plan: &'p Plan,
+    course: Course<'p>,
     ats: &mut [Standing],
     rows: &mut WaitRows<'p>,
     archive: &mut Row,
     order: &mut Vec<u32>,
 ) -> Result<bool, AllocError>
-    requires sound { IsUniverse universe.now }
-    requires archive { length archive.old ≡ names universe.now }
-    requires standing { AreStanding universe.now plan.now.lanes ats.old }
-    requires tables { tables.now ≡ universe.now }
-    requires rows { rows.old ≡ universe.now }
-    ensures round { IfOk result (IsRound universe.now plan.now.lanes ats.old ats.new
-        order.old.items archive.old order.new.items archive.new (length plan.now.lanes)) }
+    requires standing { AreStanding course.universe.now course.plan.now.lanes ats.old }
+    requires archive { length archive.old ≡ names course.universe.now }
+    requires rows { rows.old ≡ course.universe.now }
+    ensures round { IfOk result (IsRound course.entry.universe.now course.entry.plan.now.lanes
+        ats.old ats.new order.old.items archive.old order.new.items archive.new
+        (length course.entry.plan.now.lanes)) }
     ensures rows { rows.new ≡ rows.old }
 {
     let mut moved = false;
-    for number in 0..plan.lanes() {
+    for number in 0..course.plan.lanes() {
         let at = &mut ats[number];
-        if advance(
-            alloc,
-            universe,
-            tables,
-            plan,
-            number as u32,
-            at,
-            rows,
-            archive,
-            order,
-        )? {
+        if advance(course, number as u32, at, rows, archive, order)? {
             moved = true;
         }
     }
@@ -168,16 +153,13 @@ pub fn settle(
     let mut standings = starts(alloc, universe, plan)?;
     let mut rows = WaitRows::new(alloc, universe)?;
     let mut order = Vec::new(alloc);
-    while round(
+    let course = Course {
         alloc,
         universe,
         tables,
         plan,
-        &mut standings,
-        &mut rows,
-        &mut archive,
-        &mut order,
-    )? {}
+    };
+    while round(course, &mut standings, &mut rows, &mut archive, &mut order)? {}
     Ok(Settled { standings, order })
 }
 

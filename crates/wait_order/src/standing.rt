@@ -14,6 +14,17 @@ use plan_asm::{Instruction, Plan};
 use sat_rows::Tables;
 use std::alloc::{AllocError, Global};
 
+/// A plan over a universe with its rows, whose lanes are taken on.
+#[derive(Clone, Copy)]
+pub struct Course<'p> {
+    pub alloc: Global,
+    pub universe: &'p Universe,
+    pub tables: &'p Tables,
+    pub plan: &'p Plan,
+    ghost sound: { IsUniverse universe.now },
+    ghost tables_are: { tables.now ≡ universe.now },
+}
+
 /// Where a lane stands.
 #[derive(Debug, Drop)]
 pub struct Standing {
@@ -61,33 +72,29 @@ fn publish(
 
 /// Makes the waits and outputs of an instruction, unless it has to wait.
 fn make<'p>(
-    alloc: Global,
-    universe: &Universe,
-    tables: &Tables,
+    course: Course<'p>,
     number: u32,
     instruction: &'p Instruction,
     rows: &mut WaitRows<'p>,
     archive: &mut Row,
     order: &mut Vec<u32>,
 ) -> Result<bool, AllocError>
-    requires sound { IsUniverse universe.now }
-    requires archive { length archive.old ≡ names universe.now }
-    requires tables { tables.now ≡ universe.now }
-    requires rows { rows.old ≡ universe.now }
-    ensures made { IfOk result (IsMade universe.now number instruction.now order.old.items
-        archive.old order.new.items archive.new) }
+    requires archive { length archive.old ≡ names course.universe.now }
+    requires rows { rows.old ≡ course.universe.now }
+    ensures made { IfOk result (IsMade course.entry.universe.now number instruction.now
+        order.old.items archive.old order.new.items archive.new) }
     ensures rows { rows.new ≡ rows.old }
 {
     match instruction {
         Instruction::Wait(entry) => {
-            if !rows.passes(alloc, universe, tables, entry, archive)? {
+            if !rows.passes(course.alloc, course.universe, course.tables, entry, archive)? {
                 return Ok(false);
             }
             order.push(number)?;
             Ok(true)
         }
         Instruction::Publish(recipe) => {
-            publish(universe, number, *recipe, archive, order)?;
+            publish(course.universe, number, *recipe, archive, order)?;
             Ok(true)
         }
         Instruction::Unpack { .. }
@@ -103,39 +110,25 @@ fn make<'p>(
 
 /// Takes a lane on as far as it goes, and tells whether it moved.
 pub fn advance<'p>(
-    alloc: Global,
-    universe: &Universe,
-    tables: &Tables,
-    plan: &'p Plan,
+    course: Course<'p>,
     number: u32,
     at: &mut Standing,
     rows: &mut WaitRows<'p>,
     archive: &mut Row,
     order: &mut Vec<u32>,
 ) -> Result<bool, AllocError>
-    requires sound { IsUniverse universe.now }
-    requires lane { number < length plan.now.lanes }
-    requires archive { length archive.old ≡ names universe.now }
-    requires standing { IsStanding universe.now plan.now.lanes number at.old }
-    requires tables { tables.now ≡ universe.now }
-    requires rows { rows.old ≡ universe.now }
-    ensures advance { IfOk result (IsAdvance universe.now plan.now.lanes number at.old at.new
-        order.old.items archive.old order.new.items archive.new) }
+    requires lane { number < length course.plan.now.lanes }
+    requires standing { IsStanding course.universe.now course.plan.now.lanes number at.old }
+    requires archive { length archive.old ≡ names course.universe.now }
+    requires rows { rows.old ≡ course.universe.now }
+    ensures advance { IfOk result (IsAdvance course.entry.universe.now course.entry.plan.now.lanes
+        number at.old at.new order.old.items archive.old order.new.items archive.new) }
     ensures rows { rows.new ≡ rows.old }
 {
-    let instructions = plan.lane(number as usize).instructions();
+    let instructions = course.plan.lane(number as usize).instructions();
     let start = at.place;
     for place in start..instructions.len() {
-        let made = make(
-            alloc,
-            universe,
-            tables,
-            number,
-            &instructions[place],
-            rows,
-            archive,
-            order,
-        )?;
+        let made = make(course, number, &instructions[place], rows, archive, order)?;
         if !made {
             return Ok(start < place);
         }

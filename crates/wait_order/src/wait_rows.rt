@@ -1,7 +1,9 @@
 //! The rows of the entries that waits name, each made once.
 
 ghost use Rattle.std.specs.Prelude.{◌≡◌, Bool, length, IfOk};
+ghost use Rattle.deb_relation.specs.Relations as relations;
 ghost use Rattle.farm_model.specs.declared.types.Variant.{Variant};
+ghost use Rattle.farm_model.specs.Universe as universes;
 ghost use Rattle.farm_model.specs.Packages.{names, satisfies_entry};
 ghost use Rattle.plan_model.specs.Turn.{passes};
 ghost use Rattle.sat_rows.specs.Rows.{IsRowOf};
@@ -36,13 +38,14 @@ impl<'p> Model for WaitRows<'p> {
         rows.rows.items };
 }
 
-/// Tells whether some variant of both rows is there.
+/// Tells whether some variant of both rows is there: where one row is that of an entry, whether a
+/// wait for it passes.
 #[tactic(auto, using(crate::proofs::Passes::hit_passes))]
-fn is_met(archive: &Row, row: &Row, _universe: &Universe, _entry: &Entry) -> bool
-    requires archive { length archive.now ≡ names _universe.now }
-    requires row { IsRowOf _universe.now (satisfies_entry _universe.now _entry.now) row.now }
-    ensures { (test : Variant → Bool) → IsRowOf _universe.now test archive.now
-        → result ≡ passes _universe.now test _entry.now }
+fn is_met(archive: &Row, row: &Row) -> bool
+    requires { length archive.now ≡ length row.now }
+    ensures { (u : universes.Universe) (e : relations.Entry) (test : Variant → Bool)
+        → IsRowOf u (satisfies_entry u e) row.now → IsRowOf u test archive.now
+        → result ≡ passes u test e }
 {
     archive.hits(row)
 }
@@ -78,10 +81,10 @@ impl<'p> WaitRows<'p> {
     {
         let number = self.entries.number(entry)?;
         if number < self.rows.len() {
-            return Ok(is_met(archive, &self.rows[number], universe, entry));
+            return Ok(is_met(archive, &self.rows[number]));
         }
         let row = tables.entry_row(alloc, universe, entry)?;
-        let passed = is_met(archive, &row, universe, entry);
+        let passed = is_met(archive, &row);
         if number == self.rows.len() {
             self.rows.push(row)?;
         }

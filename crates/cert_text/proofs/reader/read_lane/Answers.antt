@@ -12,5 +12,5 @@ returns-clause-count c =
 pub returns-clause-there : goal.returns-clause-there
 returns-clause-there c =
     let long = ap length (c.deref.ensures.value ∙ c.in_ok-numbers.ensures) ∙ length-places c.args.lane.now in
-    subst (λ n. OnOk c.read_rows.result (c.args.start + n ≤ length c.args.lines.now)) long
+    subst (λ n. OnOk c.read_rows.result (c.args.start + n ≤ length c.args.source.lines.now)) long
     c.read_rows.ensures.there

@@ -21,7 +21,7 @@ loop-number-preserved c =
     let p = c.args.plan.now.lanes in
     let l = c.loop-number.number in
     let at = c.loop-number.at in
-    let lines = c.args.lines.now in
+    let lines = c.args.source.lines.now in
     let lt : l < length p = omega (arith, c.lanes-number-end.ensures.lanes) in
     let cut : drop l p ≡ lane p l ∷ drop (l + 1) p =
     at_drop_more (λ (ls : List Lane). ls) p l no_lane lt in

@@ -7,7 +7,7 @@ pub loop-i-preserved : goal.loop-i-preserved
 loop-i-preserved c =
     let i = c.loop-i.i in
     let numbers = c.args.numbers.now in
-    let lines = c.args.lines.now in
+    let lines = c.args.source.lines.now in
     let at = c.args.start + i in
     let cut : drop i numbers ≡ get_or numbers i 0 ∷ drop (i + 1) numbers =
     at_drop_more (λ (ns : List ℕ). ns) numbers i 0 c.loop-i-test.true in

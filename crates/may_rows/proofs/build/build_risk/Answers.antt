@@ -8,7 +8,7 @@ use Rattle.may_rows.proofs.build.build_risk.Goals as goal
 pub may_overflow-requires-clause-fits : goal.may_overflow-requires-clause-fits
 unfolding recipe
 may_overflow-requires-clause-fits c =
-    let u = c.args.universe.now in
+    let u = c.args.of.universe.now in
     let kept = c.names-names.ensures.kept in
     let used = used_small u c.args.state.now c.requires.of_lane.words kept in
     let small : (recipe u c.args.recipe).scratch ≤ MOST_SIZE =

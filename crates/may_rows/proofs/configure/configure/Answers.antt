@@ -11,38 +11,38 @@ use Rattle.may_rows.proofs.configure.configure.Goals as goal
 
 pub returns-in-Some-clause-answer : goal.returns-in-Some-clause-answer
 returns-in-Some-clause-answer c known there =
-    let u = c.args.universe.now in
+    let u = c.args.of.universe.now in
     let m = may_of c.args.state.now in
     let ms = c.args.members.now in
-    ap first_trap (configure_parts u ms m c.args.lane.now)
-    ∙ first_trap-front (risks_before u c.args.lane.now m ms)
+    ap first_trap (configure_parts u ms m c.args.of.lane.now)
+    ∙ first_trap-front (risks_before u c.args.of.lane.now m ms)
     (risks_after u (slots_after may_be_configured m ms) ms) c.in-Some.trap (sym c.in-Some.ensures)
 
 pub returns-in-Some-risk_after-clause-answer : goal.returns-in-Some-risk_after-clause-answer
 returns-in-Some-risk_after-clause-answer c known there =
-    let u = c.args.universe.now in
+    let u = c.args.of.universe.now in
     let m = may_of c.args.state.now in
     let ms = c.args.members.now in
-    ap first_trap (configure_parts u ms m c.args.lane.now)
-    ∙ first_trap-back (risks_before u c.args.lane.now m ms)
+    ap first_trap (configure_parts u ms m c.args.of.lane.now)
+    ∙ first_trap-back (risks_before u c.args.of.lane.now m ms)
     (risks_after u (slots_after may_be_configured m ms) ms) (sym c.in_default.ensures)
     ∙ ap (λ k. first_trap (risks_after u k ms)) (sym c.configure_members.ensures.map)
     ∙ sym c.in-Some-risk_after.ensures
 
 pub spend-requires-clause-fits : goal.spend-requires-clause-fits
 spend-requires-clause-fits c =
-    let paid : c.args.state.now.cost + length c.args.members.now ≤ c.args.lane.now.budget =
+    let paid : c.args.state.now.cost + length c.args.members.now ≤ c.args.of.lane.now.budget =
     within-limit _ _ _ _ (sym c.in_default.ensures) in
     let same = ap (λ (k : May). k.cost) c.configure_members.ensures.map in
     omega (arith, paid, same, c.requires.of_lane.small)
 
 pub returns-clause-answer : goal.returns-clause-answer
 returns-clause-answer c known there =
-    let u = c.args.universe.now in
+    let u = c.args.of.universe.now in
     let m = may_of c.args.state.now in
     let ms = c.args.members.now in (
-      ap first_trap (configure_parts u ms m c.args.lane.now)
-          ∙ first_trap-back (risks_before u c.args.lane.now m ms)
+      ap first_trap (configure_parts u ms m c.args.of.lane.now)
+          ∙ first_trap-back (risks_before u c.args.of.lane.now m ms)
           (risks_after u (slots_after may_be_configured m ms) ms) (sym c.in_default.ensures)
           ∙ ap (λ k. first_trap (risks_after u k ms)) (sym c.configure_members.ensures.map)
           ∙ sym c.in_default-risk_after.ensures,
@@ -52,7 +52,7 @@ returns-clause-answer c known there =
 
 pub returns-clause-of_lane : goal.returns-clause-of_lane
 returns-clause-of_lane c =
-    let paid : c.args.state.now.cost + length c.args.members.now ≤ c.args.lane.now.budget =
+    let paid : c.args.state.now.cost + length c.args.members.now ≤ c.args.of.lane.now.budget =
     within-limit _ _ _ _ (sym c.in_default.ensures) in
     let same = ap (λ (k : May). k.cost) c.configure_members.ensures.map in
     let spent = ap (λ (w : Words). w.cost) c.spend.ensures.words in

@@ -11,38 +11,38 @@ use Rattle.may_rows.proofs.unpack.unpack.Goals as goal
 pub unpack_risk-requires-clause-small : goal.unpack_risk-requires-clause-small
 unpack_risk-requires-clause-small c =
     let small =
-    used_small c.args.universe.now c.args.state.now c.requires.of_lane.words
+    used_small c.args.of.universe.now c.args.state.now c.requires.of_lane.words
     c.names-names.ensures.kept in
     omega (arith, small, c.used-used.ensures)
 
 pub returns-in-Some-unpack_risk-clause-answer : goal.returns-in-Some-unpack_risk-clause-answer
 returns-in-Some-unpack_risk-clause-answer c known there of is_known is_there =
-    let u = c.args.universe.now in
+    let u = c.args.of.universe.now in
     let m = may_of c.args.state.now in
     risk-is u known there c.args.name c.args.relation.now m c.in-Some.set
-    (c.in-Some.ensures.pick known there of is_known is_there) c.args.lane.now
-    ∙ same_risks u c.args.lane.now (with_slot m c.args.name MayAbsent) (may_of c.put.new.self)
+    (c.in-Some.ensures.pick known there of is_known is_there) c.args.of.lane.now
+    ∙ same_risks u c.args.of.lane.now (with_slot m c.args.name MayAbsent) (may_of c.put.new.self)
     (may_use u m) c.used-used.result c.args.name (word_has c.in-Some.set)
     (sym c.put.ensures.map) (sym (c.used-used.ensures ∙ c.requires.of_lane.words.used_is))
     ∙ sym c.in-Some-unpack_risk.ensures
 
 pub spend-requires-clause-fits : goal.spend-requires-clause-fits
 spend-requires-clause-fits c =
-    let u = c.args.universe.now in
+    let u = c.args.of.universe.now in
     let paid : c.put.new.self.cost + greatest_cost u c.args.name (word_has c.in-Some.set)
-    ≤ c.args.lane.now.budget =
+    ≤ c.args.of.lane.now.budget =
     within-limit _ _ _ _ (sym c.in_default-unpack_risk.ensures) in
     let same = ap (λ (m : May). m.cost) c.put-2.ensures.map in
     omega (arith, paid, same, c.unpack_cost.ensures, c.requires.of_lane.small)
 
 pub returns-clause-answer : goal.returns-clause-answer
 returns-clause-answer c known there of is_known is_there =
-    let u = c.args.universe.now in
+    let u = c.args.of.universe.now in
     let m = may_of c.args.state.now in
     let pick = c.in-Some.ensures.pick known there of is_known is_there in
     let set = c.in-Some.set in (
-      risk-is u known there c.args.name c.args.relation.now m set pick c.args.lane.now
-          ∙ same_risks u c.args.lane.now (with_slot m c.args.name MayAbsent)
+      risk-is u known there c.args.name c.args.relation.now m set pick c.args.of.lane.now
+          ∙ same_risks u c.args.of.lane.now (with_slot m c.args.name MayAbsent)
           (may_of c.put.new.self) (may_use u m) c.used-used.result c.args.name (word_has set)
           (sym c.put.ensures.map) (sym (c.used-used.ensures ∙ c.requires.of_lane.words.used_is))
           ∙ sym c.in_default-unpack_risk.ensures,
@@ -63,9 +63,9 @@ returns-clause-answer c known there of is_known is_there =
 
 pub returns-clause-of_lane : goal.returns-clause-of_lane
 returns-clause-of_lane c =
-    let u = c.args.universe.now in
+    let u = c.args.of.universe.now in
     let paid : c.put.new.self.cost + greatest_cost u c.args.name (word_has c.in-Some.set)
-    ≤ c.args.lane.now.budget =
+    ≤ c.args.of.lane.now.budget =
     within-limit _ _ _ _ (sym c.in_default-unpack_risk.ensures) in
     let same = ap (λ (m : May). m.cost) c.put-2.ensures.map in
     let spent = ap (λ w. (may_of w).cost) c.spend.ensures.words in

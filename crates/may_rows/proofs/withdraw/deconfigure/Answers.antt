@@ -8,22 +8,22 @@ use Rattle.may_rows.proofs.withdraw.deconfigure.Goals as goal
 
 pub returns-in-Some-clause-answer : goal.returns-in-Some-clause-answer
 returns-in-Some-clause-answer c known there =
-    told_before c.args.universe.now c.args.members.now (may_of c.args.state.now)
+    told_before c.args.of.universe.now c.args.members.now (may_of c.args.state.now)
     c.requires.members.known
-    (deconfigure_risks_before c.args.lane.now (may_of c.args.state.now) c.args.members.now) c.in-Some.trap (sym c.in-Some.ensures)
+    (deconfigure_risks_before c.args.of.lane.now (may_of c.args.state.now) c.args.members.now) c.in-Some.trap (sym c.in-Some.ensures)
 
 pub returns-then-some_needs-clause-answer : goal.returns-then-some_needs-clause-answer
 returns-then-some_needs-clause-answer c known there =
-    told_needed c.args.universe.now c.args.members.now (may_of c.args.state.now)
+    told_needed c.args.of.universe.now c.args.members.now (may_of c.args.state.now)
     c.requires.members.known
-    (deconfigure_risks_before c.args.lane.now (may_of c.args.state.now) c.args.members.now)
+    (deconfigure_risks_before c.args.of.lane.now (may_of c.args.state.now) c.args.members.now)
     c.some_needs.result
     (may_of c.withdraw_members.new.state) c.withdraw_members.ensures.map c.some_needs.ensures
     (sym c.in_default.ensures) c.if-some_needs.true
 
 pub spend-requires-clause-fits : goal.spend-requires-clause-fits
 spend-requires-clause-fits c =
-    let paid : c.args.state.now.cost + length c.args.members.now ≤ c.args.lane.now.budget =
+    let paid : c.args.state.now.cost + length c.args.members.now ≤ c.args.of.lane.now.budget =
     within-limit _ _ _ _ (sym c.in_default.ensures) in
     let same = ap (λ (k : May). k.cost) c.withdraw_members.ensures.map in
     omega (arith, paid, same, c.requires.of_lane.small)
@@ -32,20 +32,20 @@ pub returns-clause-answer : goal.returns-clause-answer
 returns-clause-answer c known there =
     let m = may_of c.args.state.now in
     let ms = c.args.members.now in (
-      told_none c.args.universe.now ms m c.requires.members.known
-          (deconfigure_risks_before c.args.lane.now (may_of c.args.state.now) c.args.members.now)
+      told_none c.args.of.universe.now ms m c.requires.members.known
+          (deconfigure_risks_before c.args.of.lane.now (may_of c.args.state.now) c.args.members.now)
           c.some_needs.result (may_of c.withdraw_members.new.state)
           c.withdraw_members.ensures.map c.some_needs.ensures (sym c.in_default.ensures)
           c.if-some_needs.false,
       sym (ap may_of c.spend.ensures.words
           ∙ ap (λ k. may_spend k (length ms)) (c.withdraw_members.ensures.map
-          ∙ deconfigured-is m ms (configured_members c.args.lane.now m ms
+          ∙ deconfigured-is m ms (configured_members c.args.of.lane.now m ms
           (sym c.in_default.ensures)))),
     )
 
 pub returns-clause-of_lane : goal.returns-clause-of_lane
 returns-clause-of_lane c =
-    let paid : c.args.state.now.cost + length c.args.members.now ≤ c.args.lane.now.budget =
+    let paid : c.args.state.now.cost + length c.args.members.now ≤ c.args.of.lane.now.budget =
     within-limit _ _ _ _ (sym c.in_default.ensures) in
     let same = ap (λ (k : May). k.cost) c.withdraw_members.ensures.map in
     let spent = ap (λ (w : Words). w.cost) c.spend.ensures.words in

@@ -7,5 +7,5 @@ use Rattle.plan_cert.proofs.facts.are_facts.Given as goal
 -- the lanes so far
 abbrev pub invariant-loop-number : goal.invariant-loop-number
 invariant-loop-number l =
-    (j : ℕ) → j < l.number → (k : ℕ) → IsKnownAt l.universe l.plan.lanes (rows_of l.known)
-    (in_row l.sources) (in_row l.new) j k
+    (j : ℕ) → j < l.number → (k : ℕ) → IsKnownAt l.question.claim.universe.now l.question.claim.plan.now.lanes (rows_of l.question.claim.known.now)
+    (in_row l.question.sources.now) (in_row l.question.new.now) j k

@@ -4,4 +4,4 @@ use Rattle.plan_cert.proofs.facts.first_source.Given as goal
 
 -- none so far
 abbrev pub invariant-loop-n : goal.invariant-loop-n
-invariant-loop-n l = HasNoSource (in_row l.row) l.variants l.n
+invariant-loop-n l = HasNoSource (in_row l.question.sources.now) l.variants l.n

@@ -11,9 +11,9 @@ use Rattle.plan_cert.proofs.facts.is_known_at.Goals as goal
 
 pub returns : goal.returns
 returns c =
-    let u = c.args.universe.now in
-    let p = c.args.plan.now.lanes in
-    let rows = rows_of c.args.known.now in
+    let u = c.args.question.claim.universe.now in
+    let p = c.args.question.claim.plan.now.lanes in
+    let rows = rows_of c.args.question.claim.known.now in
     let j = c.args.number in
     let k = c.args.place in
     let xs = c.instructions.ensures ∙ ap (λ of. of.instructions) c.lane.ensures in
@@ -22,9 +22,9 @@ returns c =
     (omega (arith, c.requires.place, ap length xs)) c.index-instructions-place.is
     ∙ ap Some c.in-Some.ensures.some in
     let le : k ≤ length (lane p j).instructions = omega (arith, c.requires.place) in
-    known_here u p rows (in_row c.args.sources.now) (in_row c.args.new.now) j k c.in-Some.recipe
+    known_here u p rows (in_row c.args.question.sources.now) (in_row c.args.question.new.now) j k c.in-Some.recipe
     c.in_ok-yes.yes at
     (c.in_ok-yes.ensures (rows j k)
-    (subst (λ (w : Universe). IsRowOf w (rows j k) c.row-before.result.now) c.requires.of_universe
+    (subst (λ (w : Universe). IsRowOf w (rows j k) c.row-before.result.now) c.args.question.claim.of_universe
     c.row-before.ensures)
-    (λ v e. c.requires.known j k v c.requires.lane le e))
+    (λ v e. c.args.question.claim.have_known j k v c.requires.lane le e))

@@ -12,24 +12,24 @@ use Rattle.plan_cert.proofs.HeldLaws.{open-next}
 use Rattle.plan_cert.proofs.JustifiedLaws.{past-justified}
 use Rattle.plan_cert.proofs.justified.check_lane.Goals as goal
 
-pub overflow_cast-result-then-not-justified : goal.overflow_cast-result-then-not-justified
-overflow_cast-result-then-not-justified c =
+pub overflow_cast-result-then-not-branch : goal.overflow_cast-result-then-not-branch
+overflow_cast-result-then-not-branch c =
     let short =
-    lane-short c.args.plan.now.lanes c.args.number c.requires.lane c.lanes-lanes.ensures.limits in
+    lane-short c.args.claim.plan.now.lanes c.args.number c.requires.lane c.lanes-lanes.ensures.limits in
     let xs = c.instructions-instructions.ensures ∙ ap (λ of. of.instructions) c.lane.ensures in
     omega (arith, short, ap length xs, c.loop-place-test.true)
 
 pub overflow_add-result : goal.overflow_add-result
 overflow_add-result c =
     let short =
-    lane-short c.args.plan.now.lanes c.args.number c.requires.lane c.lanes-lanes.ensures.limits in
+    lane-short c.args.claim.plan.now.lanes c.args.number c.requires.lane c.lanes-lanes.ensures.limits in
     let xs = c.instructions-instructions.ensures ∙ ap (λ of. of.instructions) c.lane.ensures in
     omega (arith, short, ap length xs, c.loop-place-test.true)
 
 pub loop-place-preserved : goal.loop-place-preserved
 loop-place-preserved c =
-    let u = c.args.universe.now in
-    let p = c.args.plan.now.lanes in
+    let u = c.args.claim.universe.now in
+    let p = c.args.claim.plan.now.lanes in
     let l = c.args.number in
     let i = c.loop-place.place in
     let xs = c.instructions-instructions.ensures ∙ ap (λ of. of.instructions) c.lane.ensures in
@@ -45,8 +45,8 @@ loop-place-preserved c =
           (c.in_ok-add_outputs.ensures.added (possible u p l i) c.loop-place.invariant.there));
       justified = λ k lt. elim (cases_eq k i) [
         | inl same ↦
-            subst (λ n. IsJustified u p (rows_of c.args.known.now) l (suc n)) (sym same)
-            (c.in_ok-justified.ensures.0 c.if-not-justified.false)
+            subst (λ n. IsJustified u p (rows_of c.args.claim.known.now) l (suc n)) (sym same)
+            (c.in_ok-is_justified.ensures.0 c.if-not-branch.false)
         | inr other ↦ c.loop-place.invariant.justified k (omega (arith, lt, other))
       ];
     }
@@ -54,7 +54,7 @@ loop-place-preserved c =
 pub returns : goal.returns
 returns c =
     let xs = c.instructions-instructions.ensures ∙ ap (λ of. of.instructions) c.lane.ensures in
-    past-justified c.args.universe.now c.args.plan.now.lanes (rows_of c.args.known.now)
+    past-justified c.args.claim.universe.now c.args.claim.plan.now.lanes (rows_of c.args.claim.known.now)
     c.args.number c.loop-place.place
     (omega (arith, ap length xs, c.loop-place-test.false))
     c.loop-place.invariant.justified

@@ -8,7 +8,7 @@ pub loop-number-preserved : goal.loop-number-preserved
 loop-number-preserved c = λ j k lt.
     elim (cases_eq j c.loop-number.number) [
       | inl here ↦
-          subst (λ n. IsJustified c.args.universe.now c.args.plan.now.lanes
-          (rows_of c.args.known.now) n (suc k)) (sym here) (c.in_ok-check_lane.ensures k)
+          subst (λ n. IsJustified c.args.claim.universe.now c.args.claim.plan.now.lanes
+          (rows_of c.args.claim.known.now) n (suc k)) (sym here) (c.in_ok-check_lane.ensures k)
       | inr other ↦ c.loop-number.invariant j k (omega (arith, lt, other))
     ]

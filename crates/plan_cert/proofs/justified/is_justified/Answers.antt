@@ -17,66 +17,66 @@ use Rattle.plan_cert.proofs.justified.is_justified.Goals as goal
 pub overflow_add-place : goal.overflow_add-place
 overflow_add-place c =
     let short =
-    lane-short c.args.plan.now.lanes c.args.number c.requires.lane c.lanes-lanes.ensures.limits in
-    omega (arith, short, c.requires.place)
+    lane-short c.args.at.claim.plan.now.lanes c.args.at.number c.args.at.in_plan c.lanes-lanes.ensures.limits in
+    omega (arith, short, c.args.at.in_lane)
 
 pub returns-in-Some : goal.returns-in-Some
 returns-in-Some c =
-    let u = c.args.universe.now in
-    let p = c.args.plan.now.lanes in
-    let rows = rows_of c.args.known.now in
-    let l = c.args.number in
-    let i = c.args.place in
+    let u = c.args.at.claim.universe.now in
+    let p = c.args.at.claim.plan.now.lanes in
+    let rows = rows_of c.args.at.claim.known.now in
+    let l = c.args.at.number in
+    let i = c.args.at.place in
     let x = c.index-instructions-place.result in
     let xs = c.instructions.ensures ∙ ap (λ of. of.instructions) c.lane.ensures in
     let at : instruction_at p l i ≡ Some x =
-    read_at p l c.instructions.result.now i x xs (omega (arith, ap length xs, c.requires.place))
+    read_at p l c.instructions.result.now i x xs (omega (arith, ap length xs, c.args.at.in_lane))
     c.index-instructions-place.is in
     let place : c.place_before.result ≡ row_before p l i x =
-    c.place_before.ensures ∙ ap (λ o. place_before i o x) c.requires.when ∙ before-is p l i x in
+    c.place_before.ensures ∙ ap (λ o. place_before i o x) c.args.at.when_is ∙ before-is p l i x in
     let before_is : IsRowOf u (rows l (row_before p l i x)) c.row-before.result.now =
     subst (λ (k : ℕ). IsRowOf u (rows l k) c.row-before.result.now) place
     (subst (λ (w : Universe). IsRowOf w (rows l c.place_before.result) c.row-before.result.now)
-    c.requires.of_universe c.row-before.ensures) in
+    c.args.at.claim.of_universe c.row-before.ensures) in
     let next : i + 1 ≡ suc i = omega arith in
     let after_is : IsRowOf u (rows l (suc i)) c.row-after.result.now =
     subst (λ (k : ℕ). IsRowOf u (rows l k) c.row-after.result.now) next
     (subst (λ (w : Universe). IsRowOf w (rows l (i + 1)) c.row-after.result.now)
-    c.requires.of_universe c.row-after.ensures) in
+    c.args.at.claim.of_universe c.row-after.ensures) in
     let publish : x ≡ Publish c.in-Some.recipe = c.in-Some.ensures.some in
     let ahead_is : IsRowOf u (rows l i) c.row-before.result.now =
     subst (λ y. IsRowOf u (rows l (row_before p l i y)) c.row-before.result.now) publish before_is in
-    publish-justified u p rows l i c.requires.lane c.requires.place c.requires.known
+    publish-justified u p rows l i c.args.at.in_plan c.args.at.in_lane c.args.at.claim.have_known
     c.row-before.result.now c.row-after.result.now ahead_is after_is c.in-Some.recipe
-    (length c.outputs-count.result.now) (at ∙ ap Some publish) c.requires.sound.universe
+    (length c.outputs-count.result.now) (at ∙ ap Some publish) c.requires.universe
     (ap length c.outputs-count.ensures.outputs) c.in_ok-row.row
     (c.in_ok-row.ensures.added (rows l i) ahead_is) c.within.result c.within.ensures.set
 
 pub returns-in-Some-2 : goal.returns-in-Some-2
 returns-in-Some-2 c =
-    let u = c.args.universe.now in
-    let p = c.args.plan.now.lanes in
-    let rows = rows_of c.args.known.now in
-    let l = c.args.number in
-    let i = c.args.place in
+    let u = c.args.at.claim.universe.now in
+    let p = c.args.at.claim.plan.now.lanes in
+    let rows = rows_of c.args.at.claim.known.now in
+    let l = c.args.at.number in
+    let i = c.args.at.place in
     let x = c.index-instructions-place.result in
     let xs = c.instructions.ensures ∙ ap (λ of. of.instructions) c.lane.ensures in
     let at : instruction_at p l i ≡ Some x =
-    read_at p l c.instructions.result.now i x xs (omega (arith, ap length xs, c.requires.place))
+    read_at p l c.instructions.result.now i x xs (omega (arith, ap length xs, c.args.at.in_lane))
     c.index-instructions-place.is in
     let place : c.place_before.result ≡ row_before p l i x =
-    c.place_before.ensures ∙ ap (λ o. place_before i o x) c.requires.when ∙ before-is p l i x in
+    c.place_before.ensures ∙ ap (λ o. place_before i o x) c.args.at.when_is ∙ before-is p l i x in
     let before_is : IsRowOf u (rows l (row_before p l i x)) c.row-before.result.now =
     subst (λ (k : ℕ). IsRowOf u (rows l k) c.row-before.result.now) place
     (subst (λ (w : Universe). IsRowOf w (rows l c.place_before.result) c.row-before.result.now)
-    c.requires.of_universe c.row-before.ensures) in
+    c.args.at.claim.of_universe c.row-before.ensures) in
     let next : i + 1 ≡ suc i = omega arith in
     let after_is : IsRowOf u (rows l (suc i)) c.row-after.result.now =
     subst (λ (k : ℕ). IsRowOf u (rows l k) c.row-after.result.now) next
     (subst (λ (w : Universe). IsRowOf w (rows l (i + 1)) c.row-after.result.now)
-    c.requires.of_universe c.row-after.ensures) in
+    c.args.at.claim.of_universe c.row-after.ensures) in
     let asks = subst (IsAskedRow u x) c.in-Some-2.is c.in_ok-asked.ensures in
-    asked-justified u p rows l i c.requires.lane c.requires.place c.requires.known x at
+    asked-justified u p rows l i c.args.at.in_plan c.args.at.in_lane c.args.at.claim.have_known x at
     c.row-before.result.now c.row-after.result.now before_is after_is asks.0 asks.1
     c.take_out.new.self
     (subst (λ (row : List ℕ). IsDifference (variants_of row) (variants_of c.row-before.result.now)
@@ -85,28 +85,28 @@ returns-in-Some-2 c =
 
 pub returns : goal.returns
 returns c =
-    let u = c.args.universe.now in
-    let p = c.args.plan.now.lanes in
-    let rows = rows_of c.args.known.now in
-    let l = c.args.number in
-    let i = c.args.place in
+    let u = c.args.at.claim.universe.now in
+    let p = c.args.at.claim.plan.now.lanes in
+    let rows = rows_of c.args.at.claim.known.now in
+    let l = c.args.at.number in
+    let i = c.args.at.place in
     let x = c.index-instructions-place.result in
     let xs = c.instructions.ensures ∙ ap (λ of. of.instructions) c.lane.ensures in
     let at : instruction_at p l i ≡ Some x =
-    read_at p l c.instructions.result.now i x xs (omega (arith, ap length xs, c.requires.place))
+    read_at p l c.instructions.result.now i x xs (omega (arith, ap length xs, c.args.at.in_lane))
     c.index-instructions-place.is in
     let place : c.place_before.result ≡ row_before p l i x =
-    c.place_before.ensures ∙ ap (λ o. place_before i o x) c.requires.when ∙ before-is p l i x in
+    c.place_before.ensures ∙ ap (λ o. place_before i o x) c.args.at.when_is ∙ before-is p l i x in
     let before_is : IsRowOf u (rows l (row_before p l i x)) c.row-before.result.now =
     subst (λ (k : ℕ). IsRowOf u (rows l k) c.row-before.result.now) place
     (subst (λ (w : Universe). IsRowOf w (rows l c.place_before.result) c.row-before.result.now)
-    c.requires.of_universe c.row-before.ensures) in
+    c.args.at.claim.of_universe c.row-before.ensures) in
     let next : i + 1 ≡ suc i = omega arith in
     let after_is : IsRowOf u (rows l (suc i)) c.row-after.result.now =
     subst (λ (k : ℕ). IsRowOf u (rows l k) c.row-after.result.now) next
     (subst (λ (w : Universe). IsRowOf w (rows l (i + 1)) c.row-after.result.now)
-    c.requires.of_universe c.row-after.ensures) in
-    quiet-justified u p rows l i c.requires.lane c.requires.place c.requires.known x at
+    c.args.at.claim.of_universe c.row-after.ensures) in
+    quiet-justified u p rows l i c.args.at.in_plan c.args.at.in_lane c.args.at.claim.have_known x at
     c.row-before.result.now c.row-after.result.now before_is after_is
     (λ v. adds-nothing u p rows l i v x c.in_default.ensures.none
     (subst (IsAskedRow u x) c.in_default-2.is c.in_ok-asked.ensures))
@@ -114,23 +114,23 @@ returns c =
 
 pub row-before-requires-clause-place : goal.row-before-requires-clause-place
 row-before-requires-clause-place c =
-    let p = c.args.plan.now.lanes in
-    let l = c.args.number in
-    let i = c.args.place in
+    let p = c.args.at.claim.plan.now.lanes in
+    let l = c.args.at.number in
+    let i = c.args.at.place in
     let x = c.index-instructions-place.result in
     let place : c.place_before.result ≡ row_before p l i x =
-    c.place_before.ensures ∙ ap (λ o. place_before i o x) c.requires.when ∙ before-is p l i x in
+    c.place_before.ensures ∙ ap (λ o. place_before i o x) c.args.at.when_is ∙ before-is p l i x in
     let le = row_before-le p l i x in
-    let same = ap (λ q. length (lane q l).instructions) c.requires.of_plan in
-    omega (arith, place, le, c.requires.place, same)
+    let same = ap (λ q. length (lane q l).instructions) c.args.at.claim.of_plan in
+    omega (arith, place, le, c.args.at.in_lane, same)
 
 pub asked_row-requires-clause-instruction : goal.asked_row-requires-clause-instruction
 asked_row-requires-clause-instruction c =
-    let p = c.args.plan.now.lanes in
-    let l = c.args.number in
-    let i = c.args.place in
+    let p = c.args.at.claim.plan.now.lanes in
+    let l = c.args.at.number in
+    let i = c.args.at.place in
     let x = c.index-instructions-place.result in
     let xs = c.instructions.ensures ∙ ap (λ of. of.instructions) c.lane.ensures in
-    c.requires.sound.plan.instructions l i x c.requires.lane
-    (read_at p l c.instructions.result.now i x xs (omega (arith, ap length xs, c.requires.place))
+    c.requires.plan.instructions l i x c.args.at.in_plan
+    (read_at p l c.instructions.result.now i x xs (omega (arith, ap length xs, c.args.at.in_lane))
     c.index-instructions-place.is)

@@ -14,30 +14,30 @@ there p q l i xs x same is lt at =
     ap (λ (r : Plan). instruction_at r l i) same
     ∙ read_at q l xs i x is (omega (arith, lt, long, ap length is)) at
 
-pub returns-then-not-learns : goal.returns-then-not-learns
-returns-then-not-learns c =
-    let p = c.args.known.now.plan in
+pub returns-then-not-teaches : goal.returns-then-not-teaches
+returns-then-not-teaches c =
+    let p = c.args.making.known.now.plan in
     let l = c.args.number in
     let i = c.args.place in
     let x = c.index-instructions-place.result in
     let xs = c.instructions-instructions.result.now in
-    let at = there p c.args.plan.now.lanes l i xs x c.requires.of_plan
+    let at = there p c.args.making.plan.now.lanes l i xs x c.args.making.of_plan
     (c.instructions-instructions.ensures ∙ ap (λ of. of.instructions) c.lane.ensures)
     c.requires.place c.index-instructions-place.is in
-    rows-quiet c.args.known.now.universe p (rows_of c.args.known.now) l i x at
-    c.args.rows.now.items c.requires.rows (sym c.learns.ensures ∙ c.if-not-learns.true)
+    rows-quiet c.args.making.known.now.universe p (rows_of c.args.making.known.now) l i x at
+    c.args.rows.now.items c.requires.rows (sym c.teaches.ensures ∙ c.if-not-teaches.true)
 
 pub returns : goal.returns
 returns c =
-    let p = c.args.known.now.plan in
+    let p = c.args.making.known.now.plan in
     let l = c.args.number in
     let i = c.args.place in
     let x = c.index-instructions-place.result in
     let xs = c.instructions-instructions.result.now in
-    let at = there p c.args.plan.now.lanes l i xs x c.requires.of_plan
+    let at = there p c.args.making.plan.now.lanes l i xs x c.args.making.of_plan
     (c.instructions-instructions.ensures ∙ ap (λ of. of.instructions) c.lane.ensures)
     c.requires.place c.index-instructions-place.is in
-    rows-learnt c.args.known.now.universe p (rows_of c.args.known.now) l i x at
+    rows-learnt c.args.making.known.now.universe p (rows_of c.args.making.known.now) l i x at
     c.args.rows.now.items c.requires.rows c.in_ok-new_row.field-0 c.push.new.self.items
-    (sym c.learns.ensures ∙ c.if-not-learns.false) c.in_ok-new_row.ensures.shape
+    (sym c.teaches.ensures ∙ c.if-not-teaches.false) c.in_ok-new_row.ensures.shape
     c.in_ok-new_row.ensures.exact c.in_ok-push.ensures.items

@@ -7,7 +7,7 @@ use Rattle.plan_cert.proofs.maker.all_rows.Goals as goal
 
 pub loop-number-preserved : goal.loop-number-preserved
 loop-number-preserved c =
-    let known = c.args.known.now in
+    let known = c.args.making.known.now in
     lanes-next known.universe known.plan (rows_of known) c.loop-number.number
     (lists c.loop-number.lanes.items) (lists c.push.new.self.items) c.in_ok-lane_rows.field-0.items
     (ap lists c.in_ok-push.ensures.items ∙ lists-push c.loop-number.lanes.items c.in_ok-lane_rows.field-0)

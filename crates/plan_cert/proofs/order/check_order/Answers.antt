@@ -7,8 +7,8 @@ use Rattle.plan_cert.proofs.order.check_order.Goals as goal
 
 pub returns-then-not-branch : goal.returns-then-not-branch
 returns-then-not-branch c =
-    let u = c.args.universe.now in
-    let p = c.args.plan.now.lanes in
+    let u = c.args.claim.universe.now in
+    let p = c.args.claim.plan.now.lanes in
     let order = c.args.order.now in
     let n = c.loop-item.item in
     let l = slice_index order n in
@@ -22,14 +22,14 @@ returns-then-not-branch c =
 
 pub returns-in-Some : goal.returns-in-Some
 returns-in-Some c =
-    let u = c.args.universe.now in
-    let p = c.args.plan.now.lanes in
+    let u = c.args.claim.universe.now in
+    let p = c.args.claim.plan.now.lanes in
     let order = c.args.order.now in
     let l = c.in-Some._lane in
     let end : c.loop-item.item ≡ length order = omega (arith, c.loop-item-test.false) in
     told-broken u p order (length order) c.order_fault-in-Some.result c.order_fault-in-Some.ensures
     (broken-end u p order c.loop-item.made.items c.loop-item.archive l c.in-Some.ensures.some
-    (subst (λ (ms : List ℕ). slice_index ms l < length (lane_items u p l)) c.deref-3.ensures.value
+    (subst (λ (ms : List ℕ). slice_index ms l < length (lane_items u p l)) c.deref-2.ensures.value
     c.in-Some.ensures.left)
     (subst (λ k. IsReached u p (take k order) c.loop-item.archive (left_by u p c.loop-item.made.items))
     end c.loop-item.invariant.reached))

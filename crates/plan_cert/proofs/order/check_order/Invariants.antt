@@ -8,8 +8,8 @@ use Rattle.plan_cert.proofs.order.check_order.Given as goal
 abbrev pub invariant-loop-item : goal.invariant-loop-item
 invariant-loop-item l =
     record {
-      long : length l.archive ≡ names l.universe;
-      lanes : length l.made.items ≡ length l.plan.lanes;
-      reached : IsReached l.universe l.plan.lanes (take l.item l.order) l.archive
-          (left_by l.universe l.plan.lanes l.made.items);
+      long : length l.archive ≡ names l.claim.universe.now;
+      lanes : length l.made.items ≡ length l.claim.plan.now.lanes;
+      reached : IsReached l.claim.universe.now l.claim.plan.now.lanes (take l.item l.order) l.archive
+          (left_by l.claim.universe.now l.claim.plan.now.lanes l.made.items);
     }

@@ -6,4 +6,4 @@ use Rattle.plan_cert.proofs.order.first_left.Given as goal
 abbrev pub invariant-loop-number : goal.invariant-loop-number
 invariant-loop-number l =
     (k : ℕ) → k < l.number
-    → length (lane_items l._universe l._plan.lanes k) ≤ slice_index l.made k
+    → length (lane_items l.of.claim.universe.now l.of.claim.plan.now.lanes k) ≤ slice_index l.made k

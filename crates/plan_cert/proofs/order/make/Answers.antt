@@ -15,25 +15,25 @@ use Rattle.plan_cert.proofs.order.make.Goals as goal
 
 pub set_bit-requires-clause-named : goal.set_bit-requires-clause-named
 set_bit-requires-clause-named c =
-    let known : IsEvent c.args.universe.now c.args.plan.now.lanes c.args.number
+    let known : IsEvent c.args.claim.universe.now c.args.claim.plan.now.lanes c.args.number
     (Event.Give c.in-Give.output) =
-    subst (IsEvent c.args.universe.now c.args.plan.now.lanes c.args.number) c.in-Give.is
+    subst (IsEvent c.args.claim.universe.now c.args.claim.plan.now.lanes c.args.number) c.in-Give.is
     c.requires.event in
-    let there = named c.args.universe.now c.in-Give.output.name c.in-Give.output.bit known in
+    let there = named c.args.claim.universe.now c.in-Give.output.name c.in-Give.output.bit known in
     omega (arith, there, c.requires.archive)
 
 pub set_bit-requires-clause-within : goal.set_bit-requires-clause-within
 set_bit-requires-clause-within c =
-    let known : IsEvent c.args.universe.now c.args.plan.now.lanes c.args.number
+    let known : IsEvent c.args.claim.universe.now c.args.claim.plan.now.lanes c.args.number
     (Event.Give c.in-Give.output) =
-    subst (IsEvent c.args.universe.now c.args.plan.now.lanes c.args.number) c.in-Give.is
+    subst (IsEvent c.args.claim.universe.now c.args.claim.plan.now.lanes c.args.number) c.in-Give.is
     c.requires.event in
     omega (arith, known, c.requires.sound.few c.in-Give.output.name)
 
 pub returns-in_ok-row-in-Pass : goal.returns-in_ok-row-in-Pass
 returns-in_ok-row-in-Pass c =
-    let u = c.args.universe.now in
-    let p = c.args.plan.now.lanes in
+    let u = c.args.claim.universe.now in
+    let p = c.args.claim.plan.now.lanes in
     let l = c.args.number in
     let place = c.in-Pass.place in
     let e = c.in-Some.entry.now in
@@ -47,7 +47,7 @@ returns-in_ok-row-in-Pass c =
     ∙ ap Some c.in-Some.ensures.some in
     let row : IsRowOf u (satisfies_entry u e) c.in_ok-row-in-Pass.row =
     subst (λ (w : Universe). IsRowOf w (satisfies_entry w e) c.in_ok-row-in-Pass.row)
-    c.requires.tables c.in_ok-row-in-Pass.ensures in
+    c.args.claim.tables_are c.in_ok-row-in-Pass.ensures in
     subst (λ (x : Event). IsMade u l (item_of p l x) c.args.archive.now c.args.archive.now c.hits.result)
     (sym c.in-Pass.is)
     (made-pass u p l place e c.args.archive.now c.hits.result at c.requires.archive
@@ -56,8 +56,8 @@ returns-in_ok-row-in-Pass c =
 
 pub returns-in_ok-set_bit-in-Give : goal.returns-in_ok-set_bit-in-Give
 returns-in_ok-set_bit-in-Give c =
-    let u = c.args.universe.now in
-    let p = c.args.plan.now.lanes in
+    let u = c.args.claim.universe.now in
+    let p = c.args.claim.plan.now.lanes in
     let l = c.args.number in
     let known : IsEvent u p l (Event.Give c.in-Give.output) =
     subst (IsEvent u p l) c.in-Give.is c.requires.event in

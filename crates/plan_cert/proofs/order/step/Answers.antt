@@ -8,15 +8,15 @@ use Rattle.plan_cert.proofs.order.step.Goals as goal
 
 pub returns-then-next-events : goal.returns-then-next-events
 returns-then-next-events c =
-    let u = c.args.universe.now in
-    let p = c.args.plan.now.lanes in
+    let u = c.args.of.claim.universe.now in
+    let p = c.args.of.claim.plan.now.lanes in
     let l = c.args.number in
     let evs = c.as_slice-events.result.now in
-    let lt : l < length c.args.lanes.now = omega (arith, c.requires.lane, c.requires.events.long) in
+    let lt : l < length c.args.of.lanes.now = omega (arith, c.requires.lane, c.requires.events.long) in
     let are : AreEvents u p l (length (lane p l).instructions) evs =
     subst (AreEvents u p l (length (lane p l).instructions)) (sym c.as_slice-events.ensures.value)
-    (c.requires.events.each l (get_or c.args.lanes.now l c.index-lanes-number.result)
-    (slice_get-get_or c.args.lanes.now l c.index-lanes-number.result lt)) in
+    (c.requires.events.each l (get_or c.args.of.lanes.now l c.index-of-number.result)
+    (slice_get-get_or c.args.of.lanes.now l c.index-of-number.result lt)) in
     let long = items-long u p l evs are in
     let past : length (lane_items u p l) ≤ slice_index c.args.made.now l =
     omega (arith, long, c.if-next-events.true, ap length c.as_slice-events.ensures.value) in
@@ -24,30 +24,30 @@ returns-then-next-events c =
 
 pub make-requires-clause-event : goal.make-requires-clause-event
 make-requires-clause-event c =
-    let u = c.args.universe.now in
-    let p = c.args.plan.now.lanes in
+    let u = c.args.of.claim.universe.now in
+    let p = c.args.of.claim.plan.now.lanes in
     let l = c.args.number in
     let evs = c.as_slice-events.result.now in
-    let lt : l < length c.args.lanes.now = omega (arith, c.requires.lane, c.requires.events.long) in
+    let lt : l < length c.args.of.lanes.now = omega (arith, c.requires.lane, c.requires.events.long) in
     let are : AreEvents u p l (length (lane p l).instructions) evs =
     subst (AreEvents u p l (length (lane p l).instructions)) (sym c.as_slice-events.ensures.value)
-    (c.requires.events.each l (get_or c.args.lanes.now l c.index-lanes-number.result)
-    (slice_get-get_or c.args.lanes.now l c.index-lanes-number.result lt)) in
+    (c.requires.events.each l (get_or c.args.of.lanes.now l c.index-of-number.result)
+    (slice_get-get_or c.args.of.lanes.now l c.index-of-number.result lt)) in
     are.each (slice_index c.args.made.now l) (Event.Pass 0)
     (omega (arith, c.if-next-events.false, ap length c.as_slice-events.ensures.value))
 
 pub returns-then-not-branch : goal.returns-then-not-branch
 returns-then-not-branch c =
-    let u = c.args.universe.now in
-    let p = c.args.plan.now.lanes in
+    let u = c.args.of.claim.universe.now in
+    let p = c.args.of.claim.plan.now.lanes in
     let l = c.args.number in
     let evs = c.as_slice-events.result.now in
     let n = slice_index c.args.made.now l in
-    let lt : l < length c.args.lanes.now = omega (arith, c.requires.lane, c.requires.events.long) in
+    let lt : l < length c.args.of.lanes.now = omega (arith, c.requires.lane, c.requires.events.long) in
     let are : AreEvents u p l (length (lane p l).instructions) evs =
     subst (AreEvents u p l (length (lane p l).instructions)) (sym c.as_slice-events.ensures.value)
-    (c.requires.events.each l (get_or c.args.lanes.now l c.index-lanes-number.result)
-    (slice_get-get_or c.args.lanes.now l c.index-lanes-number.result lt)) in
+    (c.requires.events.each l (get_or c.args.of.lanes.now l c.index-of-number.result)
+    (slice_get-get_or c.args.of.lanes.now l c.index-of-number.result lt)) in
     let below : n < length evs =
     omega (arith, c.if-next-events.false, ap length c.as_slice-events.ensures.value) in
     let item = item_of p l (get_or evs n (Event.Pass 0)) in
@@ -58,16 +58,16 @@ returns-then-not-branch c =
 
 pub returns : goal.returns
 returns c =
-    let u = c.args.universe.now in
-    let p = c.args.plan.now.lanes in
+    let u = c.args.of.claim.universe.now in
+    let p = c.args.of.claim.plan.now.lanes in
     let l = c.args.number in
     let evs = c.as_slice-events.result.now in
     let n = slice_index c.args.made.now l in
-    let lt : l < length c.args.lanes.now = omega (arith, c.requires.lane, c.requires.events.long) in
+    let lt : l < length c.args.of.lanes.now = omega (arith, c.requires.lane, c.requires.events.long) in
     let are : AreEvents u p l (length (lane p l).instructions) evs =
     subst (AreEvents u p l (length (lane p l).instructions)) (sym c.as_slice-events.ensures.value)
-    (c.requires.events.each l (get_or c.args.lanes.now l c.index-lanes-number.result)
-    (slice_get-get_or c.args.lanes.now l c.index-lanes-number.result lt)) in
+    (c.requires.events.each l (get_or c.args.of.lanes.now l c.index-of-number.result)
+    (slice_get-get_or c.args.of.lanes.now l c.index-of-number.result lt)) in
     let below : n < length evs =
     omega (arith, c.if-next-events.false, ap length c.as_slice-events.ensures.value) in
     let item = item_of p l (get_or evs n (Event.Pass 0)) in

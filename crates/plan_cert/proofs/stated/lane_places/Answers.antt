@@ -15,14 +15,14 @@ use Rattle.plan_cert.proofs.stated.lane_places.Goals as goal
 
 pub add_row-requires-clause-at : goal.add_row-requires-clause-at
 add_row-requires-clause-at c =
-    read_at c.args.plan.now.lanes c.args.number c.instructions-instructions.result.now
+    read_at c.args.stating.plan.now.lanes c.args.number c.instructions-instructions.result.now
     c.loop-place.place c.index-instructions-place.result
     (c.instructions-instructions.ensures ∙ ap (λ of. of.instructions) c.lane.ensures)
     c.loop-place-test.true c.index-instructions-place.is
 
 pub index-before-requires : goal.index-before-requires
 index-before-requires c =
-    let p = c.args.plan.now.lanes in
+    let p = c.args.stating.plan.now.lanes in
     let l = c.args.number in
     let i = c.loop-place.place in
     let x = c.index-instructions-place.result in
@@ -34,10 +34,10 @@ index-before-requires c =
 
 pub add_row-requires-clause-before : goal.add_row-requires-clause-before
 add_row-requires-clause-before c =
-    let u = c.args.universe.now in
-    let p = c.args.plan.now.lanes in
+    let u = c.args.stating.universe.now in
+    let p = c.args.stating.plan.now.lanes in
     let l = c.args.number in
-    let known = stated_rows u p c.args.certificate.now l in
+    let known = stated_rows u p c.args.stating.certificate.now l in
     let i = c.loop-place.place in
     let x = c.index-instructions-place.result in
     let place : c.place_before.result ≡ row_before p l i x =
@@ -56,10 +56,10 @@ add_row-requires-clause-before c =
 
 pub loop-place-preserved : goal.loop-place-preserved
 loop-place-preserved c =
-    let u = c.args.universe.now in
-    let p = c.args.plan.now.lanes in
+    let u = c.args.stating.universe.now in
+    let p = c.args.stating.plan.now.lanes in
     let l = c.args.number in
-    let known = stated_rows u p c.args.certificate.now l in
+    let known = stated_rows u p c.args.stating.certificate.now l in
     let i = c.loop-place.place in
     let x = c.index-instructions-place.result in
     let here : instruction_at p l i ≡ Some x =
@@ -80,9 +80,9 @@ loop-place-preserved c =
 
 pub returns-clause-more : goal.returns-clause-more
 returns-clause-more c =
-    let u = c.args.universe.now in
+    let u = c.args.stating.universe.now in
     extended_twice u c.args.rows.now.items c.push.new.self.items c.loop-place.rows.items
     (extended_push u (initial u) c.args.rows.now.items c.push.new.self.items c.in_ok-clone.field-0
     c.in_ok-push.ensures.items
-    (subst (IsRowOf u (initial u)) (sym c.in_ok-clone.ensures.cases) c.requires.archive))
+    (subst (IsRowOf u (initial u)) (sym c.in_ok-clone.ensures.cases) c.args.stating.archive_is))
     c.loop-place.invariant.more

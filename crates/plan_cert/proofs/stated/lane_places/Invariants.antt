@@ -8,9 +8,9 @@ use Rattle.plan_cert.proofs.stated.lane_places.Given as goal
 abbrev pub invariant-loop-place : goal.invariant-loop-place
 invariant-loop-place l =
     record {
-      used : l.used ≡ rows_before l.plan.lanes l.number l.place;
-      more : IsExtended l.universe l.initial.rows.items l.rows.items;
-      when_is : l.when ≡ open_at l.plan.lanes l.number l.place;
-      numbers : AreRowNumbers l.universe (stated_rows l.universe l.plan.lanes l.certificate l.number)
+      used : l.used ≡ rows_before l.stating.plan.now.lanes l.number l.place;
+      more : IsExtended l.stating.universe.now l.initial.rows.items l.rows.items;
+      when_is : l.when ≡ open_at l.stating.plan.now.lanes l.number l.place;
+      numbers : AreRowNumbers l.stating.universe.now (stated_rows l.stating.universe.now l.stating.plan.now.lanes l.stating.certificate.now l.number)
           l.place l.numbers.items l.rows.items;
     }

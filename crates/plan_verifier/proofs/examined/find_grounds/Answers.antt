@@ -8,7 +8,7 @@ use Rattle.plan_verifier.proofs.Walks.{stuck_verdict}
 use Rattle.plan_verifier.proofs.examined.find_grounds.Goals as goal
 
 pub returns-in-Err-Stuck-clause-refused : goal.returns-in-Err-Stuck-clause-refused
-returns-in-Err-Stuck-clause-refused c =
+returns-in-Err-Stuck-clause-refused g c =
     let u = c.args.universe.now in
     let p = c.args.plan.now.lanes in
     let lanes = c.in-Err-Stuck.lanes.items in

@@ -1,4 +1,4 @@
-use Rattle.std.proofs.Common.{◌≡◌, suc, Some, ap, ◌∙◌, sym, subst, arith}
+use Rattle.std.proofs.Common.{suc, Some, ap, ◌∙◌, sym, subst, arith}
 use Rattle.plan_verifier.specs.Branch.{IsAt}
 use Rattle.plan_verifier.proofs.Branching.{begin-at, turn-at, when-safe, else-safe}
 use Rattle.plan_verifier.proofs.Steps.{lane-short, instruction-is, below-lane}

@@ -1,4 +1,4 @@
-use Rattle.std.proofs.Common.{◌≡◌, ◌+◌, Some, None, refl, ap, subst, arith}
+use Rattle.std.proofs.Common.{◌+◌, Some, None, refl, ap, subst, arith}
 use Rattle.plan_verifier.specs.Branch.{IsJoined}
 use Rattle.plan_verifier.proofs.Branching.{end-at, parts-at, told-before}
 use Rattle.plan_verifier.proofs.Steps.{lane-short}

@@ -1,4 +1,4 @@
-use Rattle.std.proofs.Common.{◌≡◌, ◌<◌, ◌^◌, All, refl, sym, ap, subst, ◌∙◌, arith}
+use Rattle.std.proofs.Common.{◌≡◌, ◌<◌, All, refl, sym, ap, subst, ◌∙◌, arith}
 use Rattle.farm_model.specs.Packages.{names}
 use Rattle.plan_model.specs.May.{May}
 use Rattle.plan_model.specs.Plan.{Lane, lane, no_lane}

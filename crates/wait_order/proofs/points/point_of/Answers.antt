@@ -7,10 +7,10 @@ use Rattle.wait_order.proofs.points.point_of.Goals as goal
 
 pub returns-in_ok-sources-in-Wait-clause-point : goal.returns-in_ok-sources-in-Wait-clause-point
 returns-in_ok-sources-in-Wait-clause-point c =
-    let u = c.args.universe.now in
-    let p = c.args.plan.now.lanes in
+    let u = c.args.supply.universe.now in
+    let p = c.args.supply.plan.now.lanes in
     let xs = c.instructions.ensures ∙ ap (λ of. of.instructions) c.lane.ensures in
-    let lt = subst (λ ys. c.args.mark.place < length ys) (sym xs) c.requires.place in
+    let lt = subst (λ ys. c.args.mark.place < length ys) (sym xs) c.requires.mark.place_there in
     subst (IsPointOf u p c.args.mark) (sym c.point_with.ensures) (record {
       lane = refl;
       place = refl;
@@ -28,10 +28,10 @@ returns-in_ok-sources-in-Wait-clause-point c =
 
 pub returns-in_ok-sources-in-When-clause-point : goal.returns-in_ok-sources-in-When-clause-point
 returns-in_ok-sources-in-When-clause-point c =
-    let u = c.args.universe.now in
-    let p = c.args.plan.now.lanes in
+    let u = c.args.supply.universe.now in
+    let p = c.args.supply.plan.now.lanes in
     let xs = c.instructions.ensures ∙ ap (λ of. of.instructions) c.lane.ensures in
-    let lt = subst (λ ys. c.args.mark.place < length ys) (sym xs) c.requires.place in
+    let lt = subst (λ ys. c.args.mark.place < length ys) (sym xs) c.requires.mark.place_there in
     subst (IsPointOf u p c.args.mark) (sym c.point_with-in-When.ensures) (record {
       lane = refl;
       place = refl;
@@ -49,22 +49,22 @@ returns-in_ok-sources-in-When-clause-point c =
 
 pub when_sources-requires-clause-name : goal.when_sources-requires-clause-name
 when_sources-requires-clause-name c =
-    let u = c.args.universe.now in
-    let p = c.args.plan.now.lanes in
+    let u = c.args.supply.universe.now in
+    let p = c.args.supply.plan.now.lanes in
     let xs = c.instructions.ensures ∙ ap (λ of. of.instructions) c.lane.ensures in
-    let lt = subst (λ ys. c.args.mark.place < length ys) (sym xs) c.requires.place in
+    let lt = subst (λ ys. c.args.mark.place < length ys) (sym xs) c.requires.mark.place_there in
     when_named u p c.args.mark.lane c.args.mark.place c.in-When.name c.in-When.relation
-    c.requires.sound c.requires.lane
+    c.requires.supply.sound c.requires.mark.lane_there
     (read_here p c.args.mark.lane c.args.mark.place c.instructions.result.now
     c.index-instructions-mark.result _ xs lt (sym c.index-instructions-mark.is ∙ c.in-When.is))
 
 pub returns-in-Unpack-clause-point : goal.returns-in-Unpack-clause-point
 returns-in-Unpack-clause-point c =
-    let u = c.args.universe.now in
-    let p = c.args.plan.now.lanes in
+    let u = c.args.supply.universe.now in
+    let p = c.args.supply.plan.now.lanes in
     let x = c.index-instructions-mark.result in
     let xs = c.instructions.ensures ∙ ap (λ of. of.instructions) c.lane.ensures in
-    let lt = subst (λ ys. c.args.mark.place < length ys) (sym xs) c.requires.place in
+    let lt = subst (λ ys. c.args.mark.place < length ys) (sym xs) c.requires.mark.place_there in
     let none : asked u x ≡ None =
     elim c.in-Unpack.is [
       | inl a ↦ ap (asked u) a.2

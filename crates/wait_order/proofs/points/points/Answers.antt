@@ -17,23 +17,12 @@ of-requires c =
     (lanes_known c.args.universe.now c.args.plan.now.lanes c.args.marks.now.lanes.items
     c.requires.lanes c.requires.sound.universe)
 
-pub point_of-requires-clause-own : goal.point_of-requires-clause-own
+pub point_of-requires-clause-mark : goal.point_of-requires-clause-mark
 unfolding none
-point_of-requires-clause-own c =
-    (mark_facts c.args.universe.now c.args.plan.now.lanes c.as_slice-all.result.now c.loop-w.w none
-    (c.as_slice-all.ensures.value ∙ c.requires.marks) c.loop-w-test.true).0
-
-pub point_of-requires-clause-lane : goal.point_of-requires-clause-lane
-unfolding none
-point_of-requires-clause-lane c =
-    (mark_facts c.args.universe.now c.args.plan.now.lanes c.as_slice-all.result.now c.loop-w.w none
-    (c.as_slice-all.ensures.value ∙ c.requires.marks) c.loop-w-test.true).1
-
-pub point_of-requires-clause-place : goal.point_of-requires-clause-place
-unfolding none
-point_of-requires-clause-place c =
-    (mark_facts c.args.universe.now c.args.plan.now.lanes c.as_slice-all.result.now c.loop-w.w none
-    (c.as_slice-all.ensures.value ∙ c.requires.marks) c.loop-w-test.true).2
+point_of-requires-clause-mark c =
+    let facts = mark_facts c.args.universe.now c.args.plan.now.lanes c.as_slice-all.result.now
+    c.loop-w.w none (c.as_slice-all.ensures.value ∙ c.requires.marks) c.loop-w-test.true in
+    record { lane_there = facts.1; place_there = facts.2; own_is = facts.0 }
 
 pub loop-w-preserved : goal.loop-w-preserved
 loop-w-preserved c =

@@ -11,47 +11,42 @@ use Rattle.wait_order.proofs.points.sources_of.Goals as goal
 
 pub first_hits-requires-clause-known : goal.first_hits-requires-clause-known
 first_hits-requires-clause-known c =
-    lanes_known c.args.universe.now c.args._plan.now.lanes c.args.lanes.now c.requires.lanes
-    c.requires.sound.universe
+    lanes_known c.args.supply.universe.now c.args.supply.plan.now.lanes c.args.supply.lanes.now c.requires.supply.lanes_are
+    c.requires.supply.sound.universe
 
-pub push_hit-requires : goal.push_hit-requires
-push_hit-requires c =
-    let lanes = c.args.lanes.now in
+pub loop-number-preserved : goal.loop-number-preserved
+loop-number-preserved c =
+    let u = c.args.supply.universe.now in
+    let p = c.args.supply.plan.now.lanes in
     let h = c.loop-number.number in
+    let lanes = c.args.supply.lanes.now in
     let of = get_or lanes h c.index-lanes-number.result in
+    let outs = c.as_slice-outputs.result.now in
     let firsts = c.in_ok-firsts.firsts.items in
     let within : h < length firsts =
     omega (arith, c.loop-number-test.true, c.in_ok-firsts.ensures.long) in
     let first = c.index.ensures ∙ get_or_default firsts h c.index.result.now 0 within in
-    subst (IsFirst c.args.row.now c.as_slice-outputs.result.now) (sym first)
-    (subst (λ outs. IsFirst c.args.row.now outs (get_or firsts h 0))
+    let hit : IsFirst c.args.row.now outs c.index.result.now =
+    subst (IsFirst c.args.row.now outs) (sym first)
+    (subst (λ os. IsFirst c.args.row.now os (get_or firsts h 0))
     (sym c.as_slice-outputs.ensures.value)
     (c.in_ok-firsts.ensures.each h of
-    (slice_get-get_or lanes h c.index-lanes-number.result c.loop-number-test.true)))
-
-pub loop-number-preserved : goal.loop-number-preserved
-loop-number-preserved c =
-    let u = c.args.universe.now in
-    let p = c.args._plan.now.lanes in
-    let h = c.loop-number.number in
-    let lanes = c.args.lanes.now in
-    let of = get_or lanes h c.index-lanes-number.result in
-    let outs = c.as_slice-outputs.result.now in
+    (slice_get-get_or lanes h c.index-lanes-number.result c.loop-number-test.true))) in
     let are =
-    c.as_slice-outputs.ensures.value ∙ c.requires.lanes.each h of
+    c.as_slice-outputs.ensures.value ∙ c.requires.supply.lanes_are.each h of
     (slice_get-get_or lanes h c.index-lanes-number.result c.loop-number-test.true) in
-    let lt : h < length p = omega (arith, c.loop-number-test.true, c.requires.lanes.long) in
+    let lt : h < length p = omega (arith, c.loop-number-test.true, c.requires.supply.lanes_are.long) in
     let limit : length outs ≡ (if h == length p then count_before u p (length p) 0 else length outs) =
     rw (ne_eqb h (length p) (λ same. absurd (omega (arith, same, lt)))) refl in
-    λ test row_is. pushed u p h outs are c.requires.sound.universe (length p) 0 test c.args.row.now
+    λ test row_is. pushed u p h outs are c.requires.supply.sound.universe (length p) 0 test c.args.row.now
     row_is lt (length outs) limit c.loop-number.sources.items c.push_hit.new.sources.items
-    (c.loop-number.invariant test row_is) c.in_ok-push_hit.ensures
+    (c.loop-number.invariant test row_is) (c.in_ok-push_hit.ensures c.args.row.now hit)
 
 pub returns : goal.returns
 returns c =
-    let u = c.args.universe.now in
-    let p = c.args._plan.now.lanes in
+    let u = c.args.supply.universe.now in
+    let p = c.args.supply.plan.now.lanes in
     let n = c.loop-number.number in
-    let le : length p ≤ n = omega (arith, c.loop-number-test.false, c.requires.lanes.long) in
+    let le : length p ≤ n = omega (arith, c.loop-number-test.false, c.requires.supply.lanes_are.long) in
     λ test row_is. all_sources u p (length p) 0 n test c.loop-number.sources.items le
     (c.loop-number.invariant test row_is)

@@ -7,6 +7,6 @@ use Rattle.wait_order.proofs.points.sources_of.Given as goal
 -- the lanes so far
 abbrev pub invariant-loop-number : goal.invariant-loop-number
 invariant-loop-number l =
-    (test : Variant → Bool) → IsRowOf l.universe test l.row
-    → AreSourcesBelow l.universe l._plan.lanes (length l._plan.lanes) 0 test l.sources.items
+    (test : Variant → Bool) → IsRowOf l.supply.universe.now test l.row
+    → AreSourcesBelow l.supply.universe.now l.supply.plan.now.lanes (length l.supply.plan.now.lanes) 0 test l.sources.items
     l.number

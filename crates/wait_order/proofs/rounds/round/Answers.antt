@@ -7,8 +7,8 @@ use Rattle.wait_order.proofs.rounds.round.Goals as goal
 
 pub loop-number-preserved : goal.loop-number-preserved
 loop-number-preserved c =
-    let u = c.args.universe.now in
-    let p = c.args.plan.now.lanes in
+    let u = c.args.course.universe.now in
+    let p = c.args.course.plan.now.lanes in
     let n = c.loop-number.number in
     let lt : n < length p = omega
     (arith, c.loop-number-test.true, c.lanes-number-end.ensures.lanes) in

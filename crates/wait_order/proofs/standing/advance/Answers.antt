@@ -1,13 +1,14 @@
-use Rattle.std.proofs.Common.{◌≡◌, suc, ◌+◌, ◌≤◌, length, nat_lt, refl, ap, subst, ◌∙◌, arith}
+use Rattle.std.proofs.Common.{◌≡◌, Option, Some, suc, ◌+◌, ◌≤◌, length, nat_lt, refl, ap, subst, ◌∙◌, arith}
+use Rattle.plan_model.specs.declared.instructions.Instruction.{Instruction}
 use Rattle.plan_model.specs.Plan.{lane}
-use Rattle.wait_order.specs.Standing.{Leads, IsAdvance}
+use Rattle.wait_order.specs.Standing.{Holds, Leads, IsAdvance}
 use Rattle.wait_order.proofs.Leading.{leads_more, read_at, standing_at, advance_done, held_past}
 use Rattle.wait_order.proofs.standing.advance.Goals as goal
 
 pub loop-place-preserved : goal.loop-place-preserved
 loop-place-preserved c =
-    let u = c.args.universe.now in
-    let p = c.args.plan.now.lanes in
+    let u = c.args.course.universe.now in
+    let p = c.args.course.plan.now.lanes in
     let l = c.args.number in
     let i = c.loop-place.place in
     let xs = c.instructions-instructions.ensures ∙ ap (λ of. of.instructions) c.lane.ensures in
@@ -33,8 +34,8 @@ loop-place-preserved c =
 
 pub returns-clause-advance : goal.returns-clause-advance
 returns-clause-advance c =
-    let u = c.args.universe.now in
-    let p = c.args.plan.now.lanes in
+    let u = c.args.course.universe.now in
+    let p = c.args.course.plan.now.lanes in
     let l = c.args.number in
     let i = c.loop-place.place in
     let xs = c.instructions-instructions.ensures ∙ ap (λ of. of.instructions) c.lane.ensures in
@@ -56,3 +57,25 @@ returns-clause-advance c =
     c.loop-place.invariant.place c.loop-place.invariant.long c.loop-place.auto.place
     c.loop-place.invariant.leads c.loop-place.invariant.same
     (held_past u p l i c.loop-place.archive past))
+
+some_same : (x y : Instruction) (o : Option Instruction) → o ≡ Some x → o ≡ Some y → x ≡ y
+some_same x y o is at = cc
+
+pub returns-then-not-made-clause-advance : goal.returns-then-not-made-clause-advance
+returns-then-not-made-clause-advance c =
+    let u = c.args.course.universe.now in
+    let p = c.args.course.plan.now.lanes in
+    let l = c.args.number in
+    let i = c.loop-place.place in
+    let xs = c.instructions-instructions.ensures ∙ ap (λ of. of.instructions) c.lane.ensures in
+    let here = read_at p l c.instructions-instructions.result.now i
+    c.index-instructions-place.result xs c.loop-place-test.true c.index-instructions-place.is in
+    let made = c.in_ok-made.ensures.made in
+    let stays = made.same c.if-not-made.true in
+    rw (stays.0, stays.1)
+    (advance_done u p l c.args.at.now c.loop-place.at c.args.order.now.items c.args.archive.now
+    c.loop-place.order.items c.loop-place.archive i c.loop-place.invariant.standing
+    c.loop-place.invariant.place c.loop-place.invariant.long c.loop-place.auto.place
+    c.loop-place.invariant.leads c.loop-place.invariant.same
+    (λ x at. subst (Holds u c.loop-place.archive)
+    (some_same c.index-instructions-place.result x _ here at) (made.holds c.if-not-made.true)))

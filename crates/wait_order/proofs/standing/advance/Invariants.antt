@@ -7,11 +7,11 @@ use Rattle.wait_order.proofs.standing.advance.Given as goal
 abbrev pub invariant-loop-place : goal.invariant-loop-place
 invariant-loop-place l =
     record {
-      standing : IsStanding l.universe l.plan.lanes l.number l.at;
+      standing : IsStanding l.course.universe.now l.course.plan.now.lanes l.number l.at;
       place : l.at.place ≡ l.place;
       rows : l.rows ≡ l.initial.rows;
-      long : length l.archive ≡ names l.universe;
-      leads : Leads l.universe l.plan.lanes l.number l.initial.at.place l.place
+      long : length l.archive ≡ names l.course.universe.now;
+      leads : Leads l.course.universe.now l.course.plan.now.lanes l.number l.initial.at.place l.place
           l.initial.order.items l.initial.archive l.order.items l.archive;
       same : l.place ≡ l.initial.at.place
           → (l.order.items ≡ l.initial.order.items) × (l.archive ≡ l.initial.archive);

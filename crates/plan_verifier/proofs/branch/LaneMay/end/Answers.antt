@@ -1,4 +1,4 @@
-use Rattle.std.proofs.Common.{◌≡◌, None, refl, sym, ap, ◌∙◌, subst, arith}
+use Rattle.std.proofs.Common.{None, sym, ap, ◌∙◌, subst, arith}
 use Rattle.plan_model.specs.May.{May}
 use Rattle.plan_verifier.specs.Branch.{JoinedBy}
 use Rattle.plan_verifier.proofs.branch.LaneMay.end.Goals as goal

@@ -9,10 +9,11 @@ invariant_of-self c =
     for_longer (IsEntryRow c.self.inside.universe.value) c.self.inside.entries c.number.new.self
     c.self.inside.rows.items c.number.ensures.longer c.self.invariant
 
-pub is_met-requires-clause-row : goal.is_met-requires-clause-row
-is_met-requires-clause-row c =
+pub is_met-requires : goal.is_met-requires
+is_met-requires c =
     let u = c.self.inside.universe.value in
     let rows = c.self.inside.rows.items in
+    let row : IsEntryRow c.args.universe.now c.args.entry.now c.index.result.now =
     subst (λ v. IsEntryRow v c.args.entry.now c.index.result.now)
     (c.self.view_is ∙ c.requires.about)
     (for_at (IsEntryRow u) c.number.new.self rows c.in_ok-number.number c.args.entry.now
@@ -20,7 +21,23 @@ is_met-requires-clause-row c =
     (for_longer (IsEntryRow u) c.self.inside.entries c.number.new.self rows
     c.number.ensures.longer c.self.invariant) c.in_ok-number.ensures.at
     (slice_get_read rows (length rows) c.in_ok-number.number c.index.result.now refl
-    (omega (arith, c.if-number-len.true, c.len.ensures)) c.index.ensures))
+    (omega (arith, c.if-number-len.true, c.len.ensures)) c.index.ensures)) in
+    c.requires.archive ∙ sym row.long
+
+pub returns-then-number-len-clause-passes : goal.returns-then-number-len-clause-passes
+returns-then-number-len-clause-passes c =
+    let u = c.self.inside.universe.value in
+    let rows = c.self.inside.rows.items in
+    let row : IsEntryRow c.args.universe.now c.args.entry.now c.index.result.now =
+    subst (λ v. IsEntryRow v c.args.entry.now c.index.result.now)
+    (c.self.view_is ∙ c.requires.about)
+    (for_at (IsEntryRow u) c.number.new.self rows c.in_ok-number.number c.args.entry.now
+    c.index.result.now
+    (for_longer (IsEntryRow u) c.self.inside.entries c.number.new.self rows
+    c.number.ensures.longer c.self.invariant) c.in_ok-number.ensures.at
+    (slice_get_read rows (length rows) c.in_ok-number.number c.index.result.now refl
+    (omega (arith, c.if-number-len.true, c.len.ensures)) c.index.ensures)) in
+    λ test is. c.is_met.ensures c.args.universe.now c.args.entry.now test row is
 
 pub invariant_of-self-then-number-len : goal.invariant_of-self-then-number-len
 invariant_of-self-then-number-len c =

@@ -1,7 +1,7 @@
 use Rattle.std.proofs.Common.{◌≡◌, ℕ, ◌<◌, None}
 use Rattle.plan_model.specs.Safety.{hazard_at}
 use Rattle.plan_verifier.specs.Accepted.{AreCosts}
-use Rattle.plan_verifier.proofs.costs.walk_lanes.Given as goal
+use Rattle.plan_verifier.proofs.costs.costs_of.Given as goal
 
 abbrev pub invariant-loop-number : goal.invariant-loop-number
 invariant-loop-number g l = record {
