@@ -1,5 +1,6 @@
 pub mod Bases
 pub mod Items
+pub mod Limits
 pub mod Lines
 pub mod Notes
 pub mod Parts

@@ -5,7 +5,7 @@
 --   item_words, item_note     an item, at its own line
 --   cause_note                why a base chroot is not settled
 --   farm_note                 the line of a refusal of the farm text, if there is one
-use Rattle.std.specs.Prelude.{ℕ, ◌==◌, List, [], ◌∷◌, ◌++◌, codes, slice_get, Option, Some, None, if◌then◌else◌}
+use Rattle.std.specs.Prelude.{ℕ, ◌==◌, List, [], ◌∷◌, ◌++◌, codes, is_some, slice_get, Option, Some, None, if◌then◌else◌}
 use Rattle.std.specs.Fmt.{decimal}
 use Rattle.deb_stanza.specs.Stanza.{Paragraph, value_of, paragraph_at, paragraphs_at}
 use Rattle.deb_relation.specs.Relations.{Entry, Relations}
@@ -13,11 +13,12 @@ use Rattle.deb_relation.specs.Spelling.{entry_text}
 use Rattle.farm_model.specs.declared.types.Variant.{Variant}
 use Rattle.farm_model.specs.Packages.{depends, pre_depends}
 use Rattle.farm_model.specs.Universe.{Universe}
-use Rattle.farm_universe.specs.declared.error.TheConstants.{UNKNOWN_VARIANT, UNKNOWN_SOURCE, TAKEN, UNSETTLED_BASE}
+use Rattle.farm_universe.specs.declared.error.TheConstants.{UNKNOWN_VARIANT, UNKNOWN_SOURCE, TAKEN, UNSETTLED_BASE, OVER_LIMIT}
 use Rattle.farm_notes.specs.declared.causes.Cause.{Cause}
 use Rattle.farm_notes.specs.declared.causes.Cause.TheVariants.{Twice, UnmetDepends, UnmetPreDepends, Excludes, TooLarge}
 use Rattle.farm_notes.specs.Bases.{cause_of}
 use Rattle.farm_notes.specs.Items.{first_unknown, first_taken}
+use Rattle.farm_notes.specs.Limits.{farm_limit}
 use Rattle.farm_notes.specs.Lines.{item_line}
 use Rattle.farm_notes.specs.Parts.{readable, paragraph_place, list_name, entries_in, members_of, number_in, universe_before}
 
@@ -110,10 +111,15 @@ source_note farm p =
     let es = field_entries p (codes "Source") in
     item_note farm p.line (codes "Source") es (place_of_first es)
 
+-- the limit that a recipe or a base chroot goes over
+abbrev pub limit_note : Universe → Paragraph → List ℕ
+limit_note u p = farm_limit u (is_some (value_of p (codes "Recipe")))
+
 -- the note of a paragraph of this place
 unfoldable pub paragraph_note : Universe → List ℕ → ℕ → ℕ → Paragraph → List ℕ
 paragraph_note u farm code place p =
     if code == UNKNOWN_SOURCE then source_note farm p
+    else if code == OVER_LIMIT then limit_note u p
     else list_note u farm code p (list_name place p)
 
 abbrev pub note_behind : Option Universe → List ℕ → ℕ → ℕ → Paragraph → List ℕ

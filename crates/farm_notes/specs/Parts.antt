@@ -7,6 +7,7 @@
 --   entries_in value               the items of such a list
 --   members_of u items             their variants
 --   universe_before                what the texts say before the paragraph
+--   packages_before                what the packages text says before a line
 use Rattle.std.specs.Prelude.{ℕ, zero, suc, ◌-◌, ◌==◌, List, [], ◌∷◌, length, position, take, Option, Some, None, Result, Ok, Err, codes, is_some, if◌then◌else◌}
 use Rattle.std.specs.Option.{unwrap_or, option_and_then}
 use Rattle.deb_text.specs.Bytes.{is_newline}
@@ -75,3 +76,8 @@ farm_before farm place line =
 unfoldable pub universe_before : List ℕ → List ℕ → List ℕ → ℕ → ℕ → Option Universe
 universe_before packages sources farm place line =
     readable (universe_of packages sources (farm_before farm place line))
+
+-- what the packages before the line of this number say, without sources and without a farm
+unfoldable pub packages_before : List ℕ → ℕ → Option Universe
+packages_before packages line =
+    readable (universe_of (text_before packages line) [] (codes "Architecture-Names: none"))

@@ -9,13 +9,14 @@ ghost use Rattle.farm_notes.specs.Notes as spec;
 
 use crate::causes::unsettled_cause;
 use crate::items::{first_taken, first_unknown};
+use crate::limits::farm_limit;
 use crate::notes::{Items, push_cause_note, push_item_note};
 use crate::parts::{
     entries_in, list_name, members_of, number_in, paragraph_place, read_paragraphs, universe_before,
 };
 use deb_relation::Relations;
 use deb_stanza::Paragraphs;
-use farm_universe::{TAKEN, UNKNOWN_SOURCE, UNKNOWN_VARIANT, UNSETTLED_BASE, Universe};
+use farm_universe::{OVER_LIMIT, TAKEN, UNKNOWN_SOURCE, UNKNOWN_VARIANT, UNSETTLED_BASE, Universe};
 use std::alloc::{AllocError, Global};
 
 /// The three texts that describe a farm.
@@ -129,6 +130,16 @@ fn source_note(alloc: Global, part: &Part) -> Result<Vec<u8>, AllocError>
     Ok(text)
 }
 
+/// The note of a paragraph that goes over a limit.
+fn limit_note(alloc: Global, universe: &Universe, part: &Part) -> Result<Vec<u8>, AllocError>
+    requires { part.now.place < length part.now.paragraphs.now }
+    ensures { IfOk result (λ text. text.items ≡ spec.limit_note universe.now
+        (paragraph_at part.now.paragraphs.now part.now.place)) }
+{
+    let is_recipe = part.paragraphs.field(part.place, b"Recipe").is_some();
+    Vec::from_slice(alloc, farm_limit(universe, is_recipe))
+}
+
 /// The note of a paragraph, by the code of the refusal.
 #[tactic(auto, unfolding(crate::specs::Notes::paragraph_note))]
 fn paragraph_note(
@@ -145,6 +156,8 @@ fn paragraph_note(
 {
     if code == UNKNOWN_SOURCE {
         source_note(alloc, part)
+    } else if code == OVER_LIMIT {
+        limit_note(alloc, universe, part)
     } else {
         list_note(
             alloc,
@@ -157,8 +170,9 @@ fn paragraph_note(
 }
 
 /// Gives what to say of a refusal of the farm text with this code, told at this line: the item that
-/// it is about, at its own line, as a line of text; nothing where there is none. The codes are
-/// [`UNKNOWN_VARIANT`], [`UNKNOWN_SOURCE`], [`TAKEN`] and [`UNSETTLED_BASE`].
+/// it is about, at its own line, or the limit that it goes over, as a line of text; nothing where
+/// there is none. The codes are [`UNKNOWN_VARIANT`], [`UNKNOWN_SOURCE`], [`TAKEN`],
+/// [`UNSETTLED_BASE`] and [`OVER_LIMIT`].
 ///
 /// # Errors
 ///

@@ -1,9 +1,11 @@
-//! Which item of the farm text a refusal is about, and why a base chroot is not settled.
+//! Which item of the farm text a refusal is about, why a base chroot is not settled, and which limit
+//! a text goes over.
 #![tactic(auto)]
 
 mod answer;
 mod causes;
 mod items;
+mod limits;
 mod lines;
 mod notes;
 mod parts;
@@ -11,6 +13,7 @@ mod parts;
 pub use answer::{Texts, farm_note};
 pub use causes::{Cause, unsettled_cause};
 pub use items::{first_taken, first_unknown, item_variant};
+pub use limits::index_note;
 pub use lines::item_line;
 
 #[cfg(test)]

@@ -170,3 +170,20 @@ pub fn universe_before(
 {
     read_universe(alloc, packages, sources, farm_before(farm, place, line))
 }
+
+/// The universe that the packages text before a line describes; `None` where it has a fault.
+#[tactic(auto, unfolding(crate::specs::Parts::packages_before))]
+pub fn packages_before(
+    alloc: Global,
+    packages: &[u8],
+    line: u32,
+) -> Result<Option<Universe>, AllocError>
+    ensures { IfOk result (λ universe. universe ≡ spec.packages_before packages.now line) }
+{
+    read_universe(
+        alloc,
+        text_before(packages, line),
+        b"",
+        b"Architecture-Names: none",
+    )
+}

@@ -1,0 +1,4 @@
+pub mod Lines
+pub mod NewRows
+pub mod Sending
+pub mod Written
