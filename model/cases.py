@@ -212,6 +212,11 @@ def on_certificate(texts, text, question):
     return written if word == "print" else [f"{sum(len(line) + 1 for line in written)} bytes"]
 
 
+def is_fault(line):
+    """Whether an answer tells a fault of a text, which the model does not explain."""
+    return line.startswith(("refused 1", "refused 2", "refused 3")) or '"file":' in line
+
+
 def on_words(machine, question):
     """Answers `run WORDS`, where the words name files that are there; else None."""
     word, *words = question.split(" ")
@@ -220,24 +225,32 @@ def on_words(machine, question):
         if line.startswith("%% "):
             current = line[3:].removesuffix("\n").removeprefix("broken ").removeprefix("file ").removeprefix("input")
             broken += [current] if line.startswith("%% broken") else []
+            # of two files of a name the first counts
+            current = current if current not in files or current == "" else None
             files[current] = ""
         else:
             files[current] += line
-    words = [it for it in words if it]
+    files["-"] = files[""]
+    json = "--json" if "--json" in words[1:] else None
+    words = [it for it in words if it and it != json]
     schedule = words.pop(2) if words[:2] == ["step", "--schedule"] and len(words) > 2 else None
     paths = [it for it in words[1:] if it != "--schedule"]
-    wanted = {"check": 4, "list": 4, "cert": 4, "verify-cert": 5, "step": 4}.get(words[0] if words else "")
+    wanted = {"check": 4, "explain": 4, "list": 4, "cert": 4, "verify-cert": 5, "step": 4}.get(words[0] if words else "")
     if word != "run" or broken or not all(path in files for path in paths) or words and len(paths) != wanted:
+        return None
+    if paths.count("-") > 1:
         return None
     if not words:
         written, status = answer("check", cut_input(files[""]))
     else:
-        more = files[paths[4]] if words[0] == "verify-cert" else None
+        more = files[paths[4]] if words[0] == "verify-cert" else json
         if words[0] == "step":
             more = read_schedule("" if schedule in (None, '""') else schedule)
             if schedule is None or more is None:
                 return None
         written, status = answer(words[0], dict(zip(FILES, (files[path] for path in paths))), more)
+        if words[0] == "explain" and is_fault(written[0]):
+            return None
     return [f"status {status}", *(f"| {line}" for line in written)]
 
 

@@ -2,13 +2,14 @@
 """A plain model of portfarm, written from docs/RULES.md and docs/FORMATS.md: the same words, answers and statuses.
 
   model/portfarm.py check|explain|list|cert PACKAGES SOURCES FARM PLAN
+  model/portfarm.py check|explain --json PACKAGES SOURCES FARM PLAN
   model/portfarm.py list --number PACKAGES SOURCES FARM PLAN
   model/portfarm.py verify-cert PACKAGES SOURCES FARM PLAN CERT
   model/portfarm.py step --schedule LIST|@FILE PACKAGES SOURCES FARM PLAN
   model/portfarm.py                   the verdict on the four texts of standard input, divided by lines `%%`
 
 It is slow, it shares no code with the crates, and the texts of wrong words are its own. Of a fault of a text `explain`
-tells the line alone.
+tells the line alone; as JSON the members of the verdict alone.
 """
 
 import sys
@@ -17,6 +18,7 @@ import certificates
 from core import step
 from explain import stuck_lines, unsafe_lines, waits_lines
 from farm_warnings import warnings
+from json_answers import json_line, lines_of, verdict_members
 from plans import listing, numbered, read_plan
 from texts import DIGITS, FILES, Fault
 from universe import read_universe
@@ -66,13 +68,21 @@ def numbered_line(number, line, content):
     return f"{number or '-'} {line or '-'} {content}"
 
 
+def why(universe, plan, rows, written, accepts):
+    """The lines that explain the verdict on a plan."""
+    if accepts:
+        return waits_lines(universe, plan)
+    return stuck_lines(universe, plan) if written[0].startswith("refused 402") else list(unsafe_lines(universe, rows))
+
+
 def answer(command, texts, more=None):
     """The lines that a command writes, and its status."""
     try:
         universe = read_universe(texts)
         plan = read_plan(universe, texts["plan"])
     except Fault as fault:
-        return [f"refused {fault.code} {fault.file} line {fault.line}"], 1
+        written = [f"refused {fault.code} {fault.file} line {fault.line}"]
+        return [json_line(verdict_members(written))] if more == "--json" else written, 1
     if command == "list" and more == "--number":
         return [numbered_line(*found) for found in numbered(plan)], 0
     if command == "list":
@@ -88,17 +98,20 @@ def answer(command, texts, more=None):
         line, is_one = certificates.check(universe, plan, more)
         return [line], 0 if is_one else 1
     written, accepts, rows, order = judge(universe, plan)
-    if command == "explain" and written[0].startswith(("refused 401", "refused 403")):
-        written = list(unsafe_lines(universe, rows))
-    if command == "explain" and written[0].startswith("refused 402"):
-        written += stuck_lines(universe, plan)
-    if command == "explain" and accepts:
-        written += waits_lines(universe, plan)
-    if command == "explain":
-        written += warnings(universe, plan, texts)
+    status = 0 if accepts else 1
     if command == "cert" and accepts:
         written = certificates.certificate(universe, plan, rows, order)
-    return written, 0 if accepts else 1
+    if command == "check" and more == "--json":
+        written = [json_line(verdict_members(written))]
+    if command != "explain":
+        return written, status
+    reasons, odd = why(universe, plan, rows, written, accepts), warnings(universe, plan, texts)
+    if more == "--json":
+        members = verdict_members(written) | {"why": lines_of(reasons), "warnings": lines_of(odd)}
+        return [json_line(members)], status
+    # the lines of hazards begin with that of the verdict
+    head = [] if written[0].startswith(("refused 401", "refused 403")) else written
+    return [*head, *reasons, *odd], status
 
 
 def text_of(path):
@@ -121,7 +134,7 @@ def main(words):
             if more is None:
                 print("portfarm: bad schedule", file=sys.stderr)
                 return 2
-        elif command == "list" and rest[:1] == ["--number"]:
+        elif rest[:1] == [{"list": "--number", "check": "--json", "explain": "--json"}.get(command)]:
             more, rest = rest[0], rest[1:]
         paths = 5 if command == "verify-cert" or by_file else 4
         if command not in ("check", "explain", "list", "cert", "verify-cert", "step") or len(rest) != paths:

@@ -1,6 +1,7 @@
 //! The answers to the questions of cases.
 
 use crate::machine::{Parts, parts_of};
+use crate::members::member_line;
 use crate::outputs::{Failure, Manner};
 use crate::runs::{Run, push_cut, push_heads, push_run, run_on, words_of};
 use case_files::Case;
@@ -66,13 +67,31 @@ fn stops_text(
     Ok(text)
 }
 
+/// The status, and what stands at a path of the answer, which is read as JSON; the path is the first of
+/// these words.
+fn member_text(
+    rt: &(impl Threads + Wait + Eprint + Sync),
+    alloc: Global,
+    parts: &Parts,
+    words: &[&str],
+) -> Result<Vec<u8>, AllocError> {
+    let Some((path, words)) = words.split_first() else {
+        return Vec::from_slice(alloc, b"no path\n");
+    };
+    let mut run = run_on(rt, alloc, parts, words, Manner::WHOLE, Manner::WHOLE);
+    run.output = member_line(alloc, &run.output, path)?;
+    let mut text = Vec::new(alloc);
+    push_run(&mut text, &run)?;
+    Ok(text)
+}
+
 fn cut_text(alloc: Global, run: &Run, whole: &[u8]) -> Result<Vec<u8>, AllocError> {
     let mut text = Vec::new(alloc);
     push_cut(&mut text, run, whole)?;
     Ok(text)
 }
 
-/// Answers `run`, `narrow`, `mute`, `heads`, `failing` and `stuck`, each with the words to run.
+/// Answers `run`, `narrow`, `mute`, `member`, `heads`, `failing` and `stuck`, each with the words to run.
 fn answer_on(
     rt: &(impl Threads + Wait + Eprint + Sync),
     alloc: Global,
@@ -86,6 +105,7 @@ fn answer_on(
         "run" => run_text(rt, alloc, parts, words, whole, whole),
         "narrow" => run_text(rt, alloc, parts, words, narrow, narrow),
         "mute" => run_text(rt, alloc, parts, words, whole, mute),
+        "member" => member_text(rt, alloc, parts, words),
         "heads" => heads_text(rt, alloc, parts, words),
         "failing" => stops_text(rt, alloc, parts, words, Failure::Error),
         "stuck" => stops_text(rt, alloc, parts, words, Failure::Nothing),

@@ -6,6 +6,7 @@
 
 mod answers;
 mod machine;
+mod members;
 mod outputs;
 mod run;
 mod runs;

@@ -36,6 +36,8 @@ pub const PROGRESS: &str = "progress";
 
 pub const NUMBER: &str = "number";
 
+pub const JSON: &str = "json";
+
 /// What stands for standard input in place of the name of a file.
 pub const INPUT: &str = "-";
 
@@ -126,29 +128,30 @@ fn run<'a>(alloc: Global) -> Result<Command<'a>, AllocError> {
     on_files(alloc, RUN, help::RUN, help::RUN_MORE)?.arg(flag(alloc, PROGRESS, help::PROGRESS))
 }
 
-/// Adds a command over the files of the four texts.
-fn with_files<'a>(
+/// A command that tells the verdict, as text or as JSON.
+fn verdict<'a>(
     alloc: Global,
-    program: Command<'a>,
     name: &'a str,
     about: &'a str,
     more: &'a str,
 ) -> Result<Command<'a>, AllocError> {
-    let command = on_files(alloc, name, about, more)?;
-    program.subcommand(command)
+    on_files(alloc, name, about, more)?.arg(flag(alloc, JSON, help::JSON))
 }
 
-/// The program with the commands that ask for the four texts alone.
-fn with_plain_commands<'a>(alloc: Global) -> Result<Command<'a>, AllocError> {
+/// The program with the commands that judge the plan.
+fn with_verdicts<'a>(alloc: Global) -> Result<Command<'a>, AllocError> {
     let program = program(alloc)?;
-    let program = with_files(alloc, program, CHECK, help::CHECK, help::CHECK_MORE)?;
-    let program = with_files(alloc, program, EXPLAIN, help::EXPLAIN, help::EXPLAIN_MORE)?;
-    with_files(alloc, program, CERT, help::CERT, help::CERT_MORE)
+    let check = verdict(alloc, CHECK, help::CHECK, help::CHECK_MORE)?;
+    let program = program.subcommand(check)?;
+    let explain = verdict(alloc, EXPLAIN, help::EXPLAIN, help::EXPLAIN_MORE)?;
+    let program = program.subcommand(explain)?;
+    let cert = on_files(alloc, CERT, help::CERT, help::CERT_MORE)?;
+    program.subcommand(cert)
 }
 
 /// The commands of the program, whose words begin behind its name.
 pub fn portfarm<'a>(alloc: Global) -> Result<Command<'a>, AllocError> {
-    let program = with_plain_commands(alloc)?;
+    let program = with_verdicts(alloc)?;
     let program = program.subcommand(list(alloc)?)?;
     let program = program.subcommand(verify_cert(alloc)?)?;
     let program = program.subcommand(step(alloc)?)?;

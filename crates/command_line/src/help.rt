@@ -28,7 +28,8 @@ Tells whether the plan is safe in whatever order its lanes take turns";
 pub const CHECK_MORE: &str = "\
 The answer is `accepted`, how many lanes and events there are, and what each lane costs at most; or
 one line with the first thing that may go wrong, as `refused 401 lane a instruction 3 X7 Depends`,
-`refused 402 lanes a b` for lanes that would wait for ever, or `refused 302 plan line 4`.
+`refused 402 lanes a b` for lanes that would wait for ever, or `refused 302 plan line 4`. With
+`--json` it is one JSON object on a line.
 
 Example:
   portfarm check packages sources farm plan
@@ -41,7 +42,8 @@ Tells whether the plan is safe, and for a person why it is not";
 pub const EXPLAIN_MORE: &str = "\
 The answer is that of `check`, and where the plan is refused, why. For a fault of a text these are the
 line and what was expected there. For an instruction that may go wrong they are its line in the plan
-and the first reason; and the same for each further lane that has one.
+and the first reason; and the same for each further lane that has one. With `--json` it is one JSON
+object on a line, in which `why` and `warnings` are lists of lines.
 
 Example:
   portfarm explain packages sources farm plan
@@ -148,6 +150,8 @@ pub const CERTIFICATE: &str = "The certificate of the plan, as `cert` prints it"
 pub const PROGRESS: &str = "Tell on the error output what is published, and which lanes wait";
 
 pub const NUMBER: &str = "Put before each line its instruction's number, and its line in the plan";
+
+pub const JSON: &str = "Answer with one JSON object on a line";
 
 pub const SCHEDULE: &str = "\
 Lanes in the order of their turns, as 0,0,1: 0 is the first lane; or @FILE, a file that has them";

@@ -3,8 +3,8 @@
 ghost use Rattle.std.specs.Prelude.{◌≡◌, IsOkAnd, length};
 
 use crate::command::{
-    CERT, CERTIFICATE, CHECK, EXPLAIN, FARM, INPUT, LIST, NUMBER, PACKAGES, PLAN, PROGRESS, RUN,
-    SCHEDULE, SOURCES, STEP, VERIFY_CERT, portfarm,
+    CERT, CERTIFICATE, CHECK, EXPLAIN, FARM, INPUT, JSON, LIST, NUMBER, PACKAGES, PLAN, PROGRESS,
+    RUN, SCHEDULE, SOURCES, STEP, VERIFY_CERT, portfarm,
 };
 use crate::schedule::{ScheduleFault, read_schedule};
 use clap::error::ErrorKind;
@@ -26,10 +26,16 @@ pub struct Paths<'a> {
 pub enum Request<'a> {
     /// The verdict on the four texts of standard input.
     CheckInput,
-    /// The verdict on four texts.
-    Check(Paths<'a>),
-    /// The verdict on four texts, and why they are refused.
-    Explain(Paths<'a>),
+    /// The verdict on four texts; and whether it is told as JSON.
+    Check {
+        paths: Paths<'a>,
+        json: bool,
+    },
+    /// The verdict on four texts, and why it is one; and whether that is told as JSON.
+    Explain {
+        paths: Paths<'a>,
+        json: bool,
+    },
     /// The listing of a plan; and whether its lines are numbered.
     List {
         paths: Paths<'a>,
@@ -156,8 +162,14 @@ fn request_of<'a>(
 ) -> Result<Request<'a>, WordsFault> {
     let paths = paths_of(matches);
     match command {
-        CHECK => Ok(Request::Check(paths)),
-        EXPLAIN => Ok(Request::Explain(paths)),
+        CHECK => Ok(Request::Check {
+            paths,
+            json: matches.get_flag(JSON),
+        }),
+        EXPLAIN => Ok(Request::Explain {
+            paths,
+            json: matches.get_flag(JSON),
+        }),
         LIST => Ok(Request::List {
             paths,
             number: matches.get_flag(NUMBER),

@@ -1,10 +1,10 @@
 -- An answer, from one meaning to another.
 use Rattle.std.proofs.Common.{ℕ, List, [], Result, Ok, Err}
 use Rattle.report_sink.specs.Sinks.{SinkState}
-use Rattle.farm_commands.specs.Answers.{IsAnswered}
+use Rattle.farm_commands.specs.Answers.{IsAnswered, no_status}
 use Rattle.farm_commands.specs.declared.fault.OutsideFault.{OutsideFault}
 use Rattle.farm_commands.specs.declared.fault.OutsideFault.TheVariants.{CannotRead, OutOfMemory, CutShort, BadSchedule, WriteFailed}
-use Rattle.farm_commands.specs.declared.status.TheConstants.{OUTSIDE, WRONG_WORDS}
+use Rattle.farm_commands.specs.declared.status.TheConstants.{WRONG_WORDS}
 
 -- an answer in one meaning is one in another, where each that the first allows the second does
 pub answered-by : (A B : List ℕ → ℕ → Type 0) (old new : SinkState) (told : Result ℕ OutsideFault)
@@ -12,7 +12,7 @@ pub answered-by : (A B : List ℕ → ℕ → Type 0) (old new : SinkState) (tol
     → IsAnswered A old new told → IsAnswered B old new told
 answered-by A B old new (Ok status) by is = (is.0, by is.0 status is.1, is.2, is.3)
 answered-by A B old new (Err WriteFailed) by is = (is.0, is.1, by is.0 is.1 is.2, is.3, is.4)
-answered-by A B old new (Err CutShort) by is = (is.0, by is.0 OUTSIDE is.1, is.2, is.3)
+answered-by A B old new (Err CutShort) by is = (is.0, by is.0 no_status is.1, is.2, is.3)
 answered-by A B old new (Err BadSchedule) by is = (by [] WRONG_WORDS is.0, is.1)
 answered-by A B old new (Err OutOfMemory) by is = is
 answered-by A B old new (Err (CannotRead name)) by is = is

@@ -4,7 +4,7 @@
 --                                  that this text and this status are what a command answers
 --   IsAnswered                     an answer is written to a sink, and its status is told
 --   IsReadFault                    what ends a command whose files or input cannot be read
-use Rattle.std.specs.Prelude.{◌≡◌, ◌≢◌, ℕ, Bool, true, false, List, [], length, Option, Result, Ok, Err, if◌then◌else◌}
+use Rattle.std.specs.Prelude.{◌≡◌, ◌≢◌, ℕ, ◌^◌, Bool, true, false, List, [], length, Option, Result, Ok, Err, if◌then◌else◌}
 use Rattle.std.specs.Option.{is_none}
 use Rattle.std.specs.Result.{is_ok}
 use Rattle.command_line.specs.declared.schedule.ScheduleFault.{ScheduleFault}
@@ -13,6 +13,7 @@ use Rattle.farm_core.specs.Endings.{ended}
 use Rattle.farm_core.specs.Farm.{Farm}
 use Rattle.farm_core.specs.declared.schedule.Stop.{Stop}
 use Rattle.farm_input.specs.Input.{Texts}
+use Rattle.farm_json.specs.Verdicts.{check_line}
 use Rattle.farm_model.specs.Universe.{Universe}
 use Rattle.farm_report.specs.StateText.{step_text}
 use Rattle.farm_report.specs.VerdictText.{verdict_text}
@@ -29,7 +30,7 @@ use Rattle.plan_verifier.specs.Verdict.{IsVerdict}
 use Rattle.report_sink.specs.Sinks.{SinkState, IsWritten}
 use Rattle.farm_commands.specs.declared.fault.OutsideFault.{OutsideFault}
 use Rattle.farm_commands.specs.declared.fault.OutsideFault.TheVariants.{CannotRead, OutOfMemory, CutShort, BadSchedule, WriteFailed}
-use Rattle.farm_commands.specs.declared.status.TheConstants.{FINE, REFUSED, WRONG_WORDS, OUTSIDE}
+use Rattle.farm_commands.specs.declared.status.TheConstants.{FINE, REFUSED, WRONG_WORDS}
 use Rattle.farm_commands.specs.Turns.{turns_of}
 
 -- what four texts stand for, or their first fault
@@ -39,6 +40,11 @@ planned_in texts = planned_of texts.packages texts.sources texts.farm texts.plan
 abbrev pub status_of : Bool → ℕ
 status_of fine = if fine then FINE else REFUSED
 
+-- a verdict as JSON or not
+abbrev pub told_verdict : Bool → Result AcceptedPlan Refusal → List ℕ
+told_verdict true verdict = check_line verdict
+told_verdict false verdict = verdict_text verdict
+
 -- the text and the status of this verdict
 abbrev pub TellsVerdict : Result AcceptedPlan Refusal → List ℕ → ℕ → Type 0
 TellsVerdict verdict text status = (text ≡ verdict_text verdict) × (status ≡ status_of (is_ok verdict))
@@ -47,11 +53,17 @@ TellsVerdict verdict text status = (text ≡ verdict_text verdict) × (status �
 abbrev pub AnswersVerdict : Result AcceptedPlan Refusal → List ℕ → ℕ → Type 0
 AnswersVerdict verdict text status = (verdict ≢ Err Memory) × TellsVerdict verdict text status
 
--- `check`: those of a verdict on the texts
-abbrev pub AnswersCheck : Texts → List ℕ → ℕ → Type 0
-AnswersCheck texts text status =
+-- the same as JSON or not
+abbrev pub ShowsVerdict : Bool → Result AcceptedPlan Refusal → List ℕ → ℕ → Type 0
+ShowsVerdict json verdict text status =
+    (verdict ≢ Err Memory) × (text ≡ told_verdict json verdict)
+    × (status ≡ status_of (is_ok verdict))
+
+-- `check`, as JSON or not: those of a verdict on the texts
+abbrev pub AnswersCheck : Bool → Texts → List ℕ → ℕ → Type 0
+AnswersCheck json texts text status =
     (verdict : Result AcceptedPlan Refusal) × IsVerdict (planned_in texts) verdict
-    × AnswersVerdict verdict text status
+    × ShowsVerdict json verdict text status
 
 -- the listing of a plan, or the first fault of the texts, told as a verdict tells it
 abbrev pub Lists : Result FarmPlan Fault → List ℕ → ℕ → Type 0
@@ -116,10 +128,14 @@ AnswersStepBy list texts text status = StepsBy list (planned_in texts) text stat
 abbrev pub IsJust : List ℕ → ℕ → List ℕ → ℕ → Type 0
 IsJust just fine text status = (text ≡ just) × (status ≡ fine)
 
+-- no program ends with a number as great
+abbrev pub no_status : ℕ
+no_status = 2 ^ 8
+
 -- Where a status is told, the text of its answer is written whole; where the sink fails, a first
 -- part of it. Where the texts cannot be read, or memory is refused, nothing is written. Where memory
--- is refused behind a text, that is one whose status is that of such a fault; and a schedule that is
--- none is an answer without a text, whose status is that of wrong words.
+-- is refused behind a text, that is one which stands for no status; and a schedule that is none is an
+-- answer without a text, whose status is that of wrong words.
 abbrev pub IsAnswered : (List ℕ → ℕ → Type 0) → SinkState → SinkState → Result ℕ OutsideFault → Type 0
 IsAnswered Answers old new (Ok status) =
     (text : List ℕ) × Answers text status × IsWritten old new text × (new.failed ≡ false)
@@ -127,7 +143,7 @@ IsAnswered Answers old new (Err WriteFailed) =
     (text : List ℕ) × (status : ℕ) × Answers text status × IsWritten old new text
     × (new.failed ≡ true)
 IsAnswered Answers old new (Err CutShort) =
-    (text : List ℕ) × Answers text OUTSIDE × IsWritten old new text × (new.failed ≡ false)
+    (text : List ℕ) × Answers text no_status × IsWritten old new text × (new.failed ≡ false)
 IsAnswered Answers old new (Err BadSchedule) = Answers [] WRONG_WORDS × (new ≡ old)
 IsAnswered Answers old new (Err OutOfMemory) = new ≡ old
 IsAnswered Answers old new (Err (CannotRead name)) = new ≡ old

@@ -2,9 +2,11 @@
 -- Parameters: u a universe, p a plan.
 --
 --   AnswersCert           that this text and this status are what `cert` answers
+--   IsCertAnswered        what is written of its answer, which may be cut by want of memory
 --   IsTextVerdict         the verdict on the text of a certificate
 --   AnswersVerifyCert     that this text and this status are what `verify-cert` answers
-use Rattle.std.specs.Prelude.{◌≡◌, ◌≢◌, ℕ, List, Result, Ok, Err}
+use Rattle.std.specs.Prelude.{◌≡◌, ◌≢◌, ◌⊎◌, ℕ, ◌≤◌, List, ◌++◌, codes, Result, Ok, Err}
+use Rattle.std.specs.Fmt.{decimal}
 use Rattle.std.specs.Result.{is_ok}
 use Rattle.cert_text.specs.Certificates.{Certificate, IsCertificate}
 use Rattle.cert_text.specs.CertText.{certificate_of}
@@ -12,6 +14,9 @@ use Rattle.cert_text.specs.declared.fault.CertFault.{CertFault}
 use Rattle.cert_text.specs.declared.fault.CertFault.TheVariants.{Memory}
 use Rattle.cert_text.specs.Faults.{refusal_of}
 use Rattle.cert_text.specs.Printed.{certificate_text}
+use Rattle.cert_writer.specs.Sending.{IsFirstPart}
+use Rattle.cert_writer.specs.declared.stop.CertStop.{CertStop}
+use Rattle.cert_writer.specs.declared.stop.CertStop.TheVariants.{OutOfMemory as NoMemory, CutShort as Cut, WriteFailed as NotWritten}
 use Rattle.deb_text.specs.Answers.{Gives}
 use Rattle.deb_text.specs.declared.fault.Fault.{Fault}
 use Rattle.farm_input.specs.Input.{Texts}
@@ -25,7 +30,11 @@ use Rattle.plan_verifier.specs.declared.refusal.Refusal.{Refusal}
 use Rattle.plan_verifier.specs.declared.refusal.Refusal.TheVariants.{Text}
 use Rattle.farm_input.specs.Planned.{FarmPlan}
 use Rattle.plan_verifier.specs.Verdict.{IsVerdict}
-use Rattle.farm_commands.specs.Answers.{AnswersVerdict, TellsVerdict, planned_in, status_of}
+use Rattle.report_sink.specs.Sinks.{SinkState, IsWritten}
+use Rattle.farm_commands.specs.Answers.{AnswersVerdict, IsAnswered, TellsVerdict, planned_in, status_of}
+use Rattle.farm_commands.specs.declared.source.TheConstants.{MOST_FILE}
+use Rattle.farm_commands.specs.declared.fault.OutsideFault.{OutsideFault}
+use Rattle.farm_commands.specs.declared.fault.OutsideFault.TheVariants.{OutOfMemory, CutShort, WriteFailed}
 use Rattle.farm_commands.specs.declared.status.TheConstants.{FINE}
 
 -- Of an accepted plan, the text of a certificate:
@@ -50,6 +59,34 @@ abbrev pub AnswersCert : Texts → List ℕ → ℕ → Type 0
 AnswersCert texts text status =
     (verdict : Result AcceptedPlan Refusal) × IsVerdict (planned_in texts) verdict
     × Prints verdict text status
+
+-- where no memory is left to go on with a certificate, a first part of the text is written that would
+-- have been answered, and nothing else
+abbrev pub IsCut : (List ℕ → ℕ → Type 0) → SinkState → SinkState → Result ℕ OutsideFault → Type 0
+IsCut Answers old new told =
+    (told ≡ Err CutShort) × (text : List ℕ) × Answers text FINE × IsFirstPart old new text
+
+-- `cert` is answered as other commands are, or its answer is cut
+abbrev pub IsCertAnswered : (List ℕ → ℕ → Type 0) → SinkState → SinkState → Result ℕ OutsideFault
+    → Type 0
+IsCertAnswered Answers old new told = IsAnswered Answers old new told ⊎ IsCut Answers old new told
+
+-- what is said of a certificate of so many bytes that is longer than a text may be
+abbrev pub long_line : ℕ → List ℕ
+long_line count =
+    codes "portfarm: a certificate of "
+    ++ decimal count ++ codes " bytes is longer than verify-cert takes\n"
+
+-- the error output has such a line, or nothing more
+abbrev pub MayTellLength : SinkState → SinkState → Type 0
+MayTellLength before after =
+    (after ≡ before) ⊎ ((count : ℕ) × (MOST_FILE ≤ count) × IsWritten before after (long_line count))
+
+-- what ends the command where a certificate is not written whole
+abbrev pub fault_of : CertStop → OutsideFault
+fault_of NoMemory = OutOfMemory
+fault_of Cut = CutShort
+fault_of NotWritten = WriteFailed
 
 -- the verdict on the certificate that a text is, or the fault of a text that is none, unless memory
 -- ran out

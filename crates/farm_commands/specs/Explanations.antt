@@ -1,15 +1,22 @@
 -- What `explain` answers: a text and a status. The project's own rules.
+-- Parameters: texts the four texts, of the farm and the plan that they stand for, lines those of the
+-- plan's text; json whether the answer is JSON.
 --
---   IsExplained         that a text explains a verdict on a plan
+--   IsExplanation       of four texts, a verdict and what explains it
+--   Tells               the text and the status of these
 --   AnswersExplain      that this text and this status are what `explain` answers
+use Rattle.std.specs.Option.{IfSome}
 use Rattle.std.specs.Result.{is_ok}
-use Rattle.std.specs.Prelude.{◌≡◌, ◌⊎◌, ℕ, ◌^◌, ◌==◌, nat_lt, Bool, true, false, ◌&&◌, List, [], ◌++◌, length, Result, Ok, Err, if◌then◌else◌}
+use Rattle.std.specs.Prelude.{◌≡◌, ◌≢◌, ◌⊎◌, ℕ, ◌^◌, ◌==◌, nat_lt, Bool, true, false, ◌&&◌, List, [], ◌∷◌, ◌++◌, length, Option, Some, None, Result, Ok, Err, if◌then◌else◌}
+use Rattle.std.specs.List.{concat}
 use Rattle.deb_text.specs.declared.fault.Fault.{Fault}
 use Rattle.deb_text.specs.declared.files.TheConstants.{PACKAGES, SOURCES, FARM, PLAN}
 use Rattle.farm_explain.specs.Beginning.{TellsFirst}
 use Rattle.farm_explain.specs.LaneNotes.{unsafe_text}
 use Rattle.farm_input.specs.Input.{Texts}
 use Rattle.farm_input.specs.Planned.{FarmPlan}
+use Rattle.farm_json.specs.Verdicts.{explain_line}
+use Rattle.farm_notes.specs.Limits.{index_note}
 use Rattle.farm_notes.specs.Notes.{farm_note}
 use Rattle.farm_report.specs.VerdictText.{verdict_text}
 use Rattle.farm_warnings.specs.Warnings.{warnings_text}
@@ -23,8 +30,9 @@ use Rattle.plan_verifier.specs.declared.refusal.Refusal.{Refusal}
 use Rattle.plan_verifier.specs.declared.refusal.Refusal.TheVariants.{Text, Unsafe, Uneven, Stuck, Memory}
 use Rattle.wait_notes.specs.Shown.{ShowsStuck}
 use Rattle.wait_notes.specs.WaitText.{waits_text}
-use Rattle.farm_commands.specs.Answers.{planned_in, status_of}
-use Rattle.farm_commands.specs.declared.status.TheConstants.{REFUSED, OUTSIDE}
+use Rattle.farm_commands.specs.Answers.{no_status, planned_in, status_of, told_verdict}
+use Rattle.farm_commands.specs.declared.explanation.Explanation.{Explanation}
+use Rattle.farm_commands.specs.declared.explanation.Notes.{Notes}
 
 -- the text of a file's number; nothing for another number
 abbrev pub text_in : Texts → ℕ → List ℕ
@@ -39,23 +47,23 @@ text_in texts file =
 abbrev pub is_of_farm : Texts → Fault → Bool
 is_of_farm texts fault = (fault.file == FARM) && nat_lt (length texts.farm) (2 ^ 32)
 
--- the item that a fault is about, where it is one of the farm text
+-- the item that a fault of the farm text is about, or the limit that one of the packages or the
+-- sources is about
 abbrev pub item_text : Texts → Fault → List ℕ
 item_text texts fault =
     if is_of_farm texts fault
-    then farm_note texts.packages texts.sources texts.farm fault.code fault.line else []
+    then farm_note texts.packages texts.sources texts.farm fault.code fault.line
+    else index_note fault.file (text_in texts fault.file) fault.code fault.line
 
--- the line of a fault of the texts, and the notes on it
-abbrev pub fault_text : Texts → Fault → List ℕ
-fault_text texts fault =
-    verdict_text (Err (Text fault))
-    ++ (note_text fault (text_in texts fault.file) ++ item_text texts fault)
+-- the note on a fault of the texts, and the item that it is about
+abbrev pub fault_notes : Texts → Fault → List ℕ
+fault_notes texts fault =
+    note_text fault (text_in texts fault.file) ++ item_text texts fault
 
--- that, or the line alone where memory is refused behind it
-abbrev pub ExplainsFault : Texts → Fault → List ℕ → ℕ → Type 0
-ExplainsFault texts fault text status =
-    ((text ≡ fault_text texts fault) × (status ≡ REFUSED))
-    ⊎ ((text ≡ verdict_text (Err (Text fault))) × (status ≡ OUTSIDE))
+-- those, and no warnings
+abbrev pub AreFaultNotes : Texts → Fault → Notes → Type 0
+AreFaultNotes texts fault notes =
+    (notes.why.items ≡ fault_notes texts fault) × (notes.warnings.items ≡ [])
 
 -- Of a plan whose text has these lines, what is unsafe in its lanes under the greatest known rows:
 pub record AreHazards (of : FarmPlan) (lines : TextLines) (text : List ℕ) : Type 0 where
@@ -67,26 +75,16 @@ pub record AreHazards (of : FarmPlan) (lines : TextLines) (text : List ℕ) : Ty
 abbrev pub TellsHazards : FarmPlan → TextLines → Refusal → List ℕ → Type 0
 TellsHazards of lines refusal text = AreHazards of lines text × TellsFirst refusal text
 
--- the line of the refusal, and for what the stuck lanes wait
-abbrev pub TellsStuck : FarmPlan → TextLines → Refusal → List ℕ → Type 0
-TellsStuck of lines refusal text =
-    (notes : List ℕ) × ShowsStuck of.universe of.plan lines.lanes notes
-    × (text ≡ verdict_text (Err refusal) ++ notes)
-
--- the acceptance, and what each wait waits for
-abbrev pub TellsWaits : FarmPlan → AcceptedPlan → List ℕ → Type 0
-TellsWaits of a text = text ≡ verdict_text (Ok a) ++ waits_text of.universe of.plan
-
--- what a verdict on a plan is explained by; a fault and want of memory are none
-abbrev pub IsExplained : FarmPlan → TextLines → Result AcceptedPlan Refusal → List ℕ → Type 0
-IsExplained of lines (Ok a) text = TellsWaits of a text
-IsExplained of lines (Err (Text fault)) text = ⊥
-IsExplained of lines (Err (Unsafe name number trap)) text =
-    TellsHazards of lines (Unsafe name number trap) text
-IsExplained of lines (Err (Uneven name number)) text =
-    TellsHazards of lines (Uneven name number) text
-IsExplained of lines (Err (Stuck names)) text = TellsStuck of lines (Stuck names) text
-IsExplained of lines (Err Memory) text = ⊥
+-- why a verdict on a plan is one: for what each wait of an accepted plan waits, what is unsafe, for
+-- what the stuck lanes wait; a fault and want of memory are no such verdicts
+abbrev pub IsWhy : FarmPlan → TextLines → Result AcceptedPlan Refusal → List ℕ → Type 0
+IsWhy of lines (Ok a) why = why ≡ waits_text of.universe of.plan
+IsWhy of lines (Err (Text fault)) why = ⊥
+IsWhy of lines (Err (Unsafe name number trap)) why =
+    TellsHazards of lines (Unsafe name number trap) why
+IsWhy of lines (Err (Uneven name number)) why = TellsHazards of lines (Uneven name number) why
+IsWhy of lines (Err (Stuck names)) why = ShowsStuck of.universe of.plan lines.lanes why
+IsWhy of lines (Err Memory) why = ⊥
 
 abbrev pub is_hazard : Refusal → Bool
 is_hazard (Text fault) = false
@@ -106,42 +104,78 @@ is_stuck Memory = false
 abbrev pub warnings_of : Texts → FarmPlan → TextLines → List ℕ
 warnings_of texts of lines = warnings_text texts of.universe of.plan lines.lanes
 
--- such a text, and the warnings behind it
-abbrev pub HasBody : Texts → FarmPlan → TextLines → (List ℕ → Type 0) → List ℕ → Type 0
-HasBody texts of lines IsBody text =
-    (body : List ℕ) × IsBody body × (text ≡ body ++ warnings_of texts of lines)
+-- why a verdict on a plan is one, and the warnings
+abbrev pub AreNotes : Texts → FarmPlan → TextLines → Result AcceptedPlan Refusal → Notes → Type 0
+AreNotes texts of lines verdict notes =
+    IsWhy of lines verdict notes.why.items × (notes.warnings.items ≡ warnings_of texts of lines)
 
--- that; or the verdict alone where memory is refused behind it
-abbrev pub Shows : Texts → FarmPlan → TextLines → (List ℕ → Type 0) → Result AcceptedPlan Refusal
-    → List ℕ → ℕ → Type 0
-Shows texts of lines IsBody verdict text status =
-    (HasBody texts of lines IsBody text × (status ≡ status_of (is_ok verdict)))
-    ⊎ ((text ≡ verdict_text verdict) × (status ≡ OUTSIDE))
-
--- the verdict on a plan, explained
-abbrev pub ExplainsVerdict : Texts → FarmPlan → TextLines → Result AcceptedPlan Refusal → List ℕ → ℕ
-    → Type 0
-ExplainsVerdict texts of lines verdict text status =
-    Shows texts of lines (IsExplained of lines verdict) verdict text status
-
-abbrev pub ExplainsPlan : Texts → FarmPlan → TextLines → List ℕ → ℕ → Type 0
-ExplainsPlan texts of lines text status =
-    (verdict : Result AcceptedPlan Refusal) × IsVerdictOn of.universe of.plan verdict
-    × ExplainsVerdict texts of lines verdict text status
+-- the verdict on a plan, which is not want of memory, and these, unless memory was refused behind it
+abbrev pub IsExplained : Texts → FarmPlan → TextLines → Explanation → Type 0
+IsExplained texts of lines e =
+    IsVerdictOn of.universe of.plan e.verdict × (e.verdict ≢ Err Memory)
+    × IfSome e.notes (AreNotes texts of lines e.verdict)
 
 -- by the lines of the plan's text
-abbrev pub ExplainsOf : Texts → FarmPlan → List ℕ → ℕ → Type 0
-ExplainsOf texts of text status =
-    (lines : TextLines) × (lines_of texts.plan ≡ Ok lines) × ExplainsPlan texts of lines text status
+abbrev pub IsExplainedPlan : Texts → FarmPlan → Explanation → Type 0
+IsExplainedPlan texts of e =
+    (lines : TextLines) × (lines_of texts.plan ≡ Ok lines) × IsExplained texts of lines e
 
--- the first fault of the texts with its notes, or the verdict on what they stand for
-abbrev pub Explains : Texts → Result FarmPlan Fault → List ℕ → ℕ → Type 0
-Explains texts (Ok of) text status = ExplainsOf texts of text status
-Explains texts (Err fault) text status = ExplainsFault texts fault text status
+-- the first fault of the texts and the notes on it, unless memory was refused behind it
+abbrev pub IsExplainedFault : Texts → Fault → Explanation → Type 0
+IsExplainedFault texts fault e =
+    (e.verdict ≡ Err (Text fault)) × IfSome e.notes (AreFaultNotes texts fault)
 
--- `explain`
-abbrev pub AnswersExplain : Texts → List ℕ → ℕ → Type 0
-AnswersExplain texts text status = Explains texts (planned_in texts) text status
+abbrev pub Explains : Texts → Result FarmPlan Fault → Explanation → Type 0
+Explains texts (Ok of) e = IsExplainedPlan texts of e
+Explains texts (Err fault) e = IsExplainedFault texts fault e
+
+-- of what the texts stand for
+abbrev pub IsExplanation : Texts → Explanation → Type 0
+IsExplanation texts e = Explains texts (planned_in texts) e
+
+-- whether what explains a verdict begins with its line
+abbrev pub is_begun : Result AcceptedPlan Refusal → Bool
+is_begun (Ok a) = false
+is_begun (Err refusal) = is_hazard refusal
+
+-- the lines of a verdict, or none where what explains it begins with them
+abbrev pub head_text : Result AcceptedPlan Refusal → List ℕ
+head_text verdict = if is_begun verdict then [] else verdict_text verdict
+
+-- the lines of a verdict, those that explain it, and the warnings
+abbrev pub explained_text : Result AcceptedPlan Refusal → List ℕ → List ℕ → List ℕ
+explained_text verdict why warnings = concat (head_text verdict ∷ why ∷ warnings ∷ [])
+
+abbrev pub told_explained : Bool → Result AcceptedPlan Refusal → List ℕ → List ℕ → List ℕ
+told_explained true verdict why warnings = explain_line verdict why warnings
+told_explained false verdict why warnings = explained_text verdict why warnings
+
+-- the text of a verdict with its notes, and the verdict's status
+abbrev pub TellsAll : Bool → Result AcceptedPlan Refusal → Notes → List ℕ → ℕ → Type 0
+TellsAll json verdict notes text status =
+    (text ≡ told_explained json verdict notes.why.items notes.warnings.items)
+    × (status ≡ status_of (is_ok verdict))
+
+-- the verdict alone, where memory is refused behind it
+abbrev pub TellsAlone : Bool → Result AcceptedPlan Refusal → List ℕ → ℕ → Type 0
+TellsAlone json verdict text status = (text ≡ told_verdict json verdict) × (status ≡ no_status)
+
+-- either
+abbrev pub TellsSome : Bool → Result AcceptedPlan Refusal → Notes → List ℕ → ℕ → Type 0
+TellsSome json verdict notes text status =
+    TellsAll json verdict notes text status ⊎ TellsAlone json verdict text status
+
+abbrev pub TellsNotes : Bool → Result AcceptedPlan Refusal → Option Notes → List ℕ → ℕ → Type 0
+TellsNotes json verdict None text status = TellsAlone json verdict text status
+TellsNotes json verdict (Some notes) text status = TellsSome json verdict notes text status
+
+abbrev pub Tells : Bool → Explanation → List ℕ → ℕ → Type 0
+Tells json e text status = TellsNotes json e.verdict e.notes text status
+
+-- `explain`, as JSON or not
+abbrev pub AnswersExplain : Bool → Texts → List ℕ → ℕ → Type 0
+AnswersExplain json texts text status =
+    (e : Explanation) × IsExplanation texts e × Tells json e text status
 
 -- the universe and the plan of which a verdict is asked
 abbrev pub farm_in : ExaminedPlan → FarmPlan

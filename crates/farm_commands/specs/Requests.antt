@@ -3,15 +3,18 @@
 --   named             the bytes that a name stands for
 --   AreRead           the texts of files, each up to the limit
 --   AnswersRequest    that this text and this status are what is answered to a request
-use Rattle.std.specs.Prelude.{◌≡◌, ◌≤◌, ℕ, List, length, take, codes, Option, IfSome, if◌then◌else◌}
+--   IsRequestAnswered what is written of the answer
+use Rattle.std.specs.Prelude.{◌≡◌, ◌≤◌, ℕ, false, List, length, take, codes, Option, IfSome, Result, if◌then◌else◌}
 use Rattle.std.specs.Str.{bytes_eq}
 use Rattle.farm_input.specs.Input.{Texts, texts_in}
 use Rattle.command_line.specs.declared.request.Paths.{Paths}
 use Rattle.command_line.specs.declared.request.Request.{Request}
 use Rattle.command_line.specs.declared.request.Request.TheVariants.{CheckInput, Check, Explain, List as ListPlan, Cert, VerifyCert, Step, StepBy}
-use Rattle.farm_commands.specs.Answers.{AnswersCheck, AnswersListing, AnswersStep, AnswersStepBy}
-use Rattle.farm_commands.specs.CertAnswers.{AnswersCert, AnswersVerifyCert}
+use Rattle.farm_commands.specs.Answers.{AnswersCheck, AnswersListing, AnswersStep, AnswersStepBy, IsAnswered}
+use Rattle.farm_commands.specs.CertAnswers.{AnswersCert, AnswersVerifyCert, IsCertAnswered}
 use Rattle.farm_commands.specs.Explanations.{AnswersExplain}
+use Rattle.report_sink.specs.Sinks.{SinkState}
+use Rattle.farm_commands.specs.declared.fault.OutsideFault.{OutsideFault}
 use Rattle.farm_commands.specs.declared.source.TheConstants.{MOST_FILE, MOST_INPUT}
 
 -- `-` stands for standard input, and any other name for its file
@@ -36,7 +39,7 @@ IsInput known input = IfSome known (λ bytes. input ≡ bytes) × (length input 
 -- the verdict on the texts that standard input is cut into
 abbrev pub OnInput : Option (List ℕ) → List ℕ → ℕ → Type 0
 OnInput given text status =
-    (input : List ℕ) × IsInput given input × AnswersCheck (texts_in input) text status
+    (input : List ℕ) × IsInput given input × AnswersCheck false (texts_in input) text status
 
 -- what is answered to the texts of these files
 abbrev pub OnFiles : (List ℕ → Option (List ℕ)) → Paths → (Texts → List ℕ → ℕ → Type 0) → List ℕ → ℕ
@@ -54,10 +57,10 @@ OnFilesAndOne held paths name Answers text status =
 abbrev pub AnswersRequest : (List ℕ → Option (List ℕ)) → Option (List ℕ) → Request → List ℕ → ℕ
     → Type 0
 AnswersRequest held given CheckInput text status = OnInput given text status
-AnswersRequest held given (Check paths) text status =
-    OnFiles (named held given) paths AnswersCheck text status
-AnswersRequest held given (Explain paths) text status =
-    OnFiles (named held given) paths AnswersExplain text status
+AnswersRequest held given (Check paths json) text status =
+    OnFiles (named held given) paths (AnswersCheck json) text status
+AnswersRequest held given (Explain paths json) text status =
+    OnFiles (named held given) paths (AnswersExplain json) text status
 AnswersRequest held given (ListPlan paths number) text status =
     OnFiles (named held given) paths (AnswersListing number) text status
 AnswersRequest held given (Cert paths) text status =
@@ -68,3 +71,11 @@ AnswersRequest held given (Step schedule paths) text status =
     OnFiles (named held given) paths (AnswersStep schedule.items) text status
 AnswersRequest held given (StepBy list paths) text status =
     OnFilesAndOne (named held given) paths list.now AnswersStepBy text status
+
+-- what is written of the answer: a certificate alone may be cut by want of memory
+abbrev pub IsRequestAnswered : (List ℕ → Option (List ℕ)) → Option (List ℕ) → Request → SinkState
+    → SinkState → Result ℕ OutsideFault → Type 0
+IsRequestAnswered held given (Cert paths) old new told =
+    IsCertAnswered (AnswersRequest held given (Cert paths)) old new told
+IsRequestAnswered held given request old new told =
+    IsAnswered (AnswersRequest held given request) old new told

@@ -13,7 +13,7 @@ use Rattle.report_sink.specs.Sinks.{SinkState, IsWritten}
 use Rattle.fault_notes.specs.Escapes.{escaped}
 use Rattle.farm_commands.specs.Answers.{IsAnswered}
 use Rattle.farm_commands.specs.FarmAnswers.{RunsTo}
-use Rattle.farm_commands.specs.Requests.{AnswersRequest, OnInput, named}
+use Rattle.farm_commands.specs.Requests.{IsRequestAnswered, OnInput, named}
 use Rattle.farm_commands.specs.declared.fault.OutsideFault.{OutsideFault}
 use Rattle.farm_commands.specs.declared.fault.OutsideFault.TheVariants.{CannotRead, OutOfMemory, CutShort, BadSchedule, WriteFailed}
 use Rattle.farm_commands.specs.declared.status.TheConstants.{FINE, OUTSIDE, WRONG_WORDS}
@@ -64,7 +64,7 @@ TellsWords old new told =
 pub record ComesTo (words : ℕ) (held : List ℕ → Option (List ℕ)) (given : Option (List ℕ))
     (old new : SinkState) (told : Result ℕ OutsideFault) : Type 0 where
   -- a request is answered, or the words ask for none;
-  pub outcome : ((request : Request) × IsAnswered (AnswersRequest held given request) old new told)
+  pub outcome : ((request : Request) × IsRequestAnswered held given request old new told)
       ⊎ TellsWords old new told
   -- and no word at all asks for the verdict on standard input.
   pub no_word : words ≡ 0 → IsAnswered (OnInput given) old new told

@@ -1,17 +1,13 @@
 //! What is answered to four texts.
 
-ghost use Rattle.std.specs.Prelude.{◌≡◌, ◌++◌, is_err};
+ghost use Rattle.std.specs.Prelude.{◌≡◌, true};
 ghost use Rattle.std.specs.Option.{is_none};
-ghost use Rattle.std.specs.Result.{is_ok};
 ghost use Rattle.farm_commands.specs.Answers as spec;
-ghost use Rattle.farm_commands.specs.Answers.{AnswersCheck, AnswersList, AnswersNumbered, AnswersStep, AnswersStepBy, AnswersVerdict, IsAnswered, IsJust, ShowsRun};
-ghost use Rattle.farm_commands.specs.declared.status.TheConstants.{OUTSIDE};
+ghost use Rattle.farm_commands.specs.Answers.{AnswersCheck, AnswersList, AnswersNumbered, AnswersStep, AnswersStepBy, AnswersVerdict, IsAnswered, IsJust, ShowsRun, ShowsVerdict};
 ghost use Rattle.farm_input.specs.View.{texts_view};
 ghost use Rattle.farm_report.specs.StateText.{step_text};
-ghost use Rattle.farm_report.specs.VerdictText.{verdict_text};
 ghost use Rattle.plan_model.specs.Plan.{count};
 ghost use Rattle.plan_model.specs.Sound.{IsSound};
-ghost use Rattle.report_sink.specs.Sinks.{IsWritten};
 
 use crate::fault::OutsideFault;
 use crate::status::{FINE, REFUSED};
@@ -19,11 +15,12 @@ use crate::turns::read_turns;
 use deb_text::Fault;
 use farm_core::{Outcome, run_schedule};
 use farm_input::{Planned, Texts, read_texts};
+use farm_json::check_json;
 use farm_report::{write_check, write_step};
 use plan_asm::listing;
 use plan_lines::{PlanLines, numbered_listing};
 use plan_verifier::{Accepted, Refusal, check};
-use report_sink::{Sink, WriteFailed, write_text};
+use report_sink::{Sink, write_text};
 use std::alloc::Global;
 use std::mem::ManuallyDrop;
 use std::thread::Threads;
@@ -51,54 +48,6 @@ pub fn write_answer<'a, S: Sink>(
     Ok(status)
 }
 
-/// Writes a verdict alone, where no memory is left to say more.
-///
-/// # Errors
-///
-/// [`OutsideFault::CutShort`]; and [`OutsideFault::WriteFailed`] where the sink fails, with a first part
-/// of the verdict.
-pub fn write_alone<'a, S: Sink>(
-    verdict: &Result<Accepted, Refusal>,
-    out: &mut S,
-) -> Result<u8, OutsideFault<'a>>
-    ensures { IsAnswered (IsJust (verdict_text verdict.now) OUTSIDE) (S.state out.old)
-        (S.state out.new) result }
-{
-    write_check(out, verdict)?;
-    Err(OutsideFault::CutShort)
-}
-
-/// Writes the lines of a verdict, and notes behind them.
-fn write_notes<S: Sink>(
-    out: &mut S,
-    verdict: &Result<Accepted, Refusal>,
-    notes: &[u8],
-) -> Result<(), WriteFailed>
-    ensures written { IsWritten (S.state out.old) (S.state out.new)
-        (verdict_text verdict.now ++ notes.now) }
-    ensures told { is_err result ≡ (S.state out.new).failed }
-{
-    write_check(out, verdict)?;
-    write_text(out, notes)
-}
-
-/// Writes a verdict and notes behind it, and gives the status.
-///
-/// # Errors
-///
-/// [`OutsideFault::WriteFailed`] where the sink fails, with a first part of the answer.
-pub fn write_noted<'a, S: Sink>(
-    verdict: &Result<Accepted, Refusal>,
-    notes: &[u8],
-    out: &mut S,
-) -> Result<u8, OutsideFault<'a>>
-    ensures { IsAnswered (IsJust (verdict_text verdict.now ++ notes.now)
-        (spec.status_of (is_ok verdict.now))) (S.state out.old) (S.state out.new) result }
-{
-    write_notes(out, verdict, notes)?;
-    Ok(status_of(verdict.is_ok()))
-}
-
 /// Answers with a verdict. Want of memory is none.
 ///
 /// # Errors
@@ -120,7 +69,39 @@ pub fn answer_verdict<'a, S: Sink>(
     Ok(status_of(verdict.is_ok()))
 }
 
-/// Answers with the verdict on four texts, and gives its status.
+/// Answers with a verdict as JSON. Want of memory is none.
+fn answer_json<'a, S: Sink>(
+    alloc: Global,
+    verdict: Result<Accepted, Refusal>,
+    out: &mut S,
+) -> Result<u8, OutsideFault<'a>>
+    ensures { IsAnswered (ShowsVerdict true verdict) (S.state out.old) (S.state out.new) result }
+{
+    if matches!(&verdict, Err(Refusal::Memory)) {
+        return Err(OutsideFault::OutOfMemory);
+    }
+    let verdict = ManuallyDrop::new(verdict);
+    let line = check_json(alloc, &*verdict)?;
+    write_answer(out, &line, status_of(verdict.is_ok()))
+}
+
+/// Answers with a verdict, as JSON or not. Want of memory is none.
+fn show_verdict<'a, S: Sink>(
+    alloc: Global,
+    verdict: Result<Accepted, Refusal>,
+    json: bool,
+    out: &mut S,
+) -> Result<u8, OutsideFault<'a>>
+    ensures { IsAnswered (ShowsVerdict json verdict) (S.state out.old) (S.state out.new) result }
+{
+    if json {
+        answer_json(alloc, verdict, out)
+    } else {
+        answer_verdict(verdict, out)
+    }
+}
+
+/// Answers with the verdict on four texts, as one JSON object or not, and gives its status.
 ///
 /// # Errors
 ///
@@ -130,9 +111,10 @@ pub fn answer_check<'a, S: Sink>(
     rt: &(impl Threads + Sync),
     alloc: Global,
     texts: Texts<'_>,
+    json: bool,
     out: &mut S,
 ) -> Result<u8, OutsideFault<'a>>
-    ensures { IsAnswered (AnswersCheck (texts_view texts.entry)) (S.state out.old)
+    ensures { IsAnswered (AnswersCheck json (texts_view texts.entry)) (S.state out.old)
         (S.state out.new) result }
 {
     let verdict = check(
@@ -143,7 +125,7 @@ pub fn answer_check<'a, S: Sink>(
         texts.farm,
         texts.plan,
     );
-    answer_verdict(verdict, out)
+    show_verdict(alloc, verdict, json, out)
 }
 
 /// Answers with the listing of the plan that four texts stand for, or with their first fault, and

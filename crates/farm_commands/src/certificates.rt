@@ -1,53 +1,84 @@
 //! What is answered about certificates.
 
+ghost use Rattle.std.specs.Prelude.{◌≡◌, OnErr};
 ghost use Rattle.cert_text.specs.CertText.{certificate_of};
 ghost use Rattle.farm_commands.specs.Answers.{IsAnswered};
-ghost use Rattle.farm_commands.specs.CertAnswers.{AnswersCert, AnswersVerifyCert, IsTextVerdict, ShowsCert, TellsCert};
+ghost use Rattle.farm_commands.specs.CertAnswers.{AnswersCert, AnswersVerifyCert, IsCertAnswered, IsTextVerdict, MayTellLength, ShowsCert, TellsCert};
 ghost use Rattle.farm_input.specs.View.{texts_view};
 ghost use Rattle.plan_model.specs.Sound.{IsSound};
 
-use crate::answers::{answer_verdict, status_of, write_answer};
+use crate::answers::{answer_verdict, status_of};
 use crate::fault::OutsideFault;
+use crate::source::MOST_FILE;
 use crate::status::FINE;
-use cert_text::{CertFault, print, read};
+use cert_text::{CertFault, read};
+use cert_writer::write_certificate;
 use farm_input::{Planned, Texts, read_texts};
 use farm_report::write_cert_verdict;
+use itoa::Buffer;
 use plan_asm::Plan;
-use plan_cert::{certificate, check_certificate};
+use plan_cert::check_certificate;
 use plan_verifier::{Accepted, Refusal, check};
-use report_sink::Sink;
+use report_sink::{Sink, write_pieces};
 use std::alloc::Global;
 use std::thread::Threads;
 
+/// Says on the error output that a certificate of so many bytes is longer than a text that is read
+/// may be, where it is.
+fn tell_length<E: Sink>(errors: &mut E, count: u64)
+    ensures { MayTellLength (E.state errors.old) (E.state errors.new) }
+{
+    if count < u64::from(MOST_FILE) {
+        return;
+    }
+    let mut digits = Buffer::new();
+    let number = digits.format(count).as_bytes();
+    let head: &[u8] = b"portfarm: a certificate of ";
+    let end: &[u8] = b" bytes is longer than verify-cert takes\n";
+    let _written = write_pieces(errors, &[head, number, end]);
+}
+
 /// Answers with the certificate of an accepted plan.
-fn answer_accepted<'a, S: Sink>(
+fn answer_accepted<'a, S: Sink, E: Sink>(
     alloc: Global,
     accepted: &Accepted,
     out: &mut S,
+    errors: &mut E,
 ) -> Result<u8, OutsideFault<'a>>
-    ensures { IsAnswered (ShowsCert accepted.now) (S.state out.old) (S.state out.new) result }
+    ensures answer { IsCertAnswered (ShowsCert accepted.now) (S.state out.old) (S.state out.new)
+        result }
+    ensures line { MayTellLength (E.state errors.old) (E.state errors.new) }
+    ensures quiet { OnErr result (E.state errors.new ≡ E.state errors.old) }
 {
-    let made = certificate(alloc, accepted)?;
-    let text = print(alloc, accepted.universe(), accepted.plan(), &made)?;
-    write_answer(out, &text, FINE)
+    match write_certificate(alloc, accepted, out) {
+        Ok(count) => {
+            tell_length(errors, count);
+            Ok(FINE)
+        }
+        Err(stop) => Err(OutsideFault::from(stop)),
+    }
 }
 
 /// Answers with a certificate of the plan that four texts stand for where it is accepted, else with
-/// the refusal, and gives the status. The certificate of a plan at the limits may be longer than a
-/// text that is read may be.
+/// the refusal, and gives the status. The certificate is written as it is made. That of a plan at
+/// the limits may be longer than a text that is read may be: then the error output says so.
 ///
 /// # Errors
 ///
-/// [`OutsideFault::OutOfMemory`] where memory is refused, and nothing is written then; and
-/// [`OutsideFault::WriteFailed`] where the sink fails, with a first part of the answer.
-pub fn answer_cert<'a, S: Sink>(
+/// [`OutsideFault::OutOfMemory`] where memory is refused, and nothing is written then;
+/// [`OutsideFault::CutShort`] where it is refused while the certificate is written, and
+/// [`OutsideFault::WriteFailed`] where the sink fails, each with a first part of the answer.
+pub fn answer_cert<'a, S: Sink, E: Sink>(
     rt: &(impl Threads + Sync),
     alloc: Global,
     texts: Texts<'_>,
     out: &mut S,
+    errors: &mut E,
 ) -> Result<u8, OutsideFault<'a>>
-    ensures { IsAnswered (AnswersCert (texts_view texts.entry)) (S.state out.old)
+    ensures answer { IsCertAnswered (AnswersCert (texts_view texts.entry)) (S.state out.old)
         (S.state out.new) result }
+    ensures line { MayTellLength (E.state errors.old) (E.state errors.new) }
+    ensures quiet { OnErr result (E.state errors.new ≡ E.state errors.old) }
 {
     let verdict = check(
         rt,
@@ -58,7 +89,7 @@ pub fn answer_cert<'a, S: Sink>(
         texts.plan,
     );
     match verdict {
-        Ok(accepted) => answer_accepted(alloc, &accepted, out),
+        Ok(accepted) => answer_accepted(alloc, &accepted, out, errors),
         Err(refusal) => answer_verdict(Err(refusal), out),
     }
 }

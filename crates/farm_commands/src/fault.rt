@@ -2,6 +2,7 @@
 
 ghost use Rattle.std.specs.Prelude.{◌≡◌};
 
+use cert_writer::CertStop;
 use command_line::ScheduleFault;
 use report_sink::WriteFailed;
 use std::alloc::AllocError;
@@ -13,7 +14,8 @@ pub enum OutsideFault<'a> {
     CannotRead(&'a str),
     /// Memory was refused, and nothing is written.
     OutOfMemory,
-    /// Memory was refused, and a text of the answer is written that can stand alone.
+    /// Memory was refused behind a text of the answer that can stand alone, or in the middle of a
+    /// certificate, of which a first part is written.
     CutShort,
     /// A schedule that stands in a file has a word that is no lane of the plan.
     BadSchedule,
@@ -40,6 +42,20 @@ impl From<ScheduleFault> for OutsideFault<'_> {
         match fault {
             ScheduleFault::BadSchedule => OutsideFault::BadSchedule,
             ScheduleFault::Memory => OutsideFault::OutOfMemory,
+        }
+    }
+}
+
+impl From<CertStop> for OutsideFault<'_> {
+    ghost use Rattle.farm_commands.specs.CertAnswers.{fault_of};
+
+    ghost from_gives = { λ stop fault. fault ≡ fault_of stop };
+
+    fn from(stop: CertStop) -> Self {
+        match stop {
+            CertStop::OutOfMemory => OutsideFault::OutOfMemory,
+            CertStop::CutShort => OutsideFault::CutShort,
+            CertStop::WriteFailed => OutsideFault::WriteFailed,
         }
     }
 }

@@ -5,6 +5,7 @@ mod answers;
 mod certificates;
 mod errors;
 mod explain;
+mod explanation;
 mod farm_run;
 mod fault;
 mod request;
@@ -13,6 +14,7 @@ mod source;
 mod status;
 mod teller;
 mod text_faults;
+mod told;
 mod turns;
 
 pub use answers::{answer_check, answer_list, answer_numbered, answer_step, answer_step_by};

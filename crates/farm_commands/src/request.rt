@@ -1,11 +1,11 @@
 //! What is answered to a request.
 
-ghost use Rattle.std.specs.Prelude.{IfErr, IfOk, ◌≡◌};
+ghost use Rattle.std.specs.Prelude.{IfErr, IfOk, OnErr, ◌≡◌};
 ghost use Rattle.farm_commands.specs.Answers.{AnswersCheck, AnswersListing, AnswersStep, AnswersStepBy, IsAnswered, IsReadFault};
-ghost use Rattle.farm_commands.specs.CertAnswers.{AnswersCert, AnswersVerifyCert};
+ghost use Rattle.farm_commands.specs.CertAnswers.{AnswersCert, AnswersVerifyCert, IsCertAnswered};
 ghost use Rattle.farm_commands.specs.Explanations.{AnswersExplain};
 ghost use Rattle.farm_input.specs.View.{texts_view};
-ghost use Rattle.farm_commands.specs.Requests.{AnswersRequest, AreRead, OnFiles, OnFilesAndOne, OnInput, named};
+ghost use Rattle.farm_commands.specs.Requests.{AreRead, IsRequestAnswered, OnFiles, OnFilesAndOne, OnInput, named};
 ghost use Rattle.farm_commands.specs.View.{texts_in_files};
 
 use crate::answers::{answer_check, answer_list, answer_numbered, answer_step, answer_step_by};
@@ -74,39 +74,41 @@ fn check_input<'a, F: Source, S: Sink>(
     ensures { IsAnswered (OnInput (F.given source.now)) (S.state out.old) (S.state out.new) result }
 {
     let input = read_input(alloc, source)?;
-    answer_check(rt, alloc, texts_of(&input), out)
+    answer_check(rt, alloc, texts_of(&input), false, out)
 }
 
-/// The verdict on the texts of files.
+/// The verdict on the texts of files, as JSON or not.
 fn check_files<'a, F: Source, S: Sink>(
     rt: &(impl Threads + Sync),
     alloc: Global,
     source: &F,
     paths: Paths<'a>,
+    json: bool,
     out: &mut S,
 ) -> Result<u8, OutsideFault<'a>>
     ensures { IsAnswered
-        (OnFiles (named (F.held source.now) (F.given source.now)) paths.entry AnswersCheck)
+        (OnFiles (named (F.held source.now) (F.given source.now)) paths.entry (AnswersCheck json))
         (S.state out.old) (S.state out.new) result }
 {
     let files = read_files(alloc, source, paths)?;
-    answer_check(rt, alloc, files.texts(), out)
+    answer_check(rt, alloc, files.texts(), json, out)
 }
 
-/// The verdict on the texts of files, and why they are refused.
+/// The verdict on the texts of files, and why it is one, as JSON or not.
 fn explain_files<'a, F: Source, S: Sink>(
     rt: &(impl Threads + Sync),
     alloc: Global,
     source: &F,
     paths: Paths<'a>,
+    json: bool,
     out: &mut S,
 ) -> Result<u8, OutsideFault<'a>>
     ensures { IsAnswered
-        (OnFiles (named (F.held source.now) (F.given source.now)) paths.entry AnswersExplain)
+        (OnFiles (named (F.held source.now) (F.given source.now)) paths.entry (AnswersExplain json))
         (S.state out.old) (S.state out.new) result }
 {
     let files = read_files(alloc, source, paths)?;
-    answer_explain(rt, alloc, files.texts(), out)
+    answer_explain(rt, alloc, files.texts(), json, out)
 }
 
 /// The listing of a plan, with numbers or without.
@@ -143,19 +145,21 @@ fn list_files<'a, F: Source, S: Sink>(
 }
 
 /// The certificate of the plan of files.
-fn cert_files<'a, F: Source, S: Sink>(
+fn cert_files<'a, F: Source, S: Sink, E: Sink>(
     rt: &(impl Threads + Sync),
     alloc: Global,
     source: &F,
     paths: Paths<'a>,
     out: &mut S,
+    errors: &mut E,
 ) -> Result<u8, OutsideFault<'a>>
-    ensures { IsAnswered
+    ensures answer { IsCertAnswered
         (OnFiles (named (F.held source.now) (F.given source.now)) paths.entry AnswersCert)
         (S.state out.old) (S.state out.new) result }
+    ensures quiet { OnErr result (E.state errors.new ≡ E.state errors.old) }
 {
     let files = read_files(alloc, source, paths)?;
-    answer_cert(rt, alloc, files.texts(), out)
+    answer_cert(rt, alloc, files.texts(), out, errors)
 }
 
 /// The verdict on a certificate of the plan of files, which is read behind these.
@@ -208,7 +212,8 @@ fn step_by_files<'a, F: Source, S: Sink>(
 }
 
 /// Reads the texts that a request is about, all before the first is looked at, writes the answer to
-/// them, and gives its status: 0, or 1 for a refusal or a trap.
+/// them, and gives its status: 0, or 1 for a refusal or a trap. The error output says where a
+/// certificate is longer than a text may be.
 ///
 /// # Errors
 ///
@@ -216,24 +221,26 @@ fn step_by_files<'a, F: Source, S: Sink>(
 /// the order of the words; [`OutsideFault::OutOfMemory`] where memory is refused; and
 /// [`OutsideFault::BadSchedule`] where a file of lanes has a word that is no lane of the plan: nothing
 /// is written then. [`OutsideFault::CutShort`] where memory is refused while a verdict is explained,
-/// and the verdict is written then. And [`OutsideFault::WriteFailed`] where the sink fails, with a
-/// first part of the answer.
-pub fn answer_request<'a, F: Source, S: Sink>(
+/// and the verdict is written then, or while a certificate is written, with a first part of it. And
+/// [`OutsideFault::WriteFailed`] where the sink fails, with a first part of the answer.
+pub fn answer_request<'a, F: Source, S: Sink, E: Sink>(
     rt: &(impl Threads + Sync),
     alloc: Global,
     request: Request<'a>,
     source: &F,
     out: &mut S,
+    errors: &mut E,
 ) -> Result<u8, OutsideFault<'a>>
-    ensures { IsAnswered (AnswersRequest (F.held source.now) (F.given source.now) request.entry)
+    ensures answer { IsRequestAnswered (F.held source.now) (F.given source.now) request.entry
         (S.state out.old) (S.state out.new) result }
+    ensures quiet { OnErr result (E.state errors.new ≡ E.state errors.old) }
 {
     match request {
         Request::CheckInput => check_input(rt, alloc, source, out),
-        Request::Check(paths) => check_files(rt, alloc, source, paths, out),
-        Request::Explain(paths) => explain_files(rt, alloc, source, paths, out),
+        Request::Check { paths, json } => check_files(rt, alloc, source, paths, json, out),
+        Request::Explain { paths, json } => explain_files(rt, alloc, source, paths, json, out),
         Request::List { paths, number } => list_files(alloc, source, paths, number, out),
-        Request::Cert(paths) => cert_files(rt, alloc, source, paths, out),
+        Request::Cert(paths) => cert_files(rt, alloc, source, paths, out, errors),
         Request::VerifyCert { cert, paths } => { verify_files(rt, alloc, source, paths, cert, out) }
         Request::Step { schedule, paths } => step_files(alloc, source, paths, &schedule, out),
         Request::StepBy { list, paths } => step_by_files(alloc, source, paths, list, out),

@@ -55,7 +55,7 @@ fn answer_words<'a, W: AsStr, F: Source, S: Sink, E: Sink>(
     ensures quiet { OnErr result (E.state errors.new ≡ E.state errors.old) }
 {
     match read_words(alloc, words) {
-        Ok(Asked::Answer(request)) => answer_request(rt, alloc, request, source, out),
+        Ok(Asked::Answer(request)) => answer_request(rt, alloc, request, source, out, errors),
         Ok(Asked::Run { .. }) => Ok(say(errors, b"portfarm: no lanes are run here\n", WRONG_WORDS)),
         Err(fault) => tell_words(fault, out, errors),
     }
@@ -79,7 +79,7 @@ fn do_words<'a, R: Threads + Wait + Eprint + Sync, W: AsStr, F: Source, S: Sink,
     ensures quiet { OnErr result (E.state errors.new ≡ E.state errors.old) }
 {
     match read_words(alloc, words) {
-        Ok(Asked::Answer(request)) => answer_request(rt, alloc, request, source, out),
+        Ok(Asked::Answer(request)) => answer_request(rt, alloc, request, source, out, errors),
         Ok(Asked::Run { paths, progress }) => {
             let of = RunFiles { paths, progress };
             run_files(rt, alloc, source, of, out, errors)

@@ -1,28 +1,22 @@
-//! What is answered to texts that cannot be read, where the answer is explained.
+//! What explains texts that cannot be read.
 
 ghost use Rattle.std.specs.Prelude.{◌≡◌, ◌++◌, IfOk, is_err};
 ghost use Rattle.deb_text.specs.Answers.{Fails, refusal_of};
-ghost use Rattle.farm_commands.specs.Answers.{IsAnswered, IsJust, planned_in};
+ghost use Rattle.farm_commands.specs.Answers.{planned_in};
 ghost use Rattle.farm_commands.specs.Explanations as spec;
-ghost use Rattle.farm_commands.specs.Explanations.{AnswersExplain, fault_text};
-ghost use Rattle.farm_commands.specs.declared.status.TheConstants.{REFUSED};
+ghost use Rattle.farm_commands.specs.Explanations.{IsExplanation};
 ghost use Rattle.farm_input.specs.View.{texts_view};
-ghost use Rattle.farm_report.specs.VerdictText.{refusal_text};
 ghost use Rattle.fault_notes.specs.Notes.{note_text};
-ghost use Rattle.plan_verifier.specs.declared.refusal.Refusal.TheVariants.{Text};
 ghost use Rattle.report_sink.specs.Sinks.{IsWritten};
 
-use crate::answers::write_alone;
-use crate::fault::OutsideFault;
-use crate::status::REFUSED;
+use crate::explanation::{Explanation, Notes};
 use deb_text::Fault;
 use deb_text::files::{FARM, PACKAGES, PLAN, SOURCES};
 use farm_input::Texts;
-use farm_notes::{Texts as FarmTexts, farm_note};
-use farm_report::write_check;
+use farm_notes::{Texts as FarmTexts, farm_note, index_note};
 use fault_notes::write_fault_note;
 use plan_verifier::Refusal;
-use report_sink::{Sink, WriteFailed, write_text};
+use report_sink::{Sink, WriteFailed, WriteSink, write_text};
 use std::alloc::{AllocError, Global};
 
 /// The text of the file of a number; no byte for another number.
@@ -45,13 +39,16 @@ fn is_of_farm(texts: Texts<'_>, fault: &Fault) -> bool
     fault.file == FARM && texts.farm.len() < 1 << 32
 }
 
-/// The item that a fault is about, where it is one of the farm text.
+/// The item that a fault of the farm text is about, or the limit that a fault of the packages or the
+/// sources is about.
 fn item_text(alloc: Global, fault: &Fault, texts: Texts<'_>) -> Result<Vec<u8>, AllocError>
     ensures { IfOk result (λ text. text.items
         ≡ spec.item_text (texts_view texts.entry) fault.now) }
 {
     if !is_of_farm(texts, fault) {
-        return Ok(Vec::new(alloc));
+        let text = text_in(texts, fault.file);
+        let note = index_note(alloc, fault.file, text, fault.code, fault.line)?;
+        return Vec::from_slice(alloc, note);
     }
     let of = FarmTexts {
         packages: texts.packages,
@@ -76,58 +73,48 @@ fn write_notes<S: Sink>(
     write_text(out, item)
 }
 
-/// Writes the line of a fault, and the notes on it.
-fn write_fault_notes<S: Sink>(
-    out: &mut S,
-    fault: Fault,
-    text: &[u8],
-    item: &[u8],
-) -> Result<(), WriteFailed>
-    ensures written { IsWritten (S.state out.old) (S.state out.new)
-        (refusal_text (Text fault) ++ (note_text fault text.now ++ item.now)) }
-    ensures told { is_err result ≡ (S.state out.new).failed }
+/// The note on a fault, and the item that it is about.
+fn fault_notes(alloc: Global, fault: Fault, texts: Texts<'_>) -> Result<Vec<u8>, AllocError>
+    ensures { IfOk result (λ text. text.items
+        ≡ spec.fault_notes (texts_view texts.entry) fault) }
 {
-    write_check(out, &Err(Refusal::Text(fault)))?;
-    write_notes(out, fault, text, item)
+    let item = item_text(alloc, &fault, texts)?;
+    let mut out = WriteSink::new(Vec::new(alloc));
+    match write_notes(&mut out, fault, text_in(texts, fault.file), &item) {
+        Ok(()) => Ok(out.into_inner()),
+        Err(WriteFailed) => Err(AllocError),
+    }
 }
 
-/// The same, and gives the status.
-fn write_fault<'a, S: Sink>(
-    fault: Fault,
-    texts: Texts<'_>,
-    item: &[u8],
-    out: &mut S,
-) -> Result<u8, OutsideFault<'a>>
-    requires { item.now ≡ spec.item_text (texts_view texts) fault }
-    ensures { IsAnswered (IsJust (fault_text (texts_view texts.entry) fault) REFUSED)
-        (S.state out.old) (S.state out.new) result }
+/// The same, of whose texts there are no warnings.
+fn notes_on(alloc: Global, fault: Fault, texts: Texts<'_>) -> Result<Notes, AllocError>
+    ensures { IfOk result (spec.AreFaultNotes (texts_view texts.entry) fault) }
 {
-    write_fault_notes(out, fault, text_in(texts, fault.file), item)?;
-    Ok(REFUSED)
+    Ok(Notes {
+        why: fault_notes(alloc, fault, texts)?,
+        warnings: Vec::new(alloc),
+    })
 }
 
-/// Answers with the first fault of the texts, and what is to say of it. Want of memory is none.
+/// Explains the first fault of the texts. Want of memory is none.
 ///
 /// # Errors
 ///
-/// [`OutsideFault::OutOfMemory`] where the fault is want of memory, and nothing is written then;
-/// [`OutsideFault::CutShort`] where memory is refused behind it, and its line is written then; and
-/// [`OutsideFault::WriteFailed`] where the sink fails, with a first part of the answer.
-pub fn answer_fault<'a, S: Sink>(
+/// Where the fault is want of memory.
+pub fn explain_fault(
     alloc: Global,
     fault: Fault,
     texts: Texts<'_>,
-    out: &mut S,
-) -> Result<u8, OutsideFault<'a>>
+) -> Result<Explanation, AllocError>
     requires { Fails refusal_of fault (planned_in (texts_view texts)) }
-    ensures { IsAnswered (AnswersExplain (texts_view texts.entry)) (S.state out.old)
-        (S.state out.new) result }
+    ensures { IfOk result (IsExplanation (texts_view texts.entry)) }
 {
     if fault == Fault::MEMORY {
-        return Err(OutsideFault::OutOfMemory);
+        return Err(AllocError);
     }
-    match item_text(alloc, &fault, texts) {
-        Ok(item) => write_fault(fault, texts, &item, out),
-        Err(AllocError) => write_alone(&Err(Refusal::Text(fault)), out),
-    }
+    let notes = notes_on(alloc, fault, texts).ok();
+    Ok(Explanation {
+        verdict: Err(Refusal::Text(fault)),
+        notes,
+    })
 }

@@ -1,27 +1,28 @@
-use Rattle.std.proofs.Common.{Ok, Err, subst}
+use Rattle.std.proofs.Common.{inl, Ok, Err, subst}
 use Rattle.farm_commands.specs.Answers.{AnswersVerdict, planned_in}
 use Rattle.farm_commands.specs.CertAnswers.{AnswersCert, ShowsCert}
 use Rattle.farm_commands.proofs.AnswerLaws.{answered-by}
+use Rattle.farm_commands.proofs.CertLaws.{certified-by}
 use Rattle.farm_commands.proofs.certificates.answer_cert.Goals as goal
 use Rattle.farm_input.specs.View.{texts_view}
 use Rattle.plan_verifier.specs.Verdict.{IsVerdict}
 
-pub returns-in-Ok : goal.returns-in-Ok
-returns-in-Ok g c =
-    answered-by (ShowsCert c.in-Ok.accepted) (AnswersCert (texts_view c.args.texts)) _ _ _
+pub returns-in-Ok-clause-answer : goal.returns-in-Ok-clause-answer
+returns-in-Ok-clause-answer g c =
+    certified-by (ShowsCert c.in-Ok.accepted) (AnswersCert (texts_view c.args.texts)) _ _ _
     (λ text status is. (
       Ok c.in-Ok.accepted,
       subst (IsVerdict (planned_in (texts_view c.args.texts))) c.in-Ok.is c.check-verdict.ensures.verdict,
       is,
     ))
-    c.answer_accepted.ensures
+    c.answer_accepted.ensures.answer
 
-pub returns-in-Err : goal.returns-in-Err
-returns-in-Err g c =
-    answered-by (AnswersVerdict (Err c.in-Err.refusal)) (AnswersCert (texts_view c.args.texts)) _ _ _
+pub returns-in-Err-clause-answer : goal.returns-in-Err-clause-answer
+returns-in-Err-clause-answer g c =
+    inl (answered-by (AnswersVerdict (Err c.in-Err.refusal)) (AnswersCert (texts_view c.args.texts)) _ _ _
     (λ text status is. (
       Err c.in-Err.refusal,
       subst (IsVerdict (planned_in (texts_view c.args.texts))) c.in-Err.is c.check-verdict.ensures.verdict,
       is,
     ))
-    c.answer_verdict.ensures
+    c.answer_verdict.ensures)

@@ -1,15 +1,15 @@
 use Rattle.std.proofs.Common.{subst, sym}
 use Rattle.farm_commands.specs.Answers.{AnswersStep, IsAnswered}
-use Rattle.farm_commands.specs.Requests.{AnswersRequest, OnFiles, named}
+use Rattle.farm_commands.specs.Requests.{IsRequestAnswered, OnFiles, named}
 use Rattle.farm_commands.proofs.request.answer_request.Goals as goal
 
-pub returns-in-Step : goal.returns-in-Step
-returns-in-Step g c =
+pub returns-in-Step-clause-answer : goal.returns-in-Step-clause-answer
+returns-in-Step-clause-answer g c =
     let held = g.F.Source.held c.args.source.now in
     let given = g.F.Source.given c.args.source.now in
     let old = g.S.Sink.state c.args.out.now in
     let new = g.S.Sink.state c.step_files.new.out in
-    subst (λ request. IsAnswered (AnswersRequest held given request) old new c.step_files.result)
+    subst (λ request. IsRequestAnswered held given request old new c.step_files.result)
     (sym c.in-Step.is)
     (subst (λ lanes. IsAnswered (OnFiles (named held given) c.in-Step.paths (AnswersStep lanes)) old new
     c.step_files.result) c.deref.ensures.value c.step_files.ensures)

@@ -8,12 +8,12 @@ use Rattle.farm_input.specs.View.{texts_view}
 
 pub returns : goal.returns
 returns g c =
-    answered-by (AnswersCheck (texts_view c.texts.result))
+    answered-by (AnswersCheck c.args.json (texts_view c.texts.result))
     (OnFiles (named (g.F.Source.held c.args.source.now) (g.F.Source.given c.args.source.now))
-    c.args.paths AnswersCheck) _ _ _
+    c.args.paths (AnswersCheck c.args.json)) _ _ _
     (λ text status is. (
       texts_in_files c.in_ok-files.files,
       c.in_ok-files.ensures.read,
-      subst (λ texts. AnswersCheck texts text status) c.texts.ensures is,
+      subst (λ texts. AnswersCheck c.args.json texts text status) c.texts.ensures is,
     ))
     c.answer_check.ensures

@@ -1,4 +1,4 @@
-use Rattle.std.proofs.Common.{arith, subst}
+use Rattle.std.proofs.Common.{arith, false, subst}
 use Rattle.farm_commands.specs.Answers.{AnswersCheck}
 use Rattle.farm_commands.specs.Requests.{OnInput}
 use Rattle.farm_commands.proofs.AnswerLaws.{answered-by}
@@ -8,7 +8,7 @@ use Rattle.farm_input.specs.View.{texts_view}
 
 pub returns : goal.returns
 returns g c =
-    answered-by (AnswersCheck (texts_view c.texts_of.result))
+    answered-by (AnswersCheck false (texts_view c.texts_of.result))
     (OnInput (g.F.Source.given c.args.source.now)) _ _ _
     (λ text status is. (
       c.in_ok-input.input.items,
@@ -16,7 +16,7 @@ returns g c =
         c.in_ok-input.ensures.bytes,
         omega (arith, c.in_ok-input.ensures.most, c.in_ok-input.input.ok.0),
       ),
-      subst (λ bytes. AnswersCheck (texts_in bytes) text status) c.deref.ensures.value
-          (subst (λ texts. AnswersCheck texts text status) c.texts_of.ensures is),
+      subst (λ bytes. AnswersCheck false (texts_in bytes) text status) c.deref.ensures.value
+          (subst (λ texts. AnswersCheck false texts text status) c.texts_of.ensures is),
     ))
     c.answer_check.ensures

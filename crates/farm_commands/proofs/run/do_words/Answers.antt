@@ -2,20 +2,19 @@ use Rattle.std.proofs.Common.{◌≡◌, inl, sym, subst, ◌∙◌}
 use Rattle.std.specs.Prelude.{IsOkAnd}
 use Rattle.command_line.specs.declared.request.Asked.TheVariants.{Answer}
 use Rattle.command_line.specs.declared.request.Request.TheVariants.{CheckInput}
-use Rattle.farm_commands.specs.Answers.{IsAnswered}
-use Rattle.farm_commands.specs.Requests.{AnswersRequest}
+use Rattle.farm_commands.specs.Requests.{IsRequestAnswered}
 use Rattle.farm_commands.proofs.RunLaws.{asked_nothing}
 use Rattle.farm_commands.proofs.run.do_words.Goals as goal
 
 pub returns-in-Ok-Answer-clause-done : goal.returns-in-Ok-Answer-clause-done
 returns-in-Ok-Answer-clause-done g c = inl record {
-  outcome = inl (c.in-Ok-Answer.request, c.answer_request.ensures);
+  outcome = inl (c.in-Ok-Answer.request, c.answer_request.ensures.answer);
   no_word = λ none.
-      subst (λ request. IsAnswered (AnswersRequest (g.F.Source.held c.args.source.now)
-      (g.F.Source.given c.args.source.now) request) (g.S.Sink.state c.args.out.now)
+      subst (λ request. IsRequestAnswered (g.F.Source.held c.args.source.now)
+      (g.F.Source.given c.args.source.now) request (g.S.Sink.state c.args.out.now)
       (g.S.Sink.state c.answer_request.new.out) c.answer_request.result)
       (asked_nothing _ (sym c.in-Ok-Answer.field-0-is
       ∙ subst (λ read. IsOkAnd read (λ asked. asked ≡ Answer CheckInput)) c.in-Ok-Answer.is
       (c.read_words.ensures none)))
-      c.answer_request.ensures;
+      c.answer_request.ensures.answer;
 }

@@ -1,0 +1,28 @@
+use Rattle.std.proofs.Common.{sym, ◌∙◌, Err}
+use Rattle.farm_commands.specs.Explanations.{IsWhy, TellsHazards, farm_in}
+use Rattle.farm_commands.proofs.ExplainLaws.{hazard_why, stuck_why}
+use Rattle.farm_commands.proofs.explanation.why_refused.Goals as goal
+use Rattle.farm_explain.proofs.Outcomes.{if_ok}
+use Rattle.wait_notes.specs.Shown.{ShowsStuck}
+
+pub returns-then-is_hazard : goal.returns-then-is_hazard
+returns-then-is_hazard c =
+    let of = farm_in c.args.of.examined.now in
+    let lines = c.args.of.lines.now in
+    let refusal = c.args.refusal.now in
+    if_ok (λ why. TellsHazards of lines refusal why.items)
+    (λ why. IsWhy of lines (Err refusal) why.items) c.why_unsafe.result
+    (λ why is. hazard_why of lines refusal why.items
+    (sym c.is_hazard.ensures ∙ c.if-is_hazard.true) is)
+    c.why_unsafe.ensures
+
+pub returns-then-is_stuck : goal.returns-then-is_stuck
+returns-then-is_stuck c =
+    let of = farm_in c.args.of.examined.now in
+    let lines = c.args.of.lines.now in
+    let refusal = c.args.refusal.now in
+    if_ok (λ why. ShowsStuck of.universe of.plan lines.lanes why.items)
+    (λ why. IsWhy of lines (Err refusal) why.items) c.why_stuck.result
+    (λ why is. stuck_why of lines refusal why.items
+    (sym c.is_stuck.ensures ∙ c.if-is_stuck.true) is)
+    c.why_stuck.ensures

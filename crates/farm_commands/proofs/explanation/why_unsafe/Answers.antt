@@ -1,0 +1,25 @@
+use Rattle.std.proofs.Common.{◌≡◌, refl, subst, sym}
+use Rattle.farm_commands.specs.Explanations.{AreHazards, TellsHazards, farm_in}
+use Rattle.farm_commands.proofs.explanation.why_unsafe.Goals as goal
+use Rattle.farm_explain.proofs.Beginning.{notes_begin_with_the_verdict}
+use Rattle.farm_explain.proofs.Outcomes.{if_ok}
+use Rattle.farm_explain.specs.Beginning.{TellsFirst}
+use Rattle.farm_explain.specs.LaneNotes.{unsafe_text}
+use Rattle.plan_model.specs.Known.{Rows}
+use Rattle.wait_order.specs.KnownRows.{rows_of}
+
+pub returns : goal.returns
+returns c =
+    let of = farm_in c.args.of.examined.now in
+    let lines = c.args.of.lines.now in
+    let rows : Rows = rows_of c.args.of.examined.now.known in
+    if_ok (λ why. why.items ≡ unsafe_text of.universe of.plan rows lines.lanes)
+    (λ why. TellsHazards of lines c.args.refusal.now why.items) c.unsafe_notes.result
+    (λ why is. (
+      record { rows = rows; greatest = c.requires.examined.known; text_is = is },
+      subst (TellsFirst c.args.refusal.now) (sym is)
+          (notes_begin_with_the_verdict of.universe of.plan rows lines.lanes c.args.refusal.now
+          c.requires.examined.known c.requires.verdict),
+    ))
+    (rw (c.stage.ensures.universe, c.stage.ensures.plan, c.stage.ensures.known)
+    at c.unsafe_notes.ensures)

@@ -1,0 +1,24 @@
+use Rattle.std.proofs.Common.{true, inl, inr, ap, ◌∙◌}
+use Rattle.farm_commands.specs.Answers.{IsJust, no_status, status_of}
+use Rattle.farm_commands.specs.Explanations.{TellsSome}
+use Rattle.farm_commands.proofs.AnswerLaws.{answered-by}
+use Rattle.farm_commands.proofs.told.write_json.Goals as goal
+use Rattle.farm_json.specs.Verdicts.{check_line}
+
+pub returns-in-Ok : goal.returns-in-Ok
+returns-in-Ok g c =
+    let verdict = c.args.verdict.now in
+    answered-by (IsJust c.as_slice-in-Ok.result.now c.status_of.result)
+    (TellsSome true verdict c.args.notes.now) _ _ _
+    (λ text status is. inl (
+      is.0 ∙ c.as_slice-in-Ok.ensures.value
+          ∙ (rw (c.as_slice.ensures.value, c.as_slice-2.ensures.value) at c.in-Ok.ensures),
+      is.1 ∙ c.status_of.ensures ∙ ap status_of c.is_ok.ensures.value,
+    ))
+    c.write_answer.ensures
+
+pub returns-in-Err : goal.returns-in-Err
+returns-in-Err g c =
+    let verdict = c.args.verdict.now in
+    answered-by (IsJust (check_line verdict) no_status) (TellsSome true verdict c.args.notes.now) _ _ _
+    (λ text status is. inr is) c.write_json_alone.ensures
