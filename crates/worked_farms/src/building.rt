@@ -1,4 +1,5 @@
 //! Builds and what they need of a chroot.
+#![tactic(auto, unfolding(crate::proofs::Computed::by_computation))]
 
 ghost use Rattle.farm_model.specs.declared.types.Trap.TheVariants.{WrongState, Unsettled, BuildDepends, BuildConflict, NotBuilt};
 ghost use Rattle.worked_farms.specs.Verdict.{Passes, Traps};

@@ -1,4 +1,5 @@
 //! Packages that need each other.
+#![tactic(auto, unfolding(crate::proofs::Computed::by_computation))]
 
 ghost use Rattle.std.specs.Prelude.{◌∷◌, [], ◌++◌, codes};
 ghost use Rattle.farm_model.specs.declared.types.Trap.TheVariants.{Depends, PreDepends};

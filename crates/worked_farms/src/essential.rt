@@ -1,4 +1,5 @@
 //! Packages that must not be removed.
+#![tactic(auto, unfolding(crate::proofs::Computed::by_computation))]
 
 ghost use Rattle.std.specs.Prelude.{◌≡◌, ◌∷◌, [], true, None, codes};
 ghost use Rattle.farm_model.specs.declared.types.Trap.TheVariants.{Essential};

@@ -1,4 +1,5 @@
 //! Plans that would trap if what a lane may hold were taken for less than it is.
+#![tactic(auto, unfolding(crate::proofs::Computed::by_computation))]
 
 ghost use Rattle.std.specs.Prelude.{◌≡◌, ◌∷◌, [], true, Some, None};
 ghost use Rattle.farm_model.specs.declared.types.Trap.TheVariants.{Missing, BreaksOther, Full, Depends, Broken, StillNeeded, OverBudget};

@@ -1,4 +1,5 @@
 //! Plans that would trap if what a present name may hold were taken for less than it is.
+#![tactic(auto, unfolding(crate::proofs::Computed::by_computation))]
 
 ghost use Rattle.std.specs.Prelude.{◌≡◌, ◌∷◌, [], true, None};
 ghost use Rattle.farm_model.specs.declared.types.Trap.TheVariants.{Conflict, BreaksOther, StillNeeded};

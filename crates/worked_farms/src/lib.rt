@@ -1,5 +1,5 @@
 //! Worked examples of farms: what the definitions say of each is computed.
-#![tactic(auto, unfolding(crate::proofs::Computed::by_computation))]
+#![tactic(auto)]
 
 pub mod building;
 pub mod configuring;

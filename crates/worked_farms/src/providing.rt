@@ -1,4 +1,5 @@
 //! What satisfies a relation, and what an unpack takes.
+#![tactic(auto, unfolding(crate::proofs::Computed::by_computation))]
 
 ghost use Rattle.std.specs.Prelude.{◌≡◌, Some, None, codes};
 ghost use Rattle.deb_relation.specs.declared.operator.Op.TheVariants.{Earlier, EarlierOrEqual, Equal, LaterOrEqual};

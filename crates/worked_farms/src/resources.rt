@@ -1,4 +1,5 @@
 //! Disk space and budgets.
+#![tactic(auto, unfolding(crate::proofs::Computed::by_computation))]
 
 ghost use Rattle.std.specs.Prelude.{◌≡◌};
 ghost use Rattle.farm_model.specs.declared.types.Trap.TheVariants.{Full, OverBudget};

@@ -1,4 +1,5 @@
 //! Several lanes that wait for each other's outputs.
+#![tactic(auto, unfolding(crate::proofs::Computed::by_computation))]
 
 ghost use Rattle.std.specs.Prelude.{◌≡◌, ◌∷◌, [], true, false, Some, None};
 ghost use Rattle.farm_model.specs.declared.types.Trap.TheVariants.{Missing, Depends, OverBudget};
