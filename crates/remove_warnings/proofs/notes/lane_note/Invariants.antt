@@ -1,0 +1,9 @@
+use Rattle.std.proofs.Common.{◌≡◌}
+use Rattle.farm_explain.specs.Texts.{text_below}
+use Rattle.remove_warnings.specs.Lines.{place_said}
+use Rattle.remove_warnings.proofs.notes.lane_note.Given as goal
+
+abbrev pub invariant-loop-place : goal.invariant-loop-place
+invariant-loop-place g l =
+    l.text.items ≡ text_below l.place (place_said l.stage.universe.now l.stage.plan.now.lanes
+    (g.K.KnownWords.known l.stage.known.now).rows l.lines.lanes l.number)
