@@ -14,11 +14,16 @@ def entry_text(entry):
     return " | ".join(str(alternative) for alternative in entry)
 
 
-def where(lane, number):
+def place_text(lane, number):
     """The line of an instruction in the plan, with that of the `use` that brings it in."""
     line, used = lane.lines[number - 1]
     by = f", by the use at line {used}" if used else ""
-    return f"plan line {line}{by}: {lane.instructions[number - 1]}"
+    return f"plan line {line}{by}"
+
+
+def where(lane, number):
+    """The same, with the instruction."""
+    return f"{place_text(lane, number)}: {lane.instructions[number - 1]}"
 
 
 def names_like(universe, entry):
@@ -376,3 +381,36 @@ def waits_lines(universe, plan):
                 line = wait_line(universe, plan, number, place)
                 if line is not None:
                     yield line
+
+
+def left_unmet(universe, may, names):
+    """The first unpacked variant outside a set, and its first entry that a member may satisfy and nothing configured
+    outside the set surely does, or None."""
+    taken = [it for name in names if name in may.slots for it in may.slots[name].current]
+    left = may.configured(names)
+    for name in universe.variants:
+        if name in names or may.phase(name) in (ABSENT, CONFIGURED):
+            continue
+        for owner in (it for it in universe.variants[name] if it in may.slots[name].current):
+            for field in ("Depends", "Pre-Depends"):
+                for entry in owner.relations[field]:
+                    if any(it.satisfies(entry) for it in taken) and not is_surely(entry, left):
+                        return owner, field, entry
+    return None
+
+
+def left_lines(universe, rows):
+    """The warnings of each `remove` that may leave an unpacked package with an entry that nothing meets, up to the
+    instruction by whose number its lane is refused."""
+    for number, lane in enumerate(rows.plan):
+        unsafe, _, _ = first_unsafe(rows, number)
+        end = len(lane.instructions) if unsafe is None else unsafe.instruction
+        way = Walk(rows, number)
+        for place, it in enumerate(lane.instructions[:end]):
+            found = left_unmet(universe, way.may, it.names) if it.verb == "remove" else None
+            if found is not None:
+                owner, field, entry = found
+                words = f"this may leave {spelled(owner)} unpacked without its {field}: {entry_text(entry)}"
+                yield f"warning: {place_text(lane, place + 1)}: {words}"
+            if place + 1 < end:
+                way.take(place, it)

@@ -16,7 +16,7 @@ import sys
 
 import certificates
 from core import step
-from explain import stuck_lines, unsafe_lines, waits_lines
+from explain import left_lines, stuck_lines, unsafe_lines, waits_lines
 from farm_warnings import warnings
 from json_answers import json_line, lines_of, verdict_members
 from plans import listing, numbered, read_plan
@@ -105,7 +105,8 @@ def answer(command, texts, more=None):
         written = [json_line(verdict_members(written))]
     if command != "explain":
         return written, status
-    reasons, odd = why(universe, plan, rows, written, accepts), warnings(universe, plan, texts)
+    reasons = why(universe, plan, rows, written, accepts)
+    odd = [*warnings(universe, plan, texts), *left_lines(universe, rows)]
     if more == "--json":
         members = verdict_members(written) | {"why": lines_of(reasons), "warnings": lines_of(odd)}
         return [json_line(members)], status

@@ -28,6 +28,7 @@ use Rattle.plan_verifier.specs.Examined.{ExaminedPlan}
 use Rattle.plan_verifier.specs.Verdict.{IsVerdictOn}
 use Rattle.plan_verifier.specs.declared.refusal.Refusal.{Refusal}
 use Rattle.plan_verifier.specs.declared.refusal.Refusal.TheVariants.{Text, Unsafe, Uneven, Stuck, Memory}
+use Rattle.remove_warnings.specs.Lines.{left_text}
 use Rattle.wait_notes.specs.Shown.{ShowsStuck}
 use Rattle.wait_notes.specs.WaitText.{waits_text}
 use Rattle.farm_commands.specs.Answers.{no_status, planned_in, status_of, told_verdict}
@@ -100,14 +101,23 @@ is_stuck (Uneven name number) = false
 is_stuck (Stuck names) = true
 is_stuck Memory = false
 
--- the warnings of a farm and a plan
-abbrev pub warnings_of : Texts → FarmPlan → TextLines → List ℕ
-warnings_of texts of lines = warnings_text texts of.universe of.plan lines.lanes
+-- Of a plan whose text has these lines, what its `remove` may leave under the greatest known rows:
+pub record TellsLeft (of : FarmPlan) (lines : TextLines) (text : List ℕ) : Type 0 where
+  pub rows : Rows
+  pub greatest : IsGreatest of.universe of.plan rows
+  pub text_is : text ≡ left_text of.universe of.plan rows lines.lanes
+
+-- the warnings of a farm and a plan, those of `remove` last
+pub record AreWarnings (texts : Texts) (of : FarmPlan) (lines : TextLines) (text : List ℕ)
+    : Type 0 where
+  pub left : List ℕ
+  pub left_is : TellsLeft of lines left
+  pub text_is : text ≡ warnings_text texts of.universe of.plan lines.lanes ++ left
 
 -- why a verdict on a plan is one, and the warnings
 abbrev pub AreNotes : Texts → FarmPlan → TextLines → Result AcceptedPlan Refusal → Notes → Type 0
 AreNotes texts of lines verdict notes =
-    IsWhy of lines verdict notes.why.items × (notes.warnings.items ≡ warnings_of texts of lines)
+    IsWhy of lines verdict notes.why.items × AreWarnings texts of lines notes.warnings.items
 
 -- the verdict on a plan, which is not want of memory, and these, unless memory was refused behind it
 abbrev pub IsExplained : Texts → FarmPlan → TextLines → Explanation → Type 0

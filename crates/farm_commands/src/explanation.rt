@@ -3,7 +3,7 @@
 ghost use Rattle.std.specs.Prelude.{◌≡◌, IfOk, Ok, Err};
 ghost use Rattle.std.specs.Option.{IfSome};
 ghost use Rattle.farm_commands.specs.Explanations as spec;
-ghost use Rattle.farm_commands.specs.Explanations.{AreNotes, IsExplained, IsWhy, TellsHazards, farm_in, warnings_of};
+ghost use Rattle.farm_commands.specs.Explanations.{AreNotes, AreWarnings, IsExplained, IsWhy, TellsHazards, TellsLeft, farm_in};
 ghost use Rattle.farm_input.specs.View.{texts_view};
 ghost use Rattle.plan_verifier.specs.Examined.{IsExamined, IsGrounds, accepted_with};
 ghost use Rattle.plan_verifier.specs.Verdict.{IsVerdictOn};
@@ -15,6 +15,7 @@ use farm_input::Texts;
 use farm_warnings::warnings;
 use plan_lines::PlanLines;
 use plan_verifier::{Accepted, Examined, Grounds, Refusal};
+use remove_warnings::left_notes;
 use std::alloc::{AllocError, Global};
 use wait_notes::{stuck_notes, waits_notes};
 
@@ -40,19 +41,40 @@ pub struct Explained<'a> {
     pub texts: Texts<'a>,
 }
 
-/// Puts the warnings beside what explains a verdict.
-fn with_warnings(alloc: Global, of: Explained<'_>, why: Vec<u8>) -> Result<Notes, AllocError>
-    ensures why { IfOk result (λ notes. notes.why ≡ why) }
-    ensures warnings { IfOk result (λ notes. notes.warnings.items
-        ≡ warnings_of (texts_view of.entry.texts) (farm_in of.entry.examined.now)
-        of.entry.lines.now) }
+/// What the `remove` instructions of a plan may leave unpacked with an entry that nothing meets.
+fn left(alloc: Global, of: Explained<'_>) -> Result<Vec<u8>, AllocError>
+    requires { IsExamined of.examined.now }
+    ensures { IfOk result (λ text. TellsLeft (farm_in of.entry.examined.now) of.entry.lines.now
+        text.items) }
+{
+    left_notes(alloc, &of.examined.stage(), of.lines)
+}
+
+/// The warnings, those of `remove` last.
+fn all_warnings(alloc: Global, of: Explained<'_>) -> Result<Vec<u8>, AllocError>
+    requires { IsExamined of.examined.now }
+    ensures { IfOk result (λ text. AreWarnings (texts_view of.entry.texts)
+        (farm_in of.entry.examined.now) of.entry.lines.now text.items) }
 {
     let Explained {
         examined,
         lines,
         texts,
     } = of;
-    let warnings = warnings(alloc, texts, examined.universe(), examined.plan(), lines)?;
+    let mut text = warnings(alloc, texts, examined.universe(), examined.plan(), lines)?;
+    let more = left(alloc, of)?;
+    text.extend_from_slice(&more)?;
+    Ok(text)
+}
+
+/// Puts the warnings beside what explains a verdict.
+fn with_warnings(alloc: Global, of: Explained<'_>, why: Vec<u8>) -> Result<Notes, AllocError>
+    requires { IsExamined of.examined.now }
+    ensures why { IfOk result (λ notes. notes.why ≡ why) }
+    ensures warnings { IfOk result (λ notes. AreWarnings (texts_view of.entry.texts)
+        (farm_in of.entry.examined.now) of.entry.lines.now notes.warnings.items) }
+{
+    let warnings = all_warnings(alloc, of)?;
     Ok(Notes { why, warnings })
 }
 
@@ -142,8 +164,8 @@ fn notes_accepted(alloc: Global, of: Explained<'_>) -> Result<Notes, AllocError>
     requires { IsExamined of.examined.now }
     ensures { IfOk result (λ notes. (notes.why.items
         ≡ waits_text of.entry.examined.now.universe of.entry.examined.now.plan)
-        × (notes.warnings.items ≡ warnings_of (texts_view of.entry.texts)
-        (farm_in of.entry.examined.now) of.entry.lines.now)) }
+        × AreWarnings (texts_view of.entry.texts) (farm_in of.entry.examined.now)
+        of.entry.lines.now notes.warnings.items) }
 {
     let why = why_accepted(alloc, of)?;
     with_warnings(alloc, of, why)
