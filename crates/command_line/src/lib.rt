@@ -1,6 +1,7 @@
 //! What the words of portfarm's command line ask for.
 #![tactic(auto)]
 
+mod among;
 mod command;
 mod help;
 mod request;

@@ -1,7 +1,9 @@
 //! What the words ask for.
 
-ghost use Rattle.std.specs.Prelude.{◌≡◌, IsOkAnd, length};
+ghost use Rattle.std.specs.Prelude.{◌≡◌, ℕ, List, IfErr, IfOk, IsOkAnd, length, map};
+ghost use Rattle.command_line.specs.Words.{AreWords, IsAskedBy, IsRefusedFor, IsRequestedBy};
 
+use crate::among::{are_words, ends_word, is_word};
 use crate::command::{
     CERT, CERTIFICATE, CHECK, EXPLAIN, FARM, INPUT, JSON, LIST, NUMBER, PACKAGES, PLAN, PROGRESS,
     RUN, SCHEDULE, SOURCES, STEP, VERIFY_CERT, portfarm,
@@ -92,17 +94,10 @@ impl From<AllocError> for WordsFault {
     }
 }
 
-impl From<ScheduleFault> for WordsFault {
-    fn from(fault: ScheduleFault) -> WordsFault {
-        match fault {
-            ScheduleFault::BadSchedule => WordsFault::BadSchedule,
-            ScheduleFault::Memory => WordsFault::Memory,
-        }
-    }
-}
-
 /// What the parser says in place of matches.
-fn fault_of(alloc: Global, error: Error) -> WordsFault {
+fn fault_of(alloc: Global, error: Error) -> WordsFault
+    ensures { (words : List (List ℕ)) → IsRefusedFor words result }
+{
     if error.kind() == ErrorKind::OutOfMemory {
         return WordsFault::Memory;
     }
@@ -145,22 +140,58 @@ fn asks_twice(paths: &Paths<'_>, more: &str) -> bool {
 
 /// What `step` asks for, by what stands behind `--schedule`: a list of lanes, or behind `@` the file
 /// that has one.
-fn step_of<'a>(alloc: Global, list: &'a str, paths: Paths<'a>) -> Result<Request<'a>, WordsFault> {
-    match list.strip_prefix('@') {
-        Some(list) => Ok(Request::StepBy { list, paths }),
-        None => Ok(Request::Step {
-            schedule: read_schedule(alloc, list.as_bytes())?,
-            paths,
-        }),
+fn step_of<'a, S: AsStr>(
+    alloc: Global,
+    words: &'a [S],
+    list: &'a str,
+    paths: Paths<'a>,
+) -> Result<Request<'a>, WordsFault>
+    requires paths { AreWords (map S.text words.now) paths }
+    ensures asked { IfOk result (IsRequestedBy (map S.text words.entry.now)) }
+    ensures refused { IfErr result (IsRefusedFor (map S.text words.entry.now)) }
+{
+    let text = list.strip_prefix('@').unwrap_or(list);
+    if !ends_word(words, text) {
+        return Err(not_there(alloc));
+    }
+    if text.len() < list.len() {
+        return Ok(Request::StepBy { list: text, paths });
+    }
+    match read_schedule(alloc, text.as_bytes()) {
+        Ok(schedule) => Ok(Request::Step { schedule, paths }),
+        Err(ScheduleFault::BadSchedule) => Err(WordsFault::BadSchedule),
+        Err(ScheduleFault::Memory) => Err(WordsFault::Memory),
     }
 }
 
-fn request_of<'a>(
+/// What `verify-cert` asks for, by the name of the certificate.
+fn verify_of<'a, S: AsStr>(
     alloc: Global,
+    words: &'a [S],
+    cert: &'a str,
+    paths: Paths<'a>,
+) -> Result<Request<'a>, WordsFault>
+    requires paths { AreWords (map S.text words.now) paths }
+    ensures asked { IfOk result (IsRequestedBy (map S.text words.entry.now)) }
+    ensures refused { IfErr result (IsRefusedFor (map S.text words.entry.now)) }
+{
+    if !is_word(words, cert) {
+        return Err(not_there(alloc));
+    }
+    Ok(Request::VerifyCert { cert, paths })
+}
+
+fn request_of<'a, S: AsStr>(
+    alloc: Global,
+    words: &'a [S],
     command: &str,
     matches: &ArgMatches<'a>,
-) -> Result<Request<'a>, WordsFault> {
-    let paths = paths_of(matches);
+    paths: Paths<'a>,
+) -> Result<Request<'a>, WordsFault>
+    requires paths { AreWords (map S.text words.now) paths }
+    ensures asked { IfOk result (IsRequestedBy (map S.text words.entry.now)) }
+    ensures refused { IfErr result (IsRefusedFor (map S.text words.entry.now)) }
+{
     match command {
         CHECK => Ok(Request::Check {
             paths,
@@ -175,24 +206,28 @@ fn request_of<'a>(
             number: matches.get_flag(NUMBER),
         }),
         CERT => Ok(Request::Cert(paths)),
-        VERIFY_CERT => Ok(Request::VerifyCert {
-            cert: word_of(matches, CERTIFICATE),
-            paths,
-        }),
-        STEP => step_of(alloc, word_of(matches, SCHEDULE), paths),
+        VERIFY_CERT => verify_of(alloc, words, word_of(matches, CERTIFICATE), paths),
+        STEP => step_of(alloc, words, word_of(matches, SCHEDULE), paths),
         _ => Err(no_command(alloc)),
     }
 }
 
 /// What a command and its words ask for.
-fn asked_of<'a>(
+fn asked_of<'a, S: AsStr>(
     alloc: Global,
+    words: &'a [S],
     command: &str,
     matches: &ArgMatches<'a>,
-) -> Result<Asked<'a>, WordsFault> {
+) -> Result<Asked<'a>, WordsFault>
+    ensures asked { IfOk result (IsAskedBy (map S.text words.entry.now)) }
+    ensures refused { IfErr result (IsRefusedFor (map S.text words.entry.now)) }
+{
     let paths = paths_of(matches);
     if asks_twice(&paths, one_more(command, matches)) {
         return Err(wrong(alloc, "error: `-` can stand for one file alone\n"));
+    }
+    if !are_words(words, paths) {
+        return Err(not_there(alloc));
     }
     if command == RUN {
         return Ok(Asked::Run {
@@ -200,19 +235,30 @@ fn asked_of<'a>(
             progress: matches.get_flag(PROGRESS),
         });
     }
-    Ok(Asked::Answer(request_of(alloc, command, matches)?))
+    Ok(Asked::Answer(request_of(alloc, words, command, matches, paths)?))
 }
 
 /// That words are wrong, as this text says.
-fn wrong(alloc: Global, text: &str) -> WordsFault {
+fn wrong(alloc: Global, text: &str) -> WordsFault
+    ensures { (words : List (List ℕ)) → IsRefusedFor words result }
+{
     match String::from_str(alloc, text) {
         Ok(text) => WordsFault::Wrong(text),
         Err(AllocError) => WordsFault::Memory,
     }
 }
 
-fn no_command(alloc: Global) -> WordsFault {
+fn no_command(alloc: Global) -> WordsFault
+    ensures { (words : List (List ℕ)) → IsRefusedFor words result }
+{
     wrong(alloc, "error: expected a command\n")
+}
+
+/// What the parser gives is looked up among the words, so that it need not be trusted.
+fn not_there(alloc: Global) -> WordsFault
+    ensures { (words : List (List ℕ)) → IsRefusedFor words result }
+{
+    wrong(alloc, "error: a name is none of the words\n")
 }
 
 /// Reads the words behind the program's name. No word at all asks for the verdict on standard
@@ -224,8 +270,10 @@ fn no_command(alloc: Global) -> WordsFault {
 /// are none of the program's, and [`WordsFault::BadSchedule`] for a schedule that is none;
 /// [`WordsFault::Memory`] where memory is refused.
 pub fn read_words<'a, S: AsStr>(alloc: Global, words: &'a [S]) -> Result<Asked<'a>, WordsFault>
-    ensures { length words.entry.now ≡ 0
+    ensures none { length words.entry.now ≡ 0
         → IsOkAnd result (λ asked. asked ≡ Asked.Answer Request.CheckInput) }
+    ensures asked { IfOk result (IsAskedBy (map S.text words.entry.now)) }
+    ensures refused { IfErr result (IsRefusedFor (map S.text words.entry.now)) }
 {
     if words.is_empty() {
         return Ok(Asked::Answer(Request::CheckInput));
@@ -235,7 +283,7 @@ pub fn read_words<'a, S: AsStr>(alloc: Global, words: &'a [S]) -> Result<Asked<'
         Err(error) => return Err(fault_of(alloc, error)),
     };
     match matches.subcommand() {
-        Some((command, matches)) => asked_of(alloc, command, matches),
+        Some((command, matches)) => asked_of(alloc, words, command, matches),
         None => Err(no_command(alloc)),
     }
 }

@@ -1,0 +1,20 @@
+-- Words that lend their texts.
+use Rattle.std.proofs.Common.{◌≡◌, ◌==◌, ℕ, Bool, true, List, [], ◌∷◌, map, refl, sym, ap, ◌∙◌}
+use Rattle.std.specs.Prelude.{◌||◌}
+use Rattle.std.specs.List.{ends_with, list_any}
+use Rattle.std.specs.Str.{bytes_eq}
+use Rattle.command_line.specs.Words.{EndsWord, IsWord}
+
+any-map : {W X : Type 0} (f : W → X) (test : X → Bool) (ws : List W)
+    → list_any test (map f ws) ≡ list_any (λ w. test (f w)) ws
+any-map f test [] = refl
+any-map f test (w ∷ ws) = ap (λ b. test (f w) || b) (any-map f test ws)
+
+module _ {W : Type 0} (text_of : W → List ℕ) (words : List W) (text : List ℕ) where
+  pub is-word : list_any (λ w. bytes_eq (text_of w) text) words ≡ true
+      → IsWord (map text_of words) text
+  is-word h = any-map text_of (λ word. bytes_eq word text) words ∙ h
+
+  pub ends-word : list_any (λ w. ends_with (λ a b. a == b) (text_of w) text) words ≡ true
+      → EndsWord (map text_of words) text
+  ends-word h = any-map text_of (λ word. ends_with (λ a b. a == b) word text) words ∙ h

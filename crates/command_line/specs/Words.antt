@@ -1,0 +1,61 @@
+-- What is asked for, and the words that ask. The project's own rules.
+-- Parameter: words, those behind the program's name.
+--
+--   IsWord words text          a word is this text
+--   EndsWord words text        a word ends with this text, as `--schedule=0,1` with `0,1`
+--   AreWords words paths       the names of the four files are words
+--   IsAskedBy words asked      what is asked for has its names and its schedule from the words
+--   IsRefusedFor words fault   a bad schedule comes from the words, and is none
+use Rattle.std.specs.Prelude.{◌≡◌, ℕ, true, ◌==◌, List, [], Ok, Err}
+use Rattle.std.specs.List.{ends_with, list_any}
+use Rattle.std.specs.Str.{bytes_eq}
+use Rattle.command_line.specs.declared.request.Asked.{Asked}
+use Rattle.command_line.specs.declared.request.Asked.TheVariants.{Answer, Run}
+use Rattle.command_line.specs.declared.request.Paths.{Paths}
+use Rattle.command_line.specs.declared.request.Request.{Request}
+use Rattle.command_line.specs.declared.request.Request.TheVariants.{CheckInput, Check, Explain, List as ListPlan, Cert, VerifyCert, Step, StepBy}
+use Rattle.command_line.specs.declared.request.WordsFault.{WordsFault}
+use Rattle.command_line.specs.declared.request.WordsFault.TheVariants.{Help, Wrong, BadSchedule, Memory}
+use Rattle.command_line.specs.declared.schedule.ScheduleFault.{ScheduleFault}
+use Rattle.command_line.specs.Schedule.{schedule_of}
+
+abbrev pub IsWord : List (List ℕ) → List ℕ → Type 0
+IsWord words text = list_any (λ word. bytes_eq word text) words ≡ true
+
+abbrev pub EndsWord : List (List ℕ) → List ℕ → Type 0
+EndsWord words text = list_any (λ word. ends_with (λ a b. a == b) word text) words ≡ true
+
+pub record AreWords (words : List (List ℕ)) (paths : Paths) : Type 0 where
+  pub packages : IsWord words paths.packages.now
+  pub sources : IsWord words paths.sources.now
+  pub farm : IsWord words paths.farm.now
+  pub plan : IsWord words paths.plan.now
+
+-- a word ends with a text that is this schedule
+abbrev pub HasSchedule : List (List ℕ) → List ℕ → Type 0
+HasSchedule words schedule = (text : List ℕ) × EndsWord words text × (schedule_of text ≡ Ok schedule)
+
+abbrev pub IsRequestedBy : List (List ℕ) → Request → Type 0
+IsRequestedBy words CheckInput = words ≡ []
+IsRequestedBy words (Check paths json) = AreWords words paths
+IsRequestedBy words (Explain paths json) = AreWords words paths
+IsRequestedBy words (ListPlan paths number) = AreWords words paths
+IsRequestedBy words (Cert paths) = AreWords words paths
+IsRequestedBy words (VerifyCert cert paths) = IsWord words cert.now × AreWords words paths
+IsRequestedBy words (Step schedule paths) = HasSchedule words schedule.items × AreWords words paths
+IsRequestedBy words (StepBy list paths) = EndsWord words list.now × AreWords words paths
+
+abbrev pub IsAskedBy : List (List ℕ) → Asked → Type 0
+IsAskedBy words (Answer request) = IsRequestedBy words request
+IsAskedBy words (Run paths progress) = AreWords words paths
+
+-- a word ends with a text that is no schedule
+abbrev pub HasBadSchedule : List (List ℕ) → Type 0
+HasBadSchedule words =
+    (text : List ℕ) × EndsWord words text × (schedule_of text ≡ Err ScheduleFault.BadSchedule)
+
+abbrev pub IsRefusedFor : List (List ℕ) → WordsFault → Type 0
+IsRefusedFor words (Help text) = Unit {0}
+IsRefusedFor words (Wrong text) = Unit {0}
+IsRefusedFor words BadSchedule = HasBadSchedule words
+IsRefusedFor words Memory = Unit {0}
