@@ -1,5 +1,6 @@
 -- What a run comes to, from one meaning to another.
-use Rattle.std.proofs.Common.{◌≡◌, ℕ, inl, inr, List, Some, Result, slice_get, refl, sym, ◌∙◌}
+use Rattle.std.proofs.Common.{◌≡◌, ℕ, inl, inr, List, Option, Some, Result, Ok, Err, slice_get, refl, sym, subst, ◌∙◌}
+use Rattle.std.specs.Prelude.{IfOk, OnErr}
 use Rattle.chroot_state.specs.Held.{Held}
 use Rattle.command_line.specs.declared.request.Asked.TheVariants.{Answer}
 use Rattle.command_line.specs.declared.request.Request.{Request}
@@ -11,9 +12,10 @@ use Rattle.farm_executor.specs.declared.causes.TheConstants.{NOT_STARTED}
 use Rattle.farm_model.specs.Chroot.{used}
 use Rattle.lane_runner.specs.declared.run.LaneStop.{LaneStop}
 use Rattle.plan_verifier.specs.Accepted.{AcceptedPlan}
-use Rattle.report_sink.specs.Sinks.{SinkState}
+use Rattle.report_sink.specs.Sinks.{SinkState, IsWritten}
 use Rattle.farm_commands.proofs.AnswerLaws.{answered-by}
 use Rattle.farm_commands.specs.FarmAnswers.{ComesToEnd}
+use Rattle.farm_commands.specs.Runs.{MayComeTo, TellsFault, fault_line}
 use Rattle.farm_commands.specs.declared.fault.OutsideFault.{OutsideFault}
 
 -- an end in one meaning is one in another
@@ -51,3 +53,32 @@ all_used a chroots spent history is l c here =
 -- an answer that is asked for is the one request that is asked for
 pub asked_nothing : (r : Request) → Answer r ≡ Answer CheckInput → r ≡ CheckInput
 asked_nothing r e = cc e
+
+module _ (words : List (List ℕ)) (held : List ℕ → Option (List ℕ)) (given : Option (List ℕ)) where
+  -- what words come to does not hang on the line of a fault, which is told behind it
+  pub comes-before : (old new before after later : SinkState) (told : Result ℕ OutsideFault)
+      → IfOk told (λ _. later ≡ after) → MayComeTo words held given old new before after told
+      → MayComeTo words held given old new before later told
+  comes-before old new before after later told same (inl comes) = inl comes
+  comes-before old new before after later told same (inr (paths, are, inl is)) =
+      inr (paths, are, inl is)
+  comes-before old new before after later told same (inr (paths, are, inr is)) =
+      inr (
+        paths,
+        are,
+        inr (
+          is.0,
+          is.1,
+          is.2,
+          is.3,
+          subst (λ end. IsWritten before end is.2)
+              (sym (subst (λ t. IfOk t (λ _. later ≡ after)) is.1 same)) is.4,
+        ),
+      )
+
+-- the line of a fault is told of the state ahead, which no fault changes
+pub told-of : (first before after : SinkState) (told : Result ℕ OutsideFault)
+    → OnErr told (before ≡ first) → TellsFault before after told → TellsFault first after told
+told-of first before after (Ok status) same tells = tells
+told-of first before after (Err fault) same tells =
+    subst (λ w. IsWritten w after (fault_line fault)) same tells

@@ -6,9 +6,10 @@
 --   TellsWords       what is told of words that ask for no answer
 --   ComesTo          what is written to the output, and what is told
 --   MayComeTo        the same where words may ask for a run too
-use Rattle.std.specs.Prelude.{◌≡◌, ◌≢◌, ◌⊎◌, ℕ, List, ◌++◌, codes, Option, Result, Ok, Err}
+use Rattle.std.specs.Prelude.{◌≡◌, ◌⊎◌, ℕ, List, ◌++◌, length, codes, Option, Result, Ok, Err}
 use Rattle.command_line.specs.declared.request.Paths.{Paths}
 use Rattle.command_line.specs.declared.request.Request.{Request}
+use Rattle.command_line.specs.Words.{AreWords, IsRequestedBy}
 use Rattle.report_sink.specs.Sinks.{SinkState, IsWritten}
 use Rattle.fault_notes.specs.Escapes.{escaped}
 use Rattle.farm_commands.specs.Answers.{IsAnswered}
@@ -60,18 +61,21 @@ abbrev pub TellsWords : SinkState → SinkState → Result ℕ OutsideFault → 
 TellsWords old new told =
     IsAnswered Shows old new told ⊎ ((new ≡ old) × (told ≡ Ok WRONG_WORDS))
 
--- What words come to, this many, by what is known of the bytes of files and of standard input:
-pub record ComesTo (words : ℕ) (held : List ℕ → Option (List ℕ)) (given : Option (List ℕ))
-    (old new : SinkState) (told : Result ℕ OutsideFault) : Type 0 where
-  -- a request is answered, or the words ask for none;
-  pub outcome : ((request : Request) × IsRequestAnswered held given request old new told)
+-- What words come to, by what is known of the bytes of files and of standard input:
+pub record ComesTo (words : List (List ℕ)) (held : List ℕ → Option (List ℕ))
+    (given : Option (List ℕ)) (old new : SinkState) (told : Result ℕ OutsideFault) : Type 0 where
+  -- a request whose names stand among the words is answered, or the words ask for none;
+  pub outcome : ((request : Request) × IsRequestedBy words request
+      × IsRequestAnswered held given request old new told)
       ⊎ TellsWords old new told
   -- and no word at all asks for the verdict on standard input.
-  pub no_word : words ≡ 0 → IsAnswered (OnInput given) old new told
+  pub no_word : length words ≡ 0 → IsAnswered (OnInput given) old new told
 
--- the same, or a run of the plan of some files; before and after are the states of the error output
-abbrev pub MayComeTo : ℕ → (List ℕ → Option (List ℕ)) → Option (List ℕ) → SinkState → SinkState
-    → SinkState → SinkState → Result ℕ OutsideFault → Type 0
+-- the same, or a run of the plan of files whose names stand among the words; before and after are the
+-- states of the error output
+abbrev pub MayComeTo : List (List ℕ) → (List ℕ → Option (List ℕ)) → Option (List ℕ) → SinkState
+    → SinkState → SinkState → SinkState → Result ℕ OutsideFault → Type 0
 MayComeTo words held given old new before after told =
     ComesTo words held given old new told
-    ⊎ ((words ≢ 0) × (paths : Paths) × RunsTo (named held given) paths old new before after told)
+    ⊎ ((paths : Paths) × AreWords words paths
+    × RunsTo (named held given) paths old new before after told)

@@ -1,6 +1,6 @@
 //! What words come to.
 
-ghost use Rattle.std.specs.Prelude.{◌≡◌, ℕ, IfOk, Result, OnErr, length};
+ghost use Rattle.std.specs.Prelude.{◌≡◌, ℕ, IfOk, Result, OnErr, map};
 ghost use Rattle.farm_commands.specs.Runs.{ComesTo, MayComeTo, TellsFault, TellsWords, status_told};
 
 use crate::errors::{say, tell};
@@ -50,7 +50,7 @@ fn answer_words<'a, W: AsStr, F: Source, S: Sink, E: Sink>(
     out: &mut S,
     errors: &mut E,
 ) -> Result<u8, OutsideFault<'a>>
-    ensures answer { ComesTo (length words.entry.now) (F.held source.now) (F.given source.now)
+    ensures answer { ComesTo (map W.text words.entry.now) (F.held source.now) (F.given source.now)
         (S.state out.old) (S.state out.new) result }
     ensures quiet { OnErr result (E.state errors.new ≡ E.state errors.old) }
 {
@@ -74,7 +74,7 @@ fn do_words<'a, R: Threads + Wait + Eprint + Sync, W: AsStr, F: Source, S: Sink,
     out: &mut S,
     errors: &mut E,
 ) -> Result<u8, OutsideFault<'a>>
-    ensures done { MayComeTo (length words.entry.now) (F.held source.now) (F.given source.now)
+    ensures done { MayComeTo (map W.text words.entry.now) (F.held source.now) (F.given source.now)
         (S.state out.old) (S.state out.new) (E.state errors.old) (E.state errors.new) result }
     ensures quiet { OnErr result (E.state errors.new ≡ E.state errors.old) }
 {
@@ -112,7 +112,7 @@ pub fn quiet_words<'a, W: AsStr, F: Source, S: Sink, E: Sink>(
     errors: &mut E,
 ) -> u8
     ensures { (told : Result ℕ OutsideFault) × (result ≡ status_told told)
-        × ComesTo (length words.entry.now) (F.held source.now) (F.given source.now)
+        × ComesTo (map W.text words.entry.now) (F.held source.now) (F.given source.now)
         (S.state out.old) (S.state out.new) told
         × TellsFault (E.state errors.old) (E.state errors.new) told }
 {
@@ -139,7 +139,7 @@ pub fn run_words<'a, R: Threads + Wait + Eprint + Sync, W: AsStr, F: Source, S: 
     errors: &mut E,
 ) -> u8
     ensures { (told : Result ℕ OutsideFault) × (result ≡ status_told told)
-        × MayComeTo (length words.entry.now) (F.held source.now) (F.given source.now)
+        × MayComeTo (map W.text words.entry.now) (F.held source.now) (F.given source.now)
         (S.state out.old) (S.state out.new) (E.state errors.old) (E.state errors.new) told
         × TellsFault (E.state errors.old) (E.state errors.new) told }
 {
