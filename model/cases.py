@@ -212,11 +212,6 @@ def on_certificate(texts, text, question):
     return written if word == "print" else [f"{sum(len(line) + 1 for line in written)} bytes"]
 
 
-def is_fault(line):
-    """Whether an answer tells a fault of a text, which the model does not explain."""
-    return line.startswith(("refused 1", "refused 2", "refused 3")) or '"file":' in line
-
-
 def on_words(machine, question):
     """Answers `run WORDS`, where the words name files that are there; else None."""
     word, *words = question.split(" ")
@@ -249,8 +244,6 @@ def on_words(machine, question):
             if schedule is None or more is None:
                 return None
         written, status = answer(words[0], dict(zip(FILES, (files[path] for path in paths))), more)
-        if words[0] == "explain" and is_fault(written[0]):
-            return None
     return [f"status {status}", *(f"| {line}" for line in written)]
 
 

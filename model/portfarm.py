@@ -8,8 +8,7 @@
   model/portfarm.py step --schedule LIST|@FILE PACKAGES SOURCES FARM PLAN
   model/portfarm.py                   the verdict on the four texts of standard input, divided by lines `%%`
 
-It is slow, it shares no code with the crates, and the texts of wrong words are its own. Of a fault of a text `explain`
-tells the line alone; as JSON the members of the verdict alone.
+It is slow, it shares no code with the crates, and the texts of wrong words are its own.
 """
 
 import sys
@@ -18,6 +17,7 @@ import certificates
 from core import step
 from explain import left_lines, stuck_lines, unsafe_lines, waits_lines
 from farm_warnings import warnings
+from fault_notes import fault_lines
 from json_answers import json_line, lines_of, verdict_members
 from plans import listing, numbered, read_plan
 from texts import DIGITS, FILES, Fault
@@ -75,14 +75,23 @@ def why(universe, plan, rows, written, accepts):
     return stuck_lines(universe, plan) if written[0].startswith("refused 402") else list(unsafe_lines(universe, rows))
 
 
+def refused(command, texts, more, fault):
+    """What a command writes of a fault of a text."""
+    written = [f"refused {fault.code} {fault.file} line {fault.line}"]
+    notes = list(fault_lines(texts, fault)) if command == "explain" else []
+    if more != "--json":
+        return [*written, *notes]
+    told = {"why": lines_of(notes), "warnings": []} if command == "explain" else {}
+    return [json_line(verdict_members(written) | told)]
+
+
 def answer(command, texts, more=None):
     """The lines that a command writes, and its status."""
     try:
         universe = read_universe(texts)
         plan = read_plan(universe, texts["plan"])
     except Fault as fault:
-        written = [f"refused {fault.code} {fault.file} line {fault.line}"]
-        return [json_line(verdict_members(written))] if more == "--json" else written, 1
+        return refused(command, texts, more, fault), 1
     if command == "list" and more == "--number":
         return [numbered_line(*found) for found in numbered(plan)], 0
     if command == "list":

@@ -14,11 +14,11 @@ FILES = ["packages", "sources", "farm", "plan"]
 
 
 class Fault(Exception):
-    """A refusal by number, at a line of one of the four texts (or of the certificate)."""
+    """A refusal by number, at a line of one of the four texts (or of the certificate), and what is said of its item."""
 
-    def __init__(self, code, line=None, file=None):
+    def __init__(self, code, line=None, file=None, about=None):
         super().__init__(code, line, file)
-        self.code, self.line, self.file = code, line, file
+        self.code, self.line, self.file, self.about = code, line, file, about
 
 
 def is_word(text):
@@ -60,14 +60,25 @@ def is_field_name(text):
 
 
 class Paragraph:
-    """The fields of a paragraph, by their names in small letters, and its first line."""
+    """The fields of a paragraph, by their names in small letters, with the lines that they stand at, and its first line."""
 
     def __init__(self, line):
-        self.line, self.fields = line, {}
+        self.line, self.fields, self.places = line, {}, {}
 
     def get(self, name):
         value = self.fields.get(name.lower())
         return None if value is None else "\n".join(value).strip(BLANKS)
+
+    def item_line(self, name, number):
+        """The line at which an item of a list begins, or the field where it has no item."""
+        value = "\n".join(self.fields[name.lower()])
+        starts, at = [], 0
+        for item in value.split(","):
+            if item.strip(BLANKS):
+                starts.append(at + len(item) - len(item.lstrip(BLANKS)))
+            at += len(item) + 1
+        start = starts[number] if starts else 0
+        return self.places[name.lower()][value.count("\n", 0, start)]
 
 
 def paragraphs(text, file):
@@ -84,6 +95,7 @@ def paragraphs(text, file):
             if field is None:
                 raise Fault(101, line, file)
             field.append(content)
+            current.places[key].append(line)
         else:
             name, colon, value = content.partition(":")
             if not colon:
@@ -96,5 +108,6 @@ def paragraphs(text, file):
             key = "".join(chr(ord(byte) + 32) if "A" <= byte <= "Z" else byte for byte in name)
             if key in current.fields:
                 raise Fault(104, line, file)
-            field = current.fields[key] = [value]
+            field, current.places[key] = [value], [line]
+            current.fields[key] = field
     return found

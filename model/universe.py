@@ -95,7 +95,7 @@ def read_universe(texts):
             try:
                 read(universe, paragraph, place)
             except Fault as fault:
-                raise Fault(fault.code, paragraph.line, file) from None
+                raise Fault(fault.code, paragraph.line, file, fault.about) from None
     return universe
 
 
@@ -145,8 +145,10 @@ def read_package(universe, paragraph, _place):
     if len(same) > VARIANTS:
         raise Fault(204)
     universe.entries += sum(map(len, relations.values()))
-    if len(universe.variants) > NAMES or universe.entries > ENTRIES:
-        raise Fault(210)
+    if len(universe.variants) > NAMES:
+        raise Fault(210, about="over the limit of 4,096 names")
+    if universe.entries > ENTRIES:
+        raise Fault(210, about="over the limit of 65,536 relation entries of all packages")
 
 
 def read_source(universe, paragraph, _place):
@@ -159,16 +161,21 @@ def read_source(universe, paragraph, _place):
         raise Fault(203)
     same.append((version, relations))
     if sum(map(len, universe.sources.values())) > SOURCES:
-        raise Fault(210)
+        raise Fault(210, about="over the limit of 4,096 sources")
 
 
-def read_variants(universe, value):
+def item_text(paragraph, field, number, item):
+    """An item of a list, at its own line."""
+    return f"farm line {paragraph.item_line(field, number)}: {item}"
+
+
+def read_variants(universe, paragraph, field):
     """A list of variants: the relation faults of the whole, then 205 and 203 item by item."""
     found = []
-    for [item] in read_field(value, PROVIDE):
+    for number, [item] in enumerate(read_field(paragraph.get(field) or "", PROVIDE)):
         variant = item.version and universe.find(item.name, item.version)
         if variant is None or item.qualifier is not None:
-            raise Fault(205)
+            raise Fault(205, about=item_text(paragraph, field, number, item))
         if variant in found:
             raise Fault(203)
         found.append(variant)
@@ -189,28 +196,31 @@ def read_head(universe, paragraph):
     for variant in universe.all_variants():
         for field, entries in variant.relations.items():
             variant.relations[field] = reduce_field(entries, universe.architectures)
-    universe.archive = read_variants(universe, paragraph.get("Archive") or "")
+    universe.archive = read_variants(universe, paragraph, "Archive")
 
 
 def read_source_item(universe, paragraph):
     """The build relations of a recipe's source."""
     items = read_field(required(paragraph, "Source"), PROVIDE)
+    about = item_text(paragraph, "Source", 0, items[0][0]) if items else None
     if len(items) != 1 or items[0][0].version is None or items[0][0].qualifier is not None:
-        raise Fault(206)
+        raise Fault(206, about=about)
     [[item]] = items
     for version, relations in universe.sources.get(item.name, []):
         if version.compare(item.version) == 0:
             return relations
-    raise Fault(206)
+    raise Fault(206, about=about)
 
 
 def read_outputs(universe, paragraph):
     value = paragraph.get("Outputs")
     if value is None or not read_field(value, PROVIDE):
         raise Fault(208)
-    outputs = read_variants(universe, value)
-    if any(variant in universe.published or variant in universe.archive for variant in outputs):
-        raise Fault(207)
+    outputs = read_variants(universe, paragraph, "Outputs")
+    for number, variant in enumerate(outputs):
+        if variant in universe.published or variant in universe.archive:
+            [item] = read_field(value, PROVIDE)[number]
+            raise Fault(207, about=item_text(paragraph, "Outputs", number, item))
     universe.published |= set(outputs)
     return outputs
 
@@ -239,8 +249,10 @@ def read_recipe(universe, paragraph):
     )
     universe.recipes[name] = Recipe(name, steps, scratch, needs, clashes, outputs)
     universe.build_entries += len(needs) + len(clashes)
-    if len(universe.recipes) > RECIPES or universe.build_entries > ENTRIES:
-        raise Fault(210)
+    if len(universe.recipes) > RECIPES:
+        raise Fault(210, about="over the limit of 1,024 recipes")
+    if universe.build_entries > ENTRIES:
+        raise Fault(210, about="over the limit of 65,536 needs and clashes of all recipes")
 
 
 def read_chroot(universe, paragraph):
@@ -248,12 +260,15 @@ def read_chroot(universe, paragraph):
     if name in universe.chroots:
         raise Fault(203)
     capacity = read_number(required(paragraph, "Capacity"), 999_999_999_999_999)
-    packages = read_variants(universe, paragraph.get("Packages") or "")
-    if not is_settled(packages) or sum(variant.size for variant in packages) > capacity:
-        raise Fault(209)
+    packages = read_variants(universe, paragraph, "Packages")
+    if not is_settled(packages):
+        raise Fault(209, about=unsettled(paragraph, packages))
+    if sum(variant.size for variant in packages) > capacity:
+        line = paragraph.item_line("Capacity", 0)
+        raise Fault(209, about=f"farm line {line}: the packages take more disk space than this")
     universe.chroots[name] = Chroot(name, capacity, packages)
     if len(universe.chroots) > CHROOTS:
-        raise Fault(210)
+        raise Fault(210, about="over the limit of 64 base chroots")
 
 
 def is_settled(packages):
@@ -264,3 +279,26 @@ def is_settled(packages):
     if not all(any(variant.satisfies(entry) for variant in packages) for entry in needs):
         return False
     return not any(one.conflicts(other) or one.breaks(other) for one in packages for other in packages)
+
+
+def unsettled(paragraph, packages):
+    """The first member of a base chroot that keeps it from being settled, and why."""
+    items = [item for [item] in read_field(paragraph.get("Packages"), PROVIDE)]
+
+    def at(number, text):
+        return f"{item_text(paragraph, 'Packages', number, items[number])} {text}"
+
+    for number, variant in enumerate(packages):
+        if any(variant.name == other.name for other in packages[number + 1:]):
+            return at(number, "has another version behind it")
+    for number, variant in enumerate(packages):
+        for field in ("Depends", "Pre-Depends"):
+            for entry in variant.relations[field]:
+                if not any(other.satisfies(entry) for other in packages):
+                    return at(number, f"{field}: {' | '.join(map(str, entry))}")
+    for number, variant in enumerate(packages):
+        for place, other in enumerate(packages):
+            entries = variant.relations["Conflicts"] + variant.relations["Breaks"]
+            if variant.name != other.name and any(other.satisfies(entry) for entry in entries):
+                return at(number, f"excludes {items[place]}")
+    return None
