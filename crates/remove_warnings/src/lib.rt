@@ -6,6 +6,7 @@ mod losing;
 mod notes;
 mod place;
 mod text;
+mod walk;
 mod without;
 
 pub use notes::left_notes;

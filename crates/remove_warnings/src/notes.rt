@@ -3,75 +3,44 @@
 ghost use Rattle.std.specs.Prelude.{◌≡◌, ◌<◌, IfOk, length};
 ghost use Rattle.std.specs.Option.{option_map};
 ghost use Rattle.farm_explain.specs.LaneNotes.{first_hazard};
-ghost use Rattle.plan_model.specs.MayAt.{may_at};
+ghost use Rattle.may_rows.specs.Words.{AreWords, may_of};
 ghost use Rattle.plan_model.specs.Plan as plans;
 ghost use Rattle.plan_model.specs.Plan.{lane};
-ghost use Rattle.plan_model.specs.Sound.{IsInstruction, IsNameSet};
+ghost use Rattle.plan_model.specs.Sound.{IsInstruction};
+ghost use Rattle.plan_verifier.specs.Branch.{IsAt};
 ghost use Rattle.plan_verifier.specs.Stage.{IsStage};
-ghost use Rattle.remove_warnings.specs.Left as left;
 ghost use Rattle.remove_warnings.specs.Lines as spec;
 
 use crate::first::left_unmet;
 use crate::text::push_reason;
-use may_rows::Dependents;
+use crate::walk::go_to;
+use farm_universe::Universe;
+use may_rows::{Dependents, MayHold};
 use plan_asm::{Instruction, Plan};
 use plan_lines::PlanLines;
 use plan_verifier::walk::{walk, walk_to};
-use plan_verifier::{Stage, WalkError};
+use plan_verifier::{LaneMay, Stage, WalkError};
 use refusal_reasons::Reason;
+use sat_rows::Tables;
 use std::alloc::{AllocError, Global};
 use wait_order::KnownWords;
 
-/// The first unpacked variant that a remove of these members at a place may leave with an entry that
-/// is lost.
-fn left_at<K: KnownWords>(
-    alloc: Global,
-    stage: &Stage<'_, K>,
-    dependents: &Dependents,
-    number: usize,
-    place: usize,
-    members: &[u32],
-) -> Result<Option<Reason>, AllocError>
-    requires stage { IsStage stage.now.universe.now stage.now.plan.now.lanes
-        stage.now.tables.now stage.now.outputs.now (K.known stage.now.known.now) }
-    requires dependents { dependents.now ≡ stage.now.universe.now }
-    requires lane { number < length stage.now.plan.now.lanes }
-    requires place { place < length (lane stage.now.plan.now.lanes number).instructions }
-    requires members { IsNameSet stage.now.universe.now members.now }
-    ensures { IfOk result (λ told. told ≡ left.left_unmet stage.now.universe.now members.now
-        (may_at stage.now.universe.now stage.now.plan.now.lanes
-        (K.known stage.now.known.now).rows number place)) }
-{
-    // The walk has come to this place before: it can end for want of memory alone.
-    let Ok(may) = walk_to(alloc, stage, dependents, number, place) else {
-        return Err(AllocError);
-    };
-    left_unmet(stage.universe, stage.tables, &may.here, members)
-}
-
-/// The same of the instruction that is at the place.
-fn left_by<K: KnownWords>(
-    alloc: Global,
-    stage: &Stage<'_, K>,
-    dependents: &Dependents,
-    number: usize,
-    place: usize,
+/// The first unpacked variant that an instruction may leave with an entry that is lost, where it is a
+/// `remove` and this may be held.
+fn left_by(
+    universe: &Universe,
+    tables: &Tables,
+    here: &MayHold,
     instruction: &Instruction,
 ) -> Result<Option<Reason>, AllocError>
-    requires stage { IsStage stage.now.universe.now stage.now.plan.now.lanes
-        stage.now.tables.now stage.now.outputs.now (K.known stage.now.known.now) }
-    requires dependents { dependents.now ≡ stage.now.universe.now }
-    requires lane { number < length stage.now.plan.now.lanes }
-    requires place { place < length (lane stage.now.plan.now.lanes number).instructions }
-    requires instruction { IsInstruction stage.now.universe.now instruction.now }
-    ensures { IfOk result (λ told. told ≡ spec.left_by stage.now.universe.now
-        (may_at stage.now.universe.now stage.now.plan.now.lanes
-        (K.known stage.now.known.now).rows number place) instruction.now) }
+    requires same { tables.now ≡ universe.now }
+    requires words { AreWords universe.now here.now }
+    requires instruction { IsInstruction universe.now instruction.now }
+    ensures { IfOk result (λ told. told ≡ spec.left_by universe.now (may_of here.now)
+        instruction.now) }
 {
     match instruction {
-        Instruction::Remove(members) => {
-            left_at(alloc, stage, dependents, number, place, members.as_slice())
-        }
+        Instruction::Remove(members) => left_unmet(universe, tables, here, members.as_slice()),
         _ => Ok(None),
     }
 }
@@ -84,19 +53,20 @@ fn instruction_at(plan: &Plan, number: usize, place: usize) -> Option<&Instructi
     plan.lane(number).instructions().get(place)
 }
 
-/// What is said of the instruction at a place of a lane.
+/// What is said of the instruction at a place of a lane, where this may be held.
 fn place_note<K: KnownWords>(
     alloc: Global,
     stage: &Stage<'_, K>,
-    dependents: &Dependents,
     lines: &PlanLines,
     number: usize,
     place: usize,
+    may: &LaneMay,
 ) -> Result<Vec<u8>, AllocError>
     requires stage { IsStage stage.now.universe.now stage.now.plan.now.lanes
         stage.now.tables.now stage.now.outputs.now (K.known stage.now.known.now) }
-    requires dependents { dependents.now ≡ stage.now.universe.now }
     requires lane { number < length stage.now.plan.now.lanes }
+    requires at { IsAt stage.now.universe.now stage.now.plan.now.lanes
+        (K.known stage.now.known.now).rows number place may.now }
     ensures { IfOk result (λ text. text.items ≡ spec.place_said stage.now.universe.now
         stage.now.plan.now.lanes (K.known stage.now.known.now).rows lines.now.lanes number place) }
 {
@@ -104,7 +74,7 @@ fn place_note<K: KnownWords>(
     let Some(instruction) = instruction_at(stage.plan, number, place) else {
         return Ok(text);
     };
-    let told = left_by(alloc, stage, dependents, number, place, instruction)?;
+    let told = left_by(stage.universe, stage.tables, &may.here, instruction)?;
     let origin = lines.origin(number, place);
     push_reason(&mut text, stage.universe, origin, told)?;
     Ok(text)
@@ -133,6 +103,27 @@ fn looked_at<K: KnownWords>(
     }
 }
 
+/// What may be held ahead of a lane's first instruction.
+fn first_held<K: KnownWords>(
+    alloc: Global,
+    stage: &Stage<'_, K>,
+    dependents: &Dependents,
+    number: usize,
+) -> Result<LaneMay, AllocError>
+    requires stage { IsStage stage.now.universe.now stage.now.plan.now.lanes
+        stage.now.tables.now stage.now.outputs.now (K.known stage.now.known.now) }
+    requires dependents { dependents.now ≡ stage.now.universe.now }
+    requires lane { number < length stage.now.plan.now.lanes }
+    ensures { IfOk result (λ may. IsAt stage.now.universe.now stage.now.plan.now.lanes
+        (K.known stage.now.known.now).rows number 0 may) }
+{
+    // Ahead of the first instruction it can end for want of memory alone.
+    match walk_to(alloc, stage, dependents, number, 0) {
+        Ok(may) => Ok(may),
+        Err(_) => Err(AllocError),
+    }
+}
+
 /// What is said of a lane.
 fn lane_note<K: KnownWords>(
     alloc: Global,
@@ -150,8 +141,10 @@ fn lane_note<K: KnownWords>(
 {
     let mut text = Vec::new(alloc);
     let count = looked_at(alloc, stage, dependents, number)?;
+    let mut may = first_held(alloc, stage, dependents, number)?;
     for place in 0..count {
-        let note = place_note(alloc, stage, dependents, lines, number, place)?;
+        go_to(stage, dependents, number, place, &mut may)?;
+        let note = place_note(alloc, stage, lines, number, place, &may)?;
         text.extend_from_slice(&note)?;
     }
     Ok(text)
