@@ -1,4 +1,4 @@
-//! One step of the walk over a lane.
+//! One step of the walk over a lane, as in plan_verifier, which has no public call for one.
 
 ghost use Rattle.std.specs.Prelude.{◌≡◌, ◌<◌, ◌≤◌, ◌+◌, ◌-◌, ℕ, true, Some, OnOk, length};
 ghost use Rattle.clause_kernel.specs.Rows.{word_has};
