@@ -15,6 +15,3 @@ pub use causes::{Cause, unsettled_cause};
 pub use items::{first_taken, first_unknown, item_variant};
 pub use limits::index_note;
 pub use lines::item_line;
-
-#[cfg(test)]
-mod tests;

@@ -14,6 +14,3 @@ pub use laws::lines_say;
 pub use numbered::numbered_listing;
 pub use origin::Origin;
 pub use plan_lines::PlanLines;
-
-#[cfg(test)]
-mod tests;
