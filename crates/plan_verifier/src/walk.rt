@@ -167,8 +167,13 @@ fn end_branch<K: KnownWords>(
     }
 }
 
-/// Goes on by the instruction at a place of a lane.
-fn advance<K: KnownWords>(
+/// Goes on by the instruction at a place of a lane, over what its chroot may hold there.
+///
+/// # Errors
+///
+/// [`WalkError::Unsafe`] where the instruction may meet a trap, [`WalkError::Uneven`] where it ends branches
+/// that part, and [`WalkError::Memory`] where memory is refused.
+pub fn advance<K: KnownWords>(
     stage: &Stage<'_, K>,
     dependents: &Dependents,
     number: usize,
