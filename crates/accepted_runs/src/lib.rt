@@ -2,7 +2,5 @@
 #![tactic(auto)]
 
 mod schedule;
-#[cfg(test)]
-mod tests;
 
 pub use schedule::accepted_schedule;

@@ -13,6 +13,3 @@ pub use looks::{Look, is_looked_at, look_of};
 pub use notes::write_fault_note;
 pub use places::{file_name, line_at};
 pub use sentences::sentence;
-
-#[cfg(test)]
-mod tests;

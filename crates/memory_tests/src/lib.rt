@@ -1,5 +1,6 @@
-//! What no table can ask of the layers below: what they answer where memory is refused, and that a
-//! paragraph of many fields is read in no more time than its length takes.
+//! What no table can ask of the layers below: what they answer where memory is refused, that a
+//! paragraph of many fields is read in no more time than its length takes, and what becomes of texts
+//! that are written to writers that fail.
 #![tactic(auto)]
 
 #[cfg(test)]
@@ -8,3 +9,5 @@ mod debian_layers;
 mod long_texts;
 #[cfg(test)]
 mod rows;
+#[cfg(test)]
+mod sinks;

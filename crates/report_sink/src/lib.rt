@@ -10,6 +10,3 @@ pub use failures::{SinkFailed, WRITE_FAILED, WriteFailed};
 pub use sink::{Sink, whether_written};
 pub use texts::{write_pieces, write_text};
 pub use write_sink::WriteSink;
-
-#[cfg(test)]
-mod tests;

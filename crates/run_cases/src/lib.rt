@@ -1,5 +1,5 @@
-//! Tests of whole runs, over one archive: a thread for each lane of a plan and a gate, or lanes
-//! that take turns in one thread.
+//! Tests of whole runs, over one archive: a thread for each lane of a plan and a gate, lanes that take
+//! turns in one thread, or a schedule.
 #![tactic(auto)]
 
 #[cfg(test)]
@@ -10,6 +10,8 @@ mod in_turns;
 mod many_lanes;
 #[cfg(test)]
 mod patience;
+#[cfg(test)]
+mod schedule;
 #[cfg(test)]
 mod tests;
 #[cfg(test)]

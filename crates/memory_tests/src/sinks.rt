@@ -1,6 +1,8 @@
 //! What becomes of texts that are written to writers that fail, and to slow ones.
 
-use crate::{Sink, SinkFailed, WRITE_FAILED, WriteFailed, WriteSink, write_pieces, write_text};
+use report_sink::{
+    Sink, SinkFailed, WRITE_FAILED, WriteFailed, WriteSink, write_pieces, write_text,
+};
 use std::alloc::{AllocError, Global};
 use std::io::{self, ErrorKind, Write};
 
