@@ -47,8 +47,11 @@ impl Draft {
         ensures fit { IsFit self.new }
         ensures bytes { self.new.table.bytes.items ≡ self.old.table.bytes.items }
     {
-        self.is_open = false;
-        self.names = BTreeSet::new(alloc);
+        // Of the lines that separate, the first one alone changes something.
+        if self.is_open {
+            self.is_open = false;
+            self.names = BTreeSet::new(alloc);
+        }
     }
 
     /// Takes a line that continues.

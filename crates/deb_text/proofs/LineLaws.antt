@@ -1,5 +1,5 @@
 -- The first line of a text, and the lines behind it.
-use Rattle.std.proofs.Common.{◌≡◌, ℕ, ◌+◌, ◌-◌, Bool, true, false, Some, None, take, drop, List, [], ◌∷◌, length, refl, ◌∙◌, arith}
+use Rattle.std.proofs.Common.{◌≡◌, ℕ, ◌+◌, ◌-◌, Bool, true, false, Some, None, take, drop, slice_index_or, List, [], ◌∷◌, length, refl, ◌∙◌, arith}
 use Rattle.std.proofs.lemmas.Grind.{common_steps}
 use Rattle.memchr.specs.Find.{IsFirstByte}
 use Rattle.deb_text.specs.Bytes.{is_newline}
@@ -26,6 +26,14 @@ lines_of-nil = refl
 pub lines_of-empty : (text : List ℕ) → length text ≡ 0 → lines_of text ≡ []
 lines_of-empty [] e = lines_of-nil
 lines_of-empty (b ∷ bs) e = absurd (omega arith)
+
+-- a text that begins with a newline has an empty first line
+pub line_empty : (text : List ℕ) → (length text ≡ 0 → ⊥)
+    → slice_index_or text 0 0 ≡ 10
+    → lines_of text ≡ [] ∷ lines_of (take (length text - 1) (drop 1 text))
+unfolding lines_of
+line_empty [] some is = absurd (some refl)
+line_empty (b ∷ bs) some is = rw (from-drop (b ∷ bs) 1, is) refl
 
 pub line_found : (text : List ℕ) (k : ℕ) → IsFirstByte is_newline text (Some k)
     → (length text ≡ 0 → ⊥)

@@ -23,6 +23,10 @@ pub fn next_line(text: &[u8]) -> Option<(&[u8], &[u8])>
     if text.is_empty() {
         return None;
     }
+    // An empty line needs no search.
+    if text[0] == b'\n' {
+        return Some((&text[..0], &text[1..]));
+    }
     match memchr(b'\n', text) {
         Some(end) => Some((&text[..end], &text[end + 1..])),
         None => Some((text, &text[text.len()..])),
