@@ -1,6 +1,6 @@
 use Rattle.std.proofs.Common.{◌≡◌, ◌+◌, [], ◌∷◌, ◌++◌, length, get_or, sym, ap, subst, ◌∙◌, arith}
+use Rattle.plan_model.specs.Plan.{lane, lane_outputs}
 use Rattle.std.proofs.lemmas.Option.{slice_get-get_or}
-use Rattle.clock_laws.specs.Clocks.{lane_made}
 use Rattle.wait_order.specs.Outputs.{AreTotals}
 use Rattle.wait_order.proofs.Sources.{outs-long}
 use Rattle.wait_order.proofs.TotalLaws.{totals_next}
@@ -13,7 +13,7 @@ loop-number-preserved c =
     let n = c.loop-number.number in
     let lanes = c.args.lanes.now in
     let of = get_or lanes n c.index-lanes-number.result in
-    let made : length of.outputs.items ≡ length (lane_made u p n) =
+    let made : length of.outputs.items ≡ length (lane_outputs u (lane p n)) =
     outs-long u p n of.outputs.items
     (c.requires.each n of (slice_get-get_or lanes n c.index-lanes-number.result c.loop-number-test.true)) in
     let before = c.loop-number.totals.items in

@@ -1,7 +1,7 @@
 use Rattle.std.proofs.Common.{◌≡◌, ◌==◌, ◌<◌, ◌≤◌, length, get_or, refl, sym, subst, ◌∙◌, arith}
+use Rattle.plan_model.specs.Plan.{lane, outputs_before}
 use Rattle.std.proofs.lemmas.Bool.{ne_eqb}
 use Rattle.std.proofs.lemmas.List.{get_or_default}
-use Rattle.clock_laws.specs.Clocks.{count_before}
 use Rattle.std.specs.Prelude.{if◌then◌else◌}
 use Rattle.std.proofs.lemmas.Option.{slice_get-get_or}
 use Rattle.wait_order.specs.Hits.{IsFirst}
@@ -36,7 +36,8 @@ loop-number-preserved c =
     c.as_slice-outputs.ensures.value ∙ c.requires.supply.lanes_are.each h of
     (slice_get-get_or lanes h c.index-lanes-number.result c.loop-number-test.true) in
     let lt : h < length p = omega (arith, c.loop-number-test.true, c.requires.supply.lanes_are.long) in
-    let limit : length outs ≡ (if h == length p then count_before u p (length p) 0 else length outs) =
+    let limit : length outs
+    ≡ (if h == length p then outputs_before u (lane p (length p)) 0 0 else length outs) =
     rw (ne_eqb h (length p) (λ same. absurd (omega (arith, same, lt)))) refl in
     λ test row_is. pushed u p h outs are c.requires.supply.sound.universe (length p) 0 test c.args.row.now
     row_is lt (length outs) limit c.loop-number.sources.items c.push_hit.new.sources.items
