@@ -9,10 +9,13 @@ use Rattle.wait_order.proofs.HitLaws.{lanes_known}
 use Rattle.wait_order.proofs.Sources.{pushed, all_sources}
 use Rattle.wait_order.proofs.points.sources_of.Goals as goal
 
-pub first_hits-requires-clause-known : goal.first_hits-requires-clause-known
-first_hits-requires-clause-known c =
-    lanes_known c.args.supply.universe.now c.args.supply.plan.now.lanes c.args.supply.lanes.now c.requires.supply.lanes_are
-    c.requires.supply.sound.universe
+pub invariant_of-known : goal.invariant_of-known
+invariant_of-known c =
+    record {
+      sound = c.requires.supply.sound.universe;
+      known = lanes_known c.args.supply.universe.now c.args.supply.plan.now.lanes
+          c.args.supply.lanes.now c.requires.supply.lanes_are c.requires.supply.sound.universe;
+    }
 
 pub loop-number-preserved : goal.loop-number-preserved
 loop-number-preserved c =
