@@ -53,7 +53,7 @@ pub enum CertFault {
     /// This item of the order cannot step, or is missing.
     #[error("item {item} of the order cannot step")]
     Order {
-        item: u32,
+        item: u64,
     },
     /// Memory ran out.
     #[error("out of memory")]

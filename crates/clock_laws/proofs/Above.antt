@@ -1,5 +1,5 @@
 -- Rows that keep to the rules have clocks that do.
-use Rattle.std.proofs.Common.{◌≡◌, ◌⊎◌, inl, inr, ℕ, zero, suc, ◌+◌, ◌<◌, ◌≤◌, max, cond, Bool, true, false, ◌==◌, List, [], ◌∷◌, length, take, get_or, Some, slice_get, refl, sym, ap, subst, ◌∙◌, arith}
+use Rattle.std.proofs.Common.{◌≡◌, ◌⊎◌, inl, inr, ℕ, zero, suc, ◌<◌, ◌≤◌, max, cond, Bool, true, false, ◌==◌, List, [], ◌∷◌, length, take, get_or, Some, slice_get, refl, sym, ap, subst, ◌∙◌, arith}
 use Rattle.std.specs.Prelude.{if◌then◌else◌}
 use Rattle.std.specs.List.{list_any}
 use Rattle.std.proofs.lemmas.List.{take_all}
@@ -12,11 +12,12 @@ use Rattle.farm_model.specs.Universe.{Universe}
 use Rattle.farm_model.specs.Packages.{same, contains, initial, outputs}
 use Rattle.plan_model.specs.declared.instructions.Instruction.{Instruction}
 use Rattle.plan_model.specs.declared.instructions.Instruction.TheVariants.{Publish, Wait, When}
-use Rattle.plan_model.specs.Plan.{Plan, lane, instruction_at, outputs_of}
+use Rattle.plan_model.specs.Plan.{Plan, lane, instruction_at, outputs_of, lane_outputs, outputs_before}
 use Rattle.plan_model.specs.Known.{Rows, gives, within_reach, possible, IsFact, Adds, row_before, KeepsRows}
 use Rattle.farm_model.proofs.BelowLaws.{some_below-at, some_below-found, greatest_below-at}
 use Rattle.farm_laws.proofs.Archive.{same-true, list_any-some, list_any-take}
-use Rattle.clock_laws.specs.Clocks.{made, lane_made, count_before, Clocks, clock_rows, Leads, HasUniqueOutputs, Learns, AreKnown, clocks_of, RowsHaveClocks}
+use Rattle.clock_laws.specs.Clocks.{Clocks, clock_rows, Leads, HasUniqueOutputs, Learns, AreKnown, clocks_of, RowsHaveClocks}
+use Rattle.clock_laws.proofs.Made.{made}
 use Rattle.verdict_laws.proofs.Unions.{known_are_possible}
 use Rattle.clock_laws.proofs.Sets.{no_variant, take-found, take-at, take-into, take-made, some_below_length}
 
@@ -51,7 +52,6 @@ greatest_below-few (suc n) p = by (cases_Bool (p n)) (greatest_below-few n p)
 -- an instruction that gives a variant makes it
 gives-made : (u : Universe) (v : Variant) (is : List Instruction)
     → list_any (gives u v) is ≡ true → contains (made u is) v ≡ true
-unfolding made
 gives-made u v [] e = absurd (false≢true e)
 gives-made u v (x ∷ xs) e =
     list_any-append (λ w. same w v) (outputs_of u x) (made u xs)
@@ -65,7 +65,7 @@ gives-made u v (x ∷ xs) e =
 module _ (u : Universe) (p : Plan) (rows : Rows) (unique : HasUniqueOutputs u p)
     (keeps : KeepsRows u p rows) where
   abbrev outs : ℕ → List Variant
-  outs j = lane_made u p j
+  outs j = lane_outputs u (lane p j)
 
   abbrev out : ℕ → ℕ → Variant
   out j n = get_or (outs j) n no_variant
@@ -96,7 +96,7 @@ module _ (u : Universe) (p : Plan) (rows : Rows) (unique : HasUniqueOutputs u p)
 
   -- a lane's own outputs that are possible are made before
   own_before : (l i m : ℕ) → l < length p → m < length (outs l)
-      → possible u p l i (out l m) ≡ true → m < count_before u p l i
+      → possible u p l i (out l m) ≡ true → m < outputs_before u (lane p l) i 0
   unfolding possible
   own_before l i m lt m_lt e =
       elim (or_cases (initial u (out l m)) _ e) [
@@ -106,12 +106,13 @@ module _ (u : Universe) (p : Plan) (rows : Rows) (unique : HasUniqueOutputs u p)
       ]
     where
       by : (h : ℕ) → h < length p → list_any (gives u (out l m)) (within_reach p l i h) ≡ true
-          → (h ≡ l) ⊎ (h ≡ l → ⊥) → m < count_before u p l i
+          → (h ≡ l) ⊎ (h ≡ l → ⊥) → m < outputs_before u (lane p l) i 0
       by h h_lt g (inl is) =
           let g1 : list_any (gives u (out l m)) (take i (lane p l).instructions) ≡ true = rw
           (eq-eqb l l refl) at (subst (λ k. list_any (gives u (out l m))
           (within_reach p l i k) ≡ true) is g) in
-          let t = take-found (count_before u p l i) (outs l) (out l m) (ap (λ xs. contains xs
+          let count = length (made u (take i (lane p l).instructions)) in
+          let t = take-found count (outs l) (out l m) (ap (λ xs. contains xs
           (out l m)) (take-made u (lane p l).instructions i)
           ∙ gives-made u (out l m) (take i (lane p l).instructions) g1) in
           let q = placed l m l t.0 lt lt m_lt t.2 t.3 in omega (arith, t.1, q.1)
@@ -138,7 +139,7 @@ module _ (u : Universe) (p : Plan) (rows : Rows) (unique : HasUniqueOutputs u p)
       by : (h k r b : ℕ) → h < length p → instruction_at p h k ≡ Some (Publish r)
           → slice_get (outputs u r) b ≡ Some c → (h ≡ j) ⊎ (h ≡ j → ⊥)
           → (rows h k (out j m) ≡ true) ⊎ (contains (take (suc b) (outputs u r))
-          (out j m) ≡ true) → n < (if h == j then count_before u p j k + suc b else x h k j)
+          (out j m) ≡ true) → n < (if h == j then outputs_before u (lane p j) k (suc b) else x h k j)
       by h k r b h_lt at o (inl is) (inl row) =
           let row1 : rows j k (out j m) ≡ true = subst (λ g. rows g k (out j m) ≡ true) is row in
           let at1 = slice_get_within (lane p h).instructions k (Publish r) at in
@@ -149,14 +150,14 @@ module _ (u : Universe) (p : Plan) (rows : Rows) (unique : HasUniqueOutputs u p)
       by h k r b h_lt at o (inr other) (inl row) = rw (ne_eqb h j other) (omega
           (arith, at_least h k j m m_lt row))
       by h k r b h_lt at o both (inr new) =
-          let t = take-found (count_before u p h k + suc b) (outs h) (out j m)
+          let t = take-found (outputs_before u (lane p h) k (suc b)) (outs h) (out j m)
           (ap (λ xs. contains xs (out j m)) (take-into u (lane p h).instructions k r (suc b) at
           (some_below_length (outputs u r) b c o))
           ∙ list_any-append (λ w. same w (out j m)) (made u (take k (lane p h).instructions))
           (take (suc b) (outputs u r)) ∙ or_right _ _ new) in
           let q = placed j m h t.0 lt h_lt m_lt t.2 t.3 in
-          let f : t.0 < count_before u p j k + suc b = subst
-          (λ g. t.0 < count_before u p g k + suc b) q.0 t.1 in
+          let f : t.0 < outputs_before u (lane p j) k (suc b) = subst
+          (λ g. t.0 < outputs_before u (lane p g) k (suc b)) q.0 t.1 in
           rw (eq-eqb h j q.0) (omega (arith, f, q.1))
 
   learns : (l i j n m : ℕ) (y : Instruction) → l < length p → j < length p → (j ≡ l → ⊥)
@@ -194,10 +195,10 @@ module _ (u : Universe) (p : Plan) (rows : Rows) (unique : HasUniqueOutputs u p)
           ]
 
       own : (l i : ℕ) → l < length p → i ≤ length (lane p l).instructions
-          → x l i l ≤ count_before u p l i
+          → x l i l ≤ outputs_before u (lane p l) i 0
       own l i lt le =
-          elim (cases_lt (count_before u p l i) (x l i l)) [
-            | inl more ↦ let f = found l i l (count_before u p l i) more in
+          elim (cases_lt (outputs_before u (lane p l) i 0) (x l i l)) [
+            | inl more ↦ let f = found l i l (outputs_before u (lane p l) i 0) more in
                 let b = own_before l i f.0 lt f.1 (known_possible l i (out l f.0) lt le f.2) in
                 absurd (omega (arith, b, f.3))
             | inr few ↦ few

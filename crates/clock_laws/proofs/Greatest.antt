@@ -5,8 +5,8 @@ use Rattle.farm_model.specs.declared.types.Variant.{Variant}
 use Rattle.farm_model.specs.Universe.{Universe}
 use Rattle.farm_model.specs.Packages.{contains, initial}
 use Rattle.farm_model.proofs.BelowLaws.{some_below-at, some_below-found}
-use Rattle.plan_model.specs.Plan.{Plan}
-use Rattle.clock_laws.specs.Clocks.{lane_made, Clocks, clock_rows, clocks_of, GreatestClocksAreGreatest}
+use Rattle.plan_model.specs.Plan.{Plan, lane, lane_outputs}
+use Rattle.clock_laws.specs.Clocks.{Clocks, clock_rows, clocks_of, GreatestClocksAreGreatest}
 use Rattle.clock_laws.proofs.Sets.{take-found, take-at, clocks_keep_rows}
 use Rattle.clock_laws.proofs.Above.{rows_have_clocks}
 use Rattle.clock_laws.proofs.Unique.{outputs_are_unique}
@@ -20,11 +20,11 @@ clock_rows-mono u p y x l i v le e =
       | inl is ↦ or_left (initial u v) _ is
       | inr some ↦
           let f =
-          some_below-found (length p) (λ j. contains (take (y l i j) (lane_made u p j)) v) some in
-          let t = take-found (y l i f.0) (lane_made u p f.0) v f.2 in
+          some_below-found (length p) (λ j. contains (take (y l i j) (lane_outputs u (lane p j))) v) some in
+          let t = take-found (y l i f.0) (lane_outputs u (lane p f.0)) v f.2 in
           or_right (initial u v) _
-          (some_below-at (length p) (λ j. contains (take (x l i j) (lane_made u p j)) v) f.0 f.1
-          (take-at (x l i f.0) (lane_made u p f.0) v t.0 (omega (arith, t.1, le f.0 f.1)) t.2 t.3))
+          (some_below-at (length p) (λ j. contains (take (x l i j) (lane_outputs u (lane p j))) v) f.0 f.1
+          (take-at (x l i f.0) (lane_outputs u (lane p f.0)) v t.0 (omega (arith, t.1, le f.0 f.1)) t.2 t.3))
     ]
 
 pub greatest_clocks_are_greatest : GreatestClocksAreGreatest

@@ -1,3 +1,4 @@
+pub mod Made
 pub mod Sets
 pub mod Above
 pub mod Unique

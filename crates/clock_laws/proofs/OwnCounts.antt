@@ -10,7 +10,7 @@ use Rattle.plan_model.specs.declared.instructions.Instruction.TheVariants.{Publi
 use Rattle.plan_model.specs.Branches.{Side, Outside, InFirst, InSecond, second_of, side_behind, side_behind_some, side_at, home, may_stand, IsBranched}
 use Rattle.plan_model.specs.Plan.{outputs_of}
 use Rattle.farm_laws.proofs.Archive.{take_some}
-use Rattle.clock_laws.specs.Clocks.{made}
+use Rattle.clock_laws.proofs.Made.{made}
 
 module _ (u : Universe) (xs : List Instruction) (branched : IsBranched xs) where
   -- so many outputs are made
@@ -20,7 +20,6 @@ module _ (u : Universe) (xs : List Instruction) (branched : IsBranched xs) where
   -- an instruction that makes nothing
   pub made-same : (k : ℕ) (x : Instruction) → slice_get xs k ≡ Some x → outputs_of u x ≡ []
       → made_at (suc k) ≡ made_at k
-  unfolding made
   made-same k x e none =
       ap length (ap (made u) (take_some xs k x e)
       ∙ flat_map-append (outputs_of u) (take k xs) (x ∷ [])

@@ -13,11 +13,12 @@ use Rattle.farm_model.specs.Universe.{Universe}
 use Rattle.farm_model.specs.Packages.{same, contains, initial, outputs}
 use Rattle.plan_model.specs.declared.instructions.Instruction.{Instruction}
 use Rattle.plan_model.specs.declared.instructions.Instruction.TheVariants.{Publish, Wait, When}
-use Rattle.plan_model.specs.Plan.{Plan, lane, instruction_at, outputs_of}
+use Rattle.plan_model.specs.Plan.{Plan, lane, instruction_at, outputs_of, lane_outputs, outputs_before}
 use Rattle.plan_model.specs.Known.{gives, within_reach, possible, IsFact, Adds, row_before, KeepsRows}
 use Rattle.farm_model.proofs.BelowLaws.{some_below-at, some_below-found}
 use Rattle.farm_laws.proofs.Archive.{take_some}
-use Rattle.clock_laws.specs.Clocks.{made, lane_made, count_before, Clocks, clock_rows, Leads, ClockAdds, KeepsClocks, ClocksKeepRows}
+use Rattle.clock_laws.specs.Clocks.{Clocks, clock_rows, Leads, ClockAdds, KeepsClocks, ClocksKeepRows}
+use Rattle.clock_laws.proofs.Made.{made}
 
 abbrev pub no_variant : Variant
 no_variant = record { name = 0; bit = 0 }
@@ -43,7 +44,6 @@ take-at (suc k) (x ∷ xs) v (suc n) lt in_xs e = or_right (same x v) _ (take-at
     (omega arith) (omega arith) e)
 
 made-append : (u : Universe) (xs ys : List Instruction) → made u (xs ++ ys) ≡ made u xs ++ made u ys
-unfolding made
 made-append u xs ys = flat_map-append (outputs_of u) xs ys
 
 pub made-take : (u : Universe) (is : List Instruction) (k : ℕ)
@@ -57,7 +57,6 @@ take-made u is k = ap (take (length (made u (take k is)))) (made-take u is k)
     ∙ take-append_seam (made u (take k is)) (made u (drop k is))
 
 made-one : (u : Universe) (r : ℕ) → made u (Publish r ∷ []) ≡ outputs u r ++ []
-unfolding made
 made-one u r = refl
 
 pub made-publish : (u : Universe) (is : List Instruction) (k r : ℕ)
@@ -70,7 +69,6 @@ made-publish u is k r e = ap (made u) (take_some is k (Publish r) e)
 -- what is made is given by an instruction
 made-gives : (u : Universe) (v : Variant) (is : List Instruction) → contains (made u is) v ≡ true
     → list_any (gives u v) is ≡ true
-unfolding made
 made-gives u v [] e = absurd (false≢true e)
 made-gives u v (x ∷ xs) e =
     elim (or_cases (contains (outputs_of u x) v) _ (sym (list_any-append (λ w. same w v)
@@ -102,27 +100,29 @@ some_below_length (x ∷ xs) (suc m) c e = let r = some_below_length xs m c e in
 
 module _ (u : Universe) (p : Plan) (x : Clocks) (keeps : KeepsClocks u p x) where
   in_rows : (l i j n : ℕ) (v : Variant) → j < length p → n < x l i j
-      → n < length (lane_made u p j) → same (get_or (lane_made u p j) n no_variant) v ≡ true
+      → n < length (lane_outputs u (lane p j))
+      → same (get_or (lane_outputs u (lane p j)) n no_variant) v ≡ true
       → clock_rows u p x l i v ≡ true
   in_rows l i j n v lt n_lt in_made e =
       or_right (initial u v) _ (some_below-at (length p) (λ j. contains (take (x l i j)
-      (lane_made u p j)) v) j lt (take-at (x l i j) (lane_made u p j) v n n_lt in_made e))
+      (lane_outputs u (lane p j))) v) j lt (take-at (x l i j) (lane_outputs u (lane p j)) v n n_lt in_made e))
 
   -- an output of the lane's own, up to the end of a publish: of an earlier one, or of this
   own_output : (j k r b n : ℕ) (v : Variant) → j < length p
       → instruction_at p j k ≡ Some (Publish r) → b ≤ length (outputs u r)
-      → n < count_before u p j k + b
-      → n < length (lane_made u p j) → same (get_or (lane_made u p j) n no_variant) v ≡ true
+      → n < outputs_before u (lane p j) k b
+      → n < length (lane_outputs u (lane p j))
+      → same (get_or (lane_outputs u (lane p j)) n no_variant) v ≡ true
       → (clock_rows u p x j k v ≡ true) ⊎ (contains (take b (outputs u r)) v ≡ true)
   own_output j k r b n v lt at le n_lt in_made e =
       let is = (lane p j).instructions in
       let first : contains (made u (take k is) ++ take b (outputs u r)) v ≡ true = ap
       (λ xs. contains xs v) (sym (take-into u is k r b at le))
-      ∙ take-at (count_before u p j k + b) (made u is) v n n_lt in_made e in
+      ∙ take-at (outputs_before u (lane p j) k b) (made u is) v n n_lt in_made e in
       elim (or_cases (contains (made u (take k is)) v) _ (sym (list_any-append (λ w. same w v)
       (made u (take k is)) (take b (outputs u r))) ∙ first)) [
         | inl old ↦
-            let t = take-found (count_before u p j k) (made u is) v (ap (λ xs. contains xs v)
+            let t = take-found (length (made u (take k is))) (made u is) v (ap (λ xs. contains xs v)
             (take-made u is k) ∙ old) in
             inl (in_rows j k j t.0 v lt (omega (
               arith,
@@ -134,12 +134,13 @@ module _ (u : Universe) (p : Plan) (x : Clocks) (keeps : KeepsClocks u p x) wher
       ]
 
   own_publish : (l i r n : ℕ) (v : Variant) → l < length p
-      → instruction_at p l i ≡ Some (Publish r) → n < count_before u p l (suc i)
-      → n < length (lane_made u p l) → same (get_or (lane_made u p l) n no_variant) v ≡ true
+      → instruction_at p l i ≡ Some (Publish r) → n < outputs_before u (lane p l) (suc i) 0
+      → n < length (lane_outputs u (lane p l))
+      → same (get_or (lane_outputs u (lane p l)) n no_variant) v ≡ true
       → (clock_rows u p x l i v ≡ true) ⊎ (contains (outputs u r) v ≡ true)
   own_publish l i r n v lt at n_lt in_made e =
       let is = (lane p l).instructions in
-      let long : count_before u p l (suc i) ≡ count_before u p l i + length (outputs u r) =
+      let long : length (made u (take (suc i) is)) ≡ length (made u (take i is)) + length (outputs u r) =
       ap length (made-publish u is i r at
       ∙ ap (λ xs. made u (take i is) ++ xs) (append-nil (outputs u r)))
       ∙ length-append (made u (take i is)) (outputs u r) in
@@ -151,7 +152,8 @@ module _ (u : Universe) (p : Plan) (x : Clocks) (keeps : KeepsClocks u p x) wher
       ]
 
   follows : (l i j n : ℕ) (c v : Variant) → j < length p → Leads u p x c j n
-      → n < length (lane_made u p j) → same (get_or (lane_made u p j) n no_variant) v ≡ true
+      → n < length (lane_outputs u (lane p j))
+      → same (get_or (lane_outputs u (lane p j)) n no_variant) v ≡ true
       → IsFact u p (clock_rows u p x) c v
   follows l i j n c v lt leads in_made e =
       record {
@@ -163,34 +165,36 @@ module _ (u : Universe) (p : Plan) (x : Clocks) (keeps : KeepsClocks u p x) wher
     where
       by : (h k r m : ℕ) → h < length p → instruction_at p h k ≡ Some (Publish r)
           → slice_get (outputs u r) m ≡ Some c → (h ≡ j) ⊎ (h ≡ j → ⊥)
-          → n < (if h == j then count_before u p j k + suc m else x h k j)
+          → n < (if h == j then outputs_before u (lane p j) k (suc m) else x h k j)
           → (clock_rows u p x h k v ≡ true) ⊎ (contains (take (suc m) (outputs u r)) v ≡ true)
       by h k r m h_lt at out (inl same_lane) n_lt =
           own_output h k r (suc m) n v h_lt at (some_below_length (outputs u r) m c out) (rw
           (eq-eqb h j same_lane, ← same_lane) at n_lt)
-          (subst (λ g. n < length (lane_made u p g)) (sym same_lane) in_made) (subst (λ g. same
-          (get_or (lane_made u p g) n no_variant) v ≡ true) (sym same_lane) e)
+          (subst (λ g. n < length (lane_outputs u (lane p g))) (sym same_lane) in_made) (subst (λ g. same
+          (get_or (lane_outputs u (lane p g)) n no_variant) v ≡ true) (sym same_lane) e)
       by h k r m h_lt at out (inr other) n_lt = inl (in_rows h k j n v lt (rw
           (ne_eqb h j other) at n_lt) in_made e)
 
   reached : (l i j n : ℕ) (v : Variant) → j < length p → (j ≡ l → ⊥)
-      → n < length (lane_made u p j) → same (get_or (lane_made u p j) n no_variant) v ≡ true
+      → n < length (lane_outputs u (lane p j))
+      → same (get_or (lane_outputs u (lane p j)) n no_variant) v ≡ true
       → possible u p l i v ≡ true
   unfolding possible
   reached l i j n v lt ne in_made e =
       or_right (initial u v) _ (some_below-at (length p) (λ h. list_any (gives u v)
       (within_reach p l i h)) j lt
       (rw (ne_eqb j l ne) (made-gives u v (lane p j).instructions (list_any_at (λ w. same w v)
-      (lane_made u p j) n no_variant in_made e))))
+      (lane_outputs u (lane p j)) n no_variant in_made e))))
 
   adds : (l i j n : ℕ) (v : Variant) (y : Instruction) → l < length p → j < length p
       → instruction_at p l i ≡ Some y → ClockAdds u p x l i j n y
-      → n < length (lane_made u p j) → same (get_or (lane_made u p j) n no_variant) v ≡ true
+      → n < length (lane_outputs u (lane p j))
+      → same (get_or (lane_outputs u (lane p j)) n no_variant) v ≡ true
       → (clock_rows u p x l (row_before p l i y) v ≡ true)
       ⊎ Adds u p (clock_rows u p x) l i v y
   adds l i j n v (Publish r) lt j_lt at a in_made e =
-      own_publish l i r n v lt at a.1 (subst (λ g. n < length (lane_made u p g)) a.0 in_made)
-      (subst (λ g. same (get_or (lane_made u p g) n no_variant) v ≡ true) a.0 e)
+      own_publish l i r n v lt at a.1 (subst (λ g. n < length (lane_outputs u (lane p g))) a.0 in_made)
+      (subst (λ g. same (get_or (lane_outputs u (lane p g)) n no_variant) v ≡ true) a.0 e)
   adds l i j n v (Wait entry) lt j_lt at a in_made e = inr (
     reached l i j n v j_lt a.0 in_made e,
     λ c there sat. follows l i j n c v j_lt
@@ -212,8 +216,8 @@ module _ (u : Universe) (p : Plan) (x : Clocks) (keeps : KeepsClocks u p x) wher
           elim (or_cases (initial u v) _ e) [
             | inl is ↦ is
             | inr found ↦ let f = some_below-found (length p) (λ j. contains (take (x l 0 j)
-                (lane_made u p j)) v) found in
-                let t = take-found (x l 0 f.0) (lane_made u p f.0) v f.2 in
+                (lane_outputs u (lane p j))) v) found in
+                let t = take-found (x l 0 f.0) (lane_outputs u (lane p f.0)) v f.2 in
                 absurd (omega (arith, t.1, keeps.at_start l f.0 lt))
           ]
 
@@ -225,8 +229,8 @@ module _ (u : Universe) (p : Plan) (x : Clocks) (keeps : KeepsClocks u p x) wher
           elim (or_cases (initial u v) _ e) [
             | inl is ↦ inl (or_left (initial u v) _ is)
             | inr found ↦ let f = some_below-found (length p) (λ j. contains (take (x l (suc i) j)
-                (lane_made u p j)) v) found in
-                let t = take-found (x l (suc i) f.0) (lane_made u p f.0) v f.2 in
+                (lane_outputs u (lane p j))) v) found in
+                let t = take-found (x l (suc i) f.0) (lane_outputs u (lane p f.0)) v f.2 in
                 elim (keeps.after l i f.0 t.0 y lt f.1 at t.1) [
                   | inl old ↦ inl (in_rows l (row_before p l i y) f.0 t.0 v f.1 old t.2 t.3)
                   | inr new ↦ adds l i f.0 t.0 v y lt f.1 at new t.2 t.3

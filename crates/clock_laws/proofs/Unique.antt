@@ -8,9 +8,10 @@ use Rattle.farm_model.specs.Universe.{Universe}
 use Rattle.farm_model.specs.Packages.{initial, outputs}
 use Rattle.plan_model.specs.declared.instructions.Instruction.{Instruction}
 use Rattle.plan_model.specs.declared.instructions.Instruction.TheVariants.{Publish}
-use Rattle.plan_model.specs.Plan.{Plan, lane}
+use Rattle.plan_model.specs.Plan.{Plan, lane, lane_outputs}
 use Rattle.plan_model.specs.Sound.{IsSound}
-use Rattle.clock_laws.specs.Clocks.{made, lane_made, OutputsAreUnique}
+use Rattle.clock_laws.specs.Clocks.{OutputsAreUnique}
+use Rattle.clock_laws.proofs.Made.{made}
 
 -- an element of two lists, one behind the other
 slice_get-split : {X : Type 0} (xs ys : List X) (n : ℕ)
@@ -49,7 +50,6 @@ behind u x xs n v same at =
 
 pub output_at : (u : Universe) (is : List Instruction) (n : ℕ) (v : Variant)
     → slice_get (made u is) n ≡ Some v → OutputAt u is n v
-unfolding made
 output_at u [] n v e = absurd (none-some v e)
 output_at u (Publish r ∷ xs) n v e =
     elim (slice_get-split (outputs u r) (made u xs) n) [
@@ -78,7 +78,8 @@ output_at u (x ∷ xs) n v e = behind u x xs n v (λ k. refl) (output_at u xs n 
 
 module _ (u : Universe) (p : Plan) (sound : IsSound u p) where
   once : (j h n m : ℕ) (v : Variant) → j < length p → h < length p
-      → slice_get (lane_made u p j) n ≡ Some v → slice_get (lane_made u p h) m ≡ Some v
+      → slice_get (lane_outputs u (lane p j)) n ≡ Some v
+      → slice_get (lane_outputs u (lane p h)) m ≡ Some v
       → (j ≡ h) × (n ≡ m)
   once j h n m v j_lt h_lt first other =
       let a = output_at u (lane p j).instructions n v first in
@@ -96,7 +97,7 @@ module _ (u : Universe) (p : Plan) (sound : IsSound u p) where
             ∙ sym b.counted,
       )
 
-  fresh : (j n : ℕ) (v : Variant) → j < length p → slice_get (lane_made u p j) n ≡ Some v
+  fresh : (j n : ℕ) (v : Variant) → j < length p → slice_get (lane_outputs u (lane p j)) n ≡ Some v
       → initial u v ≡ true → ⊥
   fresh j n v lt at here =
       let a = output_at u (lane p j).instructions n v at in

@@ -2,36 +2,22 @@
 -- a universe, p a plan, l a lane, i a place, j a lane and n the number of one of its outputs, from
 -- 0.
 --
---   made, count_before            the outputs of instructions; how many a lane has made at a place
---   Clocks, clock_rows               how many outputs of each lane are known; the rows of clocks
+--   Clocks, clock_rows            how many outputs of each lane are known; the rows of clocks
 --   KeepsClocks, ClocksKeepRows   clocks that keep to the inclusions; so do their rows
 --   HasUniqueOutputs              each output is made once
 --   OutputsAreUnique              so it is in every sound plan
 --   clocks_of, RowsHaveClocks     the clocks of rows, and what they know
 --   GreatestClocksAreGreatest     the greatest clocks have the greatest rows
-use Rattle.std.specs.Prelude.{◌≡◌, ◌⊎◌, ℕ, suc, ◌+◌, ◌<◌, ◌≤◌, Bool, true, ◌||◌, ◌==◌, List, length, take, Some, slice_get, slice_index_or, if◌then◌else◌}
-use Rattle.std.specs.List.{flat_map}
+use Rattle.std.specs.Prelude.{◌≡◌, ◌⊎◌, ℕ, suc, ◌<◌, ◌≤◌, Bool, true, ◌||◌, ◌==◌, length, take, Some, slice_get, slice_index_or, if◌then◌else◌}
 use Rattle.farm_model.specs.declared.types.Variant.{Variant}
 use Rattle.farm_model.specs.Below.{some_below, greatest_below}
 use Rattle.farm_model.specs.Universe.{Universe}
 use Rattle.farm_model.specs.Packages.{variant, contains, satisfies_entry, initial, outputs}
 use Rattle.plan_model.specs.declared.instructions.Instruction.{Instruction}
 use Rattle.plan_model.specs.declared.instructions.Instruction.TheVariants.{Publish, Wait, When}
-use Rattle.plan_model.specs.Plan.{Plan, lane, instruction_at, outputs_of}
+use Rattle.plan_model.specs.Plan.{Plan, lane, instruction_at, lane_outputs, outputs_before}
 use Rattle.plan_model.specs.Known.{Rows, possible, is_of, row_before, KeepsRows, IsGreatest}
 use Rattle.plan_model.specs.Sound.{IsSound}
-
--- the outputs of instructions, in order
-unfoldable pub made : Universe → List Instruction → List Variant
-made u is = flat_map (outputs_of u) is
-
--- those of a lane
-abbrev pub lane_made : Universe → Plan → ℕ → List Variant
-lane_made u p j = made u (lane p j).instructions
-
--- how many outputs lane j has made after k instructions
-abbrev pub count_before : Universe → Plan → ℕ → ℕ → ℕ
-count_before u p j k = length (made u (take k (lane p j).instructions))
 
 -- how many outputs of lane j are known to lane l at place i
 abbrev pub Clocks : Type 0
@@ -40,14 +26,15 @@ Clocks = ℕ → ℕ → ℕ → ℕ
 -- the initial archive and of each lane so many outputs
 abbrev pub clock_rows : Universe → Plan → Clocks → Rows
 clock_rows u p x l i v =
-    initial u v || some_below (length p) (λ j. contains (take (x l i j) (lane_made u p j)) v)
+    initial u v
+    || some_below (length p) (λ j. contains (take (x l i j) (lane_outputs u (lane p j))) v)
 
 -- output n of lane j is in the archive whenever c is
 pub record Leads (u : Universe) (p : Plan) (x : Clocks) (c : Variant) (j n : ℕ) : Type 0 where
   pub not_initial : initial u c ≡ true → ⊥
   pub before : (h k r m : ℕ) → h < length p → instruction_at p h k ≡ Some (Publish r)
       → slice_get (outputs u r) m ≡ Some c
-      → n < (if h == j then count_before u p j k + suc m else x h k j)
+      → n < (if h == j then outputs_before u (lane p j) k (suc m) else x h k j)
 
 -- output n of lane j is there whenever any possible variant that passes is
 abbrev pub LeadsAll : Universe → Plan → Clocks → ℕ → ℕ → ℕ → ℕ → (Variant → Bool) → Type 0
@@ -58,7 +45,7 @@ LeadsAll u p x l i j n passes =
 -- each possible variant that satisfies its entry; a `when` that holds, what leads each possible one
 -- that it looks for
 abbrev pub ClockAdds : Universe → Plan → Clocks → ℕ → ℕ → ℕ → ℕ → Instruction → Type 0
-ClockAdds u p x l i j n (Publish r) = (j ≡ l) × (n < count_before u p l (suc i))
+ClockAdds u p x l i j n (Publish r) = (j ≡ l) × (n < outputs_before u (lane p l) (suc i) 0)
 ClockAdds u p x l i j n (Wait e) =
     ((j ≡ l) → ⊥) × LeadsAll u p x l i j n (satisfies_entry u e)
 ClockAdds u p x l i j n (When name wanted) =
@@ -70,7 +57,7 @@ ClockAdds u p x l i j n _ = ⊥
 pub record KeepsClocks (u : Universe) (p : Plan) (x : Clocks) : Type 0 where
   pub at_start : (l j : ℕ) → l < length p → x l 0 j ≡ 0
   pub own : (l i : ℕ) (y : Instruction) → l < length p → instruction_at p l i ≡ Some y
-      → x l i l ≡ count_before u p l i
+      → x l i l ≡ outputs_before u (lane p l) i 0
   pub after : (l i j n : ℕ) (y : Instruction) → l < length p → j < length p
       → instruction_at p l i ≡ Some y → n < x l (suc i) j
       → (n < x l (row_before p l i y) j) ⊎ ClockAdds u p x l i j n y
@@ -83,10 +70,11 @@ ClocksKeepRows =
 -- each output is made once, and is not there from the start
 pub record HasUniqueOutputs (u : Universe) (p : Plan) : Type 0 where
   pub once : (j h n m : ℕ) (v : Variant) → j < length p → h < length p
-      → slice_get (lane_made u p j) n ≡ Some v → slice_get (lane_made u p h) m ≡ Some v
+      → slice_get (lane_outputs u (lane p j)) n ≡ Some v
+      → slice_get (lane_outputs u (lane p h)) m ≡ Some v
       → (j ≡ h) × (n ≡ m)
-  pub fresh : (j n : ℕ) (v : Variant) → j < length p → slice_get (lane_made u p j) n ≡ Some v
-      → initial u v ≡ true → ⊥
+  pub fresh : (j n : ℕ) (v : Variant) → j < length p
+      → slice_get (lane_outputs u (lane p j)) n ≡ Some v → initial u v ≡ true → ⊥
 
 -- so it is in every sound plan
 abbrev pub OutputsAreUnique : Type 0
@@ -102,8 +90,8 @@ Learns u p x l i j n _ = ⊥
 pub record AreKnown (u : Universe) (p : Plan) (x : Clocks) : Type 0 where
   pub none : (l j : ℕ) → l < length p → j < length p → x l 0 j ≡ 0
   pub own : (l i : ℕ) → l < length p → i ≤ length (lane p l).instructions
-      → x l i l ≤ count_before u p l i
-  pub few : (l i j : ℕ) → x l i j ≤ length (lane_made u p j)
+      → x l i l ≤ outputs_before u (lane p l) i 0
+  pub few : (l i j : ℕ) → x l i j ≤ length (lane_outputs u (lane p j))
   pub after : (l i j n : ℕ) (y : Instruction) → l < length p → j < length p → ((j ≡ l) → ⊥)
       → instruction_at p l i ≡ Some y → n < x l (suc i) j
       → (n < x l (row_before p l i y) j) ⊎ Learns u p x l i j n y
@@ -111,8 +99,8 @@ pub record AreKnown (u : Universe) (p : Plan) (x : Clocks) : Type 0 where
 -- the clocks of any rows: past the last output of each lane that they have
 abbrev pub clocks_of : Universe → Plan → Rows → Clocks
 clocks_of u p rows l i j =
-    greatest_below (length (lane_made u p j))
-    (λ n. rows l i (slice_index_or (lane_made u p j) n (variant 0 0))) suc
+    greatest_below (length (lane_outputs u (lane p j)))
+    (λ n. rows l i (slice_index_or (lane_outputs u (lane p j)) n (variant 0 0))) suc
 
 -- rows that keep to the inclusions have clocks that do, and lie within the rows of those
 abbrev pub RowsHaveClocks : Type 0

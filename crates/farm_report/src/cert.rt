@@ -16,7 +16,7 @@ fn write_fault<S: Sink>(out: &mut S, plan: &Plan, fault: CertFault) -> Result<()
     ensures told { is_err result ≡ (S.state out.new).failed }
 {
     match fault {
-        CertFault::Text { line } => write_refused_at(out, BAD_TEXT, b"line", line),
+        CertFault::Text { line } => write_refused_at(out, BAD_TEXT, b"line", line as u64),
         CertFault::Row { lane, instruction } => {
             write_row(out, NOT_JUSTIFIED, lane_name(plan, lane), instruction)
         }

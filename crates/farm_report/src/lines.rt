@@ -110,7 +110,7 @@ pub fn write_refused_at<S: Sink>(
     out: &mut S,
     code: u16,
     word: &[u8],
-    number: u32,
+    number: u64,
 ) -> Result<(), WriteFailed>
     ensures written { IsWritten (S.state out.old) (S.state out.new)
         (refused_at_line code word.now number) }

@@ -1,5 +1,5 @@
 -- The verdict on a certificate, from what is known of the rows that it states.
-use Rattle.std.proofs.Common.{◌≡◌, ℕ, ◌+◌, ◌<◌, true, List, length, Err, sym, ◌∙◌, arith}
+use Rattle.std.proofs.Common.{◌≡◌, ℕ, ◌<◌, true, length, Err, sym, ◌∙◌, arith}
 use Rattle.cert_text.specs.Certificates.{Certificate, IsCertificate}
 use Rattle.cert_text.specs.declared.fault.CertFault.{CertFault}
 use Rattle.cert_text.specs.declared.fault.CertFault.TheVariants.{Text, Row, Unsafe, Uneven, Order, Memory}
@@ -19,22 +19,12 @@ use Rattle.verdict_laws.specs.Agreeing.{Agree}
 use Rattle.verdict_laws.specs.Places.{IsFirstUnjustified}
 use Rattle.verdict_laws.proofs.Alike.{agreeing_rows_are_alike}
 use Rattle.verdict_laws.proofs.ByPlace.{keeping_is_by_place}
-use Rattle.plan_cert.specs.Broken.{IsBrokenAt, IsOrderChecked, IsNumbered}
+use Rattle.plan_cert.specs.Broken.{IsOrderChecked}
 use Rattle.plan_cert.specs.Certified.{Certifies, IsUnsafeAt, IsCertVerdict}
 use Rattle.plan_cert.specs.Checked.{AreChecked, AreSafe}
 use Rattle.plan_cert.specs.Places.{HaveKnown}
 use Rattle.plan_cert.specs.Stated.{stated_rows}
 use Rattle.plan_cert.proofs.StatedLaws.{stated-known, stated-start}
-
-pub told-broken : (u : Universe) (p : Plan) (order : List ℕ) (n : ℕ) (f : CertFault)
-    → IsNumbered n f → ((item : ℕ) → item ≡ n + 1 → IsBrokenAt u p order item)
-    → IsOrderChecked u p order (Err f)
-told-broken u p order n (Order item) numbered broken = broken item numbered
-told-broken u p order n Memory numbered broken = tt
-told-broken u p order n (Text line) numbered broken = absurd numbered
-told-broken u p order n (Row l number) numbered broken = absurd numbered
-told-broken u p order n (Unsafe l number trap) numbered broken = absurd numbered
-told-broken u p order n (Uneven l number) numbered broken = absurd numbered
 
 -- rows that agree keep alike, and are safe alike
 pub keeps-alike : (u : Universe) (p : Plan) (rows other : Rows) → Agree p rows other

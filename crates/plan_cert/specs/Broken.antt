@@ -41,12 +41,3 @@ IsOrderChecked u p order (Err (Text line)) = ⊥
 IsOrderChecked u p order (Err (Row l number)) = ⊥
 IsOrderChecked u p order (Err (Unsafe l number trap)) = ⊥
 IsOrderChecked u p order (Err (Uneven l number)) = ⊥
-
--- the item behind so many is told by its number from 1, if it can be
-abbrev pub IsNumbered : ℕ → CertFault → Type 0
-IsNumbered done (Order item) = item ≡ done + 1
-IsNumbered done Memory = Unit {0}
-IsNumbered done (Text line) = ⊥
-IsNumbered done (Row l number) = ⊥
-IsNumbered done (Unsafe l number trap) = ⊥
-IsNumbered done (Uneven l number) = ⊥

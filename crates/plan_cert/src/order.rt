@@ -3,8 +3,7 @@
 ghost use Rattle.std.specs.Prelude.{◌≡◌, ◌+◌, ◌<◌, ◌≤◌, ℕ, length, slice_index, All, IfOk, IsNone, IfSome};
 ghost use Rattle.farm_model.specs.Packages.{names};
 ghost use Rattle.farm_model.specs.Sound.{IsUniverse};
-ghost use Rattle.cert_text.specs.declared.fault.CertFault as fault;
-ghost use Rattle.plan_cert.specs.Broken.{IsOrderChecked, IsNumbered};
+ghost use Rattle.plan_cert.specs.Broken.{IsOrderChecked};
 ghost use Rattle.plan_cert.specs.Events.{item_of, IsEvent, AreLaneEvents, lane_items, IsMade, IsStep};
 
 use crate::claim::Claim;
@@ -101,25 +100,12 @@ fn first_left(of: PlanEvents<'_>, made: &[usize]) -> Option<usize>
     None
 }
 
-/// The fault at an item, which is told by its number from 1.
-fn order_fault(item: usize) -> CertFault
-    ensures { IsNumbered item result }
-{
-    if item >= u32::MAX as usize {
-        return CertFault::Memory;
-    }
-    CertFault::Order {
-        item: item as u32 + 1,
-    }
-}
-
 /// Checks that a list of lanes is an order of their waits and outputs.
 ///
 /// # Errors
 ///
 /// [`CertFault::Order`] with the first item that cannot be made, or with one more than their number
-/// where all can and a lane has something left. [`CertFault::Memory`] where memory is refused, or
-/// the list is too long for the number of an item.
+/// where all can and a lane has something left. [`CertFault::Memory`] where memory is refused.
 pub fn check_order(alloc: Global, claim: Claim<'_>, order: &[u32]) -> Result<(), CertFault>
     requires sound { IsUniverse claim.universe.now }
     requires lanes { All (λ l. l < length claim.plan.now.lanes) order.now }
@@ -135,11 +121,15 @@ pub fn check_order(alloc: Global, claim: Claim<'_>, order: &[u32]) -> Result<(),
     for item in 0..order.len() {
         let number = order[item] as usize;
         if !step(alloc, of, number, &mut made, &mut archive)? {
-            return Err(order_fault(item));
+            return Err(CertFault::Order {
+                item: item as u64 + 1,
+            });
         }
     }
     if let Some(_lane) = first_left(of, &made) {
-        return Err(order_fault(order.len()));
+        return Err(CertFault::Order {
+            item: order.len() as u64 + 1,
+        });
     }
     Ok(())
 }

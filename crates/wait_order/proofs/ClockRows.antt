@@ -8,14 +8,14 @@ use Rattle.farm_model.specs.declared.types.Variant.{Variant}
 use Rattle.farm_model.specs.Below.{some_below}
 use Rattle.farm_model.specs.Universe.{Universe}
 use Rattle.farm_model.specs.Packages.{same, contains}
-use Rattle.plan_model.specs.Plan.{Plan, lane}
-use Rattle.clock_laws.specs.Clocks.{made, lane_made, count_before}
+use Rattle.plan_model.specs.Plan.{Plan, lane, lane_outputs, outputs_before}
+use Rattle.clock_laws.proofs.Made.{made}
 use Rattle.sat_rows.specs.Rows.{IsRowOf}
 use Rattle.wait_order.specs.declared.marks.Output.{Output}
 use Rattle.wait_order.specs.Column.{count_at, IsIn}
 use Rattle.wait_order.specs.Columns.{column_of, counts_of}
 use Rattle.wait_order.specs.KnownRows.{HasCounts}
-use Rattle.wait_order.specs.Marks.{lane_outputs}
+use Rattle.wait_order.specs.Marks.{outputs_with_points}
 use Rattle.wait_order.specs.Points.{last_point, clock_of}
 use Rattle.wait_order.proofs.Numbering.{last-in}
 use Rattle.wait_order.proofs.RowSteps.{variant_of, outputs-made}
@@ -39,8 +39,8 @@ all-first os n count total v is long =
 module _ (u : Universe) (p : Plan) where
   -- the first outputs of a lane
   pub first-made : (j count : ℕ) (os : List Output) (v : Variant)
-      → os ≡ lane_outputs u p j (length (lane p j).instructions)
-      → any_output (take count os) v ≡ contains (take count (lane_made u p j)) v
+      → os ≡ outputs_with_points u p j (length (lane p j).instructions)
+      → any_output (take count os) v ≡ contains (take count (lane_outputs u (lane p j))) v
   first-made j count os v are =
       any-variants (take count os) v
       ∙ ap (λ vs. contains vs v) (sym (take-map variant_of count os))
@@ -53,7 +53,7 @@ module _ (u : Universe) (p : Plan) where
   module _ (start : Variant → Bool) (x : ℕ → ℕ) where
     -- what was there, and of the lanes so far
     abbrev pub so_far : ℕ → Variant → Bool
-    so_far n v = start v || some_below n (λ j. contains (take (x j) (lane_made u p j)) v)
+    so_far n v = start v || some_below n (λ j. contains (take (x j) (lane_outputs u (lane p j))) v)
 
     swapped : (a b c : Bool) → ((a || b) || c) ≡ (a || (c || b))
     swapped true b c = refl
@@ -62,15 +62,15 @@ module _ (u : Universe) (p : Plan) where
     swapped false false c = sym (or-false c)
 
     pub with_lane : (n count : ℕ) (os : List Output) (row : List ℕ)
-        → os ≡ lane_outputs u p n (length (lane p n).instructions) → count ≡ x n
+        → os ≡ outputs_with_points u p n (length (lane p n).instructions) → count ≡ x n
         → IsRowOf u (λ v. so_far n v || any_output (take count os) v) row
         → IsRowOf u (so_far (n + 1)) row
     with_lane n count os row are is row_is =
         row_same u _ _ row
         (λ v. ap (λ b. so_far n v || b)
-        (first-made n count os v are ∙ ap (λ k. contains (take k (lane_made u p n)) v) is)
+        (first-made n count os v are ∙ ap (λ k. contains (take k (lane_outputs u (lane p n))) v) is)
         ∙ swapped (start v) _ _
-        ∙ ap (λ k. start v || some_below k (λ j. contains (take (x j) (lane_made u p j)) v))
+        ∙ ap (λ k. start v || some_below k (λ j. contains (take (x j) (lane_outputs u (lane p j))) v))
         (sym (add-one n)))
         row_is
 
@@ -86,12 +86,12 @@ module _ (u : Universe) (p : Plan) where
 
   -- the clock of a place
   pub clock_is : (columns : List (List ℕ)) (l i own : ℕ) (last : Option ℕ)
-      → own ≡ count_before u p l i → last ≡ last_point p l i
+      → own ≡ outputs_before u (lane p l) i 0 → last ≡ last_point p l i
       → (λ j. if j == l then own else count_at (counts_of columns j) last)
       ≡ clock_of u p (counts_of columns) l i
   clock_is columns l i own last own_is last_is =
       let by_own : ℕ → ℕ → ℕ =
       λ n j. if j == l then n else count_at (counts_of columns j) last in
       let by_last : Option ℕ → ℕ → ℕ =
-      λ o j. if j == l then count_before u p l i else count_at (counts_of columns j) o in
+      λ o j. if j == l then outputs_before u (lane p l) i 0 else count_at (counts_of columns j) o in
       ap by_own own_is ∙ ap by_last last_is

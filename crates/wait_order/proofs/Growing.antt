@@ -8,12 +8,11 @@ use Rattle.farm_model.specs.Universe.{Universe}
 use Rattle.plan_model.specs.declared.instructions.Instruction.{Instruction}
 use Rattle.plan_model.specs.declared.instructions.Instruction.TheVariants.{Publish, When, Otherwise, EndWhen}
 use Rattle.plan_model.specs.Branches.{Side, Outside, InFirst, InSecond, side_behind, side_behind_some, side_at, home, may_stand}
-use Rattle.plan_model.specs.Plan.{Plan, lane, instruction_at}
+use Rattle.plan_model.specs.Plan.{Plan, lane, instruction_at, lane_outputs, outputs_before}
 use Rattle.plan_model.specs.Known.{row_before}
 use Rattle.plan_model.specs.Sound.{IsSound}
 use Rattle.verdict_laws.proofs.Unions.{there}
 use Rattle.verdict_laws.proofs.RowBefore.{row_before-le, each_place}
-use Rattle.clock_laws.specs.Clocks.{lane_made, count_before}
 use Rattle.wait_order.specs.declared.column.Source.{Source}
 use Rattle.wait_order.specs.declared.column.Point.{Point}
 use Rattle.wait_order.specs.Column.{Counts, of_list, count_at, least, bound, IsIn, ArePointsIn, IsGreatestColumn}
@@ -55,12 +54,12 @@ module _ (u : Universe) (p : Plan) (sound : IsSound u p) (ps : List Point)
 
   module _ (columns : ℕ → List ℕ)
       (greatest : (j : ℕ) → j < length p
-      → IsGreatestColumn j (length (lane_made u p j)) ps (columns j)) where
+      → IsGreatestColumn j (length (lane_outputs u (lane p j))) ps (columns j)) where
     abbrev counts : ℕ → Counts
     counts j = of_list (columns j)
 
     abbrev total : ℕ → ℕ
-    total j = length (lane_made u p j)
+    total j = length (lane_outputs u (lane p j))
 
     -- how many outputs of lane j count where lane l stands
     abbrev at_last : ℕ → ℕ → ℕ → ℕ
@@ -118,7 +117,7 @@ module _ (u : Universe) (p : Plan) (sound : IsSound u p) (ps : List Point)
           | inl same ↦
               let a = bound-own j (total j) (counts j) of (is.is.lane ∙ same) in
               let b = is.is.own in
-              let c = ap (λ k. count_before u p k is.place) same in
+              let c = ap (λ k. outputs_before u (lane p k) is.place 0) same in
               let d = count-few u p j is.place in omega (arith, a, b, c, d)
           | inr other ↦
               let a = bound-other j (total j) (counts j) of (λ e. other (sym is.is.lane ∙ e)) in

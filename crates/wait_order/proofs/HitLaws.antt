@@ -13,7 +13,7 @@ use Rattle.sat_rows.specs.Rows.{IsRowOf}
 use Rattle.wait_order.specs.declared.column.Source.{Source}
 use Rattle.wait_order.specs.declared.marks.Output.{Output}
 use Rattle.wait_order.specs.declared.marks.LaneOutputs.{LaneOutputs}
-use Rattle.wait_order.specs.Marks.{lane_outputs, AreLanes}
+use Rattle.wait_order.specs.Marks.{outputs_with_points, AreLanes}
 use Rattle.wait_order.specs.ByName.{AreKnownLanes}
 use Rattle.wait_order.specs.Points.{IsNothing}
 use Rattle.wait_order.specs.Hits.{AreKnownOutputs, AreSourcesBelow}
@@ -25,7 +25,7 @@ out_known u outs n d known lt = known n (get_or outs n d) (slice_get-get_or outs
 
 -- the outputs of a lane are known
 pub lane_known : (u : Universe) (p : Plan) (h : ℕ) (outs : List Output)
-    → outs ≡ lane_outputs u p h (length (lane p h).instructions) → IsUniverse u
+    → outs ≡ outputs_with_points u p h (length (lane p h).instructions) → IsUniverse u
     → AreKnownOutputs u outs
 lane_known u p h outs are sound k o at =
     let f = comes_from u p h outs are k o at in

@@ -1,5 +1,5 @@
 -- The greatest columns of the points are the greatest clocks.
-use Rattle.std.proofs.Common.{◌≡◌, ◌⊎◌, inl, inr, ℕ, suc, ◌+◌, ◌<◌, ◌≤◌, max, Bool, true, ◌==◌, List, length, Option, Some, None, slice_get, refl, sym, ap, subst, ◌∙◌, arith}
+use Rattle.std.proofs.Common.{◌≡◌, ◌⊎◌, inl, inr, ℕ, suc, ◌<◌, ◌≤◌, max, Bool, true, ◌==◌, List, length, Option, Some, None, slice_get, refl, sym, ap, subst, ◌∙◌, arith}
 use Rattle.std.specs.Prelude.{if◌then◌else◌}
 use Rattle.std.proofs.lemmas.Bool.{cases_eq, cases_lt, eq-eqb, ne_eqb}
 use Rattle.std.proofs.lemmas.Option.{slice_get_within}
@@ -9,12 +9,12 @@ use Rattle.farm_model.specs.Packages.{outputs}
 use Rattle.plan_model.specs.declared.instructions.Instruction.{Instruction}
 use Rattle.plan_model.specs.declared.instructions.Instruction.TheVariants.{Publish, Otherwise, EndWhen}
 use Rattle.plan_model.specs.Branches.{side_at, home}
-use Rattle.plan_model.specs.Plan.{Plan, lane, instruction_at, outputs_of}
+use Rattle.plan_model.specs.Plan.{Plan, lane, instruction_at, outputs_of, lane_outputs, outputs_before}
 use Rattle.plan_model.specs.Known.{possible, row_before, IsGreatest}
 use Rattle.plan_model.specs.Sound.{IsSound}
 use Rattle.verdict_laws.proofs.Unions.{there}
 use Rattle.verdict_laws.proofs.RowBefore.{row_before-le, each_place}
-use Rattle.clock_laws.specs.Clocks.{lane_made, count_before, Clocks, clock_rows, Leads, LeadsAll, ClockAdds, KeepsClocks, AreKnown, AreWithinClocks}
+use Rattle.clock_laws.specs.Clocks.{Clocks, clock_rows, Leads, LeadsAll, ClockAdds, KeepsClocks, AreKnown, AreWithinClocks}
 use Rattle.clock_laws.proofs.OwnCounts.{made-home}
 use Rattle.clock_laws.proofs.Sets.{some_below_length}
 use Rattle.clock_laws.proofs.Greatest.{greatest_clocks_are_greatest}
@@ -33,7 +33,7 @@ module _ (u : Universe) (p : Plan) (sound : IsSound u p) (ps : List Point)
     (points : ArePoints u p ps) where
   module _ (columns : ℕ → List ℕ)
       (greatest : (j : ℕ) → j < length p
-      → IsGreatestColumn j (length (lane_made u p j)) ps (columns j)) where
+      → IsGreatestColumn j (length (lane_outputs u (lane p j))) ps (columns j)) where
     abbrev counts : ℕ → Counts
     counts j = of_list (columns j)
 
@@ -41,13 +41,13 @@ module _ (u : Universe) (p : Plan) (sound : IsSound u p) (ps : List Point)
     x = clock_of u p counts
 
     abbrev total : ℕ → ℕ
-    total j = length (lane_made u p j)
+    total j = length (lane_outputs u (lane p j))
 
     -- how many outputs of lane j count where lane l stands
     abbrev at_last : ℕ → ℕ → ℕ → ℕ
     at_last j l i = count_at (counts j) (last_point p l i)
 
-    x-own : (l i : ℕ) → x l i l ≡ count_before u p l i
+    x-own : (l i : ℕ) → x l i l ≡ outputs_before u (lane p l) i 0
     x-own l i = rw (eq-eqb l l refl) refl
 
     x-other : (l i j : ℕ) → ((j ≡ l) → ⊥) → x l i j ≡ at_last j l i
@@ -68,7 +68,7 @@ module _ (u : Universe) (p : Plan) (sound : IsSound u p) (ps : List Point)
       where
         before : (h k r m : ℕ) → h < length p → instruction_at p h k ≡ Some (Publish r)
             → slice_get (outputs u r) m ≡ Some c → (h ≡ j) ⊎ ((h ≡ j) → ⊥)
-            → n < (if h == j then count_before u p j k + suc m else x h k j)
+            → n < (if h == j then outputs_before u (lane p j) k (suc m) else x h k j)
         before h k r m h_lt at out which =
             let own : h ≡ l → k < i = λ same.
             own_before u p sound l i k r m c lt (subst (λ g. instruction_at p g k ≡ Some (Publish r)) same at) out may in
@@ -76,13 +76,13 @@ module _ (u : Universe) (p : Plan) (sound : IsSound u p) (ps : List Point)
             let a = least-known j (counts j) (total j) ss first.index first.source first.at in
             by first a which
           where
-            by : (first : HasFirst u p l i test ss h (count_before u p h k + suc m))
+            by : (first : HasFirst u p l i test ss h (outputs_before u (lane p h) k (suc m)))
                 → least j (counts j) (total j) ss ≤ known j (counts j) first.source
                 → (h ≡ j) ⊎ ((h ≡ j) → ⊥)
-                → n < (if h == j then count_before u p j k + suc m else x h k j)
+                → n < (if h == j then outputs_before u (lane p j) k (suc m) else x h k j)
             by first a (inl here) =
                 let b = known-own j (counts j) first.source (first.of_lane ∙ here) in
-                let d = ap (λ g. count_before u p g k) here in
+                let d = ap (λ g. outputs_before u (lane p g) k 0) here in
                 rw (eq-eqb h j here) (omega (arith, n_lt, a, b, first.early, d))
             by first a (inr other) =
                 let s = first.source in
@@ -95,7 +95,7 @@ module _ (u : Universe) (p : Plan) (sound : IsSound u p) (ps : List Point)
                   | inl later ↦
                       let next = count-next u p h k (Publish r) at in
                       let up = count-mono u p h (suc k) first.is.place later in
-                      let g = ap (λ z. count_before u p z first.is.place) first.of_lane in
+                      let g = ap (λ z. outputs_before u (lane p z) first.is.place 0) first.of_lane in
                       absurd (omega (arith, next, up, g, first.is.count, first.early, long))
                   | inr fine ↦ fine
                 ] in
@@ -119,12 +119,13 @@ module _ (u : Universe) (p : Plan) (sound : IsSound u p) (ps : List Point)
             ]
 
         own_quiet : (l i n : ℕ) (y : Instruction) → instruction_at p l i ≡ Some y
-            → length (outputs_of u y) ≡ 0 → n < count_before u p l (suc i) → n < count_before u p l i
+            → length (outputs_of u y) ≡ 0 → n < outputs_before u (lane p l) (suc i) 0
+            → n < outputs_before u (lane p l) i 0
         own_quiet l i n y at none n_lt = omega (arith, count-next u p l i y at, none, n_lt)
 
         own_home : (l i n : ℕ) (y : Instruction) → l < length p → instruction_at p l i ≡ Some y
-            → n < count_before u p l i → n < count_before u p l
-            (home (side_at (lane p l).instructions i) i)
+            → n < outputs_before u (lane p l) i 0
+            → n < outputs_before u (lane p l) (home (side_at (lane p l).instructions i) i) 0
         own_home l i n y lt at n_lt =
             let i_lt = slice_get_within (lane p l).instructions i y at in
             let e = made-home u (lane p l).instructions (sound.plan.branched l lt) i
@@ -132,8 +133,8 @@ module _ (u : Universe) (p : Plan) (sound : IsSound u p) (ps : List Point)
             omega (arith, e, n_lt)
 
         own_after : (l i n : ℕ) (y : Instruction) → l < length p → instruction_at p l i ≡ Some y
-            → n < count_before u p l (suc i)
-            → (n < count_before u p l (row_before p l i y)) ⊎ ClockAdds u p x l i l n y
+            → n < outputs_before u (lane p l) (suc i) 0
+            → (n < outputs_before u (lane p l) (row_before p l i y) 0) ⊎ ClockAdds u p x l i l n y
         own_after l i n (Publish r) lt at n_lt = inr (refl, n_lt)
         own_after l i n Otherwise lt at n_lt =
             inl (own_home l i n Otherwise lt at (own_quiet l i n Otherwise at refl n_lt))
@@ -247,12 +248,14 @@ module _ (u : Universe) (p : Plan) (sound : IsSound u p) (ps : List Point)
           let ahead = (learns one.variant may one.satisfies).before s.lane one.place one.recipe one.number one.below one.publish one.output in
           by ahead (cases_eq s.lane j)
         where
-          by : n < (if s.lane == j then count_before u p j one.place + suc one.number else y s.lane one.place j)
+          by : n < (if s.lane == j then outputs_before u (lane p j) one.place (suc one.number)
+              else y s.lane one.place j)
               → (s.lane ≡ j) ⊎ ((s.lane ≡ j) → ⊥) → n < known j (theirs j) s
           by ahead (inl here) =
-              let a : n < count_before u p j one.place + suc one.number = rw (eq-eqb s.lane j here) at ahead in
+              let a : n < outputs_before u (lane p j) one.place (suc one.number) =
+              rw (eq-eqb s.lane j here) at ahead in
               let b = known-own j (theirs j) s here in
-              let d = ap (λ g. count_before u p g one.place) here in
+              let d = ap (λ g. outputs_before u (lane p g) one.place 0) here in
               omega (arith, a, b, d, one.count)
           by ahead (inr other) =
               let a : n < y s.lane one.place j = rw (ne_eqb s.lane j other) at ahead in

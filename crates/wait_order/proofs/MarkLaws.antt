@@ -5,12 +5,11 @@ use Rattle.std.proofs.lemmas.Option.{none-some, slice_get_within}
 use Rattle.farm_model.specs.Universe.{Universe}
 use Rattle.plan_model.specs.declared.instructions.Instruction.{Instruction}
 use Rattle.plan_model.specs.declared.instructions.Instruction.TheVariants.{Wait, When}
-use Rattle.plan_model.specs.Plan.{Plan, lane, instruction_at, outputs_of}
+use Rattle.plan_model.specs.Plan.{Plan, lane, instruction_at, outputs_of, outputs_before}
 use Rattle.verdict_laws.proofs.Unions.{there}
-use Rattle.clock_laws.specs.Clocks.{count_before}
 use Rattle.wait_order.specs.declared.marks.Mark.{Mark}
 use Rattle.wait_order.specs.declared.marks.Output.{Output}
-use Rattle.wait_order.specs.Marks.{output_with, marks_of, marks_at, lane_marks, all_marks, outputs_at, lane_outputs}
+use Rattle.wait_order.specs.Marks.{output_with, marks_of, marks_at, lane_marks, all_marks, outputs_at, outputs_with_points}
 use Rattle.wait_order.specs.declared.marks.LastPoints.{LastPoints}
 use Rattle.wait_order.specs.Points.{one_point, point_count, points_before, first_point, point_number, last_after, lasts_at, last_point}
 use Rattle.wait_order.proofs.Numbering.{points-next, lasts-next, count-next, count-start}
@@ -36,7 +35,7 @@ marks_of-long _ l i own last = refl
 
 module _ (u : Universe) (p : Plan) where
   at-is : (l i : ℕ) (x : Instruction) → instruction_at p l i ≡ Some x
-      → lane_marks u p l (suc i) ≡ lane_marks u p l i ++ marks_of x l i (count_before u p l i)
+      → lane_marks u p l (suc i) ≡ lane_marks u p l i ++ marks_of x l i (outputs_before u (lane p l) i 0)
       (last_point p l i)
   at-is l i x at = ap (λ o. lane_marks u p l i ++ marks_at u p l i o) at
 
@@ -46,9 +45,9 @@ module _ (u : Universe) (p : Plan) where
   lane_marks-long l (suc i) le =
       let x = there p l i (omega (arith, le)) in
       let a = ap length (at-is l i x.0 x.1) in
-      let b = length-append (lane_marks u p l i) (marks_of x.0 l i (count_before u p l i)
+      let b = length-append (lane_marks u p l i) (marks_of x.0 l i (outputs_before u (lane p l) i 0)
       (last_point p l i)) in
-      let c = marks_of-long x.0 l i (count_before u p l i) (last_point p l i) in
+      let c = marks_of-long x.0 l i (outputs_before u (lane p l) i 0) (last_point p l i) in
       omega (arith, a, b, c, points-next p l i x.0 x.1, lane_marks-long l i (omega (arith, le)))
 
   pub all_marks-long : (l : ℕ) → length (all_marks u p l) ≡ first_point p l
@@ -65,22 +64,22 @@ module _ (u : Universe) (p : Plan) where
       whole l = ap point_count (take_all (length (lane p l).instructions) (lane p l).instructions
           (omega arith))
 
-  pub lane_outputs-long : (l i : ℕ) → i ≤ length (lane p l).instructions
-      → length (lane_outputs u p l i) ≡ count_before u p l i
-  lane_outputs-long l zero le = sym (count-start u p l)
-  lane_outputs-long l (suc i) le =
+  pub outputs_with_points-long : (l i : ℕ) → i ≤ length (lane p l).instructions
+      → length (outputs_with_points u p l i) ≡ outputs_before u (lane p l) i 0
+  outputs_with_points-long l zero le = sym (count-start u p l)
+  outputs_with_points-long l (suc i) le =
       let x = there p l i (omega (arith, le)) in
-      let a = ap (λ o. length (lane_outputs u p l i ++ outputs_at u p l i o)) x.1 in
-      let b = length-append (lane_outputs u p l i) (map (output_with (last_point p l i))
+      let a = ap (λ o. length (outputs_with_points u p l i ++ outputs_at u p l i o)) x.1 in
+      let b = length-append (outputs_with_points u p l i) (map (output_with (last_point p l i))
       (outputs_of u x.0)) in
       let c = length-map (outputs_of u x.0) (output_with (last_point p l i)) in
-      omega (arith, a, b, c, count-next u p l i x.0 x.1, lane_outputs-long l i (omega (arith, le)))
+      omega (arith, a, b, c, count-next u p l i x.0 x.1, outputs_with_points-long l i (omega (arith, le)))
 
   -- one more instruction of a lane, with all that is kept on the way
   pub record IsPassed (l i : ℕ) (marks : List Mark) (outs : List Output) (last : LastPoints)
       : Type 0 where
     pub marks_are : marks ≡ all_marks u p l ++ lane_marks u p l i
-    pub outputs_are : outs ≡ lane_outputs u p l i
+    pub outputs_are : outs ≡ outputs_with_points u p l i
     pub last_is : last ≡ lasts_at p l i
 
   pub passed : (l i : ℕ) (x : Instruction) (marks next_marks : List Mark)
@@ -94,7 +93,7 @@ module _ (u : Universe) (p : Plan) where
       subst (λ k. IsPassed l k next_marks next_outs next_last)
       (let e : suc i ≡ i + 1 = omega arith in e) (record {
         marks_are = marks_e ∙ ap (λ n. marks ++ marks_of x l i n last.here) own
-            ∙ ap (λ (o : LastPoints). marks ++ marks_of x l i (count_before u p l i) o.here)
+            ∙ ap (λ (o : LastPoints). marks ++ marks_of x l i (outputs_before u (lane p l) i 0) o.here)
             so_far.last_is
             ∙ ap (λ ws. ws ++ new) so_far.marks_are
             ∙ append_assoc (all_marks u p l) (lane_marks u p l i) new
@@ -103,7 +102,7 @@ module _ (u : Universe) (p : Plan) where
             (outputs_of u x)) so_far.last_is
             ∙ ap (λ os. os ++ map (output_with (last_point p l i)) (outputs_of u x))
             so_far.outputs_are
-            ∙ ap (λ o. lane_outputs u p l i ++ outputs_at u p l i o) (sym at);
+            ∙ ap (λ o. outputs_with_points u p l i ++ outputs_at u p l i o) (sym at);
         last_is = last_e ∙ ap (λ o. last_after x (length marks) o) so_far.last_is
             ∙ ap (λ n. last_after x n (lasts_at p l i)) number
             ∙ sym (lasts-next p l i x at);
@@ -112,11 +111,11 @@ module _ (u : Universe) (p : Plan) where
       below : i < length (lane p l).instructions
       below = slice_get_within (lane p l).instructions i x at
 
-      own : length outs ≡ count_before u p l i
-      own = ap length so_far.outputs_are ∙ lane_outputs-long l i (omega (arith, below))
+      own : length outs ≡ outputs_before u (lane p l) i 0
+      own = ap length so_far.outputs_are ∙ outputs_with_points-long l i (omega (arith, below))
 
       new : List Mark
-      new = marks_of x l i (count_before u p l i) (last_point p l i)
+      new = marks_of x l i (outputs_before u (lane p l) i 0) (last_point p l i)
 
       number : length marks ≡ point_number p l i
       number =

@@ -7,10 +7,9 @@ use Rattle.farm_model.specs.Universe.{Universe}
 use Rattle.farm_model.specs.Packages.{satisfies_entry}
 use Rattle.plan_model.specs.declared.instructions.Instruction.{Instruction}
 use Rattle.plan_model.specs.declared.instructions.Instruction.TheVariants.{Wait, When}
-use Rattle.plan_model.specs.Plan.{Plan, lane, instruction_at}
+use Rattle.plan_model.specs.Plan.{Plan, lane, instruction_at, outputs_before}
 use Rattle.plan_model.specs.Known.{is_of}
 use Rattle.verdict_laws.proofs.Unions.{there}
-use Rattle.clock_laws.specs.Clocks.{count_before}
 use Rattle.wait_order.specs.declared.marks.Mark.{Mark}
 use Rattle.wait_order.specs.Marks.{marks_of, marks_at, lane_marks, all_marks}
 use Rattle.wait_order.specs.Points.{asked, points_before, first_point, point_number, last_point}
@@ -20,7 +19,7 @@ use Rattle.wait_order.proofs.MarkLaws.{get-first, get-then, lane_marks-long, all
 -- the mark of the point at a place
 abbrev pub mark_at : Universe → Plan → ℕ → ℕ → Mark
 mark_at u p l i =
-    record { lane = l; place = i; own = count_before u p l i; before = last_point p l i }
+    record { lane = l; place = i; own = outputs_before u (lane p l) i 0; before = last_point p l i }
 
 -- an element of two lists, one behind the other
 pub split : {X : Type 0} (xs ys : List X) (n : ℕ) (x : X) → slice_get (xs ++ ys) n ≡ Some x
@@ -54,7 +53,7 @@ module _ (u : Universe) (p : Plan) where
             (let a = lane_marks-long u p l n (omega (arith, le)) in
             let b = ap (points_before p l) here in omega (arith, a, b))
             ∙ ap (λ o. slice_get (marks_at u p l n o) 0) (ap (instruction_at p l) (sym here) ∙ at)
-            ∙ asks-mark x test l n (count_before u p l n) (last_point p l n) asks
+            ∙ asks-mark x test l n (outputs_before u (lane p l) n 0) (last_point p l n) asks
             ∙ ap (λ k. Some (mark_at u p l k)) (sym here)
         | inr other ↦
             get-first (lane_marks u p l n) (marks_at u p l n (instruction_at p l n))
@@ -107,7 +106,7 @@ module _ (u : Universe) (p : Plan) where
     pub is : mark ≡ mark_at u p l at_place
 
   one_mark : (l i k : ℕ) (x : Instruction) (mark : Mark) → instruction_at p l i ≡ Some x
-      → slice_get (marks_of x l i (count_before u p l i) (last_point p l i)) k ≡ Some mark
+      → slice_get (marks_of x l i (outputs_before u (lane p l) i 0) (last_point p l i)) k ≡ Some mark
       → Asks u x × (k ≡ 0) × (mark ≡ mark_at u p l i)
   one_mark l i zero (Wait e) mark at h =
       (record { test = satisfies_entry u e; is = refl }, refl, sym (same_Some _ mark h))

@@ -7,8 +7,7 @@ use Rattle.farm_model.specs.declared.types.Variant.{Variant}
 use Rattle.farm_model.specs.Universe.{Universe}
 use Rattle.farm_model.specs.Packages.{outputs}
 use Rattle.plan_model.specs.declared.instructions.Instruction.TheVariants.{Publish}
-use Rattle.plan_model.specs.Plan.{Plan}
-use Rattle.clock_laws.specs.Clocks.{count_before}
+use Rattle.plan_model.specs.Plan.{Plan, lane, outputs_before}
 use Rattle.clock_laws.proofs.Sets.{some_below_length}
 use Rattle.wait_order.specs.declared.column.Source.{Source}
 use Rattle.wait_order.specs.declared.marks.Mark.{Mark}
@@ -59,7 +58,7 @@ module _ {X : Type 0} (f : X → Bool) where
       there_step (filter f ys) y x (f y) (there_kept ys k x e t)
 
 module _ (u : Universe) (p : Plan) (test : Variant → Bool) (mark : Mark) (lt : mark.lane < length p)
-    (own : mark.own ≡ count_before u p mark.lane mark.place) where
+    (own : mark.own ≡ outputs_before u (lane p mark.lane) mark.place 0) where
   meets_own : (s : Source) → s.lane ≡ mark.lane → may_meet mark s ≡ nat_le s.count mark.own
   meets_own s same = rw (eq-eqb s.lane mark.lane same) refl
 
@@ -73,12 +72,12 @@ module _ (u : Universe) (p : Plan) (test : Variant → Bool) (mark : Mark) (lt :
   ]
 
   before : (s : Source) (k : ℕ) → s.lane ≡ mark.lane → s.count ≤ mark.own
-      → suc (count_before u p s.lane k) ≤ s.count → k < mark.place
+      → suc (outputs_before u (lane p s.lane) k 0) ≤ s.count → k < mark.place
   before s k same few more = elim (cases_lt k mark.place) [
     | inl early ↦ early
     | inr late ↦
         let le = count-mono u p mark.lane mark.place k late in
-        let here = ap (λ h. count_before u p h k) same in
+        let here = ap (λ h. outputs_before u (lane p h) k 0) same in
         absurd (omega (arith, le, here, few, more, own))
   ]
 
@@ -130,7 +129,7 @@ module _ (u : Universe) (p : Plan) (test : Variant → Bool) (mark : Mark) (lt :
                   let next = count-next u p h k (Publish r) at in
                   let long = some_below_length (outputs u r) m c out in
                   let mono = count-mono u p h (suc k) mark.place (may same) in
-                  let here = ap (λ g. count_before u p g mark.place) same in
+                  let here = ap (λ g. outputs_before u (lane p g) mark.place 0) same in
                   let early = f.early in
                   meets_few f.source (omega (arith, next, long, mono, here, early, own))
               | inr other ↦

@@ -8,8 +8,8 @@ use Rattle.farm_model.specs.Universe.{Universe}
 use Rattle.farm_laws.proofs.Archive.{take_some}
 use Rattle.plan_model.specs.declared.instructions.Instruction.{Instruction}
 use Rattle.plan_model.specs.declared.instructions.Instruction.TheVariants.{Wait, When, Otherwise, EndWhen}
-use Rattle.plan_model.specs.Plan.{Plan, lane, instruction_at, outputs_of}
-use Rattle.clock_laws.specs.Clocks.{made, lane_made, count_before}
+use Rattle.plan_model.specs.Plan.{Plan, lane, instruction_at, outputs_of, lane_outputs, outputs_before}
+use Rattle.clock_laws.proofs.Made.{made}
 use Rattle.wait_order.specs.declared.marks.LastPoints.{LastPoints}
 use Rattle.wait_order.specs.Column.{IsIn}
 use Rattle.wait_order.specs.Points.{one_point, point_count, points_before, first_point, point_number, last_after, last_after_some, lasts_at, last_point}
@@ -84,21 +84,20 @@ last-in p l i lt =
 -- outputs before the next place
 pub count-next : (u : Universe) (p : Plan) (l i : ℕ) (x : Instruction)
     → instruction_at p l i ≡ Some x
-    → count_before u p l (suc i) ≡ count_before u p l i + length (outputs_of u x)
-unfolding made
+    → outputs_before u (lane p l) (suc i) 0 ≡ outputs_before u (lane p l) i (length (outputs_of u x))
 count-next u p l i x at =
-    ap (λ xs. length (made u xs)) (take_some (lane p l).instructions i x at)
-    ∙ ap length (flat_map-append (outputs_of u) (take i (lane p l).instructions) (x ∷ []))
-    ∙ length-append (made u (take i (lane p l).instructions)) (outputs_of u x ++ [])
-    ∙ ap (λ n. count_before u p l i + n) (ap length (append-nil (outputs_of u x)))
+    let is = (lane p l).instructions in
+    let next = ap (λ xs. length (made u xs)) (take_some is i x at)
+    ∙ ap length (flat_map-append (outputs_of u) (take i is) (x ∷ []))
+    ∙ length-append (made u (take i is)) (outputs_of u x ++ [])
+    ∙ ap (λ n. length (made u (take i is)) + n) (ap length (append-nil (outputs_of u x))) in
+    omega (arith, next)
 
-pub count-start : (u : Universe) (p : Plan) (l : ℕ) → count_before u p l 0 ≡ 0
-unfolding made
+pub count-start : (u : Universe) (p : Plan) (l : ℕ) → outputs_before u (lane p l) 0 0 ≡ 0
 count-start u p l = refl
 
 count-take : (u : Universe) (a b : ℕ) (xs : List Instruction) → a ≤ b
     → length (made u (take a xs)) ≤ length (made u (take b xs))
-unfolding made
 count-take u zero b xs le = omega arith
 count-take u (suc a) zero xs le = absurd (omega (arith, le))
 count-take u (suc a) (suc b) [] le = omega arith
@@ -108,12 +107,12 @@ count-take u (suc a) (suc b) (x ∷ xs) le =
     let q = length-append (outputs_of u x) (made u (take b xs)) in omega (arith, rest, p, q)
 
 pub count-mono : (u : Universe) (p : Plan) (l a b : ℕ) → a ≤ b
-    → count_before u p l a ≤ count_before u p l b
-count-mono u p l a b le = count-take u a b (lane p l).instructions le
+    → outputs_before u (lane p l) a 0 ≤ outputs_before u (lane p l) b 0
+count-mono u p l a b le =
+    let more = count-take u a b (lane p l).instructions le in omega (arith, more)
 
 count-whole : (u : Universe) (a : ℕ) (xs : List Instruction)
     → length (made u (take a xs)) ≤ length (made u xs)
-unfolding made
 count-whole u zero xs = omega arith
 count-whole u (suc a) [] = omega arith
 count-whole u (suc a) (x ∷ xs) =
@@ -121,5 +120,7 @@ count-whole u (suc a) (x ∷ xs) =
     let p = length-append (outputs_of u x) (made u (take a xs)) in
     let q = length-append (outputs_of u x) (made u xs) in omega (arith, rest, p, q)
 
-pub count-few : (u : Universe) (p : Plan) (l a : ℕ) → count_before u p l a ≤ length (lane_made u p l)
-count-few u p l a = count-whole u a (lane p l).instructions
+pub count-few : (u : Universe) (p : Plan) (l a : ℕ)
+    → outputs_before u (lane p l) a 0 ≤ length (lane_outputs u (lane p l))
+count-few u p l a =
+    let few = count-whole u a (lane p l).instructions in omega (arith, few)

@@ -5,8 +5,7 @@ use Rattle.std.proofs.lemmas.Bool.{cases_eq}
 use Rattle.std.proofs.lemmas.Option.{none-some, same_Some}
 use Rattle.std.proofs.lemmas.List.{length-append, get_or_append_left}
 use Rattle.farm_model.specs.Universe.{Universe}
-use Rattle.plan_model.specs.Plan.{Plan}
-use Rattle.clock_laws.specs.Clocks.{count_before}
+use Rattle.plan_model.specs.Plan.{Plan, lane, outputs_before}
 use Rattle.wait_order.specs.declared.marks.Past.{Past}
 use Rattle.wait_order.specs.Marks.{past_at, no_past, ArePast}
 use Rattle.wait_order.specs.Points.{last_point}
@@ -14,7 +13,7 @@ use Rattle.wait_order.proofs.MarkPlaces.{split}
 
 -- one more place
 pub past_next : (u : Universe) (p : Plan) (l n : ℕ) (past : List Past) (own : ℕ) (last : Option ℕ)
-    → ArePast u p l n past → own ≡ count_before u p l n → last ≡ last_point p l n
+    → ArePast u p l n past → own ≡ outputs_before u (lane p l) n 0 → last ≡ last_point p l n
     → ArePast u p l (n + 1) (past ++ record { own = own; last = last } ∷ [])
 past_next u p l n past own last so_far own_is last_is =
     let new : Past = record { own = own; last = last } in
@@ -25,7 +24,7 @@ past_next u p l n past own last so_far own_is last_is =
             ap (λ k. get_or (past ++ new ∷ []) k no_past) (here ∙ sym so_far.long)
             ∙ get_or-append_seam past new [] no_past
             ∙ ap (λ (k : ℕ). make k last) own_is
-            ∙ ap (λ o. make (count_before u p l n) o) last_is
+            ∙ ap (λ o. make (outputs_before u (lane p l) n 0) o) last_is
             ∙ ap (past_at u p l) (sym here)
         | inr other ↦
             get_or_append_left past (new ∷ []) no_past i (omega (arith, lt, other, so_far.long))

@@ -9,8 +9,7 @@ use Rattle.farm_model.specs.Packages.{names}
 use Rattle.plan_model.specs.declared.instructions.Instruction.{Instruction}
 use Rattle.plan_model.specs.declared.instructions.Instruction.TheVariants.{When}
 use Rattle.plan_model.specs.Sound.{IsSound}
-use Rattle.plan_model.specs.Plan.{Plan, lane, instruction_at}
-use Rattle.clock_laws.specs.Clocks.{count_before}
+use Rattle.plan_model.specs.Plan.{Plan, lane, instruction_at, outputs_before}
 use Rattle.wait_order.specs.declared.column.Point.{Point}
 use Rattle.wait_order.specs.declared.marks.Mark.{Mark}
 use Rattle.wait_order.specs.Marks.{all_marks}
@@ -91,14 +90,15 @@ points_next u p marks ps w mark of long have at is k m lt at_k =
 -- what a mark says
 pub mark_facts : (u : Universe) (p : Plan) (marks : List Mark) (w : ℕ) (d : Mark)
     → marks ≡ all_marks u p (length p) → w < length marks
-    → ((get_or marks w d).own ≡ count_before u p (get_or marks w d).lane (get_or marks w d).place)
+    → ((get_or marks w d).own ≡ outputs_before u (lane p (get_or marks w d).lane)
+    (get_or marks w d).place 0)
     × ((get_or marks w d).lane < length p)
     × ((get_or marks w d).place < length (lane p (get_or marks w d).lane).instructions)
 mark_facts u p marks w d marks_are lt =
     let got = slice_get-get_or marks w d lt in
     let m = all_back u p (length p) w (get_or marks w d) (ap (λ ms. slice_get ms w) (sym marks_are) ∙ got) in
     subst
-    (λ (z : Mark). (z.own ≡ count_before u p z.lane z.place) × (z.lane < length p)
+    (λ (z : Mark). (z.own ≡ outputs_before u (lane p z.lane) z.place 0) × (z.lane < length p)
     × (z.place < length (lane p z.lane).instructions)) (sym m.is) (
       refl,
       m.below,

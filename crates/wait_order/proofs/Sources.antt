@@ -9,18 +9,18 @@ use Rattle.farm_model.specs.Universe.{Universe}
 use Rattle.farm_model.specs.Packages.{variants, initial, outputs}
 use Rattle.farm_model.specs.Sound.{IsKnown, IsUniverse}
 use Rattle.plan_model.specs.declared.instructions.Instruction.TheVariants.{Publish}
-use Rattle.plan_model.specs.Plan.{Plan, lane, instruction_at}
-use Rattle.clock_laws.specs.Clocks.{made, lane_made, count_before}
+use Rattle.plan_model.specs.Plan.{Plan, lane, instruction_at, lane_outputs, outputs_before}
+use Rattle.clock_laws.proofs.Made.{made}
 use Rattle.clock_laws.proofs.Sets.{some_below_length}
 use Rattle.clock_laws.proofs.Unique.{output_at}
 use Rattle.sat_rows.specs.Rows.{IsRowOf}
 use Rattle.wait_order.specs.declared.column.Source.{Source}
 use Rattle.wait_order.specs.declared.marks.Output.{Output}
-use Rattle.wait_order.specs.Marks.{output_with, outputs_at, lane_outputs}
+use Rattle.wait_order.specs.Marks.{output_with, outputs_at, outputs_with_points}
 use Rattle.wait_order.specs.Points.{last_point, IsNothing, IsSource, HasNothing, AreSources}
 use Rattle.wait_order.specs.Hits.{HasNoHit, IsHitSource, IsPushed, AreSourcesBelow}
 use Rattle.wait_order.proofs.Numbering.{count-next, count-mono, count-few}
-use Rattle.wait_order.proofs.MarkLaws.{get-first, get-then, lane_outputs-long}
+use Rattle.wait_order.proofs.MarkLaws.{get-first, get-then, outputs_with_points-long}
 
 slice_get-map : {A B : Type 0} (f : A → B) (xs : List A) (k : ℕ) (x : A) → slice_get xs k ≡ Some x
     → slice_get (map f xs) k ≡ Some (f x)
@@ -32,20 +32,22 @@ slice_get-map f (y ∷ ys) (suc k) x e = slice_get-map f ys k x e
 pub output-get : (u : Universe) (p : Plan) (l n k r m : ℕ) (c : Variant)
     → n ≤ length (lane p l).instructions → k < n → instruction_at p l k ≡ Some (Publish r)
     → slice_get (outputs u r) m ≡ Some c
-    → slice_get (lane_outputs u p l n) (count_before u p l k + m) ≡ Some
+    → slice_get (outputs_with_points u p l n) (outputs_before u (lane p l) k m) ≡ Some
     (output_with (last_point p l k) c)
 output-get u p l zero k r m c le lt at out = absurd (omega (arith, lt))
 output-get u p l (suc n) k r m c le lt at out =
     elim (cases_eq k n) [
       | inl here ↦
-          get-then (lane_outputs u p l n) (outputs_at u p l n (instruction_at p l n)) (count_before u p l k + m) m
-          (let a = lane_outputs-long u p l n (omega (arith, le)) in
-          let b = ap (count_before u p l) here in omega (arith, a, b))
+          get-then (outputs_with_points u p l n) (outputs_at u p l n (instruction_at p l n))
+          (outputs_before u (lane p l) k m) m
+          (let a = outputs_with_points-long u p l n (omega (arith, le)) in
+          let b = ap (λ i. outputs_before u (lane p l) i 0) here in omega (arith, a, b))
           ∙ ap (λ o. slice_get (outputs_at u p l n o) m) (ap (instruction_at p l) (sym here) ∙ at)
           ∙ slice_get-map (output_with (last_point p l n)) (outputs u r) m c out
           ∙ ap (λ j. Some (output_with (last_point p l j) c)) (sym here)
       | inr other ↦
-          get-first (lane_outputs u p l n) (outputs_at u p l n (instruction_at p l n)) (count_before u p l k + m)
+          get-first (outputs_with_points u p l n) (outputs_at u p l n (instruction_at p l n))
+          (outputs_before u (lane p l) k m)
           (output_with (last_point p l k) c)
           (output-get u p l n k r m c (omega (arith, le)) (omega (arith, lt, other)) at out)
     ]
@@ -57,29 +59,31 @@ pub record ComesFrom (u : Universe) (p : Plan) (l n : ℕ) (o : Output) : Type 0
   pub number : ℕ
   pub publish : instruction_at p l place ≡ Some (Publish recipe)
   pub output : slice_get (outputs u recipe) number ≡ Some o.variant
-  pub counted : n ≡ count_before u p l place + number
+  pub counted : n ≡ outputs_before u (lane p l) place number
   pub point : o.point ≡ last_point p l place
 
 module _ (u : Universe) (p : Plan) (h : ℕ) (outs : List Output)
-    (outs_are : outs ≡ lane_outputs u p h (length (lane p h).instructions)) where
-  pub outs-long : length outs ≡ length (lane_made u p h)
+    (outs_are : outs ≡ outputs_with_points u p h (length (lane p h).instructions)) where
+  pub outs-long : length outs ≡ length (lane_outputs u (lane p h))
   outs-long =
-      ap length outs_are ∙ lane_outputs-long u p h (length (lane p h).instructions) (omega arith)
-      ∙ ap (λ xs. length (made u xs)) (take_all (length (lane p h).instructions) (lane p h).instructions (omega arith))
+      let is = (lane p h).instructions in
+      let long = ap length outs_are ∙ outputs_with_points-long u p h (length is) (omega arith) in
+      let whole = ap (λ xs. length (made u xs)) (take_all (length is) is (omega arith)) in
+      omega (arith, long, whole)
 
   pub comes_from : (n : ℕ) (o : Output) → slice_get outs n ≡ Some o → ComesFrom u p h n o
   comes_from n o at =
       let lt = slice_get_within outs n o at in
-      let v = get_or (lane_made u p h) n o.variant in
+      let v = get_or (lane_outputs u (lane p h)) n o.variant in
       let a = output_at u (lane p h).instructions n v
-      (slice_get-get_or (lane_made u p h) n o.variant (omega (arith, lt, outs-long))) in
+      (slice_get-get_or (lane_outputs u (lane p h)) n o.variant (omega (arith, lt, outs-long))) in
       let k_lt = slice_get_within (lane p h).instructions a.place (Publish a.recipe) a.publish in
       let got =
       output-get u p h (length (lane p h).instructions) a.place a.recipe a.number v (omega arith) k_lt a.publish a.output in
       let same : o ≡ output_with (last_point p h a.place) v =
       same_Some o (output_with (last_point p h a.place) v)
       (sym at ∙ ap (λ os. slice_get os n) outs_are
-      ∙ ap (slice_get (lane_outputs u p h (length (lane p h).instructions))) a.counted ∙ got) in
+      ∙ ap (slice_get (outputs_with_points u p h (length (lane p h).instructions))) a.counted ∙ got) in
       record {
         place = a.place;
         recipe = a.recipe;
@@ -92,14 +96,15 @@ module _ (u : Universe) (p : Plan) (h : ℕ) (outs : List Output)
 
   module _ (sound : IsUniverse u) (l i : ℕ) (test : Variant → Bool) (row : List ℕ)
       (row_is : IsRowOf u test row) (lt : h < length p) (limit : ℕ)
-      (limit_is : limit ≡ (if h == l then count_before u p l i else length outs)) where
+      (limit_is : limit ≡ (if h == l then outputs_before u (lane p l) i 0 else length outs)) where
     known_out : (r m : ℕ) (c : Variant) → slice_get (outputs u r) m ≡ Some c → IsKnown u c
     known_out r m c out =
         subst (IsKnown u) (get_or_from_slice_get (outputs u r) m c c out)
         (sound.outputs_known r m c (slice_get_within (outputs u r) m c out))
 
-    own-limit : (h ≡ l) → limit ≡ count_before u p h i
-    own-limit same = limit_is ∙ (rw (eq-eqb h l same) refl) ∙ ap (λ g. count_before u p g i) (sym same)
+    own-limit : (h ≡ l) → limit ≡ outputs_before u (lane p h) i 0
+    own-limit same = limit_is ∙ (rw (eq-eqb h l same) refl)
+        ∙ ap (λ g. outputs_before u (lane p g) i 0) (sym same)
 
     other-limit : ((h ≡ l) → ⊥) → limit ≡ length outs
     other-limit other = limit_is ∙ (rw (ne_eqb h l other) refl)
@@ -129,7 +134,8 @@ module _ (u : Universe) (p : Plan) (h : ℕ) (outs : List Output)
 
     -- the first hit is no later than any output that is looked for
     number_below : (k r m : ℕ) (c : Variant) → instruction_at p h k ≡ Some (Publish r)
-        → slice_get (outputs u r) m ≡ Some c → (h ≡ l → k < i) → count_before u p h k + m < limit
+        → slice_get (outputs u r) m ≡ Some c → (h ≡ l → k < i)
+        → outputs_before u (lane p h) k m < limit
     number_below k r m c at out own =
         let next = count-next u p h k (Publish r) at in
         let long = some_below_length (outputs u r) m c out in
@@ -140,14 +146,14 @@ module _ (u : Universe) (p : Plan) (h : ℕ) (outs : List Output)
 
     hit_at : (k r m : ℕ) (c : Variant) → instruction_at p h k ≡ Some (Publish r)
         → slice_get (outputs u r) m ≡ Some c → test c ≡ true
-        → (n : ℕ) → HasNoHit row outs n → n ≤ count_before u p h k + m
+        → (n : ℕ) → HasNoHit row outs n → n ≤ outputs_before u (lane p h) k m
     hit_at k r m c at out sat n none =
-        elim (cases_lt (count_before u p h k + m) n) [
+        elim (cases_lt (outputs_before u (lane p h) k m) n) [
           | inl below ↦
               let k_lt = slice_get_within (lane p h).instructions k (Publish r) at in
-              let got = ap (λ os. slice_get os (count_before u p h k + m)) outs_are
+              let got = ap (λ os. slice_get os (outputs_before u (lane p h) k m)) outs_are
               ∙ output-get u p h (length (lane p h).instructions) k r m c (omega arith) k_lt at out in
-              let miss = none (count_before u p h k + m) (output_with (last_point p h k) c) below
+              let miss = none (outputs_before u (lane p h) k m) (output_with (last_point p h k) c) below
               got in
               let has = row_is.set c.name c.bit ∙ and_from _ _ (lt-ltb c.bit (variants u c.name) (known_out r m c out)) sat in
               absurd (both_ways _ miss has)
@@ -200,7 +206,7 @@ module _ (u : Universe) (p : Plan) (h : ℕ) (outs : List Output)
             | inl here ↦
                 let at1 = subst (λ z. instruction_at p z k ≡ Some (Publish r)) here at in
                 let early = hit_at k r m c at1 out sat hit.number hit.first.none in
-                let g_is = ap (λ z. count_before u p z k) here in
+                let g_is = ap (λ z. outputs_before u (lane p z) k 0) here in
                 let count = ap (λ (z : Source). z.count) hit.is in
                 record {
                   index = length ss;

@@ -10,8 +10,7 @@ use Rattle.farm_model.specs.declared.types.Variant.{Variant}
 use Rattle.farm_model.specs.Below.{some_below}
 use Rattle.farm_model.specs.Universe.{Universe}
 use Rattle.farm_model.specs.Packages.{contains, initial}
-use Rattle.plan_model.specs.Plan.{Plan}
-use Rattle.clock_laws.specs.Clocks.{lane_made}
+use Rattle.plan_model.specs.Plan.{Plan, lane, lane_outputs}
 use Rattle.wait_order.specs.declared.by_name.OutputPlace.{OutputPlace}
 use Rattle.wait_order.specs.declared.clock.Clock.{Clock}
 use Rattle.wait_order.specs.declared.marks.LaneOutputs.{LaneOutputs}
@@ -33,7 +32,7 @@ pub record IsClockFor (lanes : ℕ) (clock : Clock) : Type 0 where
 -- the initial archive, and of each lane so many outputs
 abbrev pub row_of : Universe → Plan → (ℕ → ℕ) → Variant → Bool
 row_of u p x v =
-    initial u v || some_below (length p) (λ j. contains (take (x j) (lane_made u p j)) v)
+    initial u v || some_below (length p) (λ j. contains (take (x j) (lane_outputs u (lane p j))) v)
 
 -- the output at a place counts, and is this variant of the name
 pub record IsCounted (lanes : List LaneOutputs) (x : ℕ → ℕ) (at : OutputPlace) (n b : ℕ)

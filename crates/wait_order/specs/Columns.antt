@@ -1,8 +1,7 @@
 -- The columns of the lanes: for each the greatest counts of its outputs.
 use Rattle.std.specs.Prelude.{◌≡◌, ℕ, ◌<◌, List, [], length, slice_index_or}
 use Rattle.farm_model.specs.Universe.{Universe}
-use Rattle.plan_model.specs.Plan.{Plan}
-use Rattle.clock_laws.specs.Clocks.{lane_made}
+use Rattle.plan_model.specs.Plan.{Plan, lane, lane_outputs}
 use Rattle.wait_order.specs.declared.column.Point.{Point}
 use Rattle.wait_order.specs.Column.{Counts, of_list, IsGreatestColumn}
 
@@ -18,4 +17,4 @@ pub record AreColumns (u : Universe) (p : Plan) (ps : List Point) (columns : Lis
     : Type 0 where
   pub long : length columns ≡ n
   pub each : (j : ℕ) → j < n
-      → IsGreatestColumn j (length (lane_made u p j)) ps (column_of columns j)
+      → IsGreatestColumn j (length (lane_outputs u (lane p j))) ps (column_of columns j)

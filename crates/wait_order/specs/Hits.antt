@@ -8,8 +8,7 @@ use Rattle.farm_model.specs.Packages.{satisfies_entry, initial, outputs}
 use Rattle.farm_model.specs.Sound.{IsKnown}
 use Rattle.plan_model.specs.declared.instructions.Instruction.{Instruction}
 use Rattle.plan_model.specs.declared.instructions.Instruction.TheVariants.{Publish}
-use Rattle.plan_model.specs.Plan.{Plan, instruction_at}
-use Rattle.clock_laws.specs.Clocks.{count_before}
+use Rattle.plan_model.specs.Plan.{Plan, instruction_at, lane, outputs_before}
 use Rattle.wait_order.specs.declared.column.Source.{Source}
 use Rattle.wait_order.specs.declared.column.Sources.{Sources}
 use Rattle.wait_order.specs.declared.column.Point.{Point}
@@ -61,7 +60,7 @@ pub record AreSourcesBelow (u : Universe) (p : Plan) (l i : ℕ) (test : Variant
   pub nothing : (c : Variant) → initial u c ≡ true → test c ≡ true → HasNothing ss
   pub outputs : (h k r m : ℕ) (c : Variant) → h < n → instruction_at p h k ≡ Some (Publish r)
       → slice_get (outputs u r) m ≡ Some c → test c ≡ true → (h ≡ l → k < i)
-      → HasFirst u p l i test ss h (count_before u p h k + suc m)
+      → HasFirst u p l i test ss h (outputs_before u (lane p h) k (suc m))
 
 -- the point of a mark
 pub record IsPointOf (u : Universe) (p : Plan) (mark : Mark) (of : Point) : Type 0 where

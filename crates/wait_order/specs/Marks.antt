@@ -6,8 +6,7 @@ use Rattle.farm_model.specs.declared.types.Variant.{Variant}
 use Rattle.farm_model.specs.Universe.{Universe}
 use Rattle.plan_model.specs.declared.instructions.Instruction.{Instruction}
 use Rattle.plan_model.specs.declared.instructions.Instruction.TheVariants.{Wait, When}
-use Rattle.plan_model.specs.Plan.{Plan, lane, instruction_at, outputs_of}
-use Rattle.clock_laws.specs.Clocks.{count_before}
+use Rattle.plan_model.specs.Plan.{Plan, lane, instruction_at, outputs_of, outputs_before}
 use Rattle.wait_order.specs.declared.marks.Mark.{Mark}
 use Rattle.wait_order.specs.declared.marks.Output.{Output}
 use Rattle.wait_order.specs.declared.marks.Past.{Past}
@@ -25,7 +24,7 @@ marks_of _ l i own last = []
 
 abbrev pub marks_at : Universe → Plan → ℕ → ℕ → Option Instruction → List Mark
 marks_at u p l i None = []
-marks_at u p l i (Some x) = marks_of x l i (count_before u p l i) (last_point p l i)
+marks_at u p l i (Some x) = marks_of x l i (outputs_before u (lane p l) i 0) (last_point p l i)
 
 -- the points of a lane before a place
 abbrev pub lane_marks : Universe → Plan → ℕ → ℕ → List Mark
@@ -41,20 +40,21 @@ abbrev pub outputs_at : Universe → Plan → ℕ → ℕ → Option Instruction
 outputs_at u p l i None = []
 outputs_at u p l i (Some x) = map (output_with (last_point p l i)) (outputs_of u x)
 
--- the outputs of a lane before a place
-abbrev pub lane_outputs : Universe → Plan → ℕ → ℕ → List Output
-lane_outputs u p l zero = []
-lane_outputs u p l (suc i) = lane_outputs u p l i ++ outputs_at u p l i (instruction_at p l i)
+-- the outputs of a lane before a place, each with its point
+abbrev pub outputs_with_points : Universe → Plan → ℕ → ℕ → List Output
+outputs_with_points u p l zero = []
+outputs_with_points u p l (suc i) =
+    outputs_with_points u p l i ++ outputs_at u p l i (instruction_at p l i)
 
 -- the outputs of each lane
 pub record AreLanes (u : Universe) (p : Plan) (lanes : List LaneOutputs) : Type 0 where
   pub long : length lanes ≡ length p
   pub each : (l : ℕ) (of : LaneOutputs) → slice_get lanes l ≡ Some of
-      → of.outputs.items ≡ lane_outputs u p l (length (lane p l).instructions)
+      → of.outputs.items ≡ outputs_with_points u p l (length (lane p l).instructions)
 
 -- what lane l has behind it at place i
 abbrev pub past_at : Universe → Plan → ℕ → ℕ → Past
-past_at u p l i = record { own = count_before u p l i; last = last_point p l i }
+past_at u p l i = record { own = outputs_before u (lane p l) i 0; last = last_point p l i }
 
 -- what is read past the last place
 abbrev pub no_past : Past
@@ -75,4 +75,4 @@ HavePast u p lanes =
 pub record IsMark (u : Universe) (p : Plan) (mark : Mark) : Type 0 where
   pub lane_there : mark.lane < length p
   pub place_there : mark.place < length (lane p mark.lane).instructions
-  pub own_is : mark.own ≡ count_before u p mark.lane mark.place
+  pub own_is : mark.own ≡ outputs_before u (lane p mark.lane) mark.place 0

@@ -7,9 +7,8 @@
 use Rattle.std.specs.Prelude.{◌≡◌, ℕ, ◌<◌, List, [], ◌∷◌, length}
 use Rattle.farm_model.specs.Universe.{Universe}
 use Rattle.farm_model.specs.Packages.{names}
-use Rattle.plan_model.specs.Plan.{Plan}
+use Rattle.plan_model.specs.Plan.{Plan, lane, lane_outputs}
 use Rattle.plan_model.specs.Sound.{IsSound}
-use Rattle.clock_laws.specs.Clocks.{lane_made}
 use Rattle.wait_order.specs.declared.by_name.OutputPlace.{OutputPlace}
 use Rattle.wait_order.specs.declared.marks.LaneOutputs.{LaneOutputs}
 use Rattle.wait_order.specs.ByName.{AreListed}
@@ -23,7 +22,7 @@ pub record PlanOutputs : Type 0 where
 -- of each lane below n one count: of all its outputs
 pub record AreTotals (u : Universe) (p : Plan) (n : ℕ) (totals : List (List ℕ)) : Type 0 where
   pub long : length totals ≡ n
-  pub each : (j : ℕ) → j < n → column_of totals j ≡ length (lane_made u p j) ∷ []
+  pub each : (j : ℕ) → j < n → column_of totals j ≡ length (lane_outputs u (lane p j)) ∷ []
 
 pub record AreOutputs (u : Universe) (p : Plan) (lanes : List LaneOutputs)
     (lists : List (List OutputPlace)) (totals : List (List ℕ)) : Type 0 where

@@ -15,9 +15,9 @@ use Rattle.farm_model.specs.Universe.{Universe}
 use Rattle.farm_model.specs.Packages.{satisfies_entry, initial, outputs}
 use Rattle.plan_model.specs.declared.instructions.Instruction.{Instruction}
 use Rattle.plan_model.specs.declared.instructions.Instruction.TheVariants.{Publish, Wait, When, Otherwise, EndWhen}
-use Rattle.plan_model.specs.Plan.{Plan, lane, instruction_at}
+use Rattle.plan_model.specs.Plan.{Plan, lane, instruction_at, outputs_before}
 use Rattle.plan_model.specs.Known.{is_of}
-use Rattle.clock_laws.specs.Clocks.{count_before, Clocks}
+use Rattle.clock_laws.specs.Clocks.{Clocks}
 use Rattle.wait_order.specs.declared.column.Source.{Source}
 use Rattle.wait_order.specs.declared.column.Point.{Point}
 use Rattle.wait_order.specs.declared.marks.LastPoints.{LastPoints}
@@ -98,7 +98,7 @@ pub record IsSource (u : Universe) (p : Plan) (l i : ℕ) (test : Variant → Bo
   pub output : slice_get (outputs u recipe) number ≡ Some variant
   pub satisfies : test variant ≡ true
   pub own : s.lane ≡ l → place < i
-  pub count : s.count ≡ count_before u p s.lane place + suc number
+  pub count : s.count ≡ outputs_before u (lane p s.lane) place (suc number)
   pub point : s.point ≡ last_point p s.lane place
 
 -- nothing is known where some source says so
@@ -128,14 +128,14 @@ pub record AreSources (u : Universe) (p : Plan) (l i : ℕ) (test : Variant → 
   pub outputs : (h k r m : ℕ) (c : Variant) → h < length p
       → instruction_at p h k ≡ Some (Publish r) → slice_get (outputs u r) m ≡ Some c
       → test c ≡ true → (h ≡ l → k < i)
-      → HasFirst u p l i test ss h (count_before u p h k + suc m)
+      → HasFirst u p l i test ss h (outputs_before u (lane p h) k (suc m))
 
 -- what looks for this, as a point
 pub record IsPointAt (u : Universe) (p : Plan) (l i : ℕ) (test : Variant → Bool) (of : Point)
     : Type 0 where
+  pub own : of.own ≡ outputs_before u (lane p l) i 0
   pub lane : of.lane ≡ l
   pub place : of.place ≡ i
-  pub own : of.own ≡ count_before u p l i
   pub before : of.before ≡ last_point p l i
   pub sources : AreSources u p l i test of.sources.items
 
@@ -167,4 +167,4 @@ pub record ArePoints (u : Universe) (p : Plan) (ps : List Point) : Type 0 where
 -- what a lane knows of its own outputs, and of the others' by the point whose counts hold
 abbrev pub clock_of : Universe → Plan → (ℕ → Counts) → Clocks
 clock_of u p columns l i j =
-    if j == l then count_before u p l i else count_at (columns j) (last_point p l i)
+    if j == l then outputs_before u (lane p l) i 0 else count_at (columns j) (last_point p l i)

@@ -1,13 +1,11 @@
 //! The outputs of a plan, listed by name, so that a row looks at those of its own names alone.
 
-ghost use Rattle.std.specs.Prelude.{◌≡◌, ℕ, ◌<◌, ◌++◌, ◌∷◌, [], IfOk, OnOk, length, slice_index_or};
+ghost use Rattle.std.specs.Prelude.{◌≡◌, ◌<◌, ◌++◌, ◌∷◌, [], Some, IfOk, OnOk, length, slice_get, slice_index_or};
 ghost use Rattle.farm_model.specs.Packages.{names};
-ghost use Rattle.farm_model.specs.Sound.{IsUniverse};
-ghost use Rattle.wait_order.specs.Hits.{AreKnownOutputs};
-ghost use Rattle.wait_order.specs.ByName.{AreKnownLanes, with_listed, IsListed, IsKept, AreLaneListed, AreListed};
+ghost use Rattle.wait_order.specs.declared.marks.LaneOutputs.{LaneOutputs};
+ghost use Rattle.wait_order.specs.ByName.{with_listed, IsListed, IsKept, AreLaneListed, AreListed};
 
-use crate::marks::{LaneOutputs, Output};
-use farm_universe::Universe;
+use crate::known_outputs::KnownOutputs;
 use std::alloc::{AllocError, Global};
 use std::marker::Model;
 
@@ -108,18 +106,15 @@ impl ByName {
     }
 
     /// Lists the outputs of a lane.
-    fn add_lane(
-        &mut self,
-        _universe: &Universe,
-        lane: usize,
-        outputs: &[Output],
-    ) -> Result<(), AllocError>
-        requires long { length self.old ≡ names _universe.now }
-        requires known { AreKnownOutputs _universe.now outputs.now }
+    fn add_lane(&mut self, known: KnownOutputs<'_>, lane: usize) -> Result<(), AllocError>
+        requires long { length self.old ≡ names known.universe.now }
+        requires lane { lane < length known.lanes.now }
         ensures kept { OnOk result (IsKept self.old self.new) }
-        ensures listed { OnOk result
-            (AreLaneListed self.new lane outputs.now (length outputs.now)) }
+        ensures listed { OnOk result ((of : LaneOutputs)
+            → slice_get known.entry.lanes.now lane ≡ Some of
+            → AreLaneListed self.new lane of.outputs.items (length of.outputs.items)) }
     {
+        let outputs = known.lanes[lane].outputs.as_slice();
         for number in 0..outputs.len() {
             let name = outputs[number].variant.name as usize;
             self.add(name, OutputPlace { lane, number })?;
@@ -132,19 +127,14 @@ impl ByName {
     /// # Errors
     ///
     /// [`AllocError`] where memory is refused.
-    pub fn of(
-        alloc: Global,
-        universe: &Universe,
-        lanes: &[LaneOutputs],
-    ) -> Result<ByName, AllocError>
-        requires { AreKnownLanes universe.now lanes.now }
-        ensures long { IfOk result (λ lists. length lists ≡ names universe.now) }
-        ensures listed { IfOk result (λ lists. AreListed lists lanes.now (length lanes.now)) }
+    pub fn of(alloc: Global, known: KnownOutputs<'_>) -> Result<ByName, AllocError>
+        ensures long { IfOk result (λ lists. length lists ≡ names known.entry.universe.now) }
+        ensures listed { IfOk result (λ lists.
+            AreListed lists known.entry.lanes.now (length known.entry.lanes.now)) }
     {
-        let mut lists = ByName::new(alloc, universe.names())?;
-        for lane in 0..lanes.len() {
-            let outputs = lanes[lane].outputs.as_slice();
-            lists.add_lane(universe, lane, outputs)?;
+        let mut lists = ByName::new(alloc, known.universe.names())?;
+        for lane in 0..known.lanes.len() {
+            lists.add_lane(known, lane)?;
         }
         Ok(lists)
     }

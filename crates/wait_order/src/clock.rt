@@ -1,24 +1,25 @@
 //! The clock of a place: how many outputs of each lane count there; and the words and rows that it
 //! stands for.
 
-ghost use Rattle.std.specs.Prelude.{◌≡◌, ◌⊎◌, ℕ, ◌<◌, ◌||◌, Bool, true, length, take, IfOk, OnOk, IsNone, IfSome};
+ghost use Rattle.std.specs.Prelude.{◌≡◌, ◌⊎◌, ℕ, ◌<◌, ◌||◌, Bool, true, Some, length, take, slice_get, IfOk, OnOk, IsNone, IfSome};
 ghost use Rattle.std.specs.List.{list_any};
 ghost use Rattle.clause_kernel.specs.Rows.{word_has};
 ghost use Rattle.farm_model.specs.declared.types.Variant.{Variant};
 ghost use Rattle.farm_model.specs.Packages.{names, initial, same};
-ghost use Rattle.farm_model.specs.Sound.{IsUniverse};
 ghost use Rattle.plan_model.specs.Plan as model;
 ghost use Rattle.sat_rows.specs.Rows.{IsWordFor, IsRowOf};
-ghost use Rattle.wait_order.specs.ByName.{AreKnownLanes, AreListed};
+ghost use Rattle.wait_order.specs.declared.marks.LaneOutputs.{LaneOutputs};
+ghost use Rattle.wait_order.specs.ByName.{AreListed};
 ghost use Rattle.wait_order.specs.Clock.{count_of, IsClockFor, row_of, IsCounted};
-ghost use Rattle.wait_order.specs.Hits.{AreKnownOutputs};
+ghost use Rattle.wait_order.specs.Column.{IsIn};
+ghost use Rattle.wait_order.specs.Columns.{column_of};
 ghost use Rattle.wait_order.specs.Marks.{AreLanes};
 
 use crate::by_name::{ByName, OutputPlace};
 use crate::columns::Counts;
-use crate::marks::{LaneOutputs, Output};
+use crate::known_outputs::KnownOutputs;
+use crate::marks::LaneOutputs;
 use bit_rows::Row;
-use farm_universe::Universe;
 use std::alloc::{AllocError, Global};
 
 /// How many outputs of each lane count at a place of a lane: of its own the `own` ones that it made,
@@ -32,9 +33,9 @@ pub struct Clock<'k> {
 }
 
 /// How many outputs of a lane count.
-fn counted(clock: &Clock, _lanes: usize, other: usize) -> u64
-    requires clock { IsClockFor _lanes clock.now }
-    requires other { other < _lanes }
+fn counted(clock: &Clock, other: usize) -> u64
+    requires other { other < length clock.now.columns.now }
+    requires there { IsIn (length (column_of clock.now.columns.now other)) clock.now.last }
     ensures { result ≡ count_of clock.now other }
 {
     if other == clock.lane {
@@ -59,7 +60,7 @@ fn counted_bit(lanes: &[LaneOutputs], clock: &Clock, name: u32, place: OutputPla
         return None;
     }
     let variant = outputs[place.number].variant;
-    if variant.name != name || place.number as u64 >= counted(clock, lanes.len(), place.lane) {
+    if variant.name != name || place.number as u64 >= counted(clock, place.lane) {
         return None;
     }
     Some(variant.bit)
@@ -67,68 +68,59 @@ fn counted_bit(lanes: &[LaneOutputs], clock: &Clock, name: u32, place: OutputPla
 
 /// The word, with the bit of the output at a place, if it is of this name and counts.
 fn with_counted(
-    _universe: &Universe,
-    lanes: &[LaneOutputs],
+    known: KnownOutputs<'_>,
     clock: &Clock,
     name: u32,
     place: OutputPlace,
     word: u64,
 ) -> u64
-    requires sound { IsUniverse _universe.now }
-    requires known { AreKnownLanes _universe.now lanes.now }
-    requires clock { IsClockFor (length lanes.now) clock.now }
+    requires clock { IsClockFor (length known.lanes.now) clock.now }
     ensures kept { (b : ℕ) → word_has word b ≡ true → word_has result b ≡ true }
-    ensures counted { (b : ℕ) → IsCounted lanes.now (count_of clock.now) place name b
+    ensures counted { (b : ℕ) → IsCounted known.entry.lanes.now (count_of clock.now) place name b
         → word_has result b ≡ true }
     ensures only { (b : ℕ) → word_has result b ≡ true → (word_has word b ≡ true)
-        ⊎ IsCounted lanes.now (count_of clock.now) place name b }
+        ⊎ IsCounted known.entry.lanes.now (count_of clock.now) place name b }
 {
-    match counted_bit(lanes, clock, name, place) {
+    match counted_bit(known.lanes, clock, name, place) {
         Some(bit) => word | 1 << bit,
         None => word,
     }
 }
 
 /// The variants of a name that are there from the start or among the outputs that count, as a word.
-pub fn clock_word(
-    universe: &Universe,
-    lanes: &[LaneOutputs],
-    by_name: &ByName,
-    clock: &Clock,
-    name: u32,
-) -> u64
-    requires sound { IsUniverse universe.now }
-    requires known { AreKnownLanes universe.now lanes.now }
-    requires lists { length by_name.now ≡ names universe.now }
-    requires listed { AreListed by_name.now lanes.now (length lanes.now) }
-    requires clock { IsClockFor (length lanes.now) clock.now }
-    requires name { name < names universe.now }
-    ensures { (p : model.Plan) → AreLanes universe.now p lanes.now
-        → IsWordFor universe.now (row_of universe.now p (count_of clock.now)) name result }
+pub fn clock_word(known: KnownOutputs<'_>, by_name: &ByName, clock: &Clock, name: u32) -> u64
+    requires lists { length by_name.now ≡ names known.universe.now }
+    requires listed { AreListed by_name.now known.lanes.now (length known.lanes.now) }
+    requires clock { IsClockFor (length known.lanes.now) clock.now }
+    requires name { name < names known.universe.now }
+    ensures { (p : model.Plan) → AreLanes known.entry.universe.now p known.entry.lanes.now
+        → IsWordFor known.entry.universe.now
+        (row_of known.entry.universe.now p (count_of clock.now)) name result }
 {
-    let mut word = universe.initial(name);
+    let mut word = known.universe.initial(name);
     let places = by_name.places(name as usize);
     for k in 0..places.len() {
-        word = with_counted(universe, lanes, clock, name, places[k], word);
+        word = with_counted(known, clock, name, places[k], word);
     }
     word
 }
 
 /// Adds the first `count` outputs of a lane, or all where there are fewer, to a row.
 fn add_outputs(
-    _universe: &Universe,
+    known: KnownOutputs<'_>,
     row: &mut Row,
-    outputs: &[Output],
+    lane: usize,
     count: u64,
 ) -> Result<(), AllocError>
-    requires sound { IsUniverse _universe.now }
-    requires row { length row.old ≡ names _universe.now }
-    requires known { AreKnownOutputs _universe.now outputs.now }
-    ensures long { OnOk result (length row.new ≡ names _universe.now) }
-    ensures added { OnOk result ((test : Variant → Bool) → IsRowOf _universe.now test row.old
-        → IsRowOf _universe.now
-        (λ v. test v || list_any (λ o. same o.variant v) (take count outputs.now)) row.new) }
+    requires row { length row.old ≡ names known.universe.now }
+    requires lane { lane < length known.lanes.now }
+    ensures long { OnOk result (length row.new ≡ names known.entry.universe.now) }
+    ensures added { OnOk result ((of : LaneOutputs) (test : Variant → Bool)
+        → slice_get known.entry.lanes.now lane ≡ Some of
+        → IsRowOf known.entry.universe.now test row.old → IsRowOf known.entry.universe.now
+        (λ v. test v || list_any (λ o. same o.variant v) (take count of.outputs.items)) row.new) }
 {
+    let outputs = known.lanes[lane].outputs.as_slice();
     let limit = count.min(outputs.len() as u64) as usize;
     for n in 0..limit {
         let variant = outputs[n].variant;
@@ -145,23 +137,20 @@ fn add_outputs(
 /// [`AllocError`] where memory is refused.
 pub fn clock_row(
     alloc: Global,
-    universe: &Universe,
+    known: KnownOutputs<'_>,
     archive: &Row,
-    lanes: &[LaneOutputs],
     clock: &Clock,
 ) -> Result<Row, AllocError>
-    requires sound { IsUniverse universe.now }
-    requires archive { IsRowOf universe.now (initial universe.now) archive.now }
-    requires known { AreKnownLanes universe.now lanes.now }
-    requires clock { IsClockFor (length lanes.now) clock.now }
-    ensures { IfOk result (λ row. (p : model.Plan) → AreLanes universe.now p lanes.now
-        → IsRowOf universe.now (row_of universe.now p (count_of clock.now)) row) }
+    requires archive { IsRowOf known.universe.now (initial known.universe.now) archive.now }
+    requires clock { IsClockFor (length known.lanes.now) clock.now }
+    ensures { IfOk result (λ row. (p : model.Plan)
+        → AreLanes known.entry.universe.now p known.entry.lanes.now → IsRowOf
+        known.entry.universe.now (row_of known.entry.universe.now p (count_of clock.now)) row) }
 {
     let mut row = archive.clone()?;
-    for other in 0..lanes.len() {
-        let outputs = lanes[other].outputs.as_slice();
-        let count = counted(clock, lanes.len(), other);
-        add_outputs(universe, &mut row, outputs, count)?;
+    for other in 0..known.lanes.len() {
+        let count = counted(clock, other);
+        add_outputs(known, &mut row, other, count)?;
     }
     Ok(row)
 }

@@ -1,6 +1,8 @@
 //! The columns of all lanes.
 
 ghost use Rattle.std.specs.Prelude.{◌≡◌, ◌∷◌, [], length, IfOk};
+ghost use Rattle.farm_model.specs.Universe as farm;
+ghost use Rattle.plan_model.specs.Plan as model;
 ghost use Rattle.wait_order.specs.Column as spec;
 ghost use Rattle.wait_order.specs.Column.{of_list, IsIn, ArePointsIn};
 ghost use Rattle.wait_order.specs.Marks.{AreLanes};
@@ -8,8 +10,6 @@ ghost use Rattle.wait_order.specs.Columns.{AreColumns};
 
 use crate::column::{Point, column, count_at};
 use crate::marks::LaneOutputs;
-use farm_universe::Universe;
-use plan_asm::Plan;
 use std::alloc::{AllocError, Global};
 use std::marker::Model;
 
@@ -49,16 +49,13 @@ impl Counts {
 /// The greatest counts of each lane's outputs.
 pub fn columns(
     alloc: Global,
-    _universe: &Universe,
-    _plan: &Plan,
     lanes: &[LaneOutputs],
     points: &[Point],
     visit: &[usize],
 ) -> Result<Vec<Counts>, AllocError>
-    requires lanes { AreLanes _universe.now _plan.now.lanes lanes.now }
-    requires points { ArePointsIn (length points.now) points.now }
-    ensures { IfOk result (λ columns. AreColumns _universe.now _plan.now.lanes points.now
-        columns.items (length _plan.now.lanes)) }
+    requires { ArePointsIn (length points.now) points.now }
+    ensures { IfOk result (λ columns. (u : farm.Universe) (p : model.Plan)
+        → AreLanes u p lanes.now → AreColumns u p points.now columns.items (length p)) }
 {
     let mut columns = Vec::new(alloc);
     for number in 0..lanes.len() {

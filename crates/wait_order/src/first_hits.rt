@@ -2,29 +2,26 @@
 
 ghost use Rattle.std.specs.Prelude.{◌≡◌, ℕ, ◌<◌, ◌≤◌, true, Some, IfOk, length, slice_get, slice_index};
 ghost use Rattle.farm_model.specs.Packages.{names};
-ghost use Rattle.farm_model.specs.Sound.{IsUniverse};
 ghost use Rattle.wait_order.specs.declared.marks.LaneOutputs.{LaneOutputs};
 ghost use Rattle.wait_order.specs.declared.marks.Output.{Output};
-ghost use Rattle.wait_order.specs.ByName.{IsOutput, AreKnownLanes, AreListed, IsEarliest, AreMoved, AreFirsts, has};
+ghost use Rattle.wait_order.specs.ByName.{IsOutput, AreListed, IsEarliest, AreMoved, AreFirsts, has};
 
 use crate::by_name::{ByName, OutputPlace};
+use crate::known_outputs::KnownOutputs;
 use crate::marks::LaneOutputs;
 use bit_rows::Row;
-use farm_universe::Universe;
 use std::alloc::{AllocError, Global};
 
 /// Tells whether the row has the output at a place.
-fn is_hit(_universe: &Universe, row: &Row, lanes: &[LaneOutputs], place: OutputPlace) -> bool
-    requires sound { IsUniverse _universe.now }
-    requires long { length row.now ≡ names _universe.now }
-    requires known { AreKnownLanes _universe.now lanes.now }
-    ensures { (o : Output) → IsOutput lanes.now place.lane place.number o
+fn is_hit(known: KnownOutputs<'_>, row: &Row, place: OutputPlace) -> bool
+    requires { length row.now ≡ names known.universe.now }
+    ensures { (o : Output) → IsOutput known.entry.lanes.now place.lane place.number o
         → result ≡ has row.now o }
 {
-    if place.lane >= lanes.len() {
+    if place.lane >= known.lanes.len() {
         return false;
     }
-    let outputs = lanes[place.lane].outputs.as_slice();
+    let outputs = known.lanes[place.lane].outputs.as_slice();
     if place.number >= outputs.len() {
         return false;
     }
@@ -33,19 +30,11 @@ fn is_hit(_universe: &Universe, row: &Row, lanes: &[LaneOutputs], place: OutputP
 }
 
 /// Looks at an output: where the row has it, its lane's number is to be no later.
-fn look_at(
-    universe: &Universe,
-    row: &Row,
-    lanes: &[LaneOutputs],
-    place: OutputPlace,
-    firsts: &mut [usize],
-)
-    requires sound { IsUniverse universe.now }
-    requires long { length row.now ≡ names universe.now }
-    requires known { AreKnownLanes universe.now lanes.now }
-    requires count { length firsts.old ≡ length lanes.now }
-    ensures moved { AreMoved row.now lanes.now firsts.old firsts.new }
-    ensures early { (o : Output) → IsOutput lanes.now place.lane place.number o
+fn look_at(known: KnownOutputs<'_>, row: &Row, place: OutputPlace, firsts: &mut [usize])
+    requires long { length row.now ≡ names known.universe.now }
+    requires count { length firsts.old ≡ length known.lanes.now }
+    ensures moved { AreMoved row.now known.entry.lanes.now firsts.old firsts.new }
+    ensures early { (o : Output) → IsOutput known.entry.lanes.now place.lane place.number o
         → has row.now o ≡ true → slice_index firsts.new place.lane ≤ place.number }
 {
     if place.lane >= firsts.len() {
@@ -54,7 +43,7 @@ fn look_at(
     if firsts[place.lane] <= place.number {
         return;
     }
-    if !is_hit(universe, row, lanes, place) {
+    if !is_hit(known, row, place) {
         return;
     }
     firsts[place.lane] = place.number;
@@ -62,29 +51,26 @@ fn look_at(
 
 /// Looks at the outputs of a name.
 fn look_at_name(
-    universe: &Universe,
+    known: KnownOutputs<'_>,
     row: &Row,
-    lanes: &[LaneOutputs],
     by_name: &ByName,
     name: usize,
     firsts: &mut [usize],
 )
-    requires sound { IsUniverse universe.now }
-    requires long { length row.now ≡ names universe.now }
-    requires known { AreKnownLanes universe.now lanes.now }
-    requires lists { length by_name.now ≡ names universe.now }
-    requires listed { AreListed by_name.now lanes.now (length lanes.now) }
+    requires long { length row.now ≡ names known.universe.now }
+    requires lists { length by_name.now ≡ names known.universe.now }
+    requires listed { AreListed by_name.now known.lanes.now (length known.lanes.now) }
     requires name { name < length row.now }
-    requires count { length firsts.old ≡ length lanes.now }
-    ensures moved { AreMoved row.now lanes.now firsts.old firsts.new }
-    ensures early { IsEarliest row.now lanes.now firsts.new name }
+    requires count { length firsts.old ≡ length known.lanes.now }
+    ensures moved { AreMoved row.now known.entry.lanes.now firsts.old firsts.new }
+    ensures early { IsEarliest row.now known.entry.lanes.now firsts.new name }
 {
     if row.word(name) == 0 {
         return;
     }
     let places = by_name.places(name);
     for k in 0..places.len() {
-        look_at(universe, row, lanes, places[k], firsts);
+        look_at(known, row, places[k], firsts);
     }
 }
 
@@ -109,22 +95,19 @@ fn ends(alloc: Global, lanes: &[LaneOutputs]) -> Result<Vec<usize>, AllocError>
 /// [`AllocError`] where memory is refused.
 pub fn first_hits(
     alloc: Global,
-    universe: &Universe,
+    known: KnownOutputs<'_>,
     row: &Row,
-    lanes: &[LaneOutputs],
     by_name: &ByName,
 ) -> Result<Vec<usize>, AllocError>
-    requires sound { IsUniverse universe.now }
-    requires long { length row.now ≡ names universe.now }
-    requires known { AreKnownLanes universe.now lanes.now }
-    requires lists { length by_name.now ≡ names universe.now }
-    requires listed { AreListed by_name.now lanes.now (length lanes.now) }
-    ensures { IfOk result (λ firsts. AreFirsts row.now lanes.now firsts.items) }
+    requires long { length row.now ≡ names known.universe.now }
+    requires lists { length by_name.now ≡ names known.universe.now }
+    requires listed { AreListed by_name.now known.lanes.now (length known.lanes.now) }
+    ensures { IfOk result (λ firsts. AreFirsts row.now known.entry.lanes.now firsts.items) }
 {
-    let mut firsts = ends(alloc, lanes)?;
+    let mut firsts = ends(alloc, known.lanes)?;
     let mut name = row.skip(0);
     while name < row.len() {
-        look_at_name(universe, row, lanes, by_name, name, &mut firsts);
+        look_at_name(known, row, by_name, name, &mut firsts);
         name = row.skip(name + 1);
     }
     Ok(firsts)

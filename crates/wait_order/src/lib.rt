@@ -8,6 +8,7 @@ mod columns;
 mod entries;
 mod first_hits;
 mod known;
+mod known_outputs;
 mod marks;
 mod outputs;
 mod plan_rows;

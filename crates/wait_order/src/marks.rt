@@ -5,7 +5,7 @@ ghost use Rattle.std.specs.Prelude.{◌≡◌, ◌<◌, ◌+◌, ◌++◌, suc, 
 ghost use Rattle.farm_model.specs.Packages.{outputs};
 ghost use Rattle.plan_model.specs.Plan.{lane, outputs_of};
 ghost use Rattle.wait_order.specs.Points.{last_after};
-ghost use Rattle.wait_order.specs.Marks.{output_with, marks_of, all_marks, lane_outputs, AreLanes, ArePast, HavePast};
+ghost use Rattle.wait_order.specs.Marks.{output_with, marks_of, all_marks, outputs_with_points, AreLanes, ArePast, HavePast};
 
 use farm_model::Variant;
 use farm_universe::Universe;
@@ -199,7 +199,7 @@ fn walk_lane(
     ensures marks { OnOk result
         (marks.new.items ≡ all_marks universe.now plan.now.lanes (number + 1)) }
     ensures outputs { IfOk result (λ found. found.outputs.items
-        ≡ lane_outputs universe.now plan.now.lanes number
+        ≡ outputs_with_points universe.now plan.now.lanes number
         (length (lane plan.now.lanes number).instructions)) }
     ensures past { IfOk result (λ found. ArePast universe.now plan.now.lanes number
         (suc (length (lane plan.now.lanes number).instructions)) found.past.items) }

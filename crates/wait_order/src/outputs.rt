@@ -2,7 +2,9 @@
 
 ghost use Rattle.std.specs.Prelude.{◌≡◌, ℕ, ◌<◌, ◌≤◌, length, IfOk};
 ghost use Rattle.farm_model.specs.Packages.{names, initial};
+ghost use Rattle.farm_model.specs.Universe as farm;
 ghost use Rattle.plan_model.specs.Known.{possible};
+ghost use Rattle.plan_model.specs.Plan as model;
 ghost use Rattle.plan_model.specs.Plan.{lane};
 ghost use Rattle.plan_model.specs.Sound.{IsSound};
 ghost use Rattle.sat_rows.specs.Rows.{IsWordFor, IsRowOf};
@@ -13,6 +15,7 @@ ghost use Rattle.wait_order.specs.Outputs.{AreTotals};
 use crate::by_name::ByName;
 use crate::clock::{Clock, clock_row, clock_word};
 use crate::columns::Counts;
+use crate::known_outputs::KnownOutputs;
 use crate::marks::{LaneOutputs, Past, walk};
 use bit_rows::Row;
 use farm_universe::Universe;
@@ -47,15 +50,9 @@ impl Model for Outputs {
 }
 
 /// For each lane one count, of all its outputs: that of a point that knows all of them.
-fn totals(
-    alloc: Global,
-    _universe: &Universe,
-    _plan: &Plan,
-    lanes: &[LaneOutputs],
-) -> Result<Vec<Counts>, AllocError>
-    requires { AreLanes _universe.now _plan.now.lanes lanes.now }
-    ensures { IfOk result (λ totals.
-        AreTotals _universe.now _plan.now.lanes (length _plan.now.lanes) totals.items) }
+fn totals(alloc: Global, lanes: &[LaneOutputs]) -> Result<Vec<Counts>, AllocError>
+    ensures { IfOk result (λ totals. (u : farm.Universe) (p : model.Plan)
+        → AreLanes u p lanes.now → AreTotals u p (length p) totals.items) }
 {
     let mut totals = Vec::new(alloc);
     for number in 0..lanes.len() {
@@ -79,8 +76,12 @@ impl Outputs {
         ensures universe { IfOk result (λ outputs. outputs.universe ≡ universe.now) }
         ensures plan { IfOk result (λ outputs. outputs.plan ≡ plan.now.lanes) }
     {
-        let by_name = ByName::of(alloc, universe, &lanes)?;
-        let totals = totals(alloc, universe, plan, &lanes)?;
+        let known = KnownOutputs {
+            universe,
+            lanes: &lanes,
+        };
+        let by_name = ByName::of(alloc, known)?;
+        let totals = totals(alloc, &lanes)?;
         Ok(Outputs {
             universe: Snapshot::of(universe),
             plan: Snapshot::of(plan),
@@ -122,7 +123,11 @@ impl Outputs {
         ensures { IsWordFor universe.now
             (row_of universe.now self.now.plan (count_of clock.now)) name result }
     {
-        clock_word(universe, &self.lanes, &self.by_name, clock, name)
+        let known = KnownOutputs {
+            universe,
+            lanes: &self.lanes,
+        };
+        clock_word(known, &self.by_name, clock, name)
     }
 
     /// The variants of all names, as a row. `archive` is the initial archive.
@@ -139,7 +144,11 @@ impl Outputs {
         ensures { IfOk result (IsRowOf universe.now
             (row_of universe.now self.now.plan (count_of clock.now))) }
     {
-        clock_row(alloc, universe, archive, &self.lanes, clock)
+        let known = KnownOutputs {
+            universe,
+            lanes: &self.lanes,
+        };
+        clock_row(alloc, known, archive, clock)
     }
 
     /// What of a name may be in the archive at a place of a lane, as a word: what is there from the

@@ -38,7 +38,7 @@ pub fn knowledge(
     let marks = walk(alloc, universe, plan)?;
     let points = points(alloc, universe, tables, plan, &marks)?;
     let visit = visit(alloc, &points)?;
-    let columns = columns(alloc, universe, plan, &marks.lanes, &points, &visit)?;
+    let columns = columns(alloc, &marks.lanes, &points, &visit)?;
     let outputs = Outputs::of_lanes(alloc, universe, plan, marks.lanes)?;
     Ok(Known::new(outputs, columns))
 }

@@ -20,6 +20,7 @@ use crate::by_name::ByName;
 use crate::column::{Point, Source, Sources};
 use crate::entries::Entries;
 use crate::first_hits::first_hits;
+use crate::known_outputs::KnownOutputs;
 use crate::marks::{LaneOutputs, Mark, Marks, Output};
 use crate::standing::initial_row;
 use bit_rows::Row;
@@ -99,8 +100,12 @@ fn sources_of(alloc: Global, supply: Supply<'_, '_>, row: &Row) -> Result<Vec<So
         (length supply.entry.plan.now.lanes) 0 test sources.items) }
 {
     let lanes = supply.lanes;
+    let known = KnownOutputs {
+        universe: supply.universe,
+        lanes,
+    };
     let mut sources = initial_sources(alloc, supply, row)?;
-    let firsts = first_hits(alloc, supply.universe, row, lanes, supply.by_name)?;
+    let firsts = first_hits(alloc, known, row, supply.by_name)?;
     for number in 0..lanes.len() {
         let outputs = lanes[number].outputs.as_slice();
         push_hit(number, outputs, firsts[number], &mut sources)?;
@@ -290,7 +295,11 @@ pub fn points(
     ensures { IfOk result (λ points. ArePoints universe.now plan.now.lanes points.items) }
 {
     let archive = initial_row(alloc, universe)?;
-    let by_name = ByName::of(alloc, universe, &marks.lanes)?;
+    let known = KnownOutputs {
+        universe,
+        lanes: &marks.lanes,
+    };
+    let by_name = ByName::of(alloc, known)?;
     let supply = Supply {
         universe,
         tables,

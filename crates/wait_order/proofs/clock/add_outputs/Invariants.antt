@@ -8,6 +8,6 @@ use Rattle.wait_order.proofs.clock.add_outputs.Given as goal
 -- the outputs so far
 abbrev pub invariant-loop-n : goal.invariant-loop-n
 invariant-loop-n l =
-    (length l.row ≡ names l._universe)
-    × ((test : Variant → Bool) → IsRowOf l._universe test l.initial.row
-    → IsRowOf l._universe (λ v. test v || any_output (take l.n l.outputs) v) l.row)
+    (length l.row ≡ names l.known.universe.now)
+    × ((test : Variant → Bool) → IsRowOf l.known.universe.now test l.initial.row
+    → IsRowOf l.known.universe.now (λ v. test v || any_output (take l.n l.outputs) v) l.row)

@@ -10,5 +10,7 @@ use Rattle.wait_order.proofs.clock.clock_row.Given as goal
 -- the lanes so far
 abbrev pub invariant-loop-other : goal.invariant-loop-other
 invariant-loop-other l =
-    (length l.row ≡ names l.universe) × ((p : Plan) → AreLanes l.universe p l.lanes
-    → IsRowOf l.universe (so_far l.universe p (initial l.universe) (count_of l.clock) l.other) l.row)
+    (length l.row ≡ names l.known.universe.now)
+    × ((p : Plan) → AreLanes l.known.universe.now p l.known.lanes.now
+    → IsRowOf l.known.universe.now (so_far l.known.universe.now p
+    (initial l.known.universe.now) (count_of l.clock) l.other) l.row)

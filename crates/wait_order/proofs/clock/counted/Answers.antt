@@ -1,4 +1,4 @@
-use Rattle.std.proofs.Common.{ℕ, List, [], length, sym, subst, arith}
+use Rattle.std.proofs.Common.{ℕ, List, [], length, sym, subst}
 use Rattle.std.proofs.lemmas.List.{get_or_default}
 use Rattle.wait_order.specs.Column.{IsIn}
 use Rattle.wait_order.proofs.clock.counted.Goals as goal
@@ -9,5 +9,5 @@ at-requires c =
     let j = c.args.other in
     subst (λ (xs : List ℕ). IsIn (length xs) c.args.clock.now.last)
     (sym (get_or_default columns j c.index-clock-other.result []
-    (omega (arith, c.requires.other, c.requires.clock.long))))
-    (c.requires.clock.there j c.requires.other)
+    c.requires.other))
+    c.requires.there

@@ -6,14 +6,14 @@ use Rattle.wait_order.proofs.first_hits.first_hits.Goals as goal
 
 pub loop-name-init : goal.loop-name-init
 loop-name-init c =
-    so_far_start c.args.row.now c.args.lanes.now c.in_ok-firsts.firsts.items c.skip-name.result
+    so_far_start c.args.row.now c.args.known.lanes.now c.in_ok-firsts.firsts.items c.skip-name.result
     c.in_ok-firsts.ensures.long c.in_ok-firsts.ensures.ends c.skip-name.ensures.inside
     c.skip-name.ensures.none
 
 pub loop-name-preserved : goal.loop-name-preserved
 loop-name-preserved c =
     let row = c.args.row.now in
-    let lanes = c.args.lanes.now in
+    let lanes = c.args.known.lanes.now in
     let old = c.loop-name.firsts.items in
     let new = c.look_at_name.new.firsts in
     let next = c.skip-name-in-loop-name.result in
@@ -28,6 +28,6 @@ loop-name-preserved c =
 
 pub returns : goal.returns
 returns c =
-    all_looked_at c.args.row.now c.args.lanes.now c.args.universe.now c.loop-name.firsts.items
-    c.loop-name.name c.requires.known c.requires.long
+    all_looked_at c.args.row.now c.args.known.lanes.now c.args.known.universe.now c.loop-name.firsts.items
+    c.loop-name.name c.args.known.known c.requires.long
     (omega (arith, c.loop-name-test.false, c.len.ensures)) c.loop-name.invariant

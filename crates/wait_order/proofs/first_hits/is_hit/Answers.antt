@@ -14,13 +14,13 @@ has-requires-clause-named c =
     let outs = c.as_slice-outputs.result.now in
     let n = c.args.place.number in
     let known =
-    known_at c.args.lanes.now c.args.place.lane n c.index-lanes-place.result outs none
-    c.as_slice-outputs.ensures.value (omega (arith, c.if-place-lanes.false)) c.args._universe.now
-    c.requires.known (omega (arith, c.if-place-outputs.false)) in
+    known_at c.args.known.lanes.now c.args.place.lane n c.index-known-place.result outs none
+    c.as_slice-outputs.ensures.value (omega (arith, c.if-place-known.false)) c.args.known.universe.now
+    c.args.known.known (omega (arith, c.if-place-outputs.false)) in
     let there =
-    named c.args._universe.now (get_or outs n none).variant.name (get_or outs n none).variant.bit
+    named c.args.known.universe.now (get_or outs n none).variant.name (get_or outs n none).variant.bit
     known in
-    omega (arith, there, c.requires.long)
+    omega (arith, there, c.requires)
 
 pub has-requires-clause-within : goal.has-requires-clause-within
 unfolding none
@@ -28,14 +28,14 @@ has-requires-clause-within c =
     let outs = c.as_slice-outputs.result.now in
     let n = c.args.place.number in
     let known =
-    known_at c.args.lanes.now c.args.place.lane n c.index-lanes-place.result outs none
-    c.as_slice-outputs.ensures.value (omega (arith, c.if-place-lanes.false)) c.args._universe.now
-    c.requires.known (omega (arith, c.if-place-outputs.false)) in
-    omega (arith, known, c.requires.sound.few (get_or outs n none).variant.name)
+    known_at c.args.known.lanes.now c.args.place.lane n c.index-known-place.result outs none
+    c.as_slice-outputs.ensures.value (omega (arith, c.if-place-known.false)) c.args.known.universe.now
+    c.args.known.known (omega (arith, c.if-place-outputs.false)) in
+    omega (arith, known, c.args.known.sound.few (get_or outs n none).variant.name)
 
 pub returns : goal.returns
 unfolding none
 returns c =
-    hit_at c.args.lanes.now c.args.place.lane c.args.place.number c.index-lanes-place.result
+    hit_at c.args.known.lanes.now c.args.place.lane c.args.place.number c.index-known-place.result
     c.as_slice-outputs.result.now none c.as_slice-outputs.ensures.value
-    (omega (arith, c.if-place-lanes.false)) c.args.row.now c.has.result c.has.ensures
+    (omega (arith, c.if-place-known.false)) c.args.row.now c.has.result c.has.ensures

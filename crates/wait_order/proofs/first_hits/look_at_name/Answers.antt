@@ -9,7 +9,7 @@ pub loop-k-preserved : goal.loop-k-preserved
 unfolding none
 loop-k-preserved c =
     let row = c.args.row.now in
-    let lanes = c.args.lanes.now in
+    let lanes = c.args.known.lanes.now in
     let old = c.loop-k.firsts in
     let new = c.look_at.new.firsts in
     let so_far = c.loop-k.invariant in (
@@ -20,6 +20,6 @@ loop-k-preserved c =
 
 pub returns-clause-early : goal.returns-clause-early
 returns-clause-early c =
-    name_done c.args.row.now c.args.lanes.now c.args.by_name.now c.places-places.result.now
+    name_done c.args.row.now c.args.known.lanes.now c.args.by_name.now c.places-places.result.now
     c.loop-k.firsts c.args.name c.loop-k.k c.requires.listed c.places-places.ensures
     c.loop-k-test.false c.loop-k.invariant.1

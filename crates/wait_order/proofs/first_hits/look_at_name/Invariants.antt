@@ -5,5 +5,5 @@ use Rattle.wait_order.proofs.first_hits.look_at_name.Given as goal
 -- the places so far
 abbrev pub invariant-loop-k : goal.invariant-loop-k
 invariant-loop-k l =
-    AreMoved l.row l.lanes l.initial.firsts l.firsts
-    × AreEarly l.row l.lanes l.places l.k l.firsts
+    AreMoved l.row l.known.lanes.now l.initial.firsts l.firsts
+    × AreEarly l.row l.known.lanes.now l.places l.k l.firsts

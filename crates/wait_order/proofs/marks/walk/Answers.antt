@@ -1,7 +1,7 @@
 use Rattle.std.proofs.Common.{◌≡◌, suc, length, arith}
 use Rattle.plan_model.specs.Plan.{lane}
 use Rattle.wait_order.specs.declared.marks.LaneOutputs.{LaneOutputs}
-use Rattle.wait_order.specs.Marks.{lane_outputs, ArePast}
+use Rattle.wait_order.specs.Marks.{outputs_with_points, ArePast}
 use Rattle.wait_order.proofs.PastLaws.{each_next}
 use Rattle.wait_order.proofs.marks.walk.Goals as goal
 
@@ -17,7 +17,7 @@ loop-number-preserved c =
       marks = c.in_ok-walk_lane.ensures.marks;
       long = omega (arith, c.in_ok-push.ensures.len, so_far.long);
       each = each_next
-          (λ k (w : LaneOutputs). w.outputs.items ≡ lane_outputs u p k (length (lane p k).instructions))
+          (λ k (w : LaneOutputs). w.outputs.items ≡ outputs_with_points u p k (length (lane p k).instructions))
           lanes more c.loop-number.number of c.in_ok-push.ensures.items so_far.long so_far.each
           c.in_ok-walk_lane.ensures.outputs;
       past = each_next

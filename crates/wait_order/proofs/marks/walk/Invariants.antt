@@ -1,7 +1,7 @@
 use Rattle.std.proofs.Common.{◌≡◌, ℕ, suc, length, Some, slice_get}
 use Rattle.plan_model.specs.Plan.{lane}
 use Rattle.wait_order.specs.declared.marks.LaneOutputs.{LaneOutputs}
-use Rattle.wait_order.specs.Marks.{all_marks, lane_outputs, ArePast}
+use Rattle.wait_order.specs.Marks.{all_marks, outputs_with_points, ArePast}
 use Rattle.wait_order.proofs.marks.walk.Given as goal
 
 -- the lanes so far
@@ -11,7 +11,7 @@ invariant-loop-number l =
       marks : l.marks.items ≡ all_marks l.universe l.plan.lanes l.number;
       long : length l.lanes.items ≡ l.number;
       each : (k : ℕ) (of : LaneOutputs) → slice_get l.lanes.items k ≡ Some of
-          → of.outputs.items ≡ lane_outputs l.universe l.plan.lanes k
+          → of.outputs.items ≡ outputs_with_points l.universe l.plan.lanes k
           (length (lane l.plan.lanes k).instructions);
       past : (k : ℕ) (of : LaneOutputs) → slice_get l.lanes.items k ≡ Some of
           → ArePast l.universe l.plan.lanes k (suc (length (lane l.plan.lanes k).instructions))

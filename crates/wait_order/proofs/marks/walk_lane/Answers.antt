@@ -3,7 +3,7 @@ use Rattle.plan_model.specs.Plan.{lane}
 use Rattle.wait_order.specs.declared.marks.LastPoints.{LastPoints}
 use Rattle.wait_order.specs.Marks.{ArePast}
 use Rattle.wait_order.proofs.Leading.{read_at}
-use Rattle.wait_order.proofs.MarkLaws.{passed, lane_outputs-long}
+use Rattle.wait_order.proofs.MarkLaws.{passed, outputs_with_points-long}
 use Rattle.wait_order.proofs.PastLaws.{past_next}
 use Rattle.wait_order.proofs.marks.walk_lane.Goals as goal
 
@@ -18,7 +18,7 @@ loop-place-preserved c =
     read_at p l c.instructions-instructions.result.now i c.index-instructions-place.result xs
     c.loop-place-test.true c.index-instructions-place.is in
     let so_far = c.loop-place.invariant.passed in
-    let long = lane_outputs-long u p l i (omega (arith, c.loop-place-test.true, ap length xs)) in
+    let long = outputs_with_points-long u p l i (omega (arith, c.loop-place-test.true, ap length xs)) in
     record {
       passed = passed u p l i c.index-instructions-place.result c.loop-place.marks.items
           c.pass.new.marks.items c.loop-place.outputs.items c.pass.new.outputs.items
@@ -42,7 +42,7 @@ returns-clause-past c =
     let xs = c.instructions-instructions.ensures ∙ ap (λ of. of.instructions) c.lane.ensures in
     let end : i ≡ n = omega (arith, c.loop-place-test.false, c.loop-place.auto.place-end, ap length xs) in
     let so_far = c.loop-place.invariant.passed in
-    let long = lane_outputs-long u p l i (omega (arith, end)) in
+    let long = outputs_with_points-long u p l i (omega (arith, end)) in
     subst (λ k. ArePast u p l k c.push-2.new.self.items)
     (let e : i + 1 ≡ suc n = omega (arith, end) in e)
     (subst (ArePast u p l (i + 1)) (sym c.in_ok-push-2.ensures.items)

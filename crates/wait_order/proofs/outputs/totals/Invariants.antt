@@ -1,6 +1,10 @@
+use Rattle.farm_model.specs.Universe.{Universe}
+use Rattle.plan_model.specs.Plan.{Plan}
+use Rattle.wait_order.specs.Marks.{AreLanes}
 use Rattle.wait_order.specs.Outputs.{AreTotals}
 use Rattle.wait_order.proofs.outputs.totals.Given as goal
 
 -- the lanes so far
 abbrev pub invariant-loop-number : goal.invariant-loop-number
-invariant-loop-number l = AreTotals l._universe l._plan.lanes l.number l.totals.items
+invariant-loop-number l =
+    (u : Universe) (p : Plan) → AreLanes u p l.lanes → AreTotals u p l.number l.totals.items

@@ -1,10 +1,12 @@
-use Rattle.std.proofs.Common.{◌≡◌, ℕ, List, sym, ap, subst, ◌∙◌}
+use Rattle.std.proofs.Common.{◌≡◌, ℕ, List, length, sym, ap, subst, ◌∙◌}
 use Rattle.farm_model.specs.Universe.{Universe}
 use Rattle.plan_model.specs.Known.{IsGreatest}
 use Rattle.plan_model.specs.Plan.{Plan}
+use Rattle.wait_order.specs.declared.column.Point.{Point}
 use Rattle.wait_order.specs.Points.{ArePoints}
 use Rattle.wait_order.specs.Columns.{column_of}
-use Rattle.wait_order.specs.KnownRows.{KnownRows, rows_of}
+use Rattle.wait_order.specs.Marks.{AreLanes}
+use Rattle.wait_order.specs.KnownRows.{KnownRows, rows_of, HasCounts}
 use Rattle.wait_order.proofs.Growing.{points_in}
 use Rattle.wait_order.proofs.Linked.{rows_are_greatest}
 use Rattle.wait_order.proofs.plan_rows.knowledge.Goals as goal
@@ -12,11 +14,26 @@ use Rattle.wait_order.proofs.plan_rows.knowledge.Goals as goal
 make : Universe → Plan → List (List ℕ) → KnownRows
 make u p columns = record { universe = u; plan = p; columns = columns }
 
-pub columns-requires-clause-points : goal.columns-requires-clause-points
-columns-requires-clause-points c =
+pub columns-requires : goal.columns-requires
+columns-requires c =
     points_in c.args.universe.now c.args.plan.now.lanes c.requires.sound c.deref-3.result.now
     (subst (ArePoints c.args.universe.now c.args.plan.now.lanes) (sym c.deref-3.ensures.value)
     c.in_ok-points.ensures)
+
+pub new-requires : goal.new-requires
+new-requires c =
+    let u = c.args.universe.now in
+    let p = c.args.plan.now.lanes in
+    let columns = c.in_ok-columns.columns.items in
+    let are = c.in_ok-columns.ensures u p
+    (subst (AreLanes u p) (sym c.deref-2.ensures.value) c.in_ok-marks.ensures.lanes) in
+    let points = ap (λ (ps : List Point). length ps) c.deref-3.ensures.value
+    ∙ c.in_ok-points.ensures.long in
+    subst (λ q. HasCounts q columns) (sym c.in_ok-outputs.ensures.plan)
+    (record {
+      long = are.long;
+      each = λ j lt. (are.each j lt).long ∙ points;
+    })
 
 pub returns-clause-greatest : goal.returns-clause-greatest
 unfolding make
@@ -25,6 +42,8 @@ returns-clause-greatest c =
     let p = c.args.plan.now.lanes in
     let ps = c.deref-3.result.now in
     let columns = c.in_ok-columns.columns.items in
+    let are = c.in_ok-columns.ensures u p
+    (subst (AreLanes u p) (sym c.deref-2.ensures.value) c.in_ok-marks.ensures.lanes) in
     let outputs = c.in_ok-outputs.outputs in
     let known : c.new.result ≡ make u p columns =
     c.new.ensures ∙ ap (λ w. make w outputs.plan columns) c.in_ok-outputs.ensures.universe
@@ -32,4 +51,4 @@ returns-clause-greatest c =
     subst (λ k. IsGreatest u p (rows_of k)) (sym known)
     (rows_are_greatest u p c.requires.sound ps
     (subst (ArePoints u p) (sym c.deref-3.ensures.value) c.in_ok-points.ensures)
-    (column_of columns) c.in_ok-columns.ensures.each)
+    (column_of columns) are.each)

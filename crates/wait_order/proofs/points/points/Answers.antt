@@ -11,11 +11,14 @@ use Rattle.wait_order.proofs.points.points.Goals as goal
 none : Mark
 none = record { lane = 0; place = 0; own = 0; before = None }
 
-pub of-requires : goal.of-requires
-of-requires c =
-    subst (AreKnownLanes c.args.universe.now) (sym c.deref.ensures.value)
-    (lanes_known c.args.universe.now c.args.plan.now.lanes c.args.marks.now.lanes.items
-    c.requires.lanes c.requires.sound.universe)
+pub invariant_of-known : goal.invariant_of-known
+invariant_of-known c =
+    record {
+      sound = c.requires.sound.universe;
+      known = subst (AreKnownLanes c.args.universe.now) (sym c.deref.ensures.value)
+          (lanes_known c.args.universe.now c.args.plan.now.lanes c.args.marks.now.lanes.items
+          c.requires.lanes c.requires.sound.universe);
+    }
 
 pub point_of-requires-clause-mark : goal.point_of-requires-clause-mark
 unfolding none

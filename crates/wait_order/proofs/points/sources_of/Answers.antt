@@ -1,7 +1,7 @@
 use Rattle.std.proofs.Common.{◌≡◌, ◌==◌, ◌<◌, ◌≤◌, length, get_or, refl, sym, subst, ◌∙◌, arith}
+use Rattle.plan_model.specs.Plan.{lane, outputs_before}
 use Rattle.std.proofs.lemmas.Bool.{ne_eqb}
 use Rattle.std.proofs.lemmas.List.{get_or_default}
-use Rattle.clock_laws.specs.Clocks.{count_before}
 use Rattle.std.specs.Prelude.{if◌then◌else◌}
 use Rattle.std.proofs.lemmas.Option.{slice_get-get_or}
 use Rattle.wait_order.specs.Hits.{IsFirst}
@@ -9,10 +9,13 @@ use Rattle.wait_order.proofs.HitLaws.{lanes_known}
 use Rattle.wait_order.proofs.Sources.{pushed, all_sources}
 use Rattle.wait_order.proofs.points.sources_of.Goals as goal
 
-pub first_hits-requires-clause-known : goal.first_hits-requires-clause-known
-first_hits-requires-clause-known c =
-    lanes_known c.args.supply.universe.now c.args.supply.plan.now.lanes c.args.supply.lanes.now c.requires.supply.lanes_are
-    c.requires.supply.sound.universe
+pub invariant_of-known : goal.invariant_of-known
+invariant_of-known c =
+    record {
+      sound = c.requires.supply.sound.universe;
+      known = lanes_known c.args.supply.universe.now c.args.supply.plan.now.lanes
+          c.args.supply.lanes.now c.requires.supply.lanes_are c.requires.supply.sound.universe;
+    }
 
 pub loop-number-preserved : goal.loop-number-preserved
 loop-number-preserved c =
@@ -36,7 +39,8 @@ loop-number-preserved c =
     c.as_slice-outputs.ensures.value ∙ c.requires.supply.lanes_are.each h of
     (slice_get-get_or lanes h c.index-lanes-number.result c.loop-number-test.true) in
     let lt : h < length p = omega (arith, c.loop-number-test.true, c.requires.supply.lanes_are.long) in
-    let limit : length outs ≡ (if h == length p then count_before u p (length p) 0 else length outs) =
+    let limit : length outs
+    ≡ (if h == length p then outputs_before u (lane p (length p)) 0 0 else length outs) =
     rw (ne_eqb h (length p) (λ same. absurd (omega (arith, same, lt)))) refl in
     λ test row_is. pushed u p h outs are c.requires.supply.sound.universe (length p) 0 test c.args.row.now
     row_is lt (length outs) limit c.loop-number.sources.items c.push_hit.new.sources.items

@@ -6,4 +6,4 @@ use Rattle.wait_order.proofs.by_name.ByName.of.Given as goal
 -- the lanes so far
 abbrev pub invariant-loop-lane : goal.invariant-loop-lane
 invariant-loop-lane l =
-    (length l.lists ≡ names l.universe) × AreListed l.lists l.lanes l.lane
+    (length l.lists ≡ names l.known.universe.now) × AreListed l.lists l.known.lanes.now l.lane

@@ -1,11 +1,29 @@
-use Rattle.std.proofs.Common.{◌≡◌, ℕ, List, Option, length, sym, ap, subst, ◌∙◌, arith}
+use Rattle.std.proofs.Common.{◌≡◌, ℕ, ◌==◌, List, Option, length, sym, ap, subst, ◌∙◌, arith}
+use Rattle.std.specs.Prelude.{if◌then◌else◌}
 use Rattle.plan_model.specs.Plan.{Plan}
 use Rattle.wait_order.specs.declared.marks.Past.{Past}
-use Rattle.wait_order.specs.Column.{IsIn}
-use Rattle.wait_order.specs.Columns.{column_of}
-use Rattle.wait_order.specs.KnownRows.{KnownRows}
-use Rattle.wait_order.proofs.ClockRows.{point_in}
+use Rattle.wait_order.specs.Column.{IsIn, count_at}
+use Rattle.wait_order.specs.Clock.{row_of}
+use Rattle.wait_order.specs.Columns.{column_of, counts_of}
+use Rattle.wait_order.specs.KnownRows.{KnownRows, rows_of}
+use Rattle.wait_order.proofs.ClockRows.{clock_is, point_in}
 use Rattle.wait_order.proofs.known.Known.clock.Goals as goal
+
+pub returns-clause-rows : goal.returns-clause-rows
+returns-clause-rows c =
+    let u = c.self.inside.outputs.universe in
+    let q = c.self.inside.outputs.plan in
+    let columns = c.self.inside.columns.items in
+    let l = c.args.number in
+    let i = c.args.place in
+    let past = c.past-past.result in
+    let count : List (List ℕ) → ℕ → ℕ =
+    λ cs j. if j == l then past.own else count_at (counts_of cs j) past.last in
+    let same = ap count c.deref.ensures.value
+    ∙ clock_is u q columns l i past.own past.last (ap (λ (w : Past). w.own) c.past-past.ensures)
+    (ap (λ (w : Past). w.last) c.past-past.ensures) in
+    subst (λ (k : KnownRows). row_of k.universe k.plan (count c.deref.result.now) ≡ rows_of k l i)
+    c.self.view_is (ap (row_of u q) same)
 
 pub returns-clause-fits : goal.returns-clause-fits
 returns-clause-fits c =

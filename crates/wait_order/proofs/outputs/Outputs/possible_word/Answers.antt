@@ -1,8 +1,7 @@
 use Rattle.std.proofs.Common.{◌≡◌, ◌&&◌, nat_lt, Some, length, refl, sym, ap, subst, ◌∙◌}
 use Rattle.farm_model.specs.Packages.{variant, variants}
 use Rattle.farm_model.specs.Universe.{Universe}
-use Rattle.plan_model.specs.Plan.{Plan}
-use Rattle.clock_laws.specs.Clocks.{count_before}
+use Rattle.plan_model.specs.Plan.{Plan, lane, outputs_before}
 use Rattle.wait_order.specs.declared.clock.Clock.{Clock}
 use Rattle.wait_order.specs.declared.marks.Past.{Past}
 use Rattle.wait_order.specs.Outputs.{PlanOutputs, AreTotals}
@@ -26,9 +25,9 @@ returns c b =
     (subst (λ (q : Plan). AreTotals c.self.inside.universe.value q (length q) c.deref.result.now) same_plan
     (subst (AreTotals c.self.inside.universe.value c.self.inside.plan.value.lanes
     (length c.self.inside.plan.value.lanes)) (sym c.deref.ensures.value) c.self.invariant.in_all)) in
-    let own : c.past.result.own ≡ count_before u p l i =
+    let own : c.past.result.own ≡ outputs_before u (lane p l) i 0 =
     ap (λ (w : Past). w.own) c.past.ensures
-    ∙ ap (λ (w : Universe). count_before w p l i) c.requires.of_universe in
+    ∙ ap (λ (w : Universe). outputs_before w (lane p l) i 0) c.requires.of_universe in
     c.word.ensures b
     ∙ ap (λ t. nat_lt b (variants u n) && t)
     (sym (possible_clock u p l i clock refl own refl totals (variant n b)))
