@@ -1,12 +1,12 @@
 -- Tests of a may map as tests of rows.
 --
 -- Parameters: u a universe, w the words of a may map, n a name, p a test of variants.
-use Rattle.std.proofs.Common.{◌≡◌, ◌↔◌, ◌⊎◌, inl, inr, ℕ, ◌<◌, Bool, true, false, not, ◌&&◌, ◌||◌, ◌==◌, List, length, slice_index, bit_or, refl, sym, ap, ◌∙◌, arith}
+use Rattle.std.proofs.Common.{◌≡◌, ◌↔◌, ◌⊎◌, inl, inr, ℕ, ◌<◌, Bool, true, false, not, ◌&&◌, ◌||◌, ◌==◌, nat_lt, List, length, slice_index, bit_or, refl, sym, ap, ◌∙◌, arith}
 use Rattle.std.proofs.lemmas.Bool.{cases_lt, cases_Bool, and_from, and_parts, or_cases, or_left, or_right, not-true, not_from_false, both_ways, eq-eqb, eqb-true, ne_eqb, lt-ltb, ltb-true}
 use Rattle.std.proofs.lemmas.List.{get_or_past}
 use Rattle.clause_kernel.specs.Rows.{word_has}
 use Rattle.clause_kernel.proofs.Words.{word_has_zero, word_has-or, some_bit}
-use Rattle.bit_rows.specs.Sets.{variants_of, HaveCommon, HasNameInside, HasSomeAt}
+use Rattle.bit_rows.specs.Sets.{variants_of, HaveCommon, HasNameInside}
 use Rattle.deb_relation.specs.Relations.{Entry}
 use Rattle.farm_model.specs.declared.types.Variant.{Variant}
 use Rattle.farm_model.specs.Below.{some_below}
@@ -27,13 +27,7 @@ some_of-zero u n word p zero =
     some_below-none (variants u n) (λ b. word_has word b && p b)
     (λ b lt. ap (λ h. h && p b) (ap (λ k. word_has k b) zero ∙ word_has_zero b))
 
--- a bit of a variant in a row is one that passes
-pub row_bit : (u : Universe) (p : Variant → Bool) (row : List ℕ) → IsRowOf u p row → (n b : ℕ)
-    → variants_of row n b ≡ true → (b < variants u n) × (p (variant n b) ≡ true)
-row_bit u p row is n b has =
-    let parts = and_parts _ _ (sym (is.set n b) ∙ has) in
-    (ltb-true b (variants u n) parts.0, parts.1)
-
+-- a variant that passes is a bit of the row
 pub row_bit_from : (u : Universe) (p : Variant → Bool) (row : List ℕ) → IsRowOf u p row
     → (n b : ℕ) → b < variants u n → p (variant n b) ≡ true → variants_of row n b ≡ true
 row_bit_from u p row is n b lt passing =
@@ -76,27 +70,12 @@ module _ (u : Universe) (words : List ℕ) (p : Variant → Bool) (long : length
       let parts = and_parts _ _ g.2 in
       (f.0, g.0, parts.0, and_from _ _ (lt-ltb g.0 (variants u f.0) g.1) parts.1)
 
--- ---- a list of words and a row
-
-module _ (u : Universe) (words : List ℕ) (p : Variant → Bool) (row : List ℕ)
-    (long : length words ≡ names u) (is : IsRowOf u p row) where
-  -- the row has those that pass
-  pub hit_row : (t : Bool) → (t ≡ true) ↔ HaveCommon (variants_of words) (variants_of row)
-      → (t ≡ true) ↔ HaveCommon (variants_of words) (passes u p)
-  hit_row t told = (
-    λ yes.
-        let common = told.0 yes in
-        (common.0, common.1, common.2, sym (is.set common.0 common.1) ∙ common.3),
-    λ common. told.1
-        (common.0, common.1, common.2, is.set common.0 common.1 ∙ common.3),
-  )
-
   abbrev surely_passes : ℕ → Bool
   surely_passes n =
       not (slice_index words n == 0)
       && all_of u n (word_has (slice_index words n)) (λ b. p (variant n b))
 
-  pub inside-from : HasNameInside (variants_of words) (variants_of row)
+  pub inside-from : HasNameInside (variants_of words) (passes u p)
       → some_below (names u) surely_passes ≡ true
   inside-from inside =
       let n = inside.0 in
@@ -112,12 +91,12 @@ module _ (u : Universe) (words : List ℕ) (p : Variant → Bool) (row : List �
       each : (k : ℕ)
           → (word_has (slice_index words inside.0) k ≡ true) ⊎ (word_has (slice_index words inside.0) k ≡ false)
           → (not (word_has (slice_index words inside.0) k) || p (variant inside.0 k)) ≡ true
-      each k (inl has) = or_right _ _ (row_bit u p row is inside.0 k (inside.2 k has)).1
+      each k (inl has) = or_right _ _ (and_parts (nat_lt k (variants u inside.0)) (p (variant inside.0 k)) (inside.2 k has)).1
       each k (inr no_bit) = or_left _ _ (ap not no_bit)
 
   pub inside-to : ((n b : ℕ) → word_has (slice_index words n) b ≡ true → b < variants u n)
       → some_below (names u) surely_passes ≡ true
-      → HasNameInside (variants_of words) (variants_of row)
+      → HasNameInside (variants_of words) (passes u p)
   inside-to known some =
       let f = some_below-found (names u) surely_passes some in
       let parts = and_parts _ _ f.2 in
@@ -128,23 +107,42 @@ module _ (u : Universe) (words : List ℕ) (p : Variant → Bool) (row : List �
     where
       each : (n b : ℕ) → word_has (slice_index words n) b ≡ true
           → all_of u n (word_has (slice_index words n)) (λ k. p (variant n k)) ≡ true
-          → variants_of row n b ≡ true
+          → passes u p n b ≡ true
       each n b has all =
           let lt = known n b has in
           let one =
           every_below-at (variants u n)
           (λ k. not (word_has (slice_index words n) k) || p (variant n k)) b lt all in
-          row_bit_from u p row is n b lt (elim (or_cases _ _ one) [
+          and_from _ _ (lt-ltb b (variants u n) lt) (elim (or_cases _ _ one) [
             | inl out ↦ absurd (both_ways _ (not-true _ out) has)
             | inr passing ↦ passing
           ])
+
+-- ---- a list of words and a row
+
+module _ (u : Universe) (words : List ℕ) (p : Variant → Bool) (row : List ℕ)
+    (long : length words ≡ names u) (is : IsRowOf u p row) where
+  -- the row has those that pass
+  pub hit_row : (t : Bool) → (t ≡ true) ↔ HaveCommon (variants_of words) (variants_of row)
+      → (t ≡ true) ↔ HaveCommon (variants_of words) (passes u p)
+  hit_row t told = (
+    λ yes.
+        let common = told.0 yes in
+        (common.0, common.1, common.2, sym (is.set common.0 common.1) ∙ common.3),
+    λ common. told.1
+        (common.0, common.1, common.2, is.set common.0 common.1 ∙ common.3),
+  )
 
   pub inside_is : ((n b : ℕ) → word_has (slice_index words n) b ≡ true → b < variants u n)
       → (t : Bool) → (t ≡ true) ↔ HasNameInside (variants_of words) (variants_of row)
       → t ≡ some_name_inside u words p
   inside_is known t told =
-      same_tests t _ (λ is_so. inside-from (told.0 is_so))
-      (λ is_so. told.1 (inside-to known is_so))
+      same_tests t _
+      (λ is_so. let inside = told.0 is_so in
+      inside-from u words p long
+      (inside.0, inside.1, λ b has. sym (is.set inside.0 b) ∙ inside.2 b has))
+      (λ is_so. let inside = inside-to u words p long known is_so in
+      told.1 (inside.0, inside.1, λ b has. is.set inside.0 b ∙ inside.2 b has))
 
 -- ---- slots
 
@@ -232,6 +230,19 @@ module _ (u : Universe) (w : Words) (is : AreWords u w) where
       (λ n b. ready_known u n (λ k. false) _ _ _ _ (is.each n) b) t told
       ∙ sym (met-inside e)
 
+  -- the same by those who satisfy it
+  pub met_from : (e : Entry)
+      → HasNameInside (variants_of w.ready) (passes u (satisfies_entry u e))
+      → surely_met u (may_of w) e ≡ true
+  met_from e inside =
+      met-inside e ∙ inside-from u w.ready (satisfies_entry u e) is.ready_long inside
+
+  pub met_to : (e : Entry) → surely_met u (may_of w) e ≡ true
+      → HasNameInside (variants_of w.ready) (passes u (satisfies_entry u e))
+  met_to e met =
+      inside-to u w.ready (satisfies_entry u e) is.ready_long
+      (λ n b. ready_known u n (λ k. false) _ _ _ _ (is.each n) b) (sym (met-inside e) ∙ met)
+
   pub common_is : (p : Variant → Bool) (t : Bool)
       → (t ≡ true) ↔ HaveCommon (variants_of w.here) (passes u p)
       → t ≡ some_name u (may_of w) (λ n s. may_hold u n (λ b. p (variant n b)) s)
@@ -268,18 +279,3 @@ module _ (u : Universe) (w : Words) (is : AreWords u w) where
   both_inside_is p row rows =
       inside_is u w.both p row is.both_long rows
       (λ n b. both_known u n (λ k. false) _ _ _ _ (is.each n) b)
-
--- a word of one name, and a row
-pub hit_at_is : (u : Universe) (p : Variant → Bool) (row : List ℕ) → IsRowOf u p row → (n word : ℕ)
-    → (t : Bool) → (t ≡ true) ↔ HasSomeAt (variants_of row) n word
-    → t ≡ some_of u n (word_has word) (λ b. p (variant n b))
-hit_at_is u p row is n word t told =
-    same_tests t _
-    (λ hit. let at = told.0 hit in
-    let here = row_bit u p row is n at.0 at.2 in
-    some_below-at (variants u n) (λ b. word_has word b && p (variant n b)) at.0 here.0
-    (and_from _ _ at.1 here.1))
-    (λ some. let f =
-    some_below-found (variants u n) (λ b. word_has word b && p (variant n b)) some in
-    let parts = and_parts _ _ f.2 in
-    told.1 (f.0, parts.0, row_bit_from u p row is n f.0 f.1 parts.1))

@@ -1,18 +1,17 @@
 -- The map behind two branches, by the words of each name.
-use Rattle.std.proofs.Common.{◌≡◌, ◌⊎◌, inl, inr, ℕ, zero, suc, ◌+◌, ◌<◌, ◌≤◌, Bool, true, false, not, ◌&&◌, ◌||◌, ◌==◌, List, [], ◌∷◌, length, max, refl, sym, ap, ap₂, ◌∙◌, subst, arith, length-set, get_or-set_same, get_or-set_other}
+use Rattle.std.proofs.Common.{◌≡◌, inl, inr, ℕ, zero, suc, ◌+◌, ◌<◌, ◌≤◌, Bool, true, false, not, ◌&&◌, ◌||◌, ◌==◌, List, [], ◌∷◌, length, max, refl, sym, ap, ap₂, ◌∙◌, subst, arith, length-set, get_or-set_same, get_or-set_other}
 use Rattle.std.specs.Prelude.{slice_index, slice_index_or, slice_set, nat_lt, bit_or, if◌then◌else◌}
-use Rattle.std.proofs.lemmas.Bool.{false≢true, both_ways, cond-true, cond-false, and_parts, or_cases, or_left, or_right, cases_Bool, cases_eq, cases_lt, lt-ltb, le-ltb, eqb-true, eq-eqb, ne_eqb}
+use Rattle.std.proofs.lemmas.Bool.{both_ways, cond-true, cond-false, cases_Bool, cases_eq, cases_lt, lt-ltb, le-ltb, eqb-true, eq-eqb, ne_eqb}
 use Rattle.std.proofs.lemmas.List.{get_or_past}
 use Rattle.clause_kernel.specs.Rows.{word_has}
-use Rattle.clause_kernel.proofs.Words.{word_has_zero, word_has-or}
+use Rattle.clause_kernel.proofs.Words.{word_has_zero}
 use Rattle.farm_model.specs.Universe.{Universe}
 use Rattle.farm_model.specs.Packages.{names, variants}
 use Rattle.farm_model.proofs.BelowLaws.{some_below-at, some_below-none}
-use Rattle.plan_model.specs.May.{Bits, MaySlot, MayAbsent, MayUnpacked, MayConfigured, May, is_some_of, may_use}
+use Rattle.plan_model.specs.May.{Bits, MaySlot, MayAbsent, MayUnpacked, MayConfigured, May, may_use}
 use Rattle.plan_model.specs.Join.{is_same_phase, phases_differ, either, either_last, joined_slot, both_built, joined}
 use Rattle.may_rows.specs.Joins.{either_last_word, joined_below, BothBelow, joined_rest}
 use Rattle.may_rows.specs.Words.{Words, slot_of, may_of, joined_word, with_slot, AreOfName, AreWords}
-use Rattle.may_rows.proofs.MetAhead.{some_bit_of, no_bit_of, joined_nonzero}
 use Rattle.may_rows.proofs.Joins.{some-word, joined-words}
 
 -- two branches that hold the same of a name hold it behind both

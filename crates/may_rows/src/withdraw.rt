@@ -135,7 +135,7 @@ pub fn deconfigure(of: LaneOf<'_>, state: &mut MayHold, members: &[u32]) -> Resu
         return Err(trap);
     }
     withdraw_members(universe, state, members);
-    if some_needs(universe, of.tables, of.dependents, state, members) {
+    if some_needs(universe, of.tables, state, members) {
         return Err(Trap::StillNeeded); // X9
     }
     state.spend(universe, members.len() as u64);
@@ -161,7 +161,7 @@ pub fn remove(of: LaneOf<'_>, state: &mut MayHold, members: &[u32]) -> Result<()
         return Err(trap);
     }
     withdraw_members(universe, state, members);
-    if some_needs(universe, of.tables, of.dependents, state, members) {
+    if some_needs(universe, of.tables, state, members) {
         return Err(Trap::StillNeeded); // X9
     }
     remove_members(universe, state, members);

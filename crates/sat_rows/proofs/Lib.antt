@@ -11,3 +11,5 @@ pub mod JoinLaws
 pub mod TurnLaws
 pub mod NoteLaws
 pub mod NameLaws
+pub mod WantedLaws
+pub mod ServedLaws

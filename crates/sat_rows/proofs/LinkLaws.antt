@@ -18,7 +18,7 @@ use Rattle.sat_rows.specs.Rows.{passes, of_another_name}
 use Rattle.sat_rows.specs.Links.{Links, list_at, Leads, reaches, IsLinks, AreNumbered, AreSets, AreTurned, declares, Exclusion, AreBoth, IsExclusion}
 
 -- what a list has stands within the lists
-within : (lists : List (List NumberWord)) (i k b : ℕ) → among (list_at lists i) k b ≡ true
+pub within : (lists : List (List NumberWord)) (i k b : ℕ) → among (list_at lists i) k b ≡ true
     → i < length lists
 within lists i k b has =
     elim (cases_lt i (length lists)) [

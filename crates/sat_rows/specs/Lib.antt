@@ -7,4 +7,5 @@ pub mod Entries
 pub mod Links
 pub mod Fields
 pub mod Clashes
+pub mod Served
 pub mod Tables

@@ -1,7 +1,7 @@
 -- What the tables of a universe keep. The project's own words.
 --
 --   AreEntryRows      rows, and where the entries of each variant and of each recipe have theirs
---   EntryRows         all three
+--   EntryRows         all three, with those who satisfy and who have the entries
 --   AreKept           the same with what they exclude, and a row without variants
 use Rattle.std.specs.Prelude.{◌≡◌, ℕ, List, length, Option}
 use Rattle.bit_rows.specs.Sets.{variants_of, HasNone}
@@ -13,7 +13,8 @@ use Rattle.item_index.specs.declared.item.Item.{Item}
 use Rattle.sat_rows.specs.Clashes.{AreClashes}
 use Rattle.sat_rows.specs.Entries.{Numbers, AreNumbered, AreNeeds, AreRowsOf}
 use Rattle.sat_rows.specs.Index.{IsProviding}
-use Rattle.sat_rows.specs.Links.{Exclusion, IsExclusion}
+use Rattle.sat_rows.specs.Links.{Links, Exclusion, IsExclusion}
+use Rattle.sat_rows.specs.Served.{AreServed}
 
 -- there are entries whose rows these are, and each entry is numbered among them
 pub record AreEntryRows (u : Universe) (by_name : List (List Numbers)) (by_recipe : List (List ℕ))
@@ -27,12 +28,14 @@ pub record EntryRows : Type 0 where
   pub names : List (List Numbers)
   pub needs : List (List ℕ)
   pub rows : List (List ℕ)
+  pub served : Links
 
 -- all rows, the index of those who provide, and a row without variants
 pub record AreKept (u : Universe) (by_name : List (List Numbers)) (by_recipe : List (List ℕ))
     (rows : List (List ℕ)) (by_conflict by_break : Exclusion) (by_clash : List (Option (List ℕ)))
-    (lists : List (List (Item Variant))) (empty : List ℕ) : Type 0 where
+    (lists : List (List (Item Variant))) (empty : List ℕ) (served : Links) : Type 0 where
   pub entries : AreEntryRows u by_name by_recipe rows
+  pub served_by : AreServed u rows served
   pub conflicts : IsExclusion u (λ binary. binary.conflicts) by_conflict
   pub breaks : IsExclusion u (λ binary. binary.breaks) by_break
   pub clashes : AreClashes u by_clash

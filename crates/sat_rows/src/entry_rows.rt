@@ -1,14 +1,16 @@
 //! The rows of the distinct entries of a universe.
 
-ghost use Rattle.std.specs.Prelude.{◌≡◌, ◌<◌, ℕ, IfOk, OnOk, Some, length, slice_get};
+ghost use Rattle.std.specs.Prelude.{◌≡◌, ◌<◌, ℕ, Bool, List, IfOk, OnOk, length};
+ghost use Rattle.farm_model.specs.declared.types.Variant.{Variant};
+ghost use Rattle.sat_rows.specs.Found.{IsFound};
+ghost use Rattle.sat_rows.specs.Links.{list_at, AreSets};
 ghost use Rattle.farm_model.specs.Packages.{satisfies_entry};
 ghost use Rattle.sat_rows.specs.Index.{IsProviding};
 ghost use Rattle.sat_rows.specs.Rows.{IsRowOf};
 ghost use Rattle.sat_rows.specs.Entries.{AreRowsOf};
 ghost use Rattle.deb_relation.specs.Relations.{Entry};
 
-use crate::entries::Entries;
-use crate::found::satisfying;
+use crate::found::{Found, satisfying};
 use crate::row::row_of_found;
 use bit_rows::Row;
 use deb_relation::Atom;
@@ -36,7 +38,8 @@ pub fn row_of_entry(
     Ok(row_of_found(alloc, universe, &found)?)
 }
 
-/// Makes the row of each distinct entry, by as many threads as there are processors.
+/// Makes the row of each entry from the variants that satisfy it, by as many threads as there are
+/// processors.
 ///
 /// # Errors
 ///
@@ -45,22 +48,21 @@ pub fn all_entry_rows(
     rt: &(impl Threads + Sync),
     alloc: Global,
     universe: &Universe,
-    providers: &ItemIndex<Variant>,
-    entries: &Entries,
+    sets: &[Found],
 ) -> Result<Vec<Row>, AllocError>
-    requires { IsProviding universe.now providers.now }
-    ensures { IfOk result (λ rows. AreRowsOf universe.now entries.now rows.items) }
+    ensures { (entries : List Entry) → AreSets universe.now entries sets.now
+        → IfOk result (λ rows. AreRowsOf universe.now entries rows.items) }
 {
-    let rows = (0..entries.len())
+    let rows = (0..sets.len())
         .into_par_iter()
         .with_min_len(1)
         .map(
             move |number: usize| -> Result<Row, AllocError>
-                requires providers { IsProviding universe.now providers.now }
-                requires there { number < length entries.now }
-                ensures { IfOk result (λ row. (e : Entry) → slice_get entries.entry.now number ≡ Some e
-                    → IsRowOf universe.entry.now (satisfies_entry universe.entry.now e) row) }
-            { row_of_entry(alloc, universe, providers, entries.entry(number)) },
+                requires { number < length sets.now }
+                ensures { IfOk result (λ row. (p : Variant → Bool)
+                    → IsFound universe.entry.now p (list_at sets.entry.now number)
+                    → IsRowOf universe.entry.now p row) }
+            { Ok(row_of_found(alloc, universe, &sets[number])?) },
         )
         .collect::<Result<Vec<Row>, AllocError>>(rt, alloc)??;
     Ok(rows)

@@ -8,6 +8,7 @@ ghost use Rattle.farm_model.specs.Packages.{facts, is_wanted, satisfies, satisfi
 ghost use Rattle.sat_rows.specs.Index.{IsNaming, IsProviding};
 ghost use Rattle.sat_rows.specs.Rows.{IsWordFor};
 ghost use Rattle.sat_rows.specs.Found.{among, Puts, IsFound, Finds, GrowsBy, HasItems, some_atom, passes_there, shares_other, hits_other};
+ghost use Rattle.sat_rows.specs.Served.{shares, hits};
 
 use crate::atom_test::{AtomTest, ProvidesIt, is_bare, passes_at};
 use crate::index::{Field, Provides};
@@ -52,6 +53,16 @@ fn wanted_word(universe: &Universe, atom: &Atom, name: u32) -> u64
 pub struct NumberWord {
     pub number: usize,
     pub word: u64,
+}
+
+/// Tells whether a word shares a bit with the one at its number.
+fn shares(at: &NumberWord, words: &[u64]) -> bool
+    ensures { result ≡ shares words.now at.now }
+{
+    match words.get(at.number) {
+        Some(word) => *word & at.word != 0,
+        None => false,
+    }
 }
 
 /// Tells whether a word of another number shares a bit with the one at its number.
@@ -145,6 +156,13 @@ impl Found {
         ensures { result ≡ hits_other but words.now self.now }
     {
         self.words.iter().any(|at| shares_other(at, but, words))
+    }
+
+    /// Tells whether some word shares a bit with the one at its number.
+    pub fn hits(&self, words: &[u64]) -> bool
+        ensures { result ≡ hits words.now self.now }
+    {
+        self.words.iter().any(|at| shares(at, words))
     }
 
     /// Puts the owners of some items whose alternative passes.

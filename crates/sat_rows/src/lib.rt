@@ -13,8 +13,11 @@ mod joined;
 mod links;
 mod numbers;
 mod row;
+mod served;
+mod sets;
 mod tables;
 mod turned;
+mod wanted;
 mod word;
 
 pub use row::entry_row;

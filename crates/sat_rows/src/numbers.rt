@@ -80,6 +80,18 @@ impl Numbers {
     {
         self.depends[number]
     }
+
+    pub fn all_pre_depends(&self) -> &[PreNumbers]
+        ensures { result.now ≡ self.now.pre_depends }
+    {
+        &self.pre_depends
+    }
+
+    pub fn all_depends(&self) -> &[usize]
+        ensures { result.now ≡ self.now.depends }
+    {
+        &self.depends
+    }
 }
 
 /// The numbers of the variants of one name.

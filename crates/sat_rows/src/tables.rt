@@ -9,6 +9,7 @@ ghost use Rattle.farm_model.specs.Sound.{IsKnown};
 ghost use Rattle.sat_rows.specs.Rows.{passes, IsRowOf, IsSharedRow, IsAlternativeRow, entry_at, conflicts_with, broken_by, breakers_of};
 ghost use Rattle.sat_rows.specs.Index.{IsProviding};
 ghost use Rattle.sat_rows.specs.Links.{IsExclusion};
+ghost use Rattle.sat_rows.specs.Served.{AreServed, IsMissed};
 ghost use Rattle.sat_rows.specs.Tables.{AreEntryRows};
 
 use crate::clashes::all_clashes;
@@ -17,6 +18,8 @@ use crate::entry_rows::{all_entry_rows, row_of_entry};
 use crate::exclusion::Exclusion;
 use crate::index::{Breaks, Conflicts, Provides, naming};
 use crate::numbers::{NameNumbers, Needs};
+use crate::served::Served;
+use crate::sets::all_sets;
 use bit_rows::Row;
 use deb_relation::Entry;
 use farm_universe::{Universe, Variant};
@@ -36,6 +39,7 @@ pub struct Tables {
     names: Vec<NameNumbers>,
     needs: Vec<Needs>,
     rows: Vec<Row>,
+    served: Served,
     conflicts: Exclusion,
     breaks: Exclusion,
     clashes: Vec<Option<Row>>,
@@ -54,7 +58,7 @@ impl Model for Tables {
 
     ghost invariant = { λ tables. AreKept tables.universe.value tables.names.items
         tables.needs.items tables.rows.items tables.conflicts tables.breaks tables.clashes.items
-        tables.providers tables.empty };
+        tables.providers tables.empty tables.served };
 }
 
 /// How many places distinct entries are looked up in, for each name of a universe.
@@ -66,6 +70,7 @@ struct EntryRows {
     names: Vec<NameNumbers>,
     needs: Vec<Needs>,
     rows: Vec<Row>,
+    served: Served,
 }
 
 impl Model for EntryRows {
@@ -77,6 +82,7 @@ impl Model for EntryRows {
       names = x.names.items;
       needs = x.needs.items;
       rows = x.rows.items;
+      served = x.served;
     } };
 }
 
@@ -88,13 +94,21 @@ impl EntryRows {
         providers: &ItemIndex<Variant>,
     ) -> Result<EntryRows, AllocError>
         requires { IsProviding universe.now providers.now }
-        ensures { IfOk result (λ x. AreEntryRows universe.now x.names x.needs x.rows) }
+        ensures entries { IfOk result (λ x. AreEntryRows universe.now x.names x.needs x.rows) }
+        ensures served { IfOk result (λ x. AreServed universe.now x.rows x.served) }
     {
         let mut entries = Entries::new(alloc, universe.names() as usize * PLACES)?;
         let names = entries.names(alloc, universe)?;
         let needs = entries.recipes(alloc, universe)?;
-        let rows = all_entry_rows(rt, alloc, universe, providers, &entries)?;
-        Ok(EntryRows { names, needs, rows })
+        let sets = all_sets(rt, alloc, universe, providers, &entries)?;
+        let rows = all_entry_rows(rt, alloc, universe, &sets)?;
+        let served = Served::build(alloc, universe, &names, &sets)?;
+        Ok(EntryRows {
+            names,
+            needs,
+            rows,
+            served,
+        })
     }
 }
 
@@ -117,12 +131,18 @@ impl Tables {
         let conflicts = Exclusion::build(rt, alloc, universe, &providers, &Conflicts {})?;
         let breaks = Exclusion::build(rt, alloc, universe, &providers, &Breaks {})?;
         let clashes = all_clashes(rt, alloc, universe, &providers)?;
-        let EntryRows { names, needs, rows } = rows;
+        let EntryRows {
+            names,
+            needs,
+            rows,
+            served,
+        } = rows;
         Ok(Tables {
             universe: Snapshot::of(universe),
             names,
             needs,
             rows,
+            served,
             conflicts,
             breaks,
             clashes,
@@ -220,6 +240,16 @@ impl Tables {
             (passes self.now (breakers_of self.now variant)) }
     {
         self.breaks.is_named(variant, words)
+    }
+
+    /// Tells whether the words have a variant with a Depends or Pre-Depends entry that a variant of a
+    /// name satisfies, one that the word has, and that no name of the words has variants for which all
+    /// satisfy it.
+    pub fn is_missed(&self, name: u32, word: u64, words: &[u64]) -> bool
+        requires { length words.now ≡ names self.now }
+        ensures { IsTrue result ↔ IsMissed self.now name word words.now }
+    {
+        self.served.misses(&self.rows, name, word, words)
     }
 
     /// The variants that satisfy an entry of the needs of a recipe.

@@ -13,10 +13,6 @@ use Rattle.may_rows.proofs.needed.some_needs.Goals as goal
 abbrev needed : Universe → May → ℕ → Bool
 needed u m k = some_below (names u) (needs_at u (k ∷ []) m)
 
-pub is_needed-requires-clause-named : goal.is_needed-requires-clause-named
-is_needed-requires-clause-named c =
-    c.requires.members.known c.loop-place.place 0 c.loop-place-test.true
-
 pub returns-then-is_needed : goal.returns-then-is_needed
 returns-then-is_needed c =
     let u = c.args.universe.now in

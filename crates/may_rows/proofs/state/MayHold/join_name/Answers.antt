@@ -1,7 +1,5 @@
-use Rattle.std.proofs.Common.{◌≡◌, sym, ap, ap₂, ◌∙◌, subst, bit_or}
-use Rattle.may_rows.specs.Joins.{either_last_word}
-use Rattle.may_rows.specs.Words.{may_of, with_slot, slot_of, joined_word, AreOfName}
-use Rattle.farm_model.specs.Packages.{variants}
+use Rattle.std.proofs.Common.{sym, ap, ◌∙◌}
+use Rattle.may_rows.specs.Words.{may_of, with_slot}
 use Rattle.may_rows.proofs.JoinMaps.{name-joined, name-stays}
 use Rattle.may_rows.proofs.state.MayHold.join_name.Goals as goal
 

@@ -1,7 +1,6 @@
-use Rattle.std.proofs.Common.{arith, sym, ap, ◌∙◌, subst}
+use Rattle.std.proofs.Common.{arith, ap, ◌∙◌}
 use Rattle.plan_model.specs.Join.{is_same_phase}
 use Rattle.plan_model.specs.May.{May}
-use Rattle.may_rows.specs.Joins.{joined_below}
 use Rattle.may_rows.specs.Words.{may_of}
 use Rattle.may_rows.proofs.JoinMaps.{below-zero, below-here, below-next, phases-same}
 use Rattle.may_rows.proofs.state.MayHold.join_slots.Goals as goal

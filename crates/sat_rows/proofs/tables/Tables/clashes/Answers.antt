@@ -10,7 +10,7 @@ index-requires c =
     let inside = c.self.inside in
     let kept = subst
     (λ u. AreKept u inside.names.items inside.needs.items inside.rows.items inside.conflicts inside.breaks
-    inside.clashes.items inside.providers inside.empty) c.self.view_is c.self.invariant in
+    inside.clashes.items inside.providers inside.empty inside.served) c.self.view_is c.self.invariant in
     omega (arith, c.requires, kept.clashes.long, inside.clashes.ok)
 
 pub returns : goal.returns
@@ -18,7 +18,7 @@ returns c =
     let inside = c.self.inside in
     let kept = subst
     (λ u. AreKept u inside.names.items inside.needs.items inside.rows.items inside.conflicts inside.breaks
-    inside.clashes.items inside.providers inside.empty) c.self.view_is c.self.invariant in
+    inside.clashes.items inside.providers inside.empty inside.served) c.self.view_is c.self.invariant in
     let u = c.args.self.now in
     let r = c.args.recipe in
     let p = satisfies_any u (recipe u r).clashes in

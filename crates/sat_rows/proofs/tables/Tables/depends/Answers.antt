@@ -10,7 +10,7 @@ index-requires c =
     let inside = c.self.inside in
     let kept = subst
     (λ u. AreKept u inside.names.items inside.needs.items inside.rows.items inside.conflicts inside.breaks
-    inside.clashes.items inside.providers inside.empty) c.self.view_is c.self.invariant in
+    inside.clashes.items inside.providers inside.empty inside.served) c.self.view_is c.self.invariant in
     let within = numbers_within c.args.self.now inside.names.items inside.needs.items inside.rows.items kept.entries
     c.args.variant c.requires.known in
     omega (arith, within, inside.names.ok)
@@ -20,7 +20,7 @@ variant-numbers-requires c =
     let inside = c.self.inside in
     let kept = subst
     (λ u. AreKept u inside.names.items inside.needs.items inside.rows.items inside.conflicts inside.breaks
-    inside.clashes.items inside.providers inside.empty) c.self.view_is c.self.invariant in
+    inside.clashes.items inside.providers inside.empty inside.served) c.self.view_is c.self.invariant in
     variant_within c.args.self.now inside.names.items inside.needs.items inside.rows.items kept.entries
     c.args.variant c.requires.known c.index.result.now c.index.ensures
 
@@ -29,7 +29,7 @@ depends-requires c =
     let inside = c.self.inside in
     let kept = subst
     (λ u. AreKept u inside.names.items inside.needs.items inside.rows.items inside.conflicts inside.breaks
-    inside.clashes.items inside.providers inside.empty) c.self.view_is c.self.invariant in
+    inside.clashes.items inside.providers inside.empty inside.served) c.self.view_is c.self.invariant in
     depends_within c.args.self.now inside.names.items inside.needs.items inside.rows.items kept.entries
     c.args.variant c.requires.known c.index.result.now c.index.ensures
     c.variant-numbers.result.now c.variant-numbers.ensures c.args.number c.requires.there
@@ -39,7 +39,7 @@ index-requires-2 c =
     let inside = c.self.inside in
     let kept = subst
     (λ u. AreKept u inside.names.items inside.needs.items inside.rows.items inside.conflicts inside.breaks
-    inside.clashes.items inside.providers inside.empty) c.self.view_is c.self.invariant in
+    inside.clashes.items inside.providers inside.empty inside.served) c.self.view_is c.self.invariant in
     let e = entry_at (depends c.args.self.now c.args.variant) c.args.number in
     let is = depends_number c.args.self.now inside.names.items inside.needs.items inside.rows.items kept.entries
     c.args.variant c.requires.known c.index.result.now c.index.ensures
@@ -53,7 +53,7 @@ returns c =
     let inside = c.self.inside in
     let kept = subst
     (λ u. AreKept u inside.names.items inside.needs.items inside.rows.items inside.conflicts inside.breaks
-    inside.clashes.items inside.providers inside.empty) c.self.view_is c.self.invariant in
+    inside.clashes.items inside.providers inside.empty inside.served) c.self.view_is c.self.invariant in
     let e = entry_at (depends c.args.self.now c.args.variant) c.args.number in
     row_at c.args.self.now inside.names.items inside.needs.items inside.rows.items kept.entries
     e c.depends.result c.index-2.result.now

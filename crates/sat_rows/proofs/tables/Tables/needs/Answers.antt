@@ -10,7 +10,7 @@ index-requires c =
     let inside = c.self.inside in
     let kept = subst
     (λ u. AreKept u inside.names.items inside.needs.items inside.rows.items inside.conflicts inside.breaks
-    inside.clashes.items inside.providers inside.empty) c.self.view_is c.self.invariant in
+    inside.clashes.items inside.providers inside.empty inside.served) c.self.view_is c.self.invariant in
     let within = needs_within c.args.self.now inside.names.items inside.needs.items inside.rows.items kept.entries
     c.args.recipe c.requires.known in
     omega (arith, within, inside.needs.ok)
@@ -20,7 +20,7 @@ need-requires c =
     let inside = c.self.inside in
     let kept = subst
     (λ u. AreKept u inside.names.items inside.needs.items inside.rows.items inside.conflicts inside.breaks
-    inside.clashes.items inside.providers inside.empty) c.self.view_is c.self.invariant in
+    inside.clashes.items inside.providers inside.empty inside.served) c.self.view_is c.self.invariant in
     need_within c.args.self.now inside.names.items inside.needs.items inside.rows.items kept.entries
     c.args.recipe c.requires.known c.index.result.now c.index.ensures c.args.number c.requires.there
 
@@ -29,7 +29,7 @@ index-requires-2 c =
     let inside = c.self.inside in
     let kept = subst
     (λ u. AreKept u inside.names.items inside.needs.items inside.rows.items inside.conflicts inside.breaks
-    inside.clashes.items inside.providers inside.empty) c.self.view_is c.self.invariant in
+    inside.clashes.items inside.providers inside.empty inside.served) c.self.view_is c.self.invariant in
     let e = entry_at (recipe c.args.self.now c.args.recipe).needs c.args.number in
     let is = need_number c.args.self.now inside.names.items inside.needs.items inside.rows.items kept.entries
     c.args.recipe c.requires.known c.index.result.now c.index.ensures
@@ -43,7 +43,7 @@ returns c =
     let inside = c.self.inside in
     let kept = subst
     (λ u. AreKept u inside.names.items inside.needs.items inside.rows.items inside.conflicts inside.breaks
-    inside.clashes.items inside.providers inside.empty) c.self.view_is c.self.invariant in
+    inside.clashes.items inside.providers inside.empty inside.served) c.self.view_is c.self.invariant in
     let e = entry_at (recipe c.args.self.now c.args.recipe).needs c.args.number in
     row_at c.args.self.now inside.names.items inside.needs.items inside.rows.items kept.entries
     e c.need.result c.index-2.result.now

@@ -11,7 +11,7 @@ index-requires c =
     let inside = c.self.inside in
     let kept = subst
     (λ u. AreKept u inside.names.items inside.needs.items inside.rows.items inside.conflicts inside.breaks
-    inside.clashes.items inside.providers inside.empty) c.self.view_is c.self.invariant in
+    inside.clashes.items inside.providers inside.empty inside.served) c.self.view_is c.self.invariant in
     let within = numbers_within c.args.self.now inside.names.items inside.needs.items inside.rows.items kept.entries
     c.args.variant c.requires.known in
     omega (arith, within, inside.names.ok)
@@ -21,7 +21,7 @@ variant-numbers-requires c =
     let inside = c.self.inside in
     let kept = subst
     (λ u. AreKept u inside.names.items inside.needs.items inside.rows.items inside.conflicts inside.breaks
-    inside.clashes.items inside.providers inside.empty) c.self.view_is c.self.invariant in
+    inside.clashes.items inside.providers inside.empty inside.served) c.self.view_is c.self.invariant in
     variant_within c.args.self.now inside.names.items inside.needs.items inside.rows.items kept.entries
     c.args.variant c.requires.known c.index.result.now c.index.ensures
 
@@ -30,7 +30,7 @@ pre_depends-requires c =
     let inside = c.self.inside in
     let kept = subst
     (λ u. AreKept u inside.names.items inside.needs.items inside.rows.items inside.conflicts inside.breaks
-    inside.clashes.items inside.providers inside.empty) c.self.view_is c.self.invariant in
+    inside.clashes.items inside.providers inside.empty inside.served) c.self.view_is c.self.invariant in
     pre_within c.args.self.now inside.names.items inside.needs.items inside.rows.items kept.entries
     c.args.variant c.requires.known c.index.result.now c.index.ensures
     c.variant-numbers.result.now c.variant-numbers.ensures c.args.number c.requires.there
@@ -40,7 +40,7 @@ index-requires-2 c =
     let inside = c.self.inside in
     let kept = subst
     (λ u. AreKept u inside.names.items inside.needs.items inside.rows.items inside.conflicts inside.breaks
-    inside.clashes.items inside.providers inside.empty) c.self.view_is c.self.invariant in
+    inside.clashes.items inside.providers inside.empty inside.served) c.self.view_is c.self.invariant in
     let e = entry_at (pre_depends c.args.self.now c.args.variant) c.args.number in
     let pre = pre_numbers c.args.self.now inside.names.items inside.needs.items inside.rows.items kept.entries
     c.args.variant c.requires.known c.index.result.now c.index.ensures
@@ -55,7 +55,7 @@ returns c =
     let inside = c.self.inside in
     let kept = subst
     (λ u. AreKept u inside.names.items inside.needs.items inside.rows.items inside.conflicts inside.breaks
-    inside.clashes.items inside.providers inside.empty) c.self.view_is c.self.invariant in
+    inside.clashes.items inside.providers inside.empty inside.served) c.self.view_is c.self.invariant in
     let e = entry_at (pre_depends c.args.self.now c.args.variant) c.args.number in
     let pre = pre_numbers c.args.self.now inside.names.items inside.needs.items inside.rows.items kept.entries
     c.args.variant c.requires.known c.index.result.now c.index.ensures

@@ -8,7 +8,7 @@ use Rattle.deb_relation.specs.Relations.{Entry}
 use Rattle.farm_model.specs.Packages.{satisfies_entry}
 use Rattle.sat_rows.specs.Found.{IsFound}
 use Rattle.sat_rows.proofs.Gathered.{gathered}
-use Rattle.sat_rows.proofs.exclusion.all_sets.Goals as goal
+use Rattle.sat_rows.proofs.sets.all_sets.Goals as goal
 
 pub collect-requires-clause-ready : goal.collect-requires-clause-ready
 collect-requires-clause-ready g c κs within =
