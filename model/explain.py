@@ -1,6 +1,6 @@
-"""Why a plan is refused, and what the waits of an accepted one wait for, for a person: FORMATS, section 15. The first
-witness is told: members, entries and alternatives as they are written, names by their numbers, variants from the lowest
-version up."""
+"""Why a plan is refused, and what the waits of an accepted one wait for: FORMATS, section 15. The first witness is told:
+members, entries and alternatives as they are written, names by their numbers, variants from the lowest version up. The
+kinds of notes are those of section 17."""
 
 from core import ABSENT, CONFIGURED
 from verdict import MaySlot, Unsafe, Walk, find_order, is_surely, is_surely_pre_met
@@ -24,6 +24,22 @@ def place_text(lane, number):
 def where(lane, number):
     """The same, with the instruction."""
     return f"{place_text(lane, number)}: {lane.instructions[number - 1]}"
+
+
+class Note:
+    """Lines that tell one thing of a plan, with its kind. They are about an instruction of a lane, by its number, or about
+    none; and of one that may trap about that trap."""
+
+    def __init__(self, kind, lines, lane=None, number=None, trap=None):
+        self.kind, self.lines, self.lane, self.number, self.trap = kind, lines, lane, number, trap
+
+
+# the kind of a reason, by the trap; of X10 it goes by what is told
+KINDS = {
+    "X1": "missing", "X2": "unmet", "X3": "conflict", "X4": "breaks", "X5": "full", "X6": "wrong-state", "X7": "unmet",
+    "X8": "breaks", "X9": "still-needed", "X11": "build-need", "X12": "build-conflict", "X13": "not-built",
+    "X14": "over-budget", "X15": "essential",
+}
 
 
 def names_like(universe, entry):
@@ -82,6 +98,11 @@ class Reason:
         self.lane, self.may = rows.plan[number], may
         self.it = self.lane.instructions[place]
         self.known, self.there = rows.known[number][place], rows.may_be_published(number, place)
+
+    def told(self, trap):
+        """The kind of the reason and its lines."""
+        lines = list(getattr(self, trap.lower())())
+        return KINDS.get(trap) or ("unmet" if len(lines) > 1 else "unsettled"), lines
 
     def slot(self, name):
         return self.may.slots.get(name) or MaySlot(ABSENT, set(), set())
@@ -252,19 +273,22 @@ def parting(universe, first, second):
             return
 
 
-def unsafe_lines(universe, rows):
-    """Of each lane that has one, its first unsafe instruction: the line of the refusal, its line in the plan and why."""
-    for number, lane in enumerate(rows.plan):
-        unsafe, way, place = first_unsafe(rows, number)
-        if unsafe is None:
-            continue
-        yield unsafe.text(trapping=401, uneven=403)
-        yield where(lane, unsafe.instruction)
-        reasons = parting(universe, way.first, way.may)
-        if unsafe.trap is not None:
-            reasons = getattr(Reason(universe, rows, number, place, way.may), unsafe.trap.lower())()
-        for line in reasons:
-            yield f"  {line}"
+def unsafe_note(universe, rows, number):
+    """Of a lane its first unsafe instruction: the line of the refusal, its line in the plan and why. None of a safe lane."""
+    unsafe, way, place = first_unsafe(rows, number)
+    if unsafe is None:
+        return None
+    kind, reasons = "uneven", parting(universe, way.first, way.may)
+    if unsafe.trap is not None:
+        kind, reasons = Reason(universe, rows, number, place, way.may).told(unsafe.trap)
+    lane, head = rows.plan[number], unsafe.text(trapping=401, uneven=403)
+    lines = [head, where(lane, unsafe.instruction), *(f"  {line}" for line in reasons)]
+    return Note(kind, lines, lane, unsafe.instruction, unsafe.trap)
+
+
+def unsafe_notes(universe, rows):
+    """Those of each lane that has one."""
+    return [it for it in (unsafe_note(universe, rows, number) for number in range(len(rows.plan))) if it is not None]
 
 
 def waiting_place(lane, made):
@@ -277,6 +301,12 @@ def waiting_place(lane, made):
         elif it.verb == "publish":
             made -= len(it.recipe.outputs)
     return len(lane.instructions)
+
+
+# what is said of the lanes of a group, in the order of the groups
+GROUPS = {
+    "unpublished": "waits for what no lane publishes", "in-circle": "waits in a circle", "behind": "waits for stuck lanes",
+}
 
 
 class Stuck:
@@ -313,8 +343,8 @@ class Stuck:
 
     def group(self, number):
         if self.waits_for(number) is None:
-            return "waits for what no lane publishes"
-        return "waits in a circle" if self.circle(number) else "waits for stuck lanes"
+            return "unpublished"
+        return "in-circle" if self.circle(number) else "behind"
 
     def source(self, number, variant):
         """Who publishes a variant that lane `number` waits for."""
@@ -336,24 +366,23 @@ class Stuck:
         return [f"{spelled(it)} does not satisfy it" for it in likely] or ["no package is or provides that"]
 
     def note(self, number):
-        lane, place = self.plan[number], self.places[number]
-        yield f"lane {lane.name} instruction {place + 1} {self.group(number)}"
-        yield where(lane, place + 1)
-        for line in self.sources(number):
-            yield f"  {line}"
+        lane, place, group = self.plan[number], self.places[number], self.group(number)
+        head = f"lane {lane.name} instruction {place + 1} {GROUPS[group]}"
+        lines = [head, where(lane, place + 1), *(f"  {line}" for line in self.sources(number))]
+        return Note(group, lines, lane, place + 1)
 
 
-def stuck_lines(universe, plan):
+def stuck_notes(universe, plan):
     """Of each lane that is stuck: where, why, and what could let it go on; then one circle of lanes."""
     stuck = Stuck(universe, plan)
-    for group in ("waits for what no lane publishes", "waits in a circle", "waits for stuck lanes"):
+    for group in GROUPS:
         for number in stuck.lanes:
             if stuck.group(number) == group:
-                yield from stuck.note(number)
+                yield stuck.note(number)
     circle = next(filter(None, map(stuck.circle, stuck.lanes)), None)
     if circle:
         names = [plan[number].name for number in circle]
-        yield ", ".join(f"{one} waits for {other}" for one, other in zip(names, names[1:] + names[:1]))
+        yield Note("circle", [", ".join(f"{one} waits for {other}" for one, other in zip(names, names[1:] + names[:1]))])
 
 
 def wait_line(universe, plan, number, place):
@@ -373,14 +402,14 @@ def wait_line(universe, plan, number, place):
     return line + (f", or {more} more" if more else "")
 
 
-def waits_lines(universe, plan):
+def waits_notes(universe, plan):
     """What each wait of an accepted plan waits for, lane by lane and in each lane in order."""
     for number, lane in enumerate(plan):
         for place, it in enumerate(lane.instructions):
             if it.verb == "wait":
                 line = wait_line(universe, plan, number, place)
                 if line is not None:
-                    yield line
+                    yield Note("wait", [line], lane, place + 1)
 
 
 def left_unmet(universe, may, names):

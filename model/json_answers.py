@@ -2,20 +2,29 @@
 
 import json
 
+from core import TRAPS
+
 
 def shown(text):
     """A text of bytes, with U+FFFD in place of what is no UTF-8."""
     return text.encode("latin-1").decode("utf-8", "replace")
 
 
+def accepted_lane(line):
+    """The members of a lane, by its line in an acceptance."""
+    _lane, name, _cost, cost, _budget, budget = line.split(" ")
+    return {"name": shown(name), "cost": int(cost), "budget": int(budget)}
+
+
 def verdict_members(lines):
     """The members of the verdict that these lines tell."""
     first = lines[0].split(" ")
     if first[0] == "accepted":
-        return {"verdict": "accepted", "lanes": int(lines[1].split(" ")[1]), "count": int(lines[2].split(" ")[1])}
+        lanes = [accepted_lane(line) for line in lines[3:]]
+        return {"verdict": "accepted", "lanes": lanes, "count": int(lines[2].split(" ")[1])}
     members = {"verdict": "refused", "code": int(first[1])}
     if first[2] == "lanes":
-        return members | {"lanes": [shown(name) for name in first[3:]]}
+        return members | {"lanes": [{"name": shown(name)} for name in first[3:]]}
     if first[2] == "lane":
         members |= {"lane": shown(first[3]), "instruction": int(first[5])}
         return members | ({"trap": " ".join(first[6:])} if len(first) > 6 else {})
@@ -23,7 +32,21 @@ def verdict_members(lines):
 
 
 def lines_of(lines):
-    return [{"text": shown(line)} for line in lines]
+    return [shown(line) for line in lines]
+
+
+def reason_of(note):
+    """The members of a note, without those that it does not have."""
+    members = {"kind": note.kind, "lines": lines_of(note.lines)}
+    if note.lane is not None:
+        line, used = note.lane.lines[note.number - 1]
+        members |= {"lane": shown(note.lane.name), "instruction": note.number, "plan_line": line}
+        members |= {"use_line": used} if used else {}
+    return members | ({"trap": f"{note.trap} {TRAPS[note.trap]}"} if note.trap else {})
+
+
+def reasons_of(notes):
+    return [reason_of(note) for note in notes]
 
 
 def json_line(members):

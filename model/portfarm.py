@@ -15,10 +15,10 @@ import sys
 
 import certificates
 from core import step
-from explain import left_lines, stuck_lines, unsafe_lines, waits_lines
+from explain import Note, left_lines, stuck_notes, unsafe_notes, waits_notes
 from farm_warnings import warnings
 from fault_notes import fault_lines
-from json_answers import json_line, lines_of, verdict_members
+from json_answers import json_line, lines_of, reasons_of, verdict_members
 from plans import listing, numbered, read_plan
 from texts import DIGITS, FILES, Fault
 from universe import read_universe
@@ -69,10 +69,10 @@ def numbered_line(number, line, content):
 
 
 def why(universe, plan, rows, written, accepts):
-    """The lines that explain the verdict on a plan."""
+    """The notes that explain the verdict on a plan."""
     if accepts:
-        return waits_lines(universe, plan)
-    return stuck_lines(universe, plan) if written[0].startswith("refused 402") else list(unsafe_lines(universe, rows))
+        return list(waits_notes(universe, plan))
+    return list(stuck_notes(universe, plan)) if written[0].startswith("refused 402") else unsafe_notes(universe, rows)
 
 
 def refused(command, texts, more, fault):
@@ -81,7 +81,7 @@ def refused(command, texts, more, fault):
     notes = list(fault_lines(texts, fault)) if command == "explain" else []
     if more != "--json":
         return [*written, *notes]
-    told = {"why": lines_of(notes), "warnings": []} if command == "explain" else {}
+    told = {"reasons": reasons_of([Note("text", notes)]), "warnings": []} if command == "explain" else {}
     return [json_line(verdict_members(written) | told)]
 
 
@@ -114,14 +114,14 @@ def answer(command, texts, more=None):
         written = [json_line(verdict_members(written))]
     if command != "explain":
         return written, status
-    reasons = why(universe, plan, rows, written, accepts)
+    notes = why(universe, plan, rows, written, accepts)
     odd = [*warnings(universe, plan, texts), *left_lines(universe, rows)]
     if more == "--json":
-        members = verdict_members(written) | {"why": lines_of(reasons), "warnings": lines_of(odd)}
+        members = verdict_members(written) | {"reasons": reasons_of(notes), "warnings": lines_of(odd)}
         return [json_line(members)], status
     # the lines of hazards begin with that of the verdict
     head = [] if written[0].startswith(("refused 401", "refused 403")) else written
-    return [*head, *reasons, *odd], status
+    return [*head, *(line for note in notes for line in note.lines), *odd], status
 
 
 def text_of(path):

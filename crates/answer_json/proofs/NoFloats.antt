@@ -1,15 +1,11 @@
--- Texts and their lines are values without floats.
+-- The lines of a text are a value without floats.
 use Rattle.std.proofs.Common.{◌≡◌, ℕ, List, [], ◌∷◌, false, map, refl}
-use Rattle.answer_json.specs.Texts.{line_data, lines_data, texts_data}
+use Rattle.answer_json.specs.Texts.{lines_data, text_data}
 use Rattle.deb_text.specs.Lines.{lines_of}
 use Rattle.serde_json.specs.View.{items_of}
 use Rattle.serde_json.specs.Written.{has_float, items_have_float}
 
-pub no_float_in_texts : (texts : List (List ℕ)) → has_float (texts_data texts) ≡ false
-no_float_in_texts [] = refl
-no_float_in_texts (text ∷ texts) = no_float_in_texts texts
-
-none_in : (lines : List (List ℕ)) → items_have_float (items_of (map line_data lines)) ≡ false
+none_in : (lines : List (List ℕ)) → items_have_float (items_of (map text_data lines)) ≡ false
 none_in [] = refl
 none_in (line ∷ lines) = none_in lines
 

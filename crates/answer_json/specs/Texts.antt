@@ -1,27 +1,20 @@
 -- Answers as JSON. The project's own format, spelled as serde_json spells a value.
 --
 --   text_data text       a text, with U+FFFD in place of what is no UTF-8
---   texts_data texts     a list of such texts
---   lines_data text      the lines of a text, each an object `{"text": LINE}`
+--   lines_data text      the lines of a text, a list of such texts
 --   answer_line value    the line that is written for a value
 use Rattle.std.specs.Prelude.{ℕ, List, ◌++◌, map, codes}
 use Rattle.std.specs.Str.Lossy.{utf8_lossy}
 use Rattle.deb_text.specs.Lines.{lines_of}
-use Rattle.serde_json.specs.Data.{Data, string, array, object, member, no_members}
+use Rattle.serde_json.specs.Data.{Data, string, array}
 use Rattle.serde_json.specs.View.{items_of}
 use Rattle.serde_json.specs.Written.{compact_text}
 
 abbrev pub text_data : List ℕ → Data
 text_data text = string (utf8_lossy text)
 
-abbrev pub texts_data : List (List ℕ) → Data
-texts_data texts = array (items_of (map text_data texts))
-
-abbrev pub line_data : List ℕ → Data
-line_data line = object (member (codes "text") (text_data line) no_members)
-
 abbrev pub lines_data : List ℕ → Data
-lines_data text = array (items_of (map line_data (lines_of text)))
+lines_data text = array (items_of (map text_data (lines_of text)))
 
 abbrev pub answer_line : Data → List ℕ
 answer_line value = compact_text value ++ codes "\n"

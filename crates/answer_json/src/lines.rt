@@ -2,25 +2,16 @@
 
 ghost use Rattle.std.specs.Prelude.{◌≡◌, IfOk, false};
 ghost use Rattle.answer_json.specs.Texts as spec;
-ghost use Rattle.answer_json.specs.Texts.{line_data, lines_data};
+ghost use Rattle.answer_json.specs.Texts.{lines_data};
 ghost use Rattle.serde_json.specs.View.{view};
 ghost use Rattle.serde_json.specs.Written.{has_float};
 
 use crate::texts::text_value;
 use deb_text::next_line;
-use serde_json::{Map, Value, put};
+use serde_json::Value;
 use std::alloc::{AllocError, Global};
 
-/// A line as an object of one member.
-fn line_value(alloc: Global, line: &[u8]) -> Result<Value, AllocError>
-    ensures { IfOk result (λ value. view value ≡ line_data line.now) }
-{
-    let mut members = Map::new(alloc);
-    put(&mut members, alloc, "text", text_value(alloc, line)?)?;
-    Ok(Value::Object(members))
-}
-
-/// Gives the lines of a text, without their newlines, as a list of objects `{"text": LINE}`.
+/// Gives the lines of a text, without their newlines, as a list of texts.
 ///
 /// # Errors
 ///
@@ -31,7 +22,7 @@ pub fn line_list(alloc: Global, text: &[u8]) -> Result<Value, AllocError>
     let mut lines = Vec::new(alloc);
     let mut rest = text;
     while let Some((line, behind)) = next_line(rest) {
-        lines.push(line_value(alloc, line)?)?;
+        lines.push(text_value(alloc, line)?)?;
         rest = behind;
     }
     Ok(Value::Array(lines))

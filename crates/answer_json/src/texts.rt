@@ -1,8 +1,7 @@
-//! Texts as values.
+//! A text as a value.
 
 ghost use Rattle.std.specs.Prelude.{◌≡◌, IfOk};
-ghost use Rattle.answer_json.specs.Texts.{text_data, texts_data};
-ghost use Rattle.deb_text.specs.Lists.{lists};
+ghost use Rattle.answer_json.specs.Texts.{text_data};
 ghost use Rattle.serde_json.specs.View.{view};
 
 use serde_json::Value;
@@ -17,19 +16,4 @@ pub fn text_value(alloc: Global, text: &[u8]) -> Result<Value, AllocError>
     ensures { IfOk result (λ value. view value ≡ text_data text.now) }
 {
     Ok(Value::String(String::from_utf8_lossy(alloc, text)?))
-}
-
-/// Gives texts as a list of such values.
-///
-/// # Errors
-///
-/// Where memory is refused.
-pub fn text_list(alloc: Global, texts: &[Vec<u8>]) -> Result<Value, AllocError>
-    ensures { IfOk result (λ value. view value ≡ texts_data (lists texts.now)) }
-{
-    let mut values = Vec::new(alloc);
-    for text in texts {
-        values.push(text_value(alloc, text)?)?;
-    }
-    Ok(Value::Array(values))
 }

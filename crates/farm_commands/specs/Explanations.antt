@@ -11,8 +11,10 @@ use Rattle.std.specs.Prelude.{◌≡◌, ◌≢◌, ◌⊎◌, ℕ, ◌^◌, ◌
 use Rattle.std.specs.List.{concat}
 use Rattle.deb_text.specs.declared.fault.Fault.{Fault}
 use Rattle.deb_text.specs.declared.files.TheConstants.{PACKAGES, SOURCES, FARM, PLAN}
+use Rattle.farm_explain.specs.declared.kinds.Kind.{Kind}
 use Rattle.farm_explain.specs.Beginning.{TellsFirst}
-use Rattle.farm_explain.specs.LaneNotes.{unsafe_text}
+use Rattle.farm_explain.specs.LaneNotes.{unsafe_notes}
+use Rattle.farm_explain.specs.Notes.{NoteFacts, all_facts, text_of_all}
 use Rattle.farm_input.specs.Input.{Texts}
 use Rattle.farm_input.specs.Planned.{FarmPlan}
 use Rattle.farm_json.specs.Verdicts.{explain_line}
@@ -30,7 +32,7 @@ use Rattle.plan_verifier.specs.declared.refusal.Refusal.{Refusal}
 use Rattle.plan_verifier.specs.declared.refusal.Refusal.TheVariants.{Text, Unsafe, Uneven, Stuck, Memory}
 use Rattle.remove_warnings.specs.Lines.{left_text}
 use Rattle.wait_notes.specs.Shown.{ShowsStuck}
-use Rattle.wait_notes.specs.WaitText.{waits_text}
+use Rattle.wait_notes.specs.WaitText.{waits_notes}
 use Rattle.farm_commands.specs.Answers.{no_status, planned_in, status_of, told_verdict}
 use Rattle.farm_commands.specs.declared.explanation.Explanation.{Explanation}
 use Rattle.farm_commands.specs.declared.explanation.Notes.{Notes}
@@ -56,30 +58,39 @@ item_text texts fault =
     then farm_note texts.packages texts.sources texts.farm fault.code fault.line
     else index_note fault.file (text_in texts fault.file) fault.code fault.line
 
--- the note on a fault of the texts, and the item that it is about
+-- the lines on a fault of the texts, and the item that it is about
 abbrev pub fault_notes : Texts → Fault → List ℕ
 fault_notes texts fault =
     note_text fault (text_in texts fault.file) ++ item_text texts fault
 
--- those, and no warnings
+-- which are one note, on no instruction
+abbrev pub fault_note : Texts → Fault → NoteFacts
+fault_note texts fault = record {
+  kind = Kind.Text;
+  place = None;
+  text = fault_notes texts fault;
+}
+
+-- that, and no warnings
 abbrev pub AreFaultNotes : Texts → Fault → Notes → Type 0
 AreFaultNotes texts fault notes =
-    (notes.why.items ≡ fault_notes texts fault) × (notes.warnings.items ≡ [])
+    (all_facts notes.reasons.items ≡ fault_note texts fault ∷ []) × (notes.warnings.items ≡ [])
 
 -- Of a plan whose text has these lines, what is unsafe in its lanes under the greatest known rows:
-pub record AreHazards (of : FarmPlan) (lines : TextLines) (text : List ℕ) : Type 0 where
+pub record AreHazards (of : FarmPlan) (lines : TextLines) (notes : List NoteFacts) : Type 0 where
   pub rows : Rows
   pub greatest : IsGreatest of.universe of.plan rows
-  pub text_is : text ≡ unsafe_text of.universe of.plan rows lines.lanes
+  pub notes_are : notes ≡ unsafe_notes of.universe of.plan rows lines.lanes
 
--- that, which begins with the line of the refusal
-abbrev pub TellsHazards : FarmPlan → TextLines → Refusal → List ℕ → Type 0
-TellsHazards of lines refusal text = AreHazards of lines text × TellsFirst refusal text
+-- that, whose text begins with the line of the refusal
+abbrev pub TellsHazards : FarmPlan → TextLines → Refusal → List NoteFacts → Type 0
+TellsHazards of lines refusal notes =
+    AreHazards of lines notes × TellsFirst refusal (text_of_all notes)
 
 -- why a verdict on a plan is one: for what each wait of an accepted plan waits, what is unsafe, for
 -- what the stuck lanes wait; a fault and want of memory are no such verdicts
-abbrev pub IsWhy : FarmPlan → TextLines → Result AcceptedPlan Refusal → List ℕ → Type 0
-IsWhy of lines (Ok a) why = why ≡ waits_text of.universe of.plan
+abbrev pub IsWhy : FarmPlan → TextLines → Result AcceptedPlan Refusal → List NoteFacts → Type 0
+IsWhy of lines (Ok a) why = why ≡ waits_notes of.universe of.plan lines.lanes
 IsWhy of lines (Err (Text fault)) why = ⊥
 IsWhy of lines (Err (Unsafe name number trap)) why =
     TellsHazards of lines (Unsafe name number trap) why
@@ -117,7 +128,8 @@ pub record AreWarnings (texts : Texts) (of : FarmPlan) (lines : TextLines) (text
 -- why a verdict on a plan is one, and the warnings
 abbrev pub AreNotes : Texts → FarmPlan → TextLines → Result AcceptedPlan Refusal → Notes → Type 0
 AreNotes texts of lines verdict notes =
-    IsWhy of lines verdict notes.why.items × AreWarnings texts of lines notes.warnings.items
+    IsWhy of lines verdict (all_facts notes.reasons.items)
+    × AreWarnings texts of lines notes.warnings.items
 
 -- the verdict on a plan, which is not want of memory, and these, unless memory was refused behind it
 abbrev pub IsExplained : Texts → FarmPlan → TextLines → Explanation → Type 0
@@ -153,17 +165,18 @@ abbrev pub head_text : Result AcceptedPlan Refusal → List ℕ
 head_text verdict = if is_begun verdict then [] else verdict_text verdict
 
 -- the lines of a verdict, those that explain it, and the warnings
-abbrev pub explained_text : Result AcceptedPlan Refusal → List ℕ → List ℕ → List ℕ
-explained_text verdict why warnings = concat (head_text verdict ∷ why ∷ warnings ∷ [])
+abbrev pub explained_text : Result AcceptedPlan Refusal → List NoteFacts → List ℕ → List ℕ
+explained_text verdict why warnings =
+    concat (head_text verdict ∷ text_of_all why ∷ warnings ∷ [])
 
-abbrev pub told_explained : Bool → Result AcceptedPlan Refusal → List ℕ → List ℕ → List ℕ
+abbrev pub told_explained : Bool → Result AcceptedPlan Refusal → List NoteFacts → List ℕ → List ℕ
 told_explained true verdict why warnings = explain_line verdict why warnings
 told_explained false verdict why warnings = explained_text verdict why warnings
 
 -- the text of a verdict with its notes, and the verdict's status
 abbrev pub TellsAll : Bool → Result AcceptedPlan Refusal → Notes → List ℕ → ℕ → Type 0
 TellsAll json verdict notes text status =
-    (text ≡ told_explained json verdict notes.why.items notes.warnings.items)
+    (text ≡ told_explained json verdict (all_facts notes.reasons.items) notes.warnings.items)
     × (status ≡ status_of (is_ok verdict))
 
 -- the verdict alone, where memory is refused behind it

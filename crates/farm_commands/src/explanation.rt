@@ -4,13 +4,14 @@ ghost use Rattle.std.specs.Prelude.{◌≡◌, IfOk, Ok, Err};
 ghost use Rattle.std.specs.Option.{IfSome};
 ghost use Rattle.farm_commands.specs.Explanations as spec;
 ghost use Rattle.farm_commands.specs.Explanations.{AreNotes, AreWarnings, IsExplained, IsWhy, TellsHazards, TellsLeft, farm_in};
+ghost use Rattle.farm_explain.specs.Notes.{all_facts};
 ghost use Rattle.farm_input.specs.View.{texts_view};
 ghost use Rattle.plan_verifier.specs.Examined.{IsExamined, IsGrounds, accepted_with};
 ghost use Rattle.plan_verifier.specs.Verdict.{IsVerdictOn};
 ghost use Rattle.wait_notes.specs.Shown.{ShowsStuck};
-ghost use Rattle.wait_notes.specs.WaitText.{waits_text};
+ghost use Rattle.wait_notes.specs.WaitText.{waits_notes};
 
-use farm_explain::unsafe_notes;
+use farm_explain::{Note, unsafe_notes};
 use farm_input::Texts;
 use farm_warnings::warnings;
 use plan_lines::PlanLines;
@@ -19,10 +20,10 @@ use remove_warnings::left_notes;
 use std::alloc::{AllocError, Global};
 use wait_notes::{stuck_notes, waits_notes};
 
-/// The lines that explain a verdict, and those of the warnings.
+/// The notes that explain a verdict, and the lines of the warnings.
 #[derive(Drop)]
 pub struct Notes {
-    pub why: Vec<u8>,
+    pub reasons: Vec<Note>,
     pub warnings: Vec<u8>,
 }
 
@@ -68,43 +69,43 @@ fn all_warnings(alloc: Global, of: Explained<'_>) -> Result<Vec<u8>, AllocError>
 }
 
 /// Puts the warnings beside what explains a verdict.
-fn with_warnings(alloc: Global, of: Explained<'_>, why: Vec<u8>) -> Result<Notes, AllocError>
+fn with_warnings(alloc: Global, of: Explained<'_>, reasons: Vec<Note>) -> Result<Notes, AllocError>
     requires { IsExamined of.examined.now }
-    ensures why { IfOk result (λ notes. notes.why ≡ why) }
+    ensures reasons { IfOk result (λ notes. notes.reasons ≡ reasons) }
     ensures warnings { IfOk result (λ notes. AreWarnings (texts_view of.entry.texts)
         (farm_in of.entry.examined.now) of.entry.lines.now notes.warnings.items) }
 {
     let warnings = all_warnings(alloc, of)?;
-    Ok(Notes { why, warnings })
+    Ok(Notes { reasons, warnings })
 }
 
 /// What is unsafe in the lanes of a plan that is refused for a hazard.
-fn why_unsafe(alloc: Global, of: Explained<'_>, refusal: &Refusal) -> Result<Vec<u8>, AllocError>
+fn why_unsafe(alloc: Global, of: Explained<'_>, refusal: &Refusal) -> Result<Vec<Note>, AllocError>
     requires examined { IsExamined of.examined.now }
     requires verdict { IsVerdictOn of.examined.now.universe of.examined.now.plan
         (Err refusal.now) }
     ensures { IfOk result (λ why. TellsHazards (farm_in of.entry.examined.now) of.entry.lines.now
-        refusal.now why.items) }
+        refusal.now (all_facts why.items)) }
 {
     unsafe_notes(alloc, &of.examined.stage(), of.lines)
 }
 
 /// For what the stuck lanes of a plan wait.
-fn why_stuck(alloc: Global, of: Explained<'_>) -> Result<Vec<u8>, AllocError>
+fn why_stuck(alloc: Global, of: Explained<'_>) -> Result<Vec<Note>, AllocError>
     requires { IsExamined of.examined.now }
     ensures { IfOk result (λ why. ShowsStuck of.entry.examined.now.universe
-        of.entry.examined.now.plan of.entry.lines.now.lanes why.items) }
+        of.entry.examined.now.plan of.entry.lines.now.lanes (all_facts why.items)) }
 {
     stuck_notes(alloc, &of.examined.stage(), of.lines)
 }
 
 /// For what each wait of an accepted plan waits.
-fn why_accepted(alloc: Global, of: Explained<'_>) -> Result<Vec<u8>, AllocError>
+fn why_accepted(alloc: Global, of: Explained<'_>) -> Result<Vec<Note>, AllocError>
     requires { IsExamined of.examined.now }
-    ensures { IfOk result (λ why. why.items ≡ waits_text of.entry.examined.now.universe
-        of.entry.examined.now.plan) }
+    ensures { IfOk result (λ why. all_facts why.items ≡ waits_notes
+        of.entry.examined.now.universe of.entry.examined.now.plan of.entry.lines.now.lanes) }
 {
-    waits_notes(alloc, &of.examined.stage())
+    waits_notes(alloc, &of.examined.stage(), of.lines)
 }
 
 /// Tells whether a plan is refused for an instruction that may go wrong, or for branches that part.
@@ -130,12 +131,12 @@ fn is_stuck(refusal: &Refusal) -> bool
 }
 
 /// Why a plan is refused.
-fn why_refused(alloc: Global, of: Explained<'_>, refusal: &Refusal) -> Result<Vec<u8>, AllocError>
+fn why_refused(alloc: Global, of: Explained<'_>, refusal: &Refusal) -> Result<Vec<Note>, AllocError>
     requires examined { IsExamined of.examined.now }
     requires verdict { IsVerdictOn of.examined.now.universe of.examined.now.plan
         (Err refusal.now) }
     ensures { IfOk result (λ why. IsWhy (farm_in of.entry.examined.now) of.entry.lines.now
-        (Err refusal.now) why.items) }
+        (Err refusal.now) (all_facts why.items)) }
 {
     if is_hazard(refusal) {
         why_unsafe(alloc, of, refusal)
@@ -162,8 +163,8 @@ fn notes_refused(alloc: Global, of: Explained<'_>, refusal: &Refusal) -> Result<
 /// For what each wait of an accepted plan waits, and the warnings.
 fn notes_accepted(alloc: Global, of: Explained<'_>) -> Result<Notes, AllocError>
     requires { IsExamined of.examined.now }
-    ensures { IfOk result (λ notes. (notes.why.items
-        ≡ waits_text of.entry.examined.now.universe of.entry.examined.now.plan)
+    ensures { IfOk result (λ notes. (all_facts notes.reasons.items ≡ waits_notes
+        of.entry.examined.now.universe of.entry.examined.now.plan of.entry.lines.now.lanes)
         × AreWarnings (texts_view of.entry.texts) (farm_in of.entry.examined.now)
         of.entry.lines.now notes.warnings.items) }
 {

@@ -1,10 +1,11 @@
 //! What explains texts that cannot be read.
 
-ghost use Rattle.std.specs.Prelude.{◌≡◌, ◌++◌, IfOk, is_err};
+ghost use Rattle.std.specs.Prelude.{◌≡◌, [], ◌∷◌, ◌++◌, IfOk, is_err};
 ghost use Rattle.deb_text.specs.Answers.{Fails, refusal_of};
 ghost use Rattle.farm_commands.specs.Answers.{planned_in};
 ghost use Rattle.farm_commands.specs.Explanations as spec;
 ghost use Rattle.farm_commands.specs.Explanations.{IsExplanation};
+ghost use Rattle.farm_explain.specs.Notes.{all_facts};
 ghost use Rattle.farm_input.specs.View.{texts_view};
 ghost use Rattle.fault_notes.specs.Notes.{note_text};
 ghost use Rattle.report_sink.specs.Sinks.{IsWritten};
@@ -12,6 +13,7 @@ ghost use Rattle.report_sink.specs.Sinks.{IsWritten};
 use crate::explanation::{Explanation, Notes};
 use deb_text::Fault;
 use deb_text::files::{FARM, PACKAGES, PLAN, SOURCES};
+use farm_explain::{Kind, Note};
 use farm_input::Texts;
 use farm_notes::{Texts as FarmTexts, farm_note, index_note};
 use fault_notes::write_fault_note;
@@ -58,7 +60,7 @@ fn item_text(alloc: Global, fault: &Fault, texts: Texts<'_>) -> Result<Vec<u8>, 
     farm_note(alloc, &of, fault.code, fault.line)
 }
 
-/// Writes the note on a fault, and the item that it is about.
+/// Writes the lines on a fault, and the item that it is about.
 fn write_notes<S: Sink>(
     out: &mut S,
     fault: Fault,
@@ -73,7 +75,7 @@ fn write_notes<S: Sink>(
     write_text(out, item)
 }
 
-/// The note on a fault, and the item that it is about.
+/// The lines on a fault, and the item that it is about.
 fn fault_notes(alloc: Global, fault: Fault, texts: Texts<'_>) -> Result<Vec<u8>, AllocError>
     ensures { IfOk result (λ text. text.items
         ≡ spec.fault_notes (texts_view texts.entry) fault) }
@@ -86,12 +88,27 @@ fn fault_notes(alloc: Global, fault: Fault, texts: Texts<'_>) -> Result<Vec<u8>,
     }
 }
 
-/// The same, of whose texts there are no warnings.
+/// The same as one note.
+fn fault_reasons(alloc: Global, fault: Fault, texts: Texts<'_>) -> Result<Vec<Note>, AllocError>
+    ensures { IfOk result (λ notes. all_facts notes.items
+        ≡ spec.fault_note (texts_view texts.entry) fault ∷ []) }
+{
+    let mut notes = Vec::new(alloc);
+    let text = fault_notes(alloc, fault, texts)?;
+    notes.push(Note {
+        kind: Kind::Text,
+        place: None,
+        text,
+    })?;
+    Ok(notes)
+}
+
+/// That note, without warnings.
 fn notes_on(alloc: Global, fault: Fault, texts: Texts<'_>) -> Result<Notes, AllocError>
     ensures { IfOk result (spec.AreFaultNotes (texts_view texts.entry) fault) }
 {
     Ok(Notes {
-        why: fault_notes(alloc, fault, texts)?,
+        reasons: fault_reasons(alloc, fault, texts)?,
         warnings: Vec::new(alloc),
     })
 }

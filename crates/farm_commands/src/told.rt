@@ -6,6 +6,7 @@ ghost use Rattle.farm_commands.specs.Answers.{IsAnswered, IsJust, no_status, tol
 ghost use Rattle.farm_commands.specs.Answers as answers;
 ghost use Rattle.farm_commands.specs.Explanations as spec;
 ghost use Rattle.farm_commands.specs.Explanations.{Tells, TellsAll, explained_text, head_text};
+ghost use Rattle.farm_explain.specs.Notes.{all_facts, text_of_all};
 ghost use Rattle.farm_json.specs.Verdicts.{check_line};
 ghost use Rattle.farm_report.specs.VerdictText.{verdict_text};
 ghost use Rattle.report_sink.specs.Sinks.{IsWritten};
@@ -13,6 +14,7 @@ ghost use Rattle.report_sink.specs.Sinks.{IsWritten};
 use crate::answers::{status_of, write_answer};
 use crate::explanation::{Explanation, Notes, is_hazard};
 use crate::fault::OutsideFault;
+use farm_explain::Note;
 use farm_json::{check_json, explain_json};
 use farm_report::write_check;
 use plan_verifier::{Accepted, Refusal};
@@ -41,6 +43,18 @@ fn write_head<S: Sink>(out: &mut S, verdict: &Result<Accepted, Refusal>) -> Resu
     }
 }
 
+/// Writes the texts of notes, one behind another.
+fn write_reasons<S: Sink>(out: &mut S, notes: &[Note]) -> Result<(), WriteFailed>
+    ensures written { IsWritten (S.state out.old) (S.state out.new)
+        (text_of_all (all_facts notes.now)) }
+    ensures told { is_err result ≡ (S.state out.new).failed }
+{
+    for note in notes {
+        write_text(out, note.text.as_slice())?;
+    }
+    whether_written(out)
+}
+
 /// Writes the lines of a verdict, those that explain it, and the warnings.
 fn write_lines<S: Sink>(
     out: &mut S,
@@ -48,11 +62,12 @@ fn write_lines<S: Sink>(
     notes: &Notes,
 ) -> Result<(), WriteFailed>
     ensures written { IsWritten (S.state out.old) (S.state out.new)
-        (explained_text verdict.now notes.now.why.items notes.now.warnings.items) }
+        (explained_text verdict.now (all_facts notes.now.reasons.items)
+        notes.now.warnings.items) }
     ensures told { is_err result ≡ (S.state out.new).failed }
 {
     write_head(out, verdict)?;
-    write_text(out, notes.why.as_slice())?;
+    write_reasons(out, notes.reasons.as_slice())?;
     write_text(out, notes.warnings.as_slice())
 }
 
@@ -125,7 +140,7 @@ fn write_json<'a, S: Sink>(
     match explain_json(
         alloc,
         verdict,
-        notes.why.as_slice(),
+        notes.reasons.as_slice(),
         notes.warnings.as_slice(),
     ) {
         Ok(line) => write_answer(out, line.as_slice(), status_of(verdict.is_ok())),

@@ -1,5 +1,5 @@
 -- What is said of the lanes begins with what is said of the first unsafe instruction.
-use Rattle.std.proofs.Common.{◌≡◌, ℕ, zero, suc, ◌+◌, ◌<◌, inl, inr, List, [], ◌++◌, length, Err, refl, sym, ap, subst, ◌∙◌, arith}
+use Rattle.std.proofs.Common.{◌≡◌, ℕ, zero, suc, ◌+◌, ◌<◌, inl, inr, List, [], ◌++◌, length, refl, sym, ap, subst, ◌∙◌, arith}
 use Rattle.std.proofs.lemmas.Bool.{cases_lt}
 use Rattle.std.proofs.lemmas.List.{append_assoc, append-nil}
 use Rattle.farm_model.specs.declared.types.Trap.{Trap}
@@ -10,17 +10,16 @@ use Rattle.plan_lines.specs.Origins.{LaneLines}
 use Rattle.plan_model.specs.Known.{Rows, IsGreatest}
 use Rattle.plan_model.specs.Plan.{Plan, lane}
 use Rattle.plan_model.specs.Safety.{Hazard, Meets, Parts, IsFirstUnsafe}
-use Rattle.plan_verifier.specs.Verdict.{IsRefused, IsVerdictOn}
+use Rattle.plan_verifier.specs.Verdict.{IsRefused}
 use Rattle.plan_verifier.specs.Walk.{told_at}
-use Rattle.plan_verifier.specs.declared.refusal.Refusal.{Refusal}
 use Rattle.plan_verifier.specs.declared.refusal.Refusal.TheVariants.{Text, Unsafe, Uneven, Stuck, Memory}
 use Rattle.plan_verifier.specs.declared.refusal.TheConstants.{UNSAFE, UNEVEN}
 use Rattle.refusal_reasons.specs.Reasons.{reason_at}
 use Rattle.verdict_laws.proofs.Alike.{agreeing_rows_are_alike}
 use Rattle.verdict_laws.proofs.Unions.{greatest_is_one}
-use Rattle.farm_explain.proofs.NoteLaws.{note_none, note_first}
+use Rattle.farm_explain.proofs.NoteLaws.{text_none, text_first}
 use Rattle.farm_explain.specs.Beginning.{BeginsWith, NotesBeginWithTheVerdict}
-use Rattle.farm_explain.specs.LaneNotes.{reason_lines, hazard_note, lane_note, unsafe_text}
+use Rattle.farm_explain.specs.LaneNotes.{reason_lines, hazard_text, lane_text, unsafe_text}
 use Rattle.farm_explain.specs.Parting.{end_behind, parts_text}
 use Rattle.farm_explain.specs.ReasonText.{where_text}
 use Rattle.farm_explain.specs.Texts.{text_below}
@@ -59,13 +58,13 @@ module _ (u : Universe) (p : Plan) (rows : Rows) (ls : List LaneLines)
     (great : IsGreatest u p rows) where
   -- of the first unsafe instruction
   first_note : (l i : ℕ) (hazard : Hazard) → IsFirstUnsafe u p rows l i hazard
-      → BeginsWith (hazard_note u p rows ls l i hazard) (unsafe_text u p rows ls)
+      → BeginsWith (hazard_text u p rows ls l i hazard) (unsafe_text u p rows ls)
   unfolding unsafe_text
   first_note l i hazard first =
-      subst (λ note. BeginsWith note (text_below (length p) (lane_note u p rows ls)))
-      (note_first u p rows ls l i hazard first.here first.before)
-      (begins_at (length p) l (lane_note u p rows ls) first.in_plan
-      (λ k lt. sym (note_none u p rows ls k (λ j. first.lanes_before k j lt))))
+      subst (λ note. BeginsWith note (text_below (length p) (lane_text u p rows ls)))
+      (text_first u p rows ls l i hazard first.here first.before)
+      (begins_at (length p) l (lane_text u p rows ls) first.in_plan
+      (λ k lt. sym (text_none u p rows ls k (λ j. first.lanes_before k j lt))))
 
   -- which is the one of the verdict, whatever the rows that this goes by
   first_one : (name : List ℕ) (number : ℕ) (hazard : Hazard)
@@ -87,7 +86,7 @@ module _ (u : Universe) (p : Plan) (rows : Rows) (ls : List LaneLines)
       → BeginsWith (unsafe_line UNSAFE name number (trap_text trap)) (unsafe_text u p rows ls)
   unsafe_first name number trap is =
       let line = begins_through (unsafe_line UNSAFE (lane p is.l).name (is.i + 1) (trap_text trap))
-      (hazard_note u p rows ls is.l is.i (Meets trap)) (unsafe_text u p rows ls) (
+      (hazard_text u p rows ls is.l is.i (Meets trap)) (unsafe_text u p rows ls) (
         where_text u p ls is.l is.i
             ++ reason_lines u p rows ls is.l is.i (reason_at u p rows is.l is.i trap),
         refl,
@@ -103,7 +102,7 @@ module _ (u : Universe) (p : Plan) (rows : Rows) (ls : List LaneLines)
   uneven_first name number is =
       let line = begins_through
       (row_line UNEVEN (lane p is.l).name (told_at p is.l is.i Parts + 1))
-      (hazard_note u p rows ls is.l is.i Parts) (unsafe_text u p rows ls) (
+      (hazard_text u p rows ls is.l is.i Parts) (unsafe_text u p rows ls) (
         where_text u p ls is.l (told_at p is.l is.i Parts)
             ++ parts_text u p rows is.l (end_behind p is.l (told_at p is.l is.i Parts)),
         refl,

@@ -5,3 +5,4 @@ pub mod KnownWords
 pub mod NoteLaws
 pub mod Outcomes
 pub mod Beginning
+pub mod NoteTexts

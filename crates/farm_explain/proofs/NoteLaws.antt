@@ -1,5 +1,5 @@
--- The note on a lane, by what a walk over it came to.
-use Rattle.std.proofs.Common.{◌≡◌, ℕ, ◌<◌, inl, inr, List, [], length, Option, Some, None, option_map, sym, ap, ◌∙◌, arith}
+-- What is said of a lane, and its note, by what a walk over it came to.
+use Rattle.std.proofs.Common.{◌≡◌, ℕ, ◌<◌, inl, inr, List, [], ◌∷◌, length, Option, Some, None, option_map, sym, ap, ◌∙◌, arith}
 use Rattle.std.proofs.lemmas.Bool.{cases_lt}
 use Rattle.std.proofs.lemmas.Option.{none-some, slice_get_past}
 use Rattle.farm_model.specs.Universe.{Universe}
@@ -10,19 +10,25 @@ use Rattle.plan_model.specs.Safety.{Hazard, hazard_at}
 use Rattle.plan_verifier.proofs.Steps.{hazard-past}
 use Rattle.refusal_reasons.proofs.FirstLaws.{first_below-at}
 use Rattle.farm_explain.proofs.Below.{none_below}
-use Rattle.farm_explain.specs.LaneNotes.{hazard_note, note_of, lane_note}
+use Rattle.farm_explain.specs.LaneNotes.{first_hazard, hazard_note, hazard_text, lane_notes, lane_text, notes_of, text_of}
 
 module _ (u : Universe) (p : Plan) (rows : Rows) (ls : List LaneLines) (l : ℕ) where
   abbrev at : ℕ → Option (ℕ × Hazard)
   at i = option_map (λ hazard. (i, hazard)) (hazard_at u p rows l i)
 
+  first_none : ((i : ℕ) → hazard_at u p rows l i ≡ None) → first_hazard u p rows l ≡ None
+  first_none safe =
+      none_below (length (lane p l).instructions) at
+      (λ k lt. ap (option_map (λ hazard. (k, hazard))) (safe k))
+
   -- a lane of safe instructions
-  pub note_none : ((i : ℕ) → hazard_at u p rows l i ≡ None) → [] ≡ lane_note u p rows ls l
-  unfolding lane_note
-  note_none safe =
-      sym (ap (note_of u p rows ls l)
-      (none_below (length (lane p l).instructions) at
-      (λ k lt. ap (option_map (λ hazard. (k, hazard))) (safe k))))
+  pub text_none : ((i : ℕ) → hazard_at u p rows l i ≡ None) → [] ≡ lane_text u p rows ls l
+  unfolding lane_text
+  text_none safe = sym (ap (text_of u p rows ls l) (first_none safe))
+
+  pub notes_none : ((i : ℕ) → hazard_at u p rows l i ≡ None) → [] ≡ lane_notes u p rows ls l
+  unfolding lane_notes
+  notes_none safe = sym (ap (notes_of u p rows ls l) (first_none safe))
 
   -- a hazard is ahead of the lane's end
   pub within : (i : ℕ) (hazard : Hazard) → hazard_at u p rows l i ≡ Some hazard
@@ -34,13 +40,23 @@ module _ (u : Universe) (p : Plan) (rows : Rows) (ls : List LaneLines) (l : ℕ)
             (slice_get_past (lane p l).instructions i (omega arith))) ∙ here))
       ]
 
-  -- its first hazard
-  pub note_first : (i : ℕ) (hazard : Hazard) → hazard_at u p rows l i ≡ Some hazard
+  first_is : (i : ℕ) (hazard : Hazard) → hazard_at u p rows l i ≡ Some hazard
       → ((k : ℕ) → k < i → hazard_at u p rows l k ≡ None)
-      → lane_note u p rows ls l ≡ hazard_note u p rows ls l i hazard
-  unfolding lane_note
-  note_first i hazard here before =
-      ap (note_of u p rows ls l)
-      (first_below-at (length (lane p l).instructions) i at (i, hazard) (within i hazard here)
+      → first_hazard u p rows l ≡ Some (i, hazard)
+  first_is i hazard here before =
+      first_below-at (length (lane p l).instructions) i at (i, hazard) (within i hazard here)
       (none_below i at (λ k lt. ap (option_map (λ h. (k, h))) (before k lt)))
-      (ap (option_map (λ h. (i, h))) here))
+      (ap (option_map (λ h. (i, h))) here)
+
+  -- its first hazard
+  pub text_first : (i : ℕ) (hazard : Hazard) → hazard_at u p rows l i ≡ Some hazard
+      → ((k : ℕ) → k < i → hazard_at u p rows l k ≡ None)
+      → lane_text u p rows ls l ≡ hazard_text u p rows ls l i hazard
+  unfolding lane_text
+  text_first i hazard here before = ap (text_of u p rows ls l) (first_is i hazard here before)
+
+  pub notes_first : (i : ℕ) (hazard : Hazard) → hazard_at u p rows l i ≡ Some hazard
+      → ((k : ℕ) → k < i → hazard_at u p rows l k ≡ None)
+      → lane_notes u p rows ls l ≡ hazard_note u p rows ls l i hazard ∷ []
+  unfolding lane_notes
+  notes_first i hazard here before = ap (notes_of u p rows ls l) (first_is i hazard here before)

@@ -1,5 +1,6 @@
 -- What is said of unsafe instructions begins with the line of the verdict. The project's own rules.
 --
+--   NotesHaveTheText             it is the texts of the notes, one behind another
 --   BeginsWith                   a text begins with another
 --   NotesBeginWithTheVerdict     so do the notes on a plan that is refused for an instruction or a branch
 use Rattle.std.specs.Prelude.{◌≡◌, ℕ, List, ◌++◌, Err}
@@ -11,7 +12,14 @@ use Rattle.plan_model.specs.Plan.{Plan}
 use Rattle.plan_verifier.specs.Verdict.{IsVerdictOn}
 use Rattle.plan_verifier.specs.declared.refusal.Refusal.{Refusal}
 use Rattle.plan_verifier.specs.declared.refusal.Refusal.TheVariants.{Text, Unsafe, Uneven, Stuck, Memory}
-use Rattle.farm_explain.specs.LaneNotes.{unsafe_text}
+use Rattle.farm_explain.specs.LaneNotes.{unsafe_notes, unsafe_text}
+use Rattle.farm_explain.specs.Notes.{text_of_all}
+
+-- whatever its lanes know
+abbrev pub NotesHaveTheText : Type 0
+NotesHaveTheText =
+    (u : Universe) (p : Plan) (rows : Rows) (ls : List LaneLines)
+    → text_of_all (unsafe_notes u p rows ls) ≡ unsafe_text u p rows ls
 
 abbrev pub BeginsWith : List ℕ → List ℕ → Type 0
 BeginsWith head text = (rest : List ℕ) × (text ≡ head ++ rest)

@@ -1,18 +1,22 @@
-//! Why a plan is refused, for a person: the texts of reasons.
+//! Why a plan is refused, for a person and for a script: notes, with the texts of reasons.
 #![tactic(auto)]
 
 pub mod could_meet;
 mod entries;
 mod exclusions;
 mod held;
+mod kinds;
 mod laws;
 mod missing;
+mod note;
 mod notes;
 mod parting;
 mod place;
 mod reasons;
 mod words;
 
-pub use laws::notes_begin_with_the_verdict;
+pub use kinds::Kind;
+pub use laws::{notes_begin_with_the_verdict, notes_have_the_text};
+pub use note::{Note, NotePlace, note_place, push_told};
 pub use notes::unsafe_notes;
 pub use place::{push_at, push_where};

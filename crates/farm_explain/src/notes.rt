@@ -12,11 +12,16 @@ ghost use Rattle.plan_model.specs.Plan.{lane};
 ghost use Rattle.plan_model.specs.Safety.{Meets};
 ghost use Rattle.plan_verifier.specs.Stage.{IsStage};
 ghost use Rattle.plan_verifier.specs.declared.refusal.TheConstants.{UNSAFE, UNEVEN};
+ghost use Rattle.farm_explain.specs.Kinds as kinds;
 ghost use Rattle.farm_explain.specs.LaneNotes as spec;
+ghost use Rattle.farm_explain.specs.Notes.{all_facts, facts, found_facts};
 ghost use Rattle.farm_explain.specs.ReasonText.{is_unpack, where_text};
+ghost use Rattle.refusal_reasons.specs.Reasons.{reason_at};
 
 use crate::could_meet::ChrootText;
+use crate::kinds::{Kind, kind_of};
 use crate::missing::LaneText;
+use crate::note::{Note, note_place};
 use crate::parting::{end_behind, push_parting};
 use crate::place::push_where;
 use crate::reasons::push_reason;
@@ -173,15 +178,15 @@ fn push_reasons<K: KnownWords>(
     }
 }
 
-/// The note on a trap of a lane's instruction.
-fn trap_note<K: KnownWords>(
+/// The text of the note on a trap of a lane's instruction, and its kind.
+fn trap_text<K: KnownWords>(
     alloc: Global,
     stage: &Stage<'_, K>,
     dependents: &Dependents,
     lines: &PlanLines,
     number: usize,
     met: Met,
-) -> Result<Vec<u8>, AllocError>
+) -> Result<(Vec<u8>, Kind), AllocError>
     requires stage { IsStage stage.now.universe.now stage.now.plan.now.lanes
         stage.now.tables.now stage.now.outputs.now (K.known stage.now.known.now) }
     requires dependents { dependents.now ≡ stage.now.universe.now }
@@ -189,9 +194,12 @@ fn trap_note<K: KnownWords>(
     requires instruction { 0 < met.instruction }
     requires place { met.instruction
         ≤ length (lane stage.now.plan.now.lanes number).instructions }
-    ensures { IfOk result (λ text. text.items ≡ spec.hazard_note stage.now.universe.now
+    ensures text { IfOk result (λ told. told.0.items ≡ spec.hazard_text stage.now.universe.now
         stage.now.plan.now.lanes (K.known stage.now.known.now).rows lines.now.lanes number
         (met.instruction - 1) (Meets met.trap)) }
+    ensures kind { IfOk result (λ told. told.1 ≡ kinds.kind_of (reason_at stage.now.universe.now
+        stage.now.plan.now.lanes (K.known stage.now.known.now).rows number
+        (met.instruction - 1) met.trap)) }
 {
     let place = met.instruction as usize - 1;
     let mut text = trap_head(alloc, stage, lines, number, met)?;
@@ -207,7 +215,44 @@ fn trap_note<K: KnownWords>(
     };
     let told = reason(alloc, stage, number, place, &may, met.trap)?;
     push_reasons(&mut text, stage, of, place, &may, told)?;
-    Ok(text)
+    Ok((text, kind_of(told)))
+}
+
+/// The note on a trap of a lane's instruction.
+fn trap_note<K: KnownWords>(
+    alloc: Global,
+    stage: &Stage<'_, K>,
+    dependents: &Dependents,
+    lines: &PlanLines,
+    number: usize,
+    met: Met,
+) -> Result<Note, AllocError>
+    requires stage { IsStage stage.now.universe.now stage.now.plan.now.lanes
+        stage.now.tables.now stage.now.outputs.now (K.known stage.now.known.now) }
+    requires dependents { dependents.now ≡ stage.now.universe.now }
+    requires lane { number < length stage.now.plan.now.lanes }
+    requires instruction { 0 < met.instruction }
+    requires place { met.instruction
+        ≤ length (lane stage.now.plan.now.lanes number).instructions }
+    ensures { IfOk result (λ note. facts note ≡ spec.trap_note stage.now.universe.now
+        stage.now.plan.now.lanes (K.known stage.now.known.now).rows lines.now.lanes number
+        (met.instruction - 1) met.trap) }
+{
+    let instruction = u64::from(met.instruction);
+    let place = note_place(
+        alloc,
+        stage.plan,
+        lines,
+        number,
+        instruction,
+        Some(met.trap),
+    )?;
+    let (text, kind) = trap_text(alloc, stage, dependents, lines, number, met)?;
+    Ok(Note {
+        kind,
+        place: Some(place),
+        text,
+    })
 }
 
 /// The line of the refusal of branches that part, and where.
@@ -235,8 +280,8 @@ fn uneven_head<K: KnownWords>(
     Ok(text)
 }
 
-/// The note on branches that part: of the `when` of this number, from 1.
-fn uneven_note<K: KnownWords>(
+/// The text of the note on branches that part: of the `when` of this number, from 1.
+fn uneven_text<K: KnownWords>(
     alloc: Global,
     stage: &Stage<'_, K>,
     dependents: &Dependents,
@@ -249,7 +294,7 @@ fn uneven_note<K: KnownWords>(
     requires dependents { dependents.now ≡ stage.now.universe.now }
     requires lane { number < length stage.now.plan.now.lanes }
     requires instruction { 0 < instruction }
-    ensures { IfOk result (λ text. text.items ≡ spec.parting_note stage.now.universe.now
+    ensures { IfOk result (λ text. text.items ≡ spec.parting_text stage.now.universe.now
         stage.now.plan.now.lanes (K.known stage.now.known.now).rows lines.now.lanes number
         instruction (instruction - 1)) }
 {
@@ -259,6 +304,34 @@ fn uneven_note<K: KnownWords>(
     Ok(text)
 }
 
+/// The note on branches that part.
+fn uneven_note<K: KnownWords>(
+    alloc: Global,
+    stage: &Stage<'_, K>,
+    dependents: &Dependents,
+    lines: &PlanLines,
+    number: usize,
+    instruction: u32,
+) -> Result<Note, AllocError>
+    requires stage { IsStage stage.now.universe.now stage.now.plan.now.lanes
+        stage.now.tables.now stage.now.outputs.now (K.known stage.now.known.now) }
+    requires dependents { dependents.now ≡ stage.now.universe.now }
+    requires lane { number < length stage.now.plan.now.lanes }
+    requires instruction { 0 < instruction }
+    ensures { IfOk result (λ note. facts note ≡ spec.parting_note stage.now.universe.now
+        stage.now.plan.now.lanes (K.known stage.now.known.now).rows lines.now.lanes number
+        instruction (instruction - 1)) }
+{
+    let of = u64::from(instruction);
+    let place = note_place(alloc, stage.plan, lines, number, of, None)?;
+    let text = uneven_text(alloc, stage, dependents, lines, number, instruction)?;
+    Ok(Note {
+        kind: Kind::Uneven,
+        place: Some(place),
+        text,
+    })
+}
+
 /// What is said of a lane: nothing where each of its instructions is safe.
 fn lane_note<K: KnownWords>(
     alloc: Global,
@@ -266,16 +339,16 @@ fn lane_note<K: KnownWords>(
     dependents: &Dependents,
     lines: &PlanLines,
     number: usize,
-) -> Result<Vec<u8>, AllocError>
+) -> Result<Option<Note>, AllocError>
     requires stage { IsStage stage.now.universe.now stage.now.plan.now.lanes
         stage.now.tables.now stage.now.outputs.now (K.known stage.now.known.now) }
     requires dependents { dependents.now ≡ stage.now.universe.now }
     requires lane { number < length stage.now.plan.now.lanes }
-    ensures { IfOk result (λ text. text.items ≡ spec.lane_note stage.now.universe.now
+    ensures { IfOk result (λ note. found_facts note ≡ spec.lane_notes stage.now.universe.now
         stage.now.plan.now.lanes (K.known stage.now.known.now).rows lines.now.lanes number) }
 {
     match walk(alloc, stage, dependents, number) {
-        Ok(_) => Ok(Vec::new(alloc)),
+        Ok(_) => Ok(None),
         Err(
             WalkError::Unsafe {
                 instruction,
@@ -284,38 +357,50 @@ fn lane_note<K: KnownWords>(
             },
         ) => {
             let met = Met { instruction, trap };
-            trap_note(alloc, stage, dependents, lines, number, met)
+            Ok(Some(trap_note(alloc, stage, dependents, lines, number, met)?))
         }
         Err(WalkError::Uneven { instruction, .. }) => {
-            uneven_note(alloc, stage, dependents, lines, number, instruction)
+            Ok(Some(uneven_note(alloc, stage, dependents, lines, number, instruction)?))
         }
         Err(WalkError::Memory) => Err(AllocError),
     }
 }
 
-/// Gives what is said of the unsafe instructions of a plan: for each lane that has one, of the first,
-/// the line of its refusal, its line in the plan, and why. Nothing for a plan that is safe. `lines` are
-/// those of the plan's text.
+/// Puts a note behind others, where there is one.
+fn push_found(notes: &mut Vec<Note>, found: Option<Note>) -> Result<(), AllocError>
+    ensures { OnOk result (all_facts notes.new.items
+        ≡ all_facts notes.old.items ++ found_facts found) }
+{
+    if let Some(note) = found {
+        notes.push(note)?;
+    }
+    Ok(())
+}
+
+/// Gives what is said of the unsafe instructions of a plan: for each lane that has one a note on the
+/// first, with the line of its refusal, its line in the plan, and why. None for a plan that is safe.
+/// `lines` are those of the plan's text.
 ///
 /// # Errors
 ///
 /// [`AllocError`] where memory is refused.
-#[tactic(auto, unfolding(crate::specs::LaneNotes::unsafe_text))]
+#[tactic(auto, unfolding(crate::specs::LaneNotes::unsafe_notes))]
 pub fn unsafe_notes<K: KnownWords>(
     alloc: Global,
     stage: &Stage<'_, K>,
     lines: &PlanLines,
-) -> Result<Vec<u8>, AllocError>
+) -> Result<Vec<Note>, AllocError>
     requires { IsStage stage.now.universe.now stage.now.plan.now.lanes
         stage.now.tables.now stage.now.outputs.now (K.known stage.now.known.now) }
-    ensures { IfOk result (λ text. text.items ≡ spec.unsafe_text stage.now.universe.now
-        stage.now.plan.now.lanes (K.known stage.now.known.now).rows lines.now.lanes) }
+    ensures { IfOk result (λ notes. all_facts notes.items ≡ spec.unsafe_notes
+        stage.now.universe.now stage.now.plan.now.lanes (K.known stage.now.known.now).rows
+        lines.now.lanes) }
 {
     let dependents = Dependents::build(alloc, stage.universe, stage.tables)?;
-    let mut text = Vec::new(alloc);
+    let mut notes = Vec::new(alloc);
     for number in 0..stage.plan.lanes() {
-        let note = lane_note(alloc, stage, &dependents, lines, number)?;
-        text.extend_from_slice(&note)?;
+        let found = lane_note(alloc, stage, &dependents, lines, number)?;
+        push_found(&mut notes, found)?;
     }
-    Ok(text)
+    Ok(notes)
 }

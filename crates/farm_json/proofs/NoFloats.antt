@@ -1,28 +1,114 @@
--- Verdicts are objects without floats.
-use Rattle.std.proofs.Common.{◌≡◌, List, ℕ, Result, Ok, Err, ◌||◌, false, refl, ap, ◌∙◌}
-use Rattle.answer_json.proofs.NoFloats.{no_float_in_lines, no_float_in_texts}
+-- Verdicts and notes are objects without floats.
+use Rattle.std.proofs.Common.{◌≡◌, ℕ, zero, suc, List, [], ◌∷◌, ◌++◌, Option, Some, None, Result, Ok, Err, Ordering, Less, Equal, Greater, ◌||◌, false, map, refl, ap, ◌∙◌}
+use Rattle.std.proofs.lemmas.Bool.{or_parts}
+use Rattle.std.specs.Prelude.{codes}
+use Rattle.std.specs.Cmp.Lexicographic.{slice_cmp}
+use Rattle.std.specs.Ordering.{match_ordering, nat_cmp}
+use Rattle.answer_json.proofs.NoFloats.{no_float_in_lines}
 use Rattle.answer_json.specs.Texts.{lines_data}
 use Rattle.deb_text.specs.Lists.{lists}
-use Rattle.farm_json.specs.Verdicts.{explained, verdict_members}
+use Rattle.farm_explain.specs.Notes.{NoteFacts, PlaceFacts}
+use Rattle.farm_json.specs.Reasons.{reason_data, reasons_data, told_members, with_instruction, with_number, with_origin, with_place, with_trap, with_use}
+use Rattle.farm_json.specs.Refusals.{name_data}
+use Rattle.farm_json.specs.Verdicts.{data_below, explained_members, lane_data, verdict_members}
+use Rattle.farm_model.specs.declared.types.Trap.{Trap}
+use Rattle.plan_lines.specs.declared.origin.Origin.{Origin}
 use Rattle.plan_verifier.specs.Accepted.{AcceptedPlan}
 use Rattle.plan_verifier.specs.declared.refusal.Refusal.{Refusal}
 use Rattle.plan_verifier.specs.declared.refusal.Refusal.TheVariants.{Text, Unsafe, Uneven, Stuck, Memory}
-use Rattle.serde_json.specs.Data.{Members}
-use Rattle.serde_json.specs.Written.{has_float, members_have_float}
+use Rattle.serde_json.specs.Data.{Data, Items, Members, member, no_members, put}
+use Rattle.serde_json.specs.View.{items_of}
+use Rattle.serde_json.specs.Written.{has_float, items_have_float, members_have_float}
 
--- a verdict has none ahead of what stands behind it
-pub no_float_ahead : (verdict : Result AcceptedPlan Refusal) (rest : Members)
-    → members_have_float (verdict_members verdict rest) ≡ members_have_float rest
-no_float_ahead (Ok a) rest = refl
-no_float_ahead (Err (Text fault)) rest = refl
-no_float_ahead (Err (Unsafe name instruction trap)) rest = refl
-no_float_ahead (Err (Uneven name instruction)) rest = refl
-no_float_ahead (Err (Stuck names)) rest =
-    ap (λ found. found || members_have_float rest) (no_float_in_texts (lists names.items))
-no_float_ahead (Err Memory) rest = refl
+both : (x y : Bool) → x ≡ false → y ≡ false → (x || y) ≡ false
+both x y one two = ap (λ t. t || y) one ∙ two
 
-pub no_float_in_explained : (why warnings : List ℕ)
-    → members_have_float (explained why warnings) ≡ false
-no_float_in_explained why warnings =
-    ap (λ found. found || (has_float (lines_data why) || false)) (no_float_in_lines warnings)
-    ∙ ap (λ found. found || false) (no_float_in_lines why)
+-- ---- members
+
+either : (o : Ordering) (a b c : Members) → members_have_float a ≡ false
+    → members_have_float b ≡ false → members_have_float c ≡ false
+    → members_have_float (match_ordering o a b c) ≡ false
+either Less a b c one two three = one
+either Equal a b c one two three = two
+either Greater a b c one two three = three
+
+-- one more has none where neither it nor they have one
+no_float_put : (k : List ℕ) (d : Data) (ms : Members) → has_float d ≡ false
+    → members_have_float ms ≡ false → members_have_float (put k d ms) ≡ false
+no_float_put k d no_members none before = both (has_float d) false none refl
+no_float_put k d (member l e ms) none before =
+    let parts = or_parts (has_float e) (members_have_float ms) before in
+    either (slice_cmp nat_cmp k l) (member k d (member l e ms)) (member l d ms)
+    (member l e (put k d ms)) (both (has_float d) _ none before)
+    (both (has_float d) _ none parts.1)
+    (both (has_float e) _ parts.0 (no_float_put k d ms none parts.1))
+
+-- ---- notes
+
+in_trap : (trap : Option Trap) (ms : Members) → members_have_float ms ≡ false
+    → members_have_float (with_trap trap ms) ≡ false
+in_trap None ms none = none
+in_trap (Some trap) ms none = no_float_put _ _ ms refl none
+
+in_use : (used : Option ℕ) (ms : Members) → members_have_float ms ≡ false
+    → members_have_float (with_use used ms) ≡ false
+in_use None ms none = none
+in_use (Some line) ms none = no_float_put _ _ ms refl none
+
+in_origin : (origin : Option Origin) (ms : Members) → members_have_float ms ≡ false
+    → members_have_float (with_origin origin ms) ≡ false
+in_origin None ms none = none
+in_origin (Some origin) ms none = in_use origin.used _ (no_float_put _ _ ms refl none)
+
+in_number : (place : PlaceFacts) (ms : Members) → members_have_float ms ≡ false
+    → members_have_float (with_number place ms) ≡ false
+in_number place ms none = no_float_put _ _ _ refl (no_float_put _ _ ms refl none)
+
+in_place : (place : Option PlaceFacts) (ms : Members) → members_have_float ms ≡ false
+    → members_have_float (with_place place ms) ≡ false
+in_place None ms none = none
+in_place (Some place) ms none =
+    in_trap place.trap _ (in_origin place.origin _ (in_number place ms none))
+
+in_note : (note : NoteFacts) → has_float (reason_data note) ≡ false
+in_note note =
+    in_place note.place (told_members note)
+    (both (has_float (lines_data note.text)) false (no_float_in_lines note.text) refl)
+
+in_notes : (notes : List NoteFacts) → has_float (reasons_data notes) ≡ false
+in_notes [] = refl
+in_notes (note ∷ notes) = both (has_float (reason_data note)) _ (in_note note) (in_notes notes)
+
+-- ---- verdicts
+
+in_names : (names : List (List ℕ)) → items_have_float (items_of (map name_data names)) ≡ false
+in_names [] = refl
+in_names (name ∷ names) = in_names names
+
+one_more : (ds : List Data) (d : Data) → items_have_float (items_of ds) ≡ false
+    → has_float d ≡ false → items_have_float (items_of (ds ++ d ∷ [])) ≡ false
+one_more [] d before none = both (has_float d) false none refl
+one_more (e ∷ ds) d before none =
+    let parts = or_parts (has_float e) (items_have_float (items_of ds)) before in
+    both (has_float e) _ parts.0 (one_more ds d parts.1 none)
+
+in_lanes : (a : AcceptedPlan) (n : ℕ)
+    → items_have_float (items_of (data_below n (lane_data a))) ≡ false
+in_lanes a zero = refl
+in_lanes a (suc n) = one_more (data_below n (lane_data a)) (lane_data a n) (in_lanes a n) refl
+
+pub no_float_in_verdict : (verdict : Result AcceptedPlan Refusal)
+    → members_have_float (verdict_members verdict) ≡ false
+no_float_in_verdict (Ok a) = both _ false (in_lanes a (length a.plan)) refl
+no_float_in_verdict (Err (Text fault)) = refl
+no_float_in_verdict (Err (Unsafe name instruction trap)) = refl
+no_float_in_verdict (Err (Uneven name instruction)) = refl
+no_float_in_verdict (Err (Stuck names)) = both _ false (in_names (lists names.items)) refl
+no_float_in_verdict (Err Memory) = refl
+
+pub no_float_in_explained : (verdict : Result AcceptedPlan Refusal) (notes : List NoteFacts)
+    (warnings : List ℕ) → members_have_float (explained_members verdict notes warnings) ≡ false
+no_float_in_explained verdict notes warnings =
+    no_float_put (codes "reasons") (reasons_data notes) _ (in_notes notes)
+    (no_float_put (codes "warnings") (lines_data warnings) (verdict_members verdict)
+    (no_float_in_lines warnings) (no_float_in_verdict verdict))

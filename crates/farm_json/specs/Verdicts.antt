@@ -1,35 +1,56 @@
 -- Verdicts as objects, whose members stand in the order of their names. The project's own format.
+-- Parameter: a an accepted plan.
 --
---   verdict_members verdict rest          the members of a verdict, and those behind
+--   verdict_members verdict               the members of a verdict
+--   explained_members                     the same with what explains it
 --   check_line verdict                    the line of a verdict
---   explain_line verdict why warnings     the line of a verdict with what explains it
-use Rattle.std.specs.Prelude.{ℕ, List, length, codes, Result, Ok, Err}
+--   explain_line verdict notes warnings   the line of a verdict with what explains it
+use Rattle.std.specs.Prelude.{ℕ, zero, suc, List, [], ◌∷◌, ◌++◌, length, codes, Result, Ok, Err}
 use Rattle.answer_json.specs.Texts.{answer_line, lines_data}
-use Rattle.plan_model.specs.Plan.{count}
-use Rattle.plan_verifier.specs.Accepted.{AcceptedPlan}
+use Rattle.farm_explain.specs.Notes.{NoteFacts}
+use Rattle.plan_model.specs.MayAt.{lane_cost}
+use Rattle.plan_model.specs.Plan.{count, lane}
+use Rattle.plan_verifier.specs.Accepted.{AcceptedPlan, known_rows}
 use Rattle.plan_verifier.specs.declared.refusal.Refusal.{Refusal}
-use Rattle.serde_json.specs.Data.{Members, member, no_members, object}
-use Rattle.farm_json.specs.Refusals.{number_data, refusal_members, verdict_member}
+use Rattle.serde_json.specs.Data.{Data, Members, array, member, object, put}
+use Rattle.serde_json.specs.View.{items_of}
+use Rattle.farm_json.specs.Reasons.{reasons_data}
+use Rattle.farm_json.specs.Refusals.{name_member, number_data, refusal_members, verdict_member}
 
-abbrev pub accepted_members : AcceptedPlan → Members → Members
-accepted_members a rest =
+-- the values of the numbers below n, from 0 up
+abbrev pub data_below : ℕ → (ℕ → Data) → List Data
+data_below zero f = []
+data_below (suc n) f = data_below n f ++ f n ∷ []
+
+-- a lane, with its cost and its budget
+abbrev pub lane_data : AcceptedPlan → ℕ → Data
+lane_data a l =
+    object (member (codes "budget") (number_data (lane a.plan l).budget)
+    (member (codes "cost") (number_data (lane_cost a.universe a.plan (known_rows a) l))
+    (name_member (lane a.plan l).name)))
+
+-- in file order
+abbrev pub lanes_data : AcceptedPlan → Data
+lanes_data a = array (items_of (data_below (length a.plan) (lane_data a)))
+
+abbrev pub accepted_members : AcceptedPlan → Members
+accepted_members a =
     member (codes "count") (number_data (count a.universe a.plan))
-    (member (codes "lanes") (number_data (length a.plan))
-    (verdict_member (codes "accepted") rest))
+    (member (codes "lanes") (lanes_data a) (verdict_member (codes "accepted")))
 
-abbrev pub verdict_members : Result AcceptedPlan Refusal → Members → Members
-verdict_members (Ok a) rest = accepted_members a rest
-verdict_members (Err refusal) rest = refusal_members refusal rest
+abbrev pub verdict_members : Result AcceptedPlan Refusal → Members
+verdict_members (Ok a) = accepted_members a
+verdict_members (Err refusal) = refusal_members refusal
 
--- the lines that explain a verdict, behind the warnings
-abbrev pub explained : List ℕ → List ℕ → Members
-explained why warnings =
-    member (codes "warnings") (lines_data warnings)
-    (member (codes "why") (lines_data why) no_members)
+-- with the notes that explain it, and the warnings
+abbrev pub explained_members : Result AcceptedPlan Refusal → List NoteFacts → List ℕ → Members
+explained_members verdict notes warnings =
+    put (codes "reasons") (reasons_data notes)
+    (put (codes "warnings") (lines_data warnings) (verdict_members verdict))
 
 abbrev pub check_line : Result AcceptedPlan Refusal → List ℕ
-check_line verdict = answer_line (object (verdict_members verdict no_members))
+check_line verdict = answer_line (object (verdict_members verdict))
 
-abbrev pub explain_line : Result AcceptedPlan Refusal → List ℕ → List ℕ → List ℕ
-explain_line verdict why warnings =
-    answer_line (object (verdict_members verdict (explained why warnings)))
+abbrev pub explain_line : Result AcceptedPlan Refusal → List NoteFacts → List ℕ → List ℕ
+explain_line verdict notes warnings =
+    answer_line (object (explained_members verdict notes warnings))

@@ -1,10 +1,12 @@
 //! The lines of verdicts.
 
 ghost use Rattle.std.specs.Prelude.{◌≡◌, IfOk};
+ghost use Rattle.farm_explain.specs.Notes.{all_facts};
 ghost use Rattle.farm_json.specs.Verdicts.{check_line, explain_line};
 
 use crate::members::{of_explained, of_verdict};
 use answer_json::answer_line;
+use farm_explain::Note;
 use plan_verifier::{Accepted, Refusal};
 use serde_json::Value;
 use std::alloc::{AllocError, Global};
@@ -21,7 +23,7 @@ pub fn check_json(alloc: Global, verdict: &Result<Accepted, Refusal>) -> Result<
     answer_line(alloc, &Value::Object(members))
 }
 
-/// Gives the line of a verdict with the lines that explain it, and those of the warnings.
+/// Gives the line of a verdict with the notes that explain it, and the lines of the warnings.
 ///
 /// # Errors
 ///
@@ -29,11 +31,12 @@ pub fn check_json(alloc: Global, verdict: &Result<Accepted, Refusal>) -> Result<
 pub fn explain_json(
     alloc: Global,
     verdict: &Result<Accepted, Refusal>,
-    why: &[u8],
+    notes: &[Note],
     warnings: &[u8],
 ) -> Result<Vec<u8>, AllocError>
-    ensures { IfOk result (λ line. line.items ≡ explain_line verdict.now why.now warnings.now) }
+    ensures { IfOk result (λ line. line.items
+        ≡ explain_line verdict.now (all_facts notes.now) warnings.now) }
 {
-    let members = of_explained(alloc, verdict, why, warnings)?;
+    let members = of_explained(alloc, verdict, notes, warnings)?;
     answer_line(alloc, &Value::Object(members))
 }

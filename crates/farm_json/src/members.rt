@@ -1,26 +1,52 @@
 //! The members of verdicts.
 
-ghost use Rattle.std.specs.Prelude.{◌≡◌, IfOk};
+ghost use Rattle.std.specs.Prelude.{◌≡◌, ◌<◌, IfOk, length};
+ghost use Rattle.farm_explain.specs.Notes.{all_facts};
 ghost use Rattle.farm_json.specs.Verdicts as spec;
-ghost use Rattle.farm_json.specs.Verdicts.{explained};
-ghost use Rattle.serde_json.specs.Data.{no_members};
-ghost use Rattle.serde_json.specs.View.{members_view};
+ghost use Rattle.serde_json.specs.View.{members_view, view};
 
+use crate::reasons::reason_list;
 use crate::refusals::of_refusal;
-use answer_json::line_list;
+use answer_json::{line_list, text_value};
+use farm_explain::Note;
 use plan_verifier::{Accepted, Refusal};
 use serde_json::{Map, Value, put};
 use std::alloc::{AllocError, Global};
 
+/// A lane of an accepted plan, with its cost and its budget.
+fn lane_value(alloc: Global, accepted: &Accepted, number: usize) -> Result<Value, AllocError>
+    requires { number < length accepted.now.plan }
+    ensures { IfOk result (λ value. view value ≡ spec.lane_data accepted.now number) }
+{
+    let lane = accepted.plan().lane(number);
+    let cost = accepted.lane_cost(number);
+    let mut members = Map::new(alloc);
+    put(&mut members, alloc, "budget", Value::from(lane.budget()))?;
+    put(&mut members, alloc, "cost", Value::from(cost))?;
+    put(&mut members, alloc, "name", text_value(alloc, lane.name())?)?;
+    Ok(Value::Object(members))
+}
+
+/// The lanes of an accepted plan.
+fn lane_list(alloc: Global, accepted: &Accepted) -> Result<Value, AllocError>
+    ensures { IfOk result (λ value. view value ≡ spec.lanes_data accepted.now) }
+{
+    let mut values = Vec::new(alloc);
+    for number in 0..accepted.plan().lanes() {
+        values.push(lane_value(alloc, accepted, number)?)?;
+    }
+    Ok(Value::Array(values))
+}
+
 /// The members of an acceptance.
 fn of_accepted(alloc: Global, accepted: &Accepted) -> Result<Map<String, Value>, AllocError>
     ensures { IfOk result (λ members. members_view members.entries
-        ≡ spec.accepted_members accepted.now no_members) }
+        ≡ spec.accepted_members accepted.now) }
 {
-    let plan = accepted.plan();
     let mut members = Map::new(alloc);
-    put(&mut members, alloc, "count", Value::from(plan.count()))?;
-    put(&mut members, alloc, "lanes", Value::from(plan.lanes()))?;
+    let count = accepted.plan().count();
+    put(&mut members, alloc, "count", Value::from(count))?;
+    put(&mut members, alloc, "lanes", lane_list(alloc, accepted)?)?;
     put(
         &mut members,
         alloc,
@@ -36,7 +62,7 @@ pub fn of_verdict(
     verdict: &Result<Accepted, Refusal>,
 ) -> Result<Map<String, Value>, AllocError>
     ensures { IfOk result (λ members. members_view members.entries
-        ≡ spec.verdict_members verdict.now no_members) }
+        ≡ spec.verdict_members verdict.now) }
 {
     match verdict {
         Ok(accepted) => of_accepted(alloc, accepted),
@@ -48,14 +74,14 @@ pub fn of_verdict(
 pub fn of_explained(
     alloc: Global,
     verdict: &Result<Accepted, Refusal>,
-    why: &[u8],
+    notes: &[Note],
     warnings: &[u8],
 ) -> Result<Map<String, Value>, AllocError>
     ensures { IfOk result (λ members. members_view members.entries
-        ≡ spec.verdict_members verdict.now (explained why.now warnings.now)) }
+        ≡ spec.explained_members verdict.now (all_facts notes.now) warnings.now) }
 {
     let mut members = of_verdict(alloc, verdict)?;
     put(&mut members, alloc, "warnings", line_list(alloc, warnings)?)?;
-    put(&mut members, alloc, "why", line_list(alloc, why)?)?;
+    put(&mut members, alloc, "reasons", reason_list(alloc, notes)?)?;
     Ok(members)
 }

@@ -5,10 +5,9 @@ ghost use Rattle.deb_text.specs.Lists.{lists};
 ghost use Rattle.farm_json.specs.Refusals as spec;
 ghost use Rattle.farm_json.specs.Refusals.{refused};
 ghost use Rattle.plan_verifier.specs.declared.refusal.Refusal.TheVariants.{Text, Unsafe, Uneven, Stuck, Memory};
-ghost use Rattle.serde_json.specs.Data.{no_members};
-ghost use Rattle.serde_json.specs.View.{members_view};
+ghost use Rattle.serde_json.specs.View.{members_view, view};
 
-use answer_json::{text_list, text_value};
+use answer_json::text_value;
 use deb_text::Fault;
 use farm_universe::Trap;
 use fault_notes::file_name;
@@ -19,9 +18,18 @@ use std::alloc::{AllocError, Global};
 /// The code of want of memory.
 const WANTS_MEMORY: u16 = 900;
 
+/// A name as an object of one member.
+fn name_value(alloc: Global, name: &[u8]) -> Result<Value, AllocError>
+    ensures { IfOk result (λ value. view value ≡ spec.name_data name.now) }
+{
+    let mut members = Map::new(alloc);
+    put(&mut members, alloc, "name", text_value(alloc, name)?)?;
+    Ok(Value::Object(members))
+}
+
 /// The members that every refusal has.
 fn refused(alloc: Global, code: u16) -> Result<Map<String, Value>, AllocError>
-    ensures { IfOk result (λ members. members_view members.entries ≡ refused code no_members) }
+    ensures { IfOk result (λ members. members_view members.entries ≡ refused code) }
 {
     let mut members = Map::new(alloc);
     put(&mut members, alloc, "code", Value::from(code))?;
@@ -37,7 +45,7 @@ fn refused(alloc: Global, code: u16) -> Result<Map<String, Value>, AllocError>
 /// The members of a fault of a text.
 fn of_fault(alloc: Global, fault: &Fault) -> Result<Map<String, Value>, AllocError>
     ensures { IfOk result (λ members. members_view members.entries
-        ≡ spec.fault_members fault.now no_members) }
+        ≡ spec.fault_members fault.now) }
 {
     let mut members = refused(alloc, fault.code)?;
     let file = text_value(alloc, file_name(fault.file))?;
@@ -54,7 +62,7 @@ fn of_place(
     instruction: u32,
 ) -> Result<Map<String, Value>, AllocError>
     ensures { IfOk result (λ members. members_view members.entries
-        ≡ spec.place_members code lane.now instruction no_members) }
+        ≡ spec.place_members code lane.now instruction) }
 {
     let mut members = refused(alloc, code)?;
     put(&mut members, alloc, "instruction", Value::from(instruction))?;
@@ -70,7 +78,7 @@ fn of_trap(
     trap: Trap,
 ) -> Result<Map<String, Value>, AllocError>
     ensures { IfOk result (λ members. members_view members.entries
-        ≡ spec.trap_members lane.now instruction trap no_members) }
+        ≡ spec.trap_members lane.now instruction trap) }
 {
     let mut members = of_place(alloc, UNSAFE, lane, instruction)?;
     put(
@@ -82,20 +90,31 @@ fn of_trap(
     Ok(members)
 }
 
+/// The names of lanes, each an object of one member.
+fn name_list(alloc: Global, names: &[Vec<u8>]) -> Result<Value, AllocError>
+    ensures { IfOk result (λ value. view value ≡ spec.names_data (lists names.now)) }
+{
+    let mut values = Vec::new(alloc);
+    for name in names {
+        values.push(name_value(alloc, name)?)?;
+    }
+    Ok(Value::Array(values))
+}
+
 /// The members of stuck lanes.
 fn of_stuck(alloc: Global, lanes: &[Vec<u8>]) -> Result<Map<String, Value>, AllocError>
     ensures { IfOk result (λ members. members_view members.entries
-        ≡ spec.stuck_members (lists lanes.now) no_members) }
+        ≡ spec.stuck_members (lists lanes.now)) }
 {
     let mut members = refused(alloc, STUCK)?;
-    put(&mut members, alloc, "lanes", text_list(alloc, lanes)?)?;
+    put(&mut members, alloc, "lanes", name_list(alloc, lanes)?)?;
     Ok(members)
 }
 
 /// The members of a refusal.
 pub fn of_refusal(alloc: Global, refusal: &Refusal) -> Result<Map<String, Value>, AllocError>
     ensures { IfOk result (λ members. members_view members.entries
-        ≡ spec.refusal_members refusal.now no_members) }
+        ≡ spec.refusal_members refusal.now) }
 {
     match refusal {
         Refusal::Text(fault) => of_fault(alloc, fault),

@@ -1,5 +1,5 @@
 -- The note on a lane that waits.
-use Rattle.std.proofs.Common.{◌≡◌, ℕ, ◌<◌, inl, inr, Bool, true, false, List, [], length, Option, Some, sym, ap, ◌∙◌, arith, if◌then◌else◌}
+use Rattle.std.proofs.Common.{◌≡◌, ℕ, ◌<◌, inl, inr, Bool, true, false, List, [], ◌∷◌, length, Option, Some, sym, ap, ◌∙◌, arith, if◌then◌else◌}
 use Rattle.std.specs.Option.{option_and_then}
 use Rattle.std.proofs.lemmas.Bool.{cases_lt}
 use Rattle.std.proofs.lemmas.Option.{none-some, slice_get_past}
@@ -8,7 +8,7 @@ use Rattle.farm_model.specs.Universe.{Universe}
 use Rattle.plan_lines.specs.Origins.{LaneLines}
 use Rattle.plan_model.specs.Plan.{Plan, lane}
 use Rattle.wait_notes.specs.declared.groups.Group.{Group}
-use Rattle.wait_notes.specs.StuckText.{lane_note, lane_text}
+use Rattle.wait_notes.specs.StuckText.{lane_note, lane_notes}
 use Rattle.wait_notes.specs.Waiting.{entry_of, wait_at, stands_in}
 
 -- a wait stands ahead of its lane's end
@@ -24,14 +24,15 @@ within p l i e here =
 module _ (u : Universe) (p : Plan) (ls : List LaneLines) (next : ℕ → Option ℕ) (group : Group)
     (l i : ℕ) (e : Entry) (n : ℕ) (is : n ≡ length p) where
   by_test : (t : Bool) → stands_in next n group l ≡ t
-      → lane_note u p ls next group l i (Some e) ≡ (if t then lane_text u p ls group l i e else [])
+      → lane_notes u p ls next group l i (Some e)
+      ≡ (if t then lane_note u p ls group l i e ∷ [] else [])
   by_test t stands =
-      ap (λ (b : Bool). if b then lane_text u p ls group l i e else [])
+      ap (λ (b : Bool). if b then lane_note u p ls group l i e ∷ [] else [])
       (ap (λ k. stands_in next k group l) (sym is) ∙ stands)
 
-  pub left_out : stands_in next n group l ≡ false → lane_note u p ls next group l i (Some e) ≡ []
+  pub left_out : stands_in next n group l ≡ false → lane_notes u p ls next group l i (Some e) ≡ []
   left_out = by_test false
 
   pub taken : stands_in next n group l ≡ true
-      → lane_note u p ls next group l i (Some e) ≡ lane_text u p ls group l i e
+      → lane_notes u p ls next group l i (Some e) ≡ lane_note u p ls group l i e ∷ []
   taken = by_test true

@@ -3,13 +3,15 @@
 -- stands, l a lane, i a place, e an entry.
 --
 --   sources_text           where what satisfies an entry comes from, or what does not satisfy it
---   group_text             what is said of the lanes of a group
---   circle_text            one circle of lanes
---   stuck_text             all of it
+--   group_notes            the notes on the lanes of a group
+--   circle_notes           one circle of lanes
+--   stuck_notes            all of them
 use Rattle.std.specs.Prelude.{ℕ, suc, ◌+◌, ◌==◌, List, [], ◌∷◌, ◌++◌, length, codes, Option, Some, None, if◌then◌else◌}
 use Rattle.std.specs.List.{concat, flat_map}
 use Rattle.std.specs.Option.{option_map}
 use Rattle.deb_relation.specs.Relations.{Entry}
+use Rattle.farm_explain.specs.declared.kinds.Kind.{Kind}
+use Rattle.farm_explain.specs.Notes.{NoteFacts, notes_below, place_at}
 use Rattle.farm_explain.specs.ReasonText.{publication, at_text, where_text}
 use Rattle.farm_explain.specs.Texts.{could_meet, said, text_below}
 use Rattle.farm_model.specs.declared.types.Variant.{Variant}
@@ -85,16 +87,29 @@ lane_text u p ls group l i e =
     head_line p group l (i + 1)
     ++ (where_text u p ls l i ++ sources_text u p ls l e (satisfying u e))
 
--- nothing of a lane that does not wait, or is of another group
-abbrev pub lane_note : Universe → Plan → List LaneLines → (ℕ → Option ℕ) → Group → (l i : ℕ)
-    → Option Entry → List ℕ
-lane_note u p ls next group l i None = []
-lane_note u p ls next group l i (Some e) =
-    if stands_in next (length p) group l then lane_text u p ls group l i e else []
+abbrev pub group_kind : Group → Kind
+group_kind Group.Unpublished = Kind.Unpublished
+group_kind Group.Circle = Kind.InCircle
+group_kind Group.Behind = Kind.Behind
 
-abbrev pub group_text : Universe → Plan → List LaneLines → (ℕ → Option ℕ) → (ℕ → ℕ) → Group → List ℕ
-group_text u p ls next at group =
-    text_below (length p) (λ l. lane_note u p ls next group l (at l) (awaited p at l))
+abbrev pub lane_note : Universe → Plan → List LaneLines → Group → (l i : ℕ) → Entry → NoteFacts
+lane_note u p ls group l i e = record {
+  kind = group_kind group;
+  place = Some (place_at p ls l i None);
+  text = lane_text u p ls group l i e;
+}
+
+-- none of a lane that does not wait, or is of another group
+abbrev pub lane_notes : Universe → Plan → List LaneLines → (ℕ → Option ℕ) → Group → (l i : ℕ)
+    → Option Entry → List NoteFacts
+lane_notes u p ls next group l i None = []
+lane_notes u p ls next group l i (Some e) =
+    if stands_in next (length p) group l then lane_note u p ls group l i e ∷ [] else []
+
+abbrev pub group_notes : Universe → Plan → List LaneLines → (ℕ → Option ℕ) → (ℕ → ℕ) → Group
+    → List NoteFacts
+group_notes u p ls next at group =
+    notes_below (length p) (λ l. lane_notes u p ls next group l (at l) (awaited p at l))
 
 -- ---- a circle
 
@@ -115,24 +130,28 @@ abbrev pub circle_line : Plan → (ℕ → Option ℕ) → (l k : ℕ) → List 
 circle_line p next l k =
     text_below k (λ i. link_text p next l i ++ codes ", ") ++ (link_text p next l k ++ codes "\n")
 
-abbrev pub line_of : Plan → (ℕ → Option ℕ) → Option (ℕ × ℕ) → List ℕ
-line_of p next None = []
-line_of p next (Some (l, k)) = circle_line p next l k
+abbrev pub circle_note : Plan → (ℕ → Option ℕ) → (l k : ℕ) → NoteFacts
+circle_note p next l k = record { kind = Kind.Circle; place = None; text = circle_line p next l k }
+
+abbrev pub notes_of : Plan → (ℕ → Option ℕ) → Option (ℕ × ℕ) → List NoteFacts
+notes_of p next None = []
+notes_of p next (Some (l, k)) = circle_note p next l k ∷ []
 
 -- the first lane that waits in a circle, and how many others do in its
 abbrev pub first_circle : (ℕ → Option ℕ) → ℕ → Option (ℕ × ℕ)
 first_circle next n = first_below n (λ l. option_map (λ k. (l, k)) (way_back next n l))
 
-abbrev pub circle_text : Plan → (ℕ → Option ℕ) → List ℕ
-circle_text p next = line_of p next (first_circle next (length p))
+abbrev pub circle_notes : Plan → (ℕ → Option ℕ) → List NoteFacts
+circle_notes p next = notes_of p next (first_circle next (length p))
 
--- ---- all of it
+-- ---- all of them
 
 -- the groups one after another
-unfoldable pub notes_text : Universe → Plan → List LaneLines → (ℕ → Option ℕ) → (ℕ → ℕ) → List ℕ
-notes_text u p ls next at =
-    group_text u p ls next at Group.Unpublished ++ (group_text u p ls next at Group.Circle
-    ++ (group_text u p ls next at Group.Behind ++ circle_text p next))
+unfoldable pub halted_notes : Universe → Plan → List LaneLines → (ℕ → Option ℕ) → (ℕ → ℕ)
+    → List NoteFacts
+halted_notes u p ls next at =
+    group_notes u p ls next at Group.Unpublished ++ (group_notes u p ls next at Group.Circle
+    ++ (group_notes u p ls next at Group.Behind ++ circle_notes p next))
 
-abbrev pub stuck_text : Universe → Plan → List LaneLines → (ℕ → ℕ) → List ℕ
-stuck_text u p ls at = notes_text u p ls (waits_for u p at) at
+abbrev pub stuck_notes : Universe → Plan → List LaneLines → (ℕ → ℕ) → List NoteFacts
+stuck_notes u p ls at = halted_notes u p ls (waits_for u p at) at

@@ -1,18 +1,20 @@
 -- What the waits of an accepted plan wait for. The project's own format. Parameters: u a universe,
--- p a plan, l a lane, i a place, e the entry of the wait there.
+-- p a plan, ls the lines of its text, l a lane, i a place, e the entry of the wait there.
 --
 --   sources                the variants that can let a wait pass, published by lanes
---   wait_line              what is said of a wait
---   waits_text             lane by lane, and in each wait by wait
+--   wait_text              what is said of a wait
+--   waits_notes            lane by lane, and in each wait by wait
 use Rattle.std.specs.Prelude.{ℕ, zero, suc, ◌+◌, ◌==◌, nat_lt, Bool, false, not, ◌&&◌, List, [], ◌∷◌, ◌++◌, length, codes, Option, Some, None}
 use Rattle.std.specs.List.{concat, filter, find}
 use Rattle.deb_relation.specs.Relations.{Entry}
+use Rattle.farm_explain.specs.declared.kinds.Kind.{Kind}
+use Rattle.farm_explain.specs.Notes.{NoteFacts, notes_below, place_at, told}
 use Rattle.farm_explain.specs.ReasonText.{publication}
-use Rattle.farm_explain.specs.Texts.{text_below}
 use Rattle.farm_model.specs.declared.types.Variant.{Variant}
 use Rattle.farm_model.specs.Packages.{initial}
 use Rattle.farm_model.specs.Universe.{Universe}
 use Rattle.farm_spelling.specs.Variants.{variant_text}
+use Rattle.plan_lines.specs.Origins.{LaneLines}
 use Rattle.plan_model.specs.Plan.{Plan, lane}
 use Rattle.wait_notes.specs.declared.words.Word.{Word}
 use Rattle.wait_notes.specs.Satisfying.{satisfying}
@@ -65,15 +67,20 @@ abbrev pub wait_text : Universe → Plan → (l i : ℕ) → List Variant → Op
 wait_text u p l i vs None = coming_line u p l (i + 1) (sources u p l i vs)
 wait_text u p l i vs (Some v) = nothing_text u p l (i + 1) v
 
--- the wait at a place, if there is one
-abbrev pub wait_line : Universe → Plan → (l i : ℕ) → Option Entry → List ℕ
-wait_line u p l i None = []
-wait_line u p l i (Some e) =
+-- of the variants that satisfy its entry
+abbrev pub entry_text : Universe → Plan → (l i : ℕ) → Entry → List ℕ
+entry_text u p l i e =
     wait_text u p l i (satisfying u e) (find (initial u) (satisfying u e))
 
-abbrev pub lane_waits : Universe → Plan → ℕ → List ℕ
-lane_waits u p l =
-    text_below (length (lane p l).instructions) (λ i. wait_line u p l i (wait_at p l i))
+-- the wait at a place, if there is one; none where nothing is said of it
+abbrev pub wait_notes : Universe → Plan → List LaneLines → (l i : ℕ) → Option Entry → List NoteFacts
+wait_notes u p ls l i None = []
+wait_notes u p ls l i (Some e) =
+    told Kind.Wait (Some (place_at p ls l i None)) (entry_text u p l i e)
 
-unfoldable pub waits_text : Universe → Plan → List ℕ
-waits_text u p = text_below (length p) (lane_waits u p)
+abbrev pub lane_waits : Universe → Plan → List LaneLines → ℕ → List NoteFacts
+lane_waits u p ls l =
+    notes_below (length (lane p l).instructions) (λ i. wait_notes u p ls l i (wait_at p l i))
+
+unfoldable pub waits_notes : Universe → Plan → List LaneLines → List NoteFacts
+waits_notes u p ls = notes_below (length p) (lane_waits u p ls)

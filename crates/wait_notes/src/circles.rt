@@ -1,6 +1,7 @@
-//! Lanes that wait in a circle, as a line.
+//! Lanes that wait in a circle, as a note.
 
-ghost use Rattle.std.specs.Prelude.{◌≡◌, ◌++◌, codes, length, OnOk};
+ghost use Rattle.std.specs.Prelude.{◌≡◌, ◌++◌, codes, length, IfOk, OnOk};
+ghost use Rattle.farm_explain.specs.Notes.{all_facts, facts};
 ghost use Rattle.wait_notes.specs.StuckText as spec;
 ghost use Rattle.wait_notes.specs.Waiting.{next_of};
 
@@ -8,8 +9,9 @@ use crate::groups::{step, way_back};
 use crate::lane::lane_name;
 use crate::words::Word;
 use deb_text::push_pieces;
+use farm_explain::{Kind, Note};
 use plan_asm::Plan;
-use std::alloc::AllocError;
+use std::alloc::{AllocError, Global};
 
 /// The name of a lane, where there is one.
 fn push_name(text: &mut Vec<u8>, plan: &Plan, number: Option<usize>) -> Result<(), AllocError>
@@ -71,23 +73,44 @@ fn first_circle(nexts: &[Option<usize>]) -> Option<(usize, usize)>
     None
 }
 
-/// Puts one circle of lanes behind a text, from its first lane in file order; nothing where no lane
-/// waits in a circle. `nexts` has the lane that each lane waits for.
+/// The note on a circle: from a lane over so many others to itself.
+fn circle_note(
+    alloc: Global,
+    plan: &Plan,
+    nexts: &[Option<usize>],
+    first: usize,
+    others: usize,
+) -> Result<Note, AllocError>
+    ensures { IfOk result (λ note. facts note
+        ≡ spec.circle_note plan.now.lanes (next_of nexts.now) first others) }
+{
+    let mut text = Vec::new(alloc);
+    push_line(&mut text, plan, nexts, first, others)?;
+    Ok(Note {
+        kind: Kind::Circle,
+        place: None,
+        text,
+    })
+}
+
+/// Puts a note on one circle of lanes behind others, from its first lane in file order; none where no
+/// lane waits in a circle. `nexts` has the lane that each lane waits for.
 ///
 /// # Errors
 ///
 /// [`AllocError`] where memory is refused.
 pub fn push_circle(
-    text: &mut Vec<u8>,
+    notes: &mut Vec<Note>,
+    alloc: Global,
     plan: &Plan,
     nexts: &[Option<usize>],
 ) -> Result<(), AllocError>
     requires { length nexts.now ≡ length plan.now.lanes }
-    ensures { OnOk result (text.new.items ≡ text.old.items
-        ++ spec.circle_text plan.now.lanes (next_of nexts.now)) }
+    ensures { OnOk result (all_facts notes.new.items ≡ all_facts notes.old.items
+        ++ spec.circle_notes plan.now.lanes (next_of nexts.now)) }
 {
-    match first_circle(nexts) {
-        Some((first, others)) => push_line(text, plan, nexts, first, others),
-        None => Ok(()),
+    if let Some((first, others)) = first_circle(nexts) {
+        notes.push(circle_note(alloc, plan, nexts, first, others)?)?;
     }
+    Ok(())
 }

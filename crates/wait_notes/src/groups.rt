@@ -2,10 +2,11 @@
 
 ghost use Rattle.std.specs.Prelude.{◌≡◌, length};
 ghost use Rattle.std.specs.Option.{option_and_then};
-ghost use Rattle.wait_notes.specs.StuckText.{group_word};
+ghost use Rattle.wait_notes.specs.StuckText.{group_kind, group_word};
 ghost use Rattle.wait_notes.specs.Waiting as spec;
 
 use crate::words::Word;
+use farm_explain::Kind;
 
 /// Why a lane is stuck.
 #[derive(Clone, Copy, Debug)]
@@ -27,6 +28,17 @@ pub fn group_word(group: Group) -> &'static [u8]
         Group::Unpublished => Word::Unpublished.text(),
         Group::Circle => Word::InCircle.text(),
         Group::Behind => Word::Behind.text(),
+    }
+}
+
+/// The kind of the notes on the lanes of a group.
+pub fn group_kind(group: Group) -> Kind
+    ensures { result ≡ group_kind group }
+{
+    match group {
+        Group::Unpublished => Kind::Unpublished,
+        Group::Circle => Kind::InCircle,
+        Group::Behind => Kind::Behind,
     }
 }
 

@@ -1,6 +1,7 @@
-//! What is said of the lanes of a plan that are stuck.
+//! Notes on the lanes of a plan that are stuck.
 
 ghost use Rattle.std.specs.Prelude.{◌≡◌, ◌<◌, ◌++◌, Some, length, IfOk, OnOk};
+ghost use Rattle.farm_explain.specs.Notes.{all_facts, facts};
 ghost use Rattle.plan_model.specs.Plan.{lane};
 ghost use Rattle.plan_verifier.specs.Stage.{IsStage};
 ghost use Rattle.wait_order.specs.Standing.{place_of};
@@ -10,7 +11,7 @@ ghost use Rattle.wait_notes.specs.StuckText as spec;
 ghost use Rattle.wait_notes.specs.Waiting.{awaited, next_of};
 
 use crate::circles::push_circle;
-use crate::groups::{Group, group_word, stands_in};
+use crate::groups::{Group, group_kind, group_word, stands_in};
 use crate::lane::{LaneOf, lane_name, number_at};
 use crate::publications::Publications;
 use crate::satisfying::satisfying;
@@ -19,7 +20,7 @@ use crate::waiting::{nexts, wait_at};
 use crate::words::{Word, push_count};
 use deb_relation::Entry;
 use deb_text::push_pieces;
-use farm_explain::push_where;
+use farm_explain::{Note, note_place, push_where};
 use farm_universe::Universe;
 use plan_asm::Plan;
 use plan_lines::PlanLines;
@@ -61,24 +62,22 @@ fn push_head(
 }
 
 /// What is said of a lane that waits for this where it stands.
-fn push_lane(
+fn lane_text(
     alloc: Global,
-    text: &mut Vec<u8>,
     halted: Halted<'_>,
     group: Group,
     number: usize,
     entry: &Entry,
-) -> Result<(), AllocError>
+) -> Result<Vec<u8>, AllocError>
     requires table { IsTableOf halted.universe.now halted.plan.now.lanes halted.publications.now }
     requires tables { halted.tables.now ≡ halted.universe.now }
     requires long { length halted.ats.now ≡ length halted.plan.now.lanes }
     requires lane { number < length halted.plan.now.lanes }
     requires place { place_of halted.ats.now number
         < length (lane halted.plan.now.lanes number).instructions }
-    ensures { OnOk result (text.new.items ≡ text.old.items
-        ++ spec.lane_text halted.entry.universe.now halted.entry.plan.now.lanes
-        halted.entry.lines.now.lanes group number (place_of halted.entry.ats.now number)
-        entry.now) }
+    ensures { IfOk result (λ text. text.items ≡ spec.lane_text halted.entry.universe.now
+        halted.entry.plan.now.lanes halted.entry.lines.now.lanes group number
+        (place_of halted.entry.ats.now number) entry.now) }
 {
     let place = halted.ats[number].place;
     let of = LaneOf {
@@ -88,23 +87,46 @@ fn push_lane(
         number,
     };
     let found = satisfying(alloc, halted.universe, halted.tables, entry)?;
-    let instruction = number_at(halted.plan, number, place);
-    push_head(text, halted.plan, group, number, instruction)?;
-    push_where(
-        text,
-        halted.universe,
-        halted.plan,
-        halted.lines,
-        number,
-        place,
-    )?;
-    push_sources(text, of, halted.lines, entry, &found)
+    let mut text = Vec::new(alloc);
+    let (universe, plan, lines) = (halted.universe, halted.plan, halted.lines);
+    push_head(&mut text, plan, group, number, number_at(plan, number, place))?;
+    push_where(&mut text, universe, plan, lines, number, place)?;
+    push_sources(&mut text, of, lines, entry, &found)?;
+    Ok(text)
 }
 
-/// What is said of a lane that waits for this, where it is of the group.
-fn push_if_in(
+/// The note on a lane that waits for this where it stands.
+fn lane_note(
     alloc: Global,
-    text: &mut Vec<u8>,
+    halted: Halted<'_>,
+    group: Group,
+    number: usize,
+    entry: &Entry,
+) -> Result<Note, AllocError>
+    requires table { IsTableOf halted.universe.now halted.plan.now.lanes halted.publications.now }
+    requires tables { halted.tables.now ≡ halted.universe.now }
+    requires long { length halted.ats.now ≡ length halted.plan.now.lanes }
+    requires lane { number < length halted.plan.now.lanes }
+    requires place { place_of halted.ats.now number
+        < length (lane halted.plan.now.lanes number).instructions }
+    ensures { IfOk result (λ note. facts note ≡ spec.lane_note halted.entry.universe.now
+        halted.entry.plan.now.lanes halted.entry.lines.now.lanes group number
+        (place_of halted.entry.ats.now number) entry.now) }
+{
+    let instruction = number_at(halted.plan, number, halted.ats[number].place);
+    let place = note_place(alloc, halted.plan, halted.lines, number, instruction, None)?;
+    let text = lane_text(alloc, halted, group, number, entry)?;
+    Ok(Note {
+        kind: group_kind(group),
+        place: Some(place),
+        text,
+    })
+}
+
+/// Puts a note on a lane that waits for this behind others, where the lane is of the group.
+fn push_if_in(
+    notes: &mut Vec<Note>,
+    alloc: Global,
     halted: Halted<'_>,
     group: Group,
     number: usize,
@@ -117,21 +139,22 @@ fn push_if_in(
     requires lane { number < length halted.plan.now.lanes }
     requires place { place_of halted.ats.now number
         < length (lane halted.plan.now.lanes number).instructions }
-    ensures { OnOk result (text.new.items ≡ text.old.items
-        ++ spec.lane_note halted.entry.universe.now halted.entry.plan.now.lanes
+    ensures { OnOk result (all_facts notes.new.items ≡ all_facts notes.old.items
+        ++ spec.lane_notes halted.entry.universe.now halted.entry.plan.now.lanes
         halted.entry.lines.now.lanes (next_of halted.entry.nexts.now) group number
         (place_of halted.entry.ats.now number) (Some entry.now)) }
 {
     if !stands_in(halted.nexts, group, number) {
         return Ok(());
     }
-    push_lane(alloc, text, halted, group, number, entry)
+    notes.push(lane_note(alloc, halted, group, number, entry)?)?;
+    Ok(())
 }
 
-/// What is said of a lane, where it waits and is of the group.
+/// Puts a note on a lane behind others, where the lane waits and is of the group.
 fn push_note(
+    notes: &mut Vec<Note>,
     alloc: Global,
-    text: &mut Vec<u8>,
     halted: Halted<'_>,
     group: Group,
     number: usize,
@@ -141,22 +164,22 @@ fn push_note(
     requires long { length halted.ats.now ≡ length halted.plan.now.lanes }
     requires each { length halted.nexts.now ≡ length halted.plan.now.lanes }
     requires lane { number < length halted.plan.now.lanes }
-    ensures { OnOk result (text.new.items ≡ text.old.items
-        ++ spec.lane_note halted.entry.universe.now halted.entry.plan.now.lanes
+    ensures { OnOk result (all_facts notes.new.items ≡ all_facts notes.old.items
+        ++ spec.lane_notes halted.entry.universe.now halted.entry.plan.now.lanes
         halted.entry.lines.now.lanes (next_of halted.entry.nexts.now) group number
         (place_of halted.entry.ats.now number)
         (awaited halted.entry.plan.now.lanes (place_of halted.entry.ats.now) number)) }
 {
     match wait_at(halted.plan, number, halted.ats[number].place) {
-        Some(entry) => push_if_in(alloc, text, halted, group, number, entry),
+        Some(entry) => push_if_in(notes, alloc, halted, group, number, entry),
         None => Ok(()),
     }
 }
 
-/// What is said of the lanes of a group.
+/// Puts the notes on the lanes of a group behind others.
 fn push_group(
+    notes: &mut Vec<Note>,
     alloc: Global,
-    text: &mut Vec<u8>,
     halted: Halted<'_>,
     group: Group,
 ) -> Result<(), AllocError>
@@ -164,39 +187,39 @@ fn push_group(
     requires tables { halted.tables.now ≡ halted.universe.now }
     requires long { length halted.ats.now ≡ length halted.plan.now.lanes }
     requires each { length halted.nexts.now ≡ length halted.plan.now.lanes }
-    ensures { OnOk result (text.new.items ≡ text.old.items
-        ++ spec.group_text halted.entry.universe.now halted.entry.plan.now.lanes
+    ensures { OnOk result (all_facts notes.new.items ≡ all_facts notes.old.items
+        ++ spec.group_notes halted.entry.universe.now halted.entry.plan.now.lanes
         halted.entry.lines.now.lanes (next_of halted.entry.nexts.now)
         (place_of halted.entry.ats.now) group) }
 {
     for number in 0..halted.plan.lanes() {
-        push_note(alloc, text, halted, group, number)?;
+        push_note(notes, alloc, halted, group, number)?;
     }
     Ok(())
 }
 
-/// What is said of all lanes.
-#[tactic(auto, unfolding(crate::specs::StuckText::notes_text))]
-fn halted_notes(alloc: Global, halted: Halted<'_>) -> Result<Vec<u8>, AllocError>
+/// The notes on all lanes, and on one circle.
+#[tactic(auto, unfolding(crate::specs::StuckText::halted_notes))]
+fn halted_notes(alloc: Global, halted: Halted<'_>) -> Result<Vec<Note>, AllocError>
     requires table { IsTableOf halted.universe.now halted.plan.now.lanes halted.publications.now }
     requires tables { halted.tables.now ≡ halted.universe.now }
     requires long { length halted.ats.now ≡ length halted.plan.now.lanes }
     requires each { length halted.nexts.now ≡ length halted.plan.now.lanes }
-    ensures { IfOk result (λ text. text.items ≡ spec.notes_text halted.entry.universe.now
-        halted.entry.plan.now.lanes halted.entry.lines.now.lanes
+    ensures { IfOk result (λ notes. all_facts notes.items ≡ spec.halted_notes
+        halted.entry.universe.now halted.entry.plan.now.lanes halted.entry.lines.now.lanes
         (next_of halted.entry.nexts.now) (place_of halted.entry.ats.now)) }
 {
-    let mut text = Vec::new(alloc);
-    push_group(alloc, &mut text, halted, Group::Unpublished)?;
-    push_group(alloc, &mut text, halted, Group::Circle)?;
-    push_group(alloc, &mut text, halted, Group::Behind)?;
-    push_circle(&mut text, halted.plan, halted.nexts)?;
-    Ok(text)
+    let mut notes = Vec::new(alloc);
+    push_group(&mut notes, alloc, halted, Group::Unpublished)?;
+    push_group(&mut notes, alloc, halted, Group::Circle)?;
+    push_group(&mut notes, alloc, halted, Group::Behind)?;
+    push_circle(&mut notes, alloc, halted.plan, halted.nexts)?;
+    Ok(notes)
 }
 
-/// Gives what is said of the lanes of a plan that are stuck: of each the wait that it stands at, why
+/// Gives the notes on the lanes of a plan that are stuck: of each the wait that it stands at, why
 /// it is stuck there, and who publishes what satisfies its entry; behind all one circle of lanes that
-/// wait for each other, if there is one. Nothing for a plan whose waits all pass. `lines` are those
+/// wait for each other, if there is one. None for a plan whose waits all pass. `lines` are those
 /// of the plan's text.
 ///
 /// # Errors
@@ -206,11 +229,11 @@ pub fn stuck_notes<K: KnownWords>(
     alloc: Global,
     stage: &Stage<'_, K>,
     lines: &PlanLines,
-) -> Result<Vec<u8>, AllocError>
+) -> Result<Vec<Note>, AllocError>
     requires { IsStage stage.now.universe.now stage.now.plan.now.lanes
         stage.now.tables.now stage.now.outputs.now (K.known stage.now.known.now) }
-    ensures { IfOk result (λ text. ShowsStuck stage.now.universe.now stage.now.plan.now.lanes
-        lines.now.lanes text.items) }
+    ensures { IfOk result (λ notes. ShowsStuck stage.now.universe.now stage.now.plan.now.lanes
+        lines.now.lanes (all_facts notes.items)) }
 {
     let Settled { standings, .. } = settle(alloc, stage.universe, stage.tables, stage.plan)?;
     let nexts = nexts(alloc, stage.universe, stage.plan, &standings)?;

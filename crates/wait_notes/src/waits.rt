@@ -3,6 +3,7 @@
 ghost use Rattle.std.specs.Prelude.{◌≡◌, ◌<◌, ◌++◌, length, IfOk, OnOk};
 ghost use Rattle.std.specs.List.{filter, find};
 ghost use Rattle.std.specs.Option.{option_map};
+ghost use Rattle.farm_explain.specs.Notes.{all_facts};
 ghost use Rattle.farm_explain.specs.ReasonText.{publication};
 ghost use Rattle.farm_model.specs.Packages.{initial};
 ghost use Rattle.plan_model.specs.Plan.{lane};
@@ -18,10 +19,12 @@ use crate::waiting::wait_at;
 use crate::words::{Word, push_count};
 use deb_relation::Entry;
 use deb_text::push_pieces;
+use farm_explain::{Kind, Note, note_place, push_told};
 use farm_spelling::push_variant;
 use farm_universe::{Universe, Variant};
 use may_rows::variant_count;
 use plan_asm::Plan;
+use plan_lines::PlanLines;
 use plan_verifier::Stage;
 use sat_rows::Tables;
 use std::alloc::{AllocError, Global};
@@ -202,11 +205,33 @@ fn push_among(
     }
 }
 
-/// What the instruction at a place waits for, where it is a wait.
-fn push_wait(
+/// What the wait at a place waits for, by its entry.
+fn entry_text(
     alloc: Global,
-    text: &mut Vec<u8>,
     tables: &Tables,
+    of: LaneOf<'_>,
+    place: usize,
+    entry: &Entry,
+) -> Result<Vec<u8>, AllocError>
+    requires table { IsTableOf of.universe.now of.plan.now.lanes of.publications.now }
+    requires tables { tables.now ≡ of.universe.now }
+    requires lane { of.number < length of.plan.now.lanes }
+    requires place { place < length (lane of.plan.now.lanes of.number).instructions }
+    ensures { IfOk result (λ text. text.items ≡ spec.entry_text of.entry.universe.now
+        of.entry.plan.now.lanes of.entry.number place entry.now) }
+{
+    let found = satisfying(alloc, of.universe, tables, entry)?;
+    let mut text = Vec::new(alloc);
+    push_among(alloc, &mut text, of, place, &found)?;
+    Ok(text)
+}
+
+/// Puts a note on the instruction at a place behind others, where it is a wait.
+fn push_wait(
+    notes: &mut Vec<Note>,
+    alloc: Global,
+    tables: &Tables,
+    lines: &PlanLines,
     of: LaneOf<'_>,
     place: usize,
 ) -> Result<(), AllocError>
@@ -214,55 +239,61 @@ fn push_wait(
     requires tables { tables.now ≡ of.universe.now }
     requires lane { of.number < length of.plan.now.lanes }
     requires place { place < length (lane of.plan.now.lanes of.number).instructions }
-    ensures { OnOk result (text.new.items ≡ text.old.items
-        ++ spec.wait_line of.entry.universe.now of.entry.plan.now.lanes of.entry.number place
-        (waiting.wait_at of.entry.plan.now.lanes of.entry.number place)) }
+    ensures { OnOk result (all_facts notes.new.items ≡ all_facts notes.old.items
+        ++ spec.wait_notes of.entry.universe.now of.entry.plan.now.lanes lines.now.lanes
+        of.entry.number place (waiting.wait_at of.entry.plan.now.lanes of.entry.number place)) }
 {
     let Some(entry) = wait_at(of.plan, of.number, place) else {
         return Ok(());
     };
-    let found = satisfying(alloc, of.universe, tables, entry)?;
-    push_among(alloc, text, of, place, &found)
+    let instruction = number_at(of.plan, of.number, place);
+    let text = entry_text(alloc, tables, of, place, entry)?;
+    let at = note_place(alloc, of.plan, lines, of.number, instruction, None)?;
+    push_told(notes, Kind::Wait, Some(at), text)
 }
 
-/// What the waits of a lane wait for.
+/// Puts the notes on the waits of a lane behind others.
 fn push_lane(
+    notes: &mut Vec<Note>,
     alloc: Global,
-    text: &mut Vec<u8>,
     tables: &Tables,
+    lines: &PlanLines,
     of: LaneOf<'_>,
 ) -> Result<(), AllocError>
     requires table { IsTableOf of.universe.now of.plan.now.lanes of.publications.now }
     requires tables { tables.now ≡ of.universe.now }
     requires lane { of.number < length of.plan.now.lanes }
-    ensures { OnOk result (text.new.items ≡ text.old.items
-        ++ spec.lane_waits of.entry.universe.now of.entry.plan.now.lanes of.entry.number) }
+    ensures { OnOk result (all_facts notes.new.items ≡ all_facts notes.old.items
+        ++ spec.lane_waits of.entry.universe.now of.entry.plan.now.lanes lines.now.lanes
+        of.entry.number) }
 {
     for place in 0..of.plan.lane(of.number).instructions().len() {
-        push_wait(alloc, text, tables, of, place)?;
+        push_wait(notes, alloc, tables, lines, of, place)?;
     }
     Ok(())
 }
 
-/// Gives what the waits of an accepted plan wait for, lane by lane and in each lane in order: the
-/// first variant that satisfies the entry and is in the archive from the start, or else the first
-/// that a lane publishes for it. Nothing is said of a wait that nothing satisfies.
+/// Gives the notes on what the waits of an accepted plan wait for, lane by lane and in each lane in
+/// order: the first variant that satisfies the entry and is in the archive from the start, or else the
+/// first that a lane publishes for it. None on a wait that nothing satisfies. `lines` are those of the
+/// plan's text.
 ///
 /// # Errors
 ///
 /// [`AllocError`] where memory is refused.
-#[tactic(auto, unfolding(crate::specs::WaitText::waits_text))]
+#[tactic(auto, unfolding(crate::specs::WaitText::waits_notes))]
 pub fn waits_notes<K: KnownWords>(
     alloc: Global,
     stage: &Stage<'_, K>,
-) -> Result<Vec<u8>, AllocError>
+    lines: &PlanLines,
+) -> Result<Vec<Note>, AllocError>
     requires { IsStage stage.now.universe.now stage.now.plan.now.lanes
         stage.now.tables.now stage.now.outputs.now (K.known stage.now.known.now) }
-    ensures { IfOk result (λ text. text.items
-        ≡ spec.waits_text stage.now.universe.now stage.now.plan.now.lanes) }
+    ensures { IfOk result (λ notes. all_facts notes.items ≡ spec.waits_notes
+        stage.now.universe.now stage.now.plan.now.lanes lines.now.lanes) }
 {
     let publications = Publications::of_plan(alloc, stage.universe, stage.plan)?;
-    let mut text = Vec::new(alloc);
+    let mut notes = Vec::new(alloc);
     for number in 0..stage.plan.lanes() {
         let of = LaneOf {
             universe: stage.universe,
@@ -270,7 +301,7 @@ pub fn waits_notes<K: KnownWords>(
             publications: &publications,
             number,
         };
-        push_lane(alloc, &mut text, stage.tables, of)?;
+        push_lane(&mut notes, alloc, stage.tables, lines, of)?;
     }
-    Ok(text)
+    Ok(notes)
 }

@@ -1,9 +1,8 @@
-use Rattle.std.proofs.Common.{◌≡◌, ◌+◌, ◌-◌, Err, sym, ap, ◌∙◌, subst, arith}
+use Rattle.std.proofs.Common.{◌≡◌, ◌+◌, ◌-◌, [], ◌∷◌, Err, sym, ap, ◌∙◌, subst, arith}
 use Rattle.plan_model.specs.Safety.{Meets, Parts}
 use Rattle.plan_verifier.specs.Walk.{told_at, IsTold, Walked}
-use Rattle.farm_explain.specs.LaneNotes.{hazard_note, parting_note, lane_note}
-use Rattle.farm_explain.proofs.NoteLaws.{note_none, within, note_first}
-use Rattle.farm_explain.proofs.Outcomes.{if_ok}
+use Rattle.farm_explain.specs.LaneNotes.{hazard_note, parting_note}
+use Rattle.farm_explain.proofs.NoteLaws.{notes_first, notes_none, within}
 use Rattle.farm_explain.proofs.notes.lane_note.Goals as goal
 
 pub trap_note-requires-clause-place : goal.trap_note-requires-clause-place
@@ -26,11 +25,10 @@ returns-in-Ok g c =
     let u = c.args.stage.now.universe.now in
     let p = c.args.stage.now.plan.now.lanes in
     let rows = (g.K.KnownWords.known c.args.stage.now.known.now).rows in
-    c.new.ensures.items
-    ∙ note_none u p rows c.args.lines.now.lanes c.args.number (λ i. c.in-Ok.ensures.0 i)
+    notes_none u p rows c.args.lines.now.lanes c.args.number (λ i. c.in-Ok.ensures.0 i)
 
-pub returns-in-Err-Unsafe : goal.returns-in-Err-Unsafe
-returns-in-Err-Unsafe g c =
+pub returns-in_ok-trap_note-in-Err-Unsafe : goal.returns-in_ok-trap_note-in-Err-Unsafe
+returns-in_ok-trap_note-in-Err-Unsafe g c =
     let u = c.args.stage.now.universe.now in
     let p = c.args.stage.now.plan.now.lanes in
     let rows = (g.K.KnownWords.known c.args.stage.now.known.now).rows in
@@ -40,16 +38,12 @@ returns-in-Err-Unsafe g c =
     let told : IsTold u p rows l hazard c.in-Err-Unsafe.field-0-0 c.in-Err-Unsafe.instruction =
     subst (λ e. Walked u p rows l (Err e)) c.in-Err-Unsafe.field-0-is c.in-Err-Unsafe.ensures in
     let place : c.in-Err-Unsafe.instruction - 1 ≡ told.i = omega (arith, told.numbered) in
-    let same : hazard_note u p rows ls l (c.in-Err-Unsafe.instruction - 1) hazard
-    ≡ lane_note u p rows ls l =
-    ap (λ k. hazard_note u p rows ls l k hazard) place
-    ∙ sym (note_first u p rows ls l told.i hazard told.here told.before) in
-    if_ok (λ text. text.items ≡ hazard_note u p rows ls l (c.in-Err-Unsafe.instruction - 1) hazard)
-    (λ text. text.items ≡ lane_note u p rows ls l) c.trap_note.result (λ text is. is ∙ same)
-    c.trap_note.ensures
+    ap (λ note. note ∷ [])
+    (c.in_ok-trap_note-in-Err-Unsafe.ensures ∙ ap (λ k. hazard_note u p rows ls l k hazard) place)
+    ∙ sym (notes_first u p rows ls l told.i hazard told.here told.before)
 
-pub returns-in-Err-Uneven : goal.returns-in-Err-Uneven
-returns-in-Err-Uneven g c =
+pub returns-in_ok-uneven_note-in-Err-Uneven : goal.returns-in_ok-uneven_note-in-Err-Uneven
+returns-in_ok-uneven_note-in-Err-Uneven g c =
     let u = c.args.stage.now.universe.now in
     let p = c.args.stage.now.plan.now.lanes in
     let rows = (g.K.KnownWords.known c.args.stage.now.known.now).rows in
@@ -59,10 +53,8 @@ returns-in-Err-Uneven g c =
     let told : IsTold u p rows l Parts c.in-Err-Uneven.field-0-0 n =
     subst (λ e. Walked u p rows l (Err e)) c.in-Err-Uneven.field-0-is c.in-Err-Uneven.ensures in
     let place : n - 1 ≡ told_at p l told.i Parts = omega (arith, told.numbered) in
-    let same : parting_note u p rows ls l n (n - 1) ≡ lane_note u p rows ls l =
-    ap (λ k. parting_note u p rows ls l k (n - 1)) told.numbered
-    ∙ ap (parting_note u p rows ls l (told_at p l told.i Parts + 1)) place
-    ∙ sym (note_first u p rows ls l told.i Parts told.here told.before) in
-    if_ok (λ text. text.items ≡ parting_note u p rows ls l n (n - 1))
-    (λ text. text.items ≡ lane_note u p rows ls l) c.uneven_note.result (λ text is. is ∙ same)
-    c.uneven_note.ensures
+    ap (λ note. note ∷ [])
+    (c.in_ok-uneven_note-in-Err-Uneven.ensures
+    ∙ (ap (λ k. parting_note u p rows ls l k (n - 1)) told.numbered
+    ∙ ap (parting_note u p rows ls l (told_at p l told.i Parts + 1)) place))
+    ∙ sym (notes_first u p rows ls l told.i Parts told.here told.before)

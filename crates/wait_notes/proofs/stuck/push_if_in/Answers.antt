@@ -1,6 +1,6 @@
-use Rattle.std.proofs.Common.{◌++◌, sym, ap, ◌∙◌}
-use Rattle.std.proofs.lemmas.List.{append-nil}
-use Rattle.farm_explain.proofs.Outcomes.{on_ok}
+use Rattle.std.proofs.Common.{◌++◌, ◌∷◌, [], sym, ap, ◌∙◌}
+use Rattle.std.proofs.lemmas.List.{append-nil, map-append}
+use Rattle.farm_explain.specs.Notes.{all_facts, facts}
 use Rattle.wait_order.specs.Standing.{place_of}
 use Rattle.wait_notes.specs.Waiting.{next_of}
 use Rattle.wait_notes.proofs.Notes.{left_out, taken}
@@ -9,18 +9,11 @@ use Rattle.wait_notes.proofs.stuck.push_if_in.Goals as goal
 pub returns-then-not-stands_in : goal.returns-then-not-stands_in
 returns-then-not-stands_in c =
     let h = c.args.halted in
-    sym (ap (λ xs. c.args.text.now.items ++ xs)
+    sym (ap (λ xs. all_facts c.args.notes.now.items ++ xs)
     (left_out h.universe.now h.plan.now.lanes h.lines.now.lanes (next_of h.nexts.now) c.args.group
     c.args.number (place_of h.ats.now c.args.number) c.args.entry.now _ c.requires.each
     (sym c.stands_in.ensures ∙ c.if-not-stands_in.true))
-    ∙ append-nil c.args.text.now.items)
+    ∙ append-nil (all_facts c.args.notes.now.items))
 
 pub returns : goal.returns
-returns c =
-    let h = c.args.halted in
-    on_ok c.push_lane.result
-    (λ is. is ∙ ap (λ xs. c.args.text.now.items ++ xs)
-    (sym (taken h.universe.now h.plan.now.lanes h.lines.now.lanes (next_of h.nexts.now) c.args.group
-    c.args.number (place_of h.ats.now c.args.number) c.args.entry.now _ c.requires.each
-    (sym c.stands_in.ensures ∙ c.if-not-stands_in.false))))
-    c.push_lane.ensures
+returns c = ?
