@@ -3,13 +3,14 @@
 --
 --   forgotten          nothing is known to be met
 --   turned             behind an `else`
---   IsJoined           behind an `end`
+--   IsEndOf            at an `end`
+--   IsJoined           behind it
 --   IsBranch, IsAt     what is kept of the open branch, and at a place of a lane
 use Rattle.std.specs.Prelude.{◌≡◌, ℕ, true, false, [], Option, Some, None}
 use Rattle.farm_model.specs.Universe.{Universe}
 use Rattle.may_rows.specs.Met.{Doubt, AreDoubts}
 use Rattle.may_rows.specs.Walk.{IsOfLane}
-use Rattle.may_rows.specs.Words.{may_of}
+use Rattle.may_rows.specs.Words.{Words, may_of}
 use Rattle.plan_model.specs.Branches.{Side, Outside, InFirst, InSecond, side_at}
 use Rattle.plan_model.specs.Join.{phases_differ, joined}
 use Rattle.plan_model.specs.Known.{Rows}
@@ -26,6 +27,11 @@ abbrev pub turned : LaneMay → Branch → LaneMay
 turned w (Branch.First at ahead) =
     record { here = ahead; doubts = forgotten; branch = Branch.Second at w.here }
 turned w _ = record { here = w.here; doubts = forgotten; branch = Branch.Outside }
+
+-- what may be held at the ends of both branches is of the lane
+pub record IsEndOf (u : Universe) (of : Lane) (w : LaneMay) : Type 0 where
+  pub here : IsOfLane u of w.here
+  pub first : (at : ℕ) (first : Words) → w.branch ≡ Branch.Second at first → IsOfLane u of first
 
 -- behind an `end`: the place of the `when`, where some name is in different phases at the ends of its
 -- branches; else what may be held behind both

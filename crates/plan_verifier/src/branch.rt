@@ -1,13 +1,12 @@
 //! What a lane's chroot may hold along the lane, with the branches that it takes.
 
 ghost use Rattle.std.specs.Prelude.{◌≡◌, ℕ, OnOk};
-ghost use Rattle.may_rows.specs.Walk.{IsOfLane};
-ghost use Rattle.may_rows.specs.Words.{Words};
-ghost use Rattle.plan_verifier.specs.Branch.{turned, IsJoined};
+ghost use Rattle.may_rows.specs.Words.{Words, AreWords};
+ghost use Rattle.plan_model.specs.Plan as plan;
+ghost use Rattle.plan_verifier.specs.Branch.{turned, IsEndOf, IsJoined};
 
 use farm_universe::Universe;
 use may_rows::{Doubts, MayHold};
-use plan_asm::Lane;
 use std::alloc::AllocError;
 use std::mem;
 
@@ -60,11 +59,12 @@ impl LaneMay {
 
     /// Goes behind an `end`: joins what may be held at the ends of both branches. Where some name is in
     /// different phases there, gives the place of the `when`.
-    pub fn end(&mut self, universe: &Universe, _lane: &Lane) -> Option<u32>
-        requires here { IsOfLane universe.now _lane.now self.old.here }
+    pub fn end(&mut self, universe: &Universe) -> Option<u32>
+        requires here { AreWords universe.now self.old.here }
         requires first { (at : ℕ) (first : Words) → self.old.branch ≡ Branch.Second at first
-            → IsOfLane universe.now _lane.now first }
-        ensures { IsJoined universe.now _lane.now self.old self.new result }
+            → AreWords universe.now first }
+        ensures { (of : plan.Lane) → IsEndOf universe.now of self.old
+            → IsJoined universe.now of self.old self.new result }
     {
         self.doubts.forget();
         match mem::replace(&mut self.branch, Branch::Outside) {

@@ -4,7 +4,6 @@ ghost use Rattle.std.specs.Prelude.{◌≡◌, ◌<◌, ◌≤◌, ℕ, true, So
 ghost use Rattle.clause_kernel.specs.Rows.{word_has};
 ghost use Rattle.may_rows.specs.Walk.{AreWordsFor};
 ghost use Rattle.plan_model.specs.Known.{possible};
-ghost use Rattle.plan_model.specs.declared.instructions.Instruction.TheVariants.{EndWhen};
 ghost use Rattle.plan_model.specs.Plan.{lane, instruction_at};
 ghost use Rattle.plan_model.specs.Sound.{IsInstruction};
 ghost use Rattle.plan_verifier.specs.Stage.{IsStage};
@@ -139,34 +138,6 @@ fn step_on<K: KnownWords>(
     }
 }
 
-/// Goes behind an `end`, where its branches leave each name in one phase.
-fn end_branch<K: KnownWords>(
-    stage: &Stage<'_, K>,
-    number: usize,
-    _place: usize,
-    may: &mut LaneMay,
-) -> Result<(), WalkError>
-    requires stage { IsStage stage.now.universe.now stage.now.plan.now.lanes
-        stage.now.tables.now stage.now.outputs.now (K.known stage.now.known.now) }
-    requires lane { number < length stage.now.plan.now.lanes }
-    requires here { instruction_at stage.now.plan.now.lanes number _place ≡ Some EndWhen }
-    requires place { _place < length (lane stage.now.plan.now.lanes number).instructions }
-    requires at { IsAt stage.now.universe.now stage.now.plan.now.lanes
-        (K.known stage.now.known.now).rows number _place may.old }
-    ensures { IsAdvanced stage.now.universe.now stage.now.plan.now.lanes
-        (K.known stage.now.known.now).rows number _place may.new result }
-{
-    let _lanes = stage.plan.lanes();
-    let lane = stage.plan.lane(number);
-    match may.end(stage.universe, lane) {
-        Some(at) => Err(WalkError::Uneven {
-            lane: number as u32,
-            instruction: at + 1,
-        }),
-        None => Ok(()),
-    }
-}
-
 /// Goes on by the instruction at a place of a lane, over what its chroot may hold there.
 ///
 /// # Errors
@@ -201,7 +172,13 @@ pub fn advance<K: KnownWords>(
             may.turn();
             Ok(())
         }
-        Instruction::EndWhen => end_branch(stage, number, place, may),
+        Instruction::EndWhen => match may.end(stage.universe) {
+            Some(at) => Err(WalkError::Uneven {
+                lane: number as u32,
+                instruction: at + 1,
+            }),
+            None => Ok(()),
+        },
         Instruction::Unpack { .. }
         | Instruction::Configure(_)
         | Instruction::Deconfigure(_)

@@ -28,18 +28,11 @@ pub fn entry_count(universe: &Universe, variant: Variant, field: Field) -> usize
 }
 
 /// The variants that satisfy an entry of a field of a variant.
-pub fn entry_row<'a>(
-    _universe: &Universe,
-    tables: &'a Tables,
-    variant: Variant,
-    field: Field,
-    number: usize,
-) -> &'a Row
-    requires same { tables.now ≡ _universe.now }
-    requires known { IsKnown _universe.now variant }
-    requires there { number < length (field_of _universe.now variant field) }
-    ensures { IsRowOf _universe.now
-        (satisfies_entry _universe.now (entry_at (field_of _universe.now variant field) number))
+pub fn entry_row(tables: &Tables, variant: Variant, field: Field, number: usize) -> &Row
+    requires known { IsKnown tables.now variant }
+    requires there { number < length (field_of tables.now variant field) }
+    ensures { IsRowOf tables.now
+        (satisfies_entry tables.now (entry_at (field_of tables.now variant field) number))
         result.now }
 {
     match field {
@@ -65,8 +58,8 @@ impl EntryTest for UnmetEntries<'_> {
 
     ghost test = { λ u t e. not (surely_met u (may_of t.state.now) e) };
 
-    fn passes(&self, universe: &Universe, number: usize) -> bool {
-        let row = entry_row(universe, self.tables, self.variant, self.field, number);
+    fn passes(&self, _universe: &Universe, number: usize) -> bool {
+        let row = entry_row(self.tables, self.variant, self.field, number);
         !self.state.surely_meets(row)
     }
 }

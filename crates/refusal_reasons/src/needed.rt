@@ -85,8 +85,8 @@ impl EntryTest for NeededEntries<'_> {
 
     ghost test = { λ u t e. needs_inside u (may_of t.inside.now) (may_of t.outside.now) e };
 
-    fn passes(&self, universe: &Universe, number: usize) -> bool {
-        let row = entry_row(universe, self.tables, self.variant, self.field, number);
+    fn passes(&self, _universe: &Universe, number: usize) -> bool {
+        let row = entry_row(self.tables, self.variant, self.field, number);
         self.inside.may_hit(row) && !self.outside.surely_meets(row)
     }
 }

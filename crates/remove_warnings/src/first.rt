@@ -34,23 +34,17 @@ fn entry_count(universe: &Universe, variant: Variant, field: Field) -> usize
 }
 
 /// The variants that satisfy an entry of a field of a variant.
-fn entry_row<'a>(
-    _universe: &Universe,
-    tables: &'a Tables,
-    variant: Variant,
-    field: Field,
-    number: usize,
-) -> &'a Row
-    requires same { tables.now ≡ _universe.now }
-    requires known { IsKnown _universe.now variant }
-    requires there { number < length (field_of _universe.now variant field) }
-    ensures { IsRowOf _universe.now
-        (satisfies_entry _universe.now (entry_at (field_of _universe.now variant field) number))
-        result.now }
+fn entry_row<'a>(of: &Search<'a>, variant: Variant, field: Field, number: usize) -> &'a Row
+    requires search { IsSearch of.now.universe.now of.now.tables.now of.now.members.now
+        of.now.state.now of.now.outside.now }
+    requires known { IsKnown of.now.universe.now variant }
+    requires there { number < length (field_of of.now.universe.now variant field) }
+    ensures { IsRowOf of.now.universe.now (satisfies_entry of.now.universe.now
+        (entry_at (field_of of.now.universe.now variant field) number)) result.now }
 {
     match field {
-        Field::PreDepends => tables.pre_depends(variant, number),
-        Field::Depends => tables.depends(variant, number),
+        Field::PreDepends => of.tables.pre_depends(variant, number),
+        Field::Depends => of.tables.depends(variant, number),
     }
 }
 
@@ -63,7 +57,7 @@ fn loses_entry(of: &Search, variant: Variant, field: Field, number: usize) -> bo
     ensures { result ≡ spec.loses of.now.universe.now of.now.members.now (may_of of.now.state.now)
         (entry_at (field_of of.now.universe.now variant field) number) }
 {
-    let row = entry_row(of.universe, of.tables, variant, field, number);
+    let row = entry_row(of, variant, field, number);
     loses(of, row)
 }
 

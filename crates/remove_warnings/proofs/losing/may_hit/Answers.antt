@@ -13,26 +13,26 @@ meets u m e k = may_hold u k (λ b. satisfies_entry u e (variant k b)) (m.slots 
 
 pub may_hit_at-requires-clause-within : goal.may_hit_at-requires-clause-within
 may_hit_at-requires-clause-within c =
-    let known = c.requires.members.known c.loop-place.place 0 c.loop-place-test.true in
+    let known = c.requires.search.named.known c.loop-place.place 0 c.loop-place-test.true in
     omega (arith, known, c.requires.long)
 
 pub returns-then-may_hit_at : goal.returns-then-may_hit_at
 returns-then-may_hit_at c e is =
-    sym (list_any_at (meets c.args.universe.now (may_of c.args.state.now) e) c.args.members.now
+    sym (list_any_at (meets c.args.of.now.universe.now (may_of c.args.of.now.state.now) e) c.args.of.now.members.now
     c.loop-place.place 0 c.loop-place-test.true
     (sym (c.may_hit_at.ensures e is) ∙ c.if-may_hit_at.true))
 
 pub loop-place-preserved : goal.loop-place-preserved
 loop-place-preserved c e is =
-    let p = meets c.args.universe.now (may_of c.args.state.now) e in
-    list_any_more p c.args.members.now c.loop-place.place 0 c.loop-place-test.true
-    ∙ ap (λ t. t || p (get_or c.args.members.now c.loop-place.place 0))
+    let p = meets c.args.of.now.universe.now (may_of c.args.of.now.state.now) e in
+    list_any_more p c.args.of.now.members.now c.loop-place.place 0 c.loop-place-test.true
+    ∙ ap (λ t. t || p (get_or c.args.of.now.members.now c.loop-place.place 0))
     (c.loop-place.invariant e is)
     ∙ sym (c.may_hit_at.ensures e is) ∙ c.if-may_hit_at.false
 
 pub returns : goal.returns
 returns c e is =
     sym (c.loop-place.invariant e is)
-    ∙ ap (λ ms. some_may_member c.args.universe.now ms (may_of c.args.state.now)
-    (satisfies_entry c.args.universe.now e))
-    (take_all c.loop-place.place c.args.members.now (omega arith))
+    ∙ ap (λ ms. some_may_member c.args.of.now.universe.now ms (may_of c.args.of.now.state.now)
+    (satisfies_entry c.args.of.now.universe.now e))
+    (take_all c.loop-place.place c.args.of.now.members.now (omega arith))

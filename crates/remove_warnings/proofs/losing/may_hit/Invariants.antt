@@ -8,6 +8,6 @@ use Rattle.remove_warnings.proofs.losing.may_hit.Given as goal
 
 abbrev pub invariant-loop-place : goal.invariant-loop-place
 invariant-loop-place l =
-    (e : Entry) → IsRowOf l.universe (satisfies_entry l.universe e) l.row
-    → some_may_member l.universe (take l.place l.members) (may_of l.state)
-    (satisfies_entry l.universe e) ≡ false
+    (e : Entry) → IsRowOf l.of.universe.now (satisfies_entry l.of.universe.now e) l.row
+    → some_may_member l.of.universe.now (take l.place l.of.members.now) (may_of l.of.state.now)
+    (satisfies_entry l.of.universe.now e) ≡ false

@@ -7,10 +7,10 @@ use Rattle.remove_warnings.proofs.losing.may_hit_at.Goals as goal
 
 pub returns : goal.returns
 returns c e is =
-    let u = c.args._universe.now in
+    let u = c.args.of.now.universe.now in
     let n = c.args.name in
     let bits : Bits = λ b. satisfies_entry u e (variant n b) in
     hit_at_is u (satisfies_entry u e) c.args.row.now is n c.here_word.result c.is_hit_at.result
     c.is_hit_at.ensures.set
     ∙ ap (λ word. some_of u n (word_has word) bits) c.here_word.ensures
-    ∙ sym (hold-is u n bits _ _ _ _ (c.requires.words.each n))
+    ∙ sym (hold-is u n bits _ _ _ _ (c.requires.search.words.each n))
