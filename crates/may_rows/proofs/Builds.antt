@@ -1,10 +1,10 @@
 -- The words where one more recipe was built.
-use Rattle.std.proofs.Common.{ℕ, true, length-set, ◌∙◌}
+use Rattle.std.proofs.Common.{◌≡◌, ℕ, true, length-set, sym, subst, ◌∙◌}
 use Rattle.farm_model.specs.Universe.{Universe}
 use Rattle.plan_model.specs.May.{may_use}
 use Rattle.may_rows.specs.Words.{Words, AreWords, with_recipe}
 
-pub are-built : (u : Universe) (w : Words) (r : ℕ) → AreWords u w → AreWords u (with_recipe w r)
+are-built : (u : Universe) (w : Words) (r : ℕ) → AreWords u w → AreWords u (with_recipe w r)
 unfolding may_use
 are-built u w r is = record {
   here_long = is.here_long;
@@ -15,3 +15,7 @@ are-built u w r is = record {
   each = is.each;
   used_is = is.used_is;
 }
+
+pub words_built : (u : Universe) (old new : Words) (r : ℕ) → new ≡ with_recipe old r → AreWords u old
+    → AreWords u new
+words_built u old new r same is = subst (AreWords u) (sym same) (are-built u old r is)

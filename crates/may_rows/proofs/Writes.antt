@@ -1,7 +1,7 @@
 -- The words of one name replaced, and the map and the space after that.
 --
 -- Parameters: u a universe, w the words, n the name, h, r, l its new words.
-use Rattle.std.proofs.Common.{◌≡◌, ◌⊎◌, inl, inr, ℕ, zero, suc, ◌+◌, ◌*◌, ◌<◌, ◌≤◌, Bool, true, false, ◌==◌, length, length-set, refl, sym, ap, ◌∙◌, arith, if◌then◌else◌}
+use Rattle.std.proofs.Common.{◌≡◌, ◌⊎◌, inl, inr, ℕ, zero, suc, ◌+◌, ◌*◌, ◌<◌, ◌≤◌, Bool, true, false, ◌==◌, length, length-set, refl, sym, ap, subst, ◌∙◌, arith, if◌then◌else◌}
 use Rattle.std.specs.Prelude.{List, slice_index, slice_set}
 use Rattle.std.proofs.lemmas.Bool.{cases_eq, cases_Bool, eq-eqb, eqb-true, ne_eqb}
 use Rattle.std.proofs.lemmas.List.{get_or-set_same, get_or-set_other}
@@ -197,7 +197,7 @@ module _ (u : Universe) (w : Words) (is : AreWords u w) (n h r l : ℕ) (lt : n 
   }
 
 -- the map and its space look at no cost
-pub are-spent : (u : Universe) (w : Words) (cost : ℕ) → AreWords u w → AreWords u (with_spent w cost)
+are-spent : (u : Universe) (w : Words) (cost : ℕ) → AreWords u w → AreWords u (with_spent w cost)
 unfolding may_use
 are-spent u w cost is = record {
   here_long = is.here_long;
@@ -208,3 +208,7 @@ are-spent u w cost is = record {
   each = is.each;
   used_is = is.used_is;
 }
+
+pub words_spent : (u : Universe) (old new : Words) (cost : ℕ) → new ≡ with_spent old cost
+    → AreWords u old → AreWords u new
+words_spent u old new cost same is = subst (AreWords u) (sym same) (are-spent u old cost is)

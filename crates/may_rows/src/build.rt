@@ -1,6 +1,6 @@
 //! A build and a publish under a may map.
 
-ghost use Rattle.std.specs.Prelude.{◌≡◌, ◌<◌, ◌≤◌, ◌+◌, ◌*◌, ◌^◌, ◌||◌, ◌&&◌, ◌==◌, Bool, true, false, nat_lt, not, length, OnOk};
+ghost use Rattle.std.specs.Prelude.{◌≡◌, ◌<◌, Bool, not, length, OnOk};
 ghost use Rattle.farm_model.specs.declared.types.Variant.{Variant};
 ghost use Rattle.farm_model.specs.Chroot.{unmet};
 ghost use Rattle.farm_model.specs.Packages as packages;
@@ -68,15 +68,15 @@ fn misses_needs(universe: &Universe, tables: &Tables, state: &MayHold, recipe: u
 }
 
 /// Tells whether a variant that may be present satisfies a clash of a recipe.
-fn may_clash(_universe: &Universe, tables: &Tables, state: &MayHold, recipe: u32) -> bool
-    requires same { tables.now ≡ _universe.now }
-    requires state { AreWords _universe.now state.now }
-    requires known { recipe < length _universe.now.recipes }
-    ensures { result ≡ may.some_name _universe.now (may_of state.now)
-        (λ n s. may.may_hold _universe.now n (λ b. packages.satisfies_any _universe.now
-        (packages.recipe _universe.now recipe).clashes (packages.variant n b)) s) }
+fn may_clash(of: LaneOf<'_>, state: &MayHold, recipe: u32) -> bool
+    requires state { AreWords of.universe.now state.now }
+    requires known { recipe < length of.universe.now.recipes }
+    ensures { result ≡ may.some_name of.entry.universe.now (may_of state.now)
+        (λ n s. may.may_hold of.entry.universe.now n (λ b. packages.satisfies_any
+        of.entry.universe.now (packages.recipe of.entry.universe.now recipe).clashes
+        (packages.variant n b)) s) }
 {
-    state.may_hit(tables.clashes(recipe))
+    state.may_hit(of.tables.clashes(recipe))
 }
 
 /// The first trap that a build may meet.
@@ -100,7 +100,7 @@ fn build_risk(of: LaneOf<'_>, state: &MayHold, doubts: &Doubts, recipe: u32) -> 
     if misses_needs(universe, of.tables, state, recipe) {
         return Some(Trap::BuildDepends); // X11
     }
-    if may_clash(universe, of.tables, state, recipe) {
+    if may_clash(of, state, recipe) {
         return Some(Trap::BuildConflict); // X12
     }
     if may_overflow(universe, of.lane, state.used(), costs.scratch()) {
@@ -127,8 +127,8 @@ pub fn build(of: LaneOf<'_>, state: &mut MayHold, doubts: &Doubts, recipe: u32) 
     if let Some(trap) = build_risk(of, state, doubts, recipe) {
         return Err(trap);
     }
-    state.spend(of.universe, of.universe.recipe(recipe).steps());
-    state.set_built(of.universe, recipe);
+    state.spend(of.universe.recipe(recipe).steps());
+    state.set_built(recipe);
     Ok(())
 }
 
@@ -167,6 +167,6 @@ pub fn publish(
     if let Some(trap) = publish_risk(universe, lane, state, recipe) {
         return Err(trap);
     }
-    state.spend(universe, universe.outputs(recipe).len() as u64);
+    state.spend(universe.outputs(recipe).len() as u64);
     Ok(())
 }

@@ -1,6 +1,6 @@
 //! A configure under a may map.
 
-ghost use Rattle.std.specs.Prelude.{◌≡◌, ◌<◌, ◌≤◌, ◌&&◌, ◌==◌, ◌∷◌, [], Bool, not, length, All, OnOk};
+ghost use Rattle.std.specs.Prelude.{◌≡◌, ◌<◌, ◌&&◌, ◌==◌, Bool, not, OnOk};
 ghost use Rattle.std.specs.List.{list_any};
 ghost use Rattle.farm_model.specs.declared.types.Variant.{Variant};
 ghost use Rattle.farm_model.specs.Chroot.{unmet};
@@ -8,14 +8,12 @@ ghost use Rattle.farm_model.specs.Packages as packages;
 ghost use Rattle.farm_model.specs.Traps.{first_trap};
 ghost use Rattle.plan_model.specs.May as may;
 ghost use Rattle.plan_model.specs.MayAt.{may_be_configured};
-ghost use Rattle.plan_model.specs.Risk as risks;
 ghost use Rattle.plan_model.specs.Sound.{IsNameSet};
 ghost use Rattle.may_rows.specs.Words.{AreWords, may_of, with_slot};
 ghost use Rattle.may_rows.specs.Walk.{Answers, IsOfLane};
 ghost use Rattle.may_rows.specs.Configures.{risks_before, risks_after, slots_after};
 
 use crate::entries::{misses_depends, misses_pre_depends};
-use crate::exclude::may_be_broken;
 use crate::instruction::LaneOf;
 use crate::members::some_may_member;
 use crate::space::may_exceed;
@@ -61,7 +59,7 @@ impl VariantTest for MissesDepends<'_> {
     }
 }
 
-/// The variants that a present one may break.
+/// The variants that a present one of another name may break (Debian Policy 7.3).
 #[derive(Drop)]
 struct MayBeBroken<'a> {
     tables: &'a Tables,
@@ -76,7 +74,8 @@ impl VariantTest for MayBeBroken<'_> {
         && may.may_hold u n (λ b. packages.breaks u (packages.variant n b) v) s) };
 
     fn passes(&self, universe: &Universe, variant: Variant) -> bool {
-        may_be_broken(universe, self.tables, self.state, variant)
+        let state = self.state;
+        self.tables.is_broken_by_some(variant, &state.here)
     }
 }
 
@@ -188,6 +187,6 @@ pub fn configure(of: LaneOf<'_>, state: &mut MayHold, members: &[u32]) -> Result
     if let Some(trap) = risk_after(universe, of.tables, state, members) {
         return Err(trap);
     }
-    state.spend(universe, members.len() as u64);
+    state.spend(members.len() as u64);
     Ok(())
 }

@@ -2,11 +2,10 @@
 
 ghost use Rattle.std.specs.Prelude.{◌≡◌, ◌<◌, true, false, []};
 ghost use Rattle.farm_model.specs.Packages.{names};
-ghost use Rattle.may_rows.specs.Met.{AreDoubts, IsDoubted, IsDoubtAfter, settled, some_misses, upgrades};
-ghost use Rattle.may_rows.specs.Words.{AreWords, may_of};
+ghost use Rattle.may_rows.specs.Met.{IsDoubted, IsDoubtAfter, upgrades};
+ghost use Rattle.may_rows.specs.Words.{may_of};
 
 use crate::state::MayHold;
-use farm_universe::Universe;
 use plan_asm::Instruction;
 use std::alloc::Global;
 use std::marker::Model;
@@ -32,8 +31,7 @@ impl Model for Doubts {
 }
 
 /// Tells whether an instruction unpacks a variant over a configured one.
-pub(crate) fn upgrades(_universe: &Universe, state: &MayHold, instruction: &Instruction) -> bool
-    requires { AreWords _universe.now state.now }
+pub(crate) fn upgrades(state: &MayHold, instruction: &Instruction) -> bool
     ensures { result ≡ upgrades (may_of state.now) instruction.now }
 {
     match instruction {

@@ -1,12 +1,12 @@
 //! An instruction under a may map.
 
-ghost use Rattle.std.specs.Prelude.{◌≡◌, ◌<◌, ℕ, Bool, true, false, length, OnOk};
+ghost use Rattle.std.specs.Prelude.{◌≡◌, ◌<◌, ℕ, Bool, true, OnOk};
 ghost use Rattle.clause_kernel.specs.Rows.{word_has};
 ghost use Rattle.farm_model.specs.declared.types.Variant.{Variant};
 ghost use Rattle.plan_model.specs.Sound.{IsInstruction};
 ghost use Rattle.may_rows.specs.Met.{AreDoubts};
 ghost use Rattle.may_rows.specs.Picks.{AreOfArchive};
-ghost use Rattle.may_rows.specs.Words.{AreWords, may_of};
+ghost use Rattle.may_rows.specs.Words.{may_of};
 ghost use Rattle.may_rows.specs.Walk.{Answers, AreWordsFor, IsOfLane};
 
 use crate::build::{build, publish};
@@ -101,7 +101,7 @@ pub fn step(
         → AreWordsFor of.entry.universe.now in_it may_be instruction.now words
         → OnOk result (AreDoubts of.entry.universe.now (may_of state.new) doubts.new) }
 {
-    let upgraded = upgrades(of.universe, state, instruction);
+    let upgraded = upgrades(state, instruction);
     go_on(of, state, doubts, instruction, words)?;
     doubts.pass(instruction, upgraded);
     Ok(())

@@ -8,7 +8,6 @@ mod configure;
 mod dependents;
 mod doubts;
 mod entries;
-mod exclude;
 mod instruction;
 mod join;
 mod members;

@@ -6,6 +6,7 @@ ghost use Rattle.bit_rows.specs.Sets.{variants_of};
 ghost use Rattle.farm_model.specs.Below.{some_below};
 ghost use Rattle.farm_model.specs.Chroot.{unmet, entries};
 ghost use Rattle.farm_model.specs.Packages.{names};
+ghost use Rattle.farm_model.specs.Universe.{Universe};
 ghost use Rattle.plan_model.specs.May as may;
 ghost use Rattle.plan_model.specs.Risk.{may_be_unsettled};
 ghost use Rattle.may_rows.specs.Met as spec;
@@ -67,10 +68,10 @@ fn some_misses(universe: &Universe, tables: &Tables, state: &MayHold) -> bool
 }
 
 /// Tells whether some name may hold an unpacked variant alone.
-fn some_unpacked(_universe: &Universe, state: &MayHold) -> bool
-    requires { AreWords _universe.now state.now }
-    ensures { result ≡ some_below (names _universe.now)
-        (λ n. may.is_surely_unpacked ((may_of state.now).slots n)) }
+fn some_unpacked(state: &MayHold) -> bool
+    requires { length state.now.here ≡ length state.now.ready }
+    ensures { (u : Universe) → AreWords u state.now → result
+        ≡ some_below (names u) (λ n. may.is_surely_unpacked ((may_of state.now).slots n)) }
 {
     !same(&state.here, &state.ready)
 }
@@ -178,5 +179,5 @@ pub fn may_be_unsettled(
     requires doubts { AreDoubts universe.now (may_of state.now) doubts.now }
     ensures { result ≡ may_be_unsettled universe.now (may_of state.now) }
 {
-    some_unpacked(universe, state) || some_doubted(universe, tables, dependents, state, doubts)
+    some_unpacked(state) || some_doubted(universe, tables, dependents, state, doubts)
 }

@@ -89,10 +89,9 @@ impl MayHold {
 
     /// Tells whether a name surely holds a configured variant.
     pub fn is_configured(&self, name: u32) -> bool
-        ensures { (u : Universe) → AreWords u self.now
-            → result ≡ is_surely_configured ((may_of self.now).slots name) }
+        ensures { result ≡ is_surely_configured ((may_of self.now).slots name) }
     {
-        self.ready_word(name) != 0
+        self.here_word(name) != 0 && self.ready_word(name) != 0
     }
 
     /// Tells whether a name surely holds a variant.

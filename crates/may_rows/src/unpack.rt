@@ -1,13 +1,12 @@
 //! An unpack under a may map.
 
-ghost use Rattle.std.specs.Prelude.{◌≡◌, ◌<◌, ◌≤◌, ◌+◌, ◌*◌, ◌&&◌, ◌==◌, ℕ, Bool, true, nat_lt, not, length, OnOk};
+ghost use Rattle.std.specs.Prelude.{◌≡◌, ◌<◌, ◌≤◌, ◌+◌, ◌*◌, ◌&&◌, ◌==◌, ℕ, Bool, true, not, length, OnOk};
 ghost use Rattle.clause_kernel.specs.Rows.{word_has};
 ghost use Rattle.farm_model.specs.declared.types.Variant.{Variant};
 ghost use Rattle.farm_model.specs.Chroot.{unmet};
 ghost use Rattle.farm_model.specs.Packages as packages;
 ghost use Rattle.farm_model.specs.Traps.{first_trap};
 ghost use Rattle.plan_model.specs.May as may;
-ghost use Rattle.plan_model.specs.Plan.{capacity};
 ghost use Rattle.may_rows.specs.Words.{AreWords, may_of, surely_met_ahead};
 ghost use Rattle.plan_model.specs.Risk.{greatest_cost};
 ghost use Rattle.sat_rows.specs.Rows.{IsWordFor};
@@ -16,7 +15,6 @@ ghost use Rattle.may_rows.specs.Walk.{Answers, IsOfLane};
 ghost use Rattle.may_rows.specs.Unpacks.{cleared_risks};
 
 use crate::ahead::misses_ahead;
-use crate::exclude::{may_break, may_conflict};
 use crate::instruction::{ArchiveWords, LaneOf};
 use crate::pick::pick;
 use crate::sets::some_of;
@@ -48,7 +46,7 @@ impl VariantTest for MissesAhead<'_> {
     }
 }
 
-/// The variants that may be in conflict with a present one.
+/// The variants that may be in conflict with a present one of another name (Debian Policy 7.4).
 #[derive(Drop)]
 struct MayConflict<'a> {
     tables: &'a Tables,
@@ -63,11 +61,12 @@ impl VariantTest for MayConflict<'_> {
         && may.may_hold u n (λ d. packages.conflict u v (packages.variant n d)) s) };
 
     fn passes(&self, universe: &Universe, variant: Variant) -> bool {
-        may_conflict(universe, self.tables, self.state, variant)
+        let state = self.state;
+        self.tables.conflicts_with_some(variant, &state.here)
     }
 }
 
-/// The variants that may break a configured one.
+/// The variants that may break a configured one of another name (Policy 7.3).
 #[derive(Drop)]
 struct MayBreak<'a> {
     tables: &'a Tables,
@@ -82,7 +81,8 @@ impl VariantTest for MayBreak<'_> {
         && may.may_hold_configured u n (λ d. packages.breaks u v (packages.variant n d)) s) };
 
     fn passes(&self, universe: &Universe, variant: Variant) -> bool {
-        may_break(universe, self.tables, self.state, variant)
+        let state = self.state;
+        self.tables.breaks_some(variant, &state.ready)
     }
 }
 
@@ -163,6 +163,6 @@ pub fn unpack(
         return Err(trap);
     }
     state.put(universe, name, set, 0, last);
-    state.spend(universe, unpack_cost(universe, name, set));
+    state.spend(unpack_cost(universe, name, set));
     Ok(())
 }

@@ -60,8 +60,7 @@ fn remove_members(universe: &Universe, state: &mut MayHold, members: &[u32])
 }
 
 /// Tells whether some member may not be configured.
-fn some_not_configured(_universe: &Universe, members: &[u32], state: &MayHold) -> bool
-    requires { AreWords _universe.now state.now }
+fn some_not_configured(members: &[u32], state: &MayHold) -> bool
     ensures { result ≡ list_any (λ k. not (is_surely_configured ((may_of state.now).slots k)))
         members.now }
 {
@@ -91,7 +90,7 @@ fn deconfigure_risk(
     if may_exceed(lane.budget(), state, members.len() as u64) {
         return Some(Trap::OverBudget); // X14
     }
-    if some_not_configured(universe, members, state) {
+    if some_not_configured(members, state) {
         return Some(Trap::WrongState); // X6
     }
     None
@@ -135,10 +134,10 @@ pub fn deconfigure(of: LaneOf<'_>, state: &mut MayHold, members: &[u32]) -> Resu
         return Err(trap);
     }
     withdraw_members(universe, state, members);
-    if some_needs(universe, of.tables, state, members) {
+    if some_needs(of, state, members) {
         return Err(Trap::StillNeeded); // X9
     }
-    state.spend(universe, members.len() as u64);
+    state.spend(members.len() as u64);
     Ok(())
 }
 
@@ -161,10 +160,10 @@ pub fn remove(of: LaneOf<'_>, state: &mut MayHold, members: &[u32]) -> Result<()
         return Err(trap);
     }
     withdraw_members(universe, state, members);
-    if some_needs(universe, of.tables, state, members) {
+    if some_needs(of, state, members) {
         return Err(Trap::StillNeeded); // X9
     }
     remove_members(universe, state, members);
-    state.spend(universe, members.len() as u64);
+    state.spend(members.len() as u64);
     Ok(())
 }

@@ -63,21 +63,17 @@ impl MayHold {
     }
 
     /// Spends a further cost.
-    pub(crate) fn spend(&mut self, _universe: &Universe, cost: u64)
-        requires state { AreWords _universe.now self.old }
-        requires fits { self.old.cost + cost < 2 ^ 64 }
-        ensures state { AreWords _universe.now self.new }
-        ensures words { self.new ≡ with_spent self.old cost }
+    pub(crate) fn spend(&mut self, cost: u64)
+        requires { self.old.cost + cost < 2 ^ 64 }
+        ensures { self.new ≡ with_spent self.old cost }
     {
         self.cost += cost;
     }
 
     /// Notes that a recipe was built.
-    pub(crate) fn set_built(&mut self, _universe: &Universe, recipe: u32)
-        requires state { AreWords _universe.now self.old }
-        requires known { recipe < length _universe.now.recipes }
-        ensures state { AreWords _universe.now self.new }
-        ensures words { self.new ≡ with_recipe self.old recipe }
+    pub(crate) fn set_built(&mut self, recipe: u32)
+        requires { recipe < length self.old.built }
+        ensures { self.new ≡ with_recipe self.old recipe }
     {
         self.built[recipe as usize] = true;
     }

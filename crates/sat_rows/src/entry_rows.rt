@@ -1,6 +1,6 @@
 //! The rows of the distinct entries of a universe.
 
-ghost use Rattle.std.specs.Prelude.{◌≡◌, ◌<◌, ℕ, Bool, List, IfOk, OnOk, length};
+ghost use Rattle.std.specs.Prelude.{◌<◌, Bool, List, IfOk, length};
 ghost use Rattle.farm_model.specs.declared.types.Variant.{Variant};
 ghost use Rattle.sat_rows.specs.Found.{IsFound};
 ghost use Rattle.sat_rows.specs.Links.{list_at, AreSets};

@@ -8,7 +8,6 @@ ghost use Rattle.farm_model.specs.Packages as packages;
 ghost use Rattle.farm_model.specs.Sound.{IsKnown};
 ghost use Rattle.sat_rows.specs.Rows.{passes, IsRowOf, IsSharedRow, IsAlternativeRow, entry_at, conflicts_with, broken_by, breakers_of};
 ghost use Rattle.sat_rows.specs.Index.{IsProviding};
-ghost use Rattle.sat_rows.specs.Links.{IsExclusion};
 ghost use Rattle.sat_rows.specs.Served.{AreServed, IsMissed};
 ghost use Rattle.sat_rows.specs.Tables.{AreEntryRows};
 

@@ -5,8 +5,8 @@ use Rattle.may_rows.proofs.build.may_clash.Goals as goal
 
 pub returns : goal.returns
 returns c =
-    let u = c.args._universe.now in
+    let u = c.args.of.universe.now in
     let row =
     subst (λ t. IsRowOf t (satisfies_any t (recipe t c.args.recipe).clashes) c.clashes.result.now)
-    c.requires.same c.clashes.ensures in
+    c.args.of.tables_are c.clashes.ensures in
     c.may_hit.ensures u (satisfies_any u (recipe u c.args.recipe).clashes) c.requires.state row

@@ -7,6 +7,7 @@ use Rattle.may_rows.specs.Words.{Words, may_of, may_spend}
 use Rattle.may_rows.specs.Configures.{slots_after, risks_before, risks_after}
 use Rattle.may_rows.proofs.MemberSlots.{first_trap-front, first_trap-back}
 use Rattle.may_rows.proofs.Configured.{configure_parts}
+use Rattle.may_rows.proofs.Writes.{words_spent}
 use Rattle.may_rows.proofs.configure.configure.Goals as goal
 
 pub returns-in-Some-clause-answer : goal.returns-in-Some-clause-answer
@@ -29,8 +30,8 @@ returns-in-Some-risk_after-clause-answer c known there =
     ∙ ap (λ k. first_trap (risks_after u k ms)) (sym c.configure_members.ensures.map)
     ∙ sym c.in-Some-risk_after.ensures
 
-pub spend-requires-clause-fits : goal.spend-requires-clause-fits
-spend-requires-clause-fits c =
+pub spend-requires : goal.spend-requires
+spend-requires c =
     let paid : c.args.state.now.cost + length c.args.members.now ≤ c.args.of.lane.now.budget =
     within-limit _ _ _ _ (sym c.in_default.ensures) in
     let same = ap (λ (k : May). k.cost) c.configure_members.ensures.map in
@@ -46,7 +47,7 @@ returns-clause-answer c known there =
           (risks_after u (slots_after may_be_configured m ms) ms) (sym c.in_default.ensures)
           ∙ ap (λ k. first_trap (risks_after u k ms)) (sym c.configure_members.ensures.map)
           ∙ sym c.in_default-risk_after.ensures,
-      sym (ap may_of c.spend.ensures.words
+      sym (ap may_of c.spend.ensures
           ∙ ap (λ k. may_spend k (length ms)) c.configure_members.ensures.map),
     )
 
@@ -55,10 +56,11 @@ returns-clause-of_lane c =
     let paid : c.args.state.now.cost + length c.args.members.now ≤ c.args.of.lane.now.budget =
     within-limit _ _ _ _ (sym c.in_default.ensures) in
     let same = ap (λ (k : May). k.cost) c.configure_members.ensures.map in
-    let spent = ap (λ (w : Words). w.cost) c.spend.ensures.words in
+    let spent = ap (λ (w : Words). w.cost) c.spend.ensures in
     record {
       based = c.requires.of_lane.based;
       small = c.requires.of_lane.small;
-      words = c.spend.ensures.state;
+      words = words_spent c.args.of.universe.now c.configure_members.new.state c.spend.new.self
+          (length c.args.members.now) c.spend.ensures c.configure_members.ensures.words;
       within = omega (arith, paid, same, spent);
     }

@@ -10,7 +10,7 @@ pub is_missed-requires : goal.is_missed-requires
 is_missed-requires c =
     let words : c.deref.result.now ≡ c.args.state.now.ready =
     cc (ap (λ (x : Words). x.ready) c.state.view_is, c.deref.ensures.value) in
-    ap length words ∙ c.requires.words.ready_long ∙ sym (ap names c.requires.same)
+    ap length words ∙ c.requires.ready_long ∙ sym (ap names c.args.of.tables_are)
 
 pub returns : goal.returns
 returns c =
@@ -19,8 +19,8 @@ returns c =
     let t = c.is_missed.result in
     let words : c.deref.result.now ≡ w.ready =
     cc (ap (λ (x : Words). x.ready) c.state.view_is, c.deref.ensures.value) in
-    needed_is c.args.universe.now w c.requires.words k t
-    (subst (λ (u : Universe). (t ≡ true) ↔ IsMissed u k (get_or w.last k 0) w.ready) c.requires.same
-    (subst (λ ws. (t ≡ true) ↔ IsMissed c.args.tables.now k (get_or w.last k 0) ws) words
-    (subst (λ word. (t ≡ true) ↔ IsMissed c.args.tables.now k word c.deref.result.now)
+    needed_is c.args.of.universe.now w c.requires k t
+    (subst (λ (u : Universe). (t ≡ true) ↔ IsMissed u k (get_or w.last k 0) w.ready) c.args.of.tables_are
+    (subst (λ ws. (t ≡ true) ↔ IsMissed c.args.of.tables.now k (get_or w.last k 0) ws) words
+    (subst (λ word. (t ≡ true) ↔ IsMissed c.args.of.tables.now k word c.deref.result.now)
     c.last_word.ensures c.is_missed.ensures)))

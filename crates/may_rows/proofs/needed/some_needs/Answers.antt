@@ -15,7 +15,7 @@ needed u m k = some_below (names u) (needs_at u (k ∷ []) m)
 
 pub returns-then-is_needed : goal.returns-then-is_needed
 returns-then-is_needed c =
-    let u = c.args.universe.now in
+    let u = c.args.of.universe.now in
     let m = may_of c.args.state.now in
     sym (needed_each u m c.args.members.now
     ∙ list_any_at (needed u m) c.args.members.now c.loop-place.place 0 c.loop-place-test.true
@@ -23,14 +23,14 @@ returns-then-is_needed c =
 
 pub loop-place-preserved : goal.loop-place-preserved
 loop-place-preserved c =
-    let p = needed c.args.universe.now (may_of c.args.state.now) in
+    let p = needed c.args.of.universe.now (may_of c.args.state.now) in
     list_any_more p c.args.members.now c.loop-place.place 0 c.loop-place-test.true
     ∙ ap (λ t. t || p (get_or c.args.members.now c.loop-place.place 0)) c.loop-place.invariant
     ∙ sym c.is_needed.ensures ∙ c.if-is_needed.false
 
 pub returns : goal.returns
 returns c =
-    let u = c.args.universe.now in
+    let u = c.args.of.universe.now in
     let m = may_of c.args.state.now in
     sym (needed_each u m c.args.members.now
     ∙ ap (list_any (needed u m))

@@ -4,11 +4,11 @@ use Rattle.may_rows.proofs.MetWords.{some_unpacked-is}
 use Rattle.may_rows.proofs.settled.some_unpacked.Goals as goal
 
 pub returns : goal.returns
-returns c =
+returns c u are =
     let here : c.deref.result.now ≡ c.args.state.now.here =
     cc (ap (λ (w : Words). w.here) c.state.view_is, c.deref.ensures.value) in
     let ready : c.deref-2.result.now ≡ c.args.state.now.ready =
     cc (ap (λ (w : Words). w.ready) c.state.view_is, c.deref-2.ensures.value) in
-    some_unpacked-is c.args._universe.now c.args.state.now c.requires c.same.result
+    some_unpacked-is u c.args.state.now are c.same.result
     (subst (λ ws. (c.same.result ≡ true) ↔ (c.args.state.now.here ≡ ws)) ready
     (subst (λ ws. (c.same.result ≡ true) ↔ (ws ≡ c.deref-2.result.now)) here c.same.ensures.equal))

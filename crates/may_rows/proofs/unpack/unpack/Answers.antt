@@ -6,6 +6,7 @@ use Rattle.plan_model.specs.Risk.{greatest_cost}
 use Rattle.may_rows.specs.Words.{may_of, slot_of, with_slot, may_spend}
 use Rattle.may_rows.proofs.Writes.{used_small}
 use Rattle.may_rows.proofs.Unpacked.{risk-is, then-is, last-word, same_risks}
+use Rattle.may_rows.proofs.Writes.{words_spent}
 use Rattle.may_rows.proofs.unpack.unpack.Goals as goal
 
 pub unpack_risk-requires-clause-small : goal.unpack_risk-requires-clause-small
@@ -26,8 +27,8 @@ returns-in-Some-unpack_risk-clause-answer c known there of is_known is_there =
     (sym c.put.ensures.map) (sym (c.used-used.ensures ∙ c.requires.of_lane.words.used_is))
     ∙ sym c.in-Some-unpack_risk.ensures
 
-pub spend-requires-clause-fits : goal.spend-requires-clause-fits
-spend-requires-clause-fits c =
+pub spend-requires : goal.spend-requires
+spend-requires c =
     let u = c.args.of.universe.now in
     let paid : c.put.new.self.cost + greatest_cost u c.args.name (word_has c.in-Some.set)
     ≤ c.args.of.lane.now.budget =
@@ -50,7 +51,7 @@ returns-clause-answer c known there of is_known is_there =
           c.in-Some.ensures.some
           (ap word_has c.last_word-last.ensures
           ∙ last-word u c.args.state.now c.requires.of_lane.words c.args.name)
-          ∙ sym (ap may_of c.spend.ensures.words
+          ∙ sym (ap may_of c.spend.ensures
           ∙ ap (λ next. may_spend next c.unpack_cost.result) c.put-2.ensures.map
           ∙ ap (λ next. may_spend
           (with_slot next c.args.name (slot_of set 0 c.last_word-last.result)) c.unpack_cost.result)
@@ -68,10 +69,11 @@ returns-clause-of_lane c =
     ≤ c.args.of.lane.now.budget =
     within-limit _ _ _ _ (sym c.in_default-unpack_risk.ensures) in
     let same = ap (λ (m : May). m.cost) c.put-2.ensures.map in
-    let spent = ap (λ w. (may_of w).cost) c.spend.ensures.words in
+    let spent = ap (λ w. (may_of w).cost) c.spend.ensures in
     record {
       based = c.requires.of_lane.based;
       small = c.requires.of_lane.small;
-      words = c.spend.ensures.state;
+      words = words_spent u c.put-2.new.self c.spend.new.self c.unpack_cost.result c.spend.ensures
+          c.put-2.ensures.state;
       within = omega (arith, paid, same, spent, c.unpack_cost.ensures);
     }

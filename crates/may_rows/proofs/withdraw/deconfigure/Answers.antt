@@ -4,6 +4,7 @@ use Rattle.plan_model.specs.May.{May}
 use Rattle.may_rows.specs.Words.{Words, may_of, may_spend}
 use Rattle.may_rows.specs.Withdraws.{deconfigure_risks_before}
 use Rattle.may_rows.proofs.Withdrawn.{told_before, told_needed, told_none, configured_members, deconfigured-is}
+use Rattle.may_rows.proofs.Writes.{words_spent}
 use Rattle.may_rows.proofs.withdraw.deconfigure.Goals as goal
 
 pub returns-in-Some-clause-answer : goal.returns-in-Some-clause-answer
@@ -21,8 +22,8 @@ returns-then-some_needs-clause-answer c known there =
     (may_of c.withdraw_members.new.state) c.withdraw_members.ensures.map c.some_needs.ensures
     (sym c.in_default.ensures) c.if-some_needs.true
 
-pub spend-requires-clause-fits : goal.spend-requires-clause-fits
-spend-requires-clause-fits c =
+pub spend-requires : goal.spend-requires
+spend-requires c =
     let paid : c.args.state.now.cost + length c.args.members.now ≤ c.args.of.lane.now.budget =
     within-limit _ _ _ _ (sym c.in_default.ensures) in
     let same = ap (λ (k : May). k.cost) c.withdraw_members.ensures.map in
@@ -37,7 +38,7 @@ returns-clause-answer c known there =
           c.some_needs.result (may_of c.withdraw_members.new.state)
           c.withdraw_members.ensures.map c.some_needs.ensures (sym c.in_default.ensures)
           c.if-some_needs.false,
-      sym (ap may_of c.spend.ensures.words
+      sym (ap may_of c.spend.ensures
           ∙ ap (λ k. may_spend k (length ms)) (c.withdraw_members.ensures.map
           ∙ deconfigured-is m ms (configured_members c.args.of.lane.now m ms
           (sym c.in_default.ensures)))),
@@ -48,10 +49,11 @@ returns-clause-of_lane c =
     let paid : c.args.state.now.cost + length c.args.members.now ≤ c.args.of.lane.now.budget =
     within-limit _ _ _ _ (sym c.in_default.ensures) in
     let same = ap (λ (k : May). k.cost) c.withdraw_members.ensures.map in
-    let spent = ap (λ (w : Words). w.cost) c.spend.ensures.words in
+    let spent = ap (λ (w : Words). w.cost) c.spend.ensures in
     record {
       based = c.requires.of_lane.based;
       small = c.requires.of_lane.small;
-      words = c.spend.ensures.state;
+      words = words_spent c.args.of.universe.now c.withdraw_members.new.state c.spend.new.self
+          (length c.args.members.now) c.spend.ensures c.withdraw_members.ensures.words;
       within = omega (arith, paid, same, spent);
     }

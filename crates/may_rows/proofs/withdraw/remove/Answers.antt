@@ -5,6 +5,7 @@ use Rattle.may_rows.specs.Words.{Words, may_of, may_spend}
 use Rattle.may_rows.specs.Configures.{slots_after}
 use Rattle.may_rows.specs.Withdraws.{remove_risks_before}
 use Rattle.may_rows.proofs.Withdrawn.{told_before, told_needed, told_none, removed-is}
+use Rattle.may_rows.proofs.Writes.{words_spent}
 use Rattle.may_rows.proofs.withdraw.remove.Goals as goal
 
 pub returns-in-Some-clause-answer : goal.returns-in-Some-clause-answer
@@ -22,8 +23,8 @@ returns-then-some_needs-clause-answer c known there =
     (may_of c.withdraw_members.new.state) c.withdraw_members.ensures.map c.some_needs.ensures
     (sym c.in_default.ensures) c.if-some_needs.true
 
-pub spend-requires-clause-fits : goal.spend-requires-clause-fits
-spend-requires-clause-fits c =
+pub spend-requires : goal.spend-requires
+spend-requires c =
     let paid : c.args.state.now.cost + length c.args.members.now ≤ c.args.of.lane.now.budget =
     within-limit _ _ _ _ (sym c.in_default.ensures) in
     let same = ap (λ (k : May). k.cost) c.withdraw_members.ensures.map in
@@ -39,7 +40,7 @@ returns-clause-answer c known there =
           c.some_needs.result (may_of c.withdraw_members.new.state)
           c.withdraw_members.ensures.map c.some_needs.ensures (sym c.in_default.ensures)
           c.if-some_needs.false,
-      sym (ap may_of c.spend.ensures.words
+      sym (ap may_of c.spend.ensures
           ∙ ap (λ k. may_spend k (length ms)) (c.remove_members.ensures.map
           ∙ ap (λ k. slots_after (λ s. MayAbsent) k ms) c.withdraw_members.ensures.map
           ∙ removed-is m ms)),
@@ -50,11 +51,12 @@ returns-clause-of_lane c =
     let paid : c.args.state.now.cost + length c.args.members.now ≤ c.args.of.lane.now.budget =
     within-limit _ _ _ _ (sym c.in_default.ensures) in
     let same = ap (λ (k : May). k.cost) c.withdraw_members.ensures.map in
-    let spent = ap (λ (w : Words). w.cost) c.spend.ensures.words in
+    let spent = ap (λ (w : Words). w.cost) c.spend.ensures in
     let removed = ap (λ (k : May). k.cost) c.remove_members.ensures.map in
     record {
       based = c.requires.of_lane.based;
       small = c.requires.of_lane.small;
-      words = c.spend.ensures.state;
+      words = words_spent c.args.of.universe.now c.remove_members.new.state c.spend.new.self
+          (length c.args.members.now) c.spend.ensures c.remove_members.ensures.words;
       within = omega (arith, paid, same, removed, spent);
     }
