@@ -12,6 +12,7 @@ from pathlib import Path
 
 import certificates
 from core import TRAPS, Farm, step
+from json_answers import member_line
 from plans import read_plan
 from portfarm import FILES, answer, cut_input, read_schedule
 from relations import NEED, read_field
@@ -213,8 +214,9 @@ def on_certificate(texts, text, question):
 
 
 def on_words(machine, question):
-    """Answers `run WORDS`, where the words name files that are there; else None."""
+    """Answers `run WORDS` and `member PATH WORDS`, where the words name files that are there; else None."""
     word, *words = question.split(" ")
+    path = words.pop(0).replace('""', "") if word == "member" else None
     files, broken, current = {"": ""}, [], ""
     for line in re.findall("[^\n]*\n|[^\n]+", machine):
         if line.startswith("%% "):
@@ -231,7 +233,7 @@ def on_words(machine, question):
     schedule = words.pop(2) if words[:2] == ["step", "--schedule"] and len(words) > 2 else None
     paths = [it for it in words[1:] if it != "--schedule"]
     wanted = {"check": 4, "explain": 4, "list": 4, "cert": 4, "verify-cert": 5, "step": 4}.get(words[0] if words else "")
-    if word != "run" or broken or not all(path in files for path in paths) or words and len(paths) != wanted:
+    if word not in ("run", "member") or broken or not all(name in files for name in paths) or words and len(paths) != wanted:
         return None
     if paths.count("-") > 1:
         return None
@@ -243,7 +245,9 @@ def on_words(machine, question):
             more = read_schedule("" if schedule in (None, '""') else schedule)
             if schedule is None or more is None:
                 return None
-        written, status = answer(words[0], dict(zip(FILES, (files[path] for path in paths))), more)
+        written, status = answer(words[0], dict(zip(FILES, (files[name] for name in paths))), more)
+    if path is not None:
+        written = [member_line(written, path)]
     return [f"status {status}", *(f"| {line}" for line in written)]
 
 

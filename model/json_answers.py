@@ -53,3 +53,17 @@ def json_line(members):
     """The line of an object, as bytes are held in the model."""
     text = json.dumps(members, ensure_ascii=False, separators=(",", ":"), sort_keys=True)
     return text.encode("utf-8").decode("latin-1")
+
+
+def member_line(lines, path):
+    """What stands at a path (RFC 6901) of an answer that is read as JSON."""
+    try:
+        value = json.loads("\n".join(lines).encode("latin-1"))
+    except ValueError:
+        return "no JSON"
+    for name in path.split("/")[1:]:
+        at = int(name) if isinstance(value, list) else name
+        if not (at < len(value) if isinstance(value, list) else at in value):
+            return "no member"
+        value = value[at]
+    return json_line(value)

@@ -1,22 +1,22 @@
 -- Verdicts and notes are objects without floats.
-use Rattle.std.proofs.Common.{◌≡◌, ℕ, zero, suc, List, [], ◌∷◌, ◌++◌, Option, Some, None, Result, Ok, Err, Ordering, Less, Equal, Greater, ◌||◌, false, map, refl, ap, ◌∙◌}
+use Rattle.std.proofs.Common.{◌≡◌, ℕ, zero, suc, List, [], ◌∷◌, ◌++◌, length, Bool, Option, Some, None, Result, Ok, Err, Ordering, Less, Equal, Greater, ◌||◌, false, map, refl, ap, ◌∙◌}
 use Rattle.std.proofs.lemmas.Bool.{or_parts}
 use Rattle.std.specs.Prelude.{codes}
 use Rattle.std.specs.Cmp.Lexicographic.{slice_cmp}
 use Rattle.std.specs.Ordering.{match_ordering, nat_cmp}
 use Rattle.answer_json.proofs.NoFloats.{no_float_in_lines}
-use Rattle.answer_json.specs.Texts.{lines_data}
+use Rattle.answer_json.specs.Texts.{lines_data, text_data}
 use Rattle.deb_text.specs.Lists.{lists}
 use Rattle.farm_explain.specs.Notes.{NoteFacts, PlaceFacts}
-use Rattle.farm_json.specs.Reasons.{reason_data, reasons_data, told_members, with_instruction, with_number, with_origin, with_place, with_trap, with_use}
-use Rattle.farm_json.specs.Refusals.{name_data}
+use Rattle.farm_json.specs.Reasons.{reason_data, reasons_data, told_members, with_number, with_origin, with_place, with_trap, with_use}
+use Rattle.farm_json.specs.Refusals.{name_data, number_data}
 use Rattle.farm_json.specs.Verdicts.{data_below, explained_members, lane_data, verdict_members}
 use Rattle.farm_model.specs.declared.types.Trap.{Trap}
 use Rattle.plan_lines.specs.declared.origin.Origin.{Origin}
 use Rattle.plan_verifier.specs.Accepted.{AcceptedPlan}
 use Rattle.plan_verifier.specs.declared.refusal.Refusal.{Refusal}
 use Rattle.plan_verifier.specs.declared.refusal.Refusal.TheVariants.{Text, Unsafe, Uneven, Stuck, Memory}
-use Rattle.serde_json.specs.Data.{Data, Items, Members, member, no_members, put}
+use Rattle.serde_json.specs.Data.{Data, Members, member, no_members, put}
 use Rattle.serde_json.specs.View.{items_of}
 use Rattle.serde_json.specs.Written.{has_float, items_have_float, members_have_float}
 
@@ -62,7 +62,10 @@ in_origin (Some origin) ms none = in_use origin.used _ (no_float_put _ _ ms refl
 
 in_number : (place : PlaceFacts) (ms : Members) → members_have_float ms ≡ false
     → members_have_float (with_number place ms) ≡ false
-in_number place ms none = no_float_put _ _ _ refl (no_float_put _ _ ms refl none)
+in_number place ms none =
+    no_float_put (codes "lane") (text_data place.lane)
+    (put (codes "instruction") (number_data place.instruction) ms) refl
+    (no_float_put (codes "instruction") (number_data place.instruction) ms refl none)
 
 in_place : (place : Option PlaceFacts) (ms : Members) → members_have_float ms ≡ false
     → members_have_float (with_place place ms) ≡ false
@@ -109,6 +112,7 @@ no_float_in_verdict (Err Memory) = refl
 pub no_float_in_explained : (verdict : Result AcceptedPlan Refusal) (notes : List NoteFacts)
     (warnings : List ℕ) → members_have_float (explained_members verdict notes warnings) ≡ false
 no_float_in_explained verdict notes warnings =
-    no_float_put (codes "reasons") (reasons_data notes) _ (in_notes notes)
+    no_float_put (codes "reasons") (reasons_data notes)
+    (put (codes "warnings") (lines_data warnings) (verdict_members verdict)) (in_notes notes)
     (no_float_put (codes "warnings") (lines_data warnings) (verdict_members verdict)
     (no_float_in_lines warnings) (no_float_in_verdict verdict))

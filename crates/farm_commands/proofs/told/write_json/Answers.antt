@@ -3,7 +3,8 @@ use Rattle.farm_commands.specs.Answers.{IsJust, no_status, status_of}
 use Rattle.farm_commands.specs.Explanations.{TellsSome}
 use Rattle.farm_commands.proofs.AnswerLaws.{answered-by}
 use Rattle.farm_commands.proofs.told.write_json.Goals as goal
-use Rattle.farm_json.specs.Verdicts.{check_line}
+use Rattle.farm_explain.specs.Notes.{all_facts}
+use Rattle.farm_json.specs.Verdicts.{check_line, explain_line}
 
 pub returns-in-Ok : goal.returns-in-Ok
 returns-in-Ok g c =
@@ -12,7 +13,9 @@ returns-in-Ok g c =
     (TellsSome true verdict c.args.notes.now) _ _ _
     (λ text status is. inl (
       is.0 ∙ c.as_slice-in-Ok.ensures.value
-          ∙ (rw (c.as_slice.ensures.value, c.as_slice-2.ensures.value) at c.in-Ok.ensures),
+          ∙ c.in-Ok.ensures
+          ∙ (λ k. explain_line verdict (all_facts (c.as_slice.ensures.value k))
+          (c.as_slice-2.ensures.value k)),
       is.1 ∙ c.status_of.ensures ∙ ap status_of c.is_ok.ensures.value,
     ))
     c.write_answer.ensures

@@ -16,4 +16,13 @@ returns-then-not-stands_in c =
     ∙ append-nil (all_facts c.args.notes.now.items))
 
 pub returns : goal.returns
-returns c = ?
+returns c =
+    let h = c.args.halted in
+    let old = c.args.notes.now.items in
+    ap all_facts c.in_ok-push.ensures.items
+    ∙ (map-append facts old (c.in_ok-lane_note.field-0 ∷ [])
+    ∙ ap (λ xs. all_facts old ++ xs)
+    (ap (λ note. note ∷ []) c.in_ok-lane_note.ensures
+    ∙ sym (taken h.universe.now h.plan.now.lanes h.lines.now.lanes (next_of h.nexts.now) c.args.group
+    c.args.number (place_of h.ats.now c.args.number) c.args.entry.now _ c.requires.each
+    (sym c.stands_in.ensures ∙ c.if-not-stands_in.false))))
