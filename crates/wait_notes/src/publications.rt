@@ -5,7 +5,8 @@ ghost use Rattle.std.specs.Option.{option_map};
 ghost use Rattle.farm_explain.specs.ReasonText.{publishes, publishing_place};
 ghost use Rattle.farm_model.specs.declared.types.Variant.{Variant as VariantData};
 ghost use Rattle.farm_model.specs.Packages.{contains, outputs, same};
-ghost use Rattle.farm_model.specs.Sound.{IsKnown, IsUniverse};
+ghost use Rattle.farm_model.specs.Sound.{IsUniverse};
+ghost use Rattle.farm_model.specs.Universe as farm;
 ghost use Rattle.wait_notes.specs.Places as spec;
 ghost use Rattle.wait_notes.specs.Places.{Adds, HasSlots, IsTableOf};
 
@@ -117,10 +118,10 @@ impl Publications {
     }
 
     /// Notes where a variant is published, unless that is known.
-    fn put(&mut self, _universe: &Universe, variant: Variant, place: Publication)
-        requires slots { HasSlots _universe.now self.old }
-        requires known { IsKnown _universe.now variant }
-        ensures slots { HasSlots _universe.now self.new }
+    fn put(&mut self, variant: Variant, place: Publication)
+        requires named { variant.name < length self.old }
+        requires there { variant.bit < length (slice_index_or self.old variant.name []) }
+        ensures slots { (u : farm.Universe) → HasSlots u self.old → HasSlots u self.new }
         ensures put { Adds self.old self.new
             (λ v. if same variant v then Some (spec.place_of place) else None) }
     {
@@ -139,7 +140,7 @@ impl Publications {
     {
         let outputs = universe.outputs(recipe);
         for i in 0..outputs.len() {
-            self.put(universe, outputs[i], place);
+            self.put(outputs[i], place);
         }
     }
 

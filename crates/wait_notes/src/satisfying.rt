@@ -1,8 +1,9 @@
 //! Which variants of a universe satisfy an entry.
 
-ghost use Rattle.std.specs.Prelude.{◌≡◌, ◌<◌, ◌++◌, IfOk, OnOk, length};
+ghost use Rattle.std.specs.Prelude.{◌≡◌, ◌<◌, ◌++◌, Bool, IfOk, OnOk, length};
 ghost use Rattle.bit_rows.specs.Sets.{variants_of};
-ghost use Rattle.farm_model.specs.Packages.{variant, satisfies_entry};
+ghost use Rattle.farm_model.specs.declared.types.Variant as model;
+ghost use Rattle.farm_model.specs.Packages.{names, variant};
 ghost use Rattle.sat_rows.specs.Rows.{IsRowOf};
 ghost use Rattle.wait_notes.specs.Satisfying.{of_name, one_if, satisfying, variants_that};
 
@@ -33,12 +34,10 @@ fn push_name(
     universe: &Universe,
     row: &Row,
     name: u32,
-    _entry: &Entry,
 ) -> Result<(), AllocError>
-    requires named { name < length row.now }
-    requires row { IsRowOf universe.now (satisfies_entry universe.now _entry.now) row.now }
-    ensures { OnOk result (found.new.items ≡ found.old.items
-        ++ of_name universe.now (satisfies_entry universe.now _entry.now) name) }
+    requires { name < length row.now }
+    ensures { OnOk result ((test : model.Variant → Bool) → IsRowOf universe.now test row.now
+        → found.new.items ≡ found.old.items ++ of_name universe.now test name) }
 {
     for bit in 0..variant_count(universe, name) {
         push_if_there(found, row, name, bit)?;
@@ -48,21 +47,16 @@ fn push_name(
 
 /// The variants that a row has, names by number and of each the lowest version first. Only names
 /// that have some are looked at.
-fn listed(
-    alloc: Global,
-    universe: &Universe,
-    row: &Row,
-    entry: &Entry,
-) -> Result<Vec<Variant>, AllocError>
-    requires { IsRowOf universe.now (satisfies_entry universe.now entry.now) row.now }
-    ensures { IfOk result (λ found. found.items
-        ≡ variants_that universe.now (satisfies_entry universe.now entry.now)) }
+fn listed(alloc: Global, universe: &Universe, row: &Row) -> Result<Vec<Variant>, AllocError>
+    requires { length row.now ≡ names universe.now }
+    ensures { IfOk result (λ found. (test : model.Variant → Bool)
+        → IsRowOf universe.now test row.now → found.items ≡ variants_that universe.now test) }
 {
     let names = universe.names() as usize;
     let mut found = Vec::new(alloc);
     let mut name = row.skip(0);
     while name < names {
-        push_name(&mut found, universe, row, name as u32, entry)?;
+        push_name(&mut found, universe, row, name as u32)?;
         name = row.skip(name + 1);
     }
     Ok(found)
@@ -85,5 +79,5 @@ pub fn satisfying(
     ensures { IfOk result (λ found. found.items ≡ satisfying universe.now entry.now) }
 {
     let row = tables.entry_row(alloc, universe, entry)?;
-    listed(alloc, universe, &row, entry)
+    listed(alloc, universe, &row)
 }

@@ -1,5 +1,6 @@
-use Rattle.std.proofs.Common.{◌≡◌, ◌≤◌, ◌-◌, length}
-use Rattle.farm_model.specs.Packages.{satisfies_entry}
+use Rattle.std.proofs.Common.{◌≡◌, ◌≤◌, ◌-◌, Bool, length}
+use Rattle.farm_model.specs.declared.types.Variant.{Variant}
+use Rattle.sat_rows.specs.Rows.{IsRowOf}
 use Rattle.wait_notes.specs.Satisfying.{all_below, of_name}
 use Rattle.wait_notes.proofs.satisfying.listed.Given as goal
 
@@ -8,8 +9,8 @@ abbrev pub invariant-loop-name : goal.invariant-loop-name
 invariant-loop-name l =
     record {
       within : l.name ≤ length l.row;
-      found : l.found.items
-          ≡ all_below l.name (of_name l.universe (satisfies_entry l.universe l.entry));
+      found : (test : Variant → Bool) → IsRowOf l.universe test l.row
+          → l.found.items ≡ all_below l.name (of_name l.universe test);
     }
 
 abbrev pub decreases-loop-name : goal.decreases-loop-name

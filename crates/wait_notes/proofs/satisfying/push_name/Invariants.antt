@@ -1,9 +1,12 @@
-use Rattle.std.proofs.Common.{◌≡◌, ◌++◌}
-use Rattle.farm_model.specs.Packages.{variant, satisfies_entry}
+use Rattle.std.proofs.Common.{◌≡◌, ◌++◌, Bool}
+use Rattle.farm_model.specs.declared.types.Variant.{Variant}
+use Rattle.farm_model.specs.Packages.{variant}
+use Rattle.sat_rows.specs.Rows.{IsRowOf}
 use Rattle.wait_notes.specs.Satisfying.{all_below, one_if}
 use Rattle.wait_notes.proofs.satisfying.push_name.Given as goal
 
 abbrev pub invariant-loop-bit : goal.invariant-loop-bit
 invariant-loop-bit l =
-    l.found.items ≡ l.fn.found.items ++ all_below l.bit
-    (λ b. one_if (satisfies_entry l.universe l._entry (variant l.name b)) (variant l.name b))
+    (test : Variant → Bool) → IsRowOf l.universe test l.row
+    → l.found.items ≡ l.fn.found.items ++ all_below l.bit
+    (λ b. one_if (test (variant l.name b)) (variant l.name b))
