@@ -6,3 +6,4 @@ pub mod NoteLaws
 pub mod Outcomes
 pub mod Beginning
 pub mod NoteTexts
+pub mod KindLaws

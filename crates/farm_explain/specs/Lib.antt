@@ -6,3 +6,4 @@ pub mod Kinds
 pub mod Notes
 pub mod LaneNotes
 pub mod Beginning
+pub mod Told

@@ -34,7 +34,7 @@ pub enum Kind {
     NotBuilt,
     /// A member may be needed by what stays configured.
     StillNeeded,
-    /// No reason of a trap is told.
+    /// No reason of a trap is told; which no note is of, by [`crate::each_tells_a_reason`].
     Untold,
     /// The branches of a `when` part.
     Uneven,

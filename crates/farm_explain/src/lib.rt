@@ -16,7 +16,7 @@ mod reasons;
 mod words;
 
 pub use kinds::Kind;
-pub use laws::{notes_begin_with_the_verdict, notes_have_the_text};
+pub use laws::{each_tells_a_reason, notes_begin_with_the_verdict, notes_have_the_text};
 pub use note::{Note, NotePlace, note_place, push_told};
 pub use notes::unsafe_notes;
 pub use place::{push_at, push_where};

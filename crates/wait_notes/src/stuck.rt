@@ -89,13 +89,8 @@ fn lane_text(
     let found = satisfying(alloc, halted.universe, halted.tables, entry)?;
     let mut text = Vec::new(alloc);
     let (universe, plan, lines) = (halted.universe, halted.plan, halted.lines);
-    push_head(
-        &mut text,
-        plan,
-        group,
-        number,
-        number_at(plan, number, place),
-    )?;
+    let instruction = number_at(plan, number, place);
+    push_head(&mut text, plan, group, number, instruction)?;
     push_where(&mut text, universe, plan, lines, number, place)?;
     push_sources(&mut text, of, lines, entry, &found)?;
     Ok(text)
