@@ -139,7 +139,8 @@ module _ (u : Universe) (p : Plan) (rows : Rows) (unique : HasUniqueOutputs u p)
       by : (h k r b : ℕ) → h < length p → instruction_at p h k ≡ Some (Publish r)
           → slice_get (outputs u r) b ≡ Some c → (h ≡ j) ⊎ (h ≡ j → ⊥)
           → (rows h k (out j m) ≡ true) ⊎ (contains (take (suc b) (outputs u r))
-          (out j m) ≡ true) → n < (if h == j then outputs_before u (lane p j) k (suc b) else x h k j)
+          (out j m) ≡ true) → n <
+          (if h == j then outputs_before u (lane p j) k (suc b) else x h k j)
       by h k r b h_lt at o (inl is) (inl row) =
           let row1 : rows j k (out j m) ≡ true = subst (λ g. rows g k (out j m) ≡ true) is row in
           let at1 = slice_get_within (lane p h).instructions k (Publish r) at in

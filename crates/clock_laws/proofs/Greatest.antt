@@ -20,11 +20,14 @@ clock_rows-mono u p y x l i v le e =
       | inl is ↦ or_left (initial u v) _ is
       | inr some ↦
           let f =
-          some_below-found (length p) (λ j. contains (take (y l i j) (lane_outputs u (lane p j))) v) some in
+          some_below-found (length p) (λ j. contains (take (y l i j) (lane_outputs u (lane p j))) v)
+          some in
           let t = take-found (y l i f.0) (lane_outputs u (lane p f.0)) v f.2 in
           or_right (initial u v) _
-          (some_below-at (length p) (λ j. contains (take (x l i j) (lane_outputs u (lane p j))) v) f.0 f.1
-          (take-at (x l i f.0) (lane_outputs u (lane p f.0)) v t.0 (omega (arith, t.1, le f.0 f.1)) t.2 t.3))
+          (some_below-at (length p) (λ j. contains (take (x l i j) (lane_outputs u (lane p j))) v)
+          f.0 f.1
+          (take-at (x l i f.0) (lane_outputs u (lane p f.0)) v t.0 (omega (arith, t.1, le f.0 f.1))
+          t.2 t.3))
     ]
 
 pub greatest_clocks_are_greatest : GreatestClocksAreGreatest

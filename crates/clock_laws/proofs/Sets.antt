@@ -105,7 +105,8 @@ module _ (u : Universe) (p : Plan) (x : Clocks) (keeps : KeepsClocks u p x) wher
       → clock_rows u p x l i v ≡ true
   in_rows l i j n v lt n_lt in_made e =
       or_right (initial u v) _ (some_below-at (length p) (λ j. contains (take (x l i j)
-      (lane_outputs u (lane p j))) v) j lt (take-at (x l i j) (lane_outputs u (lane p j)) v n n_lt in_made e))
+      (lane_outputs u (lane p j))) v) j lt
+      (take-at (x l i j) (lane_outputs u (lane p j)) v n n_lt in_made e))
 
   -- an output of the lane's own, up to the end of a publish: of an earlier one, or of this
   own_output : (j k r b n : ℕ) (v : Variant) → j < length p
@@ -140,7 +141,8 @@ module _ (u : Universe) (p : Plan) (x : Clocks) (keeps : KeepsClocks u p x) wher
       → (clock_rows u p x l i v ≡ true) ⊎ (contains (outputs u r) v ≡ true)
   own_publish l i r n v lt at n_lt in_made e =
       let is = (lane p l).instructions in
-      let long : length (made u (take (suc i) is)) ≡ length (made u (take i is)) + length (outputs u r) =
+      let long : length (made u (take (suc i) is))
+      ≡ length (made u (take i is)) + length (outputs u r) =
       ap length (made-publish u is i r at
       ∙ ap (λ xs. made u (take i is) ++ xs) (append-nil (outputs u r)))
       ∙ length-append (made u (take i is)) (outputs u r) in
@@ -170,7 +172,8 @@ module _ (u : Universe) (p : Plan) (x : Clocks) (keeps : KeepsClocks u p x) wher
       by h k r m h_lt at out (inl same_lane) n_lt =
           own_output h k r (suc m) n v h_lt at (some_below_length (outputs u r) m c out) (rw
           (eq-eqb h j same_lane, ← same_lane) at n_lt)
-          (subst (λ g. n < length (lane_outputs u (lane p g))) (sym same_lane) in_made) (subst (λ g. same
+          (subst (λ g. n < length (lane_outputs u (lane p g))) (sym same_lane) in_made)
+          (subst (λ g. same
           (get_or (lane_outputs u (lane p g)) n no_variant) v ≡ true) (sym same_lane) e)
       by h k r m h_lt at out (inr other) n_lt = inl (in_rows h k j n v lt (rw
           (ne_eqb h j other) at n_lt) in_made e)
@@ -193,7 +196,8 @@ module _ (u : Universe) (p : Plan) (x : Clocks) (keeps : KeepsClocks u p x) wher
       → (clock_rows u p x l (row_before p l i y) v ≡ true)
       ⊎ Adds u p (clock_rows u p x) l i v y
   adds l i j n v (Publish r) lt j_lt at a in_made e =
-      own_publish l i r n v lt at a.1 (subst (λ g. n < length (lane_outputs u (lane p g))) a.0 in_made)
+      own_publish l i r n v lt at a.1
+      (subst (λ g. n < length (lane_outputs u (lane p g))) a.0 in_made)
       (subst (λ g. same (get_or (lane_outputs u (lane p g)) n no_variant) v ≡ true) a.0 e)
   adds l i j n v (Wait entry) lt j_lt at a in_made e = inr (
     reached l i j n v j_lt a.0 in_made e,

@@ -70,7 +70,8 @@ module _ (u : Universe) (p : Plan) where
         (λ v. ap (λ b. so_far n v || b)
         (first-made n count os v are ∙ ap (λ k. contains (take k (lane_outputs u (lane p n))) v) is)
         ∙ swapped (start v) _ _
-        ∙ ap (λ k. start v || some_below k (λ j. contains (take (x j) (lane_outputs u (lane p j))) v))
+        ∙ ap (λ k. start v || some_below k
+        (λ j. contains (take (x j) (lane_outputs u (lane p j))) v))
         (sym (add-one n)))
         row_is
 

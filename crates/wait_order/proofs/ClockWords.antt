@@ -102,16 +102,19 @@ module _ (u : Universe) (p : Plan) (lanes : List LaneOutputs) (sound : IsUnivers
       list_any-some (λ (o : Output). same o.variant (variant n b)) (take (x at.lane) outs) at.number is.output
       (take-get (x at.lane) at.number outs is.output is.before is.is.output)
       (ap (λ w. same w (variant n b)) here ∙ same-refl (variant n b)) in
-      let made : contains (take (x at.lane) (lane_outputs u (lane p at.lane))) (variant n b) ≡ true =
+      let made : contains (take (x at.lane) (lane_outputs u (lane p at.lane))) (variant n b)
+      ≡ true =
       sym (first-made u p at.lane (x at.lane) outs (variant n b) (are.each at.lane of is.is.lane)) ∙ found in
       and_from _ _ (lt-ltb b (variants u n) (subst (IsKnown u) here known))
       (or_right (initial u (variant n b)) _
-      (some_below-at (length p) (λ j. contains (take (x j) (lane_outputs u (lane p j))) (variant n b)) at.lane
+      (some_below-at (length p)
+      (λ j. contains (take (x j) (lane_outputs u (lane p j))) (variant n b)) at.lane
       (omega (arith, lt, are.long)) made))
 
   -- what is in the row, and not from the start, is an output that counts and is listed
   counted_back : (lists : List (List OutputPlace)) → AreListed lists lanes (length lanes) → (n b : ℕ)
-      → some_below (length p) (λ j. contains (take (x j) (lane_outputs u (lane p j))) (variant n b)) ≡ true
+      → some_below (length p) (λ j. contains (take (x j) (lane_outputs u (lane p j))) (variant n b))
+      ≡ true
       → (m : ℕ) × (at : OutputPlace) × (slice_get (slice_index_or lists n []) m ≡ Some at)
       × IsCounted lanes x at n b
   counted_back lists listed n b some =

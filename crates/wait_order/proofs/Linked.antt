@@ -95,7 +95,8 @@ module _ (u : Universe) (p : Plan) (sound : IsSound u p) (ps : List Point)
                   | inl later ↦
                       let next = count-next u p h k (Publish r) at in
                       let up = count-mono u p h (suc k) first.is.place later in
-                      let g = ap (λ z. outputs_before u (lane p z) first.is.place 0) first.of_lane in
+                      let g = ap (λ z. outputs_before u (lane p z) first.is.place 0) first.of_lane
+                      in
                       absurd (omega (arith, next, up, g, first.is.count, first.early, long))
                   | inr fine ↦ fine
                 ] in

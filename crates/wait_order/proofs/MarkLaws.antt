@@ -35,7 +35,8 @@ marks_of-long _ l i own last = refl
 
 module _ (u : Universe) (p : Plan) where
   at-is : (l i : ℕ) (x : Instruction) → instruction_at p l i ≡ Some x
-      → lane_marks u p l (suc i) ≡ lane_marks u p l i ++ marks_of x l i (outputs_before u (lane p l) i 0)
+      → lane_marks u p l (suc i) ≡ lane_marks u p l i ++ marks_of x l i
+      (outputs_before u (lane p l) i 0)
       (last_point p l i)
   at-is l i x at = ap (λ o. lane_marks u p l i ++ marks_at u p l i o) at
 
@@ -73,7 +74,15 @@ module _ (u : Universe) (p : Plan) where
       let b = length-append (outputs_with_points u p l i) (map (output_with (last_point p l i))
       (outputs_of u x.0)) in
       let c = length-map (outputs_of u x.0) (output_with (last_point p l i)) in
-      omega (arith, a, b, c, count-next u p l i x.0 x.1, outputs_with_points-long l i (omega (arith, le)))
+      omega (
+        arith,
+        a,
+        b,
+        c,
+        count-next u p l i x.0 x.1,
+        outputs_with_points-long l i
+            (omega (arith, le)),
+      )
 
   -- one more instruction of a lane, with all that is kept on the way
   pub record IsPassed (l i : ℕ) (marks : List Mark) (outs : List Output) (last : LastPoints)
@@ -93,7 +102,8 @@ module _ (u : Universe) (p : Plan) where
       subst (λ k. IsPassed l k next_marks next_outs next_last)
       (let e : suc i ≡ i + 1 = omega arith in e) (record {
         marks_are = marks_e ∙ ap (λ n. marks ++ marks_of x l i n last.here) own
-            ∙ ap (λ (o : LastPoints). marks ++ marks_of x l i (outputs_before u (lane p l) i 0) o.here)
+            ∙ ap (λ (o : LastPoints). marks ++ marks_of x l i (outputs_before u (lane p l) i 0)
+            o.here)
             so_far.last_is
             ∙ ap (λ ws. ws ++ new) so_far.marks_are
             ∙ append_assoc (all_marks u p l) (lane_marks u p l i) new

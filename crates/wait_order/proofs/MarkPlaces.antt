@@ -106,7 +106,8 @@ module _ (u : Universe) (p : Plan) where
     pub is : mark ≡ mark_at u p l at_place
 
   one_mark : (l i k : ℕ) (x : Instruction) (mark : Mark) → instruction_at p l i ≡ Some x
-      → slice_get (marks_of x l i (outputs_before u (lane p l) i 0) (last_point p l i)) k ≡ Some mark
+      → slice_get (marks_of x l i (outputs_before u (lane p l) i 0) (last_point p l i)) k ≡ Some
+      mark
       → Asks u x × (k ≡ 0) × (mark ≡ mark_at u p l i)
   one_mark l i zero (Wait e) mark at h =
       (record { test = satisfies_entry u e; is = refl }, refl, sym (same_Some _ mark h))

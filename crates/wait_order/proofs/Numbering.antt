@@ -84,7 +84,8 @@ last-in p l i lt =
 -- outputs before the next place
 pub count-next : (u : Universe) (p : Plan) (l i : ℕ) (x : Instruction)
     → instruction_at p l i ≡ Some x
-    → outputs_before u (lane p l) (suc i) 0 ≡ outputs_before u (lane p l) i (length (outputs_of u x))
+    → outputs_before u (lane p l) (suc i) 0 ≡ outputs_before u (lane p l) i
+    (length (outputs_of u x))
 count-next u p l i x at =
     let is = (lane p l).instructions in
     let next = ap (λ xs. length (made u xs)) (take_some is i x at)

@@ -45,7 +45,8 @@ possible_row u p l i x own all v =
       | inr other ↦
           (rw (ne_eqb j l other) refl)
           ∙ given-made u (lane p j).instructions v
-          ∙ ap (λ vs. contains vs v) (sym (take_all (x j) (lane_outputs u (lane p j)) (all j lt other)))
+          ∙ ap (λ vs. contains vs v)
+          (sym (take_all (x j) (lane_outputs u (lane p j)) (all j lt other)))
     ]))
 
 -- a clock that counts the own outputs so far, and all of the other lanes

@@ -83,7 +83,8 @@ module _ (u : Universe) (p : Plan) (h : ℕ) (outs : List Output)
       let same : o ≡ output_with (last_point p h a.place) v =
       same_Some o (output_with (last_point p h a.place) v)
       (sym at ∙ ap (λ os. slice_get os n) outs_are
-      ∙ ap (slice_get (outputs_with_points u p h (length (lane p h).instructions))) a.counted ∙ got) in
+      ∙ ap (slice_get (outputs_with_points u p h (length (lane p h).instructions))) a.counted ∙ got)
+      in
       record {
         place = a.place;
         recipe = a.recipe;
@@ -153,7 +154,8 @@ module _ (u : Universe) (p : Plan) (h : ℕ) (outs : List Output)
               let k_lt = slice_get_within (lane p h).instructions k (Publish r) at in
               let got = ap (λ os. slice_get os (outputs_before u (lane p h) k m)) outs_are
               ∙ output-get u p h (length (lane p h).instructions) k r m c (omega arith) k_lt at out in
-              let miss = none (outputs_before u (lane p h) k m) (output_with (last_point p h k) c) below
+              let miss = none (outputs_before u (lane p h) k m) (output_with (last_point p h k) c)
+              below
               got in
               let has = row_is.set c.name c.bit ∙ and_from _ _ (lt-ltb c.bit (variants u c.name) (known_out r m c out)) sat in
               absurd (both_ways _ miss has)

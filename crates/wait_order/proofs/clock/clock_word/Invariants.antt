@@ -6,5 +6,6 @@ use Rattle.wait_order.proofs.clock.clock_word.Given as goal
 -- the places so far
 abbrev pub invariant-loop-k : goal.invariant-loop-k
 invariant-loop-k l =
-    IsWordSoFar l.known.lanes.now (count_of l.clock) l.places l.name (slice_index l.known.universe.now.initial l.name)
+    IsWordSoFar l.known.lanes.now (count_of l.clock) l.places l.name
+    (slice_index l.known.universe.now.initial l.name)
     l.k l.word

@@ -6,7 +6,8 @@ use Rattle.wait_order.proofs.first_hits.first_hits.Goals as goal
 
 pub loop-name-init : goal.loop-name-init
 loop-name-init c =
-    so_far_start c.args.row.now c.args.known.lanes.now c.in_ok-firsts.firsts.items c.skip-name.result
+    so_far_start c.args.row.now c.args.known.lanes.now c.in_ok-firsts.firsts.items
+    c.skip-name.result
     c.in_ok-firsts.ensures.long c.in_ok-firsts.ensures.ends c.skip-name.ensures.inside
     c.skip-name.ensures.none
 
@@ -28,6 +29,7 @@ loop-name-preserved c =
 
 pub returns : goal.returns
 returns c =
-    all_looked_at c.args.row.now c.args.known.lanes.now c.args.known.universe.now c.loop-name.firsts.items
+    all_looked_at c.args.row.now c.args.known.lanes.now c.args.known.universe.now
+    c.loop-name.firsts.items
     c.loop-name.name c.args.known.known c.requires.long
     (omega (arith, c.loop-name-test.false, c.len.ensures)) c.loop-name.invariant

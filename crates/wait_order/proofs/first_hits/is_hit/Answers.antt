@@ -15,10 +15,12 @@ has-requires-clause-named c =
     let n = c.args.place.number in
     let known =
     known_at c.args.known.lanes.now c.args.place.lane n c.index-known-place.result outs none
-    c.as_slice-outputs.ensures.value (omega (arith, c.if-place-known.false)) c.args.known.universe.now
+    c.as_slice-outputs.ensures.value (omega (arith, c.if-place-known.false))
+    c.args.known.universe.now
     c.args.known.known (omega (arith, c.if-place-outputs.false)) in
     let there =
-    named c.args.known.universe.now (get_or outs n none).variant.name (get_or outs n none).variant.bit
+    named c.args.known.universe.now (get_or outs n none).variant.name
+    (get_or outs n none).variant.bit
     known in
     omega (arith, there, c.requires)
 
@@ -29,7 +31,8 @@ has-requires-clause-within c =
     let n = c.args.place.number in
     let known =
     known_at c.args.known.lanes.now c.args.place.lane n c.index-known-place.result outs none
-    c.as_slice-outputs.ensures.value (omega (arith, c.if-place-known.false)) c.args.known.universe.now
+    c.as_slice-outputs.ensures.value (omega (arith, c.if-place-known.false))
+    c.args.known.universe.now
     c.args.known.known (omega (arith, c.if-place-outputs.false)) in
     omega (arith, known, c.args.known.sound.few (get_or outs n none).variant.name)
 

@@ -17,7 +17,8 @@ loop-number-preserved c =
       marks = c.in_ok-walk_lane.ensures.marks;
       long = omega (arith, c.in_ok-push.ensures.len, so_far.long);
       each = each_next
-          (λ k (w : LaneOutputs). w.outputs.items ≡ outputs_with_points u p k (length (lane p k).instructions))
+          (λ k (w : LaneOutputs). w.outputs.items ≡ outputs_with_points u p k
+          (length (lane p k).instructions))
           lanes more c.loop-number.number of c.in_ok-push.ensures.items so_far.long so_far.each
           c.in_ok-walk_lane.ensures.outputs;
       past = each_next

@@ -18,7 +18,8 @@ loop-place-preserved c =
     read_at p l c.instructions-instructions.result.now i c.index-instructions-place.result xs
     c.loop-place-test.true c.index-instructions-place.is in
     let so_far = c.loop-place.invariant.passed in
-    let long = outputs_with_points-long u p l i (omega (arith, c.loop-place-test.true, ap length xs)) in
+    let long = outputs_with_points-long u p l i
+    (omega (arith, c.loop-place-test.true, ap length xs)) in
     record {
       passed = passed u p l i c.index-instructions-place.result c.loop-place.marks.items
           c.pass.new.marks.items c.loop-place.outputs.items c.pass.new.outputs.items

@@ -19,7 +19,8 @@ loop-number-preserved c u p are =
     let of = get_or lanes n c.index-lanes-number.result in
     let made : length of.outputs.items ≡ length (lane_outputs u (lane p n)) =
     outs-long u p n of.outputs.items
-    (are.each n of (slice_get-get_or lanes n c.index-lanes-number.result c.loop-number-test.true)) in
+    (are.each n of (slice_get-get_or lanes n c.index-lanes-number.result c.loop-number-test.true))
+    in
     let before = c.loop-number.totals.items in
     subst (AreTotals u p (n + 1))
     (sym (c.in_ok-push.ensures.items ∙ ap (λ xs. before ++ xs ∷ []) c.in_ok-one.ensures))
