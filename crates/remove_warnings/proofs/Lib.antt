@@ -1,2 +1,3 @@
 pub mod LeftLaws
 pub mod HazardLaws
+pub mod HitLaws

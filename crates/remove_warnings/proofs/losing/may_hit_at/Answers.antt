@@ -2,7 +2,8 @@ use Rattle.std.proofs.Common.{sym, ap, ◌∙◌}
 use Rattle.clause_kernel.specs.Rows.{word_has}
 use Rattle.farm_model.specs.Packages.{variant, satisfies_entry}
 use Rattle.plan_model.specs.May.{Bits, some_of}
-use Rattle.may_rows.proofs.Bridges.{hit_at_is, hold-is}
+use Rattle.may_rows.proofs.Bridges.{hold-is}
+use Rattle.remove_warnings.proofs.HitLaws.{hit_at_is}
 use Rattle.remove_warnings.proofs.losing.may_hit_at.Goals as goal
 
 pub returns : goal.returns
