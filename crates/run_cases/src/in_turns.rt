@@ -14,7 +14,7 @@ use lane_runner::{LaneTurns, Turn};
 use plan_verifier::{Accepted, check};
 use std::alloc::Global;
 use std::test::Fail;
-use word_archive::{LaneSeat, LaneSeats, SharedArchive};
+use word_archive::{Closed, LaneSeat, LaneSeats, SharedArchive};
 
 // The lanes and the names, by number.
 const A: u32 = 0;
@@ -230,16 +230,22 @@ fn takes_turns(rt: HostRuntime) -> Result<(), Fail> {
     Ok(())
 }
 
+/// The serial that a lane draws, and the archive that it then leaves.
+fn closed_behind_a_draw(alloc: Global, accepted: &Accepted) -> Option<(u64, Closed)> {
+    let (archive, seats) = SharedArchive::open(alloc, accepted).ok()?;
+    let (serial, seats) = leave_drawn(alloc, accepted, &archive, seats)?;
+    let closed = archive.close(alloc, seats).ok()?;
+    Some((serial, closed))
+}
+
 // A lane that goes no further once it has drawn a serial has published nothing.
 #[test]
 fn stops_behind_a_draw(rt: HostRuntime) -> Result<(), Fail> {
     let accepted = check(&rt, rt.alloc(), PACKAGES, SOURCES, FARM, PLAN)?;
-    let (archive, seats) = SharedArchive::open(rt.alloc(), &accepted)?;
-    let Some((serial, seats)) = leave_drawn(rt.alloc(), &accepted, &archive, seats) else {
+    let Some((serial, closed)) = closed_behind_a_draw(rt.alloc(), &accepted) else {
         panic!(rt; "there are no two lanes");
     };
     assert_eq!(rt; serial, 0);
-    let closed = archive.close(rt.alloc(), seats)?;
     assert_eq!(rt; closed.words.as_slice(), [1, 0, 0].as_slice());
     assert_eq!(rt; closed.history.len(), 0);
     Ok(())

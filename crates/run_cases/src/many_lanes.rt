@@ -1,12 +1,13 @@
 //! Eight lanes, each of which but the last needs what the next one publishes.
 
 use farm_archive::Publication;
-use farm_executor::{Bell, run_farm};
+use farm_executor::{Bell, FarmRun, run_farm};
 use lane_runner::{Gate, Go, LaneArchive};
 use plan_verifier::{Accepted, check};
 use std::alloc::{AllocError, Global};
 use std::sync::{Condvar, Mutex, Wait};
 use std::test::Fail;
+use std::thread::Threads;
 
 const PACKAGES: &[u8] =
     b"Package: base\nVersion: 1\nInstalled-Size: 1\n\nPackage: p0\nVersion: 1\nInstalled-Size: 1\n\nPackage: p1\nVersion: 1\nInstalled-Size: 1\n\nPackage: p2\nVersion: 1\nInstalled-Size: 1\n\nPackage: p3\nVersion: 1\nInstalled-Size: 1\n\nPackage: p4\nVersion: 1\nInstalled-Size: 1\n\nPackage: p5\nVersion: 1\nInstalled-Size: 1\n\nPackage: p6\nVersion: 1\nInstalled-Size: 1\n\nPackage: p7\nVersion: 1\nInstalled-Size: 1\n";
@@ -79,13 +80,22 @@ impl<R: Wait> Gate for InTurn<'_, R> {
     }
 }
 
+/// Runs the lanes to their ends, each held until the next one has begun.
+fn run_in_turn(
+    rt: &(impl Threads + Wait + Sync),
+    alloc: Global,
+    accepted: Accepted,
+) -> Option<FarmRun> {
+    let gate = InTurn::new(rt, alloc, 8).ok()?;
+    run_farm(rt, alloc, accepted, &gate).ok()
+}
+
 // Each lane begins while the ones before it are held, and what they publish comes from the last to
 // the first.
 #[test]
 fn each_lane_has_a_thread(rt: HostRuntime) -> Result<(), Fail> {
     let accepted = check(&rt, rt.alloc(), PACKAGES, SOURCES, FARM, PLAN)?;
-    let gate = InTurn::new(&rt, rt.alloc(), 8)?;
-    let Ok(run) = run_farm(&rt, rt.alloc(), accepted, &gate) else {
+    let Some(run) = run_in_turn(&rt, rt.alloc(), accepted) else {
         panic!(rt; "the run has no end");
     };
     assert_eq!(rt; run.spent.as_slice(), [4, 4, 4, 4, 4, 4, 4, 2].as_slice());
