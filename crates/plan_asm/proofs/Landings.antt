@@ -1,6 +1,7 @@
 -- The next `else` and the next `end`, instruction by instruction.
 use Rattle.std.proofs.Common.{◌≡◌, ℕ, zero, suc, ◌+◌, ◌<◌, ◌≤◌, true, false, List, [], ◌∷◌, length, drop, refl, sym, ap, ◌∙◌, arith}
 use Rattle.std.specs.Prelude.{slice_index_or}
+use Rattle.std.proofs.Math.ListN.{drop_of_length-le}
 use Rattle.plan_model.specs.declared.instructions.Instruction.{Instruction}
 use Rattle.plan_model.specs.declared.instructions.Instruction.TheVariants.{Otherwise, EndWhen}
 use Rattle.plan_model.specs.Branches.{past_else, past_end, landing_before, landing}
@@ -60,18 +61,11 @@ module _ (xs : List Instruction) (k : ℕ) (x : Instruction) (lt : k < length xs
   end-next e = ap (λ ys. past_end ys k) (drop-at xs k x lt here)
       ∙ end-past x (drop (k + 1) xs) k e
 
--- past the last instruction there is none
-pub drop-end : (xs : List Instruction) (k : ℕ) → length xs ≤ k → drop k xs ≡ []
-drop-end [] zero le = refl
-drop-end [] (suc k) le = refl
-drop-end (y ∷ ys) zero le = absurd (omega (arith, le))
-drop-end (y ∷ ys) (suc k) le = drop-end ys k (omega (arith, le))
-
 -- where a lane that comes to a place goes on
 module _ (xs : List Instruction) (k : ℕ) where
   pub land-past : length xs ≤ k → k ≡ landing xs k
   unfolding landing
-  land-past le = sym (ap (λ ys. landing_before ys k) (drop-end xs k le))
+  land-past le = sym (ap (λ ys. landing_before ys k) (drop_of_length-le xs le))
 
   module _ (x : Instruction) (lt : k < length xs) (here : x ≡ slice_index_or xs k x) where
     before : landing xs k ≡ landing_before (x ∷ drop (k + 1) xs) k

@@ -8,6 +8,7 @@ pub mod FormLaws
 pub mod Kept
 pub mod Places
 pub mod Publishes
+pub mod RecipeLaws
 pub mod TableLaws
 pub mod Tallies
 pub mod TextLaws

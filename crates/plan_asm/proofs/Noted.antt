@@ -7,13 +7,10 @@ use Rattle.plan_asm.specs.Drafts.{Block, InLane, instructions_of, noted, publish
 use Rattle.plan_asm.specs.SectionView.{IsTallied}
 use Rattle.plan_asm.proofs.AssemblyLaws.{lane-over}
 use Rattle.plan_asm.proofs.Publishes.{published-append}
-use Rattle.plan_asm.proofs.Tallies.{fails-then}
+use Rattle.plan_asm.proofs.Tallies.{err-never, fails-then}
 use Rattle.plan_model.specs.declared.instructions.Instruction.{Instruction}
 use Rattle.plan_model.specs.Plan.{Lane}
 use Rattle.plan_model.specs.Sound.{has_double}
-
-err-never : (e : ℕ) (ys : List ℕ) → (let r : Result (List ℕ) ℕ = Err e in r ≡ Ok ys) → ⊥
-err-never e ys is = cc
 
 code-same : (e f : ℕ) → (let r : Result (List ℕ) ℕ = Err e in r ≡ Err f) → e ≡ f
 code-same e f is = cc

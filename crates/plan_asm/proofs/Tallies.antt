@@ -39,7 +39,7 @@ add-fails refusal e bs ls line l xs rs is fails =
 ok-same : (xs ys : List ℕ) → (let r : Result (List ℕ) ℕ = Ok xs in r ≡ Ok ys) → xs ≡ ys
 ok-same xs ys is = cc
 
-err-never : (e : ℕ) (ys : List ℕ) → (let r : Result (List ℕ) ℕ = Err e in r ≡ Ok ys) → ⊥
+pub err-never : (e : ℕ) (ys : List ℕ) → (let r : Result (List ℕ) ℕ = Err e in r ≡ Ok ys) → ⊥
 err-never e ys is = cc
 
 once-is : (rs found : List ℕ) → published_once rs ≡ Ok found

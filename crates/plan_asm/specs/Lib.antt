@@ -11,3 +11,4 @@ pub mod SectionView
 pub mod Seen
 pub mod Listing
 pub mod Landings
+pub mod RecipeNumbers

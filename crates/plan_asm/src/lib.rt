@@ -13,6 +13,7 @@ mod names;
 mod plan;
 mod print;
 mod reader;
+mod recipe_numbers;
 mod side;
 
 pub use error::{

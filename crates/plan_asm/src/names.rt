@@ -5,7 +5,8 @@ ghost use Rattle.deb_text.specs.Answers.{Gives};
 ghost use Rattle.deb_text.specs.Steps.{traverse};
 ghost use Rattle.deb_text.specs.Words.{words};
 ghost use Rattle.farm_model.specs.Packages.{names};
-ghost use Rattle.plan_asm.specs.Drafts.{known_name, known_base, known_recipe, set_of, instruction_of};
+ghost use Rattle.plan_asm.specs.Drafts.{known_name, known_base, known_recipe, recipe_names, set_of, instruction_of};
+ghost use Rattle.plan_asm.specs.RecipeNumbers.{AreFirsts};
 ghost use Rattle.plan_model.specs.Sound.{has_double};
 ghost use Rattle.plan_asm.specs.Seen.{Marks};
 ghost use Rattle.plan_asm.specs.LineErrors.{refusal_of_line};
@@ -16,8 +17,20 @@ use crate::form::Wording;
 use deb_profile::{ProfileSet, reduce_entry};
 use deb_text::next_word;
 use farm_universe::Universe;
+use indexmap::IndexMap;
 use plan_model::{Instruction, Members};
 use std::alloc::{AllocError, Global};
+
+/// The most names that are compared with each other.
+const FEW: usize = 64;
+
+/// A universe, and its recipes by their names.
+#[derive(Clone, Copy)]
+pub struct Names<'a> {
+    pub universe: &'a Universe,
+    pub recipes: &'a IndexMap<Vec<u8>, u32>,
+    ghost listed: { AreFirsts (recipe_names universe.now) recipes.now.entries },
+}
 
 /// The number of a package's name.
 ///
@@ -57,16 +70,14 @@ pub fn known_base(universe: &Universe, word: &[u8]) -> Result<u32, LineError>
 ///
 /// [`UnknownName`](LineError::UnknownName).
 #[tactic(auto, unfolding(crate::specs::Drafts::known_recipe))]
-fn known_recipe(universe: &Universe, word: &[u8]) -> Result<u32, LineError>
+fn known_recipe(names: Names<'_>, word: &[u8]) -> Result<u32, LineError>
     ensures { Gives refusal_of_line (λ recipe. recipe) result
-        (known_recipe universe.now word.now) }
+        (known_recipe names.entry.universe.now word.now) }
 {
-    for recipe in 0..universe.recipes() {
-        if word == universe.recipe(recipe).name() {
-            return Ok(recipe);
-        }
+    match names.recipes.get(word) {
+        Some(recipe) => Ok(*recipe),
+        None => Err(LineError::UnknownName),
     }
-    Err(LineError::UnknownName)
 }
 
 fn known_names(alloc: Global, universe: &Universe, text: &[u8]) -> Result<Vec<u32>, LineError>
@@ -99,10 +110,26 @@ fn finds_double(numbers: &[u32], seen: &mut [bool]) -> bool
     false
 }
 
+/// Tells whether a number stands twice, by comparing each with those behind it.
+fn stands_twice(numbers: &[u32]) -> bool
+    ensures { result ≡ has_double numbers.now }
+{
+    for i in 0..numbers.len() {
+        if numbers[i + 1..].contains(&numbers[i]) {
+            return true;
+        }
+    }
+    false
+}
+
 fn has_double(alloc: Global, numbers: &[u32], bound: u32) -> Result<bool, AllocError>
     requires { All (λ n. n < bound) numbers.now }
     ensures { IfOk result (λ answer. answer ≡ has_double numbers.now) }
 {
+    // most sets are small, and a mark for each name costs more than to compare them
+    if numbers.len() <= FEW {
+        return Ok(stands_twice(numbers));
+    }
     let mut seen = vec![in alloc; false; bound as usize]?;
     Ok(finds_double(numbers, &mut seen))
 }
@@ -133,26 +160,27 @@ fn read_set(alloc: Global, universe: &Universe, names: &[u8]) -> Result<Members,
 #[tactic(auto, unfolding(crate::specs::Drafts::instruction_of))]
 pub fn read_instruction(
     alloc: Global,
-    universe: &Universe,
+    names: Names<'_>,
     wording: Wording<'_>,
 ) -> Result<Instruction, LineError>
     ensures { Gives refusal_of_line (λ instruction. instruction) result
-        (instruction_of universe.now (wording_of wording.entry)) }
+        (instruction_of names.entry.universe.now (wording_of wording.entry)) }
 {
+    let universe = names.universe;
     match wording {
         Wording::Unpack { name, relation } => Ok(Instruction::Unpack {
             name: known_name(universe, &name)?,
             relation,
         }),
-        Wording::Configure(names) => {
-            Ok(Instruction::Configure(read_set(alloc, universe, names)?))
+        Wording::Configure(words) => {
+            Ok(Instruction::Configure(read_set(alloc, universe, words)?))
         }
-        Wording::Deconfigure(names) => {
-            Ok(Instruction::Deconfigure(read_set(alloc, universe, names)?))
+        Wording::Deconfigure(words) => {
+            Ok(Instruction::Deconfigure(read_set(alloc, universe, words)?))
         }
-        Wording::Remove(names) => Ok(Instruction::Remove(read_set(alloc, universe, names)?)),
-        Wording::Build(recipe) => Ok(Instruction::Build(known_recipe(universe, recipe)?)),
-        Wording::Publish(recipe) => Ok(Instruction::Publish(known_recipe(universe, recipe)?)),
+        Wording::Remove(words) => Ok(Instruction::Remove(read_set(alloc, universe, words)?)),
+        Wording::Build(recipe) => Ok(Instruction::Build(known_recipe(names, recipe)?)),
+        Wording::Publish(recipe) => Ok(Instruction::Publish(known_recipe(names, recipe)?)),
         Wording::Wait(entry) => {
             let none = ProfileSet::none(alloc);
             let left = reduce_entry(alloc, &entry, universe.arch_names(), &none)?;

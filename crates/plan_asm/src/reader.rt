@@ -18,8 +18,9 @@ ghost use Rattle.plan_asm.specs.View.{form_of, wording_of};
 use crate::assembly::Assembly;
 use crate::error::{FILE, LineError, NO_PLAN};
 use crate::form::{Form, LaneHead, Wording, read_form};
-use crate::names::{known_base, read_instruction};
+use crate::names::{Names, known_base, read_instruction};
 use crate::plan::Plan;
+use crate::recipe_numbers::recipe_numbers;
 use crate::side::Side;
 use deb_stanza::{Lines, plain_lines};
 use deb_text::{Fault, is_head};
@@ -126,18 +127,18 @@ fn put(
 /// Puts an instruction into what is open, where it may stand.
 fn take_instruction(
     alloc: Global,
-    universe: &Universe,
+    names: Names<'_>,
     number: u32,
     before: &mut Reading,
     wording: Wording<'_>,
 ) -> Result<(), LineError>
     ensures { Gives refusal_of_line (λ _. before.new) result
-        (take_instruction universe.now number before.old (wording_of wording.entry)) }
+        (take_instruction names.entry.universe.now number before.old (wording_of wording.entry)) }
 {
     if !before.draft.is_open() || !before.side.may_say(&wording) {
         return Err(LineError::BadLine);
     }
-    let instruction = read_instruction(alloc, universe, wording)?;
+    let instruction = read_instruction(alloc, names, wording)?;
     put(alloc, number, before, instruction)
 }
 
@@ -155,21 +156,27 @@ fn outside(draft: Assembly) -> Reading
 #[tactic(auto, unfolding(crate::specs::Drafts::take_form))]
 fn take_section(
     alloc: Global,
-    universe: &Universe,
+    names: Names<'_>,
     number: u32,
     mut before: Reading,
     form: Form<'_>,
 ) -> Result<Reading, LineError>
     ensures { Gives refusal_of_line (λ next. next) result
-        (take_form universe.now number before (form_of form.entry)) }
+        (take_form names.entry.universe.now number before (form_of form.entry)) }
 {
     match form {
         Form::Block(name) => Ok(outside(take_block(alloc, number, before.draft, name)?)),
-        Form::Lane(head) => Ok(outside(take_lane(alloc, universe, number, before.draft, head)?)),
+        Form::Lane(head) => Ok(outside(take_lane(
+            alloc,
+            names.universe,
+            number,
+            before.draft,
+            head,
+        )?)),
         Form::End => take_end(alloc, before),
         Form::Use(name) => take_use(alloc, before, name),
         Form::Instruction(wording) => {
-            take_instruction(alloc, universe, number, &mut before, wording)?;
+            take_instruction(alloc, names, number, &mut before, wording)?;
             Ok(before)
         }
     }
@@ -192,19 +199,19 @@ fn put_back(so_far: &mut Reading, next: Reading)
 #[tactic(auto, unfolding(crate::specs::Drafts::take_form))]
 fn take_form(
     alloc: Global,
-    universe: &Universe,
+    names: Names<'_>,
     number: u32,
     so_far: &mut Reading,
     form: Form<'_>,
 ) -> Result<(), LineError>
     ensures { Gives refusal_of_line (λ _. so_far.new) result
-        (take_form universe.now number so_far.old (form_of form.entry)) }
+        (take_form names.entry.universe.now number so_far.old (form_of form.entry)) }
 {
     if let Form::Instruction(wording) = form {
-        return take_instruction(alloc, universe, number, so_far, wording);
+        return take_instruction(alloc, names, number, so_far, wording);
     }
     let before = taken(alloc, so_far);
-    match take_section(alloc, universe, number, before, form) {
+    match take_section(alloc, names, number, before, form) {
         Ok(next) => {
             put_back(so_far, next);
             Ok(())
@@ -216,43 +223,43 @@ fn take_form(
 #[tactic(auto, unfolding(crate::specs::PlanText::take_text))]
 fn take_text(
     alloc: Global,
-    universe: &Universe,
+    names: Names<'_>,
     number: u32,
     so_far: &mut Reading,
     line: &[u8],
 ) -> Result<(), LineError>
     ensures { Gives refusal_of_line (λ _. so_far.new) result
-        (take_text universe.now number so_far.old line.now) }
+        (take_text names.entry.universe.now number so_far.old line.now) }
 {
     let form = read_form(alloc, line)?;
-    take_form(alloc, universe, number, so_far, form)
+    take_form(alloc, names, number, so_far, form)
 }
 
 fn take_line(
     alloc: Global,
-    universe: &Universe,
+    names: Names<'_>,
     so_far: &mut Reading,
     number: u32,
     line: &[u8],
 ) -> Result<(), Fault>
     ensures { Gives refusal_of (λ _. so_far.new) result
-        (take_line universe.now so_far.old (number, line.now)) }
+        (take_line names.entry.universe.now so_far.old (number, line.now)) }
 {
-    match take_text(alloc, universe, number, so_far, line) {
+    match take_text(alloc, names, number, so_far, line) {
         Ok(()) => Ok(()),
         Err(error) => Err(error.at(number)),
     }
 }
 
 /// What the lines behind the first one come to.
-fn read_sections(alloc: Global, universe: &Universe, lines: &Lines) -> Result<Reading, Fault>
+fn read_sections(alloc: Global, names: Names<'_>, lines: &Lines) -> Result<Reading, Fault>
     requires { 0 < length lines.now }
     ensures { Gives refusal_of (λ so_far. so_far) result
-        (reading_of universe.now (drop 1 lines.now)) }
+        (reading_of names.entry.universe.now (drop 1 lines.now)) }
 {
     let mut so_far = outside(Assembly::new(alloc));
     for i in 1..lines.count() {
-        take_line(alloc, universe, &mut so_far, lines.number(i), lines.line(i))?;
+        take_line(alloc, names, &mut so_far, lines.number(i), lines.line(i))?;
     }
     Ok(so_far)
 }
@@ -290,7 +297,12 @@ fn read_plan(alloc: Global, universe: &Universe, lines: &Lines) -> Result<Plan, 
     if !is_head(b"plan".as_slice(), lines.line(0)) {
         return Err(no_plan(lines.number(0)));
     }
-    let so_far = read_sections(alloc, universe, lines)?;
+    let recipes = recipe_numbers(alloc, universe)?;
+    let names = Names {
+        universe,
+        recipes: &recipes,
+    };
+    let so_far = read_sections(alloc, names, lines)?;
     so_far.draft.finish(universe, so_far.side)
 }
 

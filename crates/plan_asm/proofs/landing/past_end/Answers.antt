@@ -1,6 +1,7 @@
 use Rattle.std.proofs.Common.{◌≡◌, length, refl, sym, ap, ◌∙◌, arith}
+use Rattle.std.proofs.Math.ListN.{drop_of_length-le}
 use Rattle.plan_model.specs.Branches.{past_end}
-use Rattle.plan_asm.proofs.Landings.{end-here, end-next, drop-end}
+use Rattle.plan_asm.proofs.Landings.{end-here, end-next}
 use Rattle.plan_asm.proofs.landing.past_end.Goals as goal
 
 pub loop-next-init : goal.loop-next-init
@@ -23,4 +24,4 @@ returns-clause-place c =
     let last : c.loop-next.next ≡ length c.args.instructions.now =
     omega (arith, c.loop-next-test.false, c.loop-next.auto.next-end c.requires) in
     sym (c.loop-next.invariant ∙ ap (λ ys. past_end ys c.loop-next.next)
-    (drop-end c.args.instructions.now c.loop-next.next c.loop-next-test.false) ∙ last)
+    (drop_of_length-le c.args.instructions.now c.loop-next-test.false) ∙ last)

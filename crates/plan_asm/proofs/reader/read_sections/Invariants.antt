@@ -5,5 +5,5 @@ use Rattle.plan_asm.proofs.reader.read_sections.Given as goal
 
 abbrev pub invariant-loop-i : goal.invariant-loop-i
 invariant-loop-i l =
-    steps (take_line l.universe) l.so_far (drop l.i l.lines)
-    ≡ reading_of l.universe (drop 1 l.lines)
+    steps (take_line l.names.universe.now) l.so_far (drop l.i l.lines)
+    ≡ reading_of l.names.universe.now (drop 1 l.lines)
