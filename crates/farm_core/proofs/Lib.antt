@@ -1,5 +1,4 @@
 pub mod Waits
-pub mod Picks
 pub mod Taken
 pub mod Stepped
 pub mod Events

@@ -3,6 +3,7 @@ use Rattle.std.proofs.Common.{◌≡◌, inl, inr, ℕ, zero, suc, ◌<◌, true
 use Rattle.std.proofs.lemmas.Bool.{false≢true}
 use Rattle.std.proofs.lemmas.Option.{same_Some}
 use Rattle.chroot_state.specs.Held.{Held}
+use Rattle.farm_laws.proofs.Archive.{element}
 use Rattle.farm_archive.specs.declared.publication.Publication.{Publication}
 use Rattle.lane_records.specs.Records.{Record}
 use Rattle.lane_runner.specs.declared.run.LaneStop.{LaneStop}
@@ -14,13 +15,6 @@ use Rattle.farm_executor.specs.Ends.{HasNone, IsCause}
 use Rattle.farm_executor.specs.FarmRuns.{IsEndCode, IsStoppedRun}
 use Rattle.farm_executor.specs.Played.{HasRun, IsPlayed}
 use Rattle.farm_executor.proofs.Within.{within_list}
-
--- what stands at a place of a list
-pub at_list : {X : Type 0} (xs : List X) (i : ℕ) → i < length xs
-    → (x : X) × (slice_get xs i ≡ Some x)
-at_list [] i lt = absurd (omega arith)
-at_list (x ∷ xs) zero lt = (x, refl)
-at_list (x ∷ xs) (suc i) lt = at_list xs i (omega arith)
 
 module _ (a : AcceptedPlan) (gives_up : Type 0) (stops : List LaneStop) (chroots : List Held)
     (spent : List ℕ) (history : List Publication)
@@ -40,10 +34,10 @@ module _ (a : AcceptedPlan) (gives_up : Type 0) (stops : List LaneStop) (chroots
   pub of_lane : (l : ℕ) → l < length a.plan → OfLane l
   of_lane l lt =
       let lanes = played.lanes in
-      let e = at_list stops l (omega (arith, lanes.long)) in
-      let c = at_list chroots l (omega (arith, lanes.chroots_long)) in
-      let n = at_list spent l (omega (arith, lanes.spent_long)) in
-      let r = at_list played.records l (omega (arith, played.closed.stands.lanes)) in
+      let e = element stops l (omega (arith, lanes.long)) in
+      let c = element chroots l (omega (arith, lanes.chroots_long)) in
+      let n = element spent l (omega (arith, lanes.spent_long)) in
+      let r = element played.records l (omega (arith, played.closed.stands.lanes)) in
       record {
         stop = e.0;
         chroot = c.0;

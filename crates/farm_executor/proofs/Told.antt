@@ -10,12 +10,6 @@ use Rattle.farm_executor.specs.FarmRuns.{IsFault, IsStoppedRun, IsToldOf}
 use Rattle.farm_executor.specs.Played.{IsPlayed}
 use Rattle.farm_executor.proofs.Codes.{stopped_run}
 
--- what holds of an answer, from what is known of it
-pub over_ok : {T E : Type 0} (P Q : T → Type 0) (r : Result T E) → ((x : T) → P x → Q x)
-    → IfOk r P → IfOk r Q
-over_ok P Q (Ok x) h p = h x p
-over_ok P Q (Err e) h p = tt
-
 pub over_err : {T E : Type 0} (P Q : E → Type 0) (r : Result T E) → ((x : E) → P x → Q x)
     → IfErr r P → IfErr r Q
 over_err P Q (Ok x) h p = tt

@@ -3,7 +3,6 @@ pub mod Unknown
 pub mod Below
 pub mod KnownWords
 pub mod NoteLaws
-pub mod Outcomes
 pub mod Beginning
 pub mod NoteTexts
 pub mod KindLaws

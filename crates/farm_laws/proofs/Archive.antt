@@ -1,11 +1,13 @@
 -- What is in the archive: the initial variants and what the lanes have made.
-use Rattle.std.proofs.Common.{◌≡◌, ℕ, zero, suc, Bool, true, false, ◌||◌, inl, inr, List, [], ◌∷◌, ◌++◌, take, Option, Some, None, slice_get, refl, sym, ap, ◌∙◌, subst, take_all}
+use Rattle.std.proofs.Common.{◌≡◌, ℕ, zero, suc, ◌<◌, Bool, true, false, ◌||◌, inl, inr, List, [], ◌∷◌, ◌++◌, length, take, Option, Some, None, slice_get, refl, sym, ap, ◌∙◌, subst, arith, take_all}
 use Rattle.std.specs.List.{list_any}
+use Rattle.std.specs.Option.{is_some}
 use Rattle.std.proofs.Math.Bool.{or_assoc}
 pub use Rattle.std.proofs.Math.Bool.{or-false}
-use Rattle.std.proofs.lemmas.Bool.{false≢true, or_cases, or_left, or_right, and_parts, and_from, eqb-true, eq-eqb}
+use Rattle.std.proofs.lemmas.Bool.{cases_Bool, false≢true, or_cases, or_left, or_right, and_parts, and_from, eqb-true, eq-eqb}
 use Rattle.std.proofs.lemmas.List.Folds.{list_any-append}
 use Rattle.farm_model.specs.declared.types.Variant.{Variant}
+use Rattle.farm_model.specs.Below.{some_below, highest_below}
 use Rattle.farm_model.specs.Universe.{Universe}
 use Rattle.farm_model.specs.Packages.{variant, same, contains, outputs, initial}
 use Rattle.plan_model.specs.declared.instructions.Instruction.{Instruction}
@@ -41,6 +43,20 @@ list_any-some p [] i x e h = cc
 list_any-some p (y ∷ ys) zero x e h = let s : y ≡ x = cc in
     or_left (p y) _ (subst (λ z. p z ≡ true) (sym s) h)
 list_any-some p (y ∷ ys) (suc i) x e h = or_right (p y) _ (list_any-some p ys i x e h)
+
+-- an element within a list
+pub element : {X : Type 0} (xs : List X) (i : ℕ) → i < length xs → (x : X) × (slice_get xs i ≡ Some x)
+element [] i lt = absurd (omega (arith, lt))
+element (x ∷ xs) zero lt = (x, refl)
+element (x ∷ xs) (suc i) lt = element xs i (omega (arith, lt))
+
+pub some-highest : (n : ℕ) (p : ℕ → Bool) → is_some (highest_below n p) ≡ some_below n p
+some-highest zero p = refl
+some-highest (suc n) p =
+    elim (cases_Bool (p n)) [
+      | inl here ↦ rw here refl
+      | inr fails ↦ rw fails (some-highest n p)
+    ]
 
 pub same-true : (v w : Variant) → same v w ≡ true → v ≡ w
 unfolding same

@@ -1,5 +1,6 @@
 -- A lane at its beginning, and at its end.
 use Rattle.std.proofs.Common.{◌≡◌, ℕ, zero, suc, ◌<◌, ◌≤◌, List, [], ◌∷◌, length, drop, None, slice_get, refl, sym, ap, subst, ◌∙◌, arith}
+use Rattle.std.proofs.Math.ListN.{drop_of_length-le}
 use Rattle.chroot_state.specs.Held.{Held, IsHeld, opened}
 use Rattle.farm_laws.proofs.Branches.{stand-outside}
 use Rattle.farm_laws.specs.EventsLeft.{StandsAt}
@@ -47,12 +48,6 @@ get_past [] i le = refl
 get_past (x ∷ xs) zero le = absurd (omega arith)
 get_past (x ∷ xs) (suc i) le = get_past xs i (omega arith)
 
-drop_past : {X : Type 0} (xs : List X) (i : ℕ) → length xs ≤ i → drop i xs ≡ []
-drop_past [] zero le = refl
-drop_past [] (suc i) le = refl
-drop_past (x ∷ xs) zero le = absurd (omega arith)
-drop_past (x ∷ xs) (suc i) le = drop_past xs i (omega arith)
-
 -- a runner without an instruction left is where its lane's record comes to
 pub ends : (u : Universe) (p : Plan) (rows : Rows) (w : Runner) (c : Held) (r : Record)
     → IsOnWay u p rows w c r → length (lane p w.lane).instructions ≤ w.done
@@ -61,7 +56,7 @@ ends u p rows w c r on past =
     let of = lane p w.lane in
     let st = state_of w c on.built in
     let here : ready_in u p w.lane r.at ≡ st =
-    sym on.on_way ∙ ready_end u of st (drop_past of.instructions w.done past) in
+    sym on.on_way ∙ ready_end u of st (drop_of_length-le of.instructions past) in
     record {
       ends = ap (λ (s : LaneState). instruction_at p w.lane s.done) here
           ∙ get_past of.instructions w.done past;

@@ -4,6 +4,7 @@ use Rattle.std.proofs.Common.{◌≡◌, ◌⊎◌, inl, inr, ℕ, zero, suc, �
 use Rattle.std.specs.Prelude.{◌==◌}
 use Rattle.std.proofs.lemmas.Bool.{cases_lt, lt-ltb, le-ltb}
 use Rattle.chroot_state.specs.Held.{Held}
+use Rattle.farm_laws.proofs.Archive.{element}
 use Rattle.farm_archive.specs.declared.publication.Publication.{Publication}
 use Rattle.farm_laws.specs.EventsLeft.{InPlace, StandsAt}
 use Rattle.farm_laws.proofs.Safe.{Agrees, AgreesAfter}
@@ -33,11 +34,6 @@ use Rattle.lane_runner.proofs.AtStep.{place_behind, ready_is, next_is, made_is, 
 last_there : (xs : List ℕ) (x : ℕ) → slice_get (xs ++ x ∷ []) (length xs) ≡ Some x
 last_there [] x = refl
 last_there (y ∷ ys) x = last_there ys x
-
-get_there : {X : Type 0} (xs : List X) (i : ℕ) → i < length xs → (x : X) × (slice_get xs i ≡ Some x)
-get_there [] i lt = absurd (omega arith)
-get_there (x ∷ xs) zero lt = (x, refl)
-get_there (x ∷ xs) (suc i) lt = get_there xs i (omega arith)
 
 -- one more output leaves a runner in its lane
 pub given_lane : (of : Lane) (count : ℕ) (w : Runner) (cost : ℕ) (v : Runner)
@@ -74,7 +70,7 @@ module _ (u : Universe) (p : Plan) (rows : Rows) (sound : IsSound u p) (ann : Is
   output_left = made_below u p rows sound w c r on (Publish recipe) refl here
 
   output : (v : Variant) × (slice_get (outputs u recipe) w.made ≡ Some v)
-  output = get_there (outputs u recipe) w.made output_left
+  output = element (outputs u recipe) w.made output_left
 
   -- an output comes next
   pub output_next : (v : Variant) × (next_output u p w.lane r.at ≡ Some v)

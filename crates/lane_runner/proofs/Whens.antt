@@ -9,6 +9,7 @@ use Rattle.chroot_state.specs.Held.{Held}
 use Rattle.deb_relation.specs.declared.operator.Op.{Op}
 use Rattle.farm_laws.specs.EventsLeft.{InPlace}
 use Rattle.farm_laws.proofs.Safe.{Agrees}
+use Rattle.farm_laws.proofs.Archive.{some-highest}
 use Rattle.farm_model.specs.Below.{some_below, highest_below}
 use Rattle.farm_model.specs.Packages.{variant, variants, is_wanted, word_has}
 use Rattle.farm_model.specs.Universe.{Universe}
@@ -25,15 +26,6 @@ use Rattle.plan_model.specs.Turn.{LaneState, has_wanted, past_when}
 use Rattle.lane_runner.specs.OnWay.{state_of, gone_to, branch_place, IsOnWay}
 use Rattle.lane_runner.specs.declared.runner.Runner.{Runner}
 use Rattle.lane_runner.proofs.AtStep.{place_behind, place_at_else, ready_is, made_is, has_known, is_possible}
-
--- some number passes where there is a highest one
-some_highest : (n : ℕ) (p : ℕ → Bool) → is_some (highest_below n p) ≡ some_below n p
-some_highest zero p = refl
-some_highest (suc n) p =
-    elim (cases_Bool (p n)) [
-      | inl here ↦ rw here refl
-      | inr fails ↦ rw fails (some_highest n p)
-    ]
 
 module _ (u : Universe) (p : Plan) (rows : Rows) (sound : IsSound u p) (ann : IsAnnotation u p rows)
     (w : Runner) (c : Held) (r : Record) (on : IsOnWay u p rows w c r) (name : ℕ)
@@ -61,7 +53,7 @@ module _ (u : Universe) (p : Plan) (rows : Rows) (sound : IsSound u p) (ann : Is
       (λ b. word_has found b && is_wanted u wanted (variant name b))) ≡ holds
   unfolding has_wanted
   holds_is =
-      some_highest (variants u name)
+      some-highest (variants u name)
       (λ b. word_has found b && is_wanted u wanted (variant name b))
       ∙ sym (ap (λ (is : Bool). some_below (variants u name)
       (λ b. (is && word_has found b) && is_wanted u wanted (variant name b)))

@@ -1,6 +1,7 @@
 -- The events of the lanes, made one after another.
 use Rattle.std.proofs.Common.{◌≡◌, ◌≢◌, ℕ, zero, suc, ◌+◌, ◌<◌, ◌≤◌, Bool, true, false, List, [], ◌∷◌, ◌++◌, length, map, take, drop, get_or, Option, Some, None, slice_get, slice_index, slice_set, All, inl, inr, refl, sym, ap, subst, ◌∙◌, arith, length-set, get_or-set_same, get_or-set_other}
 use Rattle.std.proofs.Math.Seq.{drop-cons}
+use Rattle.std.proofs.Math.ListN.{drop_of_length-le}
 use Rattle.std.proofs.lemmas.Bool.{cases_eq, cases_lt, eq-eqb, ne_eqb, false≢true}
 use Rattle.std.proofs.lemmas.Grind.{flat_map-append}
 use Rattle.std.proofs.lemmas.List.{append-nil, map-append, get_or_past, take_all, length-map, drop-map}
@@ -108,12 +109,6 @@ module _ (u : Universe) (p : Plan) (l : ℕ) (events : List Event)
       ∙ ap (λ xs. item_of p l (get_or events n d) ∷ xs)
       (sym (drop-map (item_of p l) (suc n) events) ∙ ap (drop (suc n)) all-items)
 
-drop-past : {X : Type 0} (xs : List X) (i : ℕ) → length xs ≤ i → drop i xs ≡ []
-drop-past [] zero le = refl
-drop-past [] (suc i) le = refl
-drop-past (x ∷ xs) zero le = absurd (omega arith)
-drop-past (x ∷ xs) (suc i) le = drop-past xs i (omega arith)
-
 drop-some : {X : Type 0} (xs : List X) (i : ℕ) → i < length xs → drop i xs ≢ []
 drop-some [] i lt e = absurd (omega arith)
 drop-some (x ∷ xs) zero lt e = cc
@@ -129,7 +124,7 @@ stops-ended u p l made there lt long past =
       lanes = refl;
       makes = λ t. absurd (false≢true t);
       stops = λ f order r. ap (board_after u r.board l)
-          (r.rest l lt ∙ drop-past (lane_items u p l) (slice_index made l) past);
+          (r.rest l lt ∙ drop_of_length-le (lane_items u p l) past);
     }
 
 pub stops-waits : (u : Universe) (p : Plan) (l : ℕ) (made there next_there : List ℕ) (item : Item)
@@ -224,7 +219,7 @@ order-whole u p order made there n le none r =
       end = r.board;
       way = subst (λ xs. Reaches u (start_board u p) xs r.board) (take_all n order le) r.way;
       all_done = λ l. elim (cases_lt l (length p)) [
-        | inl lt ↦ r.rest l lt ∙ drop-past (lane_items u p l) (slice_index made l) (none l lt)
+        | inl lt ↦ r.rest l lt ∙ drop_of_length-le (lane_items u p l) (none l lt)
         | inr past ↦ get_or_past r.board.rest l [] (omega (arith, past, r.long))
       ];
     }

@@ -6,18 +6,9 @@ use Rattle.std.proofs.lemmas.List.Elements.{All-nil, All-cons}
 use Rattle.std.proofs.lemmas.Option.{none-some, same_Some, cond_some}
 use Rattle.farm_model.specs.Universe.{Universe}
 use Rattle.plan_model.specs.Order.{Item, Pass, Give, items, Board, start_board, rest_of, board_after, Reaches, IsOrder}
+use Rattle.verdict_laws.proofs.AtRest.{after_long}
 use Rattle.plan_model.specs.Plan.{Plan, Lane}
 use Rattle.plan_cert.specs.Broken.{CannotStep, IsBrokenAt}
-
--- an item leaves as many lanes as there were
-after-long : (u : Universe) (b next : Board) (l : ℕ) (is : List Item)
-    → board_after u b l is ≡ Some next → length next.rest ≡ length b.rest
-after-long u b next l [] e = absurd (none-some next e)
-after-long u b next l (Pass entry ∷ is) e =
-    let r = cond_some _ _ _ e in
-    sym (ap (λ (x : Board). length x.rest) r.1) ∙ length-set b.rest l is
-after-long u b next l (Give v ∷ is) e =
-    sym (ap (λ (x : Board). length x.rest) (same_Some _ _ e)) ∙ length-set b.rest l is
 
 -- a lane that makes an item is one of the board
 steps-within : (u : Universe) (b next : Board) (l : ℕ) → board_after u b l (rest_of b l) ≡ Some next
@@ -35,7 +26,7 @@ lanes-within u n [] b t long way = All-nil (λ l. l < n)
 lanes-within u n (l ∷ ls) b t long way =
     let within = steps-within u b way.0 l way.1 in
     All-cons (λ k. k < n) l ls (omega (arith, within, long))
-    (lanes-within u n ls way.0 t (after-long u b way.0 l (rest_of b l) way.1 ∙ long) way.2)
+    (lanes-within u n ls way.0 t (after_long u b way.0 l (rest_of b l) way.1 ∙ long) way.2)
 
 -- the lanes of an order are those of the plan
 pub order-in-plan : (u : Universe) (p : Plan) (order : List ℕ) → IsOrder u p order

@@ -227,9 +227,3 @@ exclusion u field entries noted sets x are all both =
       declaring = turned_links u (declares u field) x.declared links x.declaring.by_name
           x.declaring.by_entry from to;
     }
-
--- what holds of an Ok
-pub if_ok_on : {T E : Type 0} (P Q : T → Type 0) (r : Result T E) → ((x : T) → P x → Q x)
-    → IfOk r P → IfOk r Q
-if_ok_on P Q (Ok x) on is = on x is
-if_ok_on P Q (Err e) on is = is

@@ -16,7 +16,7 @@ use Rattle.farm_laws.proofs.Boards.{stuck_exact}
 use Rattle.verdict_laws.specs.Stuck.{is_left, lanes_left, EachRestIsExact, LanesLeftAreLeft}
 
 -- an item leaves as many lanes as there were
-after_long : (u : Universe) (b next : Board) (l : ℕ) (is : List Item)
+pub after_long : (u : Universe) (b next : Board) (l : ℕ) (is : List Item)
     → board_after u b l is ≡ Some next → length next.rest ≡ length b.rest
 after_long u b next l [] e = absurd (none-some next e)
 after_long u b next l (Pass entry ∷ is) e =

@@ -22,12 +22,9 @@ known-nothing j x s count point =
       | inr other ↦ known-other j x s other ∙ ap (count_at x) point
     ]
 
-least-le : (j : ℕ) (x : Counts) (b : ℕ) (ss : List Source) → least j x b ss ≤ b
+pub least-le : (j : ℕ) (x : Counts) (b : ℕ) (ss : List Source) → least j x b ss ≤ b
 least-le j x b [] = omega arith
 least-le j x b (s ∷ ss) = omega (arith, least-le j x (min b (known j x s)) ss)
-
-pub least-total : (j : ℕ) (x : Counts) (b : ℕ) (ss : List Source) → least j x b ss ≤ b
-least-total j x b ss = least-le j x b ss
 
 pub least-known : (j : ℕ) (x : Counts) (b : ℕ) (ss : List Source) (k : ℕ) (s : Source)
     → slice_get ss k ≡ Some s → least j x b ss ≤ known j x s

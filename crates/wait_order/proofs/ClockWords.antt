@@ -4,7 +4,7 @@ use Rattle.std.specs.Prelude.{slice_index, slice_index_or}
 use Rattle.std.proofs.lemmas.Bool.{cases_eq, or_cases, or_left, or_right, and_parts, and_from, lt-ltb}
 use Rattle.std.proofs.lemmas.Option.{same_Some, slice_get_within, get_or_from_slice_get}
 use Rattle.clause_kernel.specs.Rows.{word_has}
-use Rattle.farm_laws.proofs.Archive.{list_any-some, same-true, same-refl}
+use Rattle.farm_laws.proofs.Archive.{element, list_any-some, same-true, same-refl}
 use Rattle.farm_model.proofs.BelowLaws.{some_below-at, some_below-found}
 use Rattle.farm_model.proofs.TestLaws.{same_tests}
 use Rattle.farm_model.specs.declared.types.Variant.{Variant}
@@ -24,12 +24,6 @@ use Rattle.wait_order.proofs.ClockRows.{first-made}
 use Rattle.wait_order.proofs.HitLaws.{lanes_known}
 use Rattle.wait_order.proofs.Initial.{initial_word}
 use Rattle.wait_order.proofs.Possibly.{take-get, found-in}
-
--- an element within a list
-pub element : {X : Type 0} (xs : List X) (i : ℕ) → i < length xs → (x : X) × (slice_get xs i ≡ Some x)
-element [] i lt = absurd (omega (arith, lt))
-element (x ∷ xs) zero lt = (x, refl)
-element (x ∷ xs) (suc i) lt = element xs i (omega (arith, lt))
 
 -- the output at a place has one bit, of a variant of the universe
 pub counted_one : (lanes : List LaneOutputs) (x : ℕ → ℕ) (at : OutputPlace) (n a b : ℕ)

@@ -3,10 +3,10 @@ use Rattle.std.proofs.Common.{inl, inr, ℕ, zero, suc, ◌+◌, ◌<◌, ◌≤
 use Rattle.std.specs.List.{filter, range_with_len}
 use Rattle.std.proofs.lemmas.Bool.{cases_lt, lt-ltb, le-ltb, false≢true}
 use Rattle.std.proofs.lemmas.List.{get_or_past, length-map}
+use Rattle.std.proofs.Math.ListN.{drop_of_length-le}
 use Rattle.farm_model.specs.Universe.{Universe}
 use Rattle.farm_model.specs.Packages.{variant, variants, initial}
 use Rattle.farm_laws.proofs.Archive.{or-false}
-use Rattle.farm_laws.proofs.Branches.{drop_some}
 use Rattle.std.proofs.lemmas.List.Elements.{filter-append}
 use Rattle.plan_model.specs.declared.instructions.Instruction.{Instruction}
 use Rattle.plan_model.specs.declared.instructions.Instruction.TheVariants.{Wait}
@@ -16,22 +16,15 @@ use Rattle.sat_rows.specs.Rows.{IsRowOf}
 use Rattle.verdict_laws.specs.Stuck.{is_left, lanes_left, AreLeft}
 use Rattle.verdict_laws.proofs.AtRest.{each_rest_is_exact, lanes_left_are_left}
 use Rattle.verdict_laws.proofs.Unions.{there}
-use Rattle.wait_order.proofs.Written.{drop-past}
+use Rattle.wait_order.proofs.Leading.{items-split}
 use Rattle.wait_order.specs.declared.standing.Standing.{Standing}
 use Rattle.wait_order.specs.Settled.{IsSettled}
 use Rattle.wait_order.specs.Standing.{items_at, IsReached, Holds, IsHeldAt, place_of, AreStanding, left_of}
 
--- the first item of a lane that waits
-items-wait : (u : Universe) (is : List Instruction) (j : ℕ) (x : Instruction)
-    → slice_get is j ≡ Some x
-    → items u (drop j is) ≡ items_of u x ++ items u (drop (suc j) is)
-unfolding items
-items-wait u is j x at = ap (items u) (drop_some is j x at)
-
 items-end : (u : Universe) (is : List Instruction) (i : ℕ) → length is ≤ i
     → items u (drop i is) ≡ []
 unfolding items
-items-end u is i le = ap (items u) (drop-past is i le)
+items-end u is i le = ap (items u) (drop_of_length-le is le)
 
 -- a wait that does not pass
 record Blocked (u : Universe) (b : Board) (l : ℕ) (is : List Item) : Type 0 where
@@ -64,7 +57,7 @@ module _ (u : Universe) (p : Plan) (order t : List ℕ) (ats : List Standing)
             let x = there p l (place_of ats l) before in
             let is : rest_of r.board l ≡ items_of u x.0 ++ items u (drop (suc (place_of ats l))
             (lane p l).instructions) =
-            r.rest l lt ∙ items-wait u (lane p l).instructions (place_of ats l) x.0 x.1 in
+            r.rest l lt ∙ items-split u (lane p l).instructions (place_of ats l) x.0 x.1 in
             let b = blocked u r.board l t x.0 (items u (drop (suc (place_of ats l))
             (lane p l).instructions)) r.archive (held l lt x.0 x.1) in
             record {

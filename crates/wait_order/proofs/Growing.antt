@@ -21,7 +21,7 @@ use Rattle.wait_order.proofs.Falls.{greatest-exact}
 use Rattle.wait_order.proofs.Numbering.{last-in, count-few}
 use Rattle.wait_order.proofs.Asked.{Asks, quiet_or_asks, asks-one}
 use Rattle.wait_order.proofs.Carried.{last-here, last-quiet, publish-home}
-use Rattle.wait_order.proofs.Bounds.{least-total, bound-own, bound-other}
+use Rattle.wait_order.proofs.Bounds.{least-le, bound-own, bound-other}
 
 module _ (u : Universe) (p : Plan) (sound : IsSound u p) (ps : List Point)
     (points : ArePoints u p ps) where
@@ -101,7 +101,7 @@ module _ (u : Universe) (p : Plan) (sound : IsSound u p) (ps : List Point)
               arith,
               at_point l i j y asks.test j_lt at asks.is ne has,
               few,
-              least-total j (counts j) (total j) has.point.sources.items,
+              least-le j (counts j) (total j) has.point.sources.items,
             )
 
         next : (i : ℕ) → ((k : ℕ) → k ≤ i → IsFew l j k) → IsFew l j (suc i)
@@ -126,7 +126,7 @@ module _ (u : Universe) (p : Plan) (sound : IsSound u p) (ps : List Point)
               is.there in
               let c = few_at is.lane j is.below j_lt (λ e. other (sym e)) is.place
               (omega (arith, below)) in
-              let d = least-total j (counts j) (total j) of.sources.items in
+              let d = least-le j (counts j) (total j) of.sources.items in
               omega (arith, a, b, c, d)
         ]
 

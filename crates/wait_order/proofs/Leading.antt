@@ -75,7 +75,7 @@ pub leads_start : (u : Universe) (p : Plan) (l i : ℕ) (order there : List ℕ)
 leads_start u p l i order there left r is =
     reached_same u p order there left _ (λ k k_lt. with_left-same left l _ is k) r
 
-items-split : (u : Universe) (is : List Instruction) (j : ℕ) (x : Instruction)
+pub items-split : (u : Universe) (is : List Instruction) (j : ℕ) (x : Instruction)
     → slice_get is j ≡ Some x → items u (drop j is) ≡ items_of u x ++ items u (drop (suc j) is)
 unfolding items
 items-split u is j x at = ap (items u) (drop_some is j x at)

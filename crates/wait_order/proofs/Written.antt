@@ -1,17 +1,12 @@
 -- A list that is written through a slice of all of it.
 use Rattle.std.proofs.Common.{◌≡◌, ℕ, zero, suc, ◌≤◌, List, [], ◌∷◌, ◌++◌, length, take, drop, refl, ap, ◌∙◌, arith}
+use Rattle.std.proofs.Math.ListN.{drop_of_length-le}
 use Rattle.std.proofs.lemmas.List.{append-nil, take_all}
-
-pub drop-past : {X : Type 0} (xs : List X) (i : ℕ) → length xs ≤ i → drop i xs ≡ []
-drop-past [] zero le = refl
-drop-past [] (suc i) le = refl
-drop-past (x ∷ xs) zero le = absurd (omega (arith, le))
-drop-past (x ∷ xs) (suc i) le = drop-past xs i (omega (arith, le))
 
 pub written : {A : Type 0} (n : ℕ) (seen new old first : List A)
     → seen ≡ take n (new ++ drop (length new) old) → first ≡ old → length first ≡ n
     → length new ≡ length first → seen ≡ new
 written n seen new old first is e long same =
-    is ∙ ap (λ xs. take n (new ++ xs)) (drop-past old (length new) (omega
+    is ∙ ap (λ xs. take n (new ++ xs)) (drop_of_length-le old (omega
     (arith, ap length e, same)))
     ∙ ap (take n) (append-nil new) ∙ take_all n new (omega (arith, long, same))

@@ -3,7 +3,7 @@ use Rattle.std.specs.Prelude.{◌&&◌}
 use Rattle.std.specs.Option.{is_some}
 use Rattle.farm_model.specs.Packages.{variant, variants, has_bit, is_wanted}
 use Rattle.plan_model.specs.Turn.{newest, has_wanted}
-use Rattle.farm_core.proofs.Picks.{some-highest}
+use Rattle.farm_laws.proofs.Archive.{some-highest}
 use Rattle.farm_core.proofs.pick.has_wanted.Goals as goal
 
 pub returns : goal.returns

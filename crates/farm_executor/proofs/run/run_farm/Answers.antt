@@ -1,13 +1,14 @@
 use Rattle.std.proofs.Common.{sym, subst}
+use Rattle.std.proofs.lemmas.Result.{IfOk-weaker}
 use Rattle.farm_executor.specs.FarmRuns.{IsFarmRun}
 use Rattle.farm_executor.proofs.FarmEnds.{farm_run}
-use Rattle.farm_executor.proofs.Told.{fault_told, over_err, over_ok}
+use Rattle.farm_executor.proofs.Told.{fault_told, over_err}
 use Rattle.farm_executor.proofs.run.run_farm.Goals as goal
 
 pub returns-in-Ok-clause-run : goal.returns-in-Ok-clause-run
 returns-in-Ok-clause-run g c =
     let o = c.in-Ok.played.outcomes in
-    over_ok _ _ c.told.result (λ run h. (
+    IfOk-weaker c.told.result _ _ (λ run h. (
       h.0,
       subst (λ v. IsFarmRun c.args.accepted v.items run.spent.items run.history.items) (sym h.2)
           (subst (λ v. IsFarmRun c.args.accepted o.chroots.items v.items run.history.items) (sym h.3)

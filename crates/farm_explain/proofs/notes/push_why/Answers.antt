@@ -1,4 +1,5 @@
 use Rattle.std.proofs.Common.{◌≡◌, ◌<◌, ◌++◌, length, Some, refl, sym, ap, ◌∙◌, subst, arith}
+use Rattle.std.proofs.lemmas.Result.{on_ok_weaker}
 use Rattle.std.specs.Prelude.{slice_get}
 use Rattle.std.proofs.lemmas.Option.{slice_get_read}
 use Rattle.may_rows.specs.Words.{may_of}
@@ -6,7 +7,6 @@ use Rattle.plan_model.specs.Plan.{Lane, Plan, lane, instruction_at}
 use Rattle.farm_explain.specs.LaneNotes.{why_of, why_text, IsKnownWord}
 use Rattle.farm_explain.specs.ReasonText.{reason_text}
 use Rattle.farm_explain.proofs.KnownWords.{by_word, reason_same}
-use Rattle.farm_explain.proofs.Outcomes.{on_ok}
 use Rattle.farm_explain.proofs.notes.push_why.Goals as goal
 
 pub returns : goal.returns
@@ -37,5 +37,5 @@ returns g c =
     reason_same u p ls l word known m c.is_unpack.result c.args.reason is_word
     ∙ (ap (λ t. reason_text u p ls l known m t c.args.reason) c.is_unpack.ensures
     ∙ sym (ap (λ o. why_of u p ls l known m o c.args.reason) here)) in
-    on_ok c.push_reason.result (λ is. is ∙ ap (λ t. c.args.text.now.items ++ t) same_text)
+    on_ok_weaker c.push_reason.result (λ is. is ∙ ap (λ t. c.args.text.now.items ++ t) same_text)
     c.push_reason.ensures

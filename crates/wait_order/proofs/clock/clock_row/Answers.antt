@@ -4,7 +4,7 @@ use Rattle.farm_model.specs.Packages.{initial}
 use Rattle.sat_rows.specs.Rows.{IsRowOf}
 use Rattle.wait_order.specs.Clock.{count_of}
 use Rattle.wait_order.proofs.ArchiveRows.{row_same}
-use Rattle.wait_order.proofs.ClockWords.{element}
+use Rattle.farm_laws.proofs.Archive.{element}
 use Rattle.wait_order.proofs.ClockRows.{so_far, with_lane, all_lanes}
 use Rattle.wait_order.proofs.clock.clock_row.Goals as goal
 
