@@ -33,9 +33,11 @@ module _ (u : Universe) (p : Plan) (sound : IsSound u p) (w : World) (r : IsReac
         reached = ready_reached u p sound n (omega arith) v.world v.reached;
         words = v.words;
         here = λ l lt. elim (cases_eq l n) [
-          | inl is ↦ subst (λ k. world_lane (with_lane v.world n st) k ≡ ready_lane u p w k) (sym is)
+          | inl is ↦ subst (λ k. world_lane (with_lane v.world n st) k ≡ ready_lane u p w k)
+              (sym is)
               (get_or-set_same v.world.lanes n st no_state (omega (arith, v.reached.lanes)) ∙ now)
-          | inr apart ↦ get_or-set_other v.world.lanes n l st no_state apart ∙ v.here l (omega arith)
+          | inr apart ↦ get_or-set_other v.world.lanes n l st no_state apart
+              ∙ v.here l (omega arith)
         ];
         others = λ l ge. get_or-set_other v.world.lanes n l st no_state (λ e. omega arith)
             ∙ v.others l (omega arith);

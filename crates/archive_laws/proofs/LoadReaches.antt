@@ -143,7 +143,8 @@ module _ (u : Universe) (p : Plan) (sound : IsSound u p) (w : World) (r : IsReac
         | inr other ↦ rw other stays_left
       ]
   load_left n (Some (Wait e)) at =
-      turn_left n (Wait e) _ at (wait_follows n e (passes u (seen n (slice_index w.words n)) e) refl)
+      turn_left n (Wait e) _ at
+      (wait_follows n e (passes u (seen n (slice_index w.words n)) e) refl)
       refl
   load_left n _ at = stays_left
 

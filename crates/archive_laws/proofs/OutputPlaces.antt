@@ -22,7 +22,8 @@ module _ (u : Universe) where
   before_next (y ∷ ys) zero x e =
       let s : y ≡ x = cc in
       let l = length-append (outputs_of u y) (flat_map (outputs_of u) (take 0 ys)) in
-      let t : length (outputs_of u y) ≡ length (outputs_of u x) = ap (λ z. length (outputs_of u z)) s in
+      let t : length (outputs_of u y) ≡ length (outputs_of u x) = ap (λ z. length (outputs_of u z))
+      s in
       omega (arith, l, t)
   before_next (y ∷ ys) (suc k) x e =
       let l = length-append (outputs_of u y) (flat_map (outputs_of u) (take (suc k) ys)) in
@@ -53,7 +54,8 @@ module _ (u : Universe) where
       let e : suc k + m ≡ suc (k + m) = omega arith in
       let l = length-append (outputs_of u y) (flat_map (outputs_of u) (take k ys)) in
       let n = length-append (outputs_of u y) (flat_map (outputs_of u) (take (k + m) ys)) in
-      let f : before (y ∷ ys) (suc k + m) ≡ before (y ∷ ys) (suc (k + m)) = ap (before (y ∷ ys)) e in
+      let f : before (y ∷ ys) (suc k + m) ≡ before (y ∷ ys) (suc (k + m)) = ap (before (y ∷ ys))
+      e in
       omega (arith, f, l, n, before_more ys k m)
 
   get_front : (xs ys : List Variant) (i : ℕ) (v : Variant) → slice_get xs i ≡ Some v
@@ -62,7 +64,8 @@ module _ (u : Universe) where
   get_front (x ∷ xs) ys zero v e = e
   get_front (x ∷ xs) ys (suc i) v e = get_front xs ys i v e
 
-  get_behind : (xs ys : List Variant) (i : ℕ) → slice_get (xs ++ ys) (length xs + i) ≡ slice_get ys i
+  get_behind : (xs ys : List Variant) (i : ℕ) → slice_get (xs ++ ys) (length xs + i)
+      ≡ slice_get ys i
   get_behind [] ys i = let e : 0 + i ≡ i = omega arith in ap (slice_get ys) e
   get_behind (x ∷ xs) ys i =
       let e : suc (length xs) + i ≡ suc (length xs + i) = omega arith in

@@ -1,6 +1,6 @@
 -- How a lane moves on at an archive step: by the word of one name that it loads, and by its next
--- output. The project's own rules. Parameters: u a universe, of a lane, st where it is at an archive
--- step, old where it was after its last one, n the number of a name.
+-- output. The project's own rules. Parameters: u a universe, of a lane, st where it is at an
+-- archive step, old where it was after its last one, n the number of a name.
 --
 --   outputs_made, IsOutputOf      how many outputs a lane has made, and which instruction has which
 --   seen, moved_by                what a word says of the archive; where a load of it leaves a lane

@@ -1,5 +1,5 @@
-//! The archive of the two lanes of examples/toolchain, at its beginning: libc6 has one variant there,
-//! gcc and libgmp have none.
+//! The archive of the two lanes of examples/toolchain, at its beginning: libc6 has one variant
+//! there, gcc and libgmp have none.
 
 ghost use Rattle.std.specs.Prelude.{◌≡◌};
 

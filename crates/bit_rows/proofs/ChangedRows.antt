@@ -15,7 +15,14 @@ pub record IsRow (n : ℕ) (blocks : List Block) (row : List ℕ) : Type 0 where
 other_row : (n m : ℕ) (xs ys found : List Block) (a b : List ℕ) → IsRow n xs a → IsRow m ys b
     → length a ≡ length b → found ≡ ys → IsRow n found b
 other_row n m xs ys found a b is other long same =
-    let count : m ≡ n = omega (arith, length-words_of n xs, length-words_of m ys, ap length is.words, ap length other.words) in
+    let count : m ≡ n = omega (
+      arith,
+      length-words_of n xs,
+      length-words_of m ys,
+      ap length is.words,
+      ap length
+          other.words,
+    ) in
     record {
       are = subst (AreRowBlocks n) (sym same) (subst (λ k. AreRowBlocks k ys) count other.are);
       words = ap₂ words_of (sym count) same ∙ other.words;
@@ -27,7 +34,8 @@ pub changed_row : (f : ℕ → ℕ → ℕ) → ((y : ℕ) → f 0 y ≡ 0) → 
 changed_row f none n m xs ys found new a b is other long same made =
     let there = other_row n m xs ys found a b is other long same in
     record {
-      are = subst (AreRowBlocks n) (sym made) (row_blocks-changed f none n xs found is.are there.are);
+      are = subst (AreRowBlocks n) (sym made)
+          (row_blocks-changed f none n xs found is.are there.are);
       words = ap (words_of n) made ∙ (words_of-changed f none n xs found is.are there.are
           ∙ ap₂ (zip2 f) is.words there.words);
     }

@@ -18,7 +18,8 @@ zip2-none : (f : ℕ → ℕ → ℕ) → ((y : ℕ) → f 0 y ≡ 0) → (n : �
 zip2-none f none zero [] long = refl
 zip2-none f none zero (y ∷ ys) long = absurd (omega arith)
 zip2-none f none (suc n) [] long = absurd (omega arith)
-zip2-none f none (suc n) (y ∷ ys) long = ap₂ (λ w l. w ∷ l) (none y) (zip2-none f none n ys (omega arith))
+zip2-none f none (suc n) (y ∷ ys) long = ap₂ (λ w l. w ∷ l) (none y)
+    (zip2-none f none n ys (omega arith))
 
 pub get_or-zip2 : (f : ℕ → ℕ → ℕ) → f 0 0 ≡ 0 → (xs ys : List ℕ) (i : ℕ) → length xs ≡ length ys
     → get_or (zip2 f xs ys) i 0 ≡ f (get_or xs i 0) (get_or ys i 0)
@@ -34,7 +35,8 @@ pub words_of-each : (f : ℕ → ℕ → ℕ) → f 0 0 ≡ 0 → (n : ℕ) (xs 
     → ((place : ℕ) → words_at new place ≡ zip2 f (words_at xs place) (words_at ys place))
     → words_of n new ≡ zip2 f (words_of n xs) (words_of n ys)
 words_of-each f none n xs ys new each_x each_y is =
-    let long : length (words_of n xs) ≡ length (words_of n ys) = length-words_of n xs ∙ sym (length-words_of n ys) in
+    let long : length (words_of n xs) ≡ length (words_of n ys) = length-words_of n xs
+    ∙ sym (length-words_of n ys) in
     words_of_same n new (zip2 f (words_of n xs) (words_of n ys))
     (length-zip2 f (words_of n xs) (words_of n ys) long ∙ length-words_of n xs)
     (λ i lt.
@@ -52,9 +54,12 @@ ascending-changed : (f : ℕ → ℕ → ℕ) (from : ℕ) (bs others : List Blo
 ascending-changed f from [] others up = tt
 ascending-changed f from (b ∷ bs) others up =
     let rest = ascending-changed f (suc b.place) bs others up.1 in
-    let new : Block = record { place = b.place; words = zip2 f b.words (words_at others b.place) } in
-    cond_both (same new.words no_words) [] (new ∷ []) (λ l. IsAscending from (l ++ changed f bs others))
-    (λ _. let low = up.0 in ascending_from from (suc b.place) (changed f bs others) (omega arith) rest)
+    let new : Block = record
+    { place = b.place; words = zip2 f b.words (words_at others b.place) } in
+    cond_both (same new.words no_words) [] (new ∷ [])
+    (λ l. IsAscending from (l ++ changed f bs others))
+    (λ _. let low = up.0 in ascending_from from (suc b.place) (changed f bs others) (omega arith)
+    rest)
     (λ _. (up.0, rest))
 
 blocks-changed : (f : ℕ → ℕ → ℕ) → ((y : ℕ) → f 0 y ≡ 0) → (n : ℕ) (bs others : List Block)
@@ -62,7 +67,8 @@ blocks-changed : (f : ℕ → ℕ → ℕ) → ((y : ℕ) → f 0 y ≡ 0) → (
 blocks-changed f none n [] others each each_o = tt
 blocks-changed f none n (b ∷ bs) others each each_o =
     let there = words_at others b.place in
-    let long : length b.words ≡ length there = each.0.eight ∙ sym (eight_at n others b.place each_o) in
+    let long : length b.words ≡ length there = each.0.eight
+    ∙ sym (eight_at n others b.place each_o) in
     let new : Block = record { place = b.place; words = zip2 f b.words there } in
     blocks-append n (block_of new) (changed f bs others)
     (blocks-block_of n new (length-zip2 f b.words there long ∙ each.0.eight)
@@ -77,7 +83,8 @@ words_at-changed f none n from [] others up each each_o place =
     sym (zip2-none f none 8 (words_at others place) (eight_at n others place each_o))
 words_at-changed f none n from (b ∷ bs) others up each each_o place =
     let there = words_at others b.place in
-    let long : length b.words ≡ length there = each.0.eight ∙ sym (eight_at n others b.place each_o) in
+    let long : length b.words ≡ length there = each.0.eight
+    ∙ sym (eight_at n others b.place each_o) in
     let new : Block = record { place = b.place; words = zip2 f b.words there } in
     let rest = changed f bs others in
     words_at-block new rest place (length-zip2 f b.words there long ∙ each.0.eight)
@@ -133,7 +140,8 @@ changed_kept f blocks others kept at b d le lt one is =
     ap₂ (λ x y. x ++ changed f y others) front back
     ∙ (append_assoc (take kept blocks) (b ∷ []) (changed f (drop (at + 1) blocks) others)
     ∙ ap (λ l. take kept blocks ++ l)
-    (ap (λ l. l ++ changed f (drop (at + 1) blocks) others) (sym (block_of_one b one) ∙ ap block_of is)
+    (ap (λ l. l ++ changed f (drop (at + 1) blocks) others)
+    (sym (block_of_one b one) ∙ ap block_of is)
     ∙ sym (at_drop_more (λ l. changed f l others) blocks at d lt)))
 
 pub changed_dropped : (f : ℕ → ℕ → ℕ) (blocks others : List Block) (kept at : ℕ) (b d : Block)
@@ -147,5 +155,6 @@ pub changed_dropped : (f : ℕ → ℕ → ℕ) (blocks others : List Block) (ke
     ≡ take kept blocks ++ changed f (drop at blocks) others
 changed_dropped f blocks others kept at b d lt none is =
     ap (λ l. take kept blocks ++ l)
-    (ap (λ l. l ++ changed f (drop (at + 1) blocks) others) (sym (block_of_none b none) ∙ ap block_of is)
+    (ap (λ l. l ++ changed f (drop (at + 1) blocks) others)
+    (sym (block_of_none b none) ∙ ap block_of is)
     ∙ sym (at_drop_more (λ l. changed f l others) blocks at d lt))

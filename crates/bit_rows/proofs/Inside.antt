@@ -69,7 +69,8 @@ piece_fails words cut bs ws place same stands fails =
     let inside : k < length cut = elim (cases_lt k (length cut)) [
       | inl lt ↦ lt
       | inr past ↦ absurd (both_ways _ misses
-          (zero_lies (get_or cut k 0) (get_or (take (length cut) ws) k 0) (get_or_past cut k 0 past)))
+          (zero_lies (get_or cut k 0) (get_or (take (length cut) ws) k 0)
+          (get_or_past cut k 0 past)))
     ] in
     let long : length cut ≡ length (piece words place) = ap length same in
     let a = length-take 8 (drop (8 * place) words) in
@@ -100,7 +101,8 @@ piece_holds words cut bs ws place i same stands eight holds low high lt =
     let a = length-take 8 (drop (8 * place) words) in
     let b = length-drop (8 * place) words in
     let inside : k < length cut = omega arith in
-    let cut_long : length cut ≡ length (take (length cut) ws) = omega (arith, length-take (length cut) ws) in
+    let cut_long : length cut ≡ length (take (length cut) ws) = omega
+    (arith, length-take (length cut) ws) in
     let x = ap (λ l. get_or l k 0) same
     ∙ (get_or-take 8 (drop (8 * place) words) k 0 small ∙ (get_or-drop (8 * place) words k 0
     ∙ ap (λ j. get_or words j 0) whole)) in

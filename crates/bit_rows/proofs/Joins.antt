@@ -31,13 +31,15 @@ pub missing-agree : (xs ys : List Block) (from : ℕ) (bs : List Block) → IsAs
 missing-agree xs ys from [] up agree = refl
 missing-agree xs ys from (b ∷ bs) up agree =
     ap₂ ◌+◌ (ap (λ ws. if same ws no_words then 1 else (0)) (agree b.place up.0))
-    (missing-agree xs ys (suc b.place) bs up.1 (λ place le. agree place (let low = up.0 in omega arith)))
+    (missing-agree xs ys (suc b.place) bs up.1
+    (λ place le. agree place (let low = up.0 in omega arith)))
 
 -- one of the others on
 
 pub missing_more : (xs bs : List Block) (i : ℕ) (d : Block) → i < length bs
     → missing xs (drop i bs)
-    ≡ (if same (words_at xs (get_or bs i d).place) no_words then 1 else 0) + missing xs (drop (i + 1) bs)
+    ≡ (if same (words_at xs (get_or bs i d).place) no_words then 1 else 0) + missing xs
+    (drop (i + 1) bs)
 missing_more xs bs i d lt = at_drop_more (missing xs) bs i d lt
 
 pub missing_here : (xs bs : List Block) (i : ℕ) (d : Block) → i < length bs
@@ -58,7 +60,8 @@ missing_there xs bs i d lt some =
 
 words_more : (bs : List Block) (i place : ℕ) (d : Block) → i < length bs
     → words_at (drop i bs) place
-    ≡ (if (get_or bs i d).place == place then (get_or bs i d).words else words_at (drop (i + 1) bs) place)
+    ≡ (if (get_or bs i d).place == place then (get_or bs i d).words else words_at (drop (i + 1) bs)
+    place)
 words_more bs i place d lt = at_drop_more (λ l. words_at l place) bs i d lt
 
 -- the words of both stay the same where one of the others is joined
@@ -66,7 +69,8 @@ pub joined_more : (cur others : List Block) (at i : ℕ) (d : Block) (ws : List 
     → IsAscending 0 others → i < length others
     → StandsAt at (get_or others i d).place cur → length ws ≡ 8
     → ws ≡ zip2 bit_or (get_or others i d).words (words_at cur (get_or others i d).place)
-    → zip2 bit_or (words_at (placed at (record { place = (get_or others i d).place; words = ws }) cur) place)
+    → zip2 bit_or (words_at
+    (placed at (record { place = (get_or others i d).place; words = ws }) cur) place)
     (words_at (drop (i + 1) others) place)
     ≡ zip2 bit_or (words_at cur place) (words_at (drop i others) place)
 joined_more cur others at i d ws place up lt stands long joined =
@@ -78,14 +82,17 @@ joined_more cur others at i d ws place up lt stands long joined =
       | inl here ↦
           let e = eqb-true y.place place here in
           let past = ascending-past others 0 i d up lt (i + 1) refl in
-          let none = words_or_before no_words (drop (i + 1) others) (suc y.place) place (omega arith) past in
+          let none = words_or_before no_words (drop (i + 1) others) (suc y.place) place
+          (omega arith) past in
           ap₂ (zip2 bit_or) (new ∙ cond-true (y.place == place) ws (words_at cur place) here) none
           ∙ (or-none 8 ws long ∙ (joined ∙ or-turned y.words (words_at cur y.place)
           ∙ ap₂ (zip2 bit_or) (ap (words_at cur) e)
-          (sym (more ∙ cond-true (y.place == place) y.words (words_at (drop (i + 1) others) place) here))))
+          (sym (more ∙ cond-true (y.place == place) y.words (words_at (drop (i + 1) others) place)
+          here))))
       | inr other ↦
           ap₂ (zip2 bit_or) (new ∙ cond-false (y.place == place) ws (words_at cur place) other)
-          (sym (more ∙ cond-false (y.place == place) y.words (words_at (drop (i + 1) others) place) other))
+          (sym (more ∙ cond-false (y.place == place) y.words (words_at (drop (i + 1) others) place)
+          other))
     ]
 
 -- and there is room for the rest
@@ -93,7 +100,8 @@ pub room_more : (cur others : List Block) (at i : ℕ) (d : Block) (ws : List �
     → IsAscending 0 others → i < length others → StandsAt at (get_or others i d).place cur
     → length ws ≡ 8
     → length (placed at (record { place = (get_or others i d).place; words = ws }) cur)
-    + missing (placed at (record { place = (get_or others i d).place; words = ws }) cur) (drop (i + 1) others)
+    + missing (placed at (record { place = (get_or others i d).place; words = ws }) cur)
+    (drop (i + 1) others)
     ≤ length cur + missing cur (drop i others)
 room_more cur others at i d ws up lt stands long =
     let y = get_or others i d in

@@ -44,7 +44,8 @@ passing f n from [] up each e = absurd (true≢false (sym e))
 passing f n from (x ∷ xs) up each e =
     by (or_cases (f x) (list_any f xs) e) (passing f n (suc x.place) xs up.1 each.1)
   where
-    by : (f x ≡ true) ⊎ (list_any f xs ≡ true) → (list_any f xs ≡ true → Passes f n (suc x.place) xs)
+    by : (f x ≡ true) ⊎ (list_any f xs ≡ true)
+        → (list_any f xs ≡ true → Passes f n (suc x.place) xs)
         → Passes f n from (x ∷ xs)
     by (inl here) rest = record {
       block = x;
@@ -114,7 +115,8 @@ some_by_blocks t none n row at bs long are is = same_tests _ _ there back
         let some = nonzero _ _ s.1 in
         let low : k < 8 = elim (cases_lt k 8) [
           | inl lt ↦ lt
-          | inr ge ↦ absurd (some (get_or_past p.block.words k 0 (let e8 = p.is.eight in omega arith)))
+          | inr ge ↦ absurd (some
+              (get_or_past p.block.words k 0 (let e8 = p.is.eight in omega arith)))
         ] in
         let inside : 8 * place + k < n = elim (cases_lt (8 * place + k) n) [
           | inl lt ↦ lt
@@ -146,8 +148,10 @@ some_by_blocks t none n row at bs long are is = same_tests _ _ there back
         let y = words_of_at n bs i inside in
         passes_at (λ b. some_pair t (at b.place) b.words) bs place k (λ z. some (y ∙ z))
         (λ b here words.
-        let long_b : k < length b.words = omega (arith, ap length words, eight_at n bs place are.each) in
-        let long_a : k < length (at b.place) = omega (arith, is.long place k low within, ap (λ q. length (at q)) here) in
+        let long_b : k < length b.words = omega
+        (arith, ap length words, eight_at n bs place are.each) in
+        let long_a : k < length (at b.place) = omega
+        (arith, is.long place k low within, ap (λ q. length (at q)) here) in
         some_pair-inside t (at b.place) b.words k long_a long_b
         (ap₂ t
         (ap (λ q. get_or (at q) k 0) here ∙ (is.word place k low within

@@ -14,7 +14,8 @@ pub rows_met : (t : ℕ → ℕ → Bool) → ((x : ℕ) → t x 0 ≡ false) �
     → words_of n xs ≡ a → words_of m ys ≡ b → length a ≡ length b → found_x ≡ xs → found_y ≡ ys
     → some_met t found_x found_y ≡ some_pair t a b
 rows_met t none n m xs ys found_x found_y a b are_x are_y view_x view_y long same_x same_y =
-    let same : n ≡ m = omega (arith, length-words_of n xs, length-words_of m ys, ap length view_x, ap length view_y) in
+    let same : n ≡ m = omega
+    (arith, length-words_of n xs, length-words_of m ys, ap length view_x, ap length view_y) in
     let are = subst (λ k. AreRowBlocks k xs) same are_x in
     ap₂ (some_met t) same_x same_y
     ∙ (some_by_blocks t none m (words_of m xs) (words_at xs) ys (length-words_of m xs) are_y

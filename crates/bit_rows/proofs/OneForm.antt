@@ -14,7 +14,8 @@ first_words b bs =
 later_words : (b : Block) (bs : List Block) (place : ℕ) → b.place < place
     → words_at (b ∷ bs) place ≡ words_at bs place
 later_words b bs place lt =
-    cond-false (b.place == place) b.words (words_at bs place) (ne_eqb b.place place (λ e. omega arith))
+    cond-false (b.place == place) b.words (words_at bs place)
+    (ne_eqb b.place place (λ e. omega arith))
 
 block_equal : (x y : Block) → x.place ≡ y.place → x.words ≡ y.words → x ≡ y
 block_equal x y e f = ap₂ (λ p ws. record { place = p; words = ws }) e f
@@ -40,9 +41,11 @@ one_form n from (x ∷ xs) (y ∷ ys) up_x up_y each_x each_y same =
           sym (later_words x xs place (omega arith))
           ∙ (same place (omega arith) ∙ later_words y ys place (omega arith))))
       | inr (inl lt) ↦ absurd (each_x.0.some (sym (first_words x xs) ∙ (same x.place up_x.0
-          ∙ words_or_before no_words (y ∷ ys) (suc x.place) x.place (omega arith) (omega arith, up_y.1))))
+          ∙ words_or_before no_words (y ∷ ys) (suc x.place) x.place (omega arith)
+          (omega arith, up_y.1))))
       | inr (inr gt) ↦ absurd (each_y.0.some (sym (first_words y ys) ∙ (sym (same y.place up_y.0)
-          ∙ words_or_before no_words (x ∷ xs) (suc y.place) y.place (omega arith) (omega arith, up_x.1))))
+          ∙ words_or_before no_words (x ∷ xs) (suc y.place) y.place (omega arith)
+          (omega arith, up_x.1))))
     ]
 
 pub same_words_at : (n : ℕ) (xs ys : List Block) → AreBlocks n xs → AreBlocks n ys
@@ -66,7 +69,8 @@ pub same_blocks : (n m : ℕ) (xs ys : List Block) (a b : List ℕ) → AreRowBl
     → AreRowBlocks m ys → words_of n xs ≡ a → words_of m ys ≡ b → length a ≡ length b
     → (xs ≡ ys) ↔ (a ≡ b)
 same_blocks n m xs ys a b are_x are_y view_x view_y long =
-    let same : m ≡ n = omega (arith, length-words_of n xs, length-words_of m ys, ap length view_x, ap length view_y) in
+    let same : m ≡ n = omega
+    (arith, length-words_of n xs, length-words_of m ys, ap length view_x, ap length view_y) in
     let are = subst (λ k. AreRowBlocks k ys) same are_y in
     let view = ap (λ k. words_of k ys) (sym same) ∙ view_y in (
       (λ e. sym view_x ∙ (ap (words_of n) e ∙ view)),

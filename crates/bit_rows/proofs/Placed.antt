@@ -25,7 +25,8 @@ pub words_at-block : (b : Block) (ys : List Block) (place : ℕ) → length b.wo
 words_at-block b ys place long up =
     elim (cases_Bool (same b.words no_words)) [
       | inl none ↦
-          ap (λ l. words_at (l ++ ys) place) (block_of_none b none) ∙ left (cases_Bool (b.place == place)) none
+          ap (λ l. words_at (l ++ ys) place) (block_of_none b none)
+          ∙ left (cases_Bool (b.place == place)) none
       | inr one ↦ ap (λ l. words_at (l ++ ys) place) (block_of_one b one)
     ]
   where
@@ -77,7 +78,8 @@ length-placed at b bs stands long =
         (λ _. omega arith)
 
     length-behind : (xs : List Block) (place : ℕ) → IsAscending place xs
-        → length (behind place xs) + 1 ≤ length xs + (if same (words_at xs place) no_words then 1 else 0)
+        → length (behind place xs) + 1 ≤ length xs
+        + (if same (words_at xs place) no_words then 1 else 0)
     length-behind [] place up = omega arith
     length-behind (x ∷ xs) place up =
         elim (cases_Bool (x.place == place)) [

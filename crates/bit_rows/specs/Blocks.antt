@@ -1,5 +1,5 @@
--- How a row keeps its words: in blocks of eight, of which only those that are not all 0 are kept, in
--- the order of their places. The block at place p has the words from 8 * p on.
+-- How a row keeps its words: in blocks of eight, of which only those that are not all 0 are kept,
+-- in the order of their places. The block at place p has the words from 8 * p on.
 --
 --   words_at blocks place        the eight words at a place
 --   word_at blocks name          the word of a name
@@ -87,7 +87,8 @@ piece words place = take 8 (drop (8 * place) words)
 
 -- some words of the blocks pass beside those of others, or beside words, at their place
 abbrev pub some_met : (ℕ → ℕ → Bool) → List Block → List Block → Bool
-some_met test others blocks = list_any (λ b. some_pair test (words_at others b.place) b.words) blocks
+some_met test others blocks = list_any (λ b. some_pair test (words_at others b.place) b.words)
+    blocks
 
 abbrev pub some_piece_met : (ℕ → ℕ → Bool) → List ℕ → List Block → Bool
 some_piece_met test words blocks =

@@ -2,7 +2,8 @@
 -- two numbers. A row stands for the set of the variants whose bit is set.
 --
 --   variants_of row                            the set of a row
---   HasNone, HasNoneFrom                       no variants at all; none of the names from one up to another
+--   HasNone, HasNoneFrom                       no variants at all; none of the names from one up to
+--   another
 --   IsWordOf                                   one name of a set as a word
 --   HasSomeAt, HasAllAt, IsMetAt               tests of a set by a word of one name
 --   IsSubset, HaveSame, HaveCommon,

@@ -87,6 +87,7 @@ module _ (u : Universe) where
       ∙ parts-again (is_byte comma) comma refl (part v) (map part vs)
       (part-plain v (All-head (IsSpelledVariant u) v vs are))
       (parts-plain vs (All-tail (IsSpelledVariant u) v vs are)) in
-      ap (λ texts. traverse (entry_at Provide) (filter (λ text. not (is_empty_text text)) texts)) split
+      ap (λ texts. traverse (entry_at Provide) (filter (λ text. not (is_empty_text text)) texts))
+      split
       ∙ ap (traverse (entry_at Provide)) (parts-kept (v ∷ vs) are)
       ∙ parts-read (v ∷ vs) are

@@ -42,7 +42,8 @@ module _ (u : Universe) (row : List ℕ) (new : IsNewRow u row) where
     bits-ordered zero b last few ahead names = next last names
     bits-ordered (suc m) b last few ahead names =
         by (variants_of row n b) refl
-        (bits-ordered m (b + 1) last (omega (arith, few)) (λ k le. ahead k (omega (arith, le))) names)
+        (bits-ordered m (b + 1) last (omega (arith, few)) (λ k le. ahead k (omega (arith, le)))
+        names)
         (bits-ordered m (b + 1) (Some (variant n b)) (omega (arith, few)) (ahead-bits n b)
         (ahead-names n b))
       where

@@ -27,7 +27,8 @@ pub part-append : (u : Universe) (is_first : Bool) (vs ws : List Variant)
 part-append u true [] ws = refl
 part-append u true (v ∷ vs) ws =
     ap (λ t. codes " " ++ variant_text u v ++ t) (more-append u vs ws)
-    ∙ ap (λ t. codes " " ++ t) (sym (append_assoc (variant_text u v) (more_text u vs) (more_text u ws)))
+    ∙ ap (λ t. codes " " ++ t)
+    (sym (append_assoc (variant_text u v) (more_text u vs) (more_text u ws)))
     ∙ sym (append_assoc (codes " ") (variant_text u v ++ more_text u vs) (more_text u ws))
 part-append u false vs ws = more-append u vs ws
 
@@ -88,7 +89,8 @@ module _ (u : Universe) (is_first : Bool) (word n b : ℕ) where
     -- that is not
     pub item-none : word_has word b ≡ false
         → now ≡ text ++ part_text u is_first (in_word word (named_below n (b + 1)))
-    item-none is = was ∙ ap (λ vs. text ++ part_text u is_first vs) (sym (in_word-lacks word n b is))
+    item-none is = was ∙ ap (λ vs. text ++ part_text u is_first vs)
+        (sym (in_word-lacks word n b is))
 
   pub still-more : word_has word b ≡ true
       → false ≡ (is_first && is_none (in_word word (named_below n (b + 1))))
@@ -99,7 +101,8 @@ module _ (u : Universe) (is_first : Bool) (word n b : ℕ) where
 
   pub still-none : (still : Bool) → still ≡ (is_first && is_none ws) → word_has word b ≡ false
       → still ≡ (is_first && is_none (in_word word (named_below n (b + 1))))
-  still-none still was is = was ∙ ap (λ vs. is_first && is_none vs) (sym (in_word-lacks word n b is))
+  still-none still was is = was ∙ ap (λ vs. is_first && is_none vs)
+      (sym (in_word-lacks word n b is))
 
 -- the bits of a row's word are those of the row
 same-bits : (row ks : List ℕ) (n word : ℕ) → IsWordOf (variants_of row) n word

@@ -45,7 +45,8 @@ module _ (u : Universe) (known : Rows) (l i : ℕ) where
         (and_parts (known l i (variant n b)) (not (initial u (variant n b))) (passed n b e).1).1;
   }
 
-module _ (u : Universe) (p : Plan) (known : Rows) (sound : IsUniverse u) (keeps : KeepsRows u p known) where
+module _ (u : Universe) (p : Plan) (known : Rows) (sound : IsUniverse u)
+    (keeps : KeepsRows u p known) where
   row-at : (l i : ℕ) → l < length p → i ≤ length (lane p l).instructions
       → IsNewAt u known l i (new_row u known l i)
   row-at l i lt le =
@@ -72,7 +73,8 @@ module _ (u : Universe) (p : Plan) (known : Rows) (sound : IsUniverse u) (keeps 
     one-more i x at le are =
         elim (cases_Bool (learns x)) [
           | inl learnt ↦
-              rows-learnt u p known l i x at (rows_to i) are (new_row u known l (i + 1)) (rows_to (i + 1))
+              rows-learnt u p known l i x at (rows_to i) are (new_row u known l (i + 1))
+              (rows_to (i + 1))
               learnt (row-new u known l (i + 1)) (row-at l (i + 1) lt le)
               (rows-next i x at ∙ rw learnt refl)
           | inr quiet ↦
@@ -107,7 +109,8 @@ module _ (u : Universe) (p : Plan) (known : Rows) (sound : IsUniverse u) (keeps 
       → AreNewLanes u p known n (map (new_rows u p known) (range_with_len 0 n))
   are-lanes zero le = lanes-none u p known
   are-lanes (suc n) le =
-      subst (λ m. AreNewLanes u p known m (map (new_rows u p known) (range_with_len 0 m))) (sym next)
+      subst (λ m. AreNewLanes u p known m (map (new_rows u p known) (range_with_len 0 m)))
+      (sym next)
       (lanes-next u p known n (map (new_rows u p known) (range_with_len 0 n))
       (map (new_rows u p known) (range_with_len 0 (n + 1))) (new_rows u p known n)
       (map-range_with_len_more (new_rows u p known) 0 n n (omega arith))

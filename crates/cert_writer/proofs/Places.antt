@@ -39,7 +39,8 @@ one-place number x = by (learns x) refl where
 
 module _ (xs : List Instruction) (i : ℕ) (x : Instruction) (at : slice_get xs i ≡ Some x) where
   -- one instruction more
-  pub places-next : places_from 1 (take (i + 1) xs) ≡ places_from 1 (take i xs) ++ places_at (i + 1) (Some x)
+  pub places-next : places_from 1 (take (i + 1) xs) ≡ places_from 1 (take i xs)
+      ++ places_at (i + 1) (Some x)
   places-next =
       ap (λ n. places_from 1 (take n xs)) (add-one i)
       ∙ ap (places_from 1) (take_some xs i x at)

@@ -105,7 +105,8 @@ stopped_more a b p x y CutShort is = record {
   going = is.going;
 }
 stopped_more a b p x y WriteFailed is = (
-  subst (IsWritten a b) (append_assoc p.text.items x y) (cut_short a b (p.text.items ++ x) y is.0 is.1),
+  subst (IsWritten a b) (append_assoc p.text.items x y)
+      (cut_short a b (p.text.items ++ x) y is.0 is.1),
   is.1,
 )
 
@@ -128,12 +129,14 @@ module _ (f : ℕ → List ℕ) (i : ℕ) where
       ∙ ap (λ t. flat_map f (range_with_len 0 i) ++ t) (append-nil (f i))
 
   numbers_split : (n : ℕ) → i < n → flat_map f (range_with_len 0 n)
-      ≡ (flat_map f (range_with_len 0 i) ++ f i) ++ flat_map f (range_with_len (i + 1) (n - (i + 1)))
+      ≡ (flat_map f (range_with_len 0 i) ++ f i)
+      ++ flat_map f (range_with_len (i + 1) (n - (i + 1)))
   numbers_split n lt =
       ap (λ k. flat_map f (range_with_len 0 k)) all
       ∙ ap (flat_map f) (range_split 0 (i + 1) (n - (i + 1)))
       ∙ flat_map-append f (range_with_len 0 (i + 1)) (range_with_len (0 + (i + 1)) (n - (i + 1)))
-      ∙ ap (λ k. flat_map f (range_with_len 0 (i + 1)) ++ flat_map f (range_with_len k (n - (i + 1)))) zero_first
+      ∙ ap (λ k. flat_map f (range_with_len 0 (i + 1))
+      ++ flat_map f (range_with_len k (n - (i + 1)))) zero_first
       ∙ ap (λ t. t ++ flat_map f (range_with_len (i + 1) (n - (i + 1)))) numbers_next
     where
       all : n ≡ (i + 1) + (n - (i + 1))
@@ -169,22 +172,26 @@ module _ {X : Type 0} (f : X → List ℕ) (xs : List X) (i : ℕ) (d : X) (lt :
       ∙ flat_map-append f (take (i + 1) xs) (drop (i + 1) xs)
       ∙ ap (λ t. t ++ flat_map f (drop (i + 1) xs)) items_next
 
-  module _ (a b c : SinkState) (p q : Pending) (so_far : IsSent a b p q (flat_map f (take i xs))) where
-    pub next_item : (r : Pending) → IsSent b c q r (f (get_or xs i d))
-        → IsSent a c p r (flat_map f (take (i + 1) xs))
-    next_item r more =
-        subst (IsSent a c p r) (sym items_next) (sent_twice a b p q _ (f (get_or xs i d)) so_far c r more)
+  module _ (a b c : SinkState) (p q : Pending) (so_far : IsSent a b p q (flat_map f (take i xs)))
+    where
+      pub next_item : (r : Pending) → IsSent b c q r (f (get_or xs i d))
+          → IsSent a c p r (flat_map f (take (i + 1) xs))
+      next_item r more =
+          subst (IsSent a c p r) (sym items_next)
+          (sent_twice a b p q _ (f (get_or xs i d)) so_far c r more)
 
-    pub stopped_item : (stop : CertStop) → IsStopped b c q (f (get_or xs i d)) stop
-        → IsStopped a c p (flat_map f xs) stop
-    stopped_item stop is =
-        stopped_within a b c p q _ (f (get_or xs i d)) _ _ stop items_split so_far is
+      pub stopped_item : (stop : CertStop) → IsStopped b c q (f (get_or xs i d)) stop
+          → IsStopped a c p (flat_map f xs) stop
+      stopped_item stop is =
+          stopped_within a b c p q _ (f (get_or xs i d)) _ _ stop items_split so_far is
 
 -- ---- one step
 
 -- a text is put behind what is not written, and what is not written is sent on
-pub put_on : (a b : SinkState) (before mid after : Pending) (x : List ℕ) (answer : Result Unit CertStop)
-    → mid.text.items ≡ before.text.items ++ x → mid.sent ≡ before.sent → IsSentOn a b mid after [] answer
+pub put_on : (a b : SinkState) (before mid after : Pending) (x : List ℕ)
+    (answer : Result Unit CertStop)
+    → mid.text.items ≡ before.text.items ++ x → mid.sent ≡ before.sent
+    → IsSentOn a b mid after [] answer
     → IsSentOn a b before after x answer
 put_on a b before mid after x (Ok done) put same is = record {
   part = is.part;

@@ -28,7 +28,8 @@ passing test n k = filter test (map (variant n) (range_with_len 0 k))
 
 module _ (test : Variant → Bool) (n b : ℕ) where
   -- the next one
-  has-last : (k : ℕ) → (b ≡ k → ⊥) → has n b (cond (test (variant n k)) (variant n k ∷ []) []) ≡ false
+  has-last : (k : ℕ) → (b ≡ k → ⊥) → has n b (cond (test (variant n k)) (variant n k ∷ []) [])
+      ≡ false
   has-last k other = by (test (variant n k)) where
     by : (t : Bool) → has n b (cond t (variant n k ∷ []) []) ≡ false
     by true = rw (eq-eqb n n refl, ne_eqb k b (λ e. other (sym e))) refl
@@ -51,7 +52,8 @@ module _ (test : Variant → Bool) (n b : ℕ) where
       ∙ ap (λ t. t || has n b (cond (test (variant n k)) (variant n k ∷ []) [])) (has-passing k)
       ∙ elim (cases_eq b k) [
         | inl here ↦
-            rw (le-ltb b k (omega (arith, here)), lt-ltb b (suc k) (omega (arith, here))) (has-this k here)
+            rw (le-ltb b k (omega (arith, here)), lt-ltb b (suc k) (omega (arith, here)))
+            (has-this k here)
         | inr other ↦
             ap (λ t. (nat_lt b k && test (variant n b)) || t) (has-last k other)
             ∙ or-false _
@@ -84,10 +86,12 @@ module _ (u : Universe) (test : Variant → Bool) where
 
   bits-past : (n b : ℕ) → names u ≤ n → variants_of (row_of_test u test) n b ≡ passes u test n b
   bits-past n b past =
-      ap (λ word. word_has word b) (get_or_past (row_of_test u test) n 0 (omega (arith, past, length-row)))
+      ap (λ word. word_has word b)
+      (get_or_past (row_of_test u test) n 0 (omega (arith, past, length-row)))
       ∙ word_has_zero b
       ∙ same_tests false (passes u test n b) (λ e. absurd cc)
-      (λ e. let few = ltb-true b (variants u n) (and_parts (nat_lt b (variants u n)) (test (variant n b)) e).0 in
+      (λ e. let few = ltb-true b (variants u n)
+      (and_parts (nat_lt b (variants u n)) (test (variant n b)) e).0 in
       absurd (omega (arith, past, named u n b few)))
 
   pub test-row : IsRowOf u test (row_of_test u test)

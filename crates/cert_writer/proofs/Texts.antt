@@ -16,9 +16,11 @@ beside h f [] = refl
 beside h f (k ∷ ks) = ap (λ t. h (k, f k) ++ t) (beside h f ks)
 
 -- each item with what is made of its number
-numbered : {K X : Type 0} (h : K × X → List ℕ) (f : ℕ → X) (g : ℕ → List ℕ) (d : K) (ks : List K) (n : ℕ)
+numbered : {K X : Type 0} (h : K × X → List ℕ) (f : ℕ → X) (g : ℕ → List ℕ) (d : K) (ks : List K)
+    (n : ℕ)
     → ((i : ℕ) → i < length ks → h (get_or ks i d, f (n + i)) ≡ g (n + i))
-    → flat_map h (zip ks (map f (range_with_len n (length ks)))) ≡ flat_map g (range_with_len n (length ks))
+    → flat_map h (zip ks (map f (range_with_len n (length ks))))
+    ≡ flat_map g (range_with_len n (length ks))
 numbered h f g d [] n each = refl
 numbered h f g d (k ∷ ks) n each =
     ap (λ t. h (k, f n) ++ t) (numbered h f g d ks (n + 1) later)
@@ -39,15 +41,17 @@ module _ (u : Universe) (p : Plan) (known : Rows) where
   lane-lines : (l : ℕ) → known_lines u (lane p l, new_rows u p known l) ≡ lane_text u p known l
   lane-lines l = beside (known_line u (lane p l).name) (new_row u known l) (row_places (lane p l))
 
-  lanes-lines : flat_map (known_lines u) (zip p (map (new_rows u p known) (range_with_len 0 (length p))))
+  lanes-lines : flat_map (known_lines u)
+      (zip p (map (new_rows u p known) (range_with_len 0 (length p))))
       ≡ flat_map (lane_text u p known) (range_with_len 0 (length p))
-  lanes-lines = numbered (known_lines u) (new_rows u p known) (lane_text u p known) no_lane p 0 each where
-    each : (i : ℕ) → i < length p → known_lines u (get_or p i no_lane, new_rows u p known (0 + i))
-        ≡ lane_text u p known (0 + i)
-    each i lt =
-        let same : 0 + i ≡ i = omega arith in
-        ap (λ m. known_lines u (get_or p i no_lane, new_rows u p known m)) same
-        ∙ lane-lines i ∙ ap (lane_text u p known) (sym same)
+  lanes-lines = numbered (known_lines u) (new_rows u p known) (lane_text u p known) no_lane p 0 each
+    where
+      each : (i : ℕ) → i < length p → known_lines u (get_or p i no_lane, new_rows u p known (0 + i))
+          ≡ lane_text u p known (0 + i)
+      each i lt =
+          let same : 0 + i ≡ i = omega arith in
+          ap (λ m. known_lines u (get_or p i no_lane, new_rows u p known m)) same
+          ∙ lane-lines i ∙ ap (lane_text u p known) (sym same)
 
   -- its head, its lanes, and its order
   pub text-is : (order : List ℕ) → certificate_text u p (certificate_by u p known order)

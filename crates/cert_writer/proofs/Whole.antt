@@ -20,7 +20,8 @@ module _ (a : AcceptedPlan) (is : IsAccepted a) where
   lines = all_lines a.universe a.plan (known_rows a) a.order
 
   abbrev whole : List ℕ
-  whole = certificate_text a.universe a.plan (certificate_by a.universe a.plan (known_rows a) a.order)
+  whole = certificate_text a.universe a.plan
+      (certificate_by a.universe a.plan (known_rows a) a.order)
 
   written : (old new : SinkState) (answer : Result ℕ CertStop) → WritesText whole old new answer
       → IsCertificateWritten a old new answer
@@ -41,7 +42,8 @@ module _ (a : AcceptedPlan) (is : IsAccepted a) where
   pub not_begun : (s : SinkState) → IsCertificateWritten a s s (Err OutOfMemory)
   not_begun s = written s s (Err OutOfMemory) refl
 
-  module _ (old new : SinkState) (before after : Pending) (head : before.text.items ≡ codes "cert 1\n") where
+  module _ (old new : SinkState) (before after : Pending)
+      (head : before.text.items ≡ codes "cert 1\n") where
     text : before.text.items ++ lines ≡ whole
     text =
         ap (λ t. t ++ lines) head
@@ -59,7 +61,8 @@ module _ (a : AcceptedPlan) (is : IsAccepted a) where
       where
         part : sent.part ≡ whole
         part =
-            sym (append-nil sent.part) ∙ ap (λ t. sent.part ++ t) (sym end) ∙ sym sent.is_part ∙ text
+            sym (append-nil sent.part) ∙ ap (λ t. sent.part ++ t) (sym end) ∙ sym sent.is_part
+            ∙ text
 
         counted : count ≡ capped (length whole)
         counted = omega (arith, sent.counted, none, same, small, ap length part)

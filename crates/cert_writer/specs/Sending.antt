@@ -1,5 +1,5 @@
--- What becomes of a text that is put together piece by piece and written to a sink, as far as memory
--- and the sink allow. The project's own rules.
+-- What becomes of a text that is put together piece by piece and written to a sink, as far as
+-- memory and the sink allow. The project's own rules.
 --
 --   IsFirstPart       a first part of a text is written, and the sink has not failed
 --   capped            a number, or the greatest of 64 bits

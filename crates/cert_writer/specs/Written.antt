@@ -23,7 +23,8 @@ WritesText text old new (Err CutShort) = IsFirstPart old new text
 WritesText text old new (Err WriteFailed) = IsWritten old new text × (new.failed ≡ true)
 
 -- Of an accepted plan, a certificate is written:
-pub record IsCertificateWritten (a : AcceptedPlan) (old new : SinkState) (answer : Result ℕ CertStop)
+pub record IsCertificateWritten (a : AcceptedPlan) (old new : SinkState)
+    (answer : Result ℕ CertStop)
     : Type 0 where
   pub certificate : Certificate
   -- it has the rows and the lanes of the plan;

@@ -134,7 +134,8 @@ deconfigured-gone p (Configured b) = refl
 
 pub needed_deconfigured : (u : Universe) (c : Chroot) (members : List ℕ)
     → is_needed u members c ≡ still_needed u members c (deconfigured c members)
-needed_deconfigured u c members = needed-changed u c deconfigured_slot refl deconfigured-gone members
+needed_deconfigured u c members = needed-changed u c deconfigured_slot refl deconfigured-gone
+    members
 
 pub needed_removed : (u : Universe) (c : Chroot) (members : List ℕ)
     → is_needed u members c ≡ still_needed u members c (removed c members)

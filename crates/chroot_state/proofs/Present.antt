@@ -162,7 +162,8 @@ listed_any c listed lists p law = same_tests _ _ found there
 -- what is told of a slot that was read
 pub told_at : (c : Chroot) (n : ℕ) {view : Chroot} {s : Slot} {told : Bool} → c ≡ view
     → s ≡ slot view n → told ≡ is_present s → is_present (slot c n) ≡ told
-told_at c n same read told = ap (λ d. is_present (slot d n)) same ∙ ap is_present (sym read) ∙ sym told
+told_at c n same read told = ap (λ d. is_present (slot d n)) same ∙ ap is_present (sym read)
+    ∙ sym told
 
 module _ (c : Chroot) (n : ℕ) (s : Slot) (lt : n < length c) where
   put-sum : (f : ℕ → ℕ) → sum_present (slice_set c n s) f + if_present (slot c n) (f n)

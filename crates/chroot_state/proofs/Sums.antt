@@ -52,5 +52,6 @@ used-small u c kept slots =
     let sum =
     sum-small (length c) (λ n. size_in u n (slot c n))
     (λ n. slot-small u n (slot c n) kept (slots.known n)) in
-    let few : length c ≤ MOST_NAMES = omega (arith, slots.long, kept.few_names, kept.sound.listed) in
+    let few : length c ≤ MOST_NAMES = omega
+    (arith, slots.long, kept.few_names, kept.sound.listed) in
     omega (arith, sum, few)

@@ -105,7 +105,8 @@ impl Chroot {
         self.slots.put(name, slot);
     }
 
-    /// Changes what is held of each member, and asks for no trap: for whoever knows that none is met.
+    /// Changes what is held of each member, and asks for no trap: for whoever knows that none is
+    /// met.
     pub fn change(&mut self, universe: &Universe, members: &[u32], change: Change)
         requires held { IsHeld universe.now self.old }
         requires named { All (λ m. m < names universe.now) members.now }

@@ -67,8 +67,8 @@ fn stops_text(
     Ok(text)
 }
 
-/// The status, and what stands at a path of the answer, which is read as JSON; the path is the first of
-/// these words.
+/// The status, and what stands at a path of the answer, which is read as JSON; the path is the
+/// first of these words.
 fn member_text(
     rt: &(impl Threads + Wait + Eprint + Sync),
     alloc: Global,
@@ -91,7 +91,8 @@ fn cut_text(alloc: Global, run: &Run, whole: &[u8]) -> Result<Vec<u8>, AllocErro
     Ok(text)
 }
 
-/// Answers `run`, `narrow`, `mute`, `member`, `heads`, `failing` and `stuck`, each with the words to run.
+/// Answers `run`, `narrow`, `mute`, `member`, `heads`, `failing` and `stuck`, each with the words
+/// to run.
 fn answer_on(
     rt: &(impl Threads + Wait + Eprint + Sync),
     alloc: Global,

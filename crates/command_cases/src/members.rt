@@ -3,8 +3,8 @@
 use serde_json::Value;
 use std::alloc::{AllocError, Global};
 
-/// Reads an answer as JSON, and gives the line of what stands at a path in it, as RFC 6901 has paths; the
-/// empty path is that of the whole.
+/// Reads an answer as JSON, and gives the line of what stands at a path in it, as RFC 6901 has
+/// paths; the empty path is that of the whole.
 ///
 /// # Errors
 ///

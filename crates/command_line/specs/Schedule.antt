@@ -1,5 +1,6 @@
 -- Schedules as the command line has them. The project's own rules: numbers of lanes in decimal,
--- joined by commas; the empty text is the empty schedule. A file of lanes has them by number or name.
+-- joined by commas; the empty text is the empty schedule. A file of lanes has them by number or
+-- name.
 --
 --   lane_at item          the number of a lane
 --   schedule_of text      the numbers of a schedule, if the text is one

@@ -33,7 +33,8 @@ pub record AreWords (words : List (List ℕ)) (paths : Paths) : Type 0 where
 
 -- a word ends with a text that is this schedule
 abbrev pub HasSchedule : List (List ℕ) → List ℕ → Type 0
-HasSchedule words schedule = (text : List ℕ) × EndsWord words text × (schedule_of text ≡ Ok schedule)
+HasSchedule words schedule = (text : List ℕ) × EndsWord words text
+    × (schedule_of text ≡ Ok schedule)
 
 abbrev pub IsRequestedBy : List (List ℕ) → Request → Type 0
 IsRequestedBy words CheckInput = words ≡ []

@@ -122,8 +122,8 @@ fn paths_of<'a>(matches: &ArgMatches<'a>) -> Paths<'a> {
     }
 }
 
-/// The name of one file more that a command reads: that of a certificate, or of a schedule. Empty where
-/// it reads none.
+/// The name of one file more that a command reads: that of a certificate, or of a schedule. Empty
+/// where it reads none.
 fn one_more<'a>(command: &str, matches: &ArgMatches<'a>) -> &'a str {
     match command {
         VERIFY_CERT => word_of(matches, CERTIFICATE),
@@ -138,8 +138,8 @@ fn asks_twice(paths: &Paths<'_>, more: &str) -> bool {
     names.iter().filter(|name| **name == INPUT).count() > 1
 }
 
-/// What `step` asks for, by what stands behind `--schedule`: a list of lanes, or behind `@` the file
-/// that has one.
+/// What `step` asks for, by what stands behind `--schedule`: a list of lanes, or behind `@` the
+/// file that has one.
 fn step_of<'a, S: AsStr>(
     alloc: Global,
     words: &'a [S],
@@ -266,8 +266,8 @@ fn not_there(alloc: Global) -> WordsFault
 ///
 /// # Errors
 ///
-/// [`WordsFault::Help`] where they ask for help or the version; [`WordsFault::Wrong`] for words that
-/// are none of the program's, and [`WordsFault::BadSchedule`] for a schedule that is none;
+/// [`WordsFault::Help`] where they ask for help or the version; [`WordsFault::Wrong`] for words
+/// that are none of the program's, and [`WordsFault::BadSchedule`] for a schedule that is none;
 /// [`WordsFault::Memory`] where memory is refused.
 pub fn read_words<'a, S: AsStr>(alloc: Global, words: &'a [S]) -> Result<Asked<'a>, WordsFault>
     ensures none { length words.entry.now ≡ 0

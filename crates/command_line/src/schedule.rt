@@ -108,8 +108,8 @@ pub fn space_lanes(alloc: Global, text: &[u8]) -> Result<Vec<u8>, AllocError>
     text.iter().map(|byte| spaced(*byte)).collect(alloc)
 }
 
-/// Reads a schedule: numbers of lanes in decimal, at most 4,294,967,295, joined by commas. Zeros may
-/// lead a number, and the empty text is the empty schedule.
+/// Reads a schedule: numbers of lanes in decimal, at most 4,294,967,295, joined by commas. Zeros
+/// may lead a number, and the empty text is the empty schedule.
 ///
 /// # Errors
 ///

@@ -86,7 +86,8 @@ module _ (name text given rest : List ℕ) (cut : given ++ rest ≡ text)
     other-name other =
         elim (cases_Bool (list_any is_colon given)) [
           | inl some ↦ other-colon some
-          | inr none ↦ rw (← cut, before-append is_colon given rest none, ends, append-nil given) other
+          | inr none ↦ rw (← cut, before-append is_colon given rest none, ends, append-nil given)
+              other
         ]
 
     pub this-name : list_any is_colon given ≡ false → same_name name given ≡ true

@@ -43,13 +43,23 @@ module _ (a : AcceptedPlan) (old new : SinkState) where
   pub whole-shown : (count : ℕ) → IsCertificateWritten a old new (Ok count)
       → IsCertAnswered (ShowsCert a) old new (Ok FINE)
   whole-shown count w =
-      inl (certificate_text a.universe a.plan w.certificate, shown (Ok count) w, w.written.0, w.written.1)
+      inl (
+        certificate_text a.universe a.plan w.certificate,
+        shown (Ok count) w,
+        w.written.0,
+        w.written.1,
+      )
 
   pub stopped-shown : (stop : CertStop) → IsCertificateWritten a old new (Err stop)
       → IsCertAnswered (ShowsCert a) old new (Err (fault_of stop))
   stopped-shown OutOfMemory w = inl w.written
   stopped-shown CutShort w =
-      inr (refl, certificate_text a.universe a.plan w.certificate, shown (Err CutShort) w, w.written)
+      inr (
+        refl,
+        certificate_text a.universe a.plan w.certificate,
+        shown (Err CutShort) w,
+        w.written,
+      )
   stopped-shown WriteFailed w =
       inl (
         certificate_text a.universe a.plan w.certificate,

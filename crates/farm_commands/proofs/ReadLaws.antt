@@ -10,4 +10,5 @@ whole_of None had most read is known few = tt
 whole_of (Some bytes) had most read is known few =
     let cut : read ≡ take (most + 1) bytes =
     subst (λ h. IfSome h (λ bytes. read ≡ take (most + 1) bytes)) is known in
-    cut ∙ take_all (most + 1) bytes (omega (arith, length-take (most + 1) bytes, ap length cut, few))
+    cut ∙ take_all (most + 1) bytes
+    (omega (arith, length-take (most + 1) bytes, ap length cut, few))

@@ -43,7 +43,8 @@ never_started a ends code l is = elim is.cause [
 ]
 
 -- each chroot at the end of a run counts what it uses
-pub all_used : (a : AcceptedPlan) (chroots : List Held) (spent : List ℕ) (history : List Publication)
+pub all_used : (a : AcceptedPlan) (chroots : List Held) (spent : List ℕ)
+    (history : List Publication)
     → IsFarmRun a chroots spent history → (l : ℕ) (c : Held) → slice_get chroots l ≡ Some c
     → c.used ≡ used a.universe c.slots
 all_used a chroots spent history is l c here =

@@ -47,7 +47,8 @@ told_verdict false verdict = verdict_text verdict
 
 -- the text and the status of this verdict
 abbrev pub TellsVerdict : Result AcceptedPlan Refusal → List ℕ → ℕ → Type 0
-TellsVerdict verdict text status = (text ≡ verdict_text verdict) × (status ≡ status_of (is_ok verdict))
+TellsVerdict verdict text status = (text ≡ verdict_text verdict)
+    × (status ≡ status_of (is_ok verdict))
 
 -- the same, of a verdict that is not want of memory
 abbrev pub AnswersVerdict : Result AcceptedPlan Refusal → List ℕ → ℕ → Type 0
@@ -133,10 +134,11 @@ abbrev pub no_status : ℕ
 no_status = 2 ^ 8
 
 -- Where a status is told, the text of its answer is written whole; where the sink fails, a first
--- part of it. Where the texts cannot be read, or memory is refused, nothing is written. Where memory
--- is refused behind a text, that is one which stands for no status; and a schedule that is none is an
--- answer without a text, whose status is that of wrong words.
-abbrev pub IsAnswered : (List ℕ → ℕ → Type 0) → SinkState → SinkState → Result ℕ OutsideFault → Type 0
+-- part of it. Where the texts cannot be read, or memory is refused, nothing is written. Where
+-- memory is refused behind a text, that is one which stands for no status; and a schedule that is
+-- none is an answer without a text, whose status is that of wrong words.
+abbrev pub IsAnswered : (List ℕ → ℕ → Type 0) → SinkState → SinkState → Result ℕ OutsideFault
+    → Type 0
 IsAnswered Answers old new (Ok status) =
     (text : List ℕ) × Answers text status × IsWritten old new text × (new.failed ≡ false)
 IsAnswered Answers old new (Err WriteFailed) =

@@ -60,8 +60,8 @@ AnswersCert texts text status =
     (verdict : Result AcceptedPlan Refusal) × IsVerdict (planned_in texts) verdict
     × Prints verdict text status
 
--- where no memory is left to go on with a certificate, a first part of the text is written that would
--- have been answered, and nothing else
+-- where no memory is left to go on with a certificate, a first part of the text is written that
+-- would have been answered, and nothing else
 abbrev pub IsCut : (List ℕ → ℕ → Type 0) → SinkState → SinkState → Result ℕ OutsideFault → Type 0
 IsCut Answers old new told =
     (told ≡ Err CutShort) × (text : List ℕ) × Answers text FINE × IsFirstPart old new text
@@ -80,7 +80,8 @@ long_line count =
 -- the error output has such a line, or nothing more
 abbrev pub MayTellLength : SinkState → SinkState → Type 0
 MayTellLength before after =
-    (after ≡ before) ⊎ ((count : ℕ) × (MOST_FILE ≤ count) × IsWritten before after (long_line count))
+    (after ≡ before) ⊎ ((count : ℕ) × (MOST_FILE ≤ count)
+    × IsWritten before after (long_line count))
 
 -- what ends the command where a certificate is not written whole
 abbrev pub fault_of : CertStop → OutsideFault

@@ -1,6 +1,6 @@
 -- What `explain` answers: a text and a status. The project's own rules.
--- Parameters: texts the four texts, of the farm and the plan that they stand for, lines those of the
--- plan's text; json whether the answer is JSON.
+-- Parameters: texts the four texts, of the farm and the plan that they stand for, lines those of
+-- the plan's text; json whether the answer is JSON.
 --
 --   IsExplanation       of four texts, a verdict and what explains it
 --   Tells               the text and the status of these
@@ -131,7 +131,8 @@ AreNotes texts of lines verdict notes =
     IsWhy of lines verdict (all_facts notes.reasons.items)
     × AreWarnings texts of lines notes.warnings.items
 
--- the verdict on a plan, which is not want of memory, and these, unless memory was refused behind it
+-- the verdict on a plan, which is not want of memory, and these, unless memory was refused behind
+-- it
 abbrev pub IsExplained : Texts → FarmPlan → TextLines → Explanation → Type 0
 IsExplained texts of lines e =
     IsVerdictOn of.universe of.plan e.verdict × (e.verdict ≢ Err Memory)

@@ -71,8 +71,8 @@ pub record ComesTo (words : List (List ℕ)) (held : List ℕ → Option (List �
   -- and no word at all asks for the verdict on standard input.
   pub no_word : length words ≡ 0 → IsAnswered (OnInput given) old new told
 
--- the same, or a run of the plan of files whose names stand among the words; before and after are the
--- states of the error output
+-- the same, or a run of the plan of files whose names stand among the words; before and after are
+-- the states of the error output
 abbrev pub MayComeTo : List (List ℕ) → (List ℕ → Option (List ℕ)) → Option (List ℕ) → SinkState
     → SinkState → SinkState → SinkState → Result ℕ OutsideFault → Type 0
 MayComeTo words held given old new before after told =

@@ -1,5 +1,5 @@
--- Schedules that stand in a file. The project's own rules: a word of digits alone is the number of a
--- lane of the plan, and any other word the name of one.
+-- Schedules that stand in a file. The project's own rules: a word of digits alone is the number of
+-- a lane of the plan, and any other word the name of one.
 --
 --   turn_of p word       the lane that a word names
 --   turns_of p text      the lanes that a file names, if each word names one

@@ -234,8 +234,8 @@ pub fn answer_step<'a, S: Sink>(
 ///
 /// # Errors
 ///
-/// [`OutsideFault::BadSchedule`] where that text has a word that is no lane of the plan, and nothing
-/// is written then; else as those of [`answer_step`].
+/// [`OutsideFault::BadSchedule`] where that text has a word that is no lane of the plan, and
+/// nothing is written then; else as those of [`answer_step`].
 pub fn answer_step_by<'a, S: Sink>(
     alloc: Global,
     texts: Texts<'_>,

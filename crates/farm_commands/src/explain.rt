@@ -79,10 +79,10 @@ fn explain_texts(
     }
 }
 
-/// Answers with the verdict on four texts and what explains it, and gives the status: below a fault of
-/// a text what was expected there, below an instruction that may go wrong why, below stuck lanes for
-/// what they wait, and below an acceptance what each wait waits for; and behind the verdict on a plan
-/// the warnings. As JSON it is one object on a line.
+/// Answers with the verdict on four texts and what explains it, and gives the status: below a fault
+/// of a text what was expected there, below an instruction that may go wrong why, below stuck lanes
+/// for what they wait, and below an acceptance what each wait waits for; and behind the verdict on
+/// a plan the warnings. As JSON it is one object on a line.
 ///
 /// # Errors
 ///
@@ -101,7 +101,8 @@ pub fn answer_explain<'a, S: Sink>(
 {
     match explain_texts(rt, alloc, texts) {
         Ok(explanation) => {
-            // The program ends with its answer: what it has read goes with it, and not piece by piece.
+            // The program ends with its answer: what it has read goes with it, and not piece by
+            // piece.
             let explanation = ManuallyDrop::new(explanation);
             write_explanation(alloc, &*explanation, json, out)
         }

@@ -87,7 +87,8 @@ fn run_accepted<'a, R: Threads + Wait + Eprint + Sync, S: Sink, E: Sink>(
 /// its own, and answers with what has come of it, else with the refusal; and gives the status. A
 /// lane that cannot be started is told on the error output, with status 3: nothing is written to
 /// the output then, and all lanes that were started have ended. Where `tells` is set, the error
-/// output of the machine is told meanwhile of each publication and of each lane that begins to wait.
+/// output of the machine is told meanwhile of each publication and of each lane that begins to
+/// wait.
 ///
 /// # Errors
 ///
@@ -101,7 +102,8 @@ pub fn answer_run<'a, R: Threads + Wait + Eprint + Sync, S: Sink, E: Sink>(
     out: &mut S,
     errors: &mut E,
 ) -> Result<u8, OutsideFault<'a>>
-    ensures end { ComesToEnd (AnswersRun (texts_view texts.entry)) (StopsRun (texts_view texts.entry))
+    ensures end { ComesToEnd (AnswersRun (texts_view texts.entry))
+        (StopsRun (texts_view texts.entry))
         (S.state out.old) (S.state out.new) (E.state errors.old) (E.state errors.new) result }
     ensures quiet { OnErr result (E.state errors.new ≡ E.state errors.old) }
 {

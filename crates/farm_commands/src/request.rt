@@ -137,7 +137,8 @@ fn list_files<'a, F: Source, S: Sink>(
     out: &mut S,
 ) -> Result<u8, OutsideFault<'a>>
     ensures { IsAnswered
-        (OnFiles (named (F.held source.now) (F.given source.now)) paths.entry (AnswersListing number))
+        (OnFiles (named (F.held source.now) (F.given source.now)) paths.entry
+        (AnswersListing number))
         (S.state out.old) (S.state out.new) result }
 {
     let files = read_files(alloc, source, paths)?;
@@ -188,7 +189,8 @@ fn step_files<'a, F: Source, S: Sink>(
     out: &mut S,
 ) -> Result<u8, OutsideFault<'a>>
     ensures { IsAnswered
-        (OnFiles (named (F.held source.now) (F.given source.now)) paths.entry (AnswersStep schedule.now))
+        (OnFiles (named (F.held source.now) (F.given source.now)) paths.entry
+        (AnswersStep schedule.now))
         (S.state out.old) (S.state out.new) result }
 {
     let files = read_files(alloc, source, paths)?;
@@ -219,10 +221,10 @@ fn step_by_files<'a, F: Source, S: Sink>(
 ///
 /// [`OutsideFault::CannotRead`] where a file or standard input cannot be read, the first of them in
 /// the order of the words; [`OutsideFault::OutOfMemory`] where memory is refused; and
-/// [`OutsideFault::BadSchedule`] where a file of lanes has a word that is no lane of the plan: nothing
-/// is written then. [`OutsideFault::CutShort`] where memory is refused while a verdict is explained,
-/// and the verdict is written then, or while a certificate is written, with a first part of it. And
-/// [`OutsideFault::WriteFailed`] where the sink fails, with a first part of the answer.
+/// [`OutsideFault::BadSchedule`] where a file of lanes has a word that is no lane of the plan:
+/// nothing is written then. [`OutsideFault::CutShort`] where memory is refused while a verdict is
+/// explained, and the verdict is written then, or while a certificate is written, with a first part
+/// of it. And [`OutsideFault::WriteFailed`] where the sink fails, with a first part of the answer.
 pub fn answer_request<'a, F: Source, S: Sink, E: Sink>(
     rt: &(impl Threads + Sync),
     alloc: Global,

@@ -35,8 +35,8 @@ pub trait Source {
         ensures { IfOk result (λ file. IfSome (held self.now path.now)
             (λ bytes. Self.File.remaining file ≡ Some bytes)) };
 
-    /// Tells whether the error output is watched, as a terminal is: runs are then told of there while
-    /// they go on.
+    /// Tells whether the error output is watched, as a terminal is: runs are then told of there
+    /// while they go on.
     fn is_watched(&self) -> bool;
 
     /// Standard input.
@@ -67,8 +67,8 @@ fn read_up_to<'a, R: Read + Drop>(
 ///
 /// # Errors
 ///
-/// [`OutsideFault::OutOfMemory`] where memory is refused, and [`OutsideFault::CannotRead`] where the
-/// file cannot be opened or a read fails.
+/// [`OutsideFault::OutOfMemory`] where memory is refused, and [`OutsideFault::CannotRead`] where
+/// the file cannot be opened or a read fails.
 pub fn read_file<'a, S: Source>(
     alloc: Global,
     source: &S,

@@ -19,8 +19,8 @@ struct ToldLane {
     waits_at: u32,
 }
 
-/// A bell that may tell of the run by lines on the error output of the machine: of each publication,
-/// and of each lane that begins to wait. What it tells is no part of any promise.
+/// A bell that may tell of the run by lines on the error output of the machine: of each
+/// publication, and of each lane that begins to wait. What it tells is no part of any promise.
 #[derive(Drop)]
 pub struct Teller<'a, R: Wait> {
     rt: &'a R,

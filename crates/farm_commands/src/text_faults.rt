@@ -41,8 +41,8 @@ fn is_of_farm(texts: Texts<'_>, fault: &Fault) -> bool
     fault.file == FARM && texts.farm.len() < 1 << 32
 }
 
-/// The item that a fault of the farm text is about, or the limit that a fault of the packages or the
-/// sources is about.
+/// The item that a fault of the farm text is about, or the limit that a fault of the packages or
+/// the sources is about.
 fn item_text(alloc: Global, fault: &Fault, texts: Texts<'_>) -> Result<Vec<u8>, AllocError>
     ensures { IfOk result (λ text. text.items
         ≡ spec.item_text (texts_view texts.entry) fault.now) }

@@ -170,9 +170,9 @@ fn write_noted<'a, S: Sink>(
 ///
 /// # Errors
 ///
-/// [`OutsideFault::CutShort`] where memory is refused, or was behind the verdict, which is written then;
-/// [`OutsideFault::OutOfMemory`] where none is left for that, and nothing is written then; and
-/// [`OutsideFault::WriteFailed`] where the sink fails, with a first part of the answer.
+/// [`OutsideFault::CutShort`] where memory is refused, or was behind the verdict, which is written
+/// then; [`OutsideFault::OutOfMemory`] where none is left for that, and nothing is written then;
+/// and [`OutsideFault::WriteFailed`] where the sink fails, with a first part of the answer.
 pub fn write_explanation<'a, S: Sink>(
     alloc: Global,
     explanation: &Explanation,

@@ -60,13 +60,13 @@ fn read_words(alloc: Global, plan: &Plan, text: &[u8]) -> Result<Vec<u32>, Sched
     Ok(turns)
 }
 
-/// Reads the text of a file of lanes: each by its number in the plan, which is of digits alone, or by
-/// its name, with commas, spaces, tabs or newlines between them.
+/// Reads the text of a file of lanes: each by its number in the plan, which is of digits alone, or
+/// by its name, with commas, spaces, tabs or newlines between them.
 ///
 /// # Errors
 ///
-/// [`ScheduleFault::BadSchedule`] where a word is no lane of the plan, and [`ScheduleFault::Memory`]
-/// where memory is refused.
+/// [`ScheduleFault::BadSchedule`] where a word is no lane of the plan, and
+/// [`ScheduleFault::Memory`] where memory is refused.
 #[tactic(auto, unfolding(crate::specs::Turns::turns_of))]
 pub fn read_turns(alloc: Global, plan: &Plan, text: &[u8]) -> Result<Vec<u32>, ScheduleFault>
     ensures { Gives refusal_of (λ turns. turns.items) result (turns_of plan.now.lanes text.now) }

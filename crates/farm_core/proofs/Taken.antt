@@ -16,16 +16,17 @@ use Rattle.farm_core.specs.Turns.{IsTurn}
 use Rattle.farm_core.specs.declared.lane.LaneRun.{LaneRun}
 use Rattle.farm_core.specs.declared.turn.Turn.TheVariants.{Goes, Fails}
 
-module _ (of : Lane) (st : LaneState) (cost : ℕ) (traps : List (Bool × Trap)) (next : turn.Turn) where
-  over_first : over_budget of st cost ≡ true
-      → unless_trapped of st cost traps next ≡ turn.Fails OverBudget
-  unfolding first_trap
-  over_first over = rw over refl
+module _ (of : Lane) (st : LaneState) (cost : ℕ) (traps : List (Bool × Trap)) (next : turn.Turn)
+  where
+    over_first : over_budget of st cost ≡ true
+        → unless_trapped of st cost traps next ≡ turn.Fails OverBudget
+    unfolding first_trap
+    over_first over = rw over refl
 
-  then_first : over_budget of st cost ≡ false
-      → unless_trapped of st cost traps next ≡ unless (first_trap traps) next
-  unfolding first_trap
-  then_first within = rw within refl
+    then_first : over_budget of st cost ≡ false
+        → unless_trapped of st cost traps next ≡ unless (first_trap traps) next
+    unfolding first_trap
+    then_first within = rw within refl
 
 module _ (u : Universe) (of : Lane) (r : LaneRun) (run : IsRun u of r) (cost : ℕ)
     (traps : List (Bool × Trap)) (paid : ℕ) (is_cost : paid ≡ cost) where
@@ -73,7 +74,8 @@ module _ (u : Universe) (of : Lane) (r : LaneRun) (run : IsRun u of r) (cost : �
         told =
             then_first of (shown r) cost traps goes (paid_test b test within)
             ∙ (ap (λ o. unless o goes) (sym none)
-            ∙ (ap (λ xs. turn.Goes (past of (shown r) cost xs)) (sym (ap (λ (h : Held). h.slots) is))
+            ∙ (ap (λ xs. turn.Goes (past of (shown r) cost xs))
+            (sym (ap (λ (h : Held). h.slots) is))
             ∙ ap (λ n. turn.Goes (past of (shown r) n c.slots)) (sym is_cost)));
         run = record {
           chroot = held;

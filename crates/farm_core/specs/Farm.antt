@@ -44,7 +44,8 @@ published_in history = map (λ (q : Publication). publication q.lane q.variant) 
 
 -- what lanes show, and what an archive tells
 abbrev pub state_of : List LaneRun → Kept → State
-state_of lanes archive = record { lanes = map shown lanes; published = published_in archive.history }
+state_of lanes archive = record
+    { lanes = map shown lanes; published = published_in archive.history }
 
 -- the chroot of a lane was made of the lane's base chroot
 abbrev pub chroot_in : Farm → ℕ → Held

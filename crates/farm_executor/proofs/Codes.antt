@@ -71,7 +71,8 @@ module _ (a : AcceptedPlan) (gives_up : Type 0) (stops : List LaneStop) (chroots
       lane_ended : (k : ℕ) (e : LaneStop) → slice_get stops k ≡ Some e → (o : OfLane k)
           → IsEndCode e.code × (e.code ≡ GAVE_UP → gives_up)
       lane_ended k e at o =
-          let r = played.lanes.each k e o.chroot o.steps o.told at o.chroot_at o.steps_at o.told_at in
+          let r = played.lanes.each k e o.chroot o.steps o.told at o.chroot_at o.steps_at
+          o.told_at in
           (r.end.code, λ up. (r.end.gave_up up).0)
 
       ended_so : (k : ℕ) (e : LaneStop) → slice_get stops k ≡ Some e

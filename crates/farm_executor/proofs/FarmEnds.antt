@@ -31,7 +31,8 @@ module _ (a : AcceptedPlan) (accepted : IsAccepted a) (gives_up : Type 0) (stops
       let lt = within_list chroots l c at in
       let in_plan : l < length a.plan = omega (arith, lt, played.lanes.chroots_long) in
       let o = of_lane a gives_up stops chroots spent history played l in_plan in
-      subst (HasCome a (state a accepted gives_up stops chroots spent history played each_ended) l c)
+      subst (HasCome a (state a accepted gives_up stops chroots spent history played each_ended) l
+      c)
       (same_Some o.steps n (sym o.steps_at ∙ cost))
       (subst (λ d. HasCome a (state a accepted gives_up stops chroots spent history played
       each_ended) l d o.steps) (same_Some o.chroot c (sym o.chroot_at ∙ at))

@@ -10,7 +10,8 @@ pub more_mapped : {A B : Type 0} (f : A → B) (out : List B) (left : List A) (x
 more_mapped f out left x rest all is e =
     pushed out (f x) (map f rest) ∙ ap (λ xs. out ++ map f xs) (sym is) ∙ e
   where
-    pushed : {B : Type 0} (out : List B) (y : B) (ys : List B) → (out ++ y ∷ []) ++ ys ≡ out ++ y ∷ ys
+    pushed : {B : Type 0} (out : List B) (y : B) (ys : List B) → (out ++ y ∷ []) ++ ys ≡ out ++ y
+        ∷ ys
     pushed [] y ys = refl
     pushed (z ∷ out) y ys = ap (λ xs. z ∷ xs) (pushed out y ys)
 

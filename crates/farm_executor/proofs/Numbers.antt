@@ -46,7 +46,8 @@ output_in_plan a l i v out =
       | inl lt ↦ lt
       | inr ge ↦
           let e : slice_get [] i ≡ Some v =
-          sym (ap (λ of. slice_get (lane_outputs a.universe of) i) (lane_behind a.plan l ge)) ∙ out in
+          sym (ap (λ of. slice_get (lane_outputs a.universe of) i) (lane_behind a.plan l ge))
+          ∙ out in
           absurd (cc)
     ]
 
@@ -144,7 +145,8 @@ module _ (a : AcceptedPlan) (accepted : IsAccepted a) (gives_up : Type 0) (stops
   lane_rises l i j v w lt first second =
       let e = entered l i v first in
       let f = entered l j w second in
-      let same = told_is a gives_up stops chroots spent history played l f.of.told e.of f.of.told_at in
+      let same = told_is a gives_up stops chroots spent history played l f.of.told e.of
+      f.of.told_at in
       let drawn = ap (λ (r : Record). slice_get r.serials j) same ∙ f.made.drawn_as in
       let h = e.of.run.rising i j e.made.serial f.made.serial lt e.made.drawn_as drawn in
       omega (arith, h, e.serial_is, f.serial_is)

@@ -8,23 +8,30 @@ module _ {A B : Type 0} (P : A → B → Type 0) where
   Paired xs ys = (k : ℕ) (x : A) (y : B) → slice_get xs k ≡ Some x → slice_get ys k ≡ Some y → P x y
 
   pub paired_none : (xs : List A) (ys : List B) → ys ≡ [] → Paired xs ys
-  paired_none xs ys e k x y p q = let z : slice_get ys k ≡ None = ap (λ (l : List B). slice_get l k) e in absurd (cc)
+  paired_none xs ys e k x y p q = let z : slice_get ys k
+      ≡ None = ap (λ (l : List B). slice_get l k) e in absurd (cc)
 
-  pub paired_more : (xs : List A) (ys : List B) (x : A) (rest : List A) (y : B) → drop (length ys) xs ≡ x ∷ rest → P x y → Paired xs ys → Paired xs (ys ++ y ∷ [])
+  pub paired_more : (xs : List A) (ys : List B) (x : A) (rest : List A) (y : B)
+      → drop (length ys) xs ≡ x ∷ rest → P x y → Paired xs ys → Paired xs (ys ++ y ∷ [])
   paired_more [] [] x rest y e p h k a b q r = absurd (cc)
   paired_more [] (z ∷ ys) x rest y e p h k a b q r = absurd (cc)
-  paired_more (w ∷ xs) [] x rest y e p h zero a b q r = let s : w ≡ x = cc in let t : w ≡ a = cc in let u : y ≡ b = cc in subst (λ (m : A × B). P m.0 m.1) (λ i. ((sym s ∙ t) i, u i)) p
+  paired_more (w ∷ xs) [] x rest y e p h zero a b q r = let s : w ≡ x = cc in let t : w
+      ≡ a = cc in let u : y ≡ b = cc in subst (λ (m : A × B). P m.0 m.1) (λ i. ((sym s ∙ t) i, u i))
+      p
   paired_more (w ∷ xs) [] x rest y e p h (suc k) a b q r = absurd (cc)
   paired_more (w ∷ xs) (z ∷ ys) x rest y e p h zero a b q r = h 0 a b q r
-  paired_more (w ∷ xs) (z ∷ ys) x rest y e p h (suc k) a b q r = paired_more xs ys x rest y e p (λ j. h (suc j)) k a b q r
+  paired_more (w ∷ xs) (z ∷ ys) x rest y e p h (suc k) a b q r = paired_more xs ys x rest y e p
+      (λ j. h (suc j)) k a b q r
 
-pub drop_more : {A : Type 0} (n : ℕ) (xs : List A) (x : A) (rest : List A) → drop n xs ≡ x ∷ rest → drop (suc n) xs ≡ rest
+pub drop_more : {A : Type 0} (n : ℕ) (xs : List A) (x : A) (rest : List A) → drop n xs ≡ x ∷ rest
+    → drop (suc n) xs ≡ rest
 drop_more zero [] x rest e = absurd (cc)
 drop_more zero (y ∷ ys) x rest e = cc
 drop_more (suc n) [] x rest e = absurd (cc)
 drop_more (suc n) (y ∷ ys) x rest e = drop_more n ys x rest e
 
-pub some_at : {A B : Type 0} (xs : List A) (ys : List B) (k : ℕ) (x : A) → length ys ≡ length xs → slice_get xs k ≡ Some x → (y : B) × (slice_get ys k ≡ Some y)
+pub some_at : {A B : Type 0} (xs : List A) (ys : List B) (k : ℕ) (x : A) → length ys ≡ length xs
+    → slice_get xs k ≡ Some x → (y : B) × (slice_get ys k ≡ Some y)
 some_at [] ys k x e h = absurd (cc)
 some_at (a ∷ xs) [] k x e h = absurd (omega arith)
 some_at (a ∷ xs) (y ∷ ys) zero x e h = (y, refl)

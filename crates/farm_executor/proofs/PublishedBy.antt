@@ -62,7 +62,8 @@ module _ (u : Universe) (p : Plan) (sound : IsSound u p) where
 
     this_made : (next : LaneState) → made_in (put s l next) l ≡ outputs_made u (lane p l) next
     this_made next =
-        ap (outputs_made u (lane p l)) (get_or-set_same s.lanes l next no_state (omega (arith, long)))
+        ap (outputs_made u (lane p l))
+        (get_or-set_same s.lanes l next no_state (omega (arith, long)))
 
     same_made : (next : LaneState)
         → outputs_made u (lane p l) next ≡ made_in s l → (k : ℕ)
@@ -182,7 +183,8 @@ module _ (u : Universe) (p : Plan) (sound : IsSound u p) where
   step_published s t l h e = record {
     places = (step_places u p sound s t l h.places e).0;
     published = step_keeps u p ArePublished s t l e
-        (λ lt. turns s l lt h (instruction_at p l (lane_state s l).done) refl (turn_at u p s l) refl);
+        (λ lt. turns s l lt h (instruction_at p l (lane_state s l).done) refl (turn_at u p s l)
+        refl);
   }
 
   none_made : (l : ℕ) → l < length p → made_in (start u p) l ≡ 0

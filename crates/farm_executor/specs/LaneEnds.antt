@@ -1,5 +1,5 @@
--- What comes of a lane of a run. Parameters: a the accepted plan, gives_up what holds of a gate that
--- may give up, l the lane, c0 and r0 its chroot and record before, c and r those after.
+-- What comes of a lane of a run. Parameters: a the accepted plan, gives_up what holds of a gate
+-- that may give up, l the lane, c0 and r0 its chroot and record before, c and r those after.
 --
 --   IsReady     a lane that may be started
 --   IsEndOf     how it ended

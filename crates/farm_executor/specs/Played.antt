@@ -1,5 +1,5 @@
--- What the lanes of a run came to, with their records and the archive that they leave. Parameters: a
--- the accepted plan, gives_up what holds of a gate that may give up; of the lanes, in file order:
+-- What the lanes of a run came to, with their records and the archive that they leave. Parameters:
+-- a the accepted plan, gives_up what holds of a gate that may give up; of the lanes, in file order:
 -- stops how they ended, chroots, what they spent, and their records.
 --
 --   HasRun         what came of a lane

@@ -61,7 +61,8 @@ fn run_job<R: Wait, Q: Judged, E: LaneArchive, G: Gate>(
     gate: &G,
     job: LaneJob<E>,
 ) -> LaneEnd<E>
-    requires ready { IsReady (Q.plan judged.now) job.lane (E.about job.end) (E.lane job.end) job.chroot
+    requires ready { IsReady (Q.plan judged.now) job.lane (E.about job.end) (E.lane job.end)
+        job.chroot
         (E.log job.end) }
     ensures same { IsSameEnd (E.home job.end) (E.about job.end) (E.lane job.end)
         (E.home result.end) (E.about result.end) (E.lane result.end) }
@@ -100,7 +101,8 @@ fn lane_thread<R: Wait, Q: Judged, E: LaneArchive, G: Gate>(
     refused: &AtomicU64,
     job: LaneJob<E>,
 ) -> LaneEnd<E>
-    requires ready { IsReady (Q.plan judged.now) job.lane (E.about job.end) (E.lane job.end) job.chroot
+    requires ready { IsReady (Q.plan judged.now) job.lane (E.about job.end) (E.lane job.end)
+        job.chroot
         (E.log job.end) }
     ensures same { IsSameEnd (E.home job.end) (E.about job.end) (E.lane job.end)
         (E.home result.end) (E.about result.end) (E.lane result.end) }

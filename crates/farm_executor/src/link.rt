@@ -7,8 +7,8 @@ use crate::providers::Providers;
 use lane_runner::LaneArchive;
 use word_archive::{LaneSeat, SharedArchive};
 
-/// A lane's seat beside its archive: the lane's end of it, and which names provide what. The serials
-/// that the lane has drawn rise.
+/// A lane's seat beside its archive: the lane's end of it, and which names provide what. The
+/// serials that the lane has drawn rise.
 #[derive(Drop)]
 pub struct Link<'a, 'p> {
     pub archive: &'a SharedArchive<'p>,

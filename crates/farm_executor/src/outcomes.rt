@@ -54,10 +54,12 @@ fn give_back(
     requires seats { (k : ℕ) (e : _) → slice_get ends.items k ≡ Some e
         → IsSeatOf seats.table seats.about k e.end.seat }
     requires long { length ends.items ≡ length seats.logs }
-    requires stops { (outcomes.stops.items ≡ []) × (length ends.items ≤ vec_capacity outcomes.stops) }
+    requires stops { (outcomes.stops.items ≡ [])
+        × (length ends.items ≤ vec_capacity outcomes.stops) }
     requires chroots { (outcomes.chroots.items ≡ [])
         × (length ends.items ≤ vec_capacity outcomes.chroots) }
-    requires spent { (outcomes.spent.items ≡ []) × (length ends.items ≤ vec_capacity outcomes.spent) }
+    requires spent { (outcomes.spent.items ≡ [])
+        × (length ends.items ≤ vec_capacity outcomes.spent) }
     ensures stops { result.0.stops.items ≡ map (λ e. e.stop) ends.entry.items }
     ensures chroots { result.0.chroots.items ≡ map (λ e. e.chroot) ends.entry.items }
     ensures spent { result.0.spent.items ≡ map (λ e. e.spent) ends.entry.items }

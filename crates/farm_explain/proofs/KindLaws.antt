@@ -65,7 +65,8 @@ module _ (u : Universe) (p : Plan) (rows : Rows) (ls : List LaneLines) (l : ℕ)
   here : (i : ℕ) → IfSome (hazard_at u p rows l i) (λ hazard. IsTold (i, hazard))
   unfolding hazard_at
   here i =
-      by_risk i (risk_at u p rows l i) (parts_of u (maps_at u p rows l i) (instruction_at p l i)) refl
+      by_risk i (risk_at u p rows l i) (parts_of u (maps_at u p rows l i) (instruction_at p l i))
+      refl
 
   with_place : (i : ℕ) (found : Option Hazard) → IfSome found (λ hazard. IsTold (i, hazard))
       → IfSome (option_map (λ hazard. (i, hazard)) found) IsTold

@@ -34,7 +34,8 @@ module _ (u : Universe) (p : Plan) (ls : List LaneLines) (l word : ℕ) (known :
   missing_same n same =
       let none : none_text u by_word n ≡ none_text u known n =
       ap (λ (t : Bool). if t then [] else said (word_text Word.SurelyNone ++ name_of u n))
-      (some_below-same (variants u n) (λ b. by_word (variant n b)) (λ b. known (variant n b)) same) in
+      (some_below-same (variants u n) (λ b. by_word (variant n b)) (λ b. known (variant n b)) same)
+      in
       let each = text_below-same (variants u n)
       (λ b. standing_text u p ls l by_word (variant n b))
       (λ b. standing_text u p ls l known (variant n b))

@@ -18,12 +18,14 @@ pub no_variants : (u : Universe) (n : ℕ) → names u ≤ n → variants u n �
 unfolding names variants
 no_variants u n past = rw (get_or_past u.packages n [] past) (omega arith)
 
-pub no_fields : (u : Universe) (v : Variant) (field : Field) → nat_lt v.bit (variants u v.name) ≡ false
+pub no_fields : (u : Universe) (v : Variant) (field : Field) → nat_lt v.bit (variants u v.name)
+    ≡ false
     → field_of u v field ≡ []
 unfolding pre_depends depends
 no_fields u v Field.PreDepends past =
     ap (λ (q : Package). q.pre_depends) (nothing u v (omega (arith, ltb-false _ _ past)))
-no_fields u v Field.Depends past = ap (λ (q : Package). q.depends) (nothing u v (omega (arith, ltb-false _ _ past)))
+no_fields u v Field.Depends past = ap (λ (q : Package). q.depends)
+    (nothing u v (omega (arith, ltb-false _ _ past)))
 
 pub no_needs : (u : Universe) (r : ℕ) → length u.recipes ≤ r → (recipe u r).needs ≡ []
 unfolding recipe

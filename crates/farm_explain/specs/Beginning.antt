@@ -2,7 +2,8 @@
 --
 --   NotesHaveTheText             it is the texts of the notes, one behind another
 --   BeginsWith                   a text begins with another
---   NotesBeginWithTheVerdict     so do the notes on a plan that is refused for an instruction or a branch
+--   NotesBeginWithTheVerdict     so do the notes on a plan that is refused for an instruction or a
+--   branch
 use Rattle.std.specs.Prelude.{◌≡◌, ℕ, List, ◌++◌, Err}
 use Rattle.farm_model.specs.Universe.{Universe}
 use Rattle.farm_report.specs.VerdictText.{refusal_text}

@@ -1,5 +1,5 @@
--- What is said of the unsafe instructions of a plan's lanes. The project's own format. Parameters: u a
--- universe, p a plan, rows what its lanes know, ls the lines of its text, l a lane.
+-- What is said of the unsafe instructions of a plan's lanes. The project's own format. Parameters:
+-- u a universe, p a plan, rows what its lanes know, ls the lines of its text, l a lane.
 --
 --   first_hazard     the place of a lane's first unsafe instruction, and what is unsafe there
 --   lane_text        what is said of it

@@ -1,5 +1,5 @@
--- Notes on a plan: lines that tell one thing of it, with the facts that they are about. The project's
--- own format.
+-- Notes on a plan: lines that tell one thing of it, with the facts that they are about. The
+-- project's own format.
 --
 --   PlaceFacts           an instruction of a lane, as it is told
 --   NoteFacts            a note
@@ -18,8 +18,8 @@ use Rattle.farm_explain.specs.declared.kinds.Kind.{Kind}
 use Rattle.farm_explain.specs.declared.note.Note.{Note}
 use Rattle.farm_explain.specs.declared.note.NotePlace.{NotePlace}
 
--- the name of the lane, the number of the instruction from 1, its line in the plan's text with that of
--- the `use` that brings it in, and the trap that it may meet
+-- the name of the lane, the number of the instruction from 1, its line in the plan's text with that
+-- of the `use` that brings it in, and the trap that it may meet
 pub record PlaceFacts : Type 0 where
   pub lane : List ℕ
   pub instruction : ℕ

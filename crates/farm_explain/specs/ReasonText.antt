@@ -1,5 +1,6 @@
--- The reason of a trap, in lines. The project's own format. Parameters: u a universe, p a plan, rows
--- what its lanes know, ls the lines of its text, l a lane, i a place, m what may be held there.
+-- The reason of a trap, in lines. The project's own format. Parameters: u a universe, p a plan,
+-- rows what its lanes know, ls the lines of its text, l a lane, i a place, m what may be held
+-- there.
 --
 --   where_text       the line of an instruction in the plan
 --   missing_text     what of a name is in the archive, may be, or comes later
@@ -112,7 +113,8 @@ standing_words u p ls l is_known v =
     if is_known then word_text Word.Surely ++ variant_text u v
     else source_text u p ls l v (publication u p v)
 
-abbrev pub standing_text : Universe → Plan → List LaneLines → ℕ → (Variant → Bool) → Variant → List ℕ
+abbrev pub standing_text : Universe → Plan → List LaneLines → ℕ → (Variant → Bool) → Variant
+    → List ℕ
 standing_text u p ls l known v =
     said (standing_words u p ls l (known v) v)
 

@@ -1,5 +1,5 @@
--- Pieces of explanations. The project's own format. Parameters: u a universe, n a name, s what may be
--- held of it, e an entry.
+-- Pieces of explanations. The project's own format. Parameters: u a universe, n a name, s what may
+-- be held of it, e an entry.
 --
 --   text_below n f           the texts of the numbers below n, from 0 up
 --   versions_text            the versions of a set, a space before each

@@ -96,7 +96,8 @@ fn push_line(
     name: u32,
 ) -> Result<(), AllocError>
     ensures { OnOk result (text.new.items ≡ text.old.items
-        ++ spec.could_meet_line chroot.entry.universe.now (may_of chroot.entry.state.now) chroot.entry.is_unpack
+        ++ spec.could_meet_line chroot.entry.universe.now (may_of chroot.entry.state.now)
+        chroot.entry.is_unpack
         entry.now name) }
 {
     if !could_meet(chroot.universe, entry, name) {
@@ -111,7 +112,8 @@ fn push_line(
 fn push_lines(text: &mut Vec<u8>, chroot: ChrootText<'_>, entry: &Entry) -> Result<(), AllocError>
     ensures { OnOk result (text.new.items ≡ text.old.items
         ++ spec.text_below (names chroot.entry.universe.now)
-        (spec.could_meet_line chroot.entry.universe.now (may_of chroot.entry.state.now) chroot.entry.is_unpack
+        (spec.could_meet_line chroot.entry.universe.now (may_of chroot.entry.state.now)
+        chroot.entry.is_unpack
         entry.now)) }
 {
     for name in 0..chroot.universe.names() {
@@ -132,8 +134,8 @@ pub fn some_could_meet(universe: &Universe, entry: &Entry) -> bool
     false
 }
 
-/// Puts a line for each name that could meet an entry behind a text, with what may be held of it; or
-/// that there is none.
+/// Puts a line for each name that could meet an entry behind a text, with what may be held of it;
+/// or that there is none.
 ///
 /// # Errors
 ///
@@ -144,7 +146,8 @@ pub fn push_could_meet(
     entry: &Entry,
 ) -> Result<(), AllocError>
     ensures { OnOk result (text.new.items ≡ text.old.items
-        ++ spec.could_meet_text chroot.entry.universe.now (may_of chroot.entry.state.now) chroot.entry.is_unpack
+        ++ spec.could_meet_text chroot.entry.universe.now (may_of chroot.entry.state.now)
+        chroot.entry.is_unpack
         entry.now) }
 {
     if some_could_meet(chroot.universe, entry) {

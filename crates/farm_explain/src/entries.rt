@@ -96,7 +96,8 @@ pub fn push_unmet_entry(
     entry: &Entry,
 ) -> Result<(), AllocError>
     ensures { OnOk result (text.new.items ≡ text.old.items
-        ++ spec.unmet_lines chroot.entry.universe.now (may_of chroot.entry.state.now) chroot.entry.is_unpack owner
+        ++ spec.unmet_lines chroot.entry.universe.now (may_of chroot.entry.state.now)
+        chroot.entry.is_unpack owner
         word.now (Some entry.now)) }
 {
     push_entry_line(text, chroot.universe, owner, word, entry)?;

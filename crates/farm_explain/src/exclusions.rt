@@ -33,8 +33,8 @@ fn first_satisfied<'a>(
         .find(|entry| satisfies_entry(universe, entry, variant))
 }
 
-/// Puts the first entry of these that a variant satisfies behind a text, with the variant; nothing where
-/// there is none. `word` is the name of the field.
+/// Puts the first entry of these that a variant satisfies behind a text, with the variant; nothing
+/// where there is none. `word` is the name of the field.
 ///
 /// # Errors
 ///
@@ -102,7 +102,8 @@ pub fn push_breaks(
     requires known { IsKnown universe.now breaker }
     requires known_broken { IsKnown universe.now broken }
     ensures { OnOk result (text.new.items ≡ text.old.items
-        ++ spec.exclusion_lines universe.now (Owner.Package breaker) (word_text WordData.Breaks) broken
+        ++ spec.exclusion_lines universe.now (Owner.Package breaker) (word_text WordData.Breaks)
+        broken
         (spec.first_satisfied universe.now (package_of universe.now breaker).breaks broken)) }
 {
     let breaks = &universe.relations(breaker).breaks;

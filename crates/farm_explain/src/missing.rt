@@ -129,7 +129,8 @@ fn push_elsewhere(
     found: Publishing,
 ) -> Result<(), AllocError>
     ensures { OnOk result (text.new.items ≡ text.old.items
-        ++ spec.elsewhere_text of.entry.universe.now of.entry.plan.now.lanes of.entry.lines.now.lanes
+        ++ spec.elsewhere_text of.entry.universe.now of.entry.plan.now.lanes
+        of.entry.lines.now.lanes
         variant found.lane found.instruction) }
 {
     push_pieces(text, &[Word::MayBe.text()])?;
@@ -166,7 +167,8 @@ fn push_words(
     is_known: bool,
 ) -> Result<(), AllocError>
     ensures { OnOk result (text.new.items ≡ text.old.items
-        ++ spec.standing_words of.entry.universe.now of.entry.plan.now.lanes of.entry.lines.now.lanes
+        ++ spec.standing_words of.entry.universe.now of.entry.plan.now.lanes
+        of.entry.lines.now.lanes
         of.entry.number is_known variant) }
 {
     if !is_known {
@@ -186,7 +188,8 @@ fn push_standing(
 ) -> Result<(), AllocError>
     requires { bit < 64 }
     ensures { OnOk result (text.new.items ≡ text.old.items
-        ++ spec.standing_text of.entry.universe.now of.entry.plan.now.lanes of.entry.lines.now.lanes of.entry.number
+        ++ spec.standing_text of.entry.universe.now of.entry.plan.now.lanes of.entry.lines.now.lanes
+        of.entry.number
         (λ v. word_has known v.bit) (variant name bit)) }
 {
     push_pieces(text, &[b"  "])?;
@@ -213,8 +216,8 @@ fn push_none(
     push_pieces(text, &[b"\n"])
 }
 
-/// Puts behind a text how each variant of a name stands for a lane, which surely has those of `known`
-/// in the archive.
+/// Puts behind a text how each variant of a name stands for a lane, which surely has those of
+/// `known` in the archive.
 ///
 /// # Errors
 ///
@@ -226,7 +229,8 @@ pub fn push_missing(
     known: u64,
 ) -> Result<(), AllocError>
     ensures { OnOk result (text.new.items ≡ text.old.items
-        ++ spec.missing_text of.entry.universe.now of.entry.plan.now.lanes of.entry.lines.now.lanes of.entry.number
+        ++ spec.missing_text of.entry.universe.now of.entry.plan.now.lanes of.entry.lines.now.lanes
+        of.entry.number
         (λ v. word_has known v.bit) name) }
 {
     push_none(text, of.universe, name, known)?;

@@ -10,8 +10,8 @@ use plan_asm::Plan;
 use plan_lines::{Origin, PlanLines};
 use std::alloc::{AllocError, Global};
 
-/// An instruction that a note is about: the name of its lane, its number there from 1, its line in the
-/// plan's text with that of the `use` that brings it in, and the trap that it may meet.
+/// An instruction that a note is about: the name of its lane, its number there from 1, its line in
+/// the plan's text with that of the `use` that brings it in, and the trap that it may meet.
 #[derive(Debug, Drop)]
 pub struct NotePlace {
     pub lane: Vec<u8>,

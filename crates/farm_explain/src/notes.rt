@@ -377,9 +377,9 @@ fn push_found(notes: &mut Vec<Note>, found: Option<Note>) -> Result<(), AllocErr
     Ok(())
 }
 
-/// Gives what is said of the unsafe instructions of a plan: for each lane that has one a note on the
-/// first, with the line of its refusal, its line in the plan, and why. None for a plan that is safe.
-/// `lines` are those of the plan's text.
+/// Gives what is said of the unsafe instructions of a plan: for each lane that has one a note on
+/// the first, with the line of its refusal, its line in the plan, and why. None for a plan that is
+/// safe. `lines` are those of the plan's text.
 ///
 /// # Errors
 ///

@@ -151,8 +151,9 @@ fn push_ends<K: KnownWords>(
     }
 }
 
-/// Puts the first name that the branches of a `when` leave in different phases behind a text, with what
-/// may be held of it behind each. `end` is the place of their `end`; where there is none, so is no text.
+/// Puts the first name that the branches of a `when` leave in different phases behind a text, with
+/// what may be held of it behind each. `end` is the place of their `end`; where there is none, so
+/// is no text.
 ///
 /// # Errors
 ///

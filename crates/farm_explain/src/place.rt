@@ -88,7 +88,8 @@ fn push_line(text: &mut Vec<u8>, origin: Option<Origin>) -> Result<(), AllocErro
     }
 }
 
-/// Puts `(instruction N, plan line N)` behind a text, for an instruction by its number in a lane, from 1.
+/// Puts `(instruction N, plan line N)` behind a text, for an instruction by its number in a lane,
+/// from 1.
 ///
 /// # Errors
 ///

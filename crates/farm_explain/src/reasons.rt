@@ -91,7 +91,8 @@ fn push_unmet(
     number: usize,
 ) -> Result<(), AllocError>
     ensures { OnOk result (text.new.items ≡ text.old.items
-        ++ spec.unmet_lines chroot.entry.universe.now (may_of chroot.entry.state.now) chroot.entry.is_unpack
+        ++ spec.unmet_lines chroot.entry.universe.now (may_of chroot.entry.state.now)
+        chroot.entry.is_unpack
         (Owner.Package variant) (spec.field_word field)
         (slice_get (spec.field_of chroot.entry.universe.now variant field) number)) }
 {
@@ -155,8 +156,10 @@ fn push_need(
     number: usize,
 ) -> Result<(), AllocError>
     ensures { OnOk result (text.new.items ≡ text.old.items
-        ++ spec.unmet_lines chroot.entry.universe.now (may_of chroot.entry.state.now) false (Owner.Recipe recipe)
-        (word_text WordData.BuildDepends) (slice_get (packages.recipe chroot.entry.universe.now recipe).needs
+        ++ spec.unmet_lines chroot.entry.universe.now (may_of chroot.entry.state.now) false
+        (Owner.Recipe recipe)
+        (word_text WordData.BuildDepends)
+        (slice_get (packages.recipe chroot.entry.universe.now recipe).needs
         number)) }
 {
     let Some(entry) = need_of(chroot.universe, recipe, number) else {
@@ -229,7 +232,8 @@ fn push_broken(
 ) -> Result<(), AllocError>
     ensures { OnOk result (text.new.items ≡ text.old.items
         ++ spec.where_known universe.now breaker (spec.where_known universe.now broken
-        (spec.exclusion_lines universe.now (Owner.Package breaker) (word_text WordData.Breaks) broken
+        (spec.exclusion_lines universe.now (Owner.Package breaker) (word_text WordData.Breaks)
+        broken
         (spec.first_satisfied universe.now (packages.package_of universe.now breaker).breaks
         broken)))) }
 {
@@ -254,8 +258,8 @@ fn push_said(
     push_pieces(text, &[words, b"\n"])
 }
 
-/// Puts the reason behind a text why an instruction of a lane may meet a trap. `known` is what of the
-/// name that it unpacks is surely in the archive.
+/// Puts the reason behind a text why an instruction of a lane may meet a trap. `known` is what of
+/// the name that it unpacks is surely in the archive.
 ///
 /// # Errors
 ///
@@ -270,7 +274,8 @@ pub fn push_reason(
 ) -> Result<(), AllocError>
     requires { of.universe.now ≡ chroot.universe.now }
     ensures { OnOk result (text.new.items ≡ text.old.items
-        ++ spec.reason_text of.entry.universe.now of.entry.plan.now.lanes of.entry.lines.now.lanes of.entry.number
+        ++ spec.reason_text of.entry.universe.now of.entry.plan.now.lanes of.entry.lines.now.lanes
+        of.entry.number
         (λ v. word_has known v.bit) (may_of chroot.entry.state.now) chroot.entry.is_unpack reason) }
 {
     let universe = chroot.universe;

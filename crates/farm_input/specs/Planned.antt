@@ -18,4 +18,5 @@ pub record FarmPlan : Type 0 where
 
 unfoldable pub planned_of : (packages sources farm text : List ℕ) → Result FarmPlan Fault
 planned_of packages sources farm text =
-    universe_of packages sources farm >>= λ u. plan_of u text >>= λ p. Ok (record { universe = u; plan = p })
+    universe_of packages sources farm >>= λ u. plan_of u text >>= λ p. Ok
+    (record { universe = u; plan = p })

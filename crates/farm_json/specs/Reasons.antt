@@ -1,5 +1,5 @@
--- Notes as objects, whose members stand in the order of their names. A fact that a note does not have
--- is no member. The project's own format.
+-- Notes as objects, whose members stand in the order of their names. A fact that a note does not
+-- have is no member. The project's own format.
 --
 --   reason_members note       the members of a note
 --   reasons_data notes        a list of such objects

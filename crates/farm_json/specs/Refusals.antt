@@ -59,7 +59,8 @@ place_members code lane instruction = at_place code lane instruction refused_mem
 
 abbrev pub trap_members : List ℕ → ℕ → Trap → Members
 trap_members lane instruction trap =
-    at_place UNSAFE lane instruction (member (codes "trap") (string (trap_text trap)) refused_member)
+    at_place UNSAFE lane instruction
+    (member (codes "trap") (string (trap_text trap)) refused_member)
 
 abbrev pub stuck_members : List (List ℕ) → Members
 stuck_members names =

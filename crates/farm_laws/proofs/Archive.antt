@@ -45,7 +45,8 @@ list_any-some p (y ∷ ys) zero x e h = let s : y ≡ x = cc in
 list_any-some p (y ∷ ys) (suc i) x e h = or_right (p y) _ (list_any-some p ys i x e h)
 
 -- an element within a list
-pub element : {X : Type 0} (xs : List X) (i : ℕ) → i < length xs → (x : X) × (slice_get xs i ≡ Some x)
+pub element : {X : Type 0} (xs : List X) (i : ℕ) → i < length xs → (x : X)
+    × (slice_get xs i ≡ Some x)
 element [] i lt = absurd (omega (arith, lt))
 element (x ∷ xs) zero lt = (x, refl)
 element (x ∷ xs) (suc i) lt = element xs i (omega (arith, lt))

@@ -1,5 +1,5 @@
--- Branches of a lane that are whole: from a place in a branch there is the next `else` or `end`, and
--- what each instruction between keeps holds there.
+-- Branches of a lane that are whole: from a place in a branch there is the next `else` or `end`,
+-- and what each instruction between keeps holds there.
 use Rattle.std.proofs.Common.{◌≡◌, ℕ, zero, suc, ◌≤◌, Bool, true, false, inl, inr, List, [], ◌∷◌, length, drop, Option, Some, None, slice_get, refl, sym, ap, ◌∙◌, subst, arith}
 use Rattle.std.proofs.lemmas.Bool.{false≢true, both_ways}
 use Rattle.deb_relation.specs.declared.operator.Op.{Op}

@@ -143,8 +143,8 @@ module _ (u : Universe) (p : Plan) (rows : Rows) (l : ℕ)
   abbrev cost_at : ℕ → ℕ
   cost_at i = (may_at u p rows l i).cost
 
-  -- what may be spent at some place is within what may be spent at a later one, or at the end of the
-  -- first branch of the open `when`
+  -- what may be spent at some place is within what may be spent at a later one, or at the end of
+  -- the first branch of the open `when`
   abbrev IsCounted : ℕ → Side → Maps → Type 0
   IsCounted c (InSecond w) m = (c ≤ m.first.cost) ⊎ (c ≤ m.here.cost)
   IsCounted c _ m = c ≤ m.here.cost

@@ -66,8 +66,8 @@ module _ (u : Universe) (p : Plan) (sound : IsSound u p) where
       → ways u (drop k is) ≡ ways_ahead u x (ways u (drop (suc k) is))
   ways_at is k x e = ap (ways u) (drop_some is k x e)
 
-  -- an instruction inside a branch changes neither the ways from behind it nor those from behind the
-  -- next `else`
+  -- an instruction inside a branch changes neither the ways from behind it nor those from behind
+  -- the next `else`
   inner_end : (x : Instruction) (w : Ways) → is_inner x ≡ true
       → (ways_ahead u x w).past_end ≡ w.past_end
   inner_end (Publish r) w h = absurd (false≢true h)
@@ -165,7 +165,8 @@ module _ (u : Universe) (p : Plan) (sound : IsSound u p) where
             | inl behind ↦
                 let same = ap (λ j. (ways u (drop j is)).here) behind
                 ∙ ways_land l (suc st.done) _ h refl in
-                let less = less_ahead g.instruction (ways u (drop (suc st.done) is)) there g.quiet in
+                let less = less_ahead g.instruction (ways u (drop (suc st.done) is)) there
+                g.quiet in
                 omega (arith, near, same, less, lt, one)
             | inr other ↦
                 let same = ap (λ j. (ways u (drop j is)).here) other.1 in

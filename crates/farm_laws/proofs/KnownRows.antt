@@ -173,7 +173,8 @@ module _ (u : Universe) (p : Plan) (rows : Rows) (keeps : KeepsRows u p rows) wh
   row_behind : (s : State) (l : ℕ) (next : LaneState) → l < length p → ArchiveIs u p s
       → RowsThere s
       → (g : GoesOn u (archive u s.published) (lane p l) (lane_state s l)
-      (instruction_at p l (lane_state s l).done) next) → Holds u (archive u s.published) g.instruction
+      (instruction_at p l (lane_state s l).done) next)
+      → Holds u (archive u s.published) g.instruction
       → Knows (archive u s.published) l (suc (lane_state s l).done)
   row_behind s l next h a r g holds v e =
       let none : (v : Variant) → publishing u (instruction_at p l (lane_state s l).done)

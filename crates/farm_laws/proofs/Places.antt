@@ -16,7 +16,8 @@ pub unless_keeps : (P : Turn → Type 0) (o : Option Trap) (m : Turn) → ((t : 
 unless_keeps P None m f h = h
 unless_keeps P (Some t) m f h = f t
 
--- an instruction that publishes nothing and begins no second branch, and a wait only where it passes
+-- an instruction that publishes nothing and begins no second branch, and a wait only where it
+-- passes
 abbrev pub IsQuiet : Universe → (Variant → Bool) → Instruction → Type 0
 IsQuiet u there (Publish r) = ⊥
 IsQuiet u there (Wait e) = passes u there e ≡ true

@@ -331,7 +331,8 @@ module _ (u : Universe) (p : Plan) (rows : Rows) where
     deconfigure_agrees ms e z safe =
         let low = spent_here z in
         unless_agrees l _ (Goes (past (lane p l) st (length ms) (deconfigured st.chroot ms)))
-        (no_trap (deconfigure_covers u here st.chroot agrees.allows (lane p l) st.spent ms low) safe)
+        (no_trap (deconfigure_covers u here st.chroot agrees.allows (lane p l) st.spent ms low)
+        safe)
         (past_agrees (Deconfigure ms) _ _ tt e
         (change_keeps u here st.chroot agrees.allows may_be_deconfigured deconfigured_slot
         (λ k n t a. deconfigured_allowed a) ms _ _ refl) (omega (arith, low)) refl)

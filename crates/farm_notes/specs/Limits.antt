@@ -1,5 +1,5 @@
--- Which limit of a farm a text goes over, below its refusal. The project's own format. Parameters: u
--- what stands before a paragraph, p the paragraph.
+-- Which limit of a farm a text goes over, below its refusal. The project's own format. Parameters:
+-- u what stands before a paragraph, p the paragraph.
 --
 --   farm_limit      the limit that a recipe or a base chroot goes over
 --   index_note      the limit that the packages or the sources go over, if they do

@@ -1,5 +1,5 @@
-//! Which item of the farm text a refusal is about, why a base chroot is not settled, and which limit
-//! a text goes over.
+//! Which item of the farm text a refusal is about, why a base chroot is not settled, and which
+//! limit a text goes over.
 #![tactic(auto)]
 
 mod answer;

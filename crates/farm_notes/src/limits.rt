@@ -52,8 +52,8 @@ fn packages_note(alloc: Global, packages: &[u8], line: u32) -> Result<&'static [
     Ok(package_limit(&universe, &paragraphs, place))
 }
 
-/// The limit that a paragraph of the farm text goes over, behind those before it: a recipe or a base
-/// chroot.
+/// The limit that a paragraph of the farm text goes over, behind those before it: a recipe or a
+/// base chroot.
 pub fn farm_limit(universe: &Universe, is_recipe: bool) -> &'static [u8]
     ensures { result.now ≡ spec.farm_limit universe.now is_recipe }
 {
@@ -66,9 +66,9 @@ pub fn farm_limit(universe: &Universe, is_recipe: bool) -> &'static [u8]
     }
 }
 
-/// Gives what to say of a refusal of the packages or the sources text, the file of this number, with
-/// this code, told at this line: the limit that it goes over, as a line of text; nothing where the
-/// code is not [`OVER_LIMIT`], and of another file.
+/// Gives what to say of a refusal of the packages or the sources text, the file of this number,
+/// with this code, told at this line: the limit that it goes over, as a line of text; nothing where
+/// the code is not [`OVER_LIMIT`], and of another file.
 ///
 /// # Errors
 ///

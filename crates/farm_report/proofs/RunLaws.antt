@@ -6,7 +6,8 @@ use Rattle.plan_model.specs.Plan.{Plan, lane}
 use Rattle.farm_report.specs.RunText.{lane_done_text, lane_end_text}
 use Rattle.farm_report.specs.StateText.{lane_lines}
 
-pub end_is : (u : Universe) (p : Plan) (chroots : List Held) (spent : List ℕ) (l : ℕ) (name : List ℕ)
+pub end_is : (u : Universe) (p : Plan) (chroots : List Held) (spent : List ℕ) (l : ℕ)
+    (name : List ℕ)
     (done cost : ℕ) (c : Held) → name ≡ (lane p l).name → done ≡ length (lane p l).instructions
     → cost ≡ slice_index_or spent l 0 → slice_get chroots l ≡ Some c
     → lane_lines u name done cost c.slots ≡ lane_end_text u p chroots spent l

@@ -45,6 +45,7 @@ lane_is u v n m d e s t h k uv nm de st hk =
 abbrev pub no_publication : Publication
 no_publication = record { serial = 0; lane = 0; variant = variant 0 0 }
 
-pub publications_are : (u v : Universe) (p q : Plan) (h k : List Publication) → u ≡ v → p ≡ q → h ≡ k
+pub publications_are : (u v : Universe) (p q : Plan) (h k : List Publication) → u ≡ v → p ≡ q → h
+    ≡ k
     → flat_map (published_text u p) h ≡ flat_map (published_text v q) k
 publications_are u v p q h k uv pq hk = λ i. flat_map (published_text (uv i) (pq i)) (hk i)

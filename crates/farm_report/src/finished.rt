@@ -67,8 +67,8 @@ fn write_lane_ends<S: Sink>(
 }
 
 /// Writes a run of all lanes that came to its end: `finished`, what was published, by serial, and
-/// each lane in file order, with what it has spent, in steps, and what its chroot holds. It takes no
-/// memory, and a sink that had failed before is not written to.
+/// each lane in file order, with what it has spent, in steps, and what its chroot holds. It takes
+/// no memory, and a sink that had failed before is not written to.
 ///
 /// # Errors
 ///

@@ -71,7 +71,8 @@ sources_profiles ps = flat_map source_profiles ps
 unfoldable pub asked_for : List ℕ → List (List ℕ)
 asked_for sources = distinct bytes_eq (sources_profiles (paragraphs_read sources))
 
--- ---- what recipes name. Parameters: asked the profiles that sources ask for, line the field's line
+-- ---- what recipes name. Parameters: asked the profiles that sources ask for, line the field's
+-- line
 
 abbrev pub profile_warning : ℕ → List ℕ → List ℕ
 profile_warning line profile =

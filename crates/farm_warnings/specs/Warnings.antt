@@ -1,5 +1,5 @@
--- Warnings: what is odd in the texts of a farm and refuses no plan. The project's own format, a line
--- each.
+-- Warnings: what is odd in the texts of a farm and refuses no plan. The project's own format, a
+-- line each.
 --
 --   warnings_text      all of them: fields of the farm text, profiles, recipes, packages, waits
 use Rattle.std.specs.Prelude.{ℕ, List, [], ◌∷◌}

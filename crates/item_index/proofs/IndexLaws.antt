@@ -33,42 +33,44 @@ module _ {O : Type 0} where
       )
 
   -- one more item under a name: what was listed still is, and it is listed
-  module _ (lists : List (List (Item O))) (some : 0 < length lists) (name : List ℕ) (new : Item O) where
-    abbrev more : List (List (Item O))
-    more = with_listed lists name new
+  module _ (lists : List (List (Item O))) (some : 0 < length lists) (name : List ℕ) (new : Item O)
+    where
+      abbrev more : List (List (Item O))
+      more = with_listed lists name new
 
-    pub long : length more ≡ length lists
-    long = length-set lists (list_of (length lists) name) _
+      pub long : length more ≡ length lists
+      long = length-set lists (list_of (length lists) name) _
 
-    abbrev place : List ℕ → ℕ
-    place text = list_of (length lists) text
+      abbrev place : List ℕ → ℕ
+      place text = list_of (length lists) text
 
-    -- the same number of lists, so the same place
-    at_more : (text : List ℕ) → listed more text ≡ get_or more (place text) []
-    at_more text = ap (λ k. get_or more (list_of k text) []) long
+      -- the same number of lists, so the same place
+      at_more : (text : List ℕ) → listed more text ≡ get_or more (place text) []
+      at_more text = ap (λ k. get_or more (list_of k text) []) long
 
-    within : (text : List ℕ) → place text < length lists
-    within text = mod_below (number_behind 0 text) (length lists) some
+      within : (text : List ℕ) → place text < length lists
+      within text = mod_below (number_behind 0 text) (length lists) some
 
-    there : listed more name ≡ listed lists name ++ new ∷ []
-    there = at_more name ∙ get_or-set_same lists (place name) _ [] (within name)
+      there : listed more name ≡ listed lists name ++ new ∷ []
+      there = at_more name ∙ get_or-set_same lists (place name) _ [] (within name)
 
-    pub IsKept-with_listed : IsKept lists more
-    IsKept-with_listed text at is =
-        elim (cases_eq (place text) (place name)) [
-          | inl same ↦
-              let one : listed more text ≡ listed lists text ++ new ∷ [] =
-              at_more text ∙ ap (λ k. get_or more k []) same
-              ∙ get_or-set_same lists (place name) _ [] (within name)
-              ∙ ap (λ k. get_or lists k [] ++ new ∷ []) (sym same) in
-              subst (λ items. IsIn items at) (sym one) (is_in_more (listed lists text) new at is)
-          | inr other ↦
-              subst (λ items. IsIn items at)
-              (sym (at_more text ∙ get_or-set_other lists (place name) (place text) _ [] other)) is
-        ]
+      pub IsKept-with_listed : IsKept lists more
+      IsKept-with_listed text at is =
+          elim (cases_eq (place text) (place name)) [
+            | inl same ↦
+                let one : listed more text ≡ listed lists text ++ new ∷ [] =
+                at_more text ∙ ap (λ k. get_or more k []) same
+                ∙ get_or-set_same lists (place name) _ [] (within name)
+                ∙ ap (λ k. get_or lists k [] ++ new ∷ []) (sym same) in
+                subst (λ items. IsIn items at) (sym one) (is_in_more (listed lists text) new at is)
+            | inr other ↦
+                subst (λ items. IsIn items at)
+                (sym (at_more text ∙ get_or-set_other lists (place name) (place text) _ [] other)) is
+          ]
 
-    pub IsListed-with_listed : IsListed more name new
-    IsListed-with_listed = subst (λ items. IsIn items new) (sym there) (is_in_last (listed lists name) new)
+      pub IsListed-with_listed : IsListed more name new
+      IsListed-with_listed = subst (λ items. IsIn items new) (sym there)
+          (is_in_last (listed lists name) new)
 
 -- what holds of each element before a place holds of each before the next
 pub before_next : {A : Type 0} (P Q : ℕ → A → Type 0) (xs : List A) (n : ℕ) (y : A)

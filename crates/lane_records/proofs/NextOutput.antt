@@ -51,7 +51,8 @@ module _ (u : Universe) (p : Plan) (sound : IsSound u p) (l : ℕ) (r : Record)
   next_at v o outs serials k out same drawn one last here =
       let n = is_next v out in
       let place : outputs_made u (lane p l) r.at ≡ k = omega (arith, one, last, ap length drawn) in
-      let same_at : slice_get (lane_outputs u (lane p l)) (outputs_made u (lane p l) r.at) ≡ Some o =
+      let same_at : slice_get (lane_outputs u (lane p l)) (outputs_made u (lane p l) r.at)
+      ≡ Some o =
       ap (slice_get (lane_outputs u (lane p l))) place
       ∙ (ap (λ xs. slice_get xs k) (sym same) ∙ here) in
       (same_Some v o (sym n.there ∙ same_at), n)

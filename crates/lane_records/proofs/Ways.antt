@@ -41,7 +41,8 @@ module _ (u : Universe) (of : Lane) where
       ends : Ends ≡ Goes next → ⊥
       ends e = cc
 
-      go : (x : Instruction) → is_archive_step x ≡ false → turn_of u nothing of st (Some x) ≡ Goes next
+      go : (x : Instruction) → is_archive_step x ≡ false → turn_of u nothing of st (Some x)
+          ≡ Goes next
           → settled u of false (x ∷ rest) st ≡ settled u of false rest next
       go (Configure members) is e = goes st next rest _ e
       go (Deconfigure members) is e = goes st next rest _ e

@@ -83,7 +83,8 @@ module _ (a : AcceptedPlan) (accepted : IsAccepted a) (w : Runner) (c : Held) (b
           record {
             next = place_below (Unpack name wanted) here;
             short = short;
-            free = ap (λ n. first_trap (unpack_traps u (base u n).capacity c.slots (variant name k)))
+            free = ap (λ n. first_trap
+                (unpack_traps u (base u n).capacity c.slots (variant name k)))
                 run.on.base
                 ∙ free.none;
             fits = free.fits;
@@ -138,7 +139,8 @@ module _ (a : AcceptedPlan) (accepted : IsAccepted a) (w : Runner) (c : Held) (b
     waits fails = record {
       about_is = same_plan ∙ run.about_is;
       lane_is = same_lane ∙ run.lane_is;
-      on = waits_on u a.plan (known_rows a) accepted.sound (annotated a accepted) w c r run.on e here
+      on = waits_on u a.plan (known_rows a) accepted.sound (annotated a accepted) w c r run.on e
+          here
           name found q q_told fails;
     }
 
@@ -149,8 +151,10 @@ module _ (a : AcceptedPlan) (accepted : IsAccepted a) (w : Runner) (c : Held) (b
         subst (λ x. IsRunning a x c b' l' q) (sym v_is) (record {
           about_is = same_plan ∙ run.about_is;
           lane_is = same_lane ∙ run.lane_is;
-          on = passes_on u a.plan (known_rows a) accepted.sound (annotated a accepted) w c r run.on e
-              here name found (bounded a b w.lane l run.about_is run.lane_is name found r bounds) found_one
+          on = passes_on u a.plan (known_rows a) accepted.sound (annotated a accepted) w c r run.on
+              e
+              here name found (bounded a b w.lane l run.about_is run.lane_is name found r bounds)
+              found_one
               q q_told;
         })
 
@@ -162,7 +166,8 @@ module _ (a : AcceptedPlan) (accepted : IsAccepted a) (w : Runner) (c : Held) (b
         subst (λ (x : AcceptedPlan × ℕ × LaneState).
         (v : Variant) × (next_output x.0.universe x.0.plan x.1 x.2 ≡ Some v))
         (λ i. (sym (same_plan ∙ run.about_is) i, sym (same_lane ∙ run.lane_is) i, sym at i))
-        (output_next u a.plan (known_rows a) accepted.sound (annotated a accepted) w c r run.on recipe
+        (output_next u a.plan (known_rows a) accepted.sound (annotated a accepted) w c r run.on
+        recipe
         here)
 
     pub all_used : length r.serials ≡ outputs_made b.universe (lane b.plan l) r.at
@@ -178,9 +183,11 @@ module _ (a : AcceptedPlan) (accepted : IsAccepted a) (w : Runner) (c : Held) (b
       one_unused =
           subst (λ (x : AcceptedPlan × ℕ).
           (length q.serials ≡ suc (outputs_made x.0.universe (lane x.0.plan x.1) q.at))
-          × (slice_get q.serials (outputs_made x.0.universe (lane x.0.plan x.1) q.at) ≡ Some serial))
+          × (slice_get q.serials (outputs_made x.0.universe (lane x.0.plan x.1) q.at)
+          ≡ Some serial))
           (λ i. (sym (same_plan ∙ run.about_is) i, sym (same_lane ∙ run.lane_is) i))
-          (one_drawn u a.plan (known_rows a) accepted.sound (annotated a accepted) w c r run.on recipe
+          (one_drawn u a.plan (known_rows a) accepted.sound (annotated a accepted) w c r run.on
+          recipe
           here serial q drawn)
 
       pub publishes : (q' : Record) (b'' : AcceptedPlan) (l'' : ℕ)
@@ -219,10 +226,12 @@ module _ (a : AcceptedPlan) (accepted : IsAccepted a) (w : Runner) (c : Held) (b
     pub can_give : (w.spent + first_only w.made (length (outputs u recipe))
         ≤ (lane a.plan w.lane).budget) ⊎ (first_only w.made (length (outputs u recipe)) ≡ 0)
     can_give =
-        output_paid u a.plan (known_rows a) accepted.sound (annotated a accepted) w c r run.on recipe
+        output_paid u a.plan (known_rows a) accepted.sound (annotated a accepted) w c r run.on
+        recipe
         here
 
     pub more_left : w.made < length (outputs u recipe)
     more_left =
-        output_left u a.plan (known_rows a) accepted.sound (annotated a accepted) w c r run.on recipe
+        output_left u a.plan (known_rows a) accepted.sound (annotated a accepted) w c r run.on
+        recipe
         here

@@ -39,7 +39,8 @@ starts u p rows sound ann l lt c r fresh held at none =
       agrees = subst (Agrees u p rows l) is keeps;
       there = place;
       on_way = ap (ready_in u p l) (sym is ∙ sym at);
-      from = subst (λ (s : LaneState). StandsAt u (instruction_at p l s.done) s.made) (sym at) place;
+      from = subst (λ (s : LaneState). StandsAt u (instruction_at p l s.done) s.made) (sym at)
+          place;
       drawn = ap length none ∙ ap (outputs_made u (lane p l)) (sym at);
     }
 

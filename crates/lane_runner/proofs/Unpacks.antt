@@ -44,7 +44,8 @@ module _ (u : Universe) (p : Plan) (rows : Rows) (sound : IsSound u p) (ann : Is
   ready_here : ready_in u p w.lane r.at ≡ st
   ready_here = ready_is u p rows sound w c r on (Unpack name wanted) refl here
 
-  agrees : AgreesAfter u p rows w.lane (unpacks u of st name (newest u (seen name found) name wanted))
+  agrees : AgreesAfter u p rows w.lane
+      (unpacks u of st name (newest u (seen name found) name wanted))
   agrees =
       unpack_safe u p rows sound ann w.lane on.in_plan st on.agrees on.there name found wanted here
       (has_known u p rows sound w c r on (Unpack name wanted) refl here refl name found bounds)
@@ -68,7 +69,8 @@ module _ (u : Universe) (p : Plan) (rows : Rows) (sound : IsSound u p) (ann : Is
 
     -- there is such a variant
     pub some_newest : o ≡ None → ⊥
-    some_newest e = subst (λ x. AgreesAfter u p rows w.lane (unpacks u of st name x)) (top ∙ e) agrees
+    some_newest e = subst (λ x. AgreesAfter u p rows w.lane (unpacks u of st name x)) (top ∙ e)
+        agrees
 
     module _ (b : ℕ) (some : o ≡ Some b) where
       abbrev traps : List (Bool × Trap)
@@ -88,7 +90,8 @@ module _ (u : Universe) (p : Plan) (rows : Rows) (sound : IsSound u p) (ann : Is
       unpack_free = free_and_safe.0
 
       turn_is : turn_of u (seen name found) of st (Some (Unpack name wanted)) ≡ Goes next
-      turn_is = ap (unpacks u of st name) (top ∙ some) ∙ ap (λ x. unless x (Goes next)) unpack_free.all
+      turn_is = ap (unpacks u of st name) (top ∙ some)
+          ∙ ap (λ x. unless x (Goes next)) unpack_free.all
 
       moved : (after_load u p w.lane name found r).at ≡ next
       moved =
@@ -123,7 +126,8 @@ module _ (u : Universe) (p : Plan) (rows : Rows) (sound : IsSound u p) (ann : Is
                 agrees = subst (Agrees u p rows w.lane) (sym is) free_and_safe.1;
                 there = place;
                 on_way = ap (ready_in u p w.lane) (is ∙ sym moved);
-                from = subst (λ (s : LaneState). InPlace u of.instructions s.done s.made) (sym moved)
+                from = subst (λ (s : LaneState). InPlace u of.instructions s.done s.made)
+                    (sym moved)
                     place;
                 drawn =
                     on.drawn

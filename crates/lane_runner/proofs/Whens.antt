@@ -101,7 +101,8 @@ module _ (u : Universe) (p : Plan) (rows : Rows) (sound : IsSound u p) (ann : Is
         drawn =
             on.drawn
             ∙ (sym (made_is u p rows sound w c r on x refl here)
-            ∙ (sym (goes_count u of (sound.plan.branched w.lane on.in_plan) (seen name found) st next
+            ∙ (sym (goes_count u of (sound.plan.branched w.lane on.in_plan) (seen name found) st
+            next
             x here on.there refl)
             ∙ ap (outputs_made u of) (sym moved)));
       }))

@@ -1,5 +1,5 @@
--- One lane's end of an archive, between calls. Parameters: home the archive that the end belongs to,
--- a the accepted plan, u its universe, p its plan, l the lane's number, r the lane's record.
+-- One lane's end of an archive, between calls. Parameters: home the archive that the end belongs
+-- to, a the accepted plan, u its universe, p its plan, l the lane's number, r the lane's record.
 --
 --   IsSameEnd       the end is of the same archive, plan and lane
 --   IsRunning       a runner is on the way of the end's lane

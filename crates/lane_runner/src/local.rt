@@ -113,7 +113,8 @@ impl Runner {
 
     /// Builds a recipe in a chroot, which stays as it is.
     pub(crate) fn build(&mut self, universe: &Universe, lane: &Lane, recipe: u32)
-        requires free { CanPass lane.now self.old (build_cost (packages.recipe universe.now recipe)) [] }
+        requires free { CanPass lane.now self.old (build_cost (packages.recipe universe.now recipe))
+            [] }
         requires known { recipe < length universe.now.recipes }
         ensures place { self.new
             ≡ passed lane.now self.old (build_cost (packages.recipe universe.now recipe)) }

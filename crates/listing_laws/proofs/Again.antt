@@ -96,7 +96,8 @@ module _ (u : Universe) where
   add-again lanes m l done x fits =
       let all = instructions_of (lanes ++ with_done l done ∷ []) ++ x ∷ [] in
       let now : Fits all =
-      subst (λ xs. Fits (xs ++ x ∷ [])) (sym (instructions_of-push lanes (with_done l done))) fits in
+      subst (λ xs. Fits (xs ++ x ∷ [])) (sym (instructions_of-push lanes (with_done l done)))
+      fits in
       rw (now.once, le-ltb MOST_INSTRUCTIONS (length all) now.few) refl
 
   -- the line of an instruction, less its end

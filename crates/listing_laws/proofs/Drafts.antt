@@ -226,7 +226,8 @@ module _ (u : Universe) where
       },
       next,
       subst Fits
-          (sym (instructions_of-push ls (fresh_lane name b budget) ∙ append-nil (instructions_of ls)))
+          (sym (instructions_of-push ls (fresh_lane name b budget)
+          ∙ append-nil (instructions_of ls)))
           is.current,
     );
   }

@@ -45,7 +45,8 @@ pub sum-goes : {X : Type 0} (f : X → ℕ) (xs : List X) (i : ℕ) (x : X) (n t
     → i < length xs → x ≡ get_or xs i x → n + sum_by f (drop i xs) ≡ total
     → n + f x + sum_by f (drop (i + 1) xs) ≡ total
 sum-goes f xs i x n total lt is so_far =
-    let step = at_drop_more (sum_by f) xs i x lt ∙ sum_by-cons f (get_or xs i x) (drop (i + 1) xs) in
+    let step = at_drop_more (sum_by f) xs i x lt
+    ∙ sum_by-cons f (get_or xs i x) (drop (i + 1) xs) in
     let same = ap f is in
     omega (arith, so_far, step, same)
 

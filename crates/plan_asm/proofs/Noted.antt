@@ -41,7 +41,8 @@ module _ (n : ℕ) (rs : List ℕ) (xs : List Instruction) where
       go true twice = absurd (err-never _ found (rw twice at is))
       go false once = elim (cases_lt MOST_INSTRUCTIONS (n + length xs)) [
         | inl over ↦
-            absurd (err-never _ found (sym (noted-over (rs ++ published xs) (rw once refl) over) ∙ is))
+            absurd (err-never _ found
+            (sym (noted-over (rs ++ published xs) (rw once refl) over) ∙ is))
         | inr fits ↦ (
           rw once refl ∙ (sym (noted-fits (rs ++ published xs) (rw once refl) (omega arith)) ∙ is),
           omega arith,

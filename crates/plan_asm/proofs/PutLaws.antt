@@ -89,7 +89,8 @@ module _ (blocks : BlockList) (ls : List LaneRecord) (n : ℕ) (rs : List ℕ) (
           let told = noted-is n rs (x ∷ []) found e in
           let more = with_instructions l (x ∷ []) in
           subst (IsKeptBy (Lane line l)) (ok-same _ next (rw e at is)) (
-            lane-kept blocks ls line l more (x ∷ []) n (n + 1) rs found kept told.0 refl refl told.1,
+            lane-kept blocks ls line l more (x ∷ []) n (n + 1) rs found kept told.0 refl refl
+                told.1,
             lane-gives blocks.ended ls line l (x ∷ []) n rs found kept.tallied told.0 more refl
                 told.1,
           )

@@ -104,7 +104,8 @@ pub whole-written : (xs : List Instruction) (rs : List Row) (ps : List Part) (o 
     → opened xs rs (reverse (ps ++ option_to_list o))
     ≡ opened xs rs (reverse ps) ++ opened xs rs (option_to_list o)
 whole-written xs rs ps None =
-    ap (λ qs. opened xs rs (reverse qs)) (append-nil ps) ∙ sym (append-nil (opened xs rs (reverse ps)))
+    ap (λ qs. opened xs rs (reverse qs)) (append-nil ps)
+    ∙ sym (append-nil (opened xs rs (reverse ps)))
 whole-written xs rs ps (Some p) = written-push xs rs ps p
 
 pub whole-pushed : (xs : List Instruction) (rs : List Row) (es : List (Vec ℕ × Whole))

@@ -1,5 +1,6 @@
 -- What the table of blocks stands for. A block's parts are instructions, by their place among those
--- that stand in blocks, and uses of earlier rows; a row is the parts of a block, the last one first.
+-- that stand in blocks, and uses of earlier rows; a row is the parts of a block, the last one
+-- first.
 --
 --   opened steps rows ps      the instructions of parts, the last one first
 --   turns rows ps             how many turns it takes to open them

@@ -1,6 +1,7 @@
--- What a line of a plan does behind the lines before it (the project's own format): blocks are a map
--- from names to lists of instructions, and a `use` stands for the list of its block. Parameters: u a
--- universe, d a draft, bs and ls the blocks and the lanes that have ended, s a side.
+-- What a line of a plan does behind the lines before it (the project's own format): blocks are a
+-- map from names to lists of instructions, and a `use` stands for the list of its block.
+-- Parameters: u a universe, d a draft, bs and ls the blocks and the lanes that have ended, s a
+-- side.
 --
 --   Draft, Reading               what the lines so far say
 --   block_named bs name          the instructions of a block, or UNKNOWN_BLOCK
@@ -207,8 +208,8 @@ add bs ls (InLane line lane) xs =
       current = InLane line (with_instructions lane xs);
     })
 
--- the recipes that all lanes publish with those of more instructions, where the lanes have so many: no
--- recipe is published twice, and there are not too many instructions
+-- the recipes that all lanes publish with those of more instructions, where the lanes have so many:
+-- no recipe is published twice, and there are not too many instructions
 abbrev pub noted : ℕ → List ℕ → List Instruction → Result (List ℕ) ℕ
 noted count recipes xs =
     published_once (recipes ++ published xs)

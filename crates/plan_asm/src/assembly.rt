@@ -39,7 +39,8 @@ pub enum Section {
     Lane { line: u32, lane: Lane },
 }
 
-/// What the lines of a plan say so far: the blocks and lanes that have ended, and what is left open.
+/// What the lines of a plan say so far: the blocks and lanes that have ended, and what is left
+/// open.
 #[derive(Drop)]
 pub struct Assembly {
     blocks: Blocks,
@@ -324,8 +325,9 @@ impl Assembly {
     /// # Errors
     ///
     /// [`BadLine`](LineError::BadLine) where nothing is open;
-    /// [`PublishedTwice`](LineError::PublishedTwice) in a lane; [`OverLimit`](LineError::OverLimit);
-    /// or that memory ran out. What was said so far may be forgotten then.
+    /// [`PublishedTwice`](LineError::PublishedTwice) in a lane;
+    /// [`OverLimit`](LineError::OverLimit); or that memory ran out. What was said so far may be
+    /// forgotten then.
     pub fn add(&mut self, alloc: Global, instruction: Instruction) -> Result<(), LineError>
         ensures { Gives refusal_of_line (λ _. self.new) result
             (add self.old.blocks self.old.lanes self.old.current (instruction ∷ [])) }
@@ -351,8 +353,8 @@ impl Assembly {
     /// # Errors
     ///
     /// [`BadLine`](LineError::BadLine) where nothing is open;
-    /// [`UnknownBlock`](LineError::UnknownBlock); [`PublishedTwice`](LineError::PublishedTwice) in a
-    /// lane; [`OverLimit`](LineError::OverLimit); or that memory ran out.
+    /// [`UnknownBlock`](LineError::UnknownBlock); [`PublishedTwice`](LineError::PublishedTwice) in
+    /// a lane; [`OverLimit`](LineError::OverLimit); or that memory ran out.
     pub fn add_use(self, alloc: Global, block: &[u8]) -> Result<Assembly, LineError>
         requires { is_open self.current ≡ true }
         ensures { Gives refusal_of_line (λ next. next) result

@@ -1,4 +1,5 @@
-//! The blocks of a plan. A block that uses another keeps the use, and no copy of what it stands for.
+//! The blocks of a plan. A block that uses another keeps the use, and no copy of what it stands
+//! for.
 
 ghost use Rattle.std.specs.Prelude.{◌≡◌, ◌∷◌, ◌++◌, ◌<◌, [], false, length, option_to_list, IfOk, OnOk};
 ghost use Rattle.std.specs.List.{list_any};
@@ -194,8 +195,8 @@ impl Blocks {
     ///
     /// # Errors
     ///
-    /// [`UnknownBlock`](LineError::UnknownBlock), [`OverLimit`](LineError::OverLimit), or that memory
-    /// ran out.
+    /// [`UnknownBlock`](LineError::UnknownBlock), [`OverLimit`](LineError::OverLimit), or that
+    /// memory ran out.
     pub fn add_use(self, name: &[u8]) -> Result<Blocks, LineError>
         ensures { Gives refusal_of_line (λ next. next) result (write_use self name.now) }
     {
@@ -256,7 +257,8 @@ impl Blocks {
     ///
     /// [`UnknownBlock`](LineError::UnknownBlock), or that memory ran out.
     pub fn instructions(&self, alloc: Global, name: &[u8]) -> Result<Vec<Instruction>, LineError>
-        ensures { Gives refusal_of_line (λ xs. xs.items) result (block_named self.now.ended name.now) }
+        ensures { Gives refusal_of_line (λ xs. xs.items) result
+            (block_named self.now.ended name.now) }
     {
         let whole = find(&self.ended, name)?;
         Ok(open_part(alloc, &self.steps, &self.rows, whole.part)?)

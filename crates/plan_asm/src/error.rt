@@ -76,7 +76,8 @@ impl LineError {
 
     /// The fault of the line with this number.
     pub fn at(self, line: u32) -> Fault
-        ensures { refusal_of result ≡ option_map (λ code. fault_at FILE line code) (refusal_of_line self) }
+        ensures { refusal_of result ≡ option_map (λ code. fault_at FILE line code)
+            (refusal_of_line self) }
     {
         Fault::place(FILE, line, self.code())
     }

@@ -137,7 +137,8 @@ fn in_line(error: RelationError) -> LineError
 }
 
 fn read_atom(alloc: Global, text: &[u8]) -> Result<Atom, LineError>
-    ensures { Gives refusal_of_line (λ atom. atom) result (in_line (alternative_at Kind.Need text.now)) }
+    ensures { Gives refusal_of_line (λ atom. atom) result
+        (in_line (alternative_at Kind.Need text.now)) }
 {
     match Atom::parse(alloc, text, Kind::Need) {
         Ok(atom) => Ok(atom),

@@ -138,7 +138,8 @@ fn has_double(alloc: Global, numbers: &[u32], bound: u32) -> Result<bool, AllocE
 ///
 /// # Errors
 ///
-/// [`UnknownName`](LineError::UnknownName) for one of them; [`NameTwice`](LineError::NameTwice). 900 where memory ran out.
+/// [`UnknownName`](LineError::UnknownName) for one of them; [`NameTwice`](LineError::NameTwice).
+/// 900 where memory ran out.
 #[tactic(auto, unfolding(crate::specs::Drafts::set_of))]
 fn read_set(alloc: Global, universe: &Universe, names: &[u8]) -> Result<Members, LineError>
     ensures { Gives refusal_of_line (λ members. members) result

@@ -332,9 +332,9 @@ fn read_text(alloc: Global, universe: &Universe, text: &[u8]) -> Result<Plan, Fa
 /// fault: [`NO_PLAN`] for the first line, at line 0 where there is none; else, of one line in this
 /// order, [`BAD_LINE`](crate::BAD_LINE), [`UNKNOWN_NAME`](crate::UNKNOWN_NAME),
 /// [`NAME_TWICE`](crate::NAME_TWICE), [`UNKNOWN_BLOCK`](crate::UNKNOWN_BLOCK),
-/// [`NAME_TAKEN`](crate::NAME_TAKEN), [`PUBLISHED_TWICE`](crate::PUBLISHED_TWICE), told where a lane
-/// comes to publish a recipe again, and [`OVER_LIMIT`](crate::OVER_LIMIT), told for more than 64
-/// lanes, and for more than 65,536 instructions of all lanes or of a block. Last
+/// [`NAME_TAKEN`](crate::NAME_TAKEN), [`PUBLISHED_TWICE`](crate::PUBLISHED_TWICE), told where a
+/// lane comes to publish a recipe again, and [`OVER_LIMIT`](crate::OVER_LIMIT), told for more than
+/// 64 lanes, and for more than 65,536 instructions of all lanes or of a block. Last
 /// [`UNCLOSED`](crate::UNCLOSED), at the line of a `when`, a lane or a block without `end`, the
 /// innermost one. 900 of file 0 and line 0 where memory ran out. Nothing is left behind.
 pub fn assemble(alloc: Global, universe: &Universe, text: &[u8]) -> Result<Plan, Fault>

@@ -47,7 +47,8 @@ unjustified-alike u p rows other l i same first =
       in_plan = first.in_plan;
       here = λ j. first.here ((alike.justified l i first.in_plan).1 j);
       before = λ k lt. (alike.justified l k first.in_plan).0 (first.before k lt);
-      lanes_before = λ j k lt. (alike.justified j k (omega (arith, lt, first.in_plan))).0 (first.lanes_before j k lt);
+      lanes_before = λ j k lt. (alike.justified j k (omega (arith, lt, first.in_plan))).0
+          (first.lanes_before j k lt);
     }
 
 unsafe-alike : (u : Universe) (p : Plan) (rows other : Rows) (l i : ℕ) (hazard : Hazard)
@@ -62,7 +63,8 @@ unsafe-alike u p rows other l i hazard same first =
           ∙ first.lanes_before j k lt;
     }
 
-module _ (u : Universe) (p : Plan) (c : Certificate) (is : IsCertificate u p c) (sound : IsUniverse u)
+module _ (u : Universe) (p : Plan) (c : Certificate) (is : IsCertificate u p c)
+    (sound : IsUniverse u)
     (rows : Rows) (same : Agree p rows (stated_rows u p c)) where
   pub have-known : HaveKnown u p rows
   have-known l i v lt le e = stated-known u p c is sound l i v (sym (same l i v lt le) ∙ e)
@@ -71,7 +73,8 @@ module _ (u : Universe) (p : Plan) (c : Certificate) (is : IsCertificate u p c) 
   starts l v lt e = stated-start u p c is l v (sym (same l 0 v lt (omega arith)) ∙ e)
 
   pub rows-verdict : (f : CertFault) → AreChecked u p rows (Err f) → IsCertVerdict u p c (Err f)
-  rows-verdict (Row l number) told = unjustified-alike u p rows (stated_rows u p c) l number same told
+  rows-verdict (Row l number) told = unjustified-alike u p rows (stated_rows u p c) l number same
+      told
   rows-verdict Memory told = tt
   rows-verdict (Text line) told = absurd told
   rows-verdict (Unsafe l number trap) told = absurd told

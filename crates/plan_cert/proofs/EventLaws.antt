@@ -96,13 +96,15 @@ module _ (u : Universe) (p : Plan) (l : ℕ) (events : List Event)
     (are : AreEvents u p l (length (lane p l).instructions) events) where
   all-items : map (item_of p l) events ≡ lane_items u p l
   all-items =
-      are.items ∙ ap (items u) (take_all (length (lane p l).instructions) (lane p l).instructions (omega arith))
+      are.items ∙ ap (items u)
+      (take_all (length (lane p l).instructions) (lane p l).instructions (omega arith))
 
   pub items-long : length (lane_items u p l) ≡ length events
   items-long = ap length (sym all-items) ∙ length-map events (item_of p l)
 
   pub left-next : (n : ℕ) (d : Event) → n < length events
-      → drop n (lane_items u p l) ≡ item_of p l (get_or events n d) ∷ drop (suc n) (lane_items u p l)
+      → drop n (lane_items u p l) ≡ item_of p l (get_or events n d)
+      ∷ drop (suc n) (lane_items u p l)
   left-next n d lt =
       ap (drop n) (sym all-items) ∙ drop-map (item_of p l) n events
       ∙ ap (map (item_of p l)) (drop-cons events n d lt)
@@ -140,7 +142,8 @@ stops-waits u p l made there next_there item more lt ahead is =
     }
 
 -- and one that does
-pub steps : (u : Universe) (p : Plan) (l : ℕ) (made there next_there : List ℕ) (item : Item) → l < length p
+pub steps : (u : Universe) (p : Plan) (l : ℕ) (made there next_there : List ℕ) (item : Item)
+    → l < length p
     → l < length made
     → left_by u p made l ≡ item ∷ drop (suc (slice_index made l)) (lane_items u p l)
     → IsMade u l item there next_there true
@@ -160,7 +163,8 @@ steps u p l made there next_there item lt lt2 ahead is =
     next = slice_set made l (slice_index made l + 1)
 
     after : (k : ℕ) → with_left (left_by u p made) l
-        (drop (suc (slice_index made l)) (lane_items u p l)) k ≡ left_by u p (slice_set made l (slice_index made l + 1)) k
+        (drop (suc (slice_index made l)) (lane_items u p l)) k
+        ≡ left_by u p (slice_set made l (slice_index made l + 1)) k
     after k =
         elim (cases_eq k l) [
           | inl here ↦
@@ -207,7 +211,8 @@ broken-end u p order made there l lt left r item numbered = (
     way = subst (λ xs. Reaches u (start_board u p) xs r.board)
         (take_all (length order) order (omega arith)) r.way;
     lane = l;
-    left = λ none. drop-some (lane_items u p l) (slice_index made l) left (sym (r.rest l lt) ∙ none);
+    left = λ none. drop-some (lane_items u p l) (slice_index made l) left
+        (sym (r.rest l lt) ∙ none);
   }),
 )
 

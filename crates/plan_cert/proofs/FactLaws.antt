@@ -84,7 +84,8 @@ module _ (u : Universe) (sources new before : List ℕ) (r : ℕ) (known : Varia
           | inr le ↦
               elim (or_cases (known v) _ (sym (has v) ∙ sub v.name v.bit here)) [
                 | inl old ↦ inl old
-                | inr out ↦ inr (contains-more (outputs u r) (n + 1) (suc m) v (omega (arith, le)) out)
+                | inr out ↦ inr (contains-more (outputs u r) (n + 1) (suc m) v (omega (arith, le))
+                    out)
               ]
         ]
 
@@ -118,7 +119,8 @@ with-known u r n known all_known outs v e =
     contained [] all here = absurd (false≢true here)
     contained (w ∷ ws) all here =
         elim (or_cases (same w v) _ here) [
-          | inl same_one ↦ subst (IsKnown u) (same-true w v same_one) (All-head (IsKnown u) w ws all)
+          | inl same_one ↦ subst (IsKnown u) (same-true w v same_one)
+              (All-head (IsKnown u) w ws all)
           | inr rest ↦ contained ws (All-tail (IsKnown u) w ws all) rest
         ]
 
@@ -128,24 +130,28 @@ module _ (u : Universe) (p : Plan) (rows : Rows) (sources new : Variant → Bool
       → (IsTrue answer ↔ IsKnownWith u sources new (rows j k) r)
       → IsTrue answer ↔ IsKnownAt u p rows sources new j k
   known_here j k r answer at decides = (
-    λ e q there. let same : r ≡ q = cc in subst (IsKnownWith u sources new (rows j k)) same (decides.0 e),
+    λ e q there. let same : r ≡ q = cc in subst (IsKnownWith u sources new (rows j k)) same
+        (decides.0 e),
     λ h. decides.1 (h r at),
   )
 
   pub none_here : (j k : ℕ) (x : Instruction) → instruction_at p j k ≡ Some x
       → ((r : ℕ) → x ≢ Publish r) → IsTrue true ↔ IsKnownAt u p rows sources new j k
-  none_here j k x at none = (λ e q there. absurd (none q (let same : x ≡ Publish q = cc in same)), λ h. refl)
+  none_here j k x at none =
+      (λ e q there. absurd (none q (let same : x ≡ Publish q = cc in same)), λ h. refl)
 
   -- all places of a lane
   pub known_lane : (j n : ℕ) → length (lane p j).instructions ≤ n
       → ((k : ℕ) → k < n → IsKnownAt u p rows sources new j k) → (k : ℕ)
       → IsKnownAt u p rows sources new j k
   known_lane j n past all k r at =
-      let lt = slice_get_within (lane p j).instructions k (Publish r) at in all k (omega (arith, lt, past)) r at
+      let lt = slice_get_within (lane p j).instructions k (Publish r) at in all k
+      (omega (arith, lt, past)) r at
 
   -- all lanes, and the initial archive
   pub facts_from : ((j : ℕ) → j < length p → (k : ℕ) → IsKnownAt u p rows sources new j k)
-      → ((c v : Variant) → sources c ≡ true → new v ≡ true → initial u c ≡ true → initial u v ≡ true)
+      → ((c v : Variant) → sources c ≡ true → new v ≡ true → initial u c ≡ true → initial u v
+      ≡ true)
       → AreFacts u p rows sources new
   facts_from all start c v hit here =
       record {
@@ -161,21 +167,26 @@ module _ (u : Universe) (p : Plan) (rows : Rows) (sources new : Variant → Bool
 module _ (u : Universe) (archive sources new : List ℕ) (sound : IsUniverse u)
     (is : IsRowOf u (initial u) archive) where
   abbrev pub StaysInitial : Type 0
-  StaysInitial = (c v : Variant) → in_row sources c ≡ true → in_row new v ≡ true → initial u c ≡ true
+  StaysInitial = (c v : Variant) → in_row sources c ≡ true → in_row new v ≡ true → initial u c
+      ≡ true
       → initial u v ≡ true
 
   archive-has : (v : Variant) → in_row archive v ≡ initial u v
   archive-has = row-has u (initial u) archive is sound.initial_known
 
-  pub none-initial : (hit : Bool) → (IsTrue hit ↔ HaveCommon (variants_of archive) (variants_of sources))
+  pub none-initial : (hit : Bool)
+      → (IsTrue hit ↔ HaveCommon (variants_of archive) (variants_of sources))
       → hit ≡ false → IsTrue true ↔ StaysInitial
   none-initial hit common miss = (
-    λ e c v here some start. absurd (both_ways hit miss (common.1 (c.name, c.bit, archive-has c ∙ start, here))),
+    λ e c v here some start. absurd
+        (both_ways hit miss (common.1 (c.name, c.bit, archive-has c ∙ start, here))),
     λ h. refl,
   )
 
-  pub some-initial : (hit : Bool) → (IsTrue hit ↔ HaveCommon (variants_of archive) (variants_of sources))
-      → hit ≡ true → (answer : Bool) → (IsTrue answer ↔ IsSubset (variants_of new) (variants_of archive))
+  pub some-initial : (hit : Bool)
+      → (IsTrue hit ↔ HaveCommon (variants_of archive) (variants_of sources))
+      → hit ≡ true → (answer : Bool)
+      → (IsTrue answer ↔ IsSubset (variants_of new) (variants_of archive))
       → IsTrue answer ↔ StaysInitial
   some-initial hit common found answer subset = (
     λ e c v here some start. sym (archive-has v) ∙ subset.0 e v.name v.bit some,

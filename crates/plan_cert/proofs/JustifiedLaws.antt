@@ -75,9 +75,11 @@ module _ (u : Universe) (p : Plan) (rows : Rows) (sound : IsUniverse u) (l i : �
         → in_row sources c ≡ true
     source-has c may hit =
         both c.name c.bit
-        ∙ and_from _ _ (sat_is.set c.name c.bit ∙ and_from _ _ (lt-known c may) hit) (there-has c ∙ may)
+        ∙ and_from _ _ (sat_is.set c.name c.bit ∙ and_from _ _ (lt-known c may) hit)
+        (there-has c ∙ may)
       where
-        lt-known : (c : Variant) → possible u p l i c ≡ true → nat_lt c.bit (variants u c.name) ≡ true
+        lt-known : (c : Variant) → possible u p l i c ≡ true → nat_lt c.bit (variants u c.name)
+            ≡ true
         lt-known c may = lt-ltb c.bit (variants u c.name) (possible-known u sound p l i c may)
 
     source-of : (c : Variant) → in_row sources c ≡ true
@@ -85,7 +87,8 @@ module _ (u : Universe) (p : Plan) (rows : Rows) (sound : IsUniverse u) (l i : �
     source-of c h =
         let parts = and_parts (in_row sat c) (in_row there c) (sym (both c.name c.bit) ∙ h) in (
           sym (there-has c) ∙ parts.1,
-          (and_parts (nat_lt c.bit (variants u c.name)) _ (sym (sat_is.set c.name c.bit) ∙ parts.0)).1,
+          (and_parts (nat_lt c.bit (variants u c.name)) _
+              (sym (sat_is.set c.name c.bit) ∙ parts.0)).1,
         )
 
     pub follow-facts : (inside : Bool)
@@ -114,7 +117,8 @@ module _ (u : Universe) (p : Plan) (rows : Rows) (l i : ℕ) (lt : l < length p)
 
   after-has : (v : Variant) → in_row after v ≡ rows l (suc i) v
   after-has =
-      row-has u (rows l (suc i)) after after_is (λ v e. known l (suc i) v lt (omega (arith, below)) e)
+      row-has u (rows l (suc i)) after after_is
+      (λ v e. known l (suc i) v lt (omega (arith, below)) e)
 
   abbrev Old : Instruction → Variant → Type 0
   Old y v = rows l (row_before p l i y) v ≡ true
@@ -152,7 +156,8 @@ module _ (u : Universe) (p : Plan) (rows : Rows) (l i : ℕ) (lt : l < length p)
               (not_from_false _ (before-has v ∙ none))))))
         ],
     λ j. follows.1 (λ v some.
-        let parts = and_parts (in_row after v) (not (in_row before v)) (sym (less v.name v.bit) ∙ some) in
+        let parts = and_parts (in_row after v) (not (in_row before v))
+        (sym (less v.name v.bit) ∙ some) in
         elim (j x v at (sym (after-has v) ∙ parts.0)) [
           | inl old ↦ absurd (both_ways (in_row before v) (not-true _ parts.1) (before-has v ∙ old))
           | inr new ↦ asked-follows u p rows l i v test x asks new
@@ -166,7 +171,8 @@ module _ (u : Universe) (p : Plan) (rows : Rows) (l i : ℕ) (lt : l < length p)
     (after_is : IsRowOf u (rows l (suc i)) after) where
   end-has : (v : Variant) → in_row after v ≡ rows l (suc i) v
   end-has =
-      row-has u (rows l (suc i)) after after_is (λ v e. known l (suc i) v lt (omega (arith, below)) e)
+      row-has u (rows l (suc i)) after after_is
+      (λ v e. known l (suc i) v lt (omega (arith, below)) e)
 
   pub publish-justified : (r n : ℕ) → instruction_at p l i ≡ Some (Publish r) → IsUniverse u
       → n ≡ length (outputs u r) → (row : List ℕ)
@@ -178,7 +184,8 @@ module _ (u : Universe) (p : Plan) (rows : Rows) (l i : ℕ) (lt : l < length p)
         let same : Publish r ≡ y = cc in
         elim (or_cases (rows l i v) _ (sym (row-holds v) ∙ subset.0 t v.name v.bit (end-has v ∙ e))) [
           | inl old ↦ inl (subst (λ x. rows l (row_before p l i x) v ≡ true) same old)
-          | inr new ↦ inr (subst (Adds u p rows l i v) same (sym (ap (λ vs. contains vs v) all) ∙ new))
+          | inr new ↦ inr (subst (Adds u p rows l i v) same
+              (sym (ap (λ vs. contains vs v) all) ∙ new))
         ],
     λ j. subset.1 (λ m b some.
         let v = variant m b in
@@ -202,7 +209,8 @@ pub past-justified : (u : Universe) (p : Plan) (rows : Rows) (l n : ℕ)
     → length (lane p l).instructions ≤ n
     → ((k : ℕ) → k < n → IsJustified u p rows l (suc k)) → (k : ℕ) → IsJustified u p rows l (suc k)
 past-justified u p rows l n past all k x v at e =
-    let lt = slice_get_within (lane p l).instructions k x at in all k (omega (arith, lt, past)) x v at e
+    let lt = slice_get_within (lane p l).instructions k x at in all k (omega (arith, lt, past)) x v
+    at e
 
 -- all lanes
 pub rows-keep : (u : Universe) (p : Plan) (rows : Rows)

@@ -53,7 +53,8 @@ module _ (u : Universe) (p : Plan) (known : Rows) (order : List ℕ) (lanes : Li
       record {
         lanes = are.long;
         counts = λ l lt. (are.each l lt).counted
-            ∙ ap (count_by teaches) (take_all (length (lane p l).instructions) (lane p l).instructions (omega arith));
+            ∙ ap (count_by teaches)
+            (take_all (length (lane p l).instructions) (lane p l).instructions (omega arith));
         rows = λ l. elim (cases_lt l (length p)) [
           | inl lt ↦ (are.each l lt).new
           | inr past ↦ subst (All (IsNewRow u))
@@ -145,23 +146,25 @@ module _ (u : Universe) (p : Plan) (known : Rows) (order : List ℕ) (lanes : Li
 
 -- that of an accepted plan
 module _ (a : AcceptedPlan) (is : IsAccepted a) (lanes : List (List (List ℕ)))
-    (are : AreNewLanes a.known.universe a.known.plan (known_rows a) (length a.known.plan) lanes) where
-  abbrev of : Certificate
-  of = record { rows = lanes; order = a.order }
+    (are : AreNewLanes a.known.universe a.known.plan (known_rows a) (length a.known.plan) lanes)
+  where
+    abbrev of : Certificate
+    of = record { rows = lanes; order = a.order }
 
-  about : AreNewLanes a.universe a.plan (known_rows a) (length a.plan) lanes
-  about =
-      subst (λ p. AreNewLanes a.universe p (known_rows a) (length p) lanes) is.about.1
-      (subst (λ u. AreNewLanes u a.known.plan (known_rows a) (length a.known.plan) lanes) is.about.0 are)
+    about : AreNewLanes a.universe a.plan (known_rows a) (length a.plan) lanes
+    about =
+        subst (λ p. AreNewLanes a.universe p (known_rows a) (length p) lanes) is.about.1
+        (subst (λ u. AreNewLanes u a.known.plan (known_rows a) (length a.known.plan) lanes) is.about.0
+        are)
 
-  pub accepted-shape : IsCertificate a.universe a.plan of
-  accepted-shape =
-      made-shape a.universe a.plan (known_rows a) a.order lanes is.known is.safe is.order about
+    pub accepted-shape : IsCertificate a.universe a.plan of
+    accepted-shape =
+        made-shape a.universe a.plan (known_rows a) a.order lanes is.known is.safe is.order about
 
-  pub accepted-exact : IsCertificateOf a.universe a.plan (known_rows a) a.order of
-  accepted-exact =
-      made-exact a.universe a.plan (known_rows a) a.order lanes is.known is.safe is.order about
+    pub accepted-exact : IsCertificateOf a.universe a.plan (known_rows a) a.order of
+    accepted-exact =
+        made-exact a.universe a.plan (known_rows a) a.order lanes is.known is.safe is.order about
 
-  pub accepted-certifies : Certifies a.universe a.plan of
-  accepted-certifies =
-      made-certifies a.universe a.plan (known_rows a) a.order lanes is.known is.safe is.order about
+    pub accepted-certifies : Certifies a.universe a.plan of
+    accepted-certifies =
+        made-certifies a.universe a.plan (known_rows a) a.order lanes is.known is.safe is.order about

@@ -29,7 +29,8 @@ pub known-there : (u : Universe) (p : Plan) (known : Rows) → IsUniverse u → 
 known-there u p known sound keeps l i v lt le e =
     possible-known u sound p l i v (known_are_possible u p known keeps l i v lt le e)
 
-module _ (u : Universe) (p : Plan) (known : Rows) (sound : IsUniverse u) (keeps : KeepsRows u p known)
+module _ (u : Universe) (p : Plan) (known : Rows) (sound : IsUniverse u)
+    (keeps : KeepsRows u p known)
     (l i : ℕ) (lt : l < length p) (le : i ≤ length (lane p l).instructions)
     (there archive row : List ℕ) (is : IsRowOf u (known l i) there)
     (start : IsRowOf u (initial u) archive)
@@ -65,7 +66,8 @@ row-counted p l i k x lt at learnt =
     omega (arith, more, part, same)
 
 module _ (u : Universe) (p : Plan) (known : Rows) (l i : ℕ) (x : Instruction)
-    (at : instruction_at p l i ≡ Some x) (rows : List (List ℕ)) (are : AreNewRows u p known l i rows) where
+    (at : instruction_at p l i ≡ Some x) (rows : List (List ℕ))
+    (are : AreNewRows u p known l i rows) where
   -- behind an instruction without a row
   pub rows-quiet : teaches x ≡ false → AreNewRows u p known l (i + 1) rows
   rows-quiet quiet =
@@ -74,7 +76,8 @@ module _ (u : Universe) (p : Plan) (known : Rows) (l i : ℕ) (x : Instruction)
         new = are.new;
         each = λ k y lt there learnt.
             elim (cases_eq k i) [
-              | inl here ↦ absurd (false≢true (sym quiet ∙ sym (ap teaches (same k y here there)) ∙ learnt))
+              | inl here ↦ absurd (false≢true
+                  (sym quiet ∙ sym (ap teaches (same k y here there)) ∙ learnt))
               | inr other ↦ are.each k y (omega (arith, lt, other)) there learnt
             ];
       }
@@ -85,7 +88,8 @@ module _ (u : Universe) (p : Plan) (known : Rows) (l i : ℕ) (x : Instruction)
 
   -- behind one with a row
   pub rows-learnt : (row : List ℕ) (more : List (List ℕ)) → teaches x ≡ true → IsNewRow u row
-      → IsNewAt u known l (i + 1) row → more ≡ rows ++ row ∷ [] → AreNewRows u p known l (i + 1) more
+      → IsNewAt u known l (i + 1) row → more ≡ rows ++ row ∷ []
+      → AreNewRows u p known l (i + 1) more
   rows-learnt row more learnt new is items =
       subst (AreNewRows u p known l (i + 1)) (sym items) (record {
         counted = length-append rows (row ∷ []) ∙ ap (λ n. n + 1) are.counted
@@ -98,9 +102,11 @@ module _ (u : Universe) (p : Plan) (known : Rows) (l i : ℕ) (x : Instruction)
             ];
       })
     where
-      last : (k : ℕ) → k ≡ i → IsNewAt u known l (suc k) (slice_index_or (rows ++ row ∷ []) (rows_before p l k) [])
+      last : (k : ℕ) → k ≡ i → IsNewAt u known l (suc k)
+          (slice_index_or (rows ++ row ∷ []) (rows_before p l k) [])
       last k here v =
-          let place : rows_before p l k ≡ length rows = ap (rows_before p l) here ∙ sym are.counted in
+          let place : rows_before p l k ≡ length rows = ap (rows_before p l) here
+          ∙ sym are.counted in
           let next : i + 1 ≡ suc k = omega (arith, here) in
           ap (λ n. in_row (get_or (rows ++ row ∷ []) n []) v) place
           ∙ ap (λ r. in_row r v) (get_or-append_seam rows row [] [])
@@ -111,7 +117,8 @@ module _ (u : Universe) (p : Plan) (known : Rows) (l i : ℕ) (x : Instruction)
       earlier k y lt there learns_y v =
           let within = row-counted p l i k y lt there learns_y in
           ap (λ r. in_row r v)
-          (get_or_append_left rows (row ∷ []) [] (rows_before p l k) (omega (arith, within, are.counted)))
+          (get_or_append_left rows (row ∷ []) [] (rows_before p l k)
+          (omega (arith, within, are.counted)))
           ∙ are.each k y lt there learns_y v
 
 -- ---- the rows of all lanes
@@ -119,9 +126,11 @@ module _ (u : Universe) (p : Plan) (known : Rows) (l i : ℕ) (x : Instruction)
 pub lanes-none : (u : Universe) (p : Plan) (known : Rows) → AreNewLanes u p known 0 []
 lanes-none u p known = record { long = refl; each = λ l lt. absurd (omega (arith, lt)) }
 
-pub lanes-next : (u : Universe) (p : Plan) (known : Rows) (n : ℕ) (lanes more : List (List (List ℕ)))
+pub lanes-next : (u : Universe) (p : Plan) (known : Rows) (n : ℕ)
+    (lanes more : List (List (List ℕ)))
     (rows : List (List ℕ)) → more ≡ lanes ++ rows ∷ [] → AreNewLanes u p known n lanes
-    → AreNewRows u p known n (length (lane p n).instructions) rows → AreNewLanes u p known (n + 1) more
+    → AreNewRows u p known n (length (lane p n).instructions) rows
+    → AreNewLanes u p known (n + 1) more
 lanes-next u p known n lanes more rows items so_far are =
     subst (AreNewLanes u p known (n + 1)) (sym items) (record {
       long = length-append lanes (rows ∷ []) ∙ ap (λ k. k + 1) so_far.long;
@@ -131,7 +140,8 @@ lanes-next u p known n lanes more rows items so_far are =
             ap (λ k. get_or (lanes ++ rows ∷ []) k []) (here ∙ sym so_far.long)
             ∙ get_or-append_seam lanes rows [] [] in
             subst (AreNewRows u p known l (length (lane p l).instructions)) (sym at)
-            (subst (λ k. AreNewRows u p known k (length (lane p k).instructions) rows) (sym here) are)
+            (subst (λ k. AreNewRows u p known k (length (lane p k).instructions) rows) (sym here)
+            are)
         | inr other ↦
             let below : l < n = omega (arith, lt, other) in
             subst (AreNewRows u p known l (length (lane p l).instructions))

@@ -48,7 +48,8 @@ same-end u (l ∷ ls) b s t first second =
 -- where the first items of a list lead to a board, its next item is made there
 next-made : (u : Universe) (order : List ℕ) (n : ℕ) (b m t : Board) → n < length order
     → Reaches u b (take n order) m → Reaches u b order t
-    → (next : Board) × (board_after u m (slice_index order n) (rest_of m (slice_index order n)) ≡ Some next)
+    → (next : Board) × (board_after u m (slice_index order n) (rest_of m (slice_index order n))
+    ≡ Some next)
 next-made u [] n b m t lt part way = absurd (omega (arith, lt))
 next-made u (l ∷ ls) zero b m t lt part way =
     subst (λ (c : Board). (next : Board) × (board_after u c l (rest_of c l) ≡ Some next)) part
@@ -69,7 +70,8 @@ order-unbroken u p order item is broken =
           none-some made.0 (sym stuck.stops ∙ made.1)
       | inr some ↦
           some.left (ap (λ (b : Board). rest_of b some.lane)
-          (same-end u order (start_board u p) some.board is.end some.way is.way) ∙ is.all_done some.lane)
+          (same-end u order (start_board u p) some.board is.end some.way is.way)
+          ∙ is.all_done some.lane)
     ]
 
 module _ (u : Universe) (p : Plan) (order : List ℕ) where

@@ -54,7 +54,8 @@ module _ (u : Universe) (p : Plan) (c : Certificate) (is : IsCertificate u p c) 
         | inl lt ↦ (is.rows l k [] lt).known v.name v.bit e
         | inr past ↦
             let none : in_row (slice_index_or (lane_rows c l) k []) v ≡ false =
-            ap (λ row. in_row row v) (get_or_past (lane_rows c l) k [] past) ∙ word_has_zero v.bit in
+            ap (λ row. in_row row v) (get_or_past (lane_rows c l) k [] past)
+            ∙ word_has_zero v.bit in
             absurd (false≢true (sym none ∙ e))
       ]
 
@@ -106,12 +107,14 @@ module _ (u : Universe) (p : Plan) (c : Certificate) (is : IsCertificate u p c) 
       ap (λ n. (held_at p l n).here) i_next ∙ held-learns p l i x there learnt
       ∙ ap (rows_before p l) (sym i_next)
       ∙ (let n : rows_before p l (i + 1) ≡ suc k = omega (arith, more, used) in n) in
-      let here : listed ≡ get_or (lane_rows c l) k [] = at ∙ same-at (lane_rows c l) k listed [] lt in
+      let here : listed ≡ get_or (lane_rows c l) k [] = at
+      ∙ same-at (lane_rows c l) k listed [] lt in
       row_same u _ _ row
       (λ v. ap (λ r. initial u v || in_row r v) here
       ∙ ap (λ n. initial u v || lists (lane_rows c l) n v) (sym next)) r
     where
-      same-at : (xs : List (List ℕ)) (i : ℕ) (a b : List ℕ) → i < length xs → get_or xs i a ≡ get_or xs i b
+      same-at : (xs : List (List ℕ)) (i : ℕ) (a b : List ℕ) → i < length xs → get_or xs i a
+          ≡ get_or xs i b
       same-at [] i a b h = absurd (omega arith)
       same-at (x ∷ xs) zero a b h = refl
       same-at (x ∷ xs) (suc i) a b h = same-at xs i a b (omega arith)

@@ -1,5 +1,5 @@
--- Where a list of lanes is no order of their waits and outputs. The project's own rules. Parameters:
--- u a universe, p a plan, done how many items of the list are made, one after another.
+-- Where a list of lanes is no order of their waits and outputs. The project's own rules.
+-- Parameters: u a universe, p a plan, done how many items of the list are made, one after another.
 --
 --   CannotStep            the next item of the list cannot be made
 --   LeavesSome            the list ends, and a lane has something left

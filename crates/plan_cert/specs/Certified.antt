@@ -27,8 +27,8 @@ pub record Certifies (u : Universe) (p : Plan) (c : Certificate) : Type 0 where
   pub order : IsOrder u p c.order
 
 -- under rows that keep to the inclusions, this hazard is the first one of the first lane that has
--- one: a trap of the instruction of this number, from 1, or branches that part of the `when` of this
--- number
+-- one: a trap of the instruction of this number, from 1, or branches that part of the `when` of
+-- this number
 pub record IsUnsafeAt (u : Universe) (p : Plan) (rows : Rows) (l number : ℕ) (hazard : Hazard)
     : Type 0 where
   pub keeps : KeepsRows u p rows

@@ -1,5 +1,5 @@
--- The `when` in whose branches a place lies, and what an instruction looks for as a row. The project's
--- own words. Parameters: u a universe, p a plan, l a lane, i a place.
+-- The `when` in whose branches a place lies, and what an instruction looks for as a row. The
+-- project's own words. Parameters: u a universe, p a plan, l a lane, i a place.
 --
 --   open_of, open_at      the place of the open `when`, if one is
 --   open_behind           the same behind an instruction

@@ -1,5 +1,5 @@
--- Where what is in an archive may come from: the initial archive, and the publishes of each lane. The
--- project's own words. Parameters: u a universe, p a plan, l a lane, i a place.
+-- Where what is in an archive may come from: the initial archive, and the publishes of each lane.
+-- The project's own words. Parameters: u a universe, p a plan, l a lane, i a place.
 --
 --   HasPublishes      the places at which a lane publishes are among these
 --   ArePublishes      they are, lane by lane

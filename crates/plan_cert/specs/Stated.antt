@@ -21,8 +21,8 @@ use Rattle.plan_model.specs.Plan.{Plan, lane, instruction_at}
 abbrev pub rows_before : Plan → ℕ → ℕ → ℕ
 rows_before p l i = count_by teaches (take i (lane p l).instructions)
 
--- of the rows up to the one that holds their number, 0 where none does: at a place, and ahead of the
--- `when` that is open there
+-- of the rows up to the one that holds their number, 0 where none does: at a place, and ahead of
+-- the `when` that is open there
 pub record Held : Type 0 where
   pub here : ℕ
   pub ahead : ℕ
@@ -62,7 +62,7 @@ abbrev pub lists : List (List ℕ) → ℕ → Variant → Bool
 lists rows zero v = false
 lists rows (suc k) v = in_row (slice_index_or rows k []) v
 
--- at each place the initial archive and the row that holds there: that behind the last wait, publish
--- or `when`; behind an `else` and an `end` the one ahead of their `when`
+-- at each place the initial archive and the row that holds there: that behind the last wait,
+-- publish or `when`; behind an `else` and an `end` the one ahead of their `when`
 abbrev pub stated_rows : Universe → Plan → Certificate → Rows
 stated_rows u p c l i v = initial u v || lists (lane_rows c l) (held_at p l i).here v

@@ -85,8 +85,8 @@ fn check_claim(
 }
 
 /// Checks a certificate of a plan over a universe, whoever made it: its rows, joined with the
-/// initial archive, are known at each place; under them each instruction is safe; and its list is an
-/// order of the waits and outputs.
+/// initial archive, are known at each place; under them each instruction is safe; and its list is
+/// an order of the waits and outputs.
 ///
 /// Where it does not refuse it, no interleaving of the plan's lanes meets a trap, in every
 /// unfinished state some lane can step, and no run is longer than the plan's count of events.
@@ -94,11 +94,11 @@ fn check_claim(
 /// # Errors
 ///
 /// The first of these. [`CertFault::Row`] with the first row that is not justified, of the first
-/// lane that has one. Of the first lane that has an unsafe instruction, [`CertFault::Unsafe`] with the
-/// first one and the first trap that it may meet, or [`CertFault::Uneven`] with the `when` whose
-/// branches leave some name in different phases, found at their `end`. [`CertFault::Order`] with the
-/// first item of the list that cannot step, or one more than their number where lanes are left.
-/// [`CertFault::Memory`] where memory ran out.
+/// lane that has one. Of the first lane that has an unsafe instruction, [`CertFault::Unsafe`] with
+/// the first one and the first trap that it may meet, or [`CertFault::Uneven`] with the `when`
+/// whose branches leave some name in different phases, found at their `end`. [`CertFault::Order`]
+/// with the first item of the list that cannot step, or one more than their number where lanes are
+/// left. [`CertFault::Memory`] where memory ran out.
 pub fn check_certificate(
     rt: &(impl Threads + Sync),
     alloc: Global,

@@ -73,8 +73,8 @@ pub fn with_outputs(
     Ok(row)
 }
 
-/// Tells whether all of `new` is there with each output of a recipe that is among the sources, where
-/// `before` is known ahead of its publish.
+/// Tells whether all of `new` is there with each output of a recipe that is among the sources,
+/// where `before` is known ahead of its publish.
 fn is_known_with(question: Question<'_>, before: &Row, recipe: u32) -> Result<bool, AllocError>
     requires { length before.now ≡ names question.claim.universe.now }
     ensures { IfOk result (λ yes. (known : Variant → Bool)

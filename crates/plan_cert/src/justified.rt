@@ -77,7 +77,8 @@ fn may_follow(at: At<'_>, asked: Row, new: &Row) -> Result<bool, AllocError>
 /// The entry that an instruction waits for, if it waits.
 pub fn waited(instruction: &Instruction) -> Option<&Entry>
     ensures some { IfSome result (λ entry. instruction.now ≡ model.Instruction.Wait entry.now) }
-    ensures none { IsNone result → (e : relations.Entry) → instruction.now ≢ model.Instruction.Wait e }
+    ensures none { IsNone result → (e : relations.Entry)
+        → instruction.now ≢ model.Instruction.Wait e }
 {
     match instruction {
         Instruction::Wait(entry) => Some(entry),

@@ -32,8 +32,8 @@ fn or_here(place: usize, when: Option<usize>) -> usize
     }
 }
 
-/// The place from whose row what is known goes on behind the instruction at a place: behind a branch
-/// that ends, that of its `when`.
+/// The place from whose row what is known goes on behind the instruction at a place: behind a
+/// branch that ends, that of its `when`.
 pub fn place_before(instruction: &Instruction, place: usize, when: Option<usize>) -> usize
     ensures { result ≡ spec.place_before place when instruction.now }
 {

@@ -9,8 +9,8 @@ use Rattle.farm_model.specs.Packages.{names, variants}
 use Rattle.farm_model.specs.Chroot.{Chroot, slot}
 use Rattle.plan_model.specs.May.{Bits, MaySlot, MayAbsent, MayUnpacked, MayConfigured, May}
 
--- the last configured variant, if any, is one that the set allows: one of it, or any or none where it
--- is empty, since then none is known
+-- the last configured variant, if any, is one that the set allows: one of it, or any or none where
+-- it is empty, since then none is known
 pub data AllowsLast (count : ℕ) (last : Bits) : Option ℕ → Type 0 where
   unknown : {was : Option ℕ} → ((b : ℕ) → b < count → last b ≡ true → ⊥)
       → AllowsLast count last was

@@ -44,8 +44,8 @@ home Outside k = k
 home (InFirst w) k = w
 home (InSecond w) k = w
 
--- what stands in a branch: neither a publish, nor a wait, nor another `when`. A first branch ends by
--- `else`, a second one by `end`
+-- what stands in a branch: neither a publish, nor a wait, nor another `when`. A first branch ends
+-- by `else`, a second one by `end`
 abbrev pub may_stand : Side → Instruction → Bool
 may_stand Outside Otherwise = false
 may_stand Outside EndWhen = false

@@ -1,11 +1,12 @@
 -- What a lane can know of the archive at each of its places. The project's own rules; rows never
--- mention a run. Places count the instructions done, from 0; there is a row for each, though no lane
--- stands just before an `else` or an `end`.
+-- mention a run. Places count the instructions done, from 0; there is a row for each, though no
+-- lane stands just before an `else` or an `end`.
 --
 --   possible, publishing      what may be in the archive; the first outputs of a publish
 --   Rows, KeepsRows           a set for each lane and place; the inclusions that it keeps
 --   teaches, published_by     behind the instruction a lane may know more; the recipe it publishes
---   IsFact, Follows           what is in the archive whenever a given variant is, or one that passes
+--   IsFact, Follows           what is in the archive whenever a given variant is, or one that
+--   passes
 --   row_before                the place whose row goes on behind an instruction
 --   IsGreatest                the greatest such family
 use Rattle.std.specs.Prelude.{◌≡◌, ◌⊎◌, ℕ, suc, ◌<◌, ◌≤◌, Bool, true, false, ◌&&◌, ◌||◌, ◌==◌, List, [], ◌∷◌, length, take, Option, Some, None, slice_get, if◌then◌else◌}

@@ -43,8 +43,8 @@ lane p l = slice_index_or p l no_lane
 abbrev pub instruction_at : Plan → ℕ → ℕ → Option Instruction
 instruction_at p l i = slice_get (lane p l).instructions i
 
--- where a lane stands once the instruction at a place is done: the next place, from which it goes on
--- where that is the end of a branch
+-- where a lane stands once the instruction at a place is done: the next place, from which it goes
+-- on where that is the end of a branch
 abbrev pub next_place : Lane → ℕ → ℕ
 next_place of i = landing of.instructions (suc i)
 
@@ -68,15 +68,15 @@ events_of u Otherwise = 0
 events_of u EndWhen = 0
 events_of u _ = 1
 
--- the most events to a lane's end: from the first of some instructions, from behind the next `else`,
--- and from behind the next `end`
+-- the most events to a lane's end: from the first of some instructions, from behind the next
+-- `else`, and from behind the next `end`
 pub record Ways : Type 0 where
   pub here : ℕ
   pub past_else : ℕ
   pub past_end : ℕ
 
--- ahead of an instruction, from the ways behind it: a `when` leads into either branch, and an `else`
--- behind its `end`
+-- ahead of an instruction, from the ways behind it: a `when` leads into either branch, and an
+-- `else` behind its `end`
 abbrev pub ways_ahead : Universe → Instruction → Ways → Ways
 ways_ahead u (When name wanted) w =
     record { here = suc (max w.here w.past_else); past_else = w.past_else; past_end = w.past_end }

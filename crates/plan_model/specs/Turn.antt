@@ -160,8 +160,8 @@ publishes u of st r (Some v) =
     unless (first_trap (publish_traps u of st r))
     (Gives (given of (length (outputs u r)) st (first_only st.made (publish_cost u r))) v)
 
--- a lane's turn, at the instruction it stands at, over the archive that is there. It never stands at
--- an `else` or an `end`
+-- a lane's turn, at the instruction it stands at, over the archive that is there. It never stands
+-- at an `else` or an `end`
 abbrev pub turn_of : Universe → (Variant → Bool) → Lane → LaneState → Option Instruction → Turn
 turn_of u there of st None = Ends
 turn_of u there of st (Some (Unpack name wanted)) =

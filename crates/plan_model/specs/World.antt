@@ -96,8 +96,8 @@ is_archive_step (Wait e) = true
 is_archive_step (When name wanted) = true
 is_archive_step _ = false
 
--- behind the instruction a lane may stand just after an archive step: it is one; or it is an `else`,
--- to which a `when` leads, or an `end`, behind which a branch goes on that ends by one
+-- behind the instruction a lane may stand just after an archive step: it is one; or it is an
+-- `else`, to which a `when` leads, or an `end`, behind which a branch goes on that ends by one
 abbrev pub is_behind_step : Option Instruction → Bool
 is_behind_step None = false
 is_behind_step (Some Otherwise) = true

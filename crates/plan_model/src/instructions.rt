@@ -71,8 +71,8 @@ pub enum Instruction {
 }
 
 impl Instruction {
-    /// Tells whether a lane may know more behind the instruction: it waits, publishes or looks which
-    /// branch to take.
+    /// Tells whether a lane may know more behind the instruction: it waits, publishes or looks
+    /// which branch to take.
     pub fn teaches(&self) -> bool
         ensures { result ≡ teaches self.now }
     {

@@ -33,7 +33,8 @@ package_relations_sync : IsSync PackageRelations.the_row
 package_relations_sync = let r = relations_sync in search (crosses, sendable) depth 60 fits 20000
 
 package_sync : IsSync Package.the_row
-package_sync = let r = package_relations_sync in let v = version_sync in search (crosses, sendable) depth 60 fits 20000
+package_sync = let r = package_relations_sync in let v = version_sync in search (crosses, sendable)
+    depth 60 fits 20000
 
 recipe_sync : IsSync Recipe.the_row
 recipe_sync = let r = relations_sync in search (crosses, sendable) depth 60 fits 20000
@@ -53,10 +54,12 @@ pub plan_sync : IsSync Plan.the_row
 plan_sync = search (crosses, sendable) depth 60 fits 50000
 
 pub outputs_sync : IsSync Outputs.the_row
-outputs_sync = let u = universe_sync in let p = plan_sync in search (crosses, sendable) depth 60 fits 50000
+outputs_sync = let u = universe_sync in let p = plan_sync in search (crosses, sendable) depth 60
+    fits 50000
 
 pub known_sync : IsSync Known.the_row
-known_sync = let u = universe_sync in let p = plan_sync in let o = outputs_sync in search (crosses, sendable) depth 60 fits 50000
+known_sync = let u = universe_sync in let p = plan_sync in let o = outputs_sync in search
+    (crosses, sendable) depth 60 fits 50000
 
 pub tables_sync : IsSync Tables.the_row
 tables_sync = let u = universe_sync in search (maps.crosses, crosses, sendable) depth 60 fits 50000

@@ -78,7 +78,8 @@ same-costs : (u : Universe) (p : Plan) (rows more : Rows) (costs others : List �
     → IsGreatest u p rows → IsGreatest u p more → AreCosts u p rows (length p) costs
     → AreCosts u p more (length p) others → costs ≡ others
 same-costs u p rows more costs others great greater are other =
-    let alike = agreeing_rows_are_alike u p rows more (greatest_is_one u p rows more great greater) in
+    let alike = agreeing_rows_are_alike u p rows more
+    (greatest_is_one u p rows more great greater) in
     same_number_lists costs others (are.long ∙ sym other.long)
     (λ l lt. let within : l < length p = omega (arith, lt, are.long) in
     are.each l within ∙ alike.costs l within ∙ sym (other.each l within))
@@ -113,7 +114,8 @@ same-unsafe u p name other number place hazard cause is against =
       here = sym (alike.hazards against.l against.i against.first.in_plan) ∙ against.first.here;
       before = λ k lt. sym (alike.hazards against.l k against.first.in_plan)
           ∙ against.first.before k lt;
-      lanes_before = λ j k lt. let within : j < length p = omega (arith, lt, against.first.in_plan) in
+      lanes_before = λ j k lt. let within : j < length p = omega
+          (arith, lt, against.first.in_plan) in
           sym (alike.hazards j k within) ∙ against.first.lanes_before j k lt;
     } in
     let one = first_unsafe_is_one u p is.rows is.l is.i against.l against.i hazard cause is.first
@@ -135,7 +137,8 @@ same-stuck : (u : Universe) (p : Plan) (names others : List (List ℕ)) → AreS
     → AreStuckLanes u p others → names ≡ others
 same-stuck u p names others are other =
     are.named
-    ∙ ap (map (λ l. (lane p l).name)) (stuck_are_one u p are.lanes other.lanes are.stuck other.stuck)
+    ∙ ap (map (λ l. (lane p l).name))
+    (stuck_are_one u p are.lanes other.lanes are.stuck other.stuck)
     ∙ sym other.named
 
 -- an unsafe instruction under the greatest rows, and stuck lanes of a plan that is safe under them
@@ -163,7 +166,8 @@ same-refusal u p (Unsafe name number trap) (Stuck names) is against =
 same-refusal u p (Uneven name number) Memory is against = tt
 same-refusal u p (Uneven name number) (Text told) is against = against
 same-refusal u p (Uneven name number) (Unsafe other place cause) is against =
-    trap-parts (same-unsafe u p other.items name.items place number (Meets cause) Parts against is).2
+    trap-parts (same-unsafe u p other.items name.items place number (Meets cause) Parts against
+    is).2
 same-refusal u p (Uneven name number) (Uneven other place) is against =
     let same = same-unsafe u p name.items other.items number place Parts Parts is against in
     (same.0, same.1)

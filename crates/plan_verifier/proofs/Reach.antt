@@ -22,7 +22,8 @@ module _ (u : Universe) (p : Plan) (l : ℕ) where
   abbrev pub reach : ℕ → Variant → ℕ → Bool
   reach i v j = list_any (gives u v) (within_reach p l i j)
 
-  own-reach : (i : ℕ) (v : Variant) → reach i v l ≡ list_any (gives u v) (take i (lane p l).instructions)
+  own-reach : (i : ℕ) (v : Variant) → reach i v l
+      ≡ list_any (gives u v) (take i (lane p l).instructions)
   own-reach i v = rw (eq-eqb l l refl) refl
 
   other-reach : (i j : ℕ) (v : Variant) → j ≢ l
@@ -74,7 +75,8 @@ module _ (u : Universe) (p : Plan) (l : ℕ) where
         own-reach (suc i) v
         ∙ ap (list_any (gives u v)) (take_some (lane p l).instructions i x at)
         ∙ list_any-append (gives u v) (take i (lane p l).instructions) (x ∷ [])
-        ∙ ap (λ b. list_any (gives u v) (take i (lane p l).instructions) || b) (or-false (gives u v x))
+        ∙ ap (λ b. list_any (gives u v) (take i (lane p l).instructions) || b)
+        (or-false (gives u v x))
         ∙ ap (λ b. b || gives u v x) (sym (own-reach i v))
 
     other-same : (j : ℕ) (v : Variant) → j ≢ l → reach (suc i) v j ≡ reach i v j
@@ -86,7 +88,8 @@ module _ (u : Universe) (p : Plan) (l : ℕ) where
         let r = some_below-found (length p) (reach (suc i) v) e in
         elim (cases_eq r.0 l) [
           | inl own ↦
-              elim (or_cases (reach i v l) _ (sym (own-more v) ∙ (sym (ap (reach (suc i) v) own) ∙ r.2))) [
+              elim (or_cases (reach i v l) _
+              (sym (own-more v) ∙ (sym (ap (reach (suc i) v) own) ∙ r.2))) [
                 | inl old ↦ or_left (some_below (length p) (reach i v)) _
                     (some_below-at (length p) (reach i v) l lt old)
                 | inr new ↦ or_right (some_below (length p) (reach i v)) _ new
@@ -108,7 +111,8 @@ module _ (u : Universe) (p : Plan) (l : ℕ) where
         → some_below (length p) (reach (suc i) v) ≡ true
     some-back v e =
         elim (or_cases (some_below (length p) (reach i v)) _ e) [
-          | inl old ↦ some_below-mono (length p) (reach i v) (reach (suc i) v) (λ j j_lt. kept v j) old
+          | inl old ↦ some_below-mono (length p) (reach i v) (reach (suc i) v) (λ j j_lt. kept v j)
+              old
           | inr new ↦ some_below-at (length p) (reach (suc i) v) l lt
               (own-more v ∙ or_right (reach i v l) _ new)
         ]

@@ -25,7 +25,8 @@ walks_from Told a (suc n) (w ∷ ws) all =
     at : ((l : ℕ) (x : Result ℕ WalkError) → slice_get ws l ≡ Some x → Told (a + 1 + l) x)
         → (l : ℕ) (x : Result ℕ WalkError) → slice_get (w ∷ ws) l ≡ Some x → Told (a + l) x
     at rest zero x is =
-        let e : a ≡ a + 0 = omega arith in subst (λ m. Told m x) e (subst (IsToldOf Told a) is all.0)
+        let e : a ≡ a + 0 = omega arith in subst (λ m. Told m x) e
+        (subst (IsToldOf Told a) is all.0)
     at rest (suc l) x is =
         let e : a + 1 + l ≡ a + suc l = omega arith in subst (λ m. Told m x) e (rest l x is)
 

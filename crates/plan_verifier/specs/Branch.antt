@@ -33,8 +33,8 @@ pub record IsEndOf (u : Universe) (of : Lane) (w : LaneMay) : Type 0 where
   pub here : IsOfLane u of w.here
   pub first : (at : ℕ) (first : Words) → w.branch ≡ Branch.Second at first → IsOfLane u of first
 
--- behind an `end`: the place of the `when`, where some name is in different phases at the ends of its
--- branches; else what may be held behind both
+-- behind an `end`: the place of the `when`, where some name is in different phases at the ends of
+-- its branches; else what may be held behind both
 abbrev pub JoinedBy : Universe → Lane → LaneMay → LaneMay → Branch → Option ℕ → Type 0
 JoinedBy u of w next (Branch.Second at first) (Some told) =
     (told ≡ at) × (phases_differ u (may_of first) (may_of w.here) ≡ true)

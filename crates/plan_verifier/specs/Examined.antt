@@ -19,8 +19,8 @@ pub record ExaminedPlan : Type 0 where
   pub plan : Plan
   pub known : KnownRows
 
--- the universe and the plan are what the readers make, and what is known is about them and the greatest
--- that keeps to the inclusions
+-- the universe and the plan are what the readers make, and what is known is about them and the
+-- greatest that keeps to the inclusions
 pub record IsExamined (e : ExaminedPlan) : Type 0 where
   pub sound : IsSound e.universe e.plan
   pub about : (e.known.universe ≡ e.universe) × (e.known.plan ≡ e.plan)

@@ -9,8 +9,8 @@ use Rattle.plan_model.specs.Sound.{IsSound}
 use Rattle.wait_order.specs.KnownRows.{Knowledge}
 use Rattle.wait_order.specs.Outputs.{PlanOutputs}
 
--- A sound plan over a universe; the tables are of that universe, the outputs and what is known are of
--- both, and the rows of what is known keep to the inclusions:
+-- A sound plan over a universe; the tables are of that universe, the outputs and what is known are
+-- of both, and the rows of what is known keep to the inclusions:
 pub record IsStage (u : Universe) (p : Plan) (tables : Universe) (outputs : PlanOutputs)
     (known : Knowledge) : Type 0 where
   pub sound : IsSound u p

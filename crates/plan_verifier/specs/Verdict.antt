@@ -17,9 +17,9 @@ use Rattle.plan_verifier.specs.Accepted.{AcceptedPlan, IsAccepted}
 use Rattle.plan_verifier.specs.Walk.{told_at}
 use Rattle.farm_input.specs.Planned.{FarmPlan}
 
--- Under the greatest known rows, this hazard is the first one of the first lane that has one: a trap
--- of the instruction of this number, from 1, or branches that part of the `when` of this number. The
--- lane has this name.
+-- Under the greatest known rows, this hazard is the first one of the first lane that has one: a
+-- trap of the instruction of this number, from 1, or branches that part of the `when` of this
+-- number. The lane has this name.
 pub record IsRefused (u : Universe) (p : Plan) (name : List ℕ) (number : ℕ) (hazard : Hazard)
     : Type 0 where
   pub rows : Rows

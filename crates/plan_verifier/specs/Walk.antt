@@ -1,5 +1,5 @@
--- A walk over the instructions of a lane. Parameters: u a universe, p a plan, rows what its lanes know,
--- l a lane. The project's own rules.
+-- A walk over the instructions of a lane. Parameters: u a universe, p a plan, rows what its lanes
+-- know, l a lane. The project's own rules.
 --
 --   told_at, IsTold     where a hazard is told
 --   IsAdvanced          what is answered to an instruction
@@ -57,8 +57,8 @@ IsAdvanced u p rows l i next (Err (Uneven told number)) =
     IsToldHere u p rows l i Parts told number
 IsAdvanced u p rows l i next (Err Memory) = Unit {0}
 
--- each instruction ahead of place i is safe, and this is what may be held there; or the lane's first
--- hazard is told
+-- each instruction ahead of place i is safe, and this is what may be held there; or the lane's
+-- first hazard is told
 abbrev pub WalkedTo : Universe → Plan → Rows → (l i : ℕ) → Result LaneMay WalkError → Type 0
 WalkedTo u p rows l i (Ok may) =
     ((k : ℕ) → k < i → hazard_at u p rows l k ≡ None) × IsAt u p rows l i may

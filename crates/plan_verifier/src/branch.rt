@@ -57,8 +57,8 @@ impl LaneMay {
         self.doubts.forget();
     }
 
-    /// Goes behind an `end`: joins what may be held at the ends of both branches. Where some name is in
-    /// different phases there, gives the place of the `when`.
+    /// Goes behind an `end`: joins what may be held at the ends of both branches. Where some name
+    /// is in different phases there, gives the place of the `when`.
     pub fn end(&mut self, universe: &Universe) -> Option<u32>
         requires here { AreWords universe.now self.old.here }
         requires first { (at : ℕ) (first : Words) → self.old.branch ≡ Branch.Second at first

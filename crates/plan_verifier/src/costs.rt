@@ -50,9 +50,9 @@ fn costs_of<K: KnownWords>(
 ///
 /// # Errors
 ///
-/// Of the first lane that has an unsafe instruction: [`WalkError::Unsafe`] with the first one and the
-/// first trap that it may meet, or [`WalkError::Uneven`] where that is an `end` of branches that leave
-/// some name in different phases. [`WalkError::Memory`] where memory ran out.
+/// Of the first lane that has an unsafe instruction: [`WalkError::Unsafe`] with the first one and
+/// the first trap that it may meet, or [`WalkError::Uneven`] where that is an `end` of branches
+/// that leave some name in different phases. [`WalkError::Memory`] where memory ran out.
 pub fn walk_lanes<K: KnownWords + Sync>(
     rt: &(impl Threads + Sync),
     alloc: Global,
@@ -102,8 +102,8 @@ fn uneven_refusal(alloc: Global, name: &[u8], instruction: u32) -> Refusal
 /// # Errors
 ///
 /// Of the first lane that has an unsafe instruction: [`Refusal::Unsafe`] with the first one and the
-/// first trap that it may meet, or [`Refusal::Uneven`] with the `when` whose branches leave some name
-/// in different phases, found at their `end`. [`Refusal::Memory`] where memory ran out.
+/// first trap that it may meet, or [`Refusal::Uneven`] with the `when` whose branches leave some
+/// name in different phases, found at their `end`. [`Refusal::Memory`] where memory ran out.
 pub fn check_lanes(
     rt: &(impl Threads + Sync),
     alloc: Global,

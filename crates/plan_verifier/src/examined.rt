@@ -30,8 +30,8 @@ pub struct Grounds {
     costs: Vec<u64>,
 }
 
-/// A plan over a universe, with what the verdict on it is asked of: the rows of the universe, and what
-/// the plan's lanes know of the archive.
+/// A plan over a universe, with what the verdict on it is asked of: the rows of the universe, and
+/// what the plan's lanes know of the archive.
 #[derive(Drop)]
 pub struct Examined {
     planned: Planned,
@@ -60,7 +60,8 @@ impl Model for Examined {
         × (e.planned.plan.count ≡ count e.planned.universe e.planned.plan.lanes) };
 }
 
-/// Finds what the acceptance of a plan rests on, by the rows of its universe and what its lanes know.
+/// Finds what the acceptance of a plan rests on, by the rows of its universe and what its lanes
+/// know.
 fn find_grounds(
     rt: &(impl Threads + Sync),
     alloc: Global,

@@ -29,8 +29,8 @@ pub enum Refusal {
         instruction: u32,
         trap: Trap,
     },
-    /// The branches of the `when` of this number, from 1, of the lane of this name leave some name in
-    /// different phases ([`UNEVEN`]).
+    /// The branches of the `when` of this number, from 1, of the lane of this name leave some name
+    /// in different phases ([`UNEVEN`]).
     Uneven {
         lane: Vec<u8>,
         instruction: u32,

@@ -69,8 +69,8 @@ pub fn lanes_at_once(plan: &Plan) -> usize {
     }
 }
 
-/// Walks over so many lanes, by as many threads as there are processors, but by one over each `least`
-/// of them.
+/// Walks over so many lanes, by as many threads as there are processors, but by one over each
+/// `least` of them.
 ///
 /// # Errors
 ///

@@ -54,8 +54,8 @@ fn judge(rt: &(impl Threads + Sync), alloc: Global, planned: Planned) -> Result<
 /// The first cause of these, and nothing is left behind. [`Refusal::Text`] with the first fault of
 /// the packages, the sources, the farm or the plan. [`Refusal::Unsafe`] with the first instruction,
 /// of the first lane that has one, that may meet a trap, and with the first such trap.
-/// [`Refusal::Uneven`] with the `when` whose branches leave some name in different phases, where their
-/// `end` comes before any such instruction.
+/// [`Refusal::Uneven`] with the `when` whose branches leave some name in different phases, where
+/// their `end` comes before any such instruction.
 /// [`Refusal::Stuck`] with the lanes that no order of waits and outputs brings past their last one.
 /// [`Refusal::Memory`] where memory ran out.
 pub fn check(

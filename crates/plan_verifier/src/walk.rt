@@ -28,8 +28,8 @@ pub enum WalkError {
         instruction: u32,
         trap: Trap,
     },
-    /// The branches of the `when` of this number, from 1, of the lane of this number leave some name
-    /// in different phases.
+    /// The branches of the `when` of this number, from 1, of the lane of this number leave some
+    /// name in different phases.
     Uneven {
         lane: u32,
         instruction: u32,
@@ -142,8 +142,8 @@ fn step_on<K: KnownWords>(
 ///
 /// # Errors
 ///
-/// [`WalkError::Unsafe`] where the instruction may meet a trap, [`WalkError::Uneven`] where it ends branches
-/// that part, and [`WalkError::Memory`] where memory is refused.
+/// [`WalkError::Unsafe`] where the instruction may meet a trap, [`WalkError::Uneven`] where it ends
+/// branches that part, and [`WalkError::Memory`] where memory is refused.
 pub fn advance<K: KnownWords>(
     stage: &Stage<'_, K>,
     dependents: &Dependents,
@@ -189,13 +189,13 @@ pub fn advance<K: KnownWords>(
     }
 }
 
-/// Walks over the instructions of a lane ahead of a place: gives what its chroot may hold at the place,
-/// or the first unsafe instruction.
+/// Walks over the instructions of a lane ahead of a place: gives what its chroot may hold at the
+/// place, or the first unsafe instruction.
 ///
 /// # Errors
 ///
-/// [`WalkError::Unsafe`] or [`WalkError::Uneven`] of the first unsafe instruction ahead of the place.
-/// [`WalkError::Memory`] where memory ran out.
+/// [`WalkError::Unsafe`] or [`WalkError::Uneven`] of the first unsafe instruction ahead of the
+/// place. [`WalkError::Memory`] where memory ran out.
 pub fn walk_to<K: KnownWords>(
     alloc: Global,
     stage: &Stage<'_, K>,

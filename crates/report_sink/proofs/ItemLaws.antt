@@ -23,7 +23,8 @@ module _ {X : Type 0} (f : X → List ℕ) (xs : List X) (i : ℕ) (d : X) (with
   pub last_written : new.failed ≡ true → IsWritten old new (flat_map f xs)
   last_written failed =
       let all : flat_map f (take (suc i) xs) ++ flat_map f (drop (suc i) xs) ≡ flat_map f xs =
-      sym (flat_map-append f (take (suc i) xs) (drop (suc i) xs)) ∙ ap (flat_map f) (take-append-drop (suc i) xs) in
+      sym (flat_map-append f (take (suc i) xs) (drop (suc i) xs))
+      ∙ ap (flat_map f) (take-append-drop (suc i) xs) in
       subst (IsWritten old new) all
       (cut_short old new _ (flat_map f (drop (suc i) xs))
       (rw (← one_more) (written_twice old mid new _ _ so_far more)) failed)

@@ -117,7 +117,8 @@ fn halts_the_other_lane(rt: HostRuntime) -> Result<(), Fail> {
     Ok(())
 }
 
-// Where a lane waits in vain in a run, it gives up there; where none does, the run comes to its end.
+// Where a lane waits in vain in a run, it gives up there; where none does, the run comes to its
+// end.
 #[test]
 fn stops_at_a_pause(rt: HostRuntime) -> Result<(), Fail> {
     let mut accepted = check(&rt, rt.alloc(), PACKAGES, SOURCES, FARM, PLAN)?;

@@ -1,5 +1,5 @@
-//! Tests of whole runs, over one archive: a thread for each lane of a plan and a gate, lanes that take
-//! turns in one thread, or a schedule.
+//! Tests of whole runs, over one archive: a thread for each lane of a plan and a gate, lanes that
+//! take turns in one thread, or a schedule.
 #![tactic(auto)]
 
 #[cfg(test)]

@@ -5,8 +5,8 @@ use accepted_runs::accepted_schedule;
 use plan_verifier::check;
 use std::test::Fail;
 
-// Twelve events end both lanes. Lane b waits ahead of them until lane a has published, and lanes that
-// wait, have ended or are none change nothing.
+// Twelve events end both lanes. Lane b waits ahead of them until lane a has published, and lanes
+// that wait, have ended or are none change nothing.
 #[test]
 fn runs_an_accepted_plan(rt: HostRuntime) -> Result<(), Fail> {
     let accepted = check(&rt, rt.alloc(), PACKAGES, SOURCES, FARM, PLAN)?;

@@ -9,8 +9,8 @@ use std::sync::Wait;
 use std::test::Fail;
 use std::thread::Threads;
 
-/// Runs the lanes to their ends, and gives back the plan where they come to what they should: what they
-/// spend, and how many publications there are.
+/// Runs the lanes to their ends, and gives back the plan where they come to what they should: what
+/// they spend, and how many publications there are.
 fn run_again(
     rt: &(impl Threads + Wait + Sync),
     alloc: Global,

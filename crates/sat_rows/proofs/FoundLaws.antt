@@ -41,7 +41,8 @@ module _ (u : Universe) (p : Variant → Bool) where
   -- variants of a name that are put to those found
   module _ (name word : ℕ) (old new : List NumberWord)
       (put : (n b : ℕ) → among new n b ≡ (among old n b || ((n == name) && word_has word b))) where
-    pub put_grows : ((b : ℕ) → word_has word b ≡ true → passes u p name b ≡ true) → GrowsBy u p old new
+    pub put_grows : ((b : ℕ) → word_has word b ≡ true → passes u p name b ≡ true)
+        → GrowsBy u p old new
     put_grows only =
         record {
           kept = λ n b is. put n b ∙ or_left (among old n b) _ is;
@@ -97,7 +98,8 @@ module _ (u : Universe) (p : Variant → Bool) where
 
 pub finds_none : (u : Universe) (vs : List NumberWord) → Finds u (λ v. false) vs vs
 finds_none u vs n b =
-    sym (ap (λ x. among vs n b || x) (and_false (nat_lt b (variants u n))) ∙ or_false (among vs n b))
+    sym (ap (λ x. among vs n b || x) (and_false (nat_lt b (variants u n)))
+    ∙ or_false (among vs n b))
 
 -- where none passes, nothing is found
 pub finds_never : (u : Universe) (p : Variant → Bool) (vs : List NumberWord)
@@ -133,11 +135,13 @@ module _ (u : Universe) (field : Package → Relations) (test : Atom → Bool) w
         is at.owner.bit ∙ and_from _ _ pass (eq-eqb at.owner.bit at.owner.bit refl)
 
   -- those under a name are all, where what passes has that name
-  pub finds_listed : (lists : List (List (Item Variant))) (name : List ℕ) (old new : List NumberWord)
+  pub finds_listed : (lists : List (List (Item Variant))) (name : List ℕ)
+      (old new : List NumberWord)
       → IsNaming u field lists → ((a : Atom) → test a ≡ true → a.name ≡ name)
       → GrowsBy u some old new → HasItems u field test (listed lists name) new
       → Finds u some old new
-  finds_listed lists name old new naming same grows has = finds_from_grows u some old new grows every
+  finds_listed lists name old new naming same grows has = finds_from_grows u some old new grows
+      every
     where
       every : (n b : ℕ) → passes u some n b ≡ true → among new n b ≡ true
       every n b pass =
@@ -146,7 +150,8 @@ module _ (u : Universe) (field : Package → Relations) (test : Atom → Bool) w
           let found = any_atom-found test (field (package_of u v)) both.1 in
           let at : Item Variant = item v found.0 found.2 in
           let there =
-          naming.names n b (ltb-true b (variants u n) both.0) found.0 found.1 found.4 found.2 found.3
+          naming.names n b (ltb-true b (variants u n) both.0) found.0 found.1 found.4 found.2
+          found.3
           found.5 in
           has at (subst (λ text. IsIn (listed lists text) at) (same found.3 found.7) there)
           (and_from _ _ both.0 (ap (holds test) found.6 ∙ found.7))
@@ -233,9 +238,11 @@ puts_joined [] i number word lt is n b = absurd (omega arith)
 puts_joined (v ∷ vs) zero number word lt is n b =
     ap (λ x. ((n == number) && x) || among vs n b) (word_has-or v.word word b)
     ∙ join_spread (n == number) (word_has v.word b) (word_has word b) (among vs n b)
-    ∙ ap (λ k. (((n == k) && word_has v.word b) || among vs n b) || ((n == number) && word_has word b))
+    ∙ ap (λ k. (((n == k) && word_has v.word b) || among vs n b)
+    || ((n == number) && word_has word b))
     (sym is)
 puts_joined (v ∷ vs) (suc i) number word lt is n b =
     ap (λ x. ((n == v.number) && word_has v.word b) || x)
     (puts_joined vs i number word (omega arith) is n b)
-    ∙ or_assoc ((n == v.number) && word_has v.word b) (among vs n b) ((n == number) && word_has word b)
+    ∙ or_assoc ((n == v.number) && word_has v.word b) (among vs n b)
+    ((n == number) && word_has word b)

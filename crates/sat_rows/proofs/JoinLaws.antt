@@ -22,12 +22,14 @@ pub added_next : (start old new ws : List NumberWord) (i : ℕ) (w : NumberWord)
 added_next start old new ws i w lt is so_far put n b =
     put n b
     ∙ ap (λ x. x || ((n == w.number) && word_has w.word b)) (so_far n b)
-    ∙ sym (or_assoc (among start n b) (among (take i ws) n b) ((n == w.number) && word_has w.word b))
+    ∙ sym (or_assoc (among start n b) (among (take i ws) n b)
+    ((n == w.number) && word_has w.word b))
     ∙ ap (λ x. among start n b || x)
     (sym (any_next (λ w. (n == w.number) && word_has w.word b) ws i w lt is))
 
 -- the variants of one entry more
-pub leads_next : (by_entry : List (List NumberWord)) (bit : ℕ) (old new es : List NumberWord) (i : ℕ)
+pub leads_next : (by_entry : List (List NumberWord)) (bit : ℕ) (old new es : List NumberWord)
+    (i : ℕ)
     (e : NumberWord) → i < length es → e ≡ get_or es i e → IsJoined (take i es) by_entry bit old
     → ((m c : ℕ) → among new m c ≡ (among old m c
     || (word_has e.word bit && among (list_at by_entry e.number) m c)))
@@ -35,7 +37,8 @@ pub leads_next : (by_entry : List (List NumberWord)) (bit : ℕ) (old new es : L
 leads_next by_entry bit old new es i e lt is so_far put m c =
     put m c
     ∙ ap (λ x. x || (word_has e.word bit && among (list_at by_entry e.number) m c)) (so_far m c)
-    ∙ sym (any_next (λ e. word_has e.word bit && among (list_at by_entry e.number) m c) es i e lt is)
+    ∙ sym (any_next (λ e. word_has e.word bit && among (list_at by_entry e.number) m c) es i e lt
+    is)
 
 pub leads_all : (by_entry : List (List NumberWord)) (bit : ℕ) (vs es : List NumberWord) (i : ℕ)
     → length es ≤ i → IsJoined (take i es) by_entry bit vs → IsJoined es by_entry bit vs
@@ -94,13 +97,15 @@ module _ (entries : List NumberWord) (by_entry : List (List NumberWord)) (bit na
         let at = meets (list_at by_entry e.1.number) both.1 in
         met vs at.0 at.1 at.2 at.3
         (is at.0 at.1
-        ∙ any-at (λ e. word_has e.word bit && among (list_at by_entry e.number) at.0 at.1) entries e.0
+        ∙ any-at (λ e. word_has e.word bit && among (list_at by_entry e.number) at.0 at.1) entries
+        e.0
         e.1 e.2 (and_from _ _ both.0 at.4))
 
 -- the lists by bit
 pub joined_none : (entries : List NumberWord) (by_entry : List (List NumberWord))
     → AreJoined entries by_entry []
-joined_none entries by_entry b vs at = absurd (let lt = slice_get_within [] b vs at in omega (arith, lt))
+joined_none entries by_entry b vs at = absurd
+    (let lt = slice_get_within [] b vs at in omega (arith, lt))
 
 pub joined_get : (entries : List NumberWord) (by_entry lists : List (List NumberWord))
     → ((b : ℕ) → b < length lists → IsJoined entries by_entry b (get_or lists b []))

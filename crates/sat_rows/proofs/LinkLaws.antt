@@ -140,7 +140,8 @@ module _ (u : Universe) (test : Variant → Variant → Bool) (x : Links) (links
       let c = common.1 in
       let passing = and_parts (nat_lt c (variants u m)) _ common.3 in
       let other = and_parts (not (m == v.name)) _ passing.1 in
-      let leads = links.every v.name v.bit m c known (ltb-true c (variants u m) passing.0) other.1 in
+      let leads = links.every v.name v.bit m c known (ltb-true c (variants u m) passing.0)
+      other.1 in
       let e = any-found (λ t. (leads.entry == t.number) && word_has t.word v.bit)
       (list_at x.by_name v.name) leads.has in
       let first = and_parts (leads.entry == e.1.number) _ e.3 in
@@ -211,7 +212,8 @@ module _ (u : Universe) (v : Variant) (p q : Variant → Bool) (words : List ℕ
 
 -- both directions
 pub exclusion : (u : Universe) (field : Package → Relations) (entries : List Entry)
-    (noted sets : List (List NumberWord)) (x : Exclusion) → AreNumbered u field entries (names u) noted
+    (noted sets : List (List NumberWord)) (x : Exclusion)
+    → AreNumbered u field entries (names u) noted
     → AreSets u entries sets → AreBoth (names u) noted sets x → IsExclusion u field x
 exclusion u field entries noted sets x are all both =
     let from =

@@ -60,7 +60,12 @@ pub record AddsFirst (entries : List Entry) (field : Relations) (bit count : ℕ
 pub adds_none : (entries : List Entry) (field : Relations) (bit : ℕ) (vs : List NumberWord)
     → AddsFirst entries field bit 0 vs vs
 adds_none entries field bit vs =
-    record { kept = λ k b has. has; only = λ k b has. inl has; every = λ i e lt. absurd (omega arith) }
+    record {
+      kept = λ k b has. has;
+      only = λ k b has. inl has;
+      every = λ i e lt. absurd
+          (omega arith);
+    }
 
 -- one entry more
 module _ (a b : List Entry) (grown : IsGrown a b) (field : Relations) (bit i : ℕ) (e : Entry)
@@ -116,7 +121,8 @@ module _ (a b : List Entry) (grown : IsGrown a b) (field : Relations) (bit i : �
         ];
       }
 
-pub adds_all : (entries : List Entry) (field : Relations) (bit count : ℕ) (old new : List NumberWord)
+pub adds_all : (entries : List Entry) (field : Relations) (bit count : ℕ)
+    (old new : List NumberWord)
     → ((i : ℕ) (e : Entry) → slice_get field i ≡ Some e → i < count)
     → AddsFirst entries field bit count old new → AddsField entries field bit old new
 adds_all entries field bit count old new short is =
@@ -141,8 +147,11 @@ numbered_next u field a b grown n bit old new so_far adds =
     record {
       only = λ k c has. elim (adds.only k c has) [
         | inl before ↦
-            let told = so_far.only k c before in
-            (omega (arith, told.0), entry_grown a b grown (field (package_of u (variant n c))) k told.1)
+            let told = so_far.only k c before in (
+              omega (arith, told.0),
+              entry_grown a b grown (field (package_of u (variant n c))) k
+                  told.1,
+            )
         | inr here ↦ (
           omega (arith, here.0),
           subst (λ c. IsEntryOf b (field (package_of u (variant n c))) k) (sym here.0) here.1,

@@ -37,7 +37,8 @@ one_below e x y z less before = at (text_cmp y z) refl before
         any true = refl
         any false = refl
 
-    at : (o : Ordering) → text_cmp y z ≡ o → is_before e o ≡ true → is_before e (text_cmp x z) ≡ true
+    at : (o : Ordering) → text_cmp y z ≡ o → is_before e o ≡ true → is_before e (text_cmp x z)
+        ≡ true
     at Less same before = is (text_cmp_total.trans x y z less same)
     at Equal same before = is (sym (alike_right text_cmp_total y z x same) ∙ less)
     at Greater same before = none e before
@@ -51,23 +52,27 @@ module _ (u : Universe) (order : IsInOrder u) (n : ℕ) (bound : List ℕ) (e : 
   before b = is_before e (text_cmp (package_of u (variant n b)).version bound)
 
   pub before_below : (a b : ℕ) → a ≤ b → b < variants u n → before b ≡ true → before a ≡ true
-  before_below a zero le lt is = subst (λ k. before k ≡ true) (let same : 0 ≡ a = omega arith in same) is
+  before_below a zero le lt is = subst (λ k. before k ≡ true)
+      (let same : 0 ≡ a = omega arith in same) is
   before_below a (suc b) le lt is =
       elim (cases_lt a (suc b)) [
         | inl below ↦
             before_below a b (omega arith) (omega arith)
-            (one_below e (package_of u (variant n b)).version (package_of u (variant n (suc b))).version
+            (one_below e (package_of u (variant n b)).version
+            (package_of u (variant n (suc b))).version
             bound (order.rising n b lt) is)
         | inr ge ↦ subst (λ k. before k ≡ true) (let same : suc b ≡ a = omega arith in same) is
       ]
 
 -- the number of those before the bound lies between the two
-pub record IsBetween (u : Universe) (n : ℕ) (bound : List ℕ) (e : Bool) (low high : ℕ) : Type 0 where
-  pub order : low ≤ high
-  pub within : high ≤ variants u n
-  pub below : (b : ℕ) → b < low → is_before e (text_cmp (package_of u (variant n b)).version bound) ≡ true
-  pub above : (b : ℕ) → high ≤ b → b < variants u n
-      → is_before e (text_cmp (package_of u (variant n b)).version bound) ≡ false
+pub record IsBetween (u : Universe) (n : ℕ) (bound : List ℕ) (e : Bool) (low high : ℕ) : Type 0
+  where
+    pub order : low ≤ high
+    pub within : high ≤ variants u n
+    pub below : (b : ℕ) → b < low → is_before e (text_cmp (package_of u (variant n b)).version bound)
+        ≡ true
+    pub above : (b : ℕ) → high ≤ b → b < variants u n
+        → is_before e (text_cmp (package_of u (variant n b)).version bound) ≡ false
 
 module _ (u : Universe) (n : ℕ) (bound : List ℕ) (e : Bool) where
   pub all_between : IsBetween u n bound e 0 (variants u n)
@@ -87,7 +92,8 @@ module _ (u : Universe) (n : ℕ) (bound : List ℕ) (e : Bool) where
         record {
           order = omega arith;
           within = is.within;
-          below = λ b lt. before_below u order n bound e b bit (omega arith) (omega (arith, is.within)) before_it;
+          below = λ b lt. before_below u order n bound e b bit (omega arith)
+              (omega (arith, is.within)) before_it;
           above = is.above;
         }
 
@@ -99,7 +105,8 @@ module _ (u : Universe) (n : ℕ) (bound : List ℕ) (e : Bool) where
           within = omega (arith, is.within);
           below = is.below;
           above = λ b ge lt. elim (cases_Bool (before u order n bound e b)) [
-            | inl here ↦ absurd (both_ways _ behind (before_below u order n bound e bit b ge lt here))
+            | inl here ↦ absurd (both_ways _ behind
+                (before_below u order n bound e bit b ge lt here))
             | inr there ↦ there
           ];
         }

@@ -41,5 +41,6 @@ pub all_zip_next : {A B : Type 0} (R : A → B → Type 0) (xs : List A) (ys : L
     → AllZip R (take (i + 1) xs) (ys ++ y ∷ [])
 all_zip_next R xs ys i x y lt is so_far here =
     subst (λ front. AllZip R front (ys ++ y ∷ []))
-    (ap (λ z. take i xs ++ z ∷ []) is ∙ sym (take-suc xs i x lt) ∙ ap (λ k. take k xs) (let e : suc i ≡ i + 1 = omega arith in e))
+    (ap (λ z. take i xs ++ z ∷ []) is ∙ sym (take-suc xs i x lt)
+    ∙ ap (λ k. take k xs) (let e : suc i ≡ i + 1 = omega arith in e))
     (all_zipped_more R (take i xs) ys x y so_far here)

@@ -106,7 +106,8 @@ module _ (u : Universe) (rows : List (List ℕ)) (x : Links) (are : AreServed u 
         let second = and_parts (hits words (list_at x.by_entry k)) _ first.1 in
         let shared = (shares_bit-bits word at.1.word).0 first.0 in
         let listed : among (list_at x.by_name name) k shared.0 ≡ true =
-        any-at (λ t. (k == t.number) && word_has t.word shared.0) (list_at x.by_name name) at.0 at.1 at.2
+        any-at (λ t. (k == t.number) && word_has t.word shared.0) (list_at x.by_name name) at.0 at.1
+        at.2
         (and_from _ _ (eq-eqb k k refl) shared.2) in
         let there = within x.by_name name k shared.0 listed in
         let set : among (list_at serving.sets k) name shared.0 ≡ true =
@@ -118,7 +119,8 @@ module _ (u : Universe) (rows : List (List ℕ)) (x : Links) (are : AreServed u 
         sym (serving.owners.each k owner.0 owner.1 (omega (arith, owned, serving.owners.long)))
         ∙ owner.3 in
         let name_there = within serving.noted owner.0 k owner.1 noted in
-        let told = (serving.are_noted.each owner.0 (omega (arith, name_there, serving.are_noted.long))).only
+        let told = (serving.are_noted.each owner.0
+        (omega (arith, name_there, serving.are_noted.long))).only
         k owner.1 noted in
         let e = told.1 in
         record {
@@ -139,7 +141,8 @@ module _ (u : Universe) (rows : List (List ℕ)) (x : Links) (are : AreServed u 
     missed_from is =
         let serving = are.serving in
         let v = is.owner in
-        let noted = (serving.are_noted.each v.name (named u v.name v.bit is.known)).every v.bit is.place
+        let noted = (serving.are_noted.each v.name (named u v.name v.bit is.known)).every v.bit
+        is.place
         is.entry is.known
         (subst (λ es. slice_get es is.place ≡ Some is.entry) (wanted_is u v) is.has) in
         let k = noted.number in
@@ -158,7 +161,8 @@ module _ (u : Universe) (rows : List (List ℕ)) (x : Links) (are : AreServed u 
         let same = eqb-true k at.1.number parts.0 in
         any-at (is_missed_by x rows word words) (list_at x.by_name name) at.0 at.1 at.2
         (and_from _ _ ((shares_bit-bits word at.1.word).1 (is.bit, is.taken, parts.1))
-        (subst (λ j. (hits words (list_at x.by_entry j) && is_unmet words (slice_get rows j)) ≡ true) same
+        (subst (λ j. (hits words (list_at x.by_entry j) && is_unmet words (slice_get rows j))
+        ≡ true) same
         (and_from _ _ (hit_from words (list_at x.by_entry k) v.name v.bit is.held owned)
         (unmet_from k is.entry noted.is is.unmet))))
 

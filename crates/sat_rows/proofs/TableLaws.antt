@@ -49,7 +49,8 @@ one_alternative u a row is =
     record {
       long = is.long;
       set = λ n b.
-          is.set n b ∙ ap (λ x. nat_lt b (variants u n) && x) (or_false (satisfies u a (variant n b)));
+          is.set n b ∙ ap (λ x. nat_lt b (variants u n) && x)
+          (or_false (satisfies u a (variant n b)));
     }
 
 module _ (u : Universe) (by_name : List (List Numbers)) (by_recipe rows : List (List ℕ))
@@ -79,7 +80,8 @@ module _ (u : Universe) (by_name : List (List Numbers)) (by_recipe rows : List (
         are : AreNumbers u kept.entries v numbers
         are =
             subst (AreNumbers u kept.entries v) (sym at)
-            (value_at u (AreNumbers u kept.entries) no_numbers by_name kept.variants v known here is)
+            (value_at u (AreNumbers u kept.entries) no_numbers by_name kept.variants v known here
+            is)
 
         pub depends_within : (i : ℕ) → i < length (depends u v) → i < length numbers.depends
         depends_within i lt =
@@ -90,7 +92,8 @@ module _ (u : Universe) (by_name : List (List Numbers)) (by_recipe rows : List (
             → IsNumberOf kept.entries (entry_at (depends u v) i) n
         depends_number i n lt e =
             subst (IsNumberOf kept.entries (entry_at (depends u v) i)) (sym e)
-            (paired_at (IsNumberOf kept.entries) (depends u v) numbers.depends i [] 0 are.depends lt)
+            (paired_at (IsNumberOf kept.entries) (depends u v) numbers.depends i [] 0 are.depends
+            lt)
 
         pub pre_within : (i : ℕ) → i < length (pre_depends u v) → i < length numbers.pre_depends
         pre_within i lt =
@@ -109,7 +112,8 @@ module _ (u : Universe) (by_name : List (List Numbers)) (by_recipe rows : List (
   pub alternative_within : (e : Entry) (pre : PreNumbers) (j : ℕ) → IsPreNumbers kept.entries e pre
       → j < length e → j < length pre.alternatives
   alternative_within e pre j is lt =
-      paired_within (λ a n. IsNumberOf kept.entries (a ∷ []) n) e pre.alternatives j is.alternatives lt
+      paired_within (λ a n. IsNumberOf kept.entries (a ∷ []) n) e pre.alternatives j is.alternatives
+      lt
 
   pub alternative_number : (e : Entry) (pre : PreNumbers) (j n : ℕ) (a : Atom)
       → IsPreNumbers kept.entries e pre → n ≡ get_or pre.alternatives j 0 → slice_get e j ≡ Some a

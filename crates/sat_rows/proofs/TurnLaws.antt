@@ -21,7 +21,8 @@ spread false false a true w = refl
 spread false false a false w = refl
 
 -- the words of one list, put into the lists at their numbers
-abbrev pub PutsFirst : (old new : List (List NumberWord)) (number : ℕ) (ws : List NumberWord) → Type 0
+abbrev pub PutsFirst : (old new : List (List NumberWord)) (number : ℕ) (ws : List NumberWord)
+    → Type 0
 PutsFirst old new number ws =
     (j i b : ℕ) → j < length old
     → among (list_at new j) i b ≡ (among (list_at old j) i b || ((i == number) && among ws j b))
@@ -64,13 +65,15 @@ first_next lists old new count number long so_far put j i b lt =
     ∙ elim (cases_lt i number) [
       | inl below ↦
           let other = ne_eqb i number (λ e. absurd (omega (arith, e))) in
-          ap (λ x. (x && among (list_at lists i) j b) || ((i == number) && among (list_at lists number) j b))
+          ap (λ x. (x && among (list_at lists i) j b)
+          || ((i == number) && among (list_at lists number) j b))
           (lt-ltb i number below)
           ∙ ap (λ x. among (list_at lists i) j b || (x && among (list_at lists number) j b)) other
           ∙ or_false (among (list_at lists i) j b)
           ∙ ap (λ x. x && among (list_at lists i) j b) (sym (lt-ltb i (number + 1) (omega arith)))
       | inr ge ↦
-          ap (λ x. (x && among (list_at lists i) j b) || ((i == number) && among (list_at lists number) j b))
+          ap (λ x. (x && among (list_at lists i) j b)
+          || ((i == number) && among (list_at lists number) j b))
           (not_lt i number ge)
           ∙ elim (cases_eq i number) [
             | inl same ↦

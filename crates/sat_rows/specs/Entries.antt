@@ -1,4 +1,5 @@
--- The distinct entries of a universe, and where each entry stands among them. The project's own words.
+-- The distinct entries of a universe, and where each entry stands among them. The project's own
+-- words.
 --
 --   IsGrown            the entries keep their numbers as others come
 --   IsNumberOf         the number of an entry

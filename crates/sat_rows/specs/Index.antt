@@ -1,6 +1,7 @@
 -- The items of the variants of a universe, listed under the names in them. The project's own words.
 --
---   AreNaming, IsNaming    each alternative of a field of each variant of a name is listed under its
+--   AreNaming, IsNaming    each alternative of a field of each variant of a name is listed under
+--   its
 --                          name, and of all names
 --   IsProviding            each item of Provides is
 use Rattle.std.specs.Prelude.{ℕ, ◌<◌, List}
@@ -18,7 +19,8 @@ AreNaming u field n lists =
     → IsListedField lists (variant n b) (field (package_of u (variant n b)))
 
 -- the field of each variant of the universe
-pub record IsNaming (u : Universe) (field : Package → Relations) (lists : List (List (Item Variant)))
+pub record IsNaming (u : Universe) (field : Package → Relations)
+    (lists : List (List (Item Variant)))
     : Type 0 where
   pub names : (n : ℕ) → AreNaming u field n lists
 

@@ -1,7 +1,8 @@
--- Which variants of a universe stand in a relation to which others, by way of entries: a variant leads
--- to some entries, and an entry to some variants. The project's own words.
+-- Which variants of a universe stand in a relation to which others, by way of entries: a variant
+-- leads to some entries, and an entry to some variants. The project's own words.
 --
---   Links                two families of lists: by name the entries of its variants, and by entry the
+--   Links                two families of lists: by name the entries of its variants, and by entry
+--   the
 --                        variants
 --   Leads                some entry of a variant leads to another
 --   reaches              it leads to a variant of another name that a list of words has
@@ -9,7 +10,8 @@
 --                        to whom a variant leads as one list, where there is one
 --   IsLinks              it leads to those alone that pass a test
 --   IsEntryOf, IsNumbered, AreNumbered
---                        the entries of a field of each variant are listed under its name, by number
+--                        the entries of a field of each variant are listed under its name, by
+--                        number
 --   AreSets              the variants that satisfy each entry
 --   AreTurned            the same lists the other way round
 --   declares             a variant satisfies some entry of a field of another

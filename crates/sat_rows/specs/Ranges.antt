@@ -1,5 +1,5 @@
--- The variants of a name in a relation as a range of bits: they stand in the order of their versions.
--- The project's own words.
+-- The variants of a name in a relation as a range of bits: they stand in the order of their
+-- versions. The project's own words.
 --
 --   is_before, IsCountBefore    those earlier than a version, or perhaps as early
 --   IsRange                     those in a relation, from one bit up to another

@@ -1,5 +1,5 @@
--- Which Depends and Pre-Depends entries the variants of each name satisfy, and who has each of them;
--- and whether one that words have is missed. The project's own words.
+-- Which Depends and Pre-Depends entries the variants of each name satisfy, and who has each of
+-- them; and whether one that words have is missed. The project's own words.
 --
 --   wanted              Depends and Pre-Depends of a package
 --   AreLong             a list for each name, with a value for each of its variants
@@ -8,7 +8,8 @@
 --   shares, hits        words share a bit with one of variants, or with some of a list
 --   is_unmet            there is a row, and no name of the words meets it
 --   is_missed_by, misses
---                       the words hit the owners of an entry that the word satisfies, and do not meet it
+--                       the words hit the owners of an entry that the word satisfies, and do not
+--                       meet it
 --   IsMissed            they have a variant with such an entry
 use Rattle.std.specs.Prelude.{◌≡◌, ℕ, ◌<◌, Bool, true, false, not, ◌&&◌, List, [], ◌++◌, length, Option, None, Some, slice_get, slice_index, slice_index_or}
 use Rattle.std.specs.List.{list_any}
@@ -58,7 +59,8 @@ abbrev pub is_unmet : List ℕ → Option (List ℕ) → Bool
 is_unmet words None = false
 is_unmet words (Some row) = not (met words row)
 
--- the variants of the word satisfy the entry, a variant of the words has it, and they do not meet it
+-- the variants of the word satisfy the entry, a variant of the words has it, and they do not meet
+-- it
 abbrev pub is_missed_by : Links → List (List ℕ) → (word : ℕ) → List ℕ → NumberWord → Bool
 is_missed_by x rows word words at =
     shares_bit word at.word && (hits words (list_at x.by_entry at.number)

@@ -46,8 +46,8 @@ fn is_unmet(rows: &[Row], number: usize, words: &[u64]) -> bool
 }
 
 impl Served {
-    /// Puts together who satisfies which entries and who has them, from the numbers of the entries and
-    /// the variants that satisfy each.
+    /// Puts together who satisfies which entries and who has them, from the numbers of the entries
+    /// and the variants that satisfy each.
     ///
     /// # Errors
     ///
@@ -86,8 +86,8 @@ impl Served {
         word & at.word != 0 && self.is_wanted(at.number, words) && is_unmet(rows, at.number, words)
     }
 
-    /// Tells whether the words have a variant with an entry that a variant of the name satisfies, one
-    /// that the word has, and that no name of the words meets. `rows` are those of the entries.
+    /// Tells whether the words have a variant with an entry that a variant of the name satisfies,
+    /// one that the word has, and that no name of the words meets. `rows` are those of the entries.
     pub fn misses(&self, rows: &[Row], name: u32, word: u64, words: &[u64]) -> bool
         requires { (k : ℕ) → k < length rows.now
             → length words.now ≡ length (slice_index_or rows.now k []) }

@@ -37,7 +37,8 @@ pub fn all_sets(
             move |number: usize| -> Result<Found, AllocError>
                 requires providers { IsProviding universe.now providers.now }
                 requires there { number < length entries.now }
-                ensures { IfOk result (λ set. (e : Entry) → slice_get entries.entry.now number ≡ Some e
+                ensures { IfOk result
+                    (λ set. (e : Entry) → slice_get entries.entry.now number ≡ Some e
                     → IsFound universe.entry.now (satisfies_entry universe.entry.now e) set) }
             { satisfying(alloc, universe, providers, entries.entry(number)) },
         )

@@ -241,9 +241,9 @@ impl Tables {
         self.breaks.is_named(variant, words)
     }
 
-    /// Tells whether the words have a variant with a Depends or Pre-Depends entry that a variant of a
-    /// name satisfies, one that the word has, and that no name of the words has variants for which all
-    /// satisfy it.
+    /// Tells whether the words have a variant with a Depends or Pre-Depends entry that a variant of
+    /// a name satisfies, one that the word has, and that no name of the words has variants for
+    /// which all satisfy it.
     pub fn is_missed(&self, name: u32, word: u64, words: &[u64]) -> bool
         requires { length words.now ≡ names self.now }
         ensures { IsTrue result ↔ IsMissed self.now name word words.now }

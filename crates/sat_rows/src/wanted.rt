@@ -49,7 +49,8 @@ fn note_pre_depends(found: &mut Found, bit: u32, numbers: &[PreNumbers]) -> Resu
 /// Puts the bit of a variant under the number of each of its entries.
 fn note(found: &mut Found, bit: u32, numbers: &Numbers) -> Result<(), AllocError>
     requires { bit < 64 }
-    ensures { (u : Universe) (entries : List Entry) (v : Variant) → AreNumbers u entries v numbers.now
+    ensures { (u : Universe) (entries : List Entry) (v : Variant)
+        → AreNumbers u entries v numbers.now
         → OnOk result (AddsField entries (chroot.entries u v) bit found.old found.new) }
 {
     note_depends(found, bit, numbers.all_depends())?;
@@ -88,7 +89,8 @@ pub fn all_wanted(
 ) -> Result<Vec<Found>, AllocError>
     requires { AreLong universe.now numbers.now }
     ensures { (entries : List Entry) → listed.AreNumbered universe.now entries numbers.now
-        → IfOk result (λ lists. AreNumbered universe.now wanted entries (names universe.now) lists.items) }
+        → IfOk result (λ lists. AreNumbered universe.now wanted entries (names universe.now)
+        lists.items) }
 {
     let mut lists = Vec::new(alloc);
     for name in 0..universe.names() {

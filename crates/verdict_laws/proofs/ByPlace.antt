@@ -33,14 +33,17 @@ module _ (u : Universe) (p : Plan) (rows : Rows) (is : IsUniverse u) (l : ℕ) w
       or_left (rows l (row_before_some p l i (instruction_at p l i)) v) _
       (ap (λ o. rows l (row_before_some p l i o) v) at ∙ old)
   allowed-complete i v x at (inr new) =
-      or_right (rows l (row_before_some p l i (instruction_at p l i)) v) _ (ap (adds_some u p rows l i v) at ∙ adds-complete u is p rows l i v x new)
+      or_right (rows l (row_before_some p l i (instruction_at p l i)) v) _
+      (ap (adds_some u p rows l i v) at ∙ adds-complete u is p rows l i v x new)
 
   -- of all that the row has
   tested : (known : AreKnown u rows) (i : ℕ) → is_justified u p rows l i ≡ true → (v : Variant)
       → rows l i v ≡ true → allowed u p rows l i v ≡ true
   unfolding is_justified
   tested known i e v here =
-      elim (or_cases (not (rows l i v)) _ (every_variant-at u (λ w. not (rows l i w) || allowed u p rows l i w) v (known l i v here) e)) [
+      elim (or_cases (not (rows l i v)) _
+      (every_variant-at u (λ w. not (rows l i w) || allowed u p rows l i w) v (known l i v here)
+      e)) [
         | inl none ↦ absurd (both_ways _ (not-true _ none) here)
         | inr fine ↦ fine
       ]
@@ -55,7 +58,8 @@ module _ (u : Universe) (p : Plan) (rows : Rows) (is : IsUniverse u) (l : ℕ) w
         | inr none ↦ or_left (not (rows l i v)) _ (not_from_false _ none)
       ])
 
-  test-sound : AreKnown u rows → (i : ℕ) → is_justified u p rows l i ≡ true → IsJustified u p rows l i
+  test-sound : AreKnown u rows → (i : ℕ) → is_justified u p rows l i ≡ true
+      → IsJustified u p rows l i
   test-sound known zero e = tested known 0 e
   test-sound known (suc i) e = λ x v at here. allowed-sound i v (tested known (suc i) e v here) x at
 
@@ -105,9 +109,11 @@ first_unjustified_is_one u p rows l i k j a b =
         | inr ge ↦
             let same : l ≡ k = omega (arith, le, ge) in
             elim (cases_lt i j) [
-              | inl less ↦ absurd (a.here (subst (λ n. IsJustified u p rows n i) (sym same) (b.before i less)))
+              | inl less ↦ absurd (a.here
+                  (subst (λ n. IsJustified u p rows n i) (sym same) (b.before i less)))
               | inr le2 ↦ elim (cases_lt j i) [
-                | inl more ↦ absurd (b.here (subst (λ n. IsJustified u p rows n j) same (a.before j more)))
+                | inl more ↦ absurd (b.here
+                    (subst (λ n. IsJustified u p rows n j) same (a.before j more)))
                 | inr ge2 ↦ (same, omega (arith, le2, ge2))
               ]
             ]

@@ -11,7 +11,8 @@ use Rattle.wait_order.specs.Settled.{IsSettled}
 use Rattle.wait_order.specs.Standing.{AreStanding, place_of}
 use Rattle.wait_notes.specs.StuckText.{stuck_notes}
 
-pub record ShowsStuck (u : Universe) (p : Plan) (ls : List LaneLines) (notes : List NoteFacts) : Type 0 where
+pub record ShowsStuck (u : Universe) (p : Plan) (ls : List LaneLines) (notes : List NoteFacts) :
+    Type 0 where
   pub order : List ℕ
   pub ats : List Standing
   pub standing : AreStanding u p ats

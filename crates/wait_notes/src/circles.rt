@@ -93,8 +93,8 @@ fn circle_note(
     })
 }
 
-/// Puts a note on one circle of lanes behind others, from its first lane in file order; none where no
-/// lane waits in a circle. `nexts` has the lane that each lane waits for.
+/// Puts a note on one circle of lanes behind others, from its first lane in file order; none where
+/// no lane waits in a circle. `nexts` has the lane that each lane waits for.
 ///
 /// # Errors
 ///

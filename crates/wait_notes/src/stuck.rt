@@ -219,9 +219,9 @@ fn halted_notes(alloc: Global, halted: Halted<'_>) -> Result<Vec<Note>, AllocErr
 }
 
 /// Gives the notes on the lanes of a plan that are stuck: of each the wait that it stands at, why
-/// it is stuck there, and who publishes what satisfies its entry; behind all one circle of lanes that
-/// wait for each other, if there is one. None for a plan whose waits all pass. `lines` are those
-/// of the plan's text.
+/// it is stuck there, and who publishes what satisfies its entry; behind all one circle of lanes
+/// that wait for each other, if there is one. None for a plan whose waits all pass. `lines` are
+/// those of the plan's text.
 ///
 /// # Errors
 ///

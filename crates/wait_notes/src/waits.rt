@@ -274,9 +274,9 @@ fn push_lane(
 }
 
 /// Gives the notes on what the waits of an accepted plan wait for, lane by lane and in each lane in
-/// order: the first variant that satisfies the entry and is in the archive from the start, or else the
-/// first that a lane publishes for it. None on a wait that nothing satisfies. `lines` are those of the
-/// plan's text.
+/// order: the first variant that satisfies the entry and is in the archive from the start, or else
+/// the first that a lane publishes for it. None on a wait that nothing satisfies. `lines` are those
+/// of the plan's text.
 ///
 /// # Errors
 ///

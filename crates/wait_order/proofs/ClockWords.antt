@@ -31,18 +31,21 @@ pub counted_one : (lanes : List LaneOutputs) (x : ℕ → ℕ) (at : OutputPlace
 counted_one lanes x at n a b one other =
     let lane = same_Some one.is.of other.is.of (sym one.is.lane ∙ other.is.lane) in
     let there : slice_get other.is.of.outputs.items at.number ≡ Some one.output =
-    subst (λ (of : LaneOutputs). slice_get of.outputs.items at.number ≡ Some one.output) lane one.is.output in
+    subst (λ (of : LaneOutputs). slice_get of.outputs.items at.number ≡ Some one.output) lane
+    one.is.output in
     let output = same_Some one.output other.output (sym there ∙ other.is.output) in
     sym one.bit ∙ ap (λ (o : Output). o.variant.bit) output ∙ other.bit
 
-pub counted_small : (u : Universe) (lanes : List LaneOutputs) (x : ℕ → ℕ) (at : OutputPlace) (n b : ℕ)
+pub counted_small : (u : Universe) (lanes : List LaneOutputs) (x : ℕ → ℕ) (at : OutputPlace)
+    (n b : ℕ)
     → IsUniverse u → AreKnownLanes u lanes → IsCounted lanes x at n b → b < 64
 counted_small u lanes x at n b sound known is =
     let k = known at.lane is.is.of is.is.lane at.number is.output is.is.output in
     omega (arith, k, sound.few is.output.variant.name, is.bit)
 
 -- what is kept of a word as the places of its name are gone through
-pub record IsWordSoFar (lanes : List LaneOutputs) (x : ℕ → ℕ) (list : List OutputPlace) (n first k word : ℕ)
+pub record IsWordSoFar (lanes : List LaneOutputs) (x : ℕ → ℕ) (list : List OutputPlace)
+    (n first k word : ℕ)
     : Type 0 where
   pub start : (b : ℕ) → word_has first b ≡ true → word_has word b ≡ true
   pub each : (m b : ℕ) (at : OutputPlace) → m < k → slice_get list m ≡ Some at
@@ -59,7 +62,8 @@ module _ (lanes : List LaneOutputs) (x : ℕ → ℕ) (list : List OutputPlace) 
   }
 
   -- one more place
-  pub word_next : (k : ℕ) (d : OutputPlace) (word next : ℕ) → IsWordSoFar lanes x list n first k word
+  pub word_next : (k : ℕ) (d : OutputPlace) (word next : ℕ)
+      → IsWordSoFar lanes x list n first k word
       → ((b : ℕ) → word_has word b ≡ true → word_has next b ≡ true)
       → ((b : ℕ) → IsCounted lanes x (get_or list k d) n b → word_has next b ≡ true)
       → ((b : ℕ) → word_has next b ≡ true
@@ -70,7 +74,8 @@ module _ (lanes : List LaneOutputs) (x : ℕ → ℕ) (list : List OutputPlace) 
     each = λ m b at lt there counts. elim (cases_eq m k) [
       | inl here ↦
           counted b (subst (λ (a : OutputPlace). IsCounted lanes x a n b)
-          (sym (get_or_from_slice_get list k at d (subst (λ i. slice_get list i ≡ Some at) here there))) counts)
+          (sym (get_or_from_slice_get list k at d
+          (subst (λ i. slice_get list i ≡ Some at) here there))) counts)
       | inr other ↦ kept b (so_far.each m b at (omega (arith, lt, other)) there counts)
     ];
     only = λ b h. elim (only b h) [
@@ -93,12 +98,14 @@ module _ (u : Universe) (p : Plan) (lanes : List LaneOutputs) (sound : IsUnivers
       let here : is.output.variant ≡ variant n b =
       ap (λ k. variant k is.output.variant.bit) is.named ∙ ap (variant n) is.bit in
       let found =
-      list_any-some (λ (o : Output). same o.variant (variant n b)) (take (x at.lane) outs) at.number is.output
+      list_any-some (λ (o : Output). same o.variant (variant n b)) (take (x at.lane) outs) at.number
+      is.output
       (take-get (x at.lane) at.number outs is.output is.before is.is.output)
       (ap (λ w. same w (variant n b)) here ∙ same-refl (variant n b)) in
       let made : contains (take (x at.lane) (lane_outputs u (lane p at.lane))) (variant n b)
       ≡ true =
-      sym (first-made u p at.lane (x at.lane) outs (variant n b) (are.each at.lane of is.is.lane)) ∙ found in
+      sym (first-made u p at.lane (x at.lane) outs (variant n b) (are.each at.lane of is.is.lane))
+      ∙ found in
       and_from _ _ (lt-ltb b (variants u n) (subst (IsKnown u) here known))
       (or_right (initial u (variant n b)) _
       (some_below-at (length p)
@@ -106,7 +113,8 @@ module _ (u : Universe) (p : Plan) (lanes : List LaneOutputs) (sound : IsUnivers
       (omega (arith, lt, are.long)) made))
 
   -- what is in the row, and not from the start, is an output that counts and is listed
-  counted_back : (lists : List (List OutputPlace)) → AreListed lists lanes (length lanes) → (n b : ℕ)
+  counted_back : (lists : List (List OutputPlace)) → AreListed lists lanes (length lanes)
+      → (n b : ℕ)
       → some_below (length p) (λ j. contains (take (x j) (lane_outputs u (lane p j))) (variant n b))
       ≡ true
       → (m : ℕ) × (at : OutputPlace) × (slice_get (slice_index_or lists n []) m ≡ Some at)
@@ -119,13 +127,15 @@ module _ (u : Universe) (p : Plan) (lanes : List LaneOutputs) (sound : IsUnivers
       let outs = of.0.outputs.items in
       let w = found-in (λ (o : Output). same o.variant (variant n b)) (x j) outs
       (first-made u p j (x j) outs (variant n b) (are.each j of.0 of.1) ∙ f.2) in
-      let here : w.element.variant ≡ variant n b = same-true w.element.variant (variant n b) w.passes in
+      let here : w.element.variant ≡ variant n b = same-true w.element.variant (variant n b)
+      w.passes in
       let name_is : w.element.variant.name ≡ n = ap (λ (v : Variant). v.name) here in
       let there = listed j of.0 (omega (arith, f.1, are.long)) of.1 w.place w.element
       (slice_get_within outs w.place w.element w.at) w.at in (
         there.0,
         place j w.place,
-        subst (λ k. slice_get (slice_index_or lists k []) there.0 ≡ Some (place j w.place)) name_is there.1,
+        subst (λ k. slice_get (slice_index_or lists k []) there.0 ≡ Some (place j w.place)) name_is
+            there.1,
         record {
           output = w.element;
           is = record { of = of.0; lane = of.1; output = w.at };
@@ -157,5 +167,6 @@ module _ (u : Universe) (p : Plan) (lanes : List LaneOutputs) (sound : IsUnivers
         | inr some ↦
             let back = counted_back lists listed n b some in
             so_far.each back.0 b back.1
-            (omega (arith, end, slice_get_within (slice_index_or lists n []) back.0 back.1 back.2)) back.2 back.3
+            (omega (arith, end, slice_get_within (slice_index_or lists n []) back.0 back.1 back.2))
+            back.2 back.3
       ])

@@ -8,7 +8,8 @@ use Rattle.wait_order.specs.declared.column.Point.{Point}
 use Rattle.wait_order.specs.Column.{IsGreatestColumn}
 use Rattle.wait_order.specs.Columns.{column_of, AreColumns}
 
-pub columns_next : (u : Universe) (p : Plan) (ps : List Point) (columns : List (List ℕ)) (n total : ℕ)
+pub columns_next : (u : Universe) (p : Plan) (ps : List Point) (columns : List (List ℕ))
+    (n total : ℕ)
     (x : List ℕ) → AreColumns u p ps columns n → total ≡ length (lane_outputs u (lane p n))
     → IsGreatestColumn n total ps x → AreColumns u p ps (columns ++ x ∷ []) (n + 1)
 columns_next u p ps columns n total x so_far is here =
@@ -32,7 +33,8 @@ columns_next u p ps columns n total x so_far is here =
       where
         at : (cs : List (List ℕ)) (k : ℕ) → length cs ≡ k → get_or (cs ++ x ∷ []) k [] ≡ x
         at [] k e = ap (λ i. get_or (x ∷ []) i []) (sym e)
-        at (y ∷ cs) k e = ap (λ i. get_or (y ∷ (cs ++ x ∷ [])) i []) (sym e) ∙ at cs (length cs) refl
+        at (y ∷ cs) k e = ap (λ i. get_or (y ∷ (cs ++ x ∷ [])) i []) (sym e)
+            ∙ at cs (length cs) refl
 
     first : (j : ℕ) → j < n → column_of (columns ++ x ∷ []) j ≡ column_of columns j
     first j lt = get_or_append_left columns (x ∷ []) [] j (omega (arith, lt, so_far.long))

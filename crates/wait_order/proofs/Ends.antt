@@ -136,7 +136,8 @@ module _ (u : Universe) (p : Plan) (order : List ℕ) (ats seen : List Standing)
     (is : lanes ≡ filter (λ l. nat_lt (place_of seen l) (length (lane p l).instructions))
     (range_with_len 0 (length p))) where
   seen_left : lanes
-      ≡ filter (goes_on u p order s.there ats standing s.reached s.held) (range_with_len 0 (length p))
+      ≡ filter (goes_on u p order s.there ats standing s.reached s.held)
+      (range_with_len 0 (length p))
   seen_left = subst
       (λ xs. lanes ≡ filter (λ l. nat_lt (place_of xs l) (length (lane p l).instructions))
       (range_with_len 0 (length p)))

@@ -68,7 +68,8 @@ module _ (row : List ℕ) (lanes : List LaneOutputs) where
   -- the outputs of the first k places of a list are no earlier
   abbrev pub AreEarly : List OutputPlace → ℕ → List ℕ → Type 0
   AreEarly places k firsts =
-      (l n j : ℕ) (o : Output) → j < k → slice_get places j ≡ Some (place l n) → IsOutput lanes l n o
+      (l n j : ℕ) (o : Output) → j < k → slice_get places j ≡ Some (place l n)
+      → IsOutput lanes l n o
       → has row o ≡ true → get_or firsts l 0 ≤ n
 
   pub early_next : (old new : List ℕ) (places : List OutputPlace) (k : ℕ) (d : OutputPlace)
@@ -99,7 +100,8 @@ module _ (row : List ℕ) (lanes : List LaneOutputs) where
       let at : slice_get places there.0 ≡ Some (place l n) =
       subst (λ xs. slice_get xs there.0 ≡ Some (place l n))
       (ap (λ m. get_or lists m []) named ∙ sym are) there.1 in
-      so_far l n there.0 o (omega (arith, slice_get_within places there.0 (place l n) at, end)) at is
+      so_far l n there.0 o (omega (arith, slice_get_within places there.0 (place l n) at, end)) at
+      is
       hit
 
   -- each name below this one was looked at
@@ -206,7 +208,8 @@ module _ (lanes : List LaneOutputs) (l n : ℕ) (of : LaneOutputs) (outs : List 
       → IsOutput lanes l n o → hit ≡ has row o
   hit_at row hit hit_is o at =
       let found = get_or_from_slice_get lanes l at.of of at.lane in
-      let same : outs ≡ at.of.outputs.items = is ∙ ap (λ (w : LaneOutputs). w.outputs.items) found in
+      let same : outs ≡ at.of.outputs.items = is
+      ∙ ap (λ (w : LaneOutputs). w.outputs.items) found in
       let there : slice_get outs n ≡ Some o =
       subst (λ xs. slice_get xs n ≡ Some o) (sym same) at.output in
       hit_is ∙ ap (has row) (get_or_from_slice_get outs n o d there)

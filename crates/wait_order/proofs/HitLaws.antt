@@ -30,7 +30,8 @@ pub lane_known : (u : Universe) (p : Plan) (h : ℕ) (outs : List Output)
 lane_known u p h outs are sound k o at =
     let f = comes_from u p h outs are k o at in
     subst (IsKnown u) (get_or_from_slice_get _ f.number o.variant o.variant f.output)
-    (sound.outputs_known f.recipe f.number o.variant (slice_get_within _ f.number o.variant f.output))
+    (sound.outputs_known f.recipe f.number o.variant
+    (slice_get_within _ f.number o.variant f.output))
 
 pub lanes_known : (u : Universe) (p : Plan) (lanes : List LaneOutputs) → AreLanes u p lanes
     → IsUniverse u → AreKnownLanes u lanes
@@ -83,7 +84,8 @@ module _ (u : Universe) (sound : IsUniverse u) (test : Variant → Bool) (archiv
       nothing =
           record {
             variant = v;
-            is_initial = (and_parts (nat_lt found.1 (variants u found.0)) (initial u v) (sym (archive_is.set found.0 found.1) ∙ found.2)).1;
+            is_initial = (and_parts (nat_lt found.1 (variants u found.0)) (initial u v)
+                (sym (archive_is.set found.0 found.1) ∙ found.2)).1;
             satisfies = (and_parts (nat_lt found.1 (variants u found.0)) (test v)
                 (sym (row_is.set found.0 found.1) ∙ found.3)).1;
             count = refl;

@@ -71,7 +71,8 @@ module _ (u : Universe) (p : Plan) (sound : IsSound u p) (ps : List Point)
             → n < (if h == j then outputs_before u (lane p j) k (suc m) else x h k j)
         before h k r m h_lt at out which =
             let own : h ≡ l → k < i = λ same.
-            own_before u p sound l i k r m c lt (subst (λ g. instruction_at p g k ≡ Some (Publish r)) same at) out may in
+            own_before u p sound l i k r m c lt
+            (subst (λ g. instruction_at p g k ≡ Some (Publish r)) same at) out may in
             let first = sources.outputs h k r m c h_lt at out sat own in
             let a = least-known j (counts j) (total j) ss first.index first.source first.at in
             by first a which
@@ -159,7 +160,8 @@ module _ (u : Universe) (p : Plan) (sound : IsSound u p) (ps : List Point)
                   inl (subst (λ k. n < at_last j l k) (sym (asks-row u asks.test p l i y asks.is))
                   old)
               | inr new ↦
-                  let below : n < least j (counts j) (total j) has.point.sources.items = omega (arith, up, new, n_lt) in
+                  let below : n < least j (counts j) (total j) has.point.sources.items = omega
+                  (arith, up, new, n_lt) in
                   inr (adds-asked u asks.test p x l i j n y asks.is ne
                   (λ c may sat. leads l i j n asks.test c lt j_lt has.point.sources.items
                   has.is.sources below may sat))
@@ -195,11 +197,13 @@ module _ (u : Universe) (p : Plan) (sound : IsSound u p) (ps : List Point)
       theirs : ℕ → Counts
       theirs j w = value j (slice_get ps w)
 
-      theirs-at : (j w : ℕ) (of : Point) (l i : ℕ) → slice_get ps w ≡ Some of → of.lane ≡ l → of.place ≡ i
+      theirs-at : (j w : ℕ) (of : Point) (l i : ℕ) → slice_get ps w ≡ Some of → of.lane ≡ l
+          → of.place ≡ i
           → theirs j w ≡ y l (suc i) j
       unfolding theirs value
       theirs-at j w of l i at in_lane in_place =
-          ap (value j) at ∙ ap (λ k. y k (suc of.place) j) in_lane ∙ ap (λ k. y l (suc k) j) in_place
+          ap (value j) at ∙ ap (λ k. y k (suc of.place) j) in_lane
+          ∙ ap (λ k. y l (suc k) j) in_place
 
       -- what is known was known at the point whose counts hold
       abbrev IsWithin : ℕ → ℕ → ℕ → Type 0
@@ -243,10 +247,13 @@ module _ (u : Universe) (p : Plan) (sound : IsSound u p) (ps : List Point)
           → LeadsAll u p y l i j n test → IsNothing u test s ⊎ IsSource u p l i test s
           → n < known j (theirs j) s
       learned l i j n k test s j_lt learns (inl none) =
-          absurd ((learns none.variant (initial_possible u p l i none.variant none.is_initial) none.satisfies).not_initial none.is_initial)
+          absurd ((learns none.variant (initial_possible u p l i none.variant none.is_initial)
+          none.satisfies).not_initial none.is_initial)
       learned l i j n k test s j_lt learns (inr one) =
-          let may = output_possible u p l i s.lane one.place one.recipe one.number one.variant one.below one.publish one.output one.own in
-          let ahead = (learns one.variant may one.satisfies).before s.lane one.place one.recipe one.number one.below one.publish one.output in
+          let may = output_possible u p l i s.lane one.place one.recipe one.number one.variant
+          one.below one.publish one.output one.own in
+          let ahead = (learns one.variant may one.satisfies).before s.lane one.place one.recipe
+          one.number one.below one.publish one.output in
           by ahead (cases_eq s.lane j)
         where
           by : n < (if s.lane == j then outputs_before u (lane p j) one.place (suc one.number)
@@ -262,7 +269,8 @@ module _ (u : Universe) (p : Plan) (sound : IsSound u p) (ps : List Point)
               let a : n < y s.lane one.place j = rw (ne_eqb s.lane j other) at ahead in
               let b = known-other j (theirs j) s other in
               let d = ap (count_at (theirs j)) one.point in
-              let k_lt = slice_get_within (lane p s.lane).instructions one.place (Publish one.recipe) one.publish in
+              let k_lt = slice_get_within (lane p s.lane).instructions one.place
+              (Publish one.recipe) one.publish in
               let f = since s.lane j one.below j_lt (λ g. other (sym g)) one.place
               (omega (arith, k_lt)) in
               omega (arith, a, b, d, f)
@@ -291,21 +299,24 @@ module _ (u : Universe) (p : Plan) (sound : IsSound u p) (ps : List Point)
                     let none = ap length (asks-makes u is.test is.instruction is.asks) in
                     omega (arith, here, a, b, d, f, none, is.is.own)
                 | inr other ↦
-                    let a = bound-other j (total j) (theirs j) of (λ g. other (sym is.is.lane ∙ g)) in
+                    let a = bound-other j (total j) (theirs j) of
+                    (λ g. other (sym is.is.lane ∙ g)) in
                     let b = ap (count_at (theirs j)) is.is.before in
                     let ne : (j ≡ is.lane) → ⊥ = λ g. other (sym g) in
                     let so_far = since is.lane j is.below j_lt ne is.place (omega (arith, below)) in
                     let row = ap (λ k. y is.lane k j) (asks-row u is.test p is.lane is.place
                     is.instruction is.asks) in
                     let up = le-from (y is.lane (suc is.place) j)
-                    (max (count_at (theirs j) of.before) (least j (theirs j) (total j) of.sources.items))
+                    (max (count_at (theirs j) of.before)
+                    (least j (theirs j) (total j) of.sources.items))
                     (λ n n_lt. elim (are.after is.lane is.place j n is.instruction is.below j_lt ne
                     is.there n_lt) [
                       | inl old ↦ omega (arith, old, row, so_far, b)
                       | inr new ↦
                           let learns = learns-asked u is.test p y is.lane is.place j n
                           is.instruction is.asks new in
-                          let under : n < total j = omega (arith, n_lt, are.few is.lane (suc is.place) j) in
+                          let under : n < total j = omega
+                          (arith, n_lt, are.few is.lane (suc is.place) j) in
                           let ahead = least-above j (theirs j) (total j) n of.sources.items under
                           (λ k s e. learned is.lane is.place j n k is.test s j_lt learns
                           (is.is.sources.sound k s e)) in

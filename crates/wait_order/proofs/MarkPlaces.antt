@@ -135,7 +135,8 @@ module _ (u : Universe) (p : Plan) where
             }
         | inr then ↦
             let x = there p l n (omega (arith, le)) in
-            let m = one_mark l n then.0 x.0 mark x.1 (ap (λ o. slice_get (marks_at u p l n o) then.0) (sym x.1) ∙ then.2) in
+            let m = one_mark l n then.0 x.0 mark x.1
+            (ap (λ o. slice_get (marks_at u p l n o) then.0) (sym x.1) ∙ then.2) in
             record {
               at_place = n;
               instruction = x.0;

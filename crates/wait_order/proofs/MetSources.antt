@@ -113,7 +113,8 @@ module _ (u : Universe) (p : Plan) (test : Variant → Bool) (mark : Mark) (lt :
         nothing = λ c is sat.
             let z = are.nothing c is sat in
             let few : z.source.count ≤ mark.own = (let n = z.count in omega (arith, n)) in
-            let new = there_kept (may_meet mark) all z.index z.source z.at (meets_few z.source few) in
+            let new = there_kept (may_meet mark) all z.index z.source z.at
+            (meets_few z.source few) in
             record {
               index = new.index;
               source = z.source;
@@ -122,7 +123,8 @@ module _ (u : Universe) (p : Plan) (test : Variant → Bool) (mark : Mark) (lt :
               point = z.point;
             };
         outputs = λ h k r m c h_lt at out sat may.
-            let f = are.outputs h k r m c h_lt at out sat (λ same. absurd (omega (arith, same, h_lt))) in
+            let f = are.outputs h k r m c h_lt at out sat
+            (λ same. absurd (omega (arith, same, h_lt))) in
             let meets : may_meet mark f.source ≡ true =
             elim (cases_eq h mark.lane) [
               | inl same ↦

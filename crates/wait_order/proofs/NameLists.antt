@@ -24,7 +24,8 @@ in_last : (list : List OutputPlace) (a : OutputPlace) → IsIn (list ++ a ∷ []
 in_last list a =
     let long : length list < length (list ++ a ∷ []) = omega (arith, length-append list (a ∷ [])) in (
       length list,
-      slice_get-get_or (list ++ a ∷ []) (length list) a long ∙ ap Some (get_or-append_seam list a [] a),
+      slice_get-get_or (list ++ a ∷ []) (length list) a long
+          ∙ ap Some (get_or-append_seam list a [] a),
     )
 
 -- one more place under a name: what was listed still is, and it is listed
@@ -50,7 +51,8 @@ module _ (lists : List (List OutputPlace)) (name : ℕ) (at : OutputPlace)
   IsKept-with_listed = record { long = length-set lists name _; kept = kept_at }
 
   pub IsListed-with_listed : IsListed (with_listed lists name at) name at
-  IsListed-with_listed = subst (λ list. IsIn list at) (sym there) (in_last (get_or lists name []) at)
+  IsListed-with_listed = subst (λ list. IsIn list at) (sym there)
+      (in_last (get_or lists name []) at)
 
 pub kept_trans : (a b c : List (List OutputPlace)) → IsKept a b → IsKept b c → IsKept a c
 kept_trans a b c first next =

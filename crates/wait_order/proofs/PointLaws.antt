@@ -65,18 +65,26 @@ module _ (u : Universe) (p : Plan) (marks : List Mark) (ps : List Point)
 
   pub points_are : ArePoints u p ps
   points_are =
-      record { long = long ∙ ap length marks_are ∙ all_marks-long u p (length p); each = each; back = back }
+      record {
+        long = long ∙ ap length marks_are
+            ∙ all_marks-long u p (length p);
+        each = each;
+        back = back;
+      }
 
 -- one more point
-pub points_next : (u : Universe) (p : Plan) (marks : List Mark) (ps : List Point) (w : ℕ) (mark : Mark)
+pub points_next : (u : Universe) (p : Plan) (marks : List Mark) (ps : List Point) (w : ℕ)
+    (mark : Mark)
     (of : Point) → length ps ≡ w
     → ((k : ℕ) (m : Mark) → k < w → slice_get marks k ≡ Some m → HasPointOf u p ps k m)
     → slice_get marks w ≡ Some mark → IsPointOf u p mark of
-    → (k : ℕ) (m : Mark) → k < w + 1 → slice_get marks k ≡ Some m → HasPointOf u p (ps ++ of ∷ []) k m
+    → (k : ℕ) (m : Mark) → k < w + 1 → slice_get marks k ≡ Some m
+    → HasPointOf u p (ps ++ of ∷ []) k m
 points_next u p marks ps w mark of long have at is k m lt at_k =
     elim (cases_eq k w) [
       | inl same ↦
-          let m_is : mark ≡ m = same_Some mark m (sym at ∙ ap (slice_get marks) (sym same) ∙ at_k) in
+          let m_is : mark ≡ m = same_Some mark m
+          (sym at ∙ ap (slice_get marks) (sym same) ∙ at_k) in
           record {
             point = of;
             at = get-then ps (of ∷ []) k 0 (omega (arith, long, same));
@@ -96,7 +104,8 @@ pub mark_facts : (u : Universe) (p : Plan) (marks : List Mark) (w : ℕ) (d : Ma
     × ((get_or marks w d).place < length (lane p (get_or marks w d).lane).instructions)
 mark_facts u p marks w d marks_are lt =
     let got = slice_get-get_or marks w d lt in
-    let m = all_back u p (length p) w (get_or marks w d) (ap (λ ms. slice_get ms w) (sym marks_are) ∙ got) in
+    let m = all_back u p (length p) w (get_or marks w d)
+    (ap (λ ms. slice_get ms w) (sym marks_are) ∙ got) in
     subst
     (λ (z : Mark). (z.own ≡ outputs_before u (lane p z.lane) z.place 0) × (z.lane < length p)
     × (z.place < length (lane p z.lane).instructions)) (sym m.is) (

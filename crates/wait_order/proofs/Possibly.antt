@@ -107,7 +107,8 @@ module _ (u : Universe) (p : Plan) (sound : IsSound u p) where
       elim (or_cases (initial u c) _ e) [
         | inl is ↦ absurd (both_ways _ (sound.universe.outputs_new r m c out) is)
         | inr some ↦
-            let f = some_below-found (length p) (λ j. list_any (gives u c) (within_reach p l i j)) some in
+            let f = some_below-found (length p) (λ j. list_any (gives u c) (within_reach p l i j))
+            some in
             by f.0 f.1 f.2 (cases_eq f.0 l)
       ]
     where
@@ -126,7 +127,8 @@ module _ (u : Universe) (p : Plan) (sound : IsSound u p) where
           let q = one_place l k r m c lt at out j f.place f.element j_lt f.at f.passes in
           absurd (other (sym q.0))
 
-contains-get : (vs : List Variant) (m : ℕ) (c : Variant) → slice_get vs m ≡ Some c → contains vs c ≡ true
+contains-get : (vs : List Variant) (m : ℕ) (c : Variant) → slice_get vs m ≡ Some c → contains vs c
+    ≡ true
 contains-get vs m c e = list_any-some (λ w. same w c) vs m c e (same-refl c)
 
 -- an output of another lane is possible, and an own one behind its publish
@@ -144,7 +146,8 @@ output_possible u p l i h k r m c lt at out own =
 
     by : (h ≡ l) ⊎ (h ≡ l → ⊥) → list_any (gives u c) (within_reach p l i h) ≡ true
     by (inl here) =
-        rw (eq-eqb h l here) (list_any-some (gives u c) (take i (lane p h).instructions) k (Publish r)
+        rw (eq-eqb h l here) (list_any-some (gives u c) (take i (lane p h).instructions) k
+        (Publish r)
         (take-get i k (lane p h).instructions (Publish r) (own here) at) g)
     by (inr other) =
         rw (ne_eqb h l other) (list_any-some (gives u c) (lane p h).instructions k (Publish r) at g)

@@ -16,7 +16,8 @@ use Rattle.wait_order.specs.Points.{last_point}
 abbrev pub variant_of : Output → Variant
 variant_of o = o.variant
 
-map-variant : (point : Option ℕ) (vs : List Variant) → map variant_of (map (output_with point) vs) ≡ vs
+map-variant : (point : Option ℕ) (vs : List Variant) → map variant_of (map (output_with point) vs)
+    ≡ vs
 map-variant point [] = refl
 map-variant point (v ∷ vs) = ap (λ ws. v ∷ ws) (map-variant point vs)
 

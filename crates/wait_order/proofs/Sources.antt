@@ -79,7 +79,8 @@ module _ (u : Universe) (p : Plan) (h : ℕ) (outs : List Output)
       (slice_get-get_or (lane_outputs u (lane p h)) n o.variant (omega (arith, lt, outs-long))) in
       let k_lt = slice_get_within (lane p h).instructions a.place (Publish a.recipe) a.publish in
       let got =
-      output-get u p h (length (lane p h).instructions) a.place a.recipe a.number v (omega arith) k_lt a.publish a.output in
+      output-get u p h (length (lane p h).instructions) a.place a.recipe a.number v (omega arith)
+      k_lt a.publish a.output in
       let same : o ≡ output_with (last_point p h a.place) v =
       same_Some o (output_with (last_point p h a.place) v)
       (sym at ∙ ap (λ os. slice_get os n) outs_are
@@ -115,7 +116,8 @@ module _ (u : Universe) (p : Plan) (h : ℕ) (outs : List Output)
         let f = comes_from hit.number hit.output hit.at in
         let sat = and_parts (nat_lt hit.output.variant.bit (variants u hit.output.variant.name))
         (test hit.output.variant)
-        (sym (row_is.set hit.output.variant.name hit.output.variant.bit) ∙ hit.first.hit hit.output hit.at) in
+        (sym (row_is.set hit.output.variant.name hit.output.variant.bit)
+        ∙ hit.first.hit hit.output hit.at) in
         subst (IsSource u p l i test) (sym hit.is) (record {
           place = f.place;
           recipe = f.recipe;
@@ -127,7 +129,14 @@ module _ (u : Universe) (p : Plan) (h : ℕ) (outs : List Output)
           satisfies = sat.1;
           own = λ same. elim (cases_lt f.place i) [
             | inl early ↦ early
-            | inr late ↦ absurd (omega (arith, own-limit same, hit.first.below, f.counted, count-mono u p h i f.place late))
+            | inr late ↦ absurd (omega (
+              arith,
+              own-limit same,
+              hit.first.below,
+              f.counted,
+              count-mono u p h i f.place
+                  late,
+            ))
           ];
           count = omega (arith, f.counted);
           point = f.point;
@@ -141,8 +150,23 @@ module _ (u : Universe) (p : Plan) (h : ℕ) (outs : List Output)
         let next = count-next u p h k (Publish r) at in
         let long = some_below_length (outputs u r) m c out in
         elim (cases_eq h l) [
-          | inl same ↦ omega (arith, next, long, own-limit same, count-mono u p h (suc k) i (own same))
-          | inr other ↦ omega (arith, next, long, other-limit other, outs-long, count-few u p h (suc k))
+          | inl same ↦ omega (
+            arith,
+            next,
+            long,
+            own-limit same,
+            count-mono u p h (suc k) i
+                (own same),
+          )
+          | inr other ↦ omega (
+            arith,
+            next,
+            long,
+            other-limit other,
+            outs-long,
+            count-few u p h
+                (suc k),
+          )
         ]
 
     hit_at : (k r m : ℕ) (c : Variant) → instruction_at p h k ≡ Some (Publish r)
@@ -153,16 +177,19 @@ module _ (u : Universe) (p : Plan) (h : ℕ) (outs : List Output)
           | inl below ↦
               let k_lt = slice_get_within (lane p h).instructions k (Publish r) at in
               let got = ap (λ os. slice_get os (outputs_before u (lane p h) k m)) outs_are
-              ∙ output-get u p h (length (lane p h).instructions) k r m c (omega arith) k_lt at out in
+              ∙ output-get u p h (length (lane p h).instructions) k r m c (omega arith) k_lt at
+              out in
               let miss = none (outputs_before u (lane p h) k m) (output_with (last_point p h k) c)
               below
               got in
-              let has = row_is.set c.name c.bit ∙ and_from _ _ (lt-ltb c.bit (variants u c.name) (known_out r m c out)) sat in
+              let has = row_is.set c.name c.bit
+              ∙ and_from _ _ (lt-ltb c.bit (variants u c.name) (known_out r m c out)) sat in
               absurd (both_ways _ miss has)
           | inr le ↦ le
         ]
 
-    push-get : (ss : List Source) (s : Source) (k : ℕ) (t : Source) → slice_get (ss ++ s ∷ []) k ≡ Some t
+    push-get : (ss : List Source) (s : Source) (k : ℕ) (t : Source) → slice_get (ss ++ s ∷ []) k
+        ≡ Some t
         → (slice_get ss k ≡ Some t) ⊎ (s ≡ t)
     push-get [] s zero t g = inr (same_Some s t g)
     push-get [] s (suc k) t g = absurd (none-some t g)
@@ -237,7 +264,8 @@ all_sources u p l i n test ss le below =
     record {
       sound = below.sound;
       nothing = below.nothing;
-      outputs = λ h k r m c lt at out sat own. below.outputs h k r m c (omega (arith, lt, le)) at out sat own;
+      outputs = λ h k r m c lt at out sat own. below.outputs h k r m c (omega (arith, lt, le)) at
+          out sat own;
     }
 
 -- with an initial variant that is looked for nothing is known

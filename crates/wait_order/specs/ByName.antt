@@ -4,7 +4,8 @@
 --
 --   IsOutput, AreKnownLanes    output n of lane l; each is of the universe
 --   IsListed, AreListed        a place under a name; each output under its name
---   AreHits, IsEarliest        numbers, for each lane one, of outputs that the row has, of each name
+--   AreHits, IsEarliest        numbers, for each lane one, of outputs that the row has, of each
+--   name
 --                              none later than the first
 --   AreMoved                   such numbers after more outputs were looked at
 use Rattle.std.specs.Prelude.{◌≡◌, ℕ, ◌<◌, ◌≤◌, Bool, true, List, [], ◌∷◌, ◌++◌, length, Some, slice_get, slice_index, slice_index_or, slice_set}

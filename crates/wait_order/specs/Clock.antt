@@ -1,6 +1,6 @@
 -- The clock of a place: how many outputs of each lane count there. The project's own words.
--- Parameters: u a universe, p a plan, lanes the outputs of each lane, x how many outputs of each lane
--- count, n a name, b a bit.
+-- Parameters: u a universe, p a plan, lanes the outputs of each lane, x how many outputs of each
+-- lane count, n a name, b a bit.
 --
 --   count_of, IsClockFor     the counts of a clock; it has one for each lane
 --   row_of                   the initial archive, and of each lane so many outputs

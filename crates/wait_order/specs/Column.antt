@@ -26,7 +26,8 @@ least lane x best (s ∷ ss) = least lane x (min best (known lane x s)) ss
 
 -- what a point may know at most
 unfoldable pub bound : ℕ → ℕ → Counts → Point → ℕ
-bound lane total x p = if p.lane == lane then p.own else max (count_at x p.before) (least lane x total p.sources.items)
+bound lane total x p = if p.lane == lane then p.own else max (count_at x p.before)
+    (least lane x total p.sources.items)
 
 abbrev pub IsIn : ℕ → Option ℕ → Type 0
 IsIn n None = Unit {0}
@@ -49,9 +50,11 @@ pub record IsKnown (lane total : ℕ) (ps : List Point) (y : Counts) : Type 0 wh
 
 -- all such counts lie within these
 abbrev pub IsAbove : ℕ → ℕ → List Point → List ℕ → Type 0
-IsAbove lane total ps xs = (y : Counts) → IsKnown lane total ps y → (w : ℕ) → w < length ps → y w ≤ slice_index xs w
+IsAbove lane total ps xs = (y : Counts) → IsKnown lane total ps y → (w : ℕ) → w < length ps
+    → y w ≤ slice_index xs w
 
 pub record IsGreatestColumn (lane total : ℕ) (ps : List Point) (xs : List ℕ) : Type 0 where
   pub long : length xs ≡ length ps
-  pub known : (w : ℕ) (p : Point) → slice_get ps w ≡ Some p → slice_index xs w ≤ bound lane total (of_list xs) p
+  pub known : (w : ℕ) (p : Point) → slice_get ps w ≡ Some p
+      → slice_index xs w ≤ bound lane total (of_list xs) p
   pub above : IsAbove lane total ps xs

@@ -17,10 +17,11 @@ pub record IsPlain (a : Atom) : Type 0 where
 abbrev pub IsLonger : List Entry → List Entry → Type 0
 IsLonger es more = (k : ℕ) (e : Entry) → slice_get es k ≡ Some e → slice_get more k ≡ Some e
 
-pub record IsFor {V : Type 0} (Is : Entry → V → Type 0) (es : List Entry) (k : ℕ) (v : V) : Type 0 where
-  pub entry : Entry
-  pub at : slice_get es k ≡ Some entry
-  pub is : Is entry v
+pub record IsFor {V : Type 0} (Is : Entry → V → Type 0) (es : List Entry) (k : ℕ) (v : V) : Type 0
+  where
+    pub entry : Entry
+    pub at : slice_get es k ≡ Some entry
+    pub is : Is entry v
 
 abbrev pub AreFor : {V : Type 0} → (Entry → V → Type 0) → List Entry → List V → Type 0
 AreFor {V} Is es vs = (k : ℕ) (v : V) → slice_get vs k ≡ Some v → IsFor Is es k v

@@ -1,5 +1,5 @@
--- Known rows as a value of the program. The project's own words. Parameters: u a universe, p a plan,
--- columns how many outputs of each lane each wait and `when` knows.
+-- Known rows as a value of the program. The project's own words. Parameters: u a universe, p a
+-- plan, columns how many outputs of each lane each wait and `when` knows.
 --
 --   KnownRows                the universe and the plan, and the columns
 --   known_rows, rows_of      what the columns tell at each place

@@ -1,5 +1,5 @@
--- The outputs of a plan's lanes, as a value of the program. The project's own words. Parameters: u a
--- universe, p a plan, lanes the outputs of each lane, lists their places by name.
+-- The outputs of a plan's lanes, as a value of the program. The project's own words. Parameters: u
+-- a universe, p a plan, lanes the outputs of each lane, lists their places by name.
 --
 --   PlanOutputs     the universe and the plan that they are about
 --   AreTotals       as a point would have them that knows all outputs

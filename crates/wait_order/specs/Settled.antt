@@ -1,5 +1,5 @@
--- Where the lanes stand once none of them goes on. The project's own words. Parameters: u a universe, p
--- a plan, order the lanes whose waits and outputs were made, ats where the lanes stand.
+-- Where the lanes stand once none of them goes on. The project's own words. Parameters: u a
+-- universe, p a plan, order the lanes whose waits and outputs were made, ats where the lanes stand.
 --
 --   IsSettled        the list leads to these places, and there each lane waits or has ended
 use Rattle.std.specs.Prelude.{ℕ, ◌<◌, List, length}

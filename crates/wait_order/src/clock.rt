@@ -22,8 +22,8 @@ use crate::marks::LaneOutputs;
 use bit_rows::Row;
 use std::alloc::{AllocError, Global};
 
-/// How many outputs of each lane count at a place of a lane: of its own the `own` ones that it made,
-/// of each other lane those that its last point has in `columns`.
+/// How many outputs of each lane count at a place of a lane: of its own the `own` ones that it
+/// made, of each other lane those that its last point has in `columns`.
 #[derive(Clone, Copy, Debug)]
 pub struct Clock<'k> {
     pub lane: usize,

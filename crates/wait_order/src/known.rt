@@ -28,9 +28,9 @@ pub trait KnownWords {
         ensures { IsWordFor universe.now ((known self.now).rows number place) name result };
 }
 
-/// What each lane of a plan knows of the archive at each place: the variants that are there whenever
-/// it stands there. A place is a number of instructions done. Kept is how many outputs of each lane
-/// each wait and `when` knows. A contract sees the universe, the plan and these counts.
+/// What each lane of a plan knows of the archive at each place: the variants that are there
+/// whenever it stands there. A place is a number of instructions done. Kept is how many outputs of
+/// each lane each wait and `when` knows. A contract sees the universe, the plan and these counts.
 #[derive(Drop)]
 pub struct Known {
     outputs: Outputs,

@@ -24,7 +24,8 @@ use std::alloc::{AllocError, Global};
 use std::marker::Model;
 use std::snapshot::Snapshot;
 
-/// The outputs of the lanes of a plan. A contract sees the universe and the plan that they are about.
+/// The outputs of the lanes of a plan. A contract sees the universe and the plan that they are
+/// about.
 #[derive(Drop)]
 pub struct Outputs {
     universe: Snapshot<Universe>,

@@ -31,7 +31,8 @@ use plan_asm::{Instruction, Plan};
 use sat_rows::{Tables, mask};
 use std::alloc::{AllocError, Global};
 
-/// What a plan over a universe supplies: the initial archive, and the outputs of its lanes, by name.
+/// What a plan over a universe supplies: the initial archive, and the outputs of its lanes, by
+/// name.
 #[derive(Clone, Copy)]
 struct Supply<'a, 'p> {
     universe: &'a Universe,

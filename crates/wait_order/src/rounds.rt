@@ -130,8 +130,8 @@ pub struct Settled {
     pub order: Vec<u32>,
 }
 
-/// Makes the waits and outputs of a plan's lanes until none goes on: in rounds, each lane as far as it
-/// goes, in file order.
+/// Makes the waits and outputs of a plan's lanes until none goes on: in rounds, each lane as far as
+/// it goes, in file order.
 ///
 /// # Errors
 ///

@@ -1,5 +1,5 @@
-//! What a lane's seat does. Each call is one step of the archive's table; none takes memory, waits or
-//! refuses.
+//! What a lane's seat does. Each call is one step of the archive's table; none takes memory, waits
+//! or refuses.
 
 ghost use Rattle.std.specs.Prelude.{◌≡◌, ◌⊎◌, ◌^◌, suc, ◌<◌, true, IsTrue, Some, All, length, slice_get, slice_index};
 ghost use Rattle.farm_model.specs.declared.types.Variant.{Variant};

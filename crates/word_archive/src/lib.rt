@@ -1,5 +1,5 @@
-//! The archive as words that lanes on threads of their own share, with a seat for each lane. Whenever
-//! no step is in progress, words and seats show a reachable state of the farm.
+//! The archive as words that lanes on threads of their own share, with a seat for each lane.
+//! Whenever no step is in progress, words and seats show a reachable state of the farm.
 #![tactic(auto)]
 
 mod calls;

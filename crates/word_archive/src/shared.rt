@@ -1,5 +1,5 @@
-//! The archive, and how it is opened: a word for each name, the serial word and the halt word, and a
-//! seat for each lane.
+//! The archive, and how it is opened: a word for each name, the serial word and the halt word, and
+//! a seat for each lane.
 
 ghost use Rattle.std.specs.Prelude.{◌≡◌, ◌+◌, ◌<◌, ◌≤◌, ◌++◌, ◌∷◌, [], false, length, IfOk};
 ghost use Rattle.std.specs.Vec.{vec_capacity};

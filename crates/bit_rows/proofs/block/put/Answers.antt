@@ -14,7 +14,8 @@ returns-then-is_there-2-clause-placed g c = elim c.if-at-len.branch [
       placed-set c.args.at c.args.block c.args.blocks.now.items _ (omega (arith, w.if-at-len.true))
       (sym found ∙ eqb-true _ _ (sym w.is_there-is ∙ c.if-is_there-2.true))
       (sym c.has_none.ensures ∙ c.if-has_none.false)
-  | else-at-len w ↦ let lt = ltb-true _ _ (sym w.is_there-is ∙ c.if-is_there-2.true) in absurd (omega (arith, lt, w.if-at-len.false))
+  | else-at-len w ↦ let lt = ltb-true _ _ (sym w.is_there-is ∙ c.if-is_there-2.true) in absurd
+      (omega (arith, lt, w.if-at-len.false))
 ]
 
 pub returns-in_err-insert-clause-absent : goal.returns-in_err-insert-clause-absent

@@ -36,7 +36,8 @@ turn : (f : ℕ → ℕ → ℕ) (at kept kept_new there there_new : ℕ) (item 
     → take kept_new new ++ changed f (drop (at + 1) new) others
     ≡ take kept blocks ++ changed f (drop at blocks) others
     → IsChangedTo f (at + 1) kept_new there_new new others start
-turn f at kept kept_new there there_new item words blocks new others start is reads order long tail done =
+turn f at kept kept_new there there_new item words blocks new others start is reads order long tail
+    done =
     let first = reads.item_is
     ∙ (get_or_default blocks at item blank (let l = is.long in let lt = reads.lt in omega arith)
     ∙ same_there blocks start at blank is.rest) in
@@ -57,17 +58,24 @@ turn_kept : (f : ℕ → ℕ → ℕ) (at kept kept_new there there_new : ℕ) (
     → Reads f at there_new item words blocks others start → same words no_words ≡ false
     → new ≡ set blocks kept (record { place = item.place; words = words }) → kept_new ≡ kept + 1
     → IsChangedTo f (at + 1) kept_new there_new new others start
-turn_kept f at kept kept_new there there_new item words blocks new others start is reads one made counted =
+turn_kept f at kept kept_new there there_new item words blocks new others start is reads one made
+    counted =
     let b : Block = record { place = item.place; words = words } in
     let le = is.order in
     let long = is.long in
     let lt = reads.lt in
     let long_new = ap length made ∙ length-set blocks kept b in
     let inside : at < length blocks = omega arith in
-    let read : b ≡ record { place = (get_or blocks at item).place; words = zip2 f (get_or blocks at item).words (words_at others (get_or blocks at item).place) } =
+    let read : b ≡ record {
+      place = (get_or blocks at item).place;
+      words = zip2 f (get_or blocks at item).words
+          (words_at others (get_or blocks at item).place);
+    } =
     ap (λ w. record { place = item.place; words = w }) reads.words_are
-    ∙ ap (λ (x : Block). record { place = x.place; words = zip2 f x.words (words_at others x.place) }) reads.item_is in
-    turn f at kept kept_new there there_new item words blocks new others start is reads (omega arith)
+    ∙ ap (λ (x : Block). record
+    { place = x.place; words = zip2 f x.words (words_at others x.place) }) reads.item_is in
+    turn f at kept kept_new there there_new item words blocks new others start is reads
+    (omega arith)
     long_new (ap (drop (at + 1)) made ∙ drop-set-lt (at + 1) blocks kept b (omega arith))
     (ap₂ (λ k l. take k l ++ changed f (drop (at + 1) l) others) counted made
     ∙ changed_kept f blocks others kept at b item le inside one read)
@@ -77,16 +85,23 @@ turn_dropped : (f : ℕ → ℕ → ℕ) (at kept kept_new there there_new : ℕ
     → IsChangedTo f at kept there blocks others start
     → Reads f at there_new item words blocks others start → same words no_words ≡ true
     → new ≡ blocks → kept_new ≡ kept → IsChangedTo f (at + 1) kept_new there_new new others start
-turn_dropped f at kept kept_new there there_new item words blocks new others start is reads none made counted =
+turn_dropped f at kept kept_new there there_new item words blocks new others start is reads none
+    made counted =
     let b : Block = record { place = item.place; words = words } in
     let le = is.order in
     let long = is.long in
     let lt = reads.lt in
     let inside : at < length blocks = omega arith in
-    let read : b ≡ record { place = (get_or blocks at item).place; words = zip2 f (get_or blocks at item).words (words_at others (get_or blocks at item).place) } =
+    let read : b ≡ record {
+      place = (get_or blocks at item).place;
+      words = zip2 f (get_or blocks at item).words
+          (words_at others (get_or blocks at item).place);
+    } =
     ap (λ w. record { place = item.place; words = w }) reads.words_are
-    ∙ ap (λ (x : Block). record { place = x.place; words = zip2 f x.words (words_at others x.place) }) reads.item_is in
-    turn f at kept kept_new there there_new item words blocks new others start is reads (omega arith)
+    ∙ ap (λ (x : Block). record
+    { place = x.place; words = zip2 f x.words (words_at others x.place) }) reads.item_is in
+    turn f at kept kept_new there there_new item words blocks new others start is reads
+    (omega arith)
     (ap length made) (ap (drop (at + 1)) made)
     (ap₂ (λ k l. take k l ++ changed f (drop (at + 1) l) others) counted made
     ∙ changed_dropped f blocks others kept at b item inside none read)
@@ -99,7 +114,8 @@ loop-at-preserved g c =
     let item = c.index.result.now in
     let blocks = c.loop-at.blocks.items in
     let long = c.loop-at.invariant.long in
-    let reads : Reads f c.loop-at.at c.seek-there.result item c.apply.new.x blocks others start = record {
+    let reads : Reads f c.loop-at.at c.seek-there.result item c.apply.new.x blocks others start =
+    record {
       ascending = c.requires.blocks;
       lt = omega (arith, c.loop-at-test.true);
       item_is = c.index.ensures;

@@ -5,7 +5,8 @@ use Rattle.bit_rows.proofs.Places.{blank}
 use Rattle.bit_rows.proofs.change.change_each.Given as goal
 
 -- the first blocks are changed, those from `at` on are as they were
-pub record IsChangedTo (f : ℕ → ℕ → ℕ) (at kept there : ℕ) (blocks others start : List Block) : Type 0 where
+pub record IsChangedTo (f : ℕ → ℕ → ℕ) (at kept there : ℕ) (blocks others start : List Block) : Type
+    0 where
   pub order : kept ≤ at
   pub long : length blocks ≡ length start
   pub bound : there ≤ length others
@@ -15,4 +16,5 @@ pub record IsChangedTo (f : ℕ → ℕ → ℕ) (at kept there : ℕ) (blocks o
 
 abbrev pub invariant-loop-at : goal.invariant-loop-at
 invariant-loop-at g l =
-    IsChangedTo g.T.PlaceChange.change l.at l.kept l.there l.blocks.items l.others l.initial.blocks.items
+    IsChangedTo g.T.PlaceChange.change l.at l.kept l.there l.blocks.items l.others
+    l.initial.blocks.items

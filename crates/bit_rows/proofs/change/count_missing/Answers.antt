@@ -22,7 +22,8 @@ loop-other-preserved c =
           let one = missing_here blocks others i blank lt (told ∙ w.if-has_none.true) in
           record {
             bound = c.seek-at.ensures.bound;
-            below = λ later. let lower = place_next others i blank c.requires.others (i + 1) refl later in
+            below = λ later. let lower = place_next others i blank c.requires.others (i + 1) refl
+                later in
                 below_to y.place (get_or others (i + 1) blank).place (take c.seek-at.result blocks)
                 (omega arith) c.seek-at.ensures.below;
             few = omega arith;
@@ -32,7 +33,8 @@ loop-other-preserved c =
           let none = missing_there blocks others i blank lt (told ∙ w.if-has_none.false) in
           record {
             bound = c.seek-at.ensures.bound;
-            below = λ later. let lower = place_next others i blank c.requires.others (i + 1) refl later in
+            below = λ later. let lower = place_next others i blank c.requires.others (i + 1) refl
+                later in
                 below_to y.place (get_or others (i + 1) blank).place (take c.seek-at.result blocks)
                 (omega arith) c.seek-at.ensures.below;
             few = omega arith;

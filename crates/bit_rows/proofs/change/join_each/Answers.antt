@@ -43,7 +43,8 @@ turn i at_old at capacity capacity_new cur others start new ws is of lt stands j
       below = λ later.
           let next = place_next others i blank are_o.ascending (i + 1) refl later in
           subst (AreBelow (get_or others (i + 1) blank).place) (sym kept)
-          (below_to y.place (get_or others (i + 1) blank).place (take at cur) (omega arith) stands.below);
+          (below_to y.place (get_or others (i + 1) blank).place (take at cur) (omega arith)
+          stands.below);
       are = λ m a o.
           subst (AreRowBlocks m) (sym made) (row_blocks-placed m at b cur long
           (λ k past.
@@ -60,7 +61,8 @@ turn i at_old at capacity capacity_new cur others start new ws is of lt stands j
           let grown = room_more cur others at i blank ws are_o.ascending lt stands long in
           let had = is.room in
           let same_length : length new ≡ length (placed at b cur) = ap length made in
-          let same_missing : missing new (drop (i + 1) others) ≡ missing (placed at b cur) (drop (i + 1) others) =
+          let same_missing : missing new (drop (i + 1) others)
+          ≡ missing (placed at b cur) (drop (i + 1) others) =
           ap (λ l. missing l (drop (i + 1) others)) made in
           omega arith);
     }
@@ -76,8 +78,10 @@ loop-other-preserved g c =
     let i = c.loop-other.other-index in
     let y = get_or others i blank in
     turn i c.loop-other.at c.seek-at.result _ _ c.loop-other.blocks.items others
-    c.args.blocks.now.items _ c.or_into.new.a c.loop-other.invariant c.requires c.loop-other-test.true
-    (subst (StandsAt c.seek-at.result y.place) c.deref-in-loop-other.ensures.value c.seek-at.ensures)
+    c.args.blocks.now.items _ c.or_into.new.a c.loop-other.invariant c.requires
+    c.loop-other-test.true
+    (subst (StandsAt c.seek-at.result y.place) c.deref-in-loop-other.ensures.value
+    c.seek-at.ensures)
     (c.or_into.ensures.row
     ∙ ap (zip2 bit_or y.words)
     (c.words_there.ensures ∙ ap (λ l. words_at l y.place) c.deref-in-loop-other-2.ensures.value))

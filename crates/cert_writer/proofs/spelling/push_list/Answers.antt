@@ -24,7 +24,8 @@ loop-name-preserved c =
                 c.loop-name.text.items c.if-word-ne0.text.items c.loop-name.is_first
                 c.loop-name.invariant.text c.loop-name.invariant.first
                 (rw w.text-is (subst (λ (v : Universe). w.push_named.new.text.items
-                ≡ c.loop-name.text.items ++ part_text v c.loop-name.is_first (in_word word (named_variants v n)))
+                ≡ c.loop-name.text.items ++ part_text v c.loop-name.is_first
+                (in_word word (named_variants v n)))
                 c.universe-universe.ensures w.in_ok-is_first.ensures.text));
             first = first-more u row n word c.new_word-word.ensures c.loop-name.is_first
                 c.if-word-ne0.is_first c.loop-name.invariant.first

@@ -14,6 +14,7 @@ invariant-loop-name l =
     let row = new_row u (known_rows l.accepted) l.number l.place in
     record {
       text : l.text.items
-          ≡ l.fn.text.items ++ list_text u (flat_map (named_in_row u row) (range_with_len 0 l.name));
+          ≡ l.fn.text.items ++ list_text u
+          (flat_map (named_in_row u row) (range_with_len 0 l.name));
       first : l.is_first ≡ is_none (flat_map (named_in_row u row) (range_with_len 0 l.name));
     }

@@ -7,6 +7,7 @@ use Rattle.cert_writer.proofs.spelling.push_named.Given as goal
 abbrev pub invariant-loop-bit : goal.invariant-loop-bit
 invariant-loop-bit l = record {
   text : l.text.items
-      ≡ l.fn.text.items ++ part_text l.universe l.is_first (in_word l.word (named_below l.name l.bit));
+      ≡ l.fn.text.items ++ part_text l.universe l.is_first
+      (in_word l.word (named_below l.name l.bit));
   still : l.still ≡ (l.is_first && is_none (in_word l.word (named_below l.name l.bit)));
 }

@@ -8,7 +8,8 @@ use Rattle.cert_writer.proofs.SendingLaws.{none_sent}
 use Rattle.cert_writer.proofs.writer.write_place.Goals as goal
 use Rattle.cert_writer.specs.Sending.{IsSent, IsSentOn}
 
-there : (p : Plan) (l i : ℕ) (xs : List Instruction) (x : Instruction) → xs ≡ (lane p l).instructions
+there : (p : Plan) (l i : ℕ) (xs : List Instruction) (x : Instruction) → xs
+    ≡ (lane p l).instructions
     → i < length (lane p l).instructions → x ≡ get_or xs i x → instruction_at p l i ≡ Some x
 there p l i xs x is lt at = read_at p l xs i x is (omega (arith, lt, ap length is)) at
 

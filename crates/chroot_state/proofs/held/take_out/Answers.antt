@@ -24,4 +24,5 @@ returns-in-Some-clause-gone c f =
 pub returns-in_default-clause-gone : goal.returns-in_default-clause-gone
 returns-in_default-clause-gone c =
     let missed : position (λ n. n == c.args.name) c.args.present.now.items ≡ None = search rules in
-    absurd (listed_has_place (λ n. n == c.args.name) c.args.present.now.items c.requires.listed missed)
+    absurd (listed_has_place (λ n. n == c.args.name) c.args.present.now.items c.requires.listed
+    missed)

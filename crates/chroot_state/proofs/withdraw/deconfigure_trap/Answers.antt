@@ -9,13 +9,15 @@ returns-then-some_not_configured c =
 
 pub returns-then-is_needed : goal.returns-then-is_needed
 returns-then-is_needed c =
-    trap-first _ _ _ (sym (needed_deconfigured c.args.universe.now c.args.slots.now c.args.members.now)
+    trap-first _ _ _ (sym
+    (needed_deconfigured c.args.universe.now c.args.slots.now c.args.members.now)
     ∙ (sym c.is_needed.ensures ∙ c.if-is_needed.true))
     ∙ trap-later _ _ _ (sym c.some_not_configured.ensures ∙ c.if-some_not_configured.false)
 
 pub returns : goal.returns
 returns c =
     no-traps
-    ∙ trap-later _ _ _ (sym (needed_deconfigured c.args.universe.now c.args.slots.now c.args.members.now)
+    ∙ trap-later _ _ _ (sym
+    (needed_deconfigured c.args.universe.now c.args.slots.now c.args.members.now)
     ∙ (sym c.is_needed.ensures ∙ c.if-is_needed.false))
     ∙ trap-later _ _ _ (sym c.some_not_configured.ensures ∙ c.if-some_not_configured.false)

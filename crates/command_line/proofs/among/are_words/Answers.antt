@@ -8,8 +8,11 @@ returns g c h =
     let words = c.args.words.now in
     let paths = c.args.paths in
     record {
-      packages = is-word text_of words paths.packages.now (sym c.is_word.ensures ∙ c.if-not-is_word.false);
-      sources = is-word text_of words paths.sources.now (sym c.is_word-2.ensures ∙ c.if-not-is_word-2.false);
-      farm = is-word text_of words paths.farm.now (sym c.is_word-3.ensures ∙ c.if-not-is_word-3.false);
+      packages = is-word text_of words paths.packages.now
+          (sym c.is_word.ensures ∙ c.if-not-is_word.false);
+      sources = is-word text_of words paths.sources.now
+          (sym c.is_word-2.ensures ∙ c.if-not-is_word-2.false);
+      farm = is-word text_of words paths.farm.now
+          (sym c.is_word-3.ensures ∙ c.if-not-is_word-3.false);
       plan = is-word text_of words paths.plan.now (sym c.is_word-4.ensures ∙ h);
     }

@@ -9,7 +9,8 @@ pub returns : goal.returns
 returns g c =
     let core = c.in_ok-outcome.outcome.core in
     let trap = c.in_ok-outcome.outcome.trap in
-    answered-by (IsJust (step_text core trap (length c.args.schedule.now)) (status_of (is_none trap)))
+    answered-by (IsJust (step_text core trap (length c.args.schedule.now))
+    (status_of (is_none trap)))
     (ShowsRun c.args.planned.now.universe c.args.planned.now.plan.lanes c.args.schedule.now) _ _ _
     (λ text status is. record {
       farm = core;

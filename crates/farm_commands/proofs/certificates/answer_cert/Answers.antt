@@ -12,17 +12,20 @@ returns-in-Ok-clause-answer g c =
     certified-by (ShowsCert c.in-Ok.accepted) (AnswersCert (texts_view c.args.texts)) _ _ _
     (λ text status is. (
       Ok c.in-Ok.accepted,
-      subst (IsVerdict (planned_in (texts_view c.args.texts))) c.in-Ok.is c.check-verdict.ensures.verdict,
+      subst (IsVerdict (planned_in (texts_view c.args.texts))) c.in-Ok.is
+          c.check-verdict.ensures.verdict,
       is,
     ))
     c.answer_accepted.ensures.answer
 
 pub returns-in-Err-clause-answer : goal.returns-in-Err-clause-answer
 returns-in-Err-clause-answer g c =
-    inl (answered-by (AnswersVerdict (Err c.in-Err.refusal)) (AnswersCert (texts_view c.args.texts)) _ _ _
+    inl (answered-by (AnswersVerdict (Err c.in-Err.refusal)) (AnswersCert (texts_view c.args.texts))
+    _ _ _
     (λ text status is. (
       Err c.in-Err.refusal,
-      subst (IsVerdict (planned_in (texts_view c.args.texts))) c.in-Err.is c.check-verdict.ensures.verdict,
+      subst (IsVerdict (planned_in (texts_view c.args.texts))) c.in-Err.is
+          c.check-verdict.ensures.verdict,
       is,
     ))
     c.answer_verdict.ensures)

@@ -11,5 +11,6 @@ returns-in-Step-clause-answer g c =
     let new = g.S.Sink.state c.step_files.new.out in
     subst (λ request. IsRequestAnswered held given request old new c.step_files.result)
     (sym c.in-Step.is)
-    (subst (λ lanes. IsAnswered (OnFiles (named held given) c.in-Step.paths (AnswersStep lanes)) old new
+    (subst (λ lanes. IsAnswered (OnFiles (named held given) c.in-Step.paths (AnswersStep lanes)) old
+    new
     c.step_files.result) c.deref.ensures.value c.step_files.ensures)

@@ -24,5 +24,6 @@ pub returns-in-Err-clause-answer : goal.returns-in-Err-clause-answer
 returns-in-Err-clause-answer g c = record {
   outcome = inr c.tell_words.ensures.told;
   no_word = λ none. absurd (subst (λ read. IsOkAnd read (λ asked. asked ≡ Answer CheckInput))
-      c.in-Err.is (c.read_words.ensures.none (sym (length-map c.args.words.now g.W.AsStr.text) ∙ none)));
+      c.in-Err.is (c.read_words.ensures.none
+      (sym (length-map c.args.words.now g.W.AsStr.text) ∙ none)));
 }

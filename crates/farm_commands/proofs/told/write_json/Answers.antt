@@ -23,5 +23,6 @@ returns-in-Ok g c =
 pub returns-in-Err : goal.returns-in-Err
 returns-in-Err g c =
     let verdict = c.args.verdict.now in
-    answered-by (IsJust (check_line verdict) no_status) (TellsSome true verdict c.args.notes.now) _ _ _
+    answered-by (IsJust (check_line verdict) no_status) (TellsSome true verdict c.args.notes.now) _
+    _ _
     (λ text status is. inr is) c.write_json_alone.ensures

@@ -44,7 +44,8 @@ returns-in-Gives c =
     c.args.archive.now c.requires.core c.args.lane c.index_mut-run.result.now c.requires.there
     c.index_mut-run.ensures.value c.lane-of.result.now c.lane-of.ensures
     c.turn.new.self c.in-Gives.output c.in-Gives.ensures
-    (omega (arith, c.if-run-published.false, ap length c.history-published.ensures)) c.publish.new.self
+    (omega (arith, c.if-run-published.false, ap length c.history-published.ensures))
+    c.publish.new.self
     c.publish.ensures.published
 
 pub returns-in-Goes : goal.returns-in-Goes

@@ -8,5 +8,6 @@ abbrev pub invariant-loop-name : goal.invariant-loop-name
 invariant-loop-name l =
     some_below l.name
     (λ n. some_below (variants l.universe n)
-    (λ b. has_bit l.archive.words (variant n b) && satisfies_entry l.universe l.entry (variant n b)))
+    (λ b. has_bit l.archive.words (variant n b)
+    && satisfies_entry l.universe l.entry (variant n b)))
     ≡ false

@@ -16,7 +16,8 @@ returns-clause-each c k j is =
     let table = ap (λ (x : LaneSeatsOf). x.table) c.requires.seats in
     let about = ap (λ (x : LaneSeatsOf). x.about) c.requires.seats ∙ c.requires.about in
     record {
-      seated = subst (λ (m : TableId × AcceptedPlan × Held). IsSeatedAt m.0 m.1 k m.2 j.lane j.chroot
+      seated = subst (λ (m : TableId × AcceptedPlan × Held). IsSeatedAt m.0 m.1 k m.2 j.lane
+          j.chroot
           j.end.seat) (λ i. (table i, about i, b.0 i)) s;
       held = subst (IsHeld c.args.accepted.now.universe) (sym s.chroot_is) b.1;
     }

@@ -39,7 +39,8 @@ loop-chroot-preserved c =
         logs = ap length logs ∙ length-set c.loop-chroot.seats.logs _ None ∙ h.taken.logs;
       };
       logs = λ k le lt. ap (λ xs. slice_get xs k) logs
-          ∙ get_set_other c.loop-chroot.seats.logs _ k None (λ same. omega (arith, le, same, long, number))
+          ∙ get_set_other c.loop-chroot.seats.logs _ k None
+          (λ same. omega (arith, le, same, long, number))
           ∙ h.logs k (omega (arith, le, long)) lt;
       each = λ k d j is there. paired_at
           (λ k d j. IsSeatedAt c.args.seats.table c.args.seats.about k d j.lane j.chroot j.end.seat)

@@ -30,7 +30,8 @@ loop-job-preserved g c =
       rest = sym (ap (λ n. drop n c.args.jobs.items) long
           ∙ drop_more done c.args.jobs.items c.in-Some.job rest at);
       room = omega (arith, more.capacity, h.room);
-      each = λ k j q is there. paired_more _ c.args.jobs.items c.loop-job.handles.items c.in-Some.job
+      each = λ k j q is there. paired_more _ c.args.jobs.items c.loop-job.handles.items
+          c.in-Some.job
           rest c.start_next-started.result at c.start_next-started.ensures h.each k j q is
           (sym (ap (λ l. slice_get l k) more.items) ∙ there);
     }

@@ -16,6 +16,7 @@ invariant-loop-job g l = record {
       (λ e. IsSameEnd (g.E.LaneArchive.home j.end) (g.E.LaneArchive.about j.end)
       (g.E.LaneArchive.lane j.end) (g.E.LaneArchive.home e.end) (g.E.LaneArchive.about e.end)
       (g.E.LaneArchive.lane e.end)
-      × IsEndOf (g.E.LaneArchive.about j.end) (g.G.Gate.may_give_up l.setting.gate.now) j.lane j.chroot
+      × IsEndOf (g.E.LaneArchive.about j.end) (g.G.Gate.may_give_up l.setting.gate.now) j.lane
+      j.chroot
       (g.E.LaneArchive.log j.end) e.chroot (g.E.LaneArchive.log e.end) e.stop e.spent);
 }

@@ -11,7 +11,8 @@ returns-in-Ok-clause-run g c =
     IfOk-weaker c.told.result _ _ (λ run h. (
       h.0,
       subst (λ v. IsFarmRun c.args.accepted v.items run.spent.items run.history.items) (sym h.2)
-          (subst (λ v. IsFarmRun c.args.accepted o.chroots.items v.items run.history.items) (sym h.3)
+          (subst (λ v. IsFarmRun c.args.accepted o.chroots.items v.items run.history.items)
+          (sym h.3)
           (subst (λ v. IsFarmRun c.args.accepted o.chroots.items o.spent.items v.items) (sym h.4)
           (farm_run c.args.accepted c.keeps.ensures (g.G.Gate.may_give_up c.args.gate.now)
           o.stops.items o.chroots.items o.spent.items c.in-Ok.played.history.items c.in-Ok.ensures

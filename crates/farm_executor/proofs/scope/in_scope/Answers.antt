@@ -20,7 +20,8 @@ returns-clause-base g c =
           let handles = c.start_all-handles.result.items in
           let here : slice_get handles s.0 ≡ Some (Err s.1) =
           ap (λ xs. slice_get xs s.0) (sym c.as_slice.ensures.value) ∙ s.2 in
-          let e = some_at handles c.join_all.result.items s.0 (Err s.1) c.join_all.ensures.long here in
+          let e = some_at handles c.join_all.result.items s.0 (Err s.1) c.join_all.ensures.long
+          here in
           let same : e.0 ≡ s.1 = c.join_all.ensures.refused s.0 (Err s.1) e.0 here e.1 in
           inr (
             subst (λ b. g.B.Base.stops c.args.base b) (sym w.base-is) w.stop.ensures,

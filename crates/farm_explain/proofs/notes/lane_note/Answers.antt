@@ -17,7 +17,8 @@ trap_note-requires-clause-place g c =
     omega (
       arith,
       told.numbered,
-      within u p rows c.args.lines.now.lanes c.args.number told.i (Meets c.in-Err-Unsafe.trap) told.here,
+      within u p rows c.args.lines.now.lanes c.args.number told.i (Meets c.in-Err-Unsafe.trap)
+          told.here,
     )
 
 pub returns-in-Ok : goal.returns-in-Ok

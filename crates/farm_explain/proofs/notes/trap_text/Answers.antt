@@ -15,7 +15,8 @@ use Rattle.farm_explain.specs.ReasonText.{where_text}
 use Rattle.farm_explain.proofs.notes.trap_text.Goals as goal
 
 -- the head, and the lines of the reason behind it
-told_behind : (u : Universe) (p : Plan) (rows : Rows) (ls : List LaneLines) (l i n : ℕ) (trap : Trap)
+told_behind : (u : Universe) (p : Plan) (rows : Rows) (ls : List LaneLines) (l i n : ℕ)
+    (trap : Trap)
     (told : Option Reason) (head text : List ℕ) → n ≡ i + 1
     → head ≡ unsafe_line UNSAFE (lane p l).name n (trap_text trap) ++ where_text u p ls l i
     → told ≡ reason_at u p rows l i trap → text ≡ head ++ reason_lines u p rows ls l i told

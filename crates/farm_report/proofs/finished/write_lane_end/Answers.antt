@@ -17,7 +17,8 @@ returns-clause-written g c =
     (end_is c.args.universe.now c.args.plan.now.lanes c.args.chroots.now c.args.spent.now
     c.args.number _ _ _ c.index-chroots-number.result
     (c.name.ensures ∙ ap (λ (l : Lane). l.name) c.lane-lane.ensures)
-    (ap length c.instructions.ensures ∙ ap (λ (l : Lane). length l.instructions) c.lane-lane.ensures)
+    (ap length c.instructions.ensures ∙ ap (λ (l : Lane). length l.instructions)
+    c.lane-lane.ensures)
     refl
     (slice_get_read c.args.chroots.now _ c.args.number _ (sym c.requires.chroots) c.requires.number
     c.index-chroots-number.is))

@@ -10,7 +10,8 @@ pub returns-in_err-write_at-clause-written : goal.returns-in_err-write_at-clause
 returns-in_err-write_at-clause-written g c =
     let u = c.args.universe.now in
     let k = c.args.chroot.now in
-    cut_short _ _ (at_line c.args.name.now c.args.done c.args.spent (used u k.slots)) (chroot_text u k)
+    cut_short _ _ (at_line c.args.name.now c.args.done c.args.spent (used u k.slots))
+    (chroot_text u k)
     (subst (IsWritten (g.S.Sink.state c.args.out.now) (g.S.Sink.state c.write_at.new.out))
     (ap (at_line c.args.name.now c.args.done c.args.spent) (c.used.ensures ∙ c.requires))
     c.write_at.ensures.written)

@@ -10,7 +10,8 @@ use Rattle.farm_report.proofs.state.write_lane_state.Goals as goal
 
 pub write_lane_lines-requires : goal.write_lane_lines-requires
 write_lane_lines-requires g c =
-    subst (λ (u : Universe). c.chroot-chroot.result.now.used ≡ used u c.chroot-chroot.result.now.slots)
+    subst (λ (u : Universe). c.chroot-chroot.result.now.used
+    ≡ used u c.chroot-chroot.result.now.slots)
     (sym c.universe.ensures) c.chroot-chroot.ensures.held.used
 
 pub returns-clause-written : goal.returns-clause-written

@@ -18,7 +18,8 @@ returns-in_err-write_publications-clause-written g c =
     (flat_map (λ l. lane_text f.universe (lane f.plan.lanes l) (lane_state f.state l))
     (range_with_len 0 (length f.plan.lanes)))
     (subst (IsWritten (g.S.Sink.state c.args.out.now) (g.S.Sink.state c.write_publications.new.out))
-    (publications_are _ _ _ _ _ _ c.universe.ensures (ap (λ (p : CountedPlan). p.lanes) c.plan.ensures)
+    (publications_are _ _ _ _ _ _ c.universe.ensures
+    (ap (λ (p : CountedPlan). p.lanes) c.plan.ensures)
     c.history.ensures) c.write_publications.ensures.written)
     (sym c.in_err-write_publications.ensures.told)
 
@@ -30,6 +31,7 @@ returns-clause-written g c =
     (flat_map (λ l. lane_text f.universe (lane f.plan.lanes l) (lane_state f.state l))
     (range_with_len 0 (length f.plan.lanes)))
     (subst (IsWritten (g.S.Sink.state c.args.out.now) (g.S.Sink.state c.write_publications.new.out))
-    (publications_are _ _ _ _ _ _ c.universe.ensures (ap (λ (p : CountedPlan). p.lanes) c.plan.ensures)
+    (publications_are _ _ _ _ _ _ c.universe.ensures
+    (ap (λ (p : CountedPlan). p.lanes) c.plan.ensures)
     c.history.ensures) c.write_publications.ensures.written)
     c.write_lanes.ensures.written

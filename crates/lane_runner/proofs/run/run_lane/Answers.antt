@@ -22,7 +22,8 @@ pub returns-then-has_ended-clause-ended : goal.returns-then-has_ended-clause-end
 returns-then-has_ended-clause-ended g c =
     let a = c.args.accepted.now in
     let w = c.loop.runner in
-    subst (λ l. IsEnded a.universe a.plan l w.spent c.loop.chroot (g.A.LaneArchive.log c.loop.archive))
+    subst (λ l. IsEnded a.universe a.plan l w.spent c.loop.chroot
+    (g.A.LaneArchive.log c.loop.archive))
     c.loop.invariant.number
     (ends a.universe a.plan (known_rows a) w c.loop.chroot _ c.loop.invariant.running.on
     (c.has_ended.ensures.ends c.if-has_ended.true))

@@ -49,7 +49,8 @@ returns-in_ok-push-in-Step-clause-known c =
     rest-known c.args.rows.now c.args.left.now.items (length c.args.steps.now)
     (length c.args.rows.now) c.args.next c.requires.known
 
-pub returns-in_ok-extend_from_slice-in-Use-clause-same : goal.returns-in_ok-extend_from_slice-in-Use-clause-same
+pub returns-in_ok-extend_from_slice-in-Use-clause-same :
+    goal.returns-in_ok-extend_from_slice-in-Use-clause-same
 returns-in_ok-extend_from_slice-in-Use-clause-same c =
     let rows = c.args.rows.now in
     let rest = c.args.left.now.items in
@@ -61,7 +62,8 @@ returns-in_ok-extend_from_slice-in-Use-clause-same c =
     (sym (use-left rows rest steps (length steps) _ c.in-Use.b
     c.requires.table lt)))
 
-pub returns-in_ok-extend_from_slice-in-Use-clause-less : goal.returns-in_ok-extend_from_slice-in-Use-clause-less
+pub returns-in_ok-extend_from_slice-in-Use-clause-less :
+    goal.returns-in_ok-extend_from_slice-in-Use-clause-less
 returns-in_ok-extend_from_slice-in-Use-clause-less c =
     let rows = c.args.rows.now in
     let rest = c.args.left.now.items in
@@ -70,7 +72,8 @@ returns-in_ok-extend_from_slice-in-Use-clause-less c =
     rw (c.in_ok-extend_from_slice-in-Use.ensures.items, c.deref.ensures.value, c.in-Use.is)
     (use-turns rows rest m _ c.in-Use.b c.requires.table lt)
 
-pub returns-in_ok-extend_from_slice-in-Use-clause-known : goal.returns-in_ok-extend_from_slice-in-Use-clause-known
+pub returns-in_ok-extend_from_slice-in-Use-clause-known :
+    goal.returns-in_ok-extend_from_slice-in-Use-clause-known
 returns-in_ok-extend_from_slice-in-Use-clause-known c =
     let rows = c.args.rows.now in
     let rest = c.args.left.now.items in

@@ -10,7 +10,8 @@ pub returns-in_err-check_rows-clause-verdict : goal.returns-in_err-check_rows-cl
 returns-in_err-check_rows-clause-verdict g c =
     let from = c.from_residual in
     let e = err_from_is_err_and from.result from.ensures.1 in
-    rw (e.1, e.2) (rows-verdict c.args.claim.universe.now c.args.claim.plan.now.lanes c.args.certificate.now
+    rw (e.1, e.2) (rows-verdict c.args.claim.universe.now c.args.claim.plan.now.lanes
+    c.args.certificate.now
     c.requires.certificate c.requires.sound.universe (rows_of c.args.claim.known.now)
     c.requires.rows c.in_err-check_rows.field-0.0 c.in_err-check_rows.ensures)
 
@@ -18,7 +19,8 @@ pub returns-in_err-check_safety-clause-verdict : goal.returns-in_err-check_safet
 returns-in_err-check_safety-clause-verdict g c =
     let from = c.from_residual-in_err-check_safety in
     let e = err_from_is_err_and from.result from.ensures.1 in
-    rw (e.1, e.2) (safety-verdict c.args.claim.universe.now c.args.claim.plan.now.lanes c.args.certificate.now
+    rw (e.1, e.2) (safety-verdict c.args.claim.universe.now c.args.claim.plan.now.lanes
+    c.args.certificate.now
     c.requires.certificate c.requires.sound.universe (rows_of c.args.claim.known.now)
     c.requires.rows c.in_ok-check_rows.ensures c.in_err-check_safety.field-0.0
     c.in_err-check_safety.ensures)
@@ -27,7 +29,8 @@ pub returns-in_err-check_order-clause-verdict : goal.returns-in_err-check_order-
 returns-in_err-check_order-clause-verdict g c =
     let from = c.from_residual-in_err-check_order in
     let e = err_from_is_err_and from.result from.ensures.1 in
-    rw (e.1, e.2) (order-verdict c.args.claim.universe.now c.args.claim.plan.now.lanes c.args.certificate.now
+    rw (e.1, e.2) (order-verdict c.args.claim.universe.now c.args.claim.plan.now.lanes
+    c.args.certificate.now
     c.requires.certificate c.requires.sound.universe (rows_of c.args.claim.known.now)
     c.requires.rows c.in_ok-check_rows.ensures c.in_ok-check_safety.ensures
     c.in_err-check_order.field-0.0
@@ -44,7 +47,8 @@ returns-clause-verdict g c =
 
 pub returns-clause-safe : goal.returns-clause-safe
 returns-clause-safe g c =
-    promise c.args.claim.universe.now c.args.claim.plan.now.lanes c.args.certificate.now c.requires.sound
+    promise c.args.claim.universe.now c.args.claim.plan.now.lanes c.args.certificate.now
+    c.requires.sound
     (certified c.args.claim.universe.now c.args.claim.plan.now.lanes c.args.certificate.now
     c.requires.certificate c.requires.sound.universe (rows_of c.args.claim.known.now)
     c.requires.rows c.in_ok-check_rows.ensures c.in_ok-check_safety.ensures

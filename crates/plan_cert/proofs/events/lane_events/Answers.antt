@@ -27,7 +27,8 @@ loop-place-preserved c =
     record {
       each = c.in_ok-push_events.ensures.each;
       items = c.in_ok-push_events.ensures.items
-          ∙ ap (λ xs. xs ++ items_of u c.index-instructions-place.result) c.loop-place.invariant.items
+          ∙ ap (λ xs. xs ++ items_of u c.index-instructions-place.result)
+          c.loop-place.invariant.items
           ∙ sym (items-next u (lane p l).instructions i c.index-instructions-place.result at);
     }
 

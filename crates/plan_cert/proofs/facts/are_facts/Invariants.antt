@@ -7,5 +7,6 @@ use Rattle.plan_cert.proofs.facts.are_facts.Given as goal
 -- the lanes so far
 abbrev pub invariant-loop-number : goal.invariant-loop-number
 invariant-loop-number l =
-    (j : ℕ) → j < l.number → (k : ℕ) → IsKnownAt l.question.claim.universe.now l.question.claim.plan.now.lanes (rows_of l.question.claim.known.now)
+    (j : ℕ) → j < l.number → (k : ℕ) → IsKnownAt l.question.claim.universe.now
+    l.question.claim.plan.now.lanes (rows_of l.question.claim.known.now)
     (in_row l.question.sources.now) (in_row l.question.new.now) j k

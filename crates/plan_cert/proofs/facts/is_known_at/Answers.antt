@@ -22,9 +22,11 @@ returns c =
     (omega (arith, c.requires.place, ap length xs)) c.index-instructions-place.is
     ∙ ap Some c.in-Some.ensures.some in
     let le : k ≤ length (lane p j).instructions = omega (arith, c.requires.place) in
-    known_here u p rows (in_row c.args.question.sources.now) (in_row c.args.question.new.now) j k c.in-Some.recipe
+    known_here u p rows (in_row c.args.question.sources.now) (in_row c.args.question.new.now) j k
+    c.in-Some.recipe
     c.in_ok-yes.yes at
     (c.in_ok-yes.ensures (rows j k)
-    (subst (λ (w : Universe). IsRowOf w (rows j k) c.row-before.result.now) c.args.question.claim.of_universe
+    (subst (λ (w : Universe). IsRowOf w (rows j k) c.row-before.result.now)
+    c.args.question.claim.of_universe
     c.row-before.ensures)
     (λ v e. c.args.question.claim.have_known j k v c.requires.lane le e))

@@ -32,7 +32,8 @@ returns c = (
       let lt = slice_get_within (lane p l).instructions k _ at in
       let n = any-found (λ j. j == k) 0 places (c.requires.places.has k r lt at) in
       subst
-      (λ j. IsKnownAt u p (rows_of c.args.question.claim.known.now) (in_row c.args.question.sources.now) (in_row c.args.question.new.now) l j)
+      (λ j. IsKnownAt u p (rows_of c.args.question.claim.known.now)
+      (in_row c.args.question.sources.now) (in_row c.args.question.new.now) l j)
       (eqb-true (slice_index places n.0) k n.2)
       (c.loop-n.invariant n.0 (omega (arith, n.1, c.loop-n-test.false))) r at,
   λ h. refl,

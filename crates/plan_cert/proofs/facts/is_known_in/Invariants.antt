@@ -8,5 +8,6 @@ use Rattle.plan_cert.proofs.facts.is_known_in.Given as goal
 -- the publishes so far
 abbrev pub invariant-loop-n : goal.invariant-loop-n
 invariant-loop-n l =
-    (k : ℕ) → k < l.n → IsKnownAt l.question.claim.universe.now l.question.claim.plan.now.lanes (rows_of l.question.claim.known.now)
+    (k : ℕ) → k < l.n → IsKnownAt l.question.claim.universe.now l.question.claim.plan.now.lanes
+    (rows_of l.question.claim.known.now)
     (in_row l.question.sources.now) (in_row l.question.new.now) l.number (slice_index l.places k)

@@ -10,8 +10,10 @@ returns c =
     let r = c.args.recipe in
     let n = c.in-Some.first in
     λ known is all.
-    first-decides u c.args.question.sources.now c.args.question.new.now c.args.before.now r known is all n
-    (subst (λ vs. IsFirstSource (in_row c.args.question.sources.now) vs n) c.outputs-outputs.ensures.outputs
+    first-decides u c.args.question.sources.now c.args.question.new.now c.args.before.now r known is
+    all n
+    (subst (λ vs. IsFirstSource (in_row c.args.question.sources.now) vs n)
+    c.outputs-outputs.ensures.outputs
     c.in-Some.ensures.found) c.in_ok-row.row (c.in_ok-row.ensures.added known is)
     (with-known u r (n + 1) known all (c.args.question.sound.outputs_known r)) c.within-2.result
     c.within-2.ensures.set

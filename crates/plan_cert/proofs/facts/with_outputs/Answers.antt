@@ -19,7 +19,8 @@ pub set_bit-requires-clause-named : goal.set_bit-requires-clause-named
 set_bit-requires-clause-named c =
     let v = get_or c.outputs-outputs.result.now c.loop-n.n (variant 0 0) in
     let lt : c.loop-n.n < length c.outputs-outputs.result.now =
-    omega (arith, c.loop-n-test.true, c.requires.count, ap length c.outputs-outputs.ensures.outputs) in
+    omega (arith, c.loop-n-test.true, c.requires.count, ap length c.outputs-outputs.ensures.outputs)
+    in
     let known =
     known_output c.args.universe.now c.args.recipe c.outputs-outputs.result.now c.loop-n.n
     (variant 0 0) c.requires.sound c.outputs-outputs.ensures.outputs lt in
@@ -30,7 +31,8 @@ pub set_bit-requires-clause-within : goal.set_bit-requires-clause-within
 set_bit-requires-clause-within c =
     let v = get_or c.outputs-outputs.result.now c.loop-n.n (variant 0 0) in
     let lt : c.loop-n.n < length c.outputs-outputs.result.now =
-    omega (arith, c.loop-n-test.true, c.requires.count, ap length c.outputs-outputs.ensures.outputs) in
+    omega (arith, c.loop-n-test.true, c.requires.count, ap length c.outputs-outputs.ensures.outputs)
+    in
     let known =
     known_output c.args.universe.now c.args.recipe c.outputs-outputs.result.now c.loop-n.n
     (variant 0 0) c.requires.sound c.outputs-outputs.ensures.outputs lt in
@@ -43,7 +45,8 @@ loop-n-preserved c =
     let i = c.loop-n.n in
     let v = get_or vs i (variant 0 0) in
     let lt : i < length vs =
-    omega (arith, c.loop-n-test.true, c.requires.count, ap length c.outputs-outputs.ensures.outputs) in
+    omega (arith, c.loop-n-test.true, c.requires.count, ap length c.outputs-outputs.ensures.outputs)
+    in
     let known =
     known_output u c.args.recipe vs i (variant 0 0) c.requires.sound
     c.outputs-outputs.ensures.outputs lt in

@@ -15,14 +15,16 @@ use Rattle.plan_cert.proofs.justified.check_lane.Goals as goal
 pub overflow_cast-result-then-not-branch : goal.overflow_cast-result-then-not-branch
 overflow_cast-result-then-not-branch c =
     let short =
-    lane-short c.args.claim.plan.now.lanes c.args.number c.requires.lane c.lanes-lanes.ensures.limits in
+    lane-short c.args.claim.plan.now.lanes c.args.number c.requires.lane
+    c.lanes-lanes.ensures.limits in
     let xs = c.instructions-instructions.ensures ∙ ap (λ of. of.instructions) c.lane.ensures in
     omega (arith, short, ap length xs, c.loop-place-test.true)
 
 pub overflow_add-result : goal.overflow_add-result
 overflow_add-result c =
     let short =
-    lane-short c.args.claim.plan.now.lanes c.args.number c.requires.lane c.lanes-lanes.ensures.limits in
+    lane-short c.args.claim.plan.now.lanes c.args.number c.requires.lane
+    c.lanes-lanes.ensures.limits in
     let xs = c.instructions-instructions.ensures ∙ ap (λ of. of.instructions) c.lane.ensures in
     omega (arith, short, ap length xs, c.loop-place-test.true)
 
@@ -39,7 +41,8 @@ loop-place-preserved c =
     c.index-instructions-place.is in
     record {
       when_is = c.open_behind-when.ensures
-          ∙ ap (λ o. open_behind i o x) c.loop-place.invariant.when_is ∙ sym (open-next p l i x here);
+          ∙ ap (λ o. open_behind i o x) c.loop-place.invariant.when_is
+          ∙ sym (open-next p l i x here);
       there = rw add-one
           (possible_after u p l c.requires.lane i x here c.add_outputs.new.row
           (c.in_ok-add_outputs.ensures.added (possible u p l i) c.loop-place.invariant.there));
@@ -54,7 +57,8 @@ loop-place-preserved c =
 pub returns : goal.returns
 returns c =
     let xs = c.instructions-instructions.ensures ∙ ap (λ of. of.instructions) c.lane.ensures in
-    past-justified c.args.claim.universe.now c.args.claim.plan.now.lanes (rows_of c.args.claim.known.now)
+    past-justified c.args.claim.universe.now c.args.claim.plan.now.lanes
+    (rows_of c.args.claim.known.now)
     c.args.number c.loop-place.place
     (omega (arith, ap length xs, c.loop-place-test.false))
     c.loop-place.invariant.justified

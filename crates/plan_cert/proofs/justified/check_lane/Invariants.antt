@@ -10,8 +10,10 @@ use Rattle.plan_cert.proofs.justified.check_lane.Given as goal
 abbrev pub invariant-loop-place : goal.invariant-loop-place
 invariant-loop-place l =
     record {
-      there : IsRowOf l.claim.universe.now (possible l.claim.universe.now l.claim.plan.now.lanes l.number l.place) l.there;
+      there : IsRowOf l.claim.universe.now
+          (possible l.claim.universe.now l.claim.plan.now.lanes l.number l.place) l.there;
       justified : (k : ℕ) → k < l.place
-          → IsJustified l.claim.universe.now l.claim.plan.now.lanes (rows_of l.claim.known.now) l.number (suc k);
+          → IsJustified l.claim.universe.now l.claim.plan.now.lanes (rows_of l.claim.known.now)
+          l.number (suc k);
       when_is : l.when ≡ open_at l.claim.plan.now.lanes l.number l.place;
     }

@@ -6,4 +6,5 @@ use Rattle.plan_cert.proofs.justified.check_rows.Given as goal
 -- the lanes so far
 abbrev pub invariant-loop-number : goal.invariant-loop-number
 invariant-loop-number l =
-    (j k : ℕ) → j < l.number → IsJustified l.claim.universe.now l.claim.plan.now.lanes (rows_of l.claim.known.now) j (suc k)
+    (j k : ℕ) → j < l.number → IsJustified l.claim.universe.now l.claim.plan.now.lanes
+    (rows_of l.claim.known.now) j (suc k)

@@ -17,7 +17,8 @@ use Rattle.plan_cert.proofs.justified.is_justified.Goals as goal
 pub overflow_add-place : goal.overflow_add-place
 overflow_add-place c =
     let short =
-    lane-short c.args.at.claim.plan.now.lanes c.args.at.number c.args.at.in_plan c.lanes-lanes.ensures.limits in
+    lane-short c.args.at.claim.plan.now.lanes c.args.at.number c.args.at.in_plan
+    c.lanes-lanes.ensures.limits in
     omega (arith, short, c.args.at.in_lane)
 
 pub returns-in-Some : goal.returns-in-Some
@@ -45,7 +46,8 @@ returns-in-Some c =
     c.args.at.claim.of_universe c.row-after.ensures) in
     let publish : x ≡ Publish c.in-Some.recipe = c.in-Some.ensures.some in
     let ahead_is : IsRowOf u (rows l i) c.row-before.result.now =
-    subst (λ y. IsRowOf u (rows l (row_before p l i y)) c.row-before.result.now) publish before_is in
+    subst (λ y. IsRowOf u (rows l (row_before p l i y)) c.row-before.result.now) publish
+    before_is in
     publish-justified u p rows l i c.args.at.in_plan c.args.at.in_lane c.args.at.claim.have_known
     c.row-before.result.now c.row-after.result.now ahead_is after_is c.in-Some.recipe
     (length c.outputs-count.result.now) (at ∙ ap Some publish) c.requires.universe

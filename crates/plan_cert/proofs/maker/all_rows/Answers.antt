@@ -10,5 +10,6 @@ loop-number-preserved c =
     let known = c.args.making.known.now in
     lanes-next known.universe known.plan (rows_of known) c.loop-number.number
     (lists c.loop-number.lanes.items) (lists c.push.new.self.items) c.in_ok-lane_rows.field-0.items
-    (ap lists c.in_ok-push.ensures.items ∙ lists-push c.loop-number.lanes.items c.in_ok-lane_rows.field-0)
+    (ap lists c.in_ok-push.ensures.items ∙ lists-push c.loop-number.lanes.items
+    c.in_ok-lane_rows.field-0)
     c.loop-number.invariant c.in_ok-lane_rows.ensures

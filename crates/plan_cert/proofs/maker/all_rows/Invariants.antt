@@ -6,4 +6,5 @@ use Rattle.plan_cert.proofs.maker.all_rows.Given as goal
 -- the lanes so far
 abbrev pub invariant-loop-number : goal.invariant-loop-number
 invariant-loop-number l =
-    AreNewLanes l.making.known.now.universe l.making.known.now.plan (rows_of l.making.known.now) l.number (lists l.lanes.items)
+    AreNewLanes l.making.known.now.universe l.making.known.now.plan (rows_of l.making.known.now)
+    l.number (lists l.lanes.items)

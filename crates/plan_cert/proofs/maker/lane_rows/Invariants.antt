@@ -5,4 +5,5 @@ use Rattle.plan_cert.proofs.maker.lane_rows.Given as goal
 -- the rows so far
 abbrev pub invariant-loop-place : goal.invariant-loop-place
 invariant-loop-place l =
-    AreNewRows l.making.known.now.universe l.making.known.now.plan (rows_of l.making.known.now) l.number l.place l.rows.items
+    AreNewRows l.making.known.now.universe l.making.known.now.plan (rows_of l.making.known.now)
+    l.number l.place l.rows.items

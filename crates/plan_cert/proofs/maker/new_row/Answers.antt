@@ -11,7 +11,8 @@ returns-clause-exact c =
     let known = rows_of c.args.making.known.now in
     let l = c.args.number in
     let i = c.args.place in
-    row-new-at u c.args.making.known.now.plan known c.args.making.sound c.requires.keeps l i c.requires.lane
+    row-new-at u c.args.making.known.now.plan known c.args.making.sound c.requires.keeps l i
+    c.requires.lane
     c.requires.place c.in_ok-row.row c.args.making.archive.now c.take_out.new.self
     (subst (λ (w : Universe). IsRowOf w (known l i) c.in_ok-row.row) (sym c.args.making.of_universe)
     c.in_ok-row.ensures)

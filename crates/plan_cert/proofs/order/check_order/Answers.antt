@@ -13,7 +13,8 @@ returns-then-not-branch c =
     let l = slice_index order n in
     broken-here u p order c.loop-item.made.items c.loop-item.archive c.step.new.made
     c.step.new.archive n l c.loop-item-test.true refl c.loop-item.invariant.reached
-    (subst (IsStep u p l c.loop-item.made.items c.step.new.made c.loop-item.archive c.step.new.archive)
+    (subst (IsStep u p l c.loop-item.made.items c.step.new.made c.loop-item.archive
+    c.step.new.archive)
     c.if-not-branch.true
     (subst (λ (ms : List ℕ). IsStep u p l ms c.step.new.made c.loop-item.archive c.step.new.archive
     c.in_ok-step.field-0) c.deref_mut.ensures.value c.in_ok-step.ensures))
@@ -29,6 +30,7 @@ returns-in-Some c =
     broken-end u p order c.loop-item.made.items c.loop-item.archive l c.in-Some.ensures.some
     (subst (λ (ms : List ℕ). slice_index ms l < length (lane_items u p l)) c.deref-2.ensures.value
     c.in-Some.ensures.left)
-    (subst (λ k. IsReached u p (take k order) c.loop-item.archive (left_by u p c.loop-item.made.items))
+    (subst (λ k. IsReached u p (take k order) c.loop-item.archive
+    (left_by u p c.loop-item.made.items))
     end c.loop-item.invariant.reached)
     (length order + 1) refl

@@ -10,6 +10,7 @@ invariant-loop-item l =
     record {
       long : length l.archive ≡ names l.claim.universe.now;
       lanes : length l.made.items ≡ length l.claim.plan.now.lanes;
-      reached : IsReached l.claim.universe.now l.claim.plan.now.lanes (take l.item l.order) l.archive
+      reached : IsReached l.claim.universe.now l.claim.plan.now.lanes (take l.item l.order)
+          l.archive
           (left_by l.claim.universe.now l.claim.plan.now.lanes l.made.items);
     }

@@ -48,7 +48,8 @@ returns-in_ok-row-in-Pass c =
     let row : IsRowOf u (satisfies_entry u e) c.in_ok-row-in-Pass.row =
     subst (λ (w : Universe). IsRowOf w (satisfies_entry w e) c.in_ok-row-in-Pass.row)
     c.args.claim.tables_are c.in_ok-row-in-Pass.ensures in
-    subst (λ (x : Event). IsMade u l (item_of p l x) c.args.archive.now c.args.archive.now c.hits.result)
+    subst (λ (x : Event). IsMade u l (item_of p l x) c.args.archive.now c.args.archive.now
+    c.hits.result)
     (sym c.in-Pass.is)
     (made-pass u p l place e c.args.archive.now c.hits.result at c.requires.archive
     (λ test is. hit_passes u e test c.args.archive.now c.in_ok-row-in-Pass.row c.hits.result

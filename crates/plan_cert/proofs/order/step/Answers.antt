@@ -12,7 +12,8 @@ returns-then-next-events c =
     let p = c.args.of.claim.plan.now.lanes in
     let l = c.args.number in
     let evs = c.as_slice-events.result.now in
-    let lt : l < length c.args.of.lanes.now = omega (arith, c.requires.lane, c.requires.events.long) in
+    let lt : l < length c.args.of.lanes.now = omega
+    (arith, c.requires.lane, c.requires.events.long) in
     let are : AreEvents u p l (length (lane p l).instructions) evs =
     subst (AreEvents u p l (length (lane p l).instructions)) (sym c.as_slice-events.ensures.value)
     (c.requires.events.each l (get_or c.args.of.lanes.now l c.index-of-number.result)
@@ -28,7 +29,8 @@ make-requires-clause-event c =
     let p = c.args.of.claim.plan.now.lanes in
     let l = c.args.number in
     let evs = c.as_slice-events.result.now in
-    let lt : l < length c.args.of.lanes.now = omega (arith, c.requires.lane, c.requires.events.long) in
+    let lt : l < length c.args.of.lanes.now = omega
+    (arith, c.requires.lane, c.requires.events.long) in
     let are : AreEvents u p l (length (lane p l).instructions) evs =
     subst (AreEvents u p l (length (lane p l).instructions)) (sym c.as_slice-events.ensures.value)
     (c.requires.events.each l (get_or c.args.of.lanes.now l c.index-of-number.result)
@@ -43,7 +45,8 @@ returns-then-not-branch c =
     let l = c.args.number in
     let evs = c.as_slice-events.result.now in
     let n = slice_index c.args.made.now l in
-    let lt : l < length c.args.of.lanes.now = omega (arith, c.requires.lane, c.requires.events.long) in
+    let lt : l < length c.args.of.lanes.now = omega
+    (arith, c.requires.lane, c.requires.events.long) in
     let are : AreEvents u p l (length (lane p l).instructions) evs =
     subst (AreEvents u p l (length (lane p l).instructions)) (sym c.as_slice-events.ensures.value)
     (c.requires.events.each l (get_or c.args.of.lanes.now l c.index-of-number.result)
@@ -63,7 +66,8 @@ returns c =
     let l = c.args.number in
     let evs = c.as_slice-events.result.now in
     let n = slice_index c.args.made.now l in
-    let lt : l < length c.args.of.lanes.now = omega (arith, c.requires.lane, c.requires.events.long) in
+    let lt : l < length c.args.of.lanes.now = omega
+    (arith, c.requires.lane, c.requires.events.long) in
     let are : AreEvents u p l (length (lane p l).instructions) evs =
     subst (AreEvents u p l (length (lane p l).instructions)) (sym c.as_slice-events.ensures.value)
     (c.requires.events.each l (get_or c.args.of.lanes.now l c.index-of-number.result)

@@ -15,7 +15,8 @@ loop-place-preserved c =
     let x = c.index-instructions-place.result in
     let old = c.loop-place.places.items in
     let xs = c.instructions-instructions.ensures ∙ ap (λ of. of.instructions) c.lane.ensures in
-    let lt : n < length (lane p l).instructions = omega (arith, ap length xs, c.loop-place-test.true) in
+    let lt : n < length (lane p l).instructions = omega
+    (arith, ap length xs, c.loop-place-test.true) in
     let at : instruction_at p l n ≡ Some x =
     read_at p l c.instructions-instructions.result.now n x xs (omega (arith, lt, ap length xs))
     c.index-instructions-place.is in
@@ -25,8 +26,10 @@ loop-place-preserved c =
           cc (w.places-is, w.in_ok-push.ensures.items) in
           record {
             inside = subst (λ ps. All (λ i. i < length (lane p l).instructions) ps) (sym is)
-                (All-push (λ i. i < length (lane p l).instructions) old n c.loop-place.invariant.inside lt);
-            has = subst (HasPublishes p l (n + 1)) (sym is) (publish_more p l n old c.loop-place.invariant.has);
+                (All-push (λ i. i < length (lane p l).instructions) old n
+                c.loop-place.invariant.inside lt);
+            has = subst (HasPublishes p l (n + 1)) (sym is)
+                (publish_more p l n old c.loop-place.invariant.has);
           }
       | in_default w ↦
           let is : c.match-published.places.items ≡ old = cc w.places-is in

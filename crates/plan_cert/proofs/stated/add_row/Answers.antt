@@ -10,13 +10,16 @@ use Rattle.plan_cert.proofs.stated.add_row.Goals as goal
 pub returns-then-not-teaches-clause-used : goal.returns-then-not-teaches-clause-used
 returns-then-not-teaches-clause-used c =
     c.requires.used
-    ∙ sym (next-quiet c.args.stating.plan.now.lanes c.args.at.number c.args.at.place c.args.at.instruction.now
+    ∙ sym (next-quiet c.args.stating.plan.now.lanes c.args.at.number c.args.at.place
+    c.args.at.instruction.now
     c.requires.at (sym c.teaches.ensures ∙ c.if-not-teaches.true))
 
 pub returns-then-not-teaches-clause-row : goal.returns-then-not-teaches-clause-row
 returns-then-not-teaches-clause-row c =
-    row-quiet c.args.stating.universe.now c.args.stating.plan.now.lanes c.args.stating.certificate.now
-    c.args.stating.certificate_is c.args.at.number c.args.at.place c.args.before c.args.at.instruction.now
+    row-quiet c.args.stating.universe.now c.args.stating.plan.now.lanes
+    c.args.stating.certificate.now
+    c.args.stating.certificate_is c.args.at.number c.args.at.place c.args.before
+    c.args.at.instruction.now
     c.args.rows.now.items c.requires.at (sym c.teaches.ensures ∙ c.if-not-teaches.true)
     c.requires.before
 
@@ -42,7 +45,8 @@ with_archive-requires c =
     (sym c.teaches.ensures ∙ c.if-not-teaches.false) in
     let k : c.args.used < length (lane_rows c.args.stating.certificate.now l) =
     omega (arith, there, c.requires.used, c.args.stating.certificate_is.counts l c.requires.lane) in
-    listed-new c.args.stating.universe.now p c.args.stating.certificate.now c.args.stating.certificate_is l c.args.used
+    listed-new c.args.stating.universe.now p c.args.stating.certificate.now
+    c.args.stating.certificate_is l c.args.used
     c.index-lane_rows-used.result k
     (c.index-lane_rows-used.is
     ∙ ap (λ rows. get_or rows c.args.used c.index-lane_rows-used.result) c.lane_rows.ensures)
@@ -59,7 +63,8 @@ returns-clause-row c =
     let p = c.args.stating.plan.now.lanes in
     let l = c.args.at.number in
     let cert = c.args.stating.certificate.now in
-    let learnt : teaches c.args.at.instruction.now ≡ true = sym c.teaches.ensures ∙ c.if-not-teaches.false in
+    let learnt : teaches c.args.at.instruction.now ≡ true = sym c.teaches.ensures
+    ∙ c.if-not-teaches.false in
     let there = row-there p l c.args.at.place c.args.at.instruction.now c.requires.at learnt in
     let k : c.args.used < length (lane_rows cert l) =
     omega (arith, there, c.requires.used, c.args.stating.certificate_is.counts l c.requires.lane) in
@@ -69,7 +74,8 @@ returns-clause-row c =
     let a = length-append c.args.rows.now.items (c.in_ok-with_archive.field-0 ∷ []) in
     omega (arith, n, a, c.len.ensures))
     (row-listed u p cert c.args.stating.certificate_is l c.args.at.place c.args.used
-    c.args.at.instruction.now c.index-lane_rows-used.result c.in_ok-with_archive.field-0 c.requires.at
+    c.args.at.instruction.now c.index-lane_rows-used.result c.in_ok-with_archive.field-0
+    c.requires.at
     learnt c.requires.used k
     (c.index-lane_rows-used.is
     ∙ ap (λ rows. get_or rows c.args.used c.index-lane_rows-used.result) c.lane_rows.ensures)

@@ -71,7 +71,8 @@ loop-place-preserved c =
       more = extended_twice u c.push.new.self.items c.loop-place.rows.items
           c.add_row.new.rows.items c.loop-place.invariant.more c.in_ok-next.ensures.more;
       when_is = c.open_behind-when.ensures
-          ∙ ap (λ o. open_behind i o x) c.loop-place.invariant.when_is ∙ sym (open-next p l i x here);
+          ∙ ap (λ o. open_behind i o x) c.loop-place.invariant.when_is
+          ∙ sym (open-next p l i x here);
       numbers = numbers_next u known i c.loop-place.numbers.items
           c.push-in-loop-place.new.self.items c.loop-place.rows.items c.add_row.new.rows.items
           c.in_ok-next.next.1 c.in_ok-push-3.ensures.items c.loop-place.invariant.numbers

@@ -11,6 +11,8 @@ invariant-loop-place l =
       used : l.used ≡ rows_before l.stating.plan.now.lanes l.number l.place;
       more : IsExtended l.stating.universe.now l.initial.rows.items l.rows.items;
       when_is : l.when ≡ open_at l.stating.plan.now.lanes l.number l.place;
-      numbers : AreRowNumbers l.stating.universe.now (stated_rows l.stating.universe.now l.stating.plan.now.lanes l.stating.certificate.now l.number)
+      numbers : AreRowNumbers l.stating.universe.now
+          (stated_rows l.stating.universe.now l.stating.plan.now.lanes l.stating.certificate.now
+          l.number)
           l.place l.numbers.items l.rows.items;
     }

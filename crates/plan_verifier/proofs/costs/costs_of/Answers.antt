@@ -16,7 +16,8 @@ pub returns-in-Err : goal.returns-in-Err
 returns-in-Err g c =
     let l = c.loop-number.number in
     let below : l < length c.args.walks.now =
-    omega (arith, c.loop-number-test.true, c.lanes-number-end.ensures.lanes, c.requires.walks.long) in
+    omega (arith, c.loop-number-test.true, c.lanes-number-end.ensures.lanes, c.requires.walks.long)
+    in
     walk_ends c.args.stage.now.universe.now c.args.stage.now.plan.now.lanes
     (g.K.KnownWords.known c.args.stage.now.known.now).rows l
     (omega (arith, c.lanes-number-end.ensures.lanes)) c.loop-number.invariant.safe c.in-Err.error
@@ -30,7 +31,8 @@ loop-number-preserved g c =
     let rows = (g.K.KnownWords.known c.args.stage.now.known.now).rows in
     let l = c.loop-number.number in
     let below : l < length c.args.walks.now =
-    omega (arith, c.loop-number-test.true, c.lanes-number-end.ensures.lanes, c.requires.walks.long) in
+    omega (arith, c.loop-number-test.true, c.lanes-number-end.ensures.lanes, c.requires.walks.long)
+    in
     let walked = c.requires.walks.each l (Ok c.in-Ok.cost)
     (slice_get-get_or c.args.walks.now l (Ok 0) below ∙ ap Some c.in-Ok.is) in
     record {

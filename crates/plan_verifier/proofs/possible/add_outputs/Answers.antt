@@ -9,6 +9,7 @@ pub returns-in-Publish-clause-added : goal.returns-in-Publish-clause-added
 returns-in-Publish-clause-added c =
     let u = c.args.universe.now in
     subst
-    (λ (x : Instruction). OnOk c.add_recipe.result ((test : Variant → Bool) → IsRowOf u test c.args.row.now
+    (λ (x : Instruction). OnOk c.add_recipe.result
+    ((test : Variant → Bool) → IsRowOf u test c.args.row.now
     → IsRowOf u (λ v. test v || gives u v x) c.add_recipe.new.row))
     (sym c.in-Publish.is) c.add_recipe.ensures.added

@@ -36,7 +36,8 @@ loop-output-preserved c =
       long,
       λ test is. row_more u test (λ x w. same x w) vs i v c.set_bit.new.self
           c.loop-output-test.true (get_or_default vs i (variant 0 0) v c.loop-output-test.true)
-          (row_added u (λ w. test w || contains (take i vs) w) c.loop-output.row c.set_bit.new.self v
+          (row_added u (λ w. test w || contains (take i vs) w) c.loop-output.row c.set_bit.new.self
+          v
           known (c.loop-output.invariant.1 test is) c.in_ok-set_bit.ensures.set long),
     )
 

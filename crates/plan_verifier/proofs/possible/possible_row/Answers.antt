@@ -26,7 +26,8 @@ loop-other-preserved c =
           subst (IsRowOf u (so_far u p l (n + 1))) (sym w.row-is)
           (with_lane u p l n w.add_lane.new.row w.if-other-number.true
           (subst (λ (of : Lane). IsRowOf u
-          (λ v. so_far u p l n v || list_any (gives u v) of.instructions) w.add_lane.new.row) w.lane.ensures
+          (λ v. so_far u p l n v || list_any (gives u v) of.instructions) w.add_lane.new.row)
+          w.lane.ensures
           (w.in_ok-add_lane.ensures.added (so_far u p l n) c.loop-other.invariant)))
       | else-other-number w ↦
           subst (IsRowOf u (so_far u p l (n + 1))) (sym w.row-is)

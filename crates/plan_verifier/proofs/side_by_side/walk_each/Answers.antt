@@ -12,7 +12,14 @@ collect-requires-clause-ready g c κs within =
     let n = c.args.lanes in
     let inside = nat_range-All (λ i. i < n) 0 n (λ i low high. high) in
     rw (c.map.ensures.base, c.map.ensures.f, c.with_min_len.ensures.base, ends.0, ends.1)
-    (λ k d lt. ((c.requires.ready, subst (λ m. get_or (nat_range 0 n) k d < m) c.requires.lanes (inside k d lt)), λ y p. tt))
+    (λ k d lt. (
+      (
+        c.requires.ready,
+        subst (λ m. get_or (nat_range 0 n) k d < m) c.requires.lanes
+            (inside k d lt),
+      ),
+      λ y p. tt,
+    ))
 
 pub returns : goal.returns
 returns g c =

@@ -79,8 +79,10 @@ overflow_add-result g c =
     c.instructions.ensures c.requires.place)
     c.index-instructions-place.is
     ∙ ap Some c.in-EndWhen.is in
-    let done = c.end.ensures (lane p l) (held-at u p rows l i branched c.args.may.now c.requires.at) in
-    let told = parts-at u p rows l i branched is c.args.may.now c.end.new.self c.requires.at c.in-Some.at
+    let done = c.end.ensures (lane p l)
+    (held-at u p rows l i branched c.args.may.now c.requires.at) in
+    let told = parts-at u p rows l i branched is c.args.may.now c.end.new.self c.requires.at
+    c.in-Some.at
     (subst (IsJoined u (lane p l) c.args.may.now c.end.new.self) c.in-Some.is done) in
     omega (
       arith,
@@ -105,8 +107,10 @@ returns-in-Some g c =
     c.instructions.ensures c.requires.place)
     c.index-instructions-place.is
     ∙ ap Some c.in-EndWhen.is in
-    let done = c.end.ensures (lane p l) (held-at u p rows l i branched c.args.may.now c.requires.at) in
-    let told = parts-at u p rows l i branched is c.args.may.now c.end.new.self c.requires.at c.in-Some.at
+    let done = c.end.ensures (lane p l)
+    (held-at u p rows l i branched c.args.may.now c.requires.at) in
+    let told = parts-at u p rows l i branched is c.args.may.now c.end.new.self c.requires.at
+    c.in-Some.at
     (subst (IsJoined u (lane p l) c.args.may.now c.end.new.self) c.in-Some.is done) in
     record { lane = refl; numbered = ap (λ k. k + 1) told.1; here = told.0 }
 
@@ -125,6 +129,7 @@ returns-in-None g c =
     c.instructions.ensures c.requires.place)
     c.index-instructions-place.is
     ∙ ap Some c.in-EndWhen.is in
-    let done = c.end.ensures (lane p l) (held-at u p rows l i branched c.args.may.now c.requires.at) in
+    let done = c.end.ensures (lane p l)
+    (held-at u p rows l i branched c.args.may.now c.requires.at) in
     end-at u p rows l i branched is c.args.may.now c.end.new.self c.requires.at
     (subst (IsJoined u (lane p l) c.args.may.now c.end.new.self) c.in-None.is done)

@@ -15,10 +15,12 @@ returns g c =
     let rows = (g.K.KnownWords.known c.args.stage.now.known.now).rows in
     let xs = (lane p c.args.number).instructions in
     let long : length xs ≡ length c.instructions-end.result.now =
-    ap length (sym (c.instructions-end.ensures ∙ ap (λ (o : Lane). o.instructions) c.lane.ensures)) in (
+    ap length (sym (c.instructions-end.ensures ∙ ap (λ (o : Lane). o.instructions) c.lane.ensures))
+    in (
       λ i. elim (cases_lt i (length c.instructions-end.result.now)) [
         | inl lt ↦ c.in_ok-may.ensures.0 i lt
-        | inr past ↦ hazard-past u p rows c.args.number i (slice_get_past xs i (omega (arith, long)))
+        | inr past ↦ hazard-past u p rows c.args.number i
+            (slice_get_past xs i (omega (arith, long)))
       ],
       c.cost.ensures ∙ sym (ap (λ (m : May). m.cost) c.in_ok-may.ensures.1.here)
           ∙ ap (λ k. (may_at u p rows c.args.number k).cost) (sym long),

@@ -15,7 +15,8 @@ returns-in-Unpack-clause-known_there g c b h =
     let i = c.args.place in
     let n = c.in-Unpack.name in
     let archive =
-    of_archive u p (g.K.KnownWords.known c.args.stage.now.known.now).rows c.requires.stage.sound.universe
+    of_archive u p (g.K.KnownWords.known c.args.stage.now.known.now).rows
+    c.requires.stage.sound.universe
     c.requires.stage.keeps l i c.requires.lane c.requires.place in
     let parts = and_parts _ _ (sym (c.word.ensures b) ∙ h) in
     c.possible_word.ensures b

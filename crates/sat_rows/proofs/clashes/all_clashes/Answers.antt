@@ -13,7 +13,14 @@ collect-requires-clause-ready g c κs within =
     let ends = c.into_par_iter.ensures in
     let n = length c.args.universe.now.recipes in
     let inside = nat_range-All (λ i. i < n) 0 n (λ i low high. high) in
-    rw (c.map.ensures.base, c.map.ensures.f, c.with_min_len.ensures.base, ends.0, ends.1, c.recipes.ensures)
+    rw (
+      c.map.ensures.base,
+      c.map.ensures.f,
+      c.with_min_len.ensures.base,
+      ends.0,
+      ends.1,
+      c.recipes.ensures,
+    )
     (λ k d lt. ((c.requires, inside k d lt), λ y p. tt))
 
 pub returns : goal.returns
@@ -30,9 +37,12 @@ returns g c =
     let made = rw (c.in_ok-rows.was) at h.2 in
     let places = h.1.1 ∙ ((λ i. nat_range (start i) (end i)) ∙ ap (range_with_len 0) whole) in
     let called =
-    subst (λ f. AllZip (λ r row. IfOk row (λ row. IsSharedRow f.1.now (satisfies_any f.1.now (recipe f.1.now r).clashes) row)) h.1.0 h.0)
+    subst (λ f. AllZip (λ r row. IfOk row
+    (λ row. IsSharedRow f.1.now (satisfies_any f.1.now (recipe f.1.now r).clashes) row)) h.1.0
+    h.0)
     c.map.ensures.f h.1.2 in
     let all =
-    gathered AllocError (λ r row. IsSharedRow u (satisfies_any u (recipe u r).clashes) row) n h.0 made.0 c.in_ok-rows.rows.items None h.1.0
+    gathered AllocError (λ r row. IsSharedRow u (satisfies_any u (recipe u r).clashes) row) n h.0
+    made.0 c.in_ok-rows.rows.items None h.1.0
     made.1 made.2 places called in
     record { long = all.0; each = all.1 }

@@ -35,10 +35,13 @@ returns g c entries are =
     let made = rw (c.in_ok-rows.was) at h.2 in
     let places = h.1.1 ∙ ((λ i. nat_range (start i) (end i)) ∙ ap (range_with_len 0) whole) in
     let called =
-    subst (λ f. AllZip (λ n row. IfOk row (λ row. (p : Variant → Bool) → IsFound f.1.now p (list_at f.2.now n) → IsRowOf f.1.now p row)) h.1.0 h.0)
+    subst (λ f. AllZip (λ n row. IfOk row
+    (λ row. (p : Variant → Bool) → IsFound f.1.now p (list_at f.2.now n)
+    → IsRowOf f.1.now p row)) h.1.0 h.0)
     c.map.ensures.f h.1.2 in
     let all =
-    gathered AllocError (λ n row. (p : Variant → Bool) → IsFound u p (list_at sets n) → IsRowOf u p row) n h.0 made.0 c.in_ok-rows.rows.items [] h.1.0
+    gathered AllocError (λ n row. (p : Variant → Bool) → IsFound u p (list_at sets n)
+    → IsRowOf u p row) n h.0 made.0 c.in_ok-rows.rows.items [] h.1.0
     made.1 made.2 places called in
     record {
       long = all.0 ∙ are.long;

@@ -13,7 +13,8 @@ loop-name-preserved g c =
     let step = c.in_ok-add_name.ensures in
     below_next (λ n. AreNaming u field n c.loop-name.index)
     (λ n. AreNaming u field n c.add_name.new.index) c.loop-name.name
-    (λ n is b lt i e at j a also. step.kept a.name (item (variant n b) i j) (is b lt i e at j a also))
+    (λ n is b lt i e at j a also. step.kept a.name (item (variant n b) i j)
+    (is b lt i e at j a also))
     c.loop-name.invariant step.names
 
 pub returns : goal.returns

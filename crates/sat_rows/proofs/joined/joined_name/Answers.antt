@@ -10,7 +10,8 @@ loop-bit-preserved c =
     let so_far = c.loop-bit.invariant in
     let xs = c.loop-bit.lists.items in
     let x = c.in_ok-joined_at.field-0 in
-    let P = λ (b : ℕ) (vs : List NumberWord). IsJoined c.args.entries.now c.args.by_entry.now b vs in
+    let P = λ (b : ℕ) (vs : List NumberWord). IsJoined c.args.entries.now c.args.by_entry.now b
+    vs in
     let here = subst (λ b. P b x) (sym so_far.0) c.in_ok-joined_at.ensures in
     let long = length-append xs (x ∷ []) in (
       rw c.in_ok-push.ensures.items (long ∙ ap (λ k. k + 1) so_far.0),

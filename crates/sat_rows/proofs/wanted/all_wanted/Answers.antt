@@ -19,7 +19,8 @@ loop-name-preserved c =
     record {
       long = rw c.in_ok-push.ensures.items (long ∙ ap (λ k. k + 1) so_far.long);
       each = λ entries are n lt.
-          let P = λ (n : ℕ) (vs : List NumberWord). IsNumbered u wanted entries n (variants u n) vs in
+          let P = λ (n : ℕ) (vs : List NumberWord). IsNumbered u wanted entries n (variants u n)
+          vs in
           let here = c.in_ok-wanted_name.ensures entries
           (subst (AreOfName u (AreNumbers u entries) no_numbers c.loop-name.name)
           (get_or_default c.args.numbers.now c.loop-name.name [] c.index-numbers-name.result

@@ -7,7 +7,8 @@ use Rattle.sat_rows.proofs.wanted.note.Goals as goal
 
 pub returns : goal.returns
 returns c u entries v are =
-    adds_both entries (depends u v) (pre_depends u v) c.args.bit c.args.found.now c.note_depends.new.found
+    adds_both entries (depends u v) (pre_depends u v) c.args.bit c.args.found.now
+    c.note_depends.new.found
     c.note_pre_depends.new.found
     (c.in_ok-note_depends.ensures entries (depends u v)
     (subst (AllZip (IsNumberOf entries) (depends u v)) (sym c.all_depends.ensures) are.depends))

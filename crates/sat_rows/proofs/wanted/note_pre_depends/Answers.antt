@@ -16,17 +16,20 @@ loop-number-preserved c entries field all =
     let old = c.loop-number.found in
     let new = c.add.new.self in
     let word = c.with_bit.result in
-    number_next entries (IsPreNumbers entries) (λ n. n.entry) (λ e n is. is.entry) field ys all c.args.bit i
+    number_next entries (IsPreNumbers entries) (λ n. n.entry) (λ e n is. is.entry) field ys all
+    c.args.bit i
     no_pre_numbers c.loop-number-test.true c.args.found.now old new word
     (c.loop-number.invariant entries field all)
     (subst (λ n. Puts n word old new)
     (c.entry.ensures ∙ ap (λ (x : PreNumbers). x.entry)
-    (c.number-item.is ∙ sym (get_or_default ys i no_pre_numbers c.number-item.result c.loop-number-test.true)))
+    (c.number-item.is ∙ sym
+    (get_or_default ys i no_pre_numbers c.number-item.result c.loop-number-test.true)))
     c.in_ok-add.ensures)
     (λ k. one_bit word c.args.bit k (c.with_bit.ensures k))
 
 pub returns : goal.returns
 returns c entries field all =
     numbers_all entries (IsPreNumbers entries) (λ n. n.entry) (λ e n is. is.entry) field
-    c.args.numbers.now all c.args.bit c.loop-number.number-index c.args.found.now c.loop-number.found
+    c.args.numbers.now all c.args.bit c.loop-number.number-index c.args.found.now
+    c.loop-number.found
     (omega arith) (c.loop-number.invariant entries field all)

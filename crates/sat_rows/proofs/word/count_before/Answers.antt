@@ -10,13 +10,25 @@ returns-then-name-names c =
 pub loop-low-preserved-then-is_before : goal.loop-low-preserved-then-is_before
 loop-low-preserved-then-is_before c =
     goes_up c.args.universe.now c.args.name c.args.bound.now c.args.or_equal
-    c.names.ensures.kept.in_order c.loop-low.low c.loop-low.high _ c.loop-low.invariant (omega arith)
+    c.names.ensures.kept.in_order c.loop-low.low c.loop-low.high _ c.loop-low.invariant
+    (omega arith)
     (omega (arith, c.loop-low-test.true))
-    (cc (c.is_before.ensures, c.compare.ensures.order, c.version-version.ensures, c.if-is_before.true))
+    (cc (
+      c.is_before.ensures,
+      c.compare.ensures.order,
+      c.version-version.ensures,
+      c.if-is_before.true,
+    ))
 
 pub loop-low-preserved : goal.loop-low-preserved
 loop-low-preserved c =
     goes_down c.args.universe.now c.args.name c.args.bound.now c.args.or_equal
-    c.names.ensures.kept.in_order c.loop-low.low c.loop-low.high _ c.loop-low.invariant (omega arith)
+    c.names.ensures.kept.in_order c.loop-low.low c.loop-low.high _ c.loop-low.invariant
+    (omega arith)
     (omega (arith, c.loop-low-test.true))
-    (cc (c.is_before.ensures, c.compare.ensures.order, c.version-version.ensures, c.if-is_before.false))
+    (cc (
+      c.is_before.ensures,
+      c.compare.ensures.order,
+      c.version-version.ensures,
+      c.if-is_before.false,
+    ))

@@ -10,7 +10,8 @@ returns-in-Earlier c =
     let n = c.args.name in
     let bound = c.args.bound.now in
     subst (λ op. IsRange u n (Some (op, bound)) 0 c.count_before.result)
-    (sym c.in-Earlier.is) (up_to u n bound Earlier false c.count_before.result as_earlier c.count_before.ensures)
+    (sym c.in-Earlier.is)
+    (up_to u n bound Earlier false c.count_before.result as_earlier c.count_before.ensures)
 
 pub returns-in-EarlierOrEqual : goal.returns-in-EarlierOrEqual
 returns-in-EarlierOrEqual c =
@@ -18,7 +19,9 @@ returns-in-EarlierOrEqual c =
     let n = c.args.name in
     let bound = c.args.bound.now in
     subst (λ op. IsRange u n (Some (op, bound)) 0 c.count_before-in-EarlierOrEqual.result)
-    (sym c.in-EarlierOrEqual.is) (up_to u n bound EarlierOrEqual true c.count_before-in-EarlierOrEqual.result as_earlier_or_equal
+    (sym c.in-EarlierOrEqual.is)
+    (up_to u n bound EarlierOrEqual true c.count_before-in-EarlierOrEqual.result
+    as_earlier_or_equal
     c.count_before-in-EarlierOrEqual.ensures)
 
 pub returns-in-Equal : goal.returns-in-Equal
@@ -26,8 +29,10 @@ returns-in-Equal c =
     let u = c.args.universe.now in
     let n = c.args.name in
     let bound = c.args.bound.now in
-    subst (λ op. IsRange u n (Some (op, bound)) c.count_before-in-Equal.result c.count_before-in-Equal-2.result)
-    (sym c.in-Equal.is) (between u n bound Equal c.count_before-in-Equal.result c.count_before-in-Equal-2.result as_equal
+    subst (λ op. IsRange u n (Some (op, bound)) c.count_before-in-Equal.result
+    c.count_before-in-Equal-2.result)
+    (sym c.in-Equal.is) (between u n bound Equal c.count_before-in-Equal.result
+    c.count_before-in-Equal-2.result as_equal
     c.count_before-in-Equal.ensures c.count_before-in-Equal-2.ensures)
 
 pub returns-in-LaterOrEqual : goal.returns-in-LaterOrEqual
@@ -35,8 +40,11 @@ returns-in-LaterOrEqual c =
     let u = c.args.universe.now in
     let n = c.args.name in
     let bound = c.args.bound.now in
-    subst (λ op. IsRange u n (Some (op, bound)) c.count_before-in-LaterOrEqual.result c.variant_count.result)
-    (sym c.in-LaterOrEqual.is) (on_from u n bound LaterOrEqual false c.count_before-in-LaterOrEqual.result c.variant_count.result
+    subst (λ op. IsRange u n (Some (op, bound)) c.count_before-in-LaterOrEqual.result
+    c.variant_count.result)
+    (sym c.in-LaterOrEqual.is)
+    (on_from u n bound LaterOrEqual false c.count_before-in-LaterOrEqual.result
+    c.variant_count.result
     as_later_or_equal c.count_before-in-LaterOrEqual.ensures c.variant_count.ensures.number)
 
 pub returns-in-Later : goal.returns-in-Later
@@ -44,6 +52,8 @@ returns-in-Later c =
     let u = c.args.universe.now in
     let n = c.args.name in
     let bound = c.args.bound.now in
-    subst (λ op. IsRange u n (Some (op, bound)) c.count_before-in-Later.result c.variant_count-in-Later.result)
-    (sym c.in-Later.is) (on_from u n bound Later true c.count_before-in-Later.result c.variant_count-in-Later.result
+    subst (λ op. IsRange u n (Some (op, bound)) c.count_before-in-Later.result
+    c.variant_count-in-Later.result)
+    (sym c.in-Later.is) (on_from u n bound Later true c.count_before-in-Later.result
+    c.variant_count-in-Later.result
     as_later c.count_before-in-Later.ensures c.variant_count-in-Later.ensures.number)

@@ -23,6 +23,7 @@ returns c =
     ∙ (map-append facts old (c.in_ok-lane_note.field-0 ∷ [])
     ∙ ap (λ xs. all_facts old ++ xs)
     (ap (λ note. note ∷ []) c.in_ok-lane_note.ensures
-    ∙ sym (taken h.universe.now h.plan.now.lanes h.lines.now.lanes (next_of h.nexts.now) c.args.group
+    ∙ sym (taken h.universe.now h.plan.now.lanes h.lines.now.lanes (next_of h.nexts.now)
+    c.args.group
     c.args.number (place_of h.ats.now c.args.number) c.args.entry.now _ c.requires.each
     (sym c.stands_in.ensures ∙ c.if-not-stands_in.false))))

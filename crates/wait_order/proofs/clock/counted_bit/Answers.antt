@@ -18,8 +18,10 @@ returns-clause-some c =
       output = get_or outs n none;
       is = record {
         of = of;
-        lane = slice_get-get_or lanes l c.index-lanes-place.result (omega (arith, c.if-place-lanes.false));
-        output = subst (λ os. slice_get os n ≡ Some (get_or outs n none)) c.as_slice-outputs.ensures.value
+        lane = slice_get-get_or lanes l c.index-lanes-place.result
+            (omega (arith, c.if-place-lanes.false));
+        output = subst (λ os. slice_get os n ≡ Some (get_or outs n none))
+            c.as_slice-outputs.ensures.value
             (slice_get-get_or outs n none (omega (arith, c.if-place-outputs.false)));
       };
       before = omega (arith, c.if-place-counted.false, c.counted.ensures);

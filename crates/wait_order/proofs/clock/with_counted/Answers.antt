@@ -41,7 +41,8 @@ returns-in-Some-clause-only c b h =
     counted_small c.args.known.universe.now c.args.known.lanes.now x c.args.place c.args.name
     c.in-Some.bit
     c.args.known.sound c.args.known.known some in
-    elim (or_cases (word_has c.args.word b) _ (sym (joined_bit c.args.word c.in-Some.bit b small) ∙ h)) [
+    elim (or_cases (word_has c.args.word b) _
+    (sym (joined_bit c.args.word c.in-Some.bit b small) ∙ h)) [
       | inl old ↦ inl old
       | inr new ↦
           inr (subst (IsCounted c.args.known.lanes.now x c.args.place c.args.name)

@@ -10,5 +10,6 @@ invariant-loop-w l = record {
   no_more : sum l.x ≤ sum l.initial.x;
   smaller : l.changed ≡ true → sum l.x < sum l.initial.x;
   same : l.changed ≡ false → l.x ≡ l.initial.x;
-  stable : l.changed ≡ false → (k : ℕ) (p : Point) → k < l.w → slice_get l.points k ≡ Some p → slice_index l.initial.x k ≤ bound l.lane l.total (of_list l.initial.x) p;
+  stable : l.changed ≡ false → (k : ℕ) (p : Point) → k < l.w → slice_get l.points k ≡ Some p
+      → slice_index l.initial.x k ≤ bound l.lane l.total (of_list l.initial.x) p;
 }

@@ -41,7 +41,8 @@ returns-clause-past c =
     let n = length (lane p l).instructions in
     let i = c.loop-place.place in
     let xs = c.instructions-instructions.ensures ∙ ap (λ of. of.instructions) c.lane.ensures in
-    let end : i ≡ n = omega (arith, c.loop-place-test.false, c.loop-place.auto.place-end, ap length xs) in
+    let end : i ≡ n = omega
+    (arith, c.loop-place-test.false, c.loop-place.auto.place-end, ap length xs) in
     let so_far = c.loop-place.invariant.passed in
     let long = outputs_with_points-long u p l i (omega (arith, end)) in
     subst (λ k. ArePast u p l k c.push-2.new.self.items)

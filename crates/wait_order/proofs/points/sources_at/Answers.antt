@@ -49,7 +49,8 @@ returns-then-number-len-2-clause-sources c =
     let mark = c.args.mark in
     subst (AreSources u p mark.lane mark.place (satisfies_entry u e))
     (sym (c.in_ok-sources.ensures ∙ ap (filter (may_meet mark)) c.deref-2.ensures.value))
-    (met_are u p (satisfies_entry u e) mark c.requires.mark.lane_there c.requires.mark.own_is c.in_ok-all.all.items
+    (met_are u p (satisfies_entry u e) mark c.requires.mark.lane_there c.requires.mark.own_is
+    c.in_ok-all.all.items
     (c.in_ok-all.ensures (satisfies_entry u e) (row_is c.args.supply.tables.now u e c.in_ok-row.row
     c.requires.supply.tables_are c.in_ok-row.ensures)))
 
@@ -67,7 +68,8 @@ returns-clause-sources c =
     let mark = c.args.mark in
     subst (AreSources u p mark.lane mark.place (satisfies_entry u e))
     (sym (c.in_ok-sources.ensures ∙ ap (filter (may_meet mark)) c.deref-2.ensures.value))
-    (met_are u p (satisfies_entry u e) mark c.requires.mark.lane_there c.requires.mark.own_is c.in_ok-all.all.items
+    (met_are u p (satisfies_entry u e) mark c.requires.mark.lane_there c.requires.mark.own_is
+    c.in_ok-all.all.items
     (c.in_ok-all.ensures (satisfies_entry u e) (row_is c.args.supply.tables.now u e c.in_ok-row.row
     c.requires.supply.tables_are c.in_ok-row.ensures)))
 

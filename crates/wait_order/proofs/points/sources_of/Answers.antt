@@ -38,11 +38,13 @@ loop-number-preserved c =
     let are =
     c.as_slice-outputs.ensures.value ∙ c.requires.supply.lanes_are.each h of
     (slice_get-get_or lanes h c.index-lanes-number.result c.loop-number-test.true) in
-    let lt : h < length p = omega (arith, c.loop-number-test.true, c.requires.supply.lanes_are.long) in
+    let lt : h < length p = omega
+    (arith, c.loop-number-test.true, c.requires.supply.lanes_are.long) in
     let limit : length outs
     ≡ (if h == length p then outputs_before u (lane p (length p)) 0 0 else length outs) =
     rw (ne_eqb h (length p) (λ same. absurd (omega (arith, same, lt)))) refl in
-    λ test row_is. pushed u p h outs are c.requires.supply.sound.universe (length p) 0 test c.args.row.now
+    λ test row_is. pushed u p h outs are c.requires.supply.sound.universe (length p) 0 test
+    c.args.row.now
     row_is lt (length outs) limit c.loop-number.sources.items c.push_hit.new.sources.items
     (c.loop-number.invariant test row_is) (c.in_ok-push_hit.ensures c.args.row.now hit)
 
@@ -51,6 +53,7 @@ returns c =
     let u = c.args.supply.universe.now in
     let p = c.args.supply.plan.now.lanes in
     let n = c.loop-number.number in
-    let le : length p ≤ n = omega (arith, c.loop-number-test.false, c.requires.supply.lanes_are.long) in
+    let le : length p ≤ n = omega
+    (arith, c.loop-number-test.false, c.requires.supply.lanes_are.long) in
     λ test row_is. all_sources u p (length p) 0 n test c.loop-number.sources.items le
     (c.loop-number.invariant test row_is)

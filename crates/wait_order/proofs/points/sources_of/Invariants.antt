@@ -8,5 +8,6 @@ use Rattle.wait_order.proofs.points.sources_of.Given as goal
 abbrev pub invariant-loop-number : goal.invariant-loop-number
 invariant-loop-number l =
     (test : Variant → Bool) → IsRowOf l.supply.universe.now test l.row
-    → AreSourcesBelow l.supply.universe.now l.supply.plan.now.lanes (length l.supply.plan.now.lanes) 0 test l.sources.items
+    → AreSourcesBelow l.supply.universe.now l.supply.plan.now.lanes (length l.supply.plan.now.lanes)
+    0 test l.sources.items
     l.number

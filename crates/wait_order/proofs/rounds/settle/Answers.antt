@@ -13,7 +13,8 @@ loop-order-init c =
       long = c.in_ok-archive.ensures.long;
       rows = c.in_ok-rows.ensures;
       reached = subst
-          (λ os. IsReached u p os c.in_ok-archive.archive (left_of u p c.in_ok-standings.standings.items))
+          (λ os. IsReached u p os c.in_ok-archive.archive
+          (left_of u p c.in_ok-standings.standings.items))
           (sym c.new-order.ensures.items)
           (start_reached u p c.in_ok-archive.archive c.in_ok-standings.standings.items
           c.in_ok-standings.ensures.at_start c.in_ok-archive.ensures);

@@ -11,7 +11,8 @@ invariant-loop-place l =
       place : l.at.place ≡ l.place;
       rows : l.rows ≡ l.initial.rows;
       long : length l.archive ≡ names l.course.universe.now;
-      leads : Leads l.course.universe.now l.course.plan.now.lanes l.number l.initial.at.place l.place
+      leads : Leads l.course.universe.now l.course.plan.now.lanes l.number l.initial.at.place
+          l.place
           l.initial.order.items l.initial.archive l.order.items l.archive;
       same : l.place ≡ l.initial.at.place
           → (l.order.items ≡ l.initial.order.items) × (l.archive ≡ l.initial.archive);

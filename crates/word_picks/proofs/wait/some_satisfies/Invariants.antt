@@ -6,5 +6,6 @@ use Rattle.word_picks.proofs.wait.some_satisfies.Given as goal
 
 abbrev pub invariant-loop-bit : goal.invariant-loop-bit
 invariant-loop-bit l =
-    some_below l.bit (λ b. word_has l.word b && satisfies_entry l.universe l.entry (variant l.name b))
+    some_below l.bit (λ b. word_has l.word b && satisfies_entry l.universe l.entry
+    (variant l.name b))
     ≡ false

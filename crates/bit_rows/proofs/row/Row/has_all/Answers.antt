@@ -15,12 +15,14 @@ has_each-requires g c =
 pub returns-clause-test : goal.returns-clause-test
 returns-clause-test g c =
     let row = c.self.inside in
-    let count : length c.args.words.now ≡ row.count = omega (arith, c.requires, length-words_of row.count row.blocks.items, ap length c.self.view_is) in
+    let count : length c.args.words.now ≡ row.count = omega
+    (arith, c.requires, length-words_of row.count row.blocks.items, ap length c.self.view_is) in
     c.has_each.ensures
     ∙ ap (within c.args.words.now)
     (ap₂ words_of count c.deref.ensures.value ∙ c.self.view_is)
 
 pub returns-clause-set : goal.returns-clause-set
 returns-clause-set g c =
-    let test : c.has_each.result ≡ within c.args.words.now c.args.self.now = returns-clause-test g c in
+    let test : c.has_each.result ≡ within c.args.words.now c.args.self.now = returns-clause-test g
+    c in
     rw test (within-bits c.args.words.now c.args.self.now c.requires)

@@ -9,11 +9,13 @@ returns-clause-test g c =
     let a = c.self.inside in
     let b = c.other.inside in
     c.some_met.ensures
-    ∙ rows_met shares_bit shares_none a.count b.count a.blocks.items b.blocks.items c.deref.result.now
+    ∙ rows_met shares_bit shares_none a.count b.count a.blocks.items b.blocks.items
+    c.deref.result.now
     c.deref-2.result.now c.args.self.now c.args.other.now c.self.invariant c.other.invariant
     c.self.view_is c.other.view_is c.requires c.deref.ensures.value c.deref-2.ensures.value
 
 pub returns-clause-set : goal.returns-clause-set
 returns-clause-set g c =
-    let test : c.some_met.result ≡ hits c.args.self.now c.args.other.now = returns-clause-test g c in
+    let test : c.some_met.result ≡ hits c.args.self.now c.args.other.now = returns-clause-test g
+    c in
     rw test (hits-bits c.args.self.now c.args.other.now c.requires)

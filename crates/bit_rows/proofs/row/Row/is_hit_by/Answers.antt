@@ -14,10 +14,12 @@ pub returns-clause-test : goal.returns-clause-test
 returns-clause-test g c =
     let row = c.self.inside in
     c.some_piece_met.ensures
-    ∙ pieces_met shares_bit shares_none row.count row.blocks.items c.deref.result.now c.args.words.now
+    ∙ pieces_met shares_bit shares_none row.count row.blocks.items c.deref.result.now
+    c.args.words.now
     c.args.self.now c.self.invariant c.self.view_is c.requires c.deref.ensures.value
 
 pub returns-clause-set : goal.returns-clause-set
 returns-clause-set g c =
-    let test : c.some_piece_met.result ≡ hits c.args.words.now c.args.self.now = returns-clause-test g c in
+    let test : c.some_piece_met.result ≡ hits c.args.words.now c.args.self.now = returns-clause-test
+    g c in
     rw test (hits-bits c.args.words.now c.args.self.now c.requires)

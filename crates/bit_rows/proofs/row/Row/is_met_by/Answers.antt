@@ -19,5 +19,6 @@ returns-clause-test g c =
 
 pub returns-clause-set : goal.returns-clause-set
 returns-clause-set g c =
-    let test : c.some_piece_met.result ≡ met c.args.words.now c.args.self.now = returns-clause-test g c in
+    let test : c.some_piece_met.result ≡ met c.args.words.now c.args.self.now = returns-clause-test
+    g c in
     rw test (met-bits c.args.words.now c.args.self.now c.requires)

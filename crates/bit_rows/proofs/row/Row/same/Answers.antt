@@ -26,5 +26,6 @@ returns-clause-test g c =
 
 pub returns-clause-set : goal.returns-clause-set
 returns-clause-set g c =
-    let test : c.are_same.result ≡ same c.args.self.now c.args.other.now = returns-clause-test g c in
+    let test : c.are_same.result ≡ same c.args.self.now c.args.other.now = returns-clause-test g
+    c in
     rw test (same-variants c.args.self.now c.args.other.now c.requires)

@@ -24,7 +24,8 @@ written n at name word bs found before ws row are view lt same_found same_before
     let old = words_at bs place in
     let inside : name < n = omega (arith, length-words_of n bs, ap length view) in
     subst
-    (λ l. IsWritten n name word row (placed at (record { place = place; words = set l (name % 8) word }) bs))
+    (λ l. IsWritten n name word row
+    (placed at (record { place = place; words = set l (name % 8) word }) bs))
     (sym (e ∙ ap (λ l. words_at l place) same_found)) (record {
       are = row_blocks-placed n at (record { place = place; words = set old (name % 8) word }) bs
           (length-set old (name % 8) word ∙ eight_at n bs place are.each)
@@ -59,7 +60,8 @@ returns-clause-set g c =
     c.self.invariant c.self.view_is c.requires c.deref-2.ensures.value c.deref.ensures.value
     c.find-at.ensures c.words_there.ensures in
     on_ok c.put.result
-    (λ e. subst (λ r. ReplacesName (variants_of c.args.self.now) c.args.name c.args.word (variants_of r))
+    (λ e. subst (λ r. ReplacesName (variants_of c.args.self.now) c.args.name c.args.word
+    (variants_of r))
     (sym (ap (words_of row.count) e ∙ is.words))
     (replaces-set c.args.self.now c.args.name c.args.word c.requires))
     c.put.ensures.placed

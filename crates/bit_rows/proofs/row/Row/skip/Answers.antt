@@ -13,7 +13,13 @@ skip_to-requires-clause-inside g c =
 pub returns-clause-inside : goal.returns-clause-inside
 returns-clause-inside g c =
     let row = c.self.inside in
-    omega (arith, c.skip_to.ensures.inside, length-words_of row.count row.blocks.items, ap length c.self.view_is)
+    omega (
+      arith,
+      c.skip_to.ensures.inside,
+      length-words_of row.count row.blocks.items,
+      ap length
+          c.self.view_is,
+    )
 
 pub returns-clause-none : goal.returns-clause-none
 returns-clause-none g c name bit low high =

@@ -22,5 +22,6 @@ returns-clause-test g c =
 
 pub returns-clause-set : goal.returns-clause-set
 returns-clause-set g c =
-    let test : not c.some_met.result ≡ within c.args.self.now c.args.other.now = returns-clause-test g c in
+    let test : not c.some_met.result ≡ within c.args.self.now c.args.other.now = returns-clause-test
+    g c in
     rw test (within-bits c.args.self.now c.args.other.now c.requires)

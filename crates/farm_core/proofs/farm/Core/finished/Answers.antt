@@ -20,6 +20,10 @@ returns c =
     let count : length c.self.inside.plan.now.lanes ≡ length c.args.self.now.plan.lanes =
     ap (λ (f : Farm). length f.plan.lanes) c.self.view_is in
     sym (all_ended c.args.self.now.plan.lanes c.args.self.now.state c.loop-number.number
-    (omega
-    (arith, c.loop-number.auto.number-end, c.loop-number-test.false, c.lanes-number-end.ensures.lanes))
+    (omega (
+      arith,
+      c.loop-number.auto.number-end,
+      c.loop-number-test.false,
+      c.lanes-number-end.ensures.lanes,
+    ))
     c.loop-number.invariant)

@@ -15,7 +15,8 @@ loop-number-preserved g c =
     let long = c.entries-entries.ensures in
     let lt : i < length field = omega (arith, ap length long) in
     let there = slice_get-get_or field i e lt
-    ∙ ap Some (sym (c.index-entries-number.is ∙ ap (λ (field : Relations). get_or field i e) long)) in
+    ∙ ap Some (sym (c.index-entries-number.is ∙ ap (λ (field : Relations). get_or field i e) long))
+    in
     let step = c.in_ok-add_entry.ensures in
     record {
       kept = λ text at is. step.kept text at (so_far.kept text at is);

@@ -34,7 +34,8 @@ configure-requires-clause-free c =
     c.lane_of-lane.ensures.lane c.lane_of-lane.ensures.short in
     subst (λ (x : Universe × Lane). CanPass x.1 w (length ms) (configure_traps x.0 k.slots ms))
     (λ i. (sym c.universe-universe.ensures i, sym c.lane_of-lane.ensures.lane i))
-    (can_configure a.universe a.plan (known_rows a) c.keeps.ensures.sound (annotated a c.keeps.ensures)
+    (can_configure a.universe a.plan (known_rows a) c.keeps.ensures.sound
+    (annotated a c.keeps.ensures)
     w k c.requires.on.0 c.requires.on.1 short ms here)
 
 pub returns-in-Configure-clause-on : goal.returns-in-Configure-clause-on
@@ -50,7 +51,8 @@ returns-in-Configure-clause-on c = λ r on.
     c.lane_of-lane.ensures.lane c.lane_of-lane.ensures.short in
     let told = subst (λ (u : Universe). d ≡ with_slots u k (configured k.slots ms))
     c.universe-universe.ensures c.configure.ensures.chroot in
-    let held = subst (λ (u : Universe). IsHeld u d) c.universe-universe.ensures c.configure.ensures.held in
+    let held = subst (λ (u : Universe). IsHeld u d) c.universe-universe.ensures
+    c.configure.ensures.held in
     let place = c.configure.ensures.place
     ∙ ap (λ (of : Lane). passed of w (length ms)) c.lane_of-lane.ensures.lane in
     subst (λ v. IsOnWay a.universe a.plan (known_rows a) v d r) (sym place)
@@ -62,7 +64,8 @@ deconfigure-requires-clause-named c =
     let w = c.args.self.now in
     let ms = c.as_slice-in-Deconfigure.result.now in
     let here = c.requires.here
-    ∙ ap (λ x. Some x) (c.in-Deconfigure.is ∙ ap Deconfigure (sym c.as_slice-in-Deconfigure.ensures)) in
+    ∙ ap (λ x. Some x) (c.in-Deconfigure.is ∙ ap Deconfigure
+    (sym c.as_slice-in-Deconfigure.ensures)) in
     subst (λ (u : Universe). All (λ m. m < names u) ms) (sym c.universe-universe.ensures)
     (c.keeps.ensures.sound.plan.instructions w.lane w.done (Deconfigure ms) c.requires.on.1.in_plan
     here).known
@@ -74,12 +77,14 @@ deconfigure-requires-clause-free c =
     let k = c.args.chroot.now in
     let ms = c.as_slice-in-Deconfigure.result.now in
     let here = c.requires.here
-    ∙ ap (λ x. Some x) (c.in-Deconfigure.is ∙ ap Deconfigure (sym c.as_slice-in-Deconfigure.ensures)) in
+    ∙ ap (λ x. Some x) (c.in-Deconfigure.is ∙ ap Deconfigure
+    (sym c.as_slice-in-Deconfigure.ensures)) in
     let short = subst (λ (of : Lane). length of.instructions ≤ MOST_INSTRUCTIONS)
     c.lane_of-lane.ensures.lane c.lane_of-lane.ensures.short in
     subst (λ (x : Universe × Lane). CanPass x.1 w (length ms) (deconfigure_traps x.0 k.slots ms))
     (λ i. (sym c.universe-universe.ensures i, sym c.lane_of-lane.ensures.lane i))
-    (can_deconfigure a.universe a.plan (known_rows a) c.keeps.ensures.sound (annotated a c.keeps.ensures)
+    (can_deconfigure a.universe a.plan (known_rows a) c.keeps.ensures.sound
+    (annotated a c.keeps.ensures)
     w k c.requires.on.0 c.requires.on.1 short ms here)
 
 pub returns-in-Deconfigure-clause-on : goal.returns-in-Deconfigure-clause-on
@@ -90,16 +95,19 @@ returns-in-Deconfigure-clause-on c = λ r on.
     let ms = c.as_slice-in-Deconfigure.result.now in
     let d = c.deconfigure.new.chroot in
     let here = c.requires.here
-    ∙ ap (λ x. Some x) (c.in-Deconfigure.is ∙ ap Deconfigure (sym c.as_slice-in-Deconfigure.ensures)) in
+    ∙ ap (λ x. Some x) (c.in-Deconfigure.is ∙ ap Deconfigure
+    (sym c.as_slice-in-Deconfigure.ensures)) in
     let short = subst (λ (of : Lane). length of.instructions ≤ MOST_INSTRUCTIONS)
     c.lane_of-lane.ensures.lane c.lane_of-lane.ensures.short in
     let told = subst (λ (u : Universe). d ≡ with_slots u k (deconfigured k.slots ms))
     c.universe-universe.ensures c.deconfigure.ensures.chroot in
-    let held = subst (λ (u : Universe). IsHeld u d) c.universe-universe.ensures c.deconfigure.ensures.held in
+    let held = subst (λ (u : Universe). IsHeld u d) c.universe-universe.ensures
+    c.deconfigure.ensures.held in
     let place = c.deconfigure.ensures.place
     ∙ ap (λ (of : Lane). passed of w (length ms)) c.lane_of-lane.ensures.lane in
     subst (λ v. IsOnWay a.universe a.plan (known_rows a) v d r) (sym place)
-    (deconfigures a.universe a.plan (known_rows a) c.keeps.ensures.sound (annotated a c.keeps.ensures)
+    (deconfigures a.universe a.plan (known_rows a) c.keeps.ensures.sound
+    (annotated a c.keeps.ensures)
     w k r on short ms here d told held)
 
 pub remove-requires-clause-named : goal.remove-requires-clause-named
@@ -140,7 +148,8 @@ returns-in-Remove-clause-on c = λ r on.
     c.lane_of-lane.ensures.lane c.lane_of-lane.ensures.short in
     let told = subst (λ (u : Universe). d ≡ with_slots u k (removed k.slots ms))
     c.universe-universe.ensures c.remove.ensures.chroot in
-    let held = subst (λ (u : Universe). IsHeld u d) c.universe-universe.ensures c.remove.ensures.held in
+    let held = subst (λ (u : Universe). IsHeld u d) c.universe-universe.ensures
+    c.remove.ensures.held in
     let place = c.remove.ensures.place
     ∙ ap (λ (of : Lane). passed of w (length ms)) c.lane_of-lane.ensures.lane in
     subst (λ v. IsOnWay a.universe a.plan (known_rows a) v d r) (sym place)

@@ -39,7 +39,8 @@ take-requires-clause-free g c =
     let w = c.args.self.now in
     let k = c.args.chroot.now in
     let v = variant c.args.name c.in-Some.bit in
-    let picked = subst (λ (u : Universe). Some c.in-Some.bit ≡ highest_below (variants u c.args.name)
+    let picked = subst (λ (u : Universe). Some c.in-Some.bit
+    ≡ highest_below (variants u c.args.name)
     (λ b. word_has c.load-word.result b && is_wanted u c.args.relation.now (variant c.args.name b)))
     c.universe-universe.ensures c.in-Some.ensures in
     let short = subst (λ (of : Lane). length of.instructions ≤ MOST_INSTRUCTIONS)
@@ -58,12 +59,14 @@ returns-in-Some-clause-running g c =
     let k = c.args.chroot.now in
     let v = variant c.args.name c.in-Some.bit in
     let ue = c.universe-universe.ensures in
-    let picked = subst (λ (u : Universe). Some c.in-Some.bit ≡ highest_below (variants u c.args.name)
+    let picked = subst (λ (u : Universe). Some c.in-Some.bit
+    ≡ highest_below (variants u c.args.name)
     (λ b. word_has c.load-word.result b && is_wanted u c.args.relation.now (variant c.args.name b)))
     ue c.in-Some.ensures in
     let place = subst (λ (x : Lane × Universe). c.take.new.self ≡ passed x.0 w (unpack_cost x.1 v))
     (λ i. (c.lane_of-lane.ensures.lane i, ue i)) c.take.ensures.place in
-    let chroot = subst (λ (u : Universe). c.take.new.chroot ≡ with_slots u k (unpacked k.slots v)) ue
+    let chroot = subst (λ (u : Universe). c.take.new.chroot ≡ with_slots u k (unpacked k.slots v))
+    ue
     c.take.ensures.chroot in
     let held = subst (λ (u : Universe). IsHeld u c.take.new.chroot) ue c.take.ensures.held in
     let same = c.load-word.ensures.same in

@@ -6,4 +6,5 @@ use Rattle.plan_verifier.proofs.message.EscapedDisplay.fmt.Given as goal
 abbrev pub invariant-loop-byte : goal.invariant-loop-byte
 invariant-loop-byte g l =
     IsPlainFormatter l.initial.f
-    → HasWritten g.W.Write.write_str_gives l.initial.f (escaped (take l.byte-index l.self.0.now)) l.f
+    → HasWritten g.W.Write.write_str_gives l.initial.f (escaped (take l.byte-index l.self.0.now))
+    l.f

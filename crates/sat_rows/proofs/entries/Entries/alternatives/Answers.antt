@@ -18,7 +18,8 @@ loop-atom-preserved c =
       rw c.in_ok-push.ensures.items
           (all_zip_next R c.alternatives-atom-items.result.now c.loop-atom.numbers.items
           c.loop-atom.atom-index c.atom-item.result n c.loop-atom-test.true c.atom-item.is
-          (all_zip_weaker (λ a n. IsNumberOf old (a ∷ []) n) R (λ a n. grown n (a ∷ [])) _ _ so_far.1)
+          (all_zip_weaker (λ a n. IsNumberOf old (a ∷ []) n) R (λ a n. grown n (a ∷ [])) _ _
+          so_far.1)
           (subst (λ e. slice_get new n ≡ Some e) c.from_ref.ensures.value
           c.in_ok-number.ensures.number)),
     )

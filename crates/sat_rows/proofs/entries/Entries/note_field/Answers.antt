@@ -35,7 +35,8 @@ loop-entry-preserved c =
 pub returns-clause-noted : goal.returns-clause-noted
 returns-clause-noted c =
     let items = c.entries-entry-items.result.now in
-    subst (λ field. AddsField c.loop-entry.self field c.args.bit c.args.found.now c.loop-entry.found)
+    subst (λ field. AddsField c.loop-entry.self field c.args.bit c.args.found.now
+    c.loop-entry.found)
     c.entries-entry-items.ensures
     (adds_all c.loop-entry.self items c.args.bit c.loop-entry.entry-index c.args.found.now
     c.loop-entry.found

@@ -10,4 +10,5 @@ invariant-loop-name g l =
     IsGrown l.fn.self l.self
     × (length l.lists.items ≡ l.name)
     × ((n : ℕ) → n < l.name
-    → IsNumbered l.universe g.F.Field.field l.self n (variants l.universe n) (list_at l.lists.items n))
+    → IsNumbered l.universe g.F.Field.field l.self n (variants l.universe n)
+    (list_at l.lists.items n))

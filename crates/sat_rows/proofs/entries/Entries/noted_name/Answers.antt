@@ -23,6 +23,7 @@ loop-bit-preserved g c =
       grown_trans c.args.self.now old new so_far.0 grown,
       numbered_next c.args.universe.now g.F.Field.field old new grown c.args.name c.loop-bit.bit
           c.loop-bit.found c.note_field.new.found so_far.1
-          (subst (λ field. AddsField new field c.loop-bit.bit c.loop-bit.found c.note_field.new.found)
+          (subst (λ field. AddsField new field c.loop-bit.bit c.loop-bit.found
+          c.note_field.new.found)
           c.of.ensures c.in_ok-note_field.ensures.noted),
     )

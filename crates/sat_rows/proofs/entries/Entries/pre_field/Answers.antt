@@ -14,6 +14,7 @@ loop-entry-preserved c =
           (all_zip_next (IsPreNumbers new) c.entries-entry-items.result.now
           c.loop-entry.numbers.items c.loop-entry.entry-index c.entry-item.result _
           c.loop-entry-test.true c.entry-item.is
-          (all_zip_weaker (IsPreNumbers old) (IsPreNumbers new) (pre_grown old new grown) _ _ so_far.1)
+          (all_zip_weaker (IsPreNumbers old) (IsPreNumbers new) (pre_grown old new grown) _ _
+          so_far.1)
           c.in_ok-pre_entry.ensures.numbers),
     )

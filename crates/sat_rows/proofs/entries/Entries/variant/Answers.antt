@@ -11,7 +11,8 @@ returns-clause-numbers c =
     let grown = c.in_ok-depends.ensures.grown in
     let pre = c.in_ok-pre_depends.pre_depends.items in
     record {
-      pre_depends = subst (λ es. AllZip (IsPreNumbers new) es pre) c.relations-relations.ensures.pre_depends
+      pre_depends = subst (λ es. AllZip (IsPreNumbers new) es pre)
+          c.relations-relations.ensures.pre_depends
           (all_zip_weaker (IsPreNumbers old) (IsPreNumbers new) (pre_grown old new grown) _ pre
           c.in_ok-pre_depends.ensures.numbers);
       depends = subst (λ es. AllZip (IsNumberOf new) es c.in_ok-depends.depends.items)

@@ -16,5 +16,6 @@ loop-atom-preserved c =
     (satisfies u c.atom-item.result)
     (λ v. list_any (λ a. satisfies u a v) (take (i + 1) xs))
     c.args.self.now c.loop-atom.self c.add_atom.new.self
-    (λ v. any_next (λ a. satisfies u a v) xs i c.atom-item.result c.loop-atom-test.true c.atom-item.is)
+    (λ v. any_next (λ a. satisfies u a v) xs i c.atom-item.result c.loop-atom-test.true
+    c.atom-item.is)
     c.loop-atom.invariant c.in_ok-add_atom.ensures

@@ -17,7 +17,8 @@ returns-clause-joined c held n b =
     let number = c.args.number in
     let word = c.args.word in
     subst
-    (λ (w : NumberWord). among (slice_set vs i (record { number = number; word = bit_or w.word word })) n b
+    (λ (w : NumberWord). among
+    (slice_set vs i (record { number = number; word = bit_or w.word word })) n b
     ≡ (among c.args.self.now n b || ((n == number) && word_has word b)))
     (sym here)
     (puts_joined vs i number word lt (sym same ∙ c.if-index-number.false) n b

@@ -11,5 +11,6 @@ returns c =
     let x = c.self.inside.breaks in
     let is = subst (λ u. IsExclusion u (λ binary. binary.breaks) x) c.self.view_is
     c.self.invariant.breaks in
-    reaches_is u (declares u (λ binary. binary.breaks)) x.declared is.declared c.args.variant c.requires
+    reaches_is u (declares u (λ binary. binary.breaks)) x.declared is.declared c.args.variant
+    c.requires
     c.args.words.now c.names_some.result c.names_some.ensures

@@ -9,9 +9,12 @@ pub index-requires : goal.index-requires
 index-requires c =
     let inside = c.self.inside in
     let kept = subst
-    (λ u. AreKept u inside.names.items inside.needs.items inside.rows.items inside.conflicts inside.breaks
-    inside.clashes.items inside.providers inside.empty inside.served) c.self.view_is c.self.invariant in
-    let within = numbers_within c.args.self.now inside.names.items inside.needs.items inside.rows.items kept.entries
+    (λ u. AreKept u inside.names.items inside.needs.items inside.rows.items inside.conflicts
+    inside.breaks
+    inside.clashes.items inside.providers inside.empty inside.served) c.self.view_is
+    c.self.invariant in
+    let within = numbers_within c.args.self.now inside.names.items inside.needs.items
+    inside.rows.items kept.entries
     c.args.variant c.requires.known in
     omega (arith, within, inside.names.ok)
 
@@ -19,18 +22,24 @@ pub variant-numbers-requires : goal.variant-numbers-requires
 variant-numbers-requires c =
     let inside = c.self.inside in
     let kept = subst
-    (λ u. AreKept u inside.names.items inside.needs.items inside.rows.items inside.conflicts inside.breaks
-    inside.clashes.items inside.providers inside.empty inside.served) c.self.view_is c.self.invariant in
-    variant_within c.args.self.now inside.names.items inside.needs.items inside.rows.items kept.entries
+    (λ u. AreKept u inside.names.items inside.needs.items inside.rows.items inside.conflicts
+    inside.breaks
+    inside.clashes.items inside.providers inside.empty inside.served) c.self.view_is
+    c.self.invariant in
+    variant_within c.args.self.now inside.names.items inside.needs.items inside.rows.items
+    kept.entries
     c.args.variant c.requires.known c.index.result.now c.index.ensures
 
 pub depends-requires : goal.depends-requires
 depends-requires c =
     let inside = c.self.inside in
     let kept = subst
-    (λ u. AreKept u inside.names.items inside.needs.items inside.rows.items inside.conflicts inside.breaks
-    inside.clashes.items inside.providers inside.empty inside.served) c.self.view_is c.self.invariant in
-    depends_within c.args.self.now inside.names.items inside.needs.items inside.rows.items kept.entries
+    (λ u. AreKept u inside.names.items inside.needs.items inside.rows.items inside.conflicts
+    inside.breaks
+    inside.clashes.items inside.providers inside.empty inside.served) c.self.view_is
+    c.self.invariant in
+    depends_within c.args.self.now inside.names.items inside.needs.items inside.rows.items
+    kept.entries
     c.args.variant c.requires.known c.index.result.now c.index.ensures
     c.variant-numbers.result.now c.variant-numbers.ensures c.args.number c.requires.there
 
@@ -38,13 +47,18 @@ pub index-requires-2 : goal.index-requires-2
 index-requires-2 c =
     let inside = c.self.inside in
     let kept = subst
-    (λ u. AreKept u inside.names.items inside.needs.items inside.rows.items inside.conflicts inside.breaks
-    inside.clashes.items inside.providers inside.empty inside.served) c.self.view_is c.self.invariant in
+    (λ u. AreKept u inside.names.items inside.needs.items inside.rows.items inside.conflicts
+    inside.breaks
+    inside.clashes.items inside.providers inside.empty inside.served) c.self.view_is
+    c.self.invariant in
     let e = entry_at (depends c.args.self.now c.args.variant) c.args.number in
-    let is = depends_number c.args.self.now inside.names.items inside.needs.items inside.rows.items kept.entries
+    let is = depends_number c.args.self.now inside.names.items inside.needs.items inside.rows.items
+    kept.entries
     c.args.variant c.requires.known c.index.result.now c.index.ensures
-    c.variant-numbers.result.now c.variant-numbers.ensures c.args.number c.depends.result c.requires.there c.depends.ensures in
-    let within = row_within c.args.self.now inside.names.items inside.needs.items inside.rows.items kept.entries
+    c.variant-numbers.result.now c.variant-numbers.ensures c.args.number c.depends.result
+    c.requires.there c.depends.ensures in
+    let within = row_within c.args.self.now inside.names.items inside.needs.items inside.rows.items
+    kept.entries
     e c.depends.result is in
     omega (arith, within, inside.rows.ok)
 
@@ -52,12 +66,16 @@ pub returns : goal.returns
 returns c =
     let inside = c.self.inside in
     let kept = subst
-    (λ u. AreKept u inside.names.items inside.needs.items inside.rows.items inside.conflicts inside.breaks
-    inside.clashes.items inside.providers inside.empty inside.served) c.self.view_is c.self.invariant in
+    (λ u. AreKept u inside.names.items inside.needs.items inside.rows.items inside.conflicts
+    inside.breaks
+    inside.clashes.items inside.providers inside.empty inside.served) c.self.view_is
+    c.self.invariant in
     let e = entry_at (depends c.args.self.now c.args.variant) c.args.number in
     row_at c.args.self.now inside.names.items inside.needs.items inside.rows.items kept.entries
     e c.depends.result c.index-2.result.now
-    (depends_number c.args.self.now inside.names.items inside.needs.items inside.rows.items kept.entries
+    (depends_number c.args.self.now inside.names.items inside.needs.items inside.rows.items
+    kept.entries
     c.args.variant c.requires.known c.index.result.now c.index.ensures
-    c.variant-numbers.result.now c.variant-numbers.ensures c.args.number c.depends.result c.requires.there c.depends.ensures)
+    c.variant-numbers.result.now c.variant-numbers.ensures c.args.number c.depends.result
+    c.requires.there c.depends.ensures)
     c.index-2.ensures

@@ -9,8 +9,10 @@ pub row_of_entry-requires : goal.row_of_entry-requires
 row_of_entry-requires c =
     let inside = c.self.inside in
     let kept = subst
-    (λ u. AreKept u inside.names.items inside.needs.items inside.rows.items inside.conflicts inside.breaks
-    inside.clashes.items inside.providers inside.empty inside.served) c.self.view_is c.self.invariant in
+    (λ u. AreKept u inside.names.items inside.needs.items inside.rows.items inside.conflicts
+    inside.breaks
+    inside.clashes.items inside.providers inside.empty inside.served) c.self.view_is
+    c.self.invariant in
     subst (λ u. IsProviding u inside.providers) c.requires kept.providers
 
 pub returns : goal.returns

@@ -11,5 +11,6 @@ returns c =
     let x = c.self.inside.breaks in
     let is = subst (λ u. IsExclusion u (λ binary. binary.breaks) x) c.self.view_is
     c.self.invariant.breaks in
-    reaches_is u (λ v w. declares u (λ binary. binary.breaks) w v) x.declaring is.declaring c.args.variant c.requires
+    reaches_is u (λ v w. declares u (λ binary. binary.breaks) w v) x.declaring is.declaring
+    c.args.variant c.requires
     c.args.words.now c.is_named.result c.is_named.ensures

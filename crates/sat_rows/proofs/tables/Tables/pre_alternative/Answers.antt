@@ -9,9 +9,12 @@ pub index-requires : goal.index-requires
 index-requires c =
     let inside = c.self.inside in
     let kept = subst
-    (λ u. AreKept u inside.names.items inside.needs.items inside.rows.items inside.conflicts inside.breaks
-    inside.clashes.items inside.providers inside.empty inside.served) c.self.view_is c.self.invariant in
-    let within = numbers_within c.args.self.now inside.names.items inside.needs.items inside.rows.items kept.entries
+    (λ u. AreKept u inside.names.items inside.needs.items inside.rows.items inside.conflicts
+    inside.breaks
+    inside.clashes.items inside.providers inside.empty inside.served) c.self.view_is
+    c.self.invariant in
+    let within = numbers_within c.args.self.now inside.names.items inside.needs.items
+    inside.rows.items kept.entries
     c.args.variant c.requires.known in
     omega (arith, within, inside.names.ok)
 
@@ -19,17 +22,22 @@ pub variant-numbers-requires : goal.variant-numbers-requires
 variant-numbers-requires c =
     let inside = c.self.inside in
     let kept = subst
-    (λ u. AreKept u inside.names.items inside.needs.items inside.rows.items inside.conflicts inside.breaks
-    inside.clashes.items inside.providers inside.empty inside.served) c.self.view_is c.self.invariant in
-    variant_within c.args.self.now inside.names.items inside.needs.items inside.rows.items kept.entries
+    (λ u. AreKept u inside.names.items inside.needs.items inside.rows.items inside.conflicts
+    inside.breaks
+    inside.clashes.items inside.providers inside.empty inside.served) c.self.view_is
+    c.self.invariant in
+    variant_within c.args.self.now inside.names.items inside.needs.items inside.rows.items
+    kept.entries
     c.args.variant c.requires.known c.index.result.now c.index.ensures
 
 pub pre_depends-requires : goal.pre_depends-requires
 pre_depends-requires c =
     let inside = c.self.inside in
     let kept = subst
-    (λ u. AreKept u inside.names.items inside.needs.items inside.rows.items inside.conflicts inside.breaks
-    inside.clashes.items inside.providers inside.empty inside.served) c.self.view_is c.self.invariant in
+    (λ u. AreKept u inside.names.items inside.needs.items inside.rows.items inside.conflicts
+    inside.breaks
+    inside.clashes.items inside.providers inside.empty inside.served) c.self.view_is
+    c.self.invariant in
     pre_within c.args.self.now inside.names.items inside.needs.items inside.rows.items kept.entries
     c.args.variant c.requires.known c.index.result.now c.index.ensures
     c.variant-numbers.result.now c.variant-numbers.ensures c.args.number c.requires.there
@@ -38,32 +46,44 @@ pub alternative-requires : goal.alternative-requires
 alternative-requires c =
     let inside = c.self.inside in
     let kept = subst
-    (λ u. AreKept u inside.names.items inside.needs.items inside.rows.items inside.conflicts inside.breaks
-    inside.clashes.items inside.providers inside.empty inside.served) c.self.view_is c.self.invariant in
+    (λ u. AreKept u inside.names.items inside.needs.items inside.rows.items inside.conflicts
+    inside.breaks
+    inside.clashes.items inside.providers inside.empty inside.served) c.self.view_is
+    c.self.invariant in
     let e = entry_at (pre_depends c.args.self.now c.args.variant) c.args.number in
-    let pre = pre_numbers c.args.self.now inside.names.items inside.needs.items inside.rows.items kept.entries
+    let pre = pre_numbers c.args.self.now inside.names.items inside.needs.items inside.rows.items
+    kept.entries
     c.args.variant c.requires.known c.index.result.now c.index.ensures
-    c.variant-numbers.result.now c.variant-numbers.ensures c.args.number c.pre_depends.result.now c.requires.there
+    c.variant-numbers.result.now c.variant-numbers.ensures c.args.number c.pre_depends.result.now
+    c.requires.there
     c.pre_depends.ensures in
-    alternative_within c.args.self.now inside.names.items inside.needs.items inside.rows.items kept.entries
+    alternative_within c.args.self.now inside.names.items inside.needs.items inside.rows.items
+    kept.entries
     e c.pre_depends.result.now c.args.alternative pre c.requires.among
 
 pub index-requires-2 : goal.index-requires-2
 index-requires-2 c =
     let inside = c.self.inside in
     let kept = subst
-    (λ u. AreKept u inside.names.items inside.needs.items inside.rows.items inside.conflicts inside.breaks
-    inside.clashes.items inside.providers inside.empty inside.served) c.self.view_is c.self.invariant in
+    (λ u. AreKept u inside.names.items inside.needs.items inside.rows.items inside.conflicts
+    inside.breaks
+    inside.clashes.items inside.providers inside.empty inside.served) c.self.view_is
+    c.self.invariant in
     let e = entry_at (pre_depends c.args.self.now c.args.variant) c.args.number in
-    let pre = pre_numbers c.args.self.now inside.names.items inside.needs.items inside.rows.items kept.entries
+    let pre = pre_numbers c.args.self.now inside.names.items inside.needs.items inside.rows.items
+    kept.entries
     c.args.variant c.requires.known c.index.result.now c.index.ensures
-    c.variant-numbers.result.now c.variant-numbers.ensures c.args.number c.pre_depends.result.now c.requires.there
+    c.variant-numbers.result.now c.variant-numbers.ensures c.args.number c.pre_depends.result.now
+    c.requires.there
     c.pre_depends.ensures in
     let there = read_at e c.args.alternative c.requires.among in
-    let is = alternative_number c.args.self.now inside.names.items inside.needs.items inside.rows.items kept.entries
-    e c.pre_depends.result.now c.args.alternative c.alternative.result there.0 pre c.alternative.ensures
+    let is = alternative_number c.args.self.now inside.names.items inside.needs.items
+    inside.rows.items kept.entries
+    e c.pre_depends.result.now c.args.alternative c.alternative.result there.0 pre
+    c.alternative.ensures
     there.1 in
-    let within = row_within c.args.self.now inside.names.items inside.needs.items inside.rows.items kept.entries
+    let within = row_within c.args.self.now inside.names.items inside.needs.items inside.rows.items
+    kept.entries
     (there.0 ∷ []) c.alternative.result is in
     omega (arith, within, inside.rows.ok)
 
@@ -71,16 +91,22 @@ pub returns : goal.returns
 returns c atom is =
     let inside = c.self.inside in
     let kept = subst
-    (λ u. AreKept u inside.names.items inside.needs.items inside.rows.items inside.conflicts inside.breaks
-    inside.clashes.items inside.providers inside.empty inside.served) c.self.view_is c.self.invariant in
+    (λ u. AreKept u inside.names.items inside.needs.items inside.rows.items inside.conflicts
+    inside.breaks
+    inside.clashes.items inside.providers inside.empty inside.served) c.self.view_is
+    c.self.invariant in
     let e = entry_at (pre_depends c.args.self.now c.args.variant) c.args.number in
-    let pre = pre_numbers c.args.self.now inside.names.items inside.needs.items inside.rows.items kept.entries
+    let pre = pre_numbers c.args.self.now inside.names.items inside.needs.items inside.rows.items
+    kept.entries
     c.args.variant c.requires.known c.index.result.now c.index.ensures
-    c.variant-numbers.result.now c.variant-numbers.ensures c.args.number c.pre_depends.result.now c.requires.there
+    c.variant-numbers.result.now c.variant-numbers.ensures c.args.number c.pre_depends.result.now
+    c.requires.there
     c.pre_depends.ensures in
     one_alternative c.args.self.now atom c.index-2.result.now
     (row_at c.args.self.now inside.names.items inside.needs.items inside.rows.items kept.entries
     (atom ∷ []) c.alternative.result c.index-2.result.now
-    (alternative_number c.args.self.now inside.names.items inside.needs.items inside.rows.items kept.entries
-    e c.pre_depends.result.now c.args.alternative c.alternative.result atom pre c.alternative.ensures is)
+    (alternative_number c.args.self.now inside.names.items inside.needs.items inside.rows.items
+    kept.entries
+    e c.pre_depends.result.now c.args.alternative c.alternative.result atom pre
+    c.alternative.ensures is)
     c.index-2.ensures)

@@ -10,9 +10,12 @@ pub index-requires : goal.index-requires
 index-requires c =
     let inside = c.self.inside in
     let kept = subst
-    (λ u. AreKept u inside.names.items inside.needs.items inside.rows.items inside.conflicts inside.breaks
-    inside.clashes.items inside.providers inside.empty inside.served) c.self.view_is c.self.invariant in
-    let within = numbers_within c.args.self.now inside.names.items inside.needs.items inside.rows.items kept.entries
+    (λ u. AreKept u inside.names.items inside.needs.items inside.rows.items inside.conflicts
+    inside.breaks
+    inside.clashes.items inside.providers inside.empty inside.served) c.self.view_is
+    c.self.invariant in
+    let within = numbers_within c.args.self.now inside.names.items inside.needs.items
+    inside.rows.items kept.entries
     c.args.variant c.requires.known in
     omega (arith, within, inside.names.ok)
 
@@ -20,17 +23,22 @@ pub variant-numbers-requires : goal.variant-numbers-requires
 variant-numbers-requires c =
     let inside = c.self.inside in
     let kept = subst
-    (λ u. AreKept u inside.names.items inside.needs.items inside.rows.items inside.conflicts inside.breaks
-    inside.clashes.items inside.providers inside.empty inside.served) c.self.view_is c.self.invariant in
-    variant_within c.args.self.now inside.names.items inside.needs.items inside.rows.items kept.entries
+    (λ u. AreKept u inside.names.items inside.needs.items inside.rows.items inside.conflicts
+    inside.breaks
+    inside.clashes.items inside.providers inside.empty inside.served) c.self.view_is
+    c.self.invariant in
+    variant_within c.args.self.now inside.names.items inside.needs.items inside.rows.items
+    kept.entries
     c.args.variant c.requires.known c.index.result.now c.index.ensures
 
 pub pre_depends-requires : goal.pre_depends-requires
 pre_depends-requires c =
     let inside = c.self.inside in
     let kept = subst
-    (λ u. AreKept u inside.names.items inside.needs.items inside.rows.items inside.conflicts inside.breaks
-    inside.clashes.items inside.providers inside.empty inside.served) c.self.view_is c.self.invariant in
+    (λ u. AreKept u inside.names.items inside.needs.items inside.rows.items inside.conflicts
+    inside.breaks
+    inside.clashes.items inside.providers inside.empty inside.served) c.self.view_is
+    c.self.invariant in
     pre_within c.args.self.now inside.names.items inside.needs.items inside.rows.items kept.entries
     c.args.variant c.requires.known c.index.result.now c.index.ensures
     c.variant-numbers.result.now c.variant-numbers.ensures c.args.number c.requires.there
@@ -39,14 +47,19 @@ pub index-requires-2 : goal.index-requires-2
 index-requires-2 c =
     let inside = c.self.inside in
     let kept = subst
-    (λ u. AreKept u inside.names.items inside.needs.items inside.rows.items inside.conflicts inside.breaks
-    inside.clashes.items inside.providers inside.empty inside.served) c.self.view_is c.self.invariant in
+    (λ u. AreKept u inside.names.items inside.needs.items inside.rows.items inside.conflicts
+    inside.breaks
+    inside.clashes.items inside.providers inside.empty inside.served) c.self.view_is
+    c.self.invariant in
     let e = entry_at (pre_depends c.args.self.now c.args.variant) c.args.number in
-    let pre = pre_numbers c.args.self.now inside.names.items inside.needs.items inside.rows.items kept.entries
+    let pre = pre_numbers c.args.self.now inside.names.items inside.needs.items inside.rows.items
+    kept.entries
     c.args.variant c.requires.known c.index.result.now c.index.ensures
-    c.variant-numbers.result.now c.variant-numbers.ensures c.args.number c.pre_depends.result.now c.requires.there
+    c.variant-numbers.result.now c.variant-numbers.ensures c.args.number c.pre_depends.result.now
+    c.requires.there
     c.pre_depends.ensures in
-    let within = row_within c.args.self.now inside.names.items inside.needs.items inside.rows.items kept.entries
+    let within = row_within c.args.self.now inside.names.items inside.needs.items inside.rows.items
+    kept.entries
     e c.entry.result (subst (IsNumberOf kept.entries.entries e) (sym c.entry.ensures) pre.entry) in
     omega (arith, within, inside.rows.ok)
 
@@ -54,12 +67,16 @@ pub returns : goal.returns
 returns c =
     let inside = c.self.inside in
     let kept = subst
-    (λ u. AreKept u inside.names.items inside.needs.items inside.rows.items inside.conflicts inside.breaks
-    inside.clashes.items inside.providers inside.empty inside.served) c.self.view_is c.self.invariant in
+    (λ u. AreKept u inside.names.items inside.needs.items inside.rows.items inside.conflicts
+    inside.breaks
+    inside.clashes.items inside.providers inside.empty inside.served) c.self.view_is
+    c.self.invariant in
     let e = entry_at (pre_depends c.args.self.now c.args.variant) c.args.number in
-    let pre = pre_numbers c.args.self.now inside.names.items inside.needs.items inside.rows.items kept.entries
+    let pre = pre_numbers c.args.self.now inside.names.items inside.needs.items inside.rows.items
+    kept.entries
     c.args.variant c.requires.known c.index.result.now c.index.ensures
-    c.variant-numbers.result.now c.variant-numbers.ensures c.args.number c.pre_depends.result.now c.requires.there
+    c.variant-numbers.result.now c.variant-numbers.ensures c.args.number c.pre_depends.result.now
+    c.requires.there
     c.pre_depends.ensures in
     row_at c.args.self.now inside.names.items inside.needs.items inside.rows.items kept.entries
     e c.entry.result c.index-2.result.now

@@ -35,7 +35,8 @@ returns-clause-fits c =
     let long = ap (λ (p : Plan). length p) same in
     let last = ap (λ (w : Past). w.last) c.past-past.ensures in
     record {
-      long = ap (λ (cs : List (List ℕ)). length cs) c.deref.ensures.value ∙ c.self.invariant.long ∙ long;
+      long = ap (λ (cs : List (List ℕ)). length cs) c.deref.ensures.value ∙ c.self.invariant.long
+          ∙ long;
       there = λ j lt.
           subst (λ (cs : List (List ℕ)). IsIn (length (column_of cs j)) c.past-past.result.last)
           (sym c.deref.ensures.value)
