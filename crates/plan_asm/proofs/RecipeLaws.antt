@@ -9,7 +9,7 @@ use Rattle.std.specs.Str.{bytes_eq}
 use Rattle.deb_text.proofs.ListLaws.{bytes-same}
 use Rattle.deb_text.specs.Groups.{place_in}
 use Rattle.deb_text.specs.Steps.{or_else}
-use Rattle.plan_asm.specs.RecipeNumbers.{AreFirsts}
+use Rattle.plan_asm.specs.RecipeNumbers.{AreFirstPlaces}
 
 -- a value, where a test holds
 abbrev where_so : {X : Type 0} → Bool → X → Option X
@@ -67,10 +67,10 @@ module _ (w : List ℕ) where
         rw (place-behind j (ks ++ k ∷ []) e, place-behind j ks e, later)
         (behind-one (place_in bytes_eq ks w) (bytes_eq w k) (length ks))
 
-module _ (names : List (List ℕ)) (es : List (Vec ℕ × ℕ)) (are : AreFirsts names es) where
+module _ (names : List (List ℕ)) (es : List (Vec ℕ × ℕ)) (are : AreFirstPlaces names es) where
   -- a name comes behind, with its place
   firsts-new : (key : Vec ℕ)
-      → AreFirsts (names ++ key.items ∷ []) (es ++ (key, length names) ∷ [])
+      → AreFirstPlaces (names ++ key.items ∷ []) (es ++ (key, length names) ∷ [])
   firsts-new key w =
       lookup-push (λ k. bytes_eq w k.items) es (key, length names)
       ∙ ap (λ o. or_else o (where_so (bytes_eq w key.items) (length names))) (are w)
@@ -78,11 +78,11 @@ module _ (names : List (List ℕ)) (es : List (Vec ℕ × ℕ)) (are : AreFirsts
 
   pub firsts-put : (fs : List (Vec ℕ × ℕ)) (key : Vec ℕ) (name : List ℕ) (n : ℕ)
       → key.items ≡ name → n ≡ length names → fs ≡ es ++ (key, n) ∷ []
-      → AreFirsts (names ++ name ∷ []) fs
+      → AreFirstPlaces (names ++ name ∷ []) fs
   firsts-put fs key name n same number put =
-      subst (λ zs. AreFirsts (names ++ name ∷ []) zs) (sym put)
-      (subst (λ m. AreFirsts (names ++ name ∷ []) (es ++ (key, m) ∷ [])) (sym number)
-      (subst (λ z. AreFirsts (names ++ z ∷ []) (es ++ (key, length names) ∷ [])) same
+      subst (λ zs. AreFirstPlaces (names ++ name ∷ []) zs) (sym put)
+      (subst (λ m. AreFirstPlaces (names ++ name ∷ []) (es ++ (key, m) ∷ [])) (sym number)
+      (subst (λ z. AreFirstPlaces (names ++ z ∷ []) (es ++ (key, length names) ∷ [])) same
       (firsts-new key)))
 
   some-there : (o : Option ℕ) → is_some o ≡ true → (i : ℕ) × (o ≡ Some i)
@@ -91,7 +91,7 @@ module _ (names : List (List ℕ)) (es : List (Vec ℕ × ℕ)) (are : AreFirsts
 
   -- a name that stands there already changes nothing
   pub firsts-old : (name : List ℕ) → is_some (lookup (λ k. bytes_eq name k.items) es) ≡ true
-      → AreFirsts (names ++ name ∷ []) es
+      → AreFirstPlaces (names ++ name ∷ []) es
   firsts-old name there w = are w ∙ by (bytes_eq w name) refl ∙ sym (place-push w names name) where
     by : (b : Bool) → bytes_eq w name ≡ b
         → place_in bytes_eq names w

@@ -6,7 +6,7 @@ ghost use Rattle.deb_text.specs.Steps.{traverse};
 ghost use Rattle.deb_text.specs.Words.{words};
 ghost use Rattle.farm_model.specs.Packages.{names};
 ghost use Rattle.plan_asm.specs.Drafts.{known_name, known_base, known_recipe, recipe_names, set_of, instruction_of};
-ghost use Rattle.plan_asm.specs.RecipeNumbers.{AreFirsts};
+ghost use Rattle.plan_asm.specs.RecipeNumbers.{AreFirstPlaces};
 ghost use Rattle.plan_model.specs.Sound.{has_double};
 ghost use Rattle.plan_asm.specs.Seen.{Marks};
 ghost use Rattle.plan_asm.specs.LineErrors.{refusal_of_line};
@@ -29,7 +29,7 @@ const FEW: usize = 64;
 pub struct Names<'a> {
     pub universe: &'a Universe,
     pub recipes: &'a IndexMap<Vec<u8>, u32>,
-    ghost listed: { AreFirsts (recipe_names universe.now) recipes.now.entries },
+    ghost listed: { AreFirstPlaces (recipe_names universe.now) recipes.now.entries },
 }
 
 /// The number of a package's name.

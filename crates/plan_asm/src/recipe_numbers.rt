@@ -2,7 +2,7 @@
 
 ghost use Rattle.std.specs.Prelude.{◌≡◌, ◌∷◌, ◌++◌, [], ℕ, List, length, IfOk, OnOk};
 ghost use Rattle.plan_asm.specs.Drafts.{recipe_names};
-ghost use Rattle.plan_asm.specs.RecipeNumbers.{AreFirsts};
+ghost use Rattle.plan_asm.specs.RecipeNumbers.{AreFirstPlaces};
 
 use farm_universe::Universe;
 use indexmap::IndexMap;
@@ -16,8 +16,8 @@ fn put_name(
     number: u32,
 ) -> Result<(), AllocError>
     ensures { OnOk result ((before : List (List ℕ)) → number ≡ length before
-        → AreFirsts before numbers.old.entries
-        → AreFirsts (before ++ name.now ∷ []) numbers.new.entries) }
+        → AreFirstPlaces before numbers.old.entries
+        → AreFirstPlaces (before ++ name.now ∷ []) numbers.new.entries) }
 {
     if numbers.contains_key(name) {
         return Ok(());
@@ -35,7 +35,7 @@ pub fn recipe_numbers(
     alloc: Global,
     universe: &Universe,
 ) -> Result<IndexMap<Vec<u8>, u32>, AllocError>
-    ensures { IfOk result (λ numbers. AreFirsts (recipe_names universe.now) numbers.entries) }
+    ensures { IfOk result (λ numbers. AreFirstPlaces (recipe_names universe.now) numbers.entries) }
 {
     let mut numbers = IndexMap::new(alloc);
     for recipe in 0..universe.recipes() {
