@@ -1,8 +1,10 @@
 -- A relation field as a whole (Debian Policy 7.1): entries between commas, alternatives between
 -- bars.
 --
---   relations_at kind text   the field that a text spells, or its first fault
-use Rattle.std.specs.Prelude.{ℕ, Bool, not, ◌&&◌, List, filter, Option, Some, Result, Ok, Err, if◌then◌else◌}
+--   relations_at kind text              the field that a text spells, or its first fault
+--   first_relations_at most kind text   the same, and of its entries no more than so many
+--   only_judged read                    whether it is read, or its fault
+use Rattle.std.specs.Prelude.{ℕ, Bool, not, ◌&&◌, List, take, filter, Option, Some, Result, Ok, Err, if◌then◌else◌}
 use Rattle.std.specs.List.{list_any, list_all, slice_split}
 use Rattle.deb_text.specs.Bytes.{is_byte, is_blank}
 use Rattle.deb_text.specs.Cuts.{behind, parts_left}
@@ -52,3 +54,11 @@ entries_left left = filter (λ text. not (is_empty_text text)) (parts_left (is_b
 -- every entry, or the first fault of the first entry that has one
 unfoldable pub relations_at : Kind → List ℕ → Result Relations ℕ
 relations_at kind text = traverse (entry_at kind) (entries_left (Some text))
+
+-- the whole field is judged, and its first entries are kept
+unfoldable pub first_relations_at : ℕ → Kind → List ℕ → Result Relations ℕ
+first_relations_at most kind text = relations_at kind text >>= λ entries. Ok (take most entries)
+
+-- that something is read, or its fault
+abbrev pub only_judged : {A F : Type 0} → Result A F → Result (Unit {0}) F
+only_judged read = read >>= λ _. Ok tt

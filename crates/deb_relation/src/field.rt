@@ -7,7 +7,7 @@ ghost use Rattle.deb_text.specs.Answers.{Gives};
 ghost use Rattle.deb_text.specs.Bytes.{is_byte};
 ghost use Rattle.deb_text.specs.Cuts.{length_left, parts_left};
 ghost use Rattle.deb_text.specs.Steps.{traverse};
-ghost use Rattle.deb_relation.specs.Field.{atom_at, is_empty_text, alternative_at, entry_at, entries_left, relations_at};
+ghost use Rattle.deb_relation.specs.Field.{atom_at, is_empty_text, alternative_at, entry_at, entries_left, relations_at, first_relations_at, only_judged};
 ghost use Rattle.deb_relation.specs.Marks.{bar};
 ghost use Rattle.deb_relation.specs.View.{refusal_of};
 
@@ -33,6 +33,41 @@ impl Relations {
     {
         Ok(Relations::from_entries(read_entries(alloc, kind, text)?))
     }
+
+    /// Reads a relation field of a kind as [`parse`](Relations::parse) does, and keeps no more
+    /// than the first `most` of its entries. What stands behind them is judged, and takes the
+    /// memory of one alternative.
+    ///
+    /// # Errors
+    ///
+    /// The first fault of [`Entry::parse`] from left to right, in each entry of the field. 900
+    /// where memory is refused. Nothing is left behind.
+    pub fn parse_first(
+        alloc: Global,
+        text: &[u8],
+        kind: Kind,
+        most: usize,
+    ) -> Result<Relations, RelationError>
+        ensures { Gives refusal_of (λ relations. relations) result
+            (first_relations_at most kind text.now) }
+    {
+        Ok(Relations::from_entries(read_first(alloc, kind, text, most)?))
+    }
+
+    /// Judges a relation field of a kind as [`parse`](Relations::parse) does, and keeps nothing:
+    /// a field that is judged well is read wherever memory is given. The call takes the memory of
+    /// one alternative.
+    ///
+    /// # Errors
+    ///
+    /// The first fault of [`Entry::parse`] from left to right. 900 where memory is refused.
+    /// Nothing is left behind.
+    #[tactic(auto, unfolding(crate::specs::Field::relations_at))]
+    pub fn judge(alloc: Global, text: &[u8], kind: Kind) -> Result<(), RelationError>
+        ensures { Gives refusal_of (λ _. tt) result (only_judged (relations_at kind text.now)) }
+    {
+        judge_entries(alloc, Some(text), kind)
+    }
 }
 
 impl Entry {
@@ -50,6 +85,22 @@ impl Entry {
             return Err(RelationError { code: ALTERNATIVES });
         }
         Ok(Entry::from_alternatives(read_alternatives(alloc, kind, text)?))
+    }
+
+    /// Judges one entry of a field of a kind as [`parse`](Entry::parse) does, and keeps nothing.
+    /// The call takes the memory of one alternative.
+    ///
+    /// # Errors
+    ///
+    /// Those of [`parse`](Entry::parse). Nothing is left behind.
+    #[tactic(auto, unfolding(crate::specs::Field::entry_at))]
+    pub fn judge(alloc: Global, text: &[u8], kind: Kind) -> Result<(), RelationError>
+        ensures { Gives refusal_of (λ _. tt) result (only_judged (entry_at kind text.now)) }
+    {
+        if !kind.has_alternatives() && cut_at_first(b'|', text).is_some() {
+            return Err(RelationError { code: ALTERNATIVES });
+        }
+        judge_alternatives(alloc, kind, text)
     }
 }
 
@@ -93,8 +144,50 @@ fn read_entries(alloc: Global, kind: Kind, text: &[u8]) -> Result<Vec<Entry>, Re
     Ok(entries)
 }
 
-/// The first entry that is not of blanks alone, and what is left behind it.
-fn next_entry(text: Option<&[u8]>) -> Option<(&[u8], Option<&[u8]>)>
+fn read_first(
+    alloc: Global,
+    kind: Kind,
+    text: &[u8],
+    most: usize,
+) -> Result<Vec<Entry>, RelationError>
+    ensures { Gives refusal_of (λ entries. entries.items) result
+        (first_relations_at most kind text.now) }
+{
+    let mut entries = Vec::new(alloc);
+    let mut left = Some(text);
+    while entries.len() < most {
+        let Some((entry, after)) = next_entry(left) else {
+            return Ok(entries);
+        };
+        entries.push(Entry::parse(alloc, entry, kind)?)?;
+        left = after;
+    }
+    judge_entries(alloc, left, kind)?;
+    Ok(entries)
+}
+
+/// Judges the entries of what is left of a relation field of a kind, and keeps nothing. The call
+/// takes the memory of one alternative.
+///
+/// # Errors
+///
+/// The first fault of [`Entry::parse`] from left to right. 900 where memory is refused. Nothing is
+/// left behind.
+pub fn judge_entries(alloc: Global, text: Option<&[u8]>, kind: Kind) -> Result<(), RelationError>
+    ensures { Gives refusal_of (λ _. tt) result (only_judged
+        (traverse (entry_at kind) (entries_left (option_map (λ rest. rest.now) text.entry)))) }
+{
+    let mut left = text;
+    while let Some((entry, after)) = next_entry(left) {
+        Entry::judge(alloc, entry, kind)?;
+        left = after;
+    }
+    Ok(())
+}
+
+/// Takes the first entry of what is left of a relation field that is not of blanks alone, and
+/// gives what is left behind it too. The call takes no memory.
+pub fn next_entry(text: Option<&[u8]>) -> Option<(&[u8], Option<&[u8]>)>
     ensures none { IfNone result (entries_left (option_map (λ rest. rest.now) text.entry) ≡ []) }
     ensures entry { IfSome result (λ cut. entries_left (option_map (λ rest. rest.now) text.entry)
         ≡ cut.0.now ∷ entries_left (option_map (λ rest. rest.now) cut.1)) }
@@ -125,6 +218,19 @@ fn read_alternatives(alloc: Global, kind: Kind, text: &[u8]) -> Result<Vec<Atom>
         left = after;
     }
     Ok(alternatives)
+}
+
+fn judge_alternatives(alloc: Global, kind: Kind, text: &[u8]) -> Result<(), RelationError>
+    ensures { Gives refusal_of (λ _. tt) result (only_judged
+        (traverse (alternative_at kind) (slice_split (is_byte bar) text.now))) }
+{
+    let mut left = Some(text);
+    while let Some(rest) = left {
+        let (alternative, after) = next_part(b'|', rest);
+        Atom::parse(alloc, alternative, kind)?;
+        left = after;
+    }
+    Ok(())
 }
 
 #[tactic(auto, unfolding(crate::specs::Field::atom_at))]

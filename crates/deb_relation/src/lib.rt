@@ -20,6 +20,7 @@ pub use error::{
     ALTERNATIVES, BAD_ARCHITECTURES, BAD_NAME, BAD_OPERATOR, BAD_PROFILES, BAD_VERSION, BAD_WORD,
     NO_ALTERNATIVE, NOT_CLOSED, NOT_EQUAL, RESTRICTION, RelationError,
 };
+pub use field::{judge_entries, next_entry};
 pub use kind::Kind;
 pub use operator::Op;
 pub use relations::{Entry, Relations};

@@ -1,0 +1,18 @@
+use Rattle.std.proofs.Common.{◌≡◌}
+use Rattle.std.specs.List.{slice_split}
+use Rattle.std.specs.Option.{option_map}
+use Rattle.deb_text.specs.Bytes.{is_byte}
+use Rattle.deb_text.specs.Cuts.{length_left, parts_left}
+use Rattle.deb_text.specs.Steps.{traverse}
+use Rattle.deb_relation.specs.Field.{alternative_at, only_judged}
+use Rattle.deb_relation.specs.Marks.{bar}
+use Rattle.deb_relation.proofs.field.judge_alternatives.Given as goal
+
+abbrev pub invariant-loop-left : goal.invariant-loop-left
+invariant-loop-left l =
+    let left = parts_left (is_byte bar) (option_map (λ rest. rest.now) l.left) in
+    only_judged (traverse (alternative_at l.kind) left)
+    ≡ only_judged (traverse (alternative_at l.kind) (slice_split (is_byte bar) l.text))
+
+abbrev pub decreases-loop-left : goal.decreases-loop-left
+decreases-loop-left l = length_left (option_map (λ rest. rest.now) l.left)
