@@ -88,10 +88,11 @@ module _ (u : Universe) where
 
   new-by : (last : Option Variant) (v : Variant) → comes_behind u last v ≡ true
       → initial u v ≡ false
-  new-by last v fine = by (initial u v) (and_parts (is_behind last v) (not (initial u v)) fine).1 where
-    by : (b : Bool) → not b ≡ true → b ≡ false
-    by true is = sym is
-    by false is = refl
+  new-by last v fine = by (initial u v) (and_parts (is_behind last v) (not (initial u v)) fine).1
+    where
+      by : (b : Bool) → not b ≡ true → b ≡ false
+      by true is = sym is
+      by false is = refl
 
   variants-new : (items : Relations) (last : Option Variant)
       → IfSome (variants_behind u last items) (All (IsNew u))
@@ -264,13 +265,15 @@ module _ (u : Universe) where
       (traverse-has (order_at p) (λ l. l < length p) (order-within p) _)
       (λ order within. is-certificate p rows order are within))
 
-  in-is : (p : Plan) (end : ℕ) (ls : List Line) → IfOk (certificate_in u p end ls) (IsCertificate u p)
+  in-is : (p : Plan) (end : ℕ) (ls : List Line)
+      → IfOk (certificate_in u p end ls) (IsCertificate u p)
   in-is p end [] = tt
   in-is p end ((number, line) ∷ ls) =
       if-has (IsCertificate u p) (is_head (codes "cert") line) _ _ (λ _. rest-is p end ls) (λ _. tt)
 
   -- what a text stands for
-  pub certificate-is : (p : Plan) (text : List ℕ) → IfOk (certificate_of u p text) (IsCertificate u p)
+  pub certificate-is : (p : Plan) (text : List ℕ)
+      → IfOk (certificate_of u p text) (IsCertificate u p)
   unfolding certificate_of
   certificate-is p text =
       then-has (λ _. Unit {0}) (IsCertificate u p) (in_text (plain_lines_at text)) _

@@ -4,3 +4,4 @@ pub mod PlaceLists
 pub mod RowLists
 pub mod RowsSoFar
 pub mod Searches
+pub mod ItemLaws

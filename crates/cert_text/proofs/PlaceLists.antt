@@ -1,13 +1,11 @@
 -- The places of rows, and lists that go side by side.
-use Rattle.std.proofs.Common.{◌≡◌, ℕ, ◌+◌, ◌<◌, ◌≤◌, List, [], ◌∷◌, ◌++◌, filter, length, get_or, drop, cond, refl, sym, ap, ◌∙◌, arith, append_assoc}
+use Rattle.std.proofs.Common.{◌≡◌, ℕ, ◌+◌, ◌<◌, ◌≤◌, List, [], ◌∷◌, ◌++◌, filter, length, get_or, drop, cond, refl, sym, ap, ◌∙◌, append_assoc}
 use Rattle.std.specs.Prelude.{count_by}
 use Rattle.std.specs.List.{enumerate_from, flat_map, zip}
-use Rattle.std.proofs.lemmas.List.{append-nil, length-map, at_drop_more, drop_all, get_or_default}
+use Rattle.std.proofs.lemmas.List.{append-nil, length-map, at_drop_more, drop_all}
 use Rattle.std.proofs.lemmas.List.Sums.{length-filter, sum_by-cons}
-use Rattle.plan_asm.proofs.Counts.{lane-short}
-use Rattle.plan_asm.specs.Ends.{IsWithinLimits}
 use Rattle.plan_model.specs.declared.instructions.Instruction.{Instruction}
-use Rattle.plan_model.specs.Plan.{Lane, Plan, lane, no_lane}
+use Rattle.plan_model.specs.Plan.{Lane}
 use Rattle.cert_text.specs.Certificates.{learns, row_places, count_rows}
 
 count-numbered : (n : ℕ) (xs : List Instruction)
@@ -25,13 +23,6 @@ length-places of =
     (λ x. x.0)
     ∙ length-filter (λ (x : ℕ × Instruction). learns x.1) (enumerate_from 1 of.instructions)
     ∙ count-numbered 1 of.instructions
-
--- a lane has no more instructions than its plan may have
-pub lane-few : (p : Plan) (l : ℕ) → l < length p → IsWithinLimits p
-    → length (lane p l).instructions ≤ 65536
-lane-few p l lt limits =
-    let short = lane-short p l (lane p l) lt (get_or_default p l no_lane (lane p l) lt) in
-    omega (arith, short, limits.instructions)
 
 -- ---- two lists side by side
 

@@ -42,7 +42,7 @@ pub in_row-none : (row : List ℕ) (n count : ℕ) → IsWordOf (variants_of row
 in_row-none row n count is =
     none-in row (range_with_len 0 count) n (λ b. is b ∙ word_has_zero b)
 
-range-more : (n a j : ℕ) → a + n ≡ j → range_with_len a (suc n) ≡ range_with_len a n ++ j ∷ []
+pub range-more : (n a j : ℕ) → a + n ≡ j → range_with_len a (suc n) ≡ range_with_len a n ++ j ∷ []
 range-more zero a j e = ap (λ k. k ∷ []) (sym (add-zero a) ∙ e)
 range-more (suc n) a j e = ap (λ ks. a ∷ ks) (range-more n (a + 1) j (omega (arith, e)))
 

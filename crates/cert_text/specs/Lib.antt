@@ -4,3 +4,4 @@ pub mod CertText
 pub mod Faults
 pub mod Printed
 pub mod Rows
+pub mod Items

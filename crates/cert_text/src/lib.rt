@@ -9,6 +9,7 @@ mod list;
 mod places;
 mod printer;
 mod reader;
+mod spelled;
 
 pub use certificate::Certificate;
 pub use farm_model::Trap;

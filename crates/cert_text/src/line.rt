@@ -6,9 +6,9 @@ ghost use Rattle.deb_text.specs.Groups.{place_in};
 ghost use Rattle.std.specs.Str.{bytes_eq};
 
 use crate::list::read_row;
+use crate::spelled::Spelled;
 use bit_rows::Row;
 use deb_text::{Class, cut_at_first, next_word, read_number, skip_front, split_front};
-use farm_universe::Universe;
 use plan_asm::Plan;
 use std::alloc::{AllocError, Global};
 
@@ -16,11 +16,11 @@ use std::alloc::{AllocError, Global};
 #[tactic(auto, unfolding(crate::specs::CertLines::numbered_row))]
 fn read_numbered(
     alloc: Global,
-    universe: &Universe,
+    spelled: Spelled<'_>,
     number: u32,
     text: &[u8],
 ) -> Result<Option<Row>, AllocError>
-    ensures { IfOk result (λ row. row ≡ numbered_row universe.now number text.now) }
+    ensures { IfOk result (λ row. row ≡ numbered_row spelled.entry.universe.now number text.now) }
 {
     let Some((digits, list)) = cut_at_first(b':', text) else {
         return Ok(None);
@@ -30,7 +30,7 @@ fn read_numbered(
             if n != u64::from(number) {
                 return Ok(None);
             }
-            read_row(alloc, universe, list)
+            read_row(alloc, spelled, list)
         }
         None => Ok(None),
     }
@@ -40,19 +40,20 @@ fn read_numbered(
 #[tactic(auto, unfolding(crate::specs::CertLines::known_row))]
 pub fn read_known(
     alloc: Global,
-    universe: &Universe,
+    spelled: Spelled<'_>,
     name: &[u8],
     number: u32,
     line: &[u8],
 ) -> Result<Option<Row>, AllocError>
-    ensures { IfOk result (λ row. row ≡ known_row universe.now name.now number line.now) }
+    ensures { IfOk result
+        (λ row. row ≡ known_row spelled.entry.universe.now name.now number line.now) }
 {
     let (word, rest) = split_front(Class::Solid, skip_front(Class::Blank, line));
     let (lane, rest) = split_front(Class::Solid, skip_front(Class::Blank, rest));
     if word != b"known".as_slice() || lane != name {
         return Ok(None);
     }
-    read_numbered(alloc, universe, number, skip_front(Class::Blank, rest))
+    read_numbered(alloc, spelled, number, skip_front(Class::Blank, rest))
 }
 
 /// The number of the lane of a name.

@@ -7,9 +7,9 @@ ghost use Rattle.farm_model.specs.Packages.{names, initial};
 ghost use Rattle.farm_universe.specs.Kept.{IsKept};
 ghost use Rattle.farm_universe.specs.ListText.{words_of};
 
+use crate::spelled::{Spelled, variant_said};
 use bit_rows::Row;
-use deb_relation::{Entry, Kind, Relations};
-use deb_text::MEMORY;
+use deb_relation::{Entry, next_entry};
 use deb_version::Version;
 use farm_model::Variant;
 use farm_universe::Universe;
@@ -33,7 +33,7 @@ fn find_variant(universe: &Universe, name: &[u8], version: &Version) -> Option<V
 
 /// The variant of an item `NAME (= VERSION)`.
 #[tactic(auto, unfolding(crate::specs::Rows::item_variant))]
-fn item_variant(universe: &Universe, item: &Entry) -> Option<Variant>
+pub fn item_variant(universe: &Universe, item: &Entry) -> Option<Variant>
     ensures found { result ≡ item_variant universe.now item.now }
     ensures known { IfSome result (IsIn universe.now) }
 {
@@ -62,16 +62,17 @@ fn is_initial(universe: &Universe, variant: Variant) -> bool
     universe.initial(variant.name) >> variant.bit & 1 == 1
 }
 
-/// The row of the variants of these items, where each comes behind the one before it and none is in
-/// the initial archive.
-fn row_of(alloc: Global, universe: &Universe, items: &[Entry]) -> Result<Option<Row>, AllocError>
-    ensures { IfOk result (λ row. row
-        ≡ option_map (words_of (names universe.now)) (variants_behind universe.now None items.now)) }
+/// The row that a list of variants says, if it says one: each item comes behind the one before it,
+/// and none is in the initial archive.
+pub fn read_row(alloc: Global, spelled: Spelled<'_>, text: &[u8]) -> Result<Option<Row>, AllocError>
+    ensures { IfOk result (λ row. row ≡ row_at spelled.entry.universe.now text.now) }
 {
+    let universe = spelled.universe;
     let mut row = Row::new(alloc, universe.names() as usize)?;
     let mut last = None;
-    for item in items {
-        let Some(variant) = item_variant(universe, item) else {
+    let mut left = Some(text);
+    while let Some((item, after)) = next_entry(left) {
+        let Some(variant) = variant_said(alloc, spelled, item)? else {
             return Ok(None);
         };
         if !is_behind(last, variant) || is_initial(universe, variant) {
@@ -79,22 +80,7 @@ fn row_of(alloc: Global, universe: &Universe, items: &[Entry]) -> Result<Option<
         }
         row.set_bit(variant.name as usize, variant.bit)?;
         last = Some(variant);
+        left = after;
     }
     Ok(Some(row))
-}
-
-/// The row that a list of variants says, if it says one.
-#[tactic(auto, unfolding(crate::specs::Rows::row_at))]
-pub fn read_row(alloc: Global, universe: &Universe, text: &[u8]) -> Result<Option<Row>, AllocError>
-    ensures { IfOk result (λ row. row ≡ row_at universe.now text.now) }
-{
-    match Relations::parse(alloc, text, Kind::Provide) {
-        Ok(items) => row_of(alloc, universe, items.entries()),
-        Err(error) => {
-            if error.code == MEMORY {
-                return Err(AllocError);
-            }
-            Ok(None)
-        }
-    }
 }

@@ -18,6 +18,7 @@ use crate::certificate::Certificate;
 use crate::fault::CertFault;
 use crate::line::{read_known, read_order};
 use crate::places::row_places;
+use crate::spelled::{Spelled, spelled_variants};
 use bit_rows::Row;
 use deb_stanza::{Lines, plain_lines};
 use deb_text::{Fault, is_head, next_line};
@@ -28,7 +29,7 @@ use std::alloc::Global;
 /// The lines of a text that is read over a universe, and the number of the line past the last one.
 #[derive(Clone, Copy)]
 struct Source<'a, 't> {
-    universe: &'a Universe,
+    spelled: Spelled<'a>,
     lines: &'a Lines<'t>,
     end: u32,
 }
@@ -42,14 +43,14 @@ fn read_first(
     at: usize,
 ) -> Result<Row, CertFault>
     requires { at ≤ length source.lines.now }
-    ensures row { Gives refusal_of (λ row. row) result (first_row source.entry.universe.now
+    ensures row { Gives refusal_of (λ row. row) result (first_row source.entry.spelled.universe.now
         source.entry.end name.now number (drop at source.entry.lines.now)) }
     ensures there { OnOk result (at < length source.entry.lines.now) }
 {
     if at == source.lines.count() {
         return Err(CertFault::Text { line: source.end });
     }
-    match read_known(alloc, source.universe, name, number, source.lines.line(at))? {
+    match read_known(alloc, source.spelled, name, number, source.lines.line(at))? {
         Some(row) => Ok(row),
         None => Err(CertFault::Text {
             line: source.lines.number(at),
@@ -67,7 +68,8 @@ fn read_rows(
 ) -> Result<Vec<Row>, CertFault>
     requires start { start ≤ length source.lines.now }
     requires fits { length source.lines.now < 2 ^ 64 }
-    ensures rows { Gives refusal_of (λ rows. rows.items) result (rows_in source.entry.universe.now
+    ensures rows { Gives refusal_of (λ rows. rows.items) result
+        (rows_in source.entry.spelled.universe.now
         source.entry.end name.now numbers.now (drop start source.entry.lines.now)) }
     ensures count { IfOk result (λ rows. length rows.items ≡ length numbers.now) }
     ensures there { OnOk result (start + length numbers.now ≤ length source.entry.lines.now) }
@@ -88,7 +90,8 @@ fn read_lane(
     requires few { length lane.now.instructions ≤ 65536 }
     requires start { start ≤ length source.lines.now }
     requires fits { length source.lines.now < 2 ^ 64 }
-    ensures rows { Gives refusal_of (λ rows. rows.items) result (rows_in source.entry.universe.now
+    ensures rows { Gives refusal_of (λ rows. rows.items) result
+        (rows_in source.entry.spelled.universe.now
         source.entry.end lane.now.name (row_places lane.now) (drop start source.entry.lines.now)) }
     ensures count { IfOk result (λ rows. length rows.items ≡ count_rows lane.now) }
     ensures there { OnOk result (start + count_rows lane.now ≤ length source.entry.lines.now) }
@@ -106,7 +109,8 @@ fn read_lanes(
     requires some { 0 < length source.lines.now }
     requires fits { length source.lines.now < 2 ^ 64 }
     ensures rows { Gives refusal_of (λ read. lists read.0.items) result (lanes_in
-        source.entry.universe.now source.entry.end plan.now.lanes (drop 1 source.entry.lines.now)) }
+        source.entry.spelled.universe.now source.entry.end plan.now.lanes
+        (drop 1 source.entry.lines.now)) }
     ensures behind { IfOk result (λ read. read.1 ≡ 1 + sum_by count_rows plan.now.lanes) }
 {
     let mut rows = Vec::new(alloc);
@@ -152,7 +156,8 @@ fn read_rest(alloc: Global, source: Source<'_, '_>, plan: &Plan) -> Result<Certi
     requires some { 0 < length source.lines.now }
     requires fits { length source.lines.now < 2 ^ 64 }
     ensures { Gives refusal_of (λ certificate. certificate) result (rest_in
-        source.entry.universe.now plan.now.lanes source.entry.end (drop 1 source.entry.lines.now)) }
+        source.entry.spelled.universe.now plan.now.lanes source.entry.end
+        (drop 1 source.entry.lines.now)) }
 {
     let (rows, behind) = read_lanes(alloc, source, plan)?;
     let order = read_items(alloc, plan, source.lines, behind)?;
@@ -165,7 +170,7 @@ fn read_certificate(
     plan: &Plan,
 ) -> Result<Certificate, CertFault>
     ensures { Gives refusal_of (λ certificate. certificate) result (certificate_in
-        source.entry.universe.now plan.now.lanes source.entry.end source.entry.lines.now) }
+        source.entry.spelled.universe.now plan.now.lanes source.entry.end source.entry.lines.now) }
 {
     let lines = source.lines;
     if lines.count() == 0 {
@@ -224,8 +229,13 @@ fn read_text(
         (certificate_of universe.now plan.now.lanes text.now) }
 {
     let lines = read_lines(alloc, text)?;
-    let source = Source {
+    let variants = spelled_variants(alloc, universe)?;
+    let spelled = Spelled {
         universe,
+        variants: &variants,
+    };
+    let source = Source {
+        spelled,
         lines: &lines,
         end: end_of(text),
     };
@@ -236,8 +246,8 @@ fn read_text(
 ///
 /// Below a first line `cert 1` stand, for each lane and each of its waits, publishes and `when`s in
 /// order, `known LANE NUMBER: NAME (= VERSION), ..` by name number and version, without the initial
-/// archive, and then items `order LANE`. NUMBER is the instruction's, its colon stands at once after
-/// it, and the list is written as a Provides field is. Blank lines and comments mean nothing.
+/// archive, and then items `order LANE`. NUMBER is the instruction's, its colon stands at once
+/// after it, and the list is written as a Provides field is. Blank lines and comments mean nothing.
 ///
 /// # Errors
 ///

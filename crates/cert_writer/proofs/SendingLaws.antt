@@ -1,9 +1,11 @@
 -- Texts that are sent on, one behind the other.
-use Rattle.std.proofs.Common.{◌≡◌, ℕ, zero, suc, ◌+◌, ◌-◌, ◌<◌, false, List, [], ◌∷◌, ◌++◌, length, take, drop, get_or, refl, sym, ap, ◌∙◌, subst, arith, add-one, add-zero, zero-add, suc-add, append_assoc, length-append, Result, Ok, Err}
+use Rattle.std.proofs.Common.{◌≡◌, ℕ, ◌+◌, ◌-◌, ◌<◌, false, List, [], ◌∷◌, ◌++◌, length, take, drop, get_or, refl, sym, ap, ◌∙◌, subst, arith, add-one, append_assoc, length-append, Result, Ok, Err}
 use Rattle.std.specs.List.{flat_map, range_with_len}
 use Rattle.std.proofs.lemmas.List.{append-nil, take_more, take-append-drop}
 use Rattle.std.proofs.lemmas.List.Concat.{flat_map-append}
 use Rattle.report_sink.specs.Sinks.{SinkState, IsWritten}
+use Rattle.report_sink.proofs.ItemLaws.{range_split}
+use Rattle.cert_text.proofs.RowLists.{range-more}
 use Rattle.report_sink.proofs.WriteLaws.{written_twice, cut_short, nothing_written}
 use Rattle.cert_writer.specs.declared.pending.Pending.{Pending}
 use Rattle.cert_writer.specs.declared.stop.CertStop.{CertStop}
@@ -15,18 +17,6 @@ use Rattle.cert_writer.specs.Sending.{IsSent, IsOutOfMemory, IsStopped, IsSentOn
 count-twice : (a b c : ℕ) (xs ys : List ℕ) → capped b ≡ capped (a + length xs)
     → capped c ≡ capped (b + length ys) → capped c ≡ capped (a + length (xs ++ ys))
 count-twice a b c xs ys one two = omega (arith, length-append xs ys)
-
--- m numbers, and then k more
-range_split : (a m k : ℕ)
-    → range_with_len a (m + k) ≡ range_with_len a m ++ range_with_len (a + m) k
-range_split a zero k = rw (zero-add, add-zero) refl
-range_split a (suc m) k =
-    let next : a + 1 + m ≡ a + suc m = omega arith in
-    rw suc-add (ap (λ xs. a ∷ xs) (rw next at (range_split (a + 1) m k)))
-
-range_more : (n a j : ℕ) → a + n ≡ j → range_with_len a (suc n) ≡ range_with_len a n ++ j ∷ []
-range_more zero a j e = ap (λ k. k ∷ []) (sym (add-zero a) ∙ e)
-range_more (suc n) a j e = ap (λ ks. a ∷ ks) (range_more n (a + 1) j (omega (arith, e)))
 
 -- ---- nothing more
 
@@ -124,7 +114,7 @@ module _ (f : ℕ → List ℕ) (i : ℕ) where
   numbers_next : flat_map f (range_with_len 0 (i + 1)) ≡ flat_map f (range_with_len 0 i) ++ f i
   numbers_next =
       ap (λ k. flat_map f (range_with_len 0 k)) (add-one i)
-      ∙ ap (flat_map f) (range_more i 0 i (omega arith))
+      ∙ ap (flat_map f) (range-more i 0 i (omega arith))
       ∙ flat_map-append f (range_with_len 0 i) (i ∷ [])
       ∙ ap (λ t. flat_map f (range_with_len 0 i) ++ t) (append-nil (f i))
 

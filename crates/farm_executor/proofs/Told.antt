@@ -1,5 +1,5 @@
 -- What is told of a run, from what was played.
-use Rattle.std.proofs.Common.{ℕ, List, Result, Ok, Err, IfOk, IfErr, sym, subst}
+use Rattle.std.proofs.Common.{ℕ, List, Result, Ok, Err, IfErr, sym, subst}
 use Rattle.chroot_state.specs.Held.{Held}
 use Rattle.farm_archive.specs.declared.publication.Publication.{Publication}
 use Rattle.lane_runner.specs.declared.run.LaneStop.{LaneStop}

@@ -1,7 +1,6 @@
 -- What is told of a name that is missing, by a word.
-use Rattle.std.proofs.Common.{◌≡◌, ℕ, zero, suc, ◌<◌, Bool, List, [], ◌++◌, refl, sym, ap, ◌∙◌, arith, if◌then◌else◌}
+use Rattle.std.proofs.Common.{◌≡◌, ℕ, zero, suc, ◌<◌, Bool, List, [], ◌++◌, refl, ap, arith, if◌then◌else◌}
 use Rattle.clause_kernel.specs.Rows.{word_has}
-use Rattle.farm_model.specs.Below.{some_below}
 use Rattle.farm_model.specs.declared.types.Variant.{Variant}
 use Rattle.farm_model.specs.Packages.{variant, variants}
 use Rattle.farm_model.specs.Universe.{Universe}

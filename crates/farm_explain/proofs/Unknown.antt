@@ -1,5 +1,5 @@
 -- What is no variant, and no recipe, says nothing.
-use Rattle.std.proofs.Common.{◌≡◌, ◌⊎◌, inl, inr, ◌≤◌, ℕ, true, false, nat_lt, List, [], None, length, slice_get, slice_index_or, refl, ap, ◌∙◌, arith}
+use Rattle.std.proofs.Common.{◌≡◌, ◌⊎◌, inl, inr, ◌≤◌, ℕ, true, false, nat_lt, List, [], length, slice_index_or, refl, ap, arith}
 use Rattle.std.proofs.lemmas.Bool.{cases_Bool, ltb-false}
 use Rattle.std.proofs.lemmas.List.{get_or_past}
 use Rattle.farm_model.specs.declared.types.Variant.{Variant}

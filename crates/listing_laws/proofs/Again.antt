@@ -1,12 +1,12 @@
 -- A plan that can be listed is the plan of its listing.
 use Rattle.std.proofs.Common.{◌≡◌, ℕ, ◌+◌, ◌≤◌, Bool, true, false, not, List, [], ◌∷◌, ◌++◌, length, length-append, append_assoc, refl, sym, ap, subst, ◌∙◌, arith, Result, Ok, All, if◌then◌else◌}
-use Rattle.std.proofs.lemmas.Bool.{or_parts, lt-leb, le-ltb, false≢true}
+use Rattle.std.proofs.lemmas.Bool.{lt-leb, le-ltb, false≢true}
 use Rattle.std.proofs.lemmas.List.{append-nil}
 use Rattle.std.proofs.lemmas.List.Concat.{flat_map-append}
 use Rattle.std.proofs.lemmas.List.Elements.{All-head, All-tail}
 use Rattle.std.specs.Fmt.{decimal}
-use Rattle.std.specs.List.{list_all, list_any, flat_map}
-use Rattle.std.specs.Prelude.{codes, ◌==◌}
+use Rattle.std.specs.List.{list_all, flat_map}
+use Rattle.std.specs.Prelude.{codes}
 use Rattle.deb_stanza.specs.declared.error.TheConstants.{MOST_BYTES}
 use Rattle.deb_text.proofs.AgainLaws.{is_inner, number-again, number-run, value-again, plain-again, spaced-again, spaced-line}
 use Rattle.deb_text.proofs.CarriedLaws.{has-ok}
@@ -15,7 +15,6 @@ use Rattle.deb_text.specs.declared.fault.Fault.{Fault}
 use Rattle.deb_text.specs.Lines.{Line, is_skipped, plain_lines}
 use Rattle.deb_text.specs.Steps.{steps}
 use Rattle.deb_text.specs.Words.{words, is_head, is_run, spaced}
-use Rattle.farm_model.specs.Chroot.{member}
 use Rattle.farm_model.specs.Packages.{base}
 use Rattle.farm_model.specs.Universe.{Universe}
 use Rattle.plan_asm.specs.declared.error.TheConstants.{MOST_LANES, MOST_INSTRUCTIONS}

@@ -1,13 +1,14 @@
 -- The count of a plan, as a sum over its lanes.
 use Rattle.std.proofs.Common.{◌≡◌, ℕ, zero, suc, ◌+◌, ◌-◌, List, [], ◌∷◌, length, ◌<◌, ◌≤◌, drop, get_or, length-append, refl, sym, ap, ◌∙◌, arith}
 use Rattle.std.specs.List.{sum_by}
-use Rattle.std.proofs.lemmas.List.{at_drop_more, drop_all}
+use Rattle.std.proofs.lemmas.List.{at_drop_more, drop_all, get_or_default}
 use Rattle.std.proofs.lemmas.List.Sums.{sum_by-cons}
 use Rattle.farm_model.specs.Below.{sum_below}
 use Rattle.farm_model.specs.Universe.{Universe}
 use Rattle.plan_asm.specs.Drafts.{instructions_of}
+use Rattle.plan_asm.specs.Ends.{IsWithinLimits}
 use Rattle.plan_model.specs.declared.instructions.Instruction.{Instruction}
-use Rattle.plan_model.specs.Plan.{Lane, Plan, lane, Ways, ways_ahead, ways, count}
+use Rattle.plan_model.specs.Plan.{Lane, Plan, lane, no_lane, Ways, ways_ahead, ways, count}
 
 -- a sum from its first number on
 pub sum_below-first : (n : ℕ) (f : ℕ → ℕ) → sum_below (suc n) f ≡ f 0 + sum_below n (λ k. f (suc k))
@@ -66,3 +67,10 @@ ways-goes u xs n x next w some le is so_far goes =
     goes ∙ ap (ways_ahead u x) (so_far ∙ ap (λ k. ways u (drop k xs)) (sym same))
     ∙ ap (λ y. ways_ahead u y (ways u (drop (n - 1 + 1) xs))) is
     ∙ sym (at_drop_more (ways u) xs (n - 1) x lt)
+
+-- a lane has no more instructions than its plan may have
+pub lane-few : (p : Plan) (l : ℕ) → l < length p → IsWithinLimits p
+    → length (lane p l).instructions ≤ 65536
+lane-few p l lt limits =
+    let short = lane-short p l (lane p l) lt (get_or_default p l no_lane (lane p l) lt) in
+    omega (arith, short, limits.instructions)

@@ -12,11 +12,11 @@ use Rattle.deb_text.specs.Steps.{or_else}
 use Rattle.plan_asm.specs.RecipeNumbers.{AreFirstPlaces}
 
 -- a value, where a test holds
-abbrev where_so : {X : Type 0} → Bool → X → Option X
+abbrev pub where_so : {X : Type 0} → Bool → X → Option X
 where_so b x = cond b (Some x) None
 
 module _ {K X : Type 0} (test : K → Bool) where
-  lookup-push : (es : List (K × X)) (e : K × X)
+  pub lookup-push : (es : List (K × X)) (e : K × X)
       → lookup test (es ++ e ∷ []) ≡ or_else (lookup test es) (where_so (test e.0) e.1)
   lookup-push [] e = refl
   lookup-push (d ∷ es) e = by (test d.0) (lookup-push es e) where

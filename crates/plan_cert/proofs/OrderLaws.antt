@@ -1,11 +1,11 @@
 -- Orders of waits and outputs: their lanes are the plan's, and a list that breaks off is none.
-use Rattle.std.proofs.Common.{◌≡◌, ℕ, zero, suc, ◌<◌, ◌≤◌, List, [], ◌∷◌, length, take, Some, None, All, slice_index, inl, inr, sym, ap, subst, ◌∙◌, arith, length-set}
+use Rattle.std.proofs.Common.{◌≡◌, ℕ, zero, suc, ◌<◌, ◌≤◌, List, [], ◌∷◌, length, take, Some, None, All, slice_index, inl, inr, sym, ap, subst, ◌∙◌, arith}
 use Rattle.std.proofs.lemmas.Bool.{cases_lt}
 use Rattle.std.proofs.lemmas.List.{get_or_past, length-map, take-take, get_or-take, length-take-le}
 use Rattle.std.proofs.lemmas.List.Elements.{All-nil, All-cons}
-use Rattle.std.proofs.lemmas.Option.{none-some, same_Some, cond_some}
+use Rattle.std.proofs.lemmas.Option.{none-some, same_Some}
 use Rattle.farm_model.specs.Universe.{Universe}
-use Rattle.plan_model.specs.Order.{Item, Pass, Give, items, Board, start_board, rest_of, board_after, Reaches, IsOrder}
+use Rattle.plan_model.specs.Order.{items, Board, start_board, rest_of, board_after, Reaches, IsOrder}
 use Rattle.verdict_laws.proofs.AtRest.{after_long}
 use Rattle.plan_model.specs.Plan.{Plan, Lane}
 use Rattle.plan_cert.specs.Broken.{CannotStep, IsBrokenAt}

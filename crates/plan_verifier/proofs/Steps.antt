@@ -2,7 +2,6 @@
 use Rattle.std.proofs.Common.{◌≡◌, ℕ, suc, ◌<◌, ◌≤◌, nat_lt, Bool, true, sym, ap, ◌∙◌, List, length, get_or, Some, None, arith}
 use Rattle.std.specs.Prelude.{slice_get}
 use Rattle.std.proofs.lemmas.Bool.{and_parts, and_from}
-use Rattle.std.proofs.lemmas.List.Folds.{length-flat_map-take}
 use Rattle.std.proofs.lemmas.Option.{slice_get-get_or}
 use Rattle.bit_rows.specs.Sets.{variants_of, IsSubset}
 use Rattle.farm_model.specs.declared.types.Variant.{Variant}
@@ -11,8 +10,7 @@ use Rattle.farm_model.specs.Packages.{variant, variants}
 use Rattle.farm_model.specs.Sound.{IsUniverse}
 use Rattle.may_rows.specs.Picks.{AreOfArchive}
 use Rattle.plan_model.specs.declared.instructions.Instruction.{Instruction}
-use Rattle.plan_asm.specs.Ends.{IsWithinLimits}
-use Rattle.plan_model.specs.Plan.{Lane, Plan, lane, no_lane, instruction_at}
+use Rattle.plan_model.specs.Plan.{Lane, Plan, lane, instruction_at}
 use Rattle.plan_model.specs.Known.{Rows, KeepsRows, possible}
 use Rattle.plan_model.specs.MayAt.{maps_behind, maps_behind_some, maps_at, may_at}
 use Rattle.plan_model.specs.Risk.{risk}
@@ -63,16 +61,6 @@ pub hazard-past : (u : Universe) (p : Plan) (rows : Rows) (l i : ℕ) → instru
 unfolding hazard_at risk_at
 hazard-past u p rows l i is =
     ap (λ o. hazard_of (risk_of u p rows l i o) (parts_of u (maps_at u p rows l i) o)) is
-
--- a lane has no more instructions than its plan
-pub lane-short : (p : Plan) (l : ℕ) → l < length p → IsWithinLimits p
-    → length (lane p l).instructions ≤ 65536
-lane-short p l lt limits =
-    omega (
-      arith,
-      length-flat_map-take (λ (of : Lane). of.instructions) p l no_lane lt,
-      limits.instructions,
-    )
 
 pub instruction-is : (p : Plan) (l i : ℕ) (of : Lane) (xs : List Instruction) (x : Instruction)
     → of ≡ lane p l → xs ≡ of.instructions → i < length xs → x ≡ get_or xs i x

@@ -30,7 +30,7 @@ module _ {X : Type 0} (f : X → List ℕ) (xs : List X) (i : ℕ) (d : X) (with
       (rw (← one_more) (written_twice old mid new _ _ so_far more)) failed)
 
 -- m numbers, and then k more
-range_split : (a m k : ℕ)
+pub range_split : (a m k : ℕ)
     → range_with_len a (m + k) ≡ range_with_len a m ++ range_with_len (a + m) k
 range_split a zero k = rw (zero-add, add-zero) refl
 range_split a (suc m) k =

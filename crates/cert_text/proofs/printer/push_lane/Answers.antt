@@ -22,7 +22,8 @@ loop-i-preserved c =
     (zip (drop i (row_places c.args.lane.now)) (drop i c.args.rows.now)) c.loop-i.invariant
     c.push_known.new.text.items (_, c.index-rows-i.result)
     (zip (drop (i + 1) (row_places c.args.lane.now)) (drop (i + 1) c.args.rows.now))
-    (zip-more (row_places c.args.lane.now) c.args.rows.now i c.index.result.now c.index-rows-i.result long
+    (zip-more (row_places c.args.lane.now) c.args.rows.now i c.index.result.now
+    c.index-rows-i.result long
     c.loop-i-test.true at c.index-rows-i.is)
     (c.in_ok-push_known.ensures
     ∙ ap (λ (name : List ℕ). c.loop-i.text.items

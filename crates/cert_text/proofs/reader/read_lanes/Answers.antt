@@ -7,7 +7,7 @@ use Rattle.deb_text.specs.Lists.{lists}
 use Rattle.plan_model.specs.Plan.{Lane, lane, no_lane}
 use Rattle.cert_text.specs.Certificates.{count_rows}
 use Rattle.cert_text.proofs.LineRows.{front-goes}
-use Rattle.cert_text.proofs.PlaceLists.{lane-few}
+use Rattle.plan_asm.proofs.Counts.{lane-few}
 use Rattle.cert_text.proofs.reader.read_lanes.Goals as goal
 
 pub read_lane-requires-clause-few : goal.read_lane-requires-clause-few
@@ -37,13 +37,15 @@ loop-number-preserved c =
     record {
       so_far = rw (
         c.in_ok-push.ensures.items,
-        map_push (λ (v : Vec (List ℕ)). v.items) c.loop-number.rows.items c.in_ok-lane_rows.lane_rows,
+        map_push (λ (v : Vec (List ℕ)). v.items) c.loop-number.rows.items
+            c.in_ok-lane_rows.lane_rows,
         ← next,
       ) (front-goes (lists c.loop-number.rows.items) _ _ _
           (rw cut at c.loop-number.invariant.so_far) _
           (rw c.lane.ensures at c.in_ok-lane_rows.ensures.rows));
       behind =
-          let step = ap (sum_by count_rows) cut ∙ sum_by-cons count_rows (lane p l) (drop (l + 1) p) in
+          let step = ap (sum_by count_rows) cut
+          ∙ sum_by-cons count_rows (lane p l) (drop (l + 1) p) in
           omega (arith, step, long, c.loop-number.invariant.behind);
       there =
           let last = rw c.lane.ensures at c.in_ok-lane_rows.ensures.there in

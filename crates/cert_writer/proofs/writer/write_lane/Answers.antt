@@ -3,7 +3,7 @@ use Rattle.std.proofs.lemmas.Result.{err_from_is_err_and}
 use Rattle.plan_model.specs.declared.instructions.Instruction.{Instruction}
 use Rattle.plan_model.specs.Plan.{Plan, lane, instruction_at}
 use Rattle.plan_verifier.specs.Accepted.{known_rows}
-use Rattle.wait_order.proofs.ClockWords.{element}
+use Rattle.farm_laws.proofs.Archive.{element}
 use Rattle.cert_writer.proofs.Places.{text_to, text_behind, text-next, text-all, text-around}
 use Rattle.cert_writer.proofs.SendingLaws.{none_sent, sent_twice, stopped_within}
 use Rattle.cert_writer.proofs.writer.write_lane.Goals as goal

@@ -3,7 +3,7 @@ use Rattle.farm_commands.specs.Explanations.{AreHazards, TellsHazards, farm_in}
 use Rattle.farm_commands.proofs.explanation.why_unsafe.Goals as goal
 use Rattle.farm_explain.proofs.Beginning.{notes_begin_with_the_verdict}
 use Rattle.farm_explain.proofs.NoteTexts.{notes_have_the_text}
-use Rattle.farm_explain.proofs.Outcomes.{if_ok}
+use Rattle.std.proofs.lemmas.Result.{IfOk-weaker}
 use Rattle.farm_explain.specs.Beginning.{TellsFirst}
 use Rattle.farm_explain.specs.LaneNotes.{unsafe_notes}
 use Rattle.farm_explain.specs.Notes.{all_facts, text_of_all}
@@ -15,8 +15,9 @@ returns c =
     let of = farm_in c.args.of.examined.now in
     let lines = c.args.of.lines.now in
     let rows : Rows = rows_of c.args.of.examined.now.known in
-    if_ok (λ why. all_facts why.items ≡ unsafe_notes of.universe of.plan rows lines.lanes)
-    (λ why. TellsHazards of lines c.args.refusal.now (all_facts why.items)) c.unsafe_notes.result
+    IfOk-weaker c.unsafe_notes.result
+    (λ why. all_facts why.items ≡ unsafe_notes of.universe of.plan rows lines.lanes)
+    (λ why. TellsHazards of lines c.args.refusal.now (all_facts why.items))
     (λ why is. (
       record { rows = rows; greatest = c.requires.examined.known; notes_are = is },
       subst (TellsFirst c.args.refusal.now)

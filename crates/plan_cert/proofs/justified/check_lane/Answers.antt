@@ -3,7 +3,7 @@ use Rattle.std.proofs.lemmas.Bool.{cases_eq}
 use Rattle.plan_model.specs.Known.{possible}
 use Rattle.plan_model.specs.Plan.{instruction_at}
 use Rattle.plan_verifier.proofs.Reach.{possible_after}
-use Rattle.plan_verifier.proofs.Steps.{lane-short}
+use Rattle.plan_asm.proofs.Counts.{lane-few}
 use Rattle.verdict_laws.specs.Places.{IsJustified}
 use Rattle.wait_order.proofs.Leading.{read_at}
 use Rattle.plan_cert.specs.PlaceRows.{rows_of}
@@ -15,7 +15,7 @@ use Rattle.plan_cert.proofs.justified.check_lane.Goals as goal
 pub overflow_cast-result-then-not-branch : goal.overflow_cast-result-then-not-branch
 overflow_cast-result-then-not-branch c =
     let short =
-    lane-short c.args.claim.plan.now.lanes c.args.number c.requires.lane
+    lane-few c.args.claim.plan.now.lanes c.args.number c.requires.lane
     c.lanes-lanes.ensures.limits in
     let xs = c.instructions-instructions.ensures ∙ ap (λ of. of.instructions) c.lane.ensures in
     omega (arith, short, ap length xs, c.loop-place-test.true)
@@ -23,7 +23,7 @@ overflow_cast-result-then-not-branch c =
 pub overflow_add-result : goal.overflow_add-result
 overflow_add-result c =
     let short =
-    lane-short c.args.claim.plan.now.lanes c.args.number c.requires.lane
+    lane-few c.args.claim.plan.now.lanes c.args.number c.requires.lane
     c.lanes-lanes.ensures.limits in
     let xs = c.instructions-instructions.ensures ∙ ap (λ of. of.instructions) c.lane.ensures in
     omega (arith, short, ap length xs, c.loop-place-test.true)

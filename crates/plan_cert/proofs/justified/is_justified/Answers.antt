@@ -4,7 +4,7 @@ use Rattle.farm_model.specs.Universe.{Universe}
 use Rattle.plan_model.specs.declared.instructions.Instruction.TheVariants.{Publish}
 use Rattle.plan_model.specs.Known.{row_before}
 use Rattle.plan_model.specs.Plan.{lane, instruction_at}
-use Rattle.plan_verifier.proofs.Steps.{lane-short}
+use Rattle.plan_asm.proofs.Counts.{lane-few}
 use Rattle.sat_rows.specs.Rows.{IsRowOf}
 use Rattle.wait_order.proofs.Leading.{read_at}
 use Rattle.verdict_laws.proofs.RowBefore.{row_before-le}
@@ -17,7 +17,7 @@ use Rattle.plan_cert.proofs.justified.is_justified.Goals as goal
 pub overflow_add-place : goal.overflow_add-place
 overflow_add-place c =
     let short =
-    lane-short c.args.at.claim.plan.now.lanes c.args.at.number c.args.at.in_plan
+    lane-few c.args.at.claim.plan.now.lanes c.args.at.number c.args.at.in_plan
     c.lanes-lanes.ensures.limits in
     omega (arith, short, c.args.at.in_lane)
 

@@ -2,7 +2,8 @@ use Rattle.std.proofs.Common.{suc, ◌+◌, Some, refl, ap, ◌∙◌, sym, subs
 use Rattle.plan_model.specs.Plan.{lane}
 use Rattle.plan_verifier.specs.Branch.{IsAt, IsJoined}
 use Rattle.plan_verifier.proofs.Branching.{begin-at, turn-at, held-at, end-at, parts-at, told-before, when-safe, else-safe}
-use Rattle.plan_verifier.proofs.Steps.{lane-short, instruction-is, below-lane}
+use Rattle.plan_asm.proofs.Counts.{lane-few}
+use Rattle.plan_verifier.proofs.Steps.{instruction-is, below-lane}
 use Rattle.plan_verifier.proofs.walk.advance.Goals as goal
 
 pub overflow_cast-place : goal.overflow_cast-place
@@ -10,7 +11,7 @@ overflow_cast-place g c =
     omega (
       arith,
       c.requires.place,
-      lane-short c.args.stage.now.plan.now.lanes c.args.number
+      lane-few c.args.stage.now.plan.now.lanes c.args.number
           c.requires.lane c.lanes-lanes.ensures.limits,
     )
 
@@ -89,7 +90,7 @@ overflow_add-result g c =
       told.1,
       told-before u p rows l i branched,
       c.requires.place,
-      lane-short p l c.requires.lane c.lanes-lanes.ensures.limits,
+      lane-few p l c.requires.lane c.lanes-lanes.ensures.limits,
     )
 
 pub returns-in-Some : goal.returns-in-Some

@@ -4,7 +4,8 @@ use Rattle.may_rows.specs.Words.{may_of}
 use Rattle.plan_model.specs.Known.{possible}
 use Rattle.plan_model.specs.Risk.{risk}
 use Rattle.plan_verifier.proofs.Branching.{step-at, risk-at}
-use Rattle.plan_verifier.proofs.Steps.{lane-short, of_archive}
+use Rattle.plan_asm.proofs.Counts.{lane-few}
+use Rattle.plan_verifier.proofs.Steps.{of_archive}
 use Rattle.plan_verifier.proofs.walk.step_on.Goals as goal
 
 pub overflow_cast-result-in-Err : goal.overflow_cast-result-in-Err
@@ -12,7 +13,7 @@ overflow_cast-result-in-Err g c =
     omega (
       arith,
       c.requires.place,
-      lane-short c.args.stage.now.plan.now.lanes c.args.number
+      lane-few c.args.stage.now.plan.now.lanes c.args.number
           c.requires.lane c.lanes-lanes.ensures.limits,
     )
 
@@ -21,7 +22,7 @@ overflow_add-result g c =
     omega (
       arith,
       c.requires.place,
-      lane-short c.args.stage.now.plan.now.lanes c.args.number
+      lane-few c.args.stage.now.plan.now.lanes c.args.number
           c.requires.lane c.lanes-lanes.ensures.limits,
     )
 

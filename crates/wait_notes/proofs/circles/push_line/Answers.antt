@@ -1,7 +1,7 @@
 use Rattle.std.proofs.Common.{◌≡◌, ◌++◌, suc, codes, append_assoc, ap, ◌∙◌, arith}
 use Rattle.std.specs.Option.{option_and_then}
 use Rattle.farm_explain.specs.Texts.{text_below}
-use Rattle.farm_explain.proofs.Outcomes.{on_ok}
+use Rattle.std.proofs.lemmas.Result.{on_ok_weaker}
 use Rattle.wait_notes.specs.StuckText.{between, link_text}
 use Rattle.wait_notes.specs.Waiting.{follow, next_of}
 use Rattle.wait_notes.proofs.circles.push_line.Goals as goal
@@ -24,7 +24,7 @@ returns c =
     let before : c.loop-passed.text.items ≡ start ++ links =
     c.loop-passed.invariant.text
     ∙ ap (λ n. start ++ text_below n (λ i. link_text p next l i ++ codes ", ")) end in
-    on_ok c.push_pieces-2.result
+    on_ok_weaker c.push_pieces-2.result
     (λ is. is
     ∙ ap (λ xs. xs ++ codes "\n") (c.in_ok-push_link-2.ensures ∙ (λ i. before i ++ link i))
     ∙ append_assoc (start ++ links) last (codes "\n")
