@@ -7,6 +7,6 @@ mod reduction;
 mod restriction;
 mod word_list;
 
-pub use reduction::{reduce, reduce_entry};
+pub use reduction::{is_bare, reduce, reduce_entry, reduce_text};
 pub use restriction::keeps;
 pub use word_list::{ArchNames, ProfileSet};

@@ -1,12 +1,16 @@
 //! What an architecture and the active build profiles leave of a relation field.
 
-ghost use Rattle.std.specs.Prelude.{◌≡◌, ◌++◌, IfOk, OnOk};
+ghost use Rattle.std.specs.Prelude.{◌≡◌, ℕ, List, [], ◌∷◌, ◌++◌, true, IfOk, OnOk};
+ghost use Rattle.std.specs.List.{list_all};
 ghost use Rattle.std.specs.Option.{option_map};
+ghost use Rattle.deb_text.specs.Answers.{Gives};
+ghost use Rattle.deb_relation.specs.View.{refusal_of};
 ghost use Rattle.deb_profile.specs.Reduction.{means_nothing, qualifier_left, bare, reduced_entry, entry_left, reduced};
+ghost use Rattle.deb_profile.specs.Reduction.{is_bare_atom, is_bare_entry, is_bare, reduced_at};
 
 use crate::restriction::keeps;
 use crate::word_list::{ArchNames, ProfileSet};
-use deb_relation::{Atom, Entry, Relations};
+use deb_relation::{Atom, Entry, Kind, RelationError, Relations, judge_entries, next_entry};
 use std::alloc::{AllocError, Global};
 
 /// What an architecture and the active build profiles leave of a field: the alternatives that
@@ -27,12 +31,76 @@ pub fn reduce(
 {
     let mut entries = Vec::new(alloc);
     for entry in relations.entries() {
-        push_left(
-            &mut entries,
-            alternatives_left(alloc, names, active, entry)?,
-        )?;
+        push_left(&mut entries, reduce_entry(alloc, entry, names, active)?)?;
     }
     Ok(Relations::from_entries(entries))
+}
+
+/// Reads a relation field of a kind, and keeps what [`reduce`] leaves of it: no more than the first
+/// `most` entries. What is not kept takes the memory of one entry.
+///
+/// # Errors
+///
+/// The first fault of [`Entry::parse`] from left to right, in each entry of the field. 900 where
+/// memory is refused. Nothing is left behind.
+pub fn reduce_text(
+    alloc: Global,
+    text: &[u8],
+    kind: Kind,
+    names: &ArchNames,
+    active: &ProfileSet,
+    most: usize,
+) -> Result<Relations, RelationError>
+    ensures { Gives refusal_of (λ left. left) result
+        (reduced_at most names.now active.now kind text.now) }
+{
+    let mut entries = Vec::new(alloc);
+    let mut left = Some(text);
+    while entries.len() < most {
+        let Some((entry, after)) = next_entry(left) else {
+            return Ok(Relations::from_entries(entries));
+        };
+        let entry = Entry::parse(alloc, entry, kind)?;
+        push_left(&mut entries, strip_entry(alloc, entry, names, active)?)?;
+        left = after;
+    }
+    judge_entries(alloc, left, kind)?;
+    Ok(Relations::from_entries(entries))
+}
+
+/// Tells whether [`reduce`] leaves a field as it is, whatever the architecture and the profiles:
+/// each entry has an alternative, and none has a qualifier or a restriction. The call takes no
+/// memory.
+pub fn is_bare(relations: &Relations) -> bool
+    ensures bare { result ≡ is_bare relations.now }
+    ensures stays { result ≡ true → (names active : List (List ℕ))
+        → reduced names active relations.now ≡ relations.now }
+{
+    are_bare(relations.entries())
+}
+
+fn are_bare(entries: &[Entry]) -> bool
+    ensures { result ≡ is_bare entries.now }
+{
+    entries.iter().all(|entry| is_bare_entry(entry))
+}
+
+fn is_bare_entry(entry: &Entry) -> bool
+    ensures { result ≡ is_bare_entry entry.now }
+{
+    !entry.is_empty() && all_bare(entry.alternatives())
+}
+
+fn all_bare(alternatives: &[Atom]) -> bool
+    ensures { result ≡ list_all is_bare_atom alternatives.now }
+{
+    alternatives.iter().all(|atom| is_bare_atom(atom))
+}
+
+fn is_bare_atom(atom: &Atom) -> bool
+    ensures { result ≡ is_bare_atom atom.now }
+{
+    atom.qualifier.is_none() && atom.archs.is_none() && atom.profiles.is_empty()
 }
 
 /// What is left of one entry, as [`reduce`] leaves it: no alternative where none stays.
@@ -48,43 +116,67 @@ pub fn reduce_entry(
 ) -> Result<Entry, AllocError>
     ensures { IfOk result (λ left. left ≡ reduced_entry names.now active.now entry.now) }
 {
-    Ok(Entry::from_alternatives(alternatives_left(alloc, names, active, entry)?))
-}
-
-fn alternatives_left(
-    alloc: Global,
-    names: &ArchNames,
-    active: &ProfileSet,
-    entry: &Entry,
-) -> Result<Vec<Atom>, AllocError>
-    ensures { IfOk result (λ left. left.items ≡ reduced_entry names.now active.now entry.now) }
-{
-    let mut left = Vec::with_capacity(alloc, entry.alternatives().len())?;
+    let mut left = Vec::with_capacity(alloc, entry.len())?;
     for atom in entry.alternatives() {
         if keeps(atom, names, active) {
-            left.push(bare(names, atom)?)?;
+            left.push(bare(names, atom.clone_unrestricted()?))?;
         }
     }
-    Ok(left)
+    Ok(Entry::from_alternatives(left))
 }
 
-fn bare(names: &ArchNames, atom: &Atom) -> Result<Atom, AllocError>
-    ensures { IfOk result (λ left. left ≡ bare names.now atom.now) }
+/// Strips an entry to what is left of it. One of which nothing goes stays as it is.
+fn strip_entry(
+    alloc: Global,
+    entry: Entry,
+    names: &ArchNames,
+    active: &ProfileSet,
+) -> Result<Entry, AllocError>
+    ensures { IfOk result (λ left. left ≡ reduced_entry names.now active.now entry) }
+{
+    if is_bare_entry(&entry) {
+        return Ok(entry);
+    }
+    let alternatives = entry.into_alternatives();
+    let mut left = Vec::with_capacity(alloc, alternatives.len())?;
+    for atom in alternatives {
+        push_kept(&mut left, names, active, atom)?;
+    }
+    Ok(Entry::from_alternatives(left))
+}
+
+fn push_kept(
+    left: &mut Vec<Atom>,
+    names: &ArchNames,
+    active: &ProfileSet,
+    atom: Atom,
+) -> Result<(), AllocError>
+    ensures { OnOk result
+        (left.new.items ≡ left.old.items ++ reduced_entry names.now active.now (atom ∷ [])) }
+{
+    if keeps(&atom, names, active) {
+        left.push(bare(names, atom))?;
+    }
+    Ok(())
+}
+
+fn bare(names: &ArchNames, atom: Atom) -> Atom
+    ensures { result ≡ bare names.now atom }
 {
     let Atom {
         name,
         qualifier,
         relation,
-        archs,
-        profiles,
-    } = atom.clone_unrestricted()?;
-    Ok(Atom {
+        ..
+    } = atom;
+    let profiles = Vec::new(*name.allocator());
+    Atom {
         name,
         qualifier: qualifier_left(names, qualifier),
         relation,
-        archs,
+        archs: None,
         profiles,
-    })
+    }
 }
 
 fn qualifier_left(names: &ArchNames, qualifier: Option<Vec<u8>>) -> Option<Vec<u8>>
@@ -104,11 +196,11 @@ fn means_nothing(names: &ArchNames, qualifier: &[u8]) -> bool
 }
 
 /// Puts an entry behind the others where some alternative is left of it.
-fn push_left(entries: &mut Vec<Entry>, left: Vec<Atom>) -> Result<(), AllocError>
-    ensures { OnOk result (entries.new.items ≡ entries.old.items ++ entry_left left.items) }
+fn push_left(entries: &mut Vec<Entry>, left: Entry) -> Result<(), AllocError>
+    ensures { OnOk result (entries.new.items ≡ entries.old.items ++ entry_left left) }
 {
     if !left.is_empty() {
-        entries.push(Entry::from_alternatives(left))?;
+        entries.push(left)?;
     }
     Ok(())
 }

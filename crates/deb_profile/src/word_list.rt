@@ -1,13 +1,15 @@
 //! Lists of words: the names of an architecture, and build profiles.
 
 ghost use Rattle.std.specs.Prelude.{◌≡◌, []};
+ghost use Rattle.std.specs.List.{list_all};
 ghost use Rattle.deb_text.specs.Answers.{Gives};
+ghost use Rattle.deb_text.specs.Words.{is_word, words};
 ghost use Rattle.deb_relation.specs.View.{refusal_of};
 ghost use Rattle.deb_profile.specs.Restriction.{is_among};
 ghost use Rattle.deb_profile.specs.WordList.{word_at, words_at};
 
 use deb_relation::{BAD_WORD, RelationError, Word, WordRule, read_words};
-use deb_text::is_word;
+use deb_text::{is_word, next_word};
 use std::alloc::Global;
 use std::marker::Model;
 
@@ -56,22 +58,24 @@ impl ArchNames {
     }
 }
 
-/// The build profiles that are active (BuildProfileSpec). A contract sees their list.
+/// The build profiles that are active (BuildProfileSpec), as they are written. A contract sees
+/// their list.
 #[derive(Debug, Drop)]
 pub struct ProfileSet {
-    list: Vec<Word>,
+    text: Vec<u8>,
 }
 
 impl Model for ProfileSet {
     ghost use Rattle.std.specs.Prelude.{ℕ, List};
+    ghost use Rattle.deb_text.specs.Words.{words};
 
     ghost Value = { List (List ℕ) };
 
-    ghost view = { λ profiles. profiles.list.items };
+    ghost view = { λ profiles. words profiles.text.items };
 }
 
 impl ProfileSet {
-    /// Reads profiles that are separated by blanks.
+    /// Reads profiles that are separated by blanks. It takes the memory of their text.
     ///
     /// # Errors
     ///
@@ -80,8 +84,11 @@ impl ProfileSet {
     pub fn parse(alloc: Global, text: &[u8]) -> Result<ProfileSet, RelationError>
         ensures { Gives refusal_of (λ profiles. profiles) result (words_at text.now) }
     {
+        if !are_words(text) {
+            return Err(RelationError { code: BAD_WORD });
+        }
         Ok(ProfileSet {
-            list: read_words(alloc, &AnyWord, text)?,
+            text: Vec::from_slice(alloc, text)?,
         })
     }
 
@@ -90,7 +97,7 @@ impl ProfileSet {
         ensures { result ≡ [] }
     {
         ProfileSet {
-            list: Vec::new(alloc),
+            text: Vec::new(alloc),
         }
     }
 
@@ -98,8 +105,36 @@ impl ProfileSet {
     pub fn is_active(&self, profile: &[u8]) -> bool
         ensures { result ≡ is_among self.now profile.now }
     {
-        is_among(&self.list, profile)
+        has_word(&self.text, profile)
     }
+}
+
+/// Tells whether no word of a text has a byte that it may not have.
+fn are_words(text: &[u8]) -> bool
+    ensures { result ≡ list_all is_word (words text.now) }
+{
+    let mut rest = text;
+    while let Some((word, after)) = next_word(rest) {
+        if !is_word(word) {
+            return false;
+        }
+        rest = after;
+    }
+    true
+}
+
+/// Tells whether a word is one of a text's.
+fn has_word(text: &[u8], wanted: &[u8]) -> bool
+    ensures { result ≡ is_among (words text.now) wanted.now }
+{
+    let mut rest = text;
+    while let Some((word, after)) = next_word(rest) {
+        if word == wanted {
+            return true;
+        }
+        rest = after;
+    }
+    false
 }
 
 /// The words of a list, each as it stands.

@@ -1,11 +1,14 @@
 pub mod ToldLaws
 pub mod KeyedLaws
+pub mod FieldTextLaws
+pub mod FitLaws
+pub mod FirstLaws
 pub mod TableLaws
 pub mod SourceLaws
-pub mod FitLaws
 pub mod ArchiveLaws
 pub mod ListFacts
 pub mod ListLaws
+pub mod TextListLaws
 pub mod RecipeLaws
 pub mod SettledLaws
 pub mod FarmLaws

@@ -11,6 +11,7 @@ use Rattle.deb_stanza.specs.Stanza.{Paragraph}
 use Rattle.farm_universe.specs.PackagesText.{Listed, PackageTable, package_at, is_below, entry_count, names_of, packages_named, entries_of, table_of, first_code, rules_of, package_fault, packages_of}
 use Rattle.farm_universe.specs.TableSteps.{put_at, code_at, add, add_paragraph, tell_paragraph}
 use Rattle.farm_model.specs.Universe.{Package}
+use Rattle.farm_universe.proofs.FirstLaws.{read_step-first}
 use Rattle.farm_universe.proofs.KeyedLaws.{keys_with-push, group_at-keys, groups_with-push}
 use Rattle.farm_universe.proofs.ToldLaws.{steps-told, read_step-keeps}
 
@@ -79,5 +80,6 @@ unfolding packages_of add_paragraph
 steps-packages_of ps =
     steps-told PACKAGES add_paragraph (item_fault package_at package_fault)
     (λ qs. table_of (goods package_at qs))
-    (λ before p. read_step-keeps package_at add package_fault table_of before p
+    (λ before p. read_step-first (table_of (goods package_at before)) p
+    ∙ read_step-keeps package_at add package_fault table_of before p
     (λ x is. add-keeps (goods package_at before) x)) ps

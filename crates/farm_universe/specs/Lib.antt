@@ -1,4 +1,5 @@
 pub mod Fields
+pub mod FieldView
 pub mod Told
 pub mod Keyed
 pub mod PackagesText
@@ -11,6 +12,7 @@ pub mod TableView
 pub mod ListText
 pub mod Land
 pub mod RecipeText
+pub mod RecipeSteps
 pub mod BaseText
 pub mod Among
 pub mod FarmText

@@ -1,24 +1,28 @@
 //! What a recipe builds, and how.
 
-ghost use Rattle.std.specs.Prelude.{◌≡◌, ◌++◌, IfOk, OnOk};
+ghost use Rattle.std.specs.Prelude.{◌≡◌, ◌≤◌, ◌++◌, length, IfOk, IfErr, OnOk, None};
 ghost use Rattle.std.specs.Option.{option_map};
 ghost use Rattle.deb_text.specs.Answers.{Gives};
 ghost use Rattle.deb_profile.specs.Reduction.{reduced};
 ghost use Rattle.farm_universe.specs.FarmView.{IsLand, land_view};
-ghost use Rattle.farm_universe.specs.RecipeText.{source_in, mode_of, mode_at, profiles_at, in_mode, build_at};
+ghost use Rattle.farm_universe.specs.FieldView.{first_entries};
+ghost use Rattle.farm_universe.specs.RecipeSteps.{first_source_in, first_build_at};
+ghost use Rattle.farm_universe.specs.RecipeText.{source_in, mode_of, mode_at, profiles_at, in_mode};
 ghost use Rattle.farm_universe.specs.SourceView.{source_view, IsSourceTable};
 ghost use Rattle.farm_universe.specs.View.{refusal_of};
 
 use crate::error::FieldFault;
+use crate::field_text::FieldText;
 use crate::land::Land;
+use crate::limits::KEPT_ENTRIES;
 use crate::list::pinned;
 use crate::paragraph::Paragraph;
 use crate::source_table::{SourceTable, find_source};
 use crate::sources::{BuildFields, Source};
-use deb_profile::{ArchNames, ProfileSet, reduce};
+use deb_profile::{ArchNames, ProfileSet};
 use deb_relation::{Entry, Kind, Relations};
 use farm_model::Mode;
-use std::alloc::{AllocError, Global};
+use std::alloc::Global;
 
 /// What a build needs, and what it excludes.
 #[derive(Debug, Drop)]
@@ -27,18 +31,18 @@ pub struct Build {
     pub clashes: Relations,
 }
 
-/// The source that a value `name (= version)` names.
-#[tactic(auto, unfolding(crate::specs::RecipeText::source_in))]
-fn read_source<'a>(
+/// The source that a value `name (= version)` names, of which no more than two items are kept.
+#[tactic(auto, unfolding(crate::specs::RecipeSteps::first_source_in))]
+fn read_first_source<'a>(
     alloc: Global,
     sources: &'a SourceTable,
     text: &[u8],
 ) -> Result<&'a Source, FieldFault>
     requires { IsSourceTable (source_view sources.now) }
     ensures { Gives refusal_of (λ source. source.now) result
-        (source_in (source_view sources.now) text.now) }
+        (first_source_in (source_view sources.now) text.now) }
 {
-    let list = Relations::parse(alloc, text, Kind::Provide)?;
+    let list = Relations::parse_first(alloc, text, Kind::Provide, 2)?;
     let [entry] = list.entries() else {
         return Err(FieldFault::UnknownSource);
     };
@@ -49,6 +53,20 @@ fn read_source<'a>(
         Some(source) => Ok(source),
         None => Err(FieldFault::UnknownSource),
     }
+}
+
+/// The source that a value `name (= version)` names.
+#[tactic(auto, using(crate::proofs::FirstLaws::gives_source))]
+fn read_source<'a>(
+    alloc: Global,
+    sources: &'a SourceTable,
+    text: &[u8],
+) -> Result<&'a Source, FieldFault>
+    requires { IsSourceTable (source_view sources.now) }
+    ensures { Gives refusal_of (λ source. source.now) result
+        (source_in (source_view sources.now) text.now) }
+{
+    read_first_source(alloc, sources, text)
 }
 
 fn mode_of(text: &[u8]) -> Result<Mode, FieldFault>
@@ -86,24 +104,27 @@ fn read_profiles(alloc: Global, value: Option<&[u8]>) -> Result<ProfileSet, Fiel
     }
 }
 
-/// Puts what is left of a field behind other entries.
+/// Puts what is left of a field behind other entries, as many as are kept of a build.
 fn push_reduced(
     alloc: Global,
     entries: &mut Vec<Entry>,
-    field: &Relations,
+    field: &FieldText,
     names: &ArchNames,
     profiles: &ProfileSet,
-) -> Result<(), AllocError>
-    ensures { OnOk result (entries.new.items
-        ≡ entries.old.items ++ reduced names.now profiles.now field.now) }
+) -> Result<(), FieldFault>
+    requires { length entries.old.items ≤ KEPT_ENTRIES }
+    ensures entries { OnOk result (entries.new.items
+        ≡ first_entries (entries.old.items ++ reduced names.now profiles.now field.now)) }
+    ensures memory { IfErr result (λ e. refusal_of e ≡ None) }
 {
-    for entry in reduce(alloc, field, names, profiles)?.entries() {
+    let left = field.reduce(alloc, names, profiles, KEPT_ENTRIES - entries.len())?;
+    for entry in left.entries() {
         entries.push(entry.clone()?)?;
     }
     Ok(())
 }
 
-/// The fields of a mode, reduced.
+/// The first entries of the fields of a mode, reduced.
 #[tactic(auto, unfolding(crate::specs::RecipeText::in_mode))]
 fn reduce_in_mode(
     alloc: Global,
@@ -111,8 +132,10 @@ fn reduce_in_mode(
     fields: &BuildFields,
     names: &ArchNames,
     profiles: &ProfileSet,
-) -> Result<Relations, AllocError>
-    ensures { IfOk result (λ left. left ≡ in_mode names.now profiles.now mode fields.now) }
+) -> Result<Relations, FieldFault>
+    ensures left { IfOk result
+        (λ left. left ≡ first_entries (in_mode names.now profiles.now mode fields.now)) }
+    ensures memory { IfErr result (λ e. refusal_of e ≡ None) }
 {
     let mut entries = Vec::new(alloc);
     push_reduced(alloc, &mut entries, &fields.always, names, profiles)?;
@@ -133,11 +156,12 @@ fn reduce_in_mode(
     }
 }
 
-/// Reads the fields Source, Mode and Profiles.
-#[tactic(auto, unfolding(crate::specs::RecipeText::build_at))]
+/// Reads the fields Source, Mode and Profiles, and keeps the first entries of the build.
+#[tactic(auto, unfolding(crate::specs::RecipeSteps::first_build_at, crate::specs::RecipeText::build_at))]
 pub fn read_build(alloc: Global, land: &Land, paragraph: &Paragraph) -> Result<Build, FieldFault>
     requires { IsLand (land_view land.now) }
-    ensures { Gives refusal_of (λ build. build) result (build_at (land_view land.now) paragraph.now) }
+    ensures { Gives refusal_of (λ build. build) result
+        (first_build_at (land_view land.now) paragraph.now) }
 {
     let source = read_source(alloc, &land.sources, paragraph.needed(b"Source")?)?;
     let mode = read_mode(paragraph.field(b"Mode"))?;

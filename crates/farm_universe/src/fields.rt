@@ -3,11 +3,13 @@
 ghost use Rattle.std.specs.Prelude.{IfOk, ◌≤◌};
 ghost use Rattle.std.specs.Option.{option_map};
 ghost use Rattle.deb_text.specs.Answers.{Gives};
+ghost use Rattle.farm_universe.specs.FieldView.{first_relations_in};
 ghost use Rattle.farm_universe.specs.Fields.{name_at, version_text_at, number_up_to, size_at, flag_of, flag_at, relations_in};
 ghost use Rattle.farm_universe.specs.View.{refusal_of};
 
 use crate::error::FieldFault;
-use crate::limits::MOST_SIZE;
+use crate::field_text::FieldText;
+use crate::limits::{KEPT_ENTRIES, MOST_SIZE};
 use deb_relation::{BAD_NAME, Kind, Relations};
 use deb_text::{is_name, read_number};
 use deb_version::Version;
@@ -81,17 +83,32 @@ pub fn read_flag(value: Option<&[u8]>) -> Result<bool, FieldFault>
     }
 }
 
-/// Reads a relation field.
+/// Judges a relation field, and keeps it as it is written.
+pub fn keep_relations(
+    alloc: Global,
+    kind: Kind,
+    value: Option<&[u8]>,
+) -> Result<FieldText, FieldFault>
+    ensures { Gives refusal_of (λ field. field) result
+        (relations_in kind (option_map (λ v. v.now) value.entry)) }
+{
+    match value {
+        Some(text) => FieldText::read(alloc, kind, text),
+        None => Ok(FieldText::absent(alloc, kind)),
+    }
+}
+
+/// Reads a relation field, and keeps its first entries.
 pub fn read_relations(
     alloc: Global,
     kind: Kind,
     value: Option<&[u8]>,
 ) -> Result<Relations, FieldFault>
     ensures { Gives refusal_of (λ r. r) result
-        (relations_in kind (option_map (λ v. v.now) value.entry)) }
+        (first_relations_in kind (option_map (λ v. v.now) value.entry)) }
 {
     match value {
-        Some(text) => Ok(Relations::parse(alloc, text, kind)?),
+        Some(text) => Ok(Relations::parse_first(alloc, text, kind, KEPT_ENTRIES)?),
         None => Ok(Relations::from_entries(Vec::new(alloc))),
     }
 }

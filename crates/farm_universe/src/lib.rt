@@ -9,6 +9,7 @@ mod build;
 mod error;
 pub mod essential;
 mod farm;
+mod field_text;
 mod fields;
 mod keyed;
 mod land;

@@ -6,6 +6,10 @@ pub const MOST_NAMES: usize = 4096;
 /// Relation entries of all packages as they are read, and those of all recipes after reduction.
 pub const MOST_ENTRIES: usize = 65_536;
 
+/// Entries that are kept of a relation field or a build while it is read: they tell that there are
+/// too many.
+pub const KEPT_ENTRIES: usize = MOST_ENTRIES + 1;
+
 /// Versions of a name: as many as a word of the archive has bits.
 pub const MOST_VARIANTS: usize = 64;
 

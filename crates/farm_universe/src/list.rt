@@ -1,11 +1,13 @@
 //! Lists of variants.
 
-ghost use Rattle.std.specs.Prelude.{◌≡◌, ◌<◌, IfSome, IfOk, IfErr, OnOk, None, All, position, length, set, []};
+ghost use Rattle.std.specs.Prelude.{◌≡◌, ◌<◌, IfSome, IfOk, IfErr, OnOk, None, Ok, All, position, length, set, []};
 ghost use Rattle.std.specs.List.{list_any};
 ghost use Rattle.std.specs.Option.{option_map};
 ghost use Rattle.deb_text.specs.Answers.{Gives};
+ghost use Rattle.deb_relation.specs.declared.kind.Kind.TheVariants.{Provide};
+ghost use Rattle.deb_relation.specs.Field.{only_judged, relations_at};
 ghost use Rattle.farm_universe.specs.FarmSteps.{add_item, word_set, taken_with};
-ghost use Rattle.farm_universe.specs.ListText.{has_version, find_variant, pinned, variant_at, variants_in, list_at};
+ghost use Rattle.farm_universe.specs.ListText.{has_version, find_variant, pinned, variant_at, list_at};
 ghost use Rattle.farm_universe.specs.FarmView.{AreListed, AreWords, IsPlace};
 ghost use Rattle.farm_model.specs.Packages.{has_bit};
 ghost use Rattle.farm_universe.specs.TableView.{table_view, IsFit};
@@ -14,7 +16,7 @@ ghost use Rattle.farm_universe.specs.View.{refusal_of};
 use crate::binary::Package;
 use crate::error::FieldFault;
 use crate::package_table::{PackageTable, packages_at, place_of};
-use deb_relation::{Entry, Kind, Relations};
+use deb_relation::{Entry, Kind, Relations, next_entry};
 use deb_version::Version;
 use farm_model::Variant;
 use std::alloc::Global;
@@ -160,26 +162,27 @@ pub fn empty_list(alloc: Global, table: &PackageTable) -> Result<VariantList, Fi
     })
 }
 
-/// Reads the items of a list.
-pub fn read_variants(
-    alloc: Global,
-    table: &PackageTable,
-    entries: &[Entry],
-) -> Result<VariantList, FieldFault>
+/// Reads the items of a list that was judged, one after the other.
+fn read_items(alloc: Global, table: &PackageTable, text: &[u8]) -> Result<VariantList, FieldFault>
     requires fit { IsFit (table_view table.now) }
+    requires judged { only_judged (relations_at Provide text.now) ≡ Ok tt }
     ensures read { Gives refusal_of (λ list. list.variants.items) result
-        (variants_in (table_view table.now) entries.now) }
+        (list_at (table_view table.now) text.now) }
     ensures listed { IfOk result (AreListed (table_view table.now)) }
     ensures words { IfOk result (λ list. AreWords (table_view table.now) list.words.items) }
 {
     let mut list = empty_list(alloc, table)?;
-    for entry in entries {
-        add_item(table, &mut list, entry)?;
+    let mut left = Some(text);
+    while let Some((item, after)) = next_entry(left) {
+        let entry = Entry::parse(alloc, item, Kind::Provide)?;
+        add_item(table, &mut list, &entry)?;
+        left = after;
     }
     Ok(list)
 }
 
-/// Reads a list of variants.
+/// Reads a list of variants. Its items are judged before the first is looked up, and none of them
+/// is kept.
 #[tactic(auto, unfolding(crate::specs::ListText::list_at))]
 pub fn read_list(
     alloc: Global,
@@ -192,6 +195,6 @@ pub fn read_list(
     ensures listed { IfOk result (AreListed (table_view table.now)) }
     ensures words { IfOk result (λ list. AreWords (table_view table.now) list.words.items) }
 {
-    let list = Relations::parse(alloc, text, Kind::Provide)?;
-    read_variants(alloc, table, list.entries())
+    Relations::judge(alloc, text, Kind::Provide)?;
+    read_items(alloc, table, text)
 }

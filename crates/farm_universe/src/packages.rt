@@ -2,7 +2,7 @@
 
 ghost use Rattle.std.specs.Prelude.{IfOk, ◌≤◌};
 ghost use Rattle.deb_text.specs.Answers.{Gives};
-ghost use Rattle.farm_universe.specs.PackagesText.{package_at, package_relations_at};
+ghost use Rattle.farm_universe.specs.TableSteps.{first_package_at, first_package_relations_at};
 ghost use Rattle.farm_universe.specs.View.{refusal_of};
 ghost use Rattle.farm_universe.specs.TableView.{listed_view};
 
@@ -22,13 +22,13 @@ pub struct Listed {
 }
 
 /// Reads the relation fields of a paragraph.
-#[tactic(auto, unfolding(crate::specs::PackagesText::package_relations_at))]
+#[tactic(auto, unfolding(crate::specs::TableSteps::first_package_relations_at))]
 fn read_package_relations(
     alloc: Global,
     paragraph: &Paragraph,
 ) -> Result<PackageRelations, FieldFault>
     ensures { Gives refusal_of (λ relations. relations) result
-        (package_relations_at paragraph.now) }
+        (first_package_relations_at paragraph.now) }
 {
     Ok(PackageRelations {
         pre_depends: read_relations(alloc, Kind::Need, paragraph.field(b"Pre-Depends"))?,
@@ -40,9 +40,9 @@ fn read_package_relations(
 }
 
 /// Reads a paragraph of the packages text.
-#[tactic(auto, unfolding(crate::specs::PackagesText::package_at))]
+#[tactic(auto, unfolding(crate::specs::TableSteps::first_package_at))]
 pub fn read_package(alloc: Global, paragraph: &Paragraph) -> Result<Listed, FieldFault>
-    ensures read { Gives refusal_of listed_view result (package_at paragraph.now) }
+    ensures read { Gives refusal_of listed_view result (first_package_at paragraph.now) }
     ensures small { IfOk result (λ listed. listed.binary.size ≤ MOST_SIZE) }
 {
     let name = read_name(alloc, paragraph.needed(b"Package")?)?;

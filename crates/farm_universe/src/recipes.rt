@@ -8,6 +8,7 @@ ghost use Rattle.deb_text.specs.Answers.{Gives};
 ghost use Rattle.farm_universe.specs.FarmSteps.{taken_with};
 ghost use Rattle.farm_universe.specs.FarmText.{recipes_with};
 ghost use Rattle.farm_universe.specs.FarmView.{AreOutputs, AreNew, AreRecipes, IsLand, IsNew, land_view};
+ghost use Rattle.farm_universe.specs.RecipeSteps.{first_recipe_at};
 ghost use Rattle.farm_universe.specs.RecipeText.{outputs_at, build_entries, is_build_over, recipe_name, new_outputs, recipe_at};
 ghost use Rattle.farm_universe.specs.TableView.{table_view, IsFit};
 ghost use Rattle.farm_universe.specs.View.{refusal_of};
@@ -18,11 +19,10 @@ use crate::error::FieldFault;
 use crate::fields::{read_name, read_number_up_to, read_size};
 use crate::land::Land;
 use crate::limits::{MOST_ENTRIES, MOST_RECIPES, MOST_SIZE};
-use crate::list::{has_some_bit, read_variants, set_bits};
+use crate::list::{has_some_bit, read_list, set_bits};
 use crate::package_table::PackageTable;
 use crate::paragraph::Paragraph;
 use crate::recipe::Recipe;
-use deb_relation::{Kind, Relations};
 use farm_model::Variant;
 use std::alloc::Global;
 
@@ -53,7 +53,6 @@ fn read_recipe_name(alloc: Global, recipes: &[Recipe], given: &[u8]) -> Result<V
 }
 
 /// Reads a list of variants that has an item.
-#[tactic(auto, unfolding(crate::specs::RecipeText::outputs_at))]
 fn read_outputs(
     alloc: Global,
     table: &PackageTable,
@@ -67,11 +66,11 @@ fn read_outputs(
     let Some(text) = value else {
         return Err(FieldFault::NoOutput);
     };
-    let list = Relations::parse(alloc, text, Kind::Provide)?;
-    if list.is_empty() {
+    let outputs = read_list(alloc, table, text)?.variants;
+    if outputs.is_empty() {
         return Err(FieldFault::NoOutput);
     }
-    Ok(read_variants(alloc, table, list.entries())?.variants)
+    Ok(outputs)
 }
 
 /// Reads outputs that are new.
@@ -106,8 +105,36 @@ fn is_over(list: &RecipeList, build: &Build) -> bool
             .is_none()
 }
 
+/// Reads a recipe behind others, where the first entries of its build tell whether there are too
+/// many.
+#[tactic(auto, unfolding(crate::specs::RecipeSteps::first_recipe_at))]
+fn read_first_recipe(
+    alloc: Global,
+    land: &Land,
+    list: &RecipeList,
+    paragraph: &Paragraph,
+    given: &[u8],
+) -> Result<Recipe, FieldFault>
+    requires land { IsLand (land_view land.now) }
+    requires list { AreRecipes (land_view land.now) list.now }
+    ensures read { Gives refusal_of (λ r. r) result
+        (first_recipe_at (land_view land.now) list.now.recipes.items paragraph.now given.now) }
+    ensures new { IfOk result (IsNew (land_view land.now) list.now.recipes.items) }
+{
+    let name = read_recipe_name(alloc, &list.recipes, given)?;
+    let build = read_build(alloc, land, paragraph)?;
+    let steps = read_number_up_to(MOST_SIZE, paragraph.needed(b"Steps")?)?;
+    let scratch = read_size(paragraph.field(b"Scratch"))?;
+    let outputs = read_new_outputs(alloc, land, list, paragraph)?;
+    if is_over(list, &build) {
+        return Err(FieldFault::OverLimit);
+    }
+    let Build { needs, clashes } = build;
+    Ok(Recipe::new(name, steps, scratch, needs, clashes, outputs))
+}
+
 /// Reads a recipe behind others.
-#[tactic(auto, unfolding(crate::specs::RecipeText::recipe_at))]
+#[tactic(auto, using(crate::proofs::FirstLaws::gives_recipe))]
 fn read_recipe(
     alloc: Global,
     land: &Land,
@@ -121,16 +148,7 @@ fn read_recipe(
         (recipe_at (land_view land.now) list.now.recipes.items paragraph.now given.now) }
     ensures new { IfOk result (IsNew (land_view land.now) list.now.recipes.items) }
 {
-    let name = read_recipe_name(alloc, &list.recipes, given)?;
-    let build = read_build(alloc, land, paragraph)?;
-    let steps = read_number_up_to(MOST_SIZE, paragraph.needed(b"Steps")?)?;
-    let scratch = read_size(paragraph.field(b"Scratch"))?;
-    let outputs = read_new_outputs(alloc, land, list, paragraph)?;
-    if is_over(list, &build) {
-        return Err(FieldFault::OverLimit);
-    }
-    let Build { needs, clashes } = build;
-    Ok(Recipe::new(name, steps, scratch, needs, clashes, outputs))
+    read_first_recipe(alloc, land, list, paragraph, given)
 }
 
 /// Puts a recipe behind the others.

@@ -7,11 +7,11 @@ ghost use Rattle.farm_universe.specs.Land.{reduced_field, reduced_package, reduc
 
 use crate::binary::{Package, PackageRelations};
 use crate::package_table::PackageTable;
-use deb_profile::{ArchNames, ProfileSet, reduce};
+use deb_profile::{ArchNames, ProfileSet, is_bare, reduce};
 use deb_relation::Relations;
 use std::alloc::{AllocError, Global};
 
-/// Reduces a field where it stands.
+/// Reduces a field where it stands. Most fields have nothing that could go.
 #[tactic(auto, unfolding(crate::specs::Land::reduced_field))]
 fn reduce_field(
     alloc: Global,
@@ -20,6 +20,9 @@ fn reduce_field(
 ) -> Result<(), AllocError>
     ensures { IfOk result (λ _. field.new ≡ reduced_field architectures.now field.old) }
 {
+    if is_bare(field) {
+        return Ok(());
+    }
     *field = reduce(alloc, field, architectures, &ProfileSet::none(alloc))?;
     Ok(())
 }

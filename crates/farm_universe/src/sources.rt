@@ -6,9 +6,10 @@ ghost use Rattle.farm_universe.specs.SourceView.{listed_source_view};
 ghost use Rattle.farm_universe.specs.View.{refusal_of};
 
 use crate::error::FieldFault;
-use crate::fields::{read_name, read_relations, read_version};
+use crate::field_text::FieldText;
+use crate::fields::{keep_relations, read_name, read_version};
 use crate::paragraph::Paragraph;
-use deb_relation::{Kind, Relations};
+use deb_relation::Kind;
 use deb_version::Version;
 use std::alloc::Global;
 
@@ -16,11 +17,11 @@ use std::alloc::Global;
 #[derive(Debug, Drop)]
 pub struct BuildFields {
     /// For every build.
-    pub always: Relations,
+    pub always: FieldText,
     /// For builds of packages of one architecture.
-    pub arch: Relations,
+    pub arch: FieldText,
     /// For builds of packages of all architectures.
-    pub indep: Relations,
+    pub indep: FieldText,
 }
 
 /// What is known of one version of a source package.
@@ -62,9 +63,9 @@ fn read_build_fields(
         (build_fields_at kind paragraph.now always.now arch.now indep.now) }
 {
     Ok(BuildFields {
-        always: read_relations(alloc, kind, paragraph.field(always))?,
-        arch: read_relations(alloc, kind, paragraph.field(arch))?,
-        indep: read_relations(alloc, kind, paragraph.field(indep))?,
+        always: keep_relations(alloc, kind, paragraph.field(always))?,
+        arch: keep_relations(alloc, kind, paragraph.field(arch))?,
+        indep: keep_relations(alloc, kind, paragraph.field(indep))?,
     })
 }
 

@@ -1,21 +1,39 @@
-use Rattle.std.proofs.Common.{◌≡◌, ◌∙◌, sym, ap, eqb, false, length, Ok}
-use Rattle.farm_universe.specs.ListText.{variants_in}
+use Rattle.std.proofs.Common.{◌≡◌, ◌∙◌, refl, sym, ap, arith, length, ◌==◌, if◌then◌else◌, Err, Ok}
+use Rattle.std.proofs.lemmas.Result.{err_from_is_err_and}
+use Rattle.farm_universe.specs.declared.error.TheConstants.{NO_OUTPUT}
+use Rattle.farm_universe.specs.RecipeText.{outputs_at}
 use Rattle.farm_universe.specs.TableView.{table_view}
-use Rattle.farm_universe.proofs.ListLaws.{outputs-there}
+use Rattle.farm_universe.specs.View.{refusal_of}
+use Rattle.farm_universe.proofs.TextListLaws.{outputs-of, outputs-fail}
 use Rattle.farm_universe.proofs.recipes.read_outputs.Goals as goal
 
-pub returns-clause-outputs : goal.returns-clause-outputs
-returns-clause-outputs c =
-    let some : eqb (length c.in_ok-list.list) 0 ≡ false =
-    sym c.is_empty.ensures ∙ c.if-is_empty.false in
-    let read : variants_in (table_view c.args.table.now) c.in_ok-list.list
-    ≡ Ok c.in_ok-read_variants.field-0.variants.items =
-    ap (variants_in (table_view c.args.table.now)) (sym c.entries.ensures)
-    ∙ c.in_ok-read_variants.ensures.read in
-    record {
-      there =
-          outputs-there (table_view c.args.table.now) c.in_ok-list.list
-          c.in_ok-read_variants.field-0.variants.items some read;
-      known = c.in_ok-read_variants.ensures.listed.known;
-      once = c.in_ok-read_variants.ensures.listed.once;
-    }
+pub returns-in_default-clause-read : goal.returns-in_default-clause-read
+unfolding outputs_at
+returns-in_default-clause-read c = rw c.in_default.is refl
+
+pub returns-in_err-outputs-clause-read : goal.returns-in_err-outputs-clause-read
+returns-in_err-outputs-clause-read c =
+    let p = err_from_is_err_and c.from_residual.result c.from_residual.ensures.1 in
+    rw (p.1, p.2, c.in-Some.is)
+    (outputs-fail refusal_of c.in_err-outputs.field-0.0 (table_view c.args.table.now)
+    c.in-Some.text.now c.in_err-outputs.ensures.read)
+
+pub returns-then-is_empty-clause-read : goal.returns-then-is_empty-clause-read
+returns-then-is_empty-clause-read c =
+    let vs = c.in_ok-outputs.field-0.variants.items in
+    let size : length vs ≡ c.in_ok-outputs.field-0.variants.len =
+    omega (arith, c.in_ok-outputs.field-0.variants.ok.0) in
+    rw c.in-Some.is
+    (outputs-of (table_view c.args.table.now) c.in-Some.text.now vs c.in_ok-outputs.ensures.read
+    ∙ ap (λ none. if none then Err NO_OUTPUT else Ok vs)
+    (ap (λ n. n == 0) size ∙ sym c.is_empty.ensures ∙ c.if-is_empty.true))
+
+pub returns-clause-read : goal.returns-clause-read
+returns-clause-read c =
+    let vs = c.in_ok-outputs.field-0.variants.items in
+    let size : length vs ≡ c.in_ok-outputs.field-0.variants.len =
+    omega (arith, c.in_ok-outputs.field-0.variants.ok.0) in
+    rw c.in-Some.is
+    (outputs-of (table_view c.args.table.now) c.in-Some.text.now vs c.in_ok-outputs.ensures.read
+    ∙ ap (λ none. if none then Err NO_OUTPUT else Ok vs)
+    (ap (λ n. n == 0) size ∙ sym c.is_empty.ensures ∙ c.if-is_empty.false))

@@ -1,6 +1,6 @@
 use Rattle.std.proofs.Common.{◌≡◌, ◌++◌, drop}
 use Rattle.deb_profile.specs.Reduction.{reduced_entry}
-use Rattle.deb_profile.proofs.reduction.alternatives_left.Given as goal
+use Rattle.deb_profile.proofs.reduction.reduce_entry.Given as goal
 
 abbrev pub invariant-loop-atom : goal.invariant-loop-atom
 invariant-loop-atom l =
