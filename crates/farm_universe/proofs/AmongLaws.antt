@@ -99,7 +99,8 @@ any-owner ms items test passes sound complete = both_ways _ _ on back where
       any-at (λ at. at_owner (test at) ms at) items told.1.0 told.0 told.1.1
       (ap (holds (test told.0)) (ap (slice_get ms) told.2 ∙ found.2) ∙ told.3)
 
-module _ (ms : List Member) (named provided : List (List (Item ℕ))) (are : AreFound ms named provided)
+module _ (ms : List Member) (named provided : List (List (Item ℕ)))
+    (are : AreFound ms named provided)
     (besides : Option ℕ) (a : Atom) where
   -- by their own names
   pub any-named : list_any
@@ -116,7 +117,8 @@ module _ (ms : List Member) (named provided : List (List (Item ℕ))) (are : Are
           × ((is_other besides m && is_its_own (member_facts m) a) ≡ true)
       complete k m there is =
           let own = (and_parts (is_other besides m) _ is).1 in
-          let same = (bytes_eq-Decides m.name a.name).0 (and_parts (bytes_eq m.name a.name) _ own).0 in (
+          let same = (bytes_eq-Decides m.name a.name).0
+          (and_parts (bytes_eq m.name a.name) _ own).0 in (
             item k 0 0,
             subst (λ text. IsIn (listed named text) (item k 0 0)) same (are.by_name k m there),
             refl,

@@ -121,7 +121,8 @@ first_of_listed listed = record {
 }
 
 relations-first : (kind : Kind) (value : Option (List ℕ))
-    → first_relations_in kind value ≡ (relations_in kind value >>= λ field. Ok (first_entries field))
+    → first_relations_in kind value
+    ≡ (relations_in kind value >>= λ field. Ok (first_entries field))
 unfolding first_relations_at
 relations-first kind None = refl
 relations-first kind (Some text) = refl
@@ -171,7 +172,8 @@ package-first p =
     ∙ cut-behind first_of_fields (package_relations_at p) _ _ _ (λ fields. refl)))))))
 
 over-first : (n : ℕ) (v : Package)
-    → nat_lt MOST_ENTRIES (n + entry_count (first_of_listed (record { name = []; binary = v })).binary)
+    → nat_lt MOST_ENTRIES
+    (n + entry_count (first_of_listed (record { name = []; binary = v })).binary)
     ≡ nat_lt MOST_ENTRIES (n + entry_count v)
 over-first n v = by (nat_lt MOST_ENTRIES (n + entry_count v)) refl where
   cut : ℕ
@@ -277,7 +279,8 @@ build-over count entries build =
     cut : ℕ
     cut = entries + (length (first_entries build.needs) + length (first_entries build.clashes))
 
-    by : (b : Bool) → nat_lt MOST_ENTRIES whole ≡ b → nat_lt MOST_ENTRIES cut ≡ nat_lt MOST_ENTRIES whole
+    by : (b : Bool) → nat_lt MOST_ENTRIES whole ≡ b → nat_lt MOST_ENTRIES cut
+        ≡ nat_lt MOST_ENTRIES whole
     by true is =
         lt-ltb _ _ (omega (
           arith,

@@ -35,27 +35,29 @@ module _ (table : PackageTable) where
       ap (λ b. not (is_seen vs v.name) && b) (once-seen vs i d (omega arith) seen)
       ∙ and_false (not (is_seen vs v.name))
 
-  module _ (vs : List Variant) (i : ℕ) (v : Variant) (lt : i < length vs) (is : v ≡ get_or vs i v) where
-    here : drop i vs ≡ v ∷ drop (suc i) vs
-    here = drop-cons vs i v lt ∙ ap (λ w. w ∷ drop (suc i) vs) (sym is)
+  module _ (vs : List Variant) (i : ℕ) (v : Variant) (lt : i < length vs) (is : v ≡ get_or vs i v)
+    where
+      here : drop i vs ≡ v ∷ drop (suc i) vs
+      here = drop-cons vs i v lt ∙ ap (λ w. w ∷ drop (suc i) vs) (sym is)
 
-    -- one more, of a name that none behind it has
-    pub once-next : one_of_each (map m (drop (suc i) vs)) ≡ true
-        → is_seen (drop (suc i) vs) v.name ≡ false → one_of_each (map m (drop i vs)) ≡ true
-    once-next once none = rw here (rw none once)
+      -- one more, of a name that none behind it has
+      pub once-next : one_of_each (map m (drop (suc i) vs)) ≡ true
+          → is_seen (drop (suc i) vs) v.name ≡ false → one_of_each (map m (drop i vs)) ≡ true
+      once-next once none = rw here (rw none once)
 
-    pub seen-next : (seen : List Bool) → v.name < length seen
-        → ((n : ℕ) → get_or seen n false ≡ is_seen (drop (suc i) vs) n)
-        → (n : ℕ) → get_or (set seen v.name true) n false ≡ is_seen (drop i vs) n
-    seen-next seen long before n =
-        elim (cases_eq n v.name) [
-          | inl same ↦
-              ap (λ k. get_or (set seen v.name true) k false) same
-              ∙ get_or-set_same seen v.name true false long
-              ∙ sym (ap (λ ws. is_seen ws n) here
-              ∙ ap (λ b. b || is_seen (drop (suc i) vs) n) (eq-eqb v.name n (sym same)))
-          | inr other ↦
-              get_or-set_other seen v.name n true false other ∙ before n
-              ∙ sym (ap (λ ws. is_seen ws n) here
-              ∙ ap (λ b. b || is_seen (drop (suc i) vs) n) (neq-eqb v.name n (λ is. other (sym is))))
-        ]
+      pub seen-next : (seen : List Bool) → v.name < length seen
+          → ((n : ℕ) → get_or seen n false ≡ is_seen (drop (suc i) vs) n)
+          → (n : ℕ) → get_or (set seen v.name true) n false ≡ is_seen (drop i vs) n
+      seen-next seen long before n =
+          elim (cases_eq n v.name) [
+            | inl same ↦
+                ap (λ k. get_or (set seen v.name true) k false) same
+                ∙ get_or-set_same seen v.name true false long
+                ∙ sym (ap (λ ws. is_seen ws n) here
+                ∙ ap (λ b. b || is_seen (drop (suc i) vs) n) (eq-eqb v.name n (sym same)))
+            | inr other ↦
+                get_or-set_other seen v.name n true false other ∙ before n
+                ∙ sym (ap (λ ws. is_seen ws n) here
+                ∙ ap (λ b. b || is_seen (drop (suc i) vs) n)
+                (neq-eqb v.name n (λ is. other (sym is))))
+          ]

@@ -83,7 +83,8 @@ has_bit-taken_with (v ∷ vs) words w all =
 
 outputs_of-push : (rs : List Recipe) (r : Recipe) (q i : ℕ) (v : Variant)
     → slice_get (outputs_of (rs ++ r ∷ []) q) i ≡ Some v
-    → (slice_get (outputs_of rs q) i ≡ Some v) ⊎ ((q ≡ length rs) × (slice_get r.outputs i ≡ Some v))
+    → (slice_get (outputs_of rs q) i ≡ Some v)
+    ⊎ ((q ≡ length rs) × (slice_get r.outputs i ≡ Some v))
 outputs_of-push [] r zero i v at = inr (refl, at)
 outputs_of-push [] r (suc q) i v at = absurd (nothing i at) where
   nothing : (i : ℕ) → slice_get (outputs_of [] q) i ≡ Some v → ⊥

@@ -25,7 +25,8 @@ nothing_below : (n : ℕ) (f : ℕ → ℕ) → ((k : ℕ) → f k ≡ 0) → su
 nothing_below zero f none = refl
 nothing_below (suc n) f none = rw (none n, nothing_below n f none) refl
 
-sum_below-plus : (n : ℕ) (f g : ℕ → ℕ) → sum_below n (λ k. f k + g k) ≡ sum_below n f + sum_below n g
+sum_below-plus : (n : ℕ) (f g : ℕ → ℕ) → sum_below n (λ k. f k + g k)
+    ≡ sum_below n f + sum_below n g
 sum_below-plus zero f g = refl
 sum_below-plus (suc n) f g = omega (arith, sum_below-plus n f g)
 
@@ -143,7 +144,8 @@ module _ (u : Universe) (n : ℕ) (b : ℕ) (sound : All (λ v. v.name < names u
           let r = any-map-found m (λ o. meets o e) vs some in
           let lt = All-slice_get (λ w. w.name < names u) vs r.0 r.1 sound r.2 in
           some_below-at (length (base_chroot u b))
-          (λ k. holds_configured (λ d. satisfies_entry u e (variant k d)) (slot (base_chroot u b) k))
+          (λ k. holds_configured (λ d. satisfies_entry u e (variant k d))
+          (slot (base_chroot u b) k))
           r.1.name (omega (arith, long, lt))
           (rw (slot-member r.0 r.1 r.2) (sym (meets-is r.1 e) ∙ r.3))
 
@@ -197,7 +199,8 @@ module _ (u : Universe) (n : ℕ) (b : ℕ) (sound : All (λ v. v.name < names u
       by (inr none) = none
       by (inl some) =
           let r =
-          some_below-found (length (base_chroot u b)) (λ k. test k (slot (base_chroot u b) k)) some in
+          some_below-found (length (base_chroot u b)) (λ k. test k (slot (base_chroot u b) k))
+          some in
           let v = of_slot test r.0 refl (omega (arith, long, r.1)) r.2 in
           let parts =
           and_parts (are_met (map m vs) (m v.1).binary.depends)

@@ -67,7 +67,8 @@ add-keeps before p =
     (put_at (table_of before) at p))
     (group_at-keys (λ (p : Listed). p.name) (λ p vs. in_order is_below p.binary vs) packages_named
     packages_named-push nothing before p.name)
-    ∙ ap (λ table. answer (first_code (rules_of p.binary (packages_named before p.name) table)) table)
+    ∙ ap (λ table. answer (first_code (rules_of p.binary (packages_named before p.name) table))
+    table)
     (put_at-table_of before p)
   where
     at : Option ℕ

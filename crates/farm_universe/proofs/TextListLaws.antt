@@ -57,7 +57,8 @@ module _ (table : PackageTable) (vs : List Variant) (x : List ℕ) (xs all : Lis
     where
       stops : (code : ℕ) → add_item table vs y ≡ Err code → items_left table vs all ≡ Err code
       stops code at =
-          let rest = judged-some (traverse (entry_at Provide) xs) (judged-behind x xs all y cut is fine) in
+          let rest = judged-some (traverse (entry_at Provide) xs)
+          (judged-behind x xs all y cut is fine) in
           rw (cut, is, rest.1, at) refl
 
 -- ---- outputs
@@ -95,7 +96,8 @@ outputs-of table text vs = by (relations_at Provide text) where
       → (read >>= outputs_in table) ≡ (if eqb (length vs) 0 then Err NO_OUTPUT else Ok vs)
   by (Err code) is = absurd cc
   by (Ok []) is = none (variants_in table []) (none-listed table) is
-  by (Ok (e ∷ es)) is = is ∙ outputs-some vs (outputs-there table (e ∷ es) vs (not-none (length es)) is)
+  by (Ok (e ∷ es)) is = is ∙ outputs-some vs
+      (outputs-there table (e ∷ es) vs (not-none (length es)) is)
 
 pub outputs-fail : {E : Type 0} (refusal : E → Option ℕ) (e : E) (table : PackageTable)
     (text : List ℕ) → Fails refusal e (list_at table text)

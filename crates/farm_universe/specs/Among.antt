@@ -4,7 +4,8 @@
 --   provides_at           what a member provides at a place provides an alternative
 --   is_other              a member is of another name than this one, if there is one
 --   at_owner              a test of the member that an item is of
---   AreFound              each member is listed under its name, and what it provides under the names
+--   AreFound              each member is listed under its name, and what it provides under the
+--   names
 --                         of that
 use Rattle.std.specs.Prelude.{◌≡◌, ℕ, Bool, true, false, not, ◌==◌, List, Option, None, Some, slice_get}
 use Rattle.deb_relation.specs.Relations.{Atom}

@@ -109,9 +109,9 @@ impl Universe {
     /// first line of its paragraph. Of a text: 105 at line 0, 101 to 104 at the faulty line.
     ///
     /// Of a packages paragraph: 201, 121 of `Package`; 201, 111 to 114 of `Version`; 202 of
-    /// `Installed-Size`, then of `Essential`; the faults of a relation field, 121 to 129, of `Pre-Depends`, `Depends`,
-    /// `Conflicts`, `Breaks` and `Provides`; 203 for a version that the name has, 204 for too many
-    /// of them, 210 for too many names or relation entries.
+    /// `Installed-Size`, then of `Essential`; the faults of a relation field, 121 to 129, of
+    /// `Pre-Depends`, `Depends`, `Conflicts`, `Breaks` and `Provides`; 203 for a version that the
+    /// name has, 204 for too many of them, 210 for too many names or relation entries.
     ///
     /// Of a sources paragraph: 201, 121 of `Package`, or of `Source` where that is absent; 201, 111
     /// to 114 of `Version`; 121 to 130 of `Build-Depends`, `Build-Depends-Arch`,

@@ -115,7 +115,8 @@ find-more p (x ∷ xs) (suc i) d lt =
 
 -- a name's slot is that of the first package found
 abbrev pub AreSlots : Words → List Variant → Type 0
-AreSlots w xs = (n : ℕ) → (may_of w).slots n ≡ may_base_slot (find (λ (v : Variant). v.name == n) xs)
+AreSlots w xs = (n : ℕ) → (may_of w).slots n ≡ may_base_slot
+    (find (λ (v : Variant). v.name == n) xs)
 
 after_slot : (first : Option Variant) (x : Variant) (n : ℕ)
     → may_base_slot (first_or first (if x.name == n then Some x else None))
@@ -216,7 +217,8 @@ module _ (w next : Words) (x : Variant)
   added-cost = ap (λ (m : May). m.cost) added ∙ by (is_surely_present ((may_of w).slots x.name))
     where
       by : (t : Bool)
-          → (if t then may_of w else with_slot (may_of w) x.name (MayConfigured (λ b. b == x.bit))).cost
+          → (if t then may_of w else with_slot (may_of w) x.name
+          (MayConfigured (λ b. b == x.bit))).cost
           ≡ w.cost
       by true = refl
       by false = refl
@@ -225,7 +227,8 @@ module _ (w next : Words) (x : Variant)
   added-built = ap (λ (m : May). m.built) added ∙ by (is_surely_present ((may_of w).slots x.name))
     where
       by : (t : Bool)
-          → (if t then may_of w else with_slot (may_of w) x.name (MayConfigured (λ b. b == x.bit))).built
+          → (if t then may_of w else with_slot (may_of w) x.name
+          (MayConfigured (λ b. b == x.bit))).built
           ≡ w.built
       by true = refl
       by false = refl

@@ -89,9 +89,11 @@ module _ (u : Universe) (words : List ℕ) (p : Variant → Bool) (long : length
       (λ k lt. each k (cases_Bool (word_has (slice_index words n) k)))))
     where
       each : (k : ℕ)
-          → (word_has (slice_index words inside.0) k ≡ true) ⊎ (word_has (slice_index words inside.0) k ≡ false)
+          → (word_has (slice_index words inside.0) k ≡ true)
+          ⊎ (word_has (slice_index words inside.0) k ≡ false)
           → (not (word_has (slice_index words inside.0) k) || p (variant inside.0 k)) ≡ true
-      each k (inl has) = or_right _ _ (and_parts (nat_lt k (variants u inside.0)) (p (variant inside.0 k)) (inside.2 k has)).1
+      each k (inl has) = or_right _ _
+          (and_parts (nat_lt k (variants u inside.0)) (p (variant inside.0 k)) (inside.2 k has)).1
       each k (inr no_bit) = or_left _ _ (ap not no_bit)
 
   pub inside-to : ((n b : ℕ) → word_has (slice_index words n) b ≡ true → b < variants u n)
@@ -220,7 +222,8 @@ module _ (u : Universe) (w : Words) (is : AreWords u w) where
   unfolding surely_met
   met-inside e =
       some_below-same (names u) _ _
-      (λ n lt. surely_configured-is u n (λ b. satisfies_entry u e (variant n b)) _ _ _ _ (is.each n))
+      (λ n lt. surely_configured-is u n (λ b. satisfies_entry u e (variant n b)) _ _ _ _
+      (is.each n))
 
   pub met_is : (e : Entry) (row : List ℕ) → IsRowOf u (satisfies_entry u e) row
       → (t : Bool) → (t ≡ true) ↔ HasNameInside (variants_of w.ready) (variants_of row)

@@ -16,6 +16,7 @@ are-built u w r is = record {
   used_is = is.used_is;
 }
 
-pub words_built : (u : Universe) (old new : Words) (r : ℕ) → new ≡ with_recipe old r → AreWords u old
+pub words_built : (u : Universe) (old new : Words) (r : ℕ) → new ≡ with_recipe old r
+    → AreWords u old
     → AreWords u new
 words_built u old new r same is = subst (AreWords u) (sym same) (are-built u old r is)

@@ -143,7 +143,8 @@ module _ (u : Universe) (p : Variant → Bool) (name known_word there_word mask 
     (bits : (b : ℕ) → word_has word b ≡ (word_has (bit_and there_word mask) b && nat_le h b)) where
   pub pick-known : (b : ℕ) → word_has word b ≡ true → b < variants u name
   pick-known b has =
-      let parts = and_parts (word_has (bit_and there_word mask) b) (nat_le h b) (sym (bits b) ∙ has) in
+      let parts = and_parts (word_has (bit_and there_word mask) b) (nat_le h b)
+      (sym (bits b) ∙ has) in
       let both =
       and_parts (word_has there_word b) (word_has mask b)
       (sym (word_has-and there_word mask b) ∙ parts.0) in

@@ -32,7 +32,8 @@ configured-words count here ready last both is = record {
 
 pub configured-slot : (count here ready last both : ℕ) → AreOfName count here ready last both
     → slot_of here here here ≡ may_be_configured (slot_of here ready last)
-configured-slot count here ready last both is = by (cases_Bool (here == 0)) (cases_Bool (ready == 0))
+configured-slot count here ready last both is = by (cases_Bool (here == 0))
+    (cases_Bool (ready == 0))
   where
     by : ((here == 0) ≡ true) ⊎ ((here == 0) ≡ false)
         → ((ready == 0) ≡ true) ⊎ ((ready == 0) ≡ false)
@@ -67,7 +68,8 @@ module _ (u : Universe) (ms : List ℕ) (m : May) where
       by n p false (MayUnpacked current last) = refl
       by n p false (MayConfigured current) = or-false _
 
-  pub unmet-after : (es : Relations) → unmet (surely_met_with u ms m) es ≡ unmet (surely_met u after) es
+  pub unmet-after : (es : Relations) → unmet (surely_met_with u ms m) es
+      ≡ unmet (surely_met u after) es
   unmet-after es = any-same _ _ es (λ e. ap not (with_is_after e))
 
   hold-after : (n : ℕ) (p : Bits) → may_hold u n p (m.slots n) ≡ may_hold u n p (after.slots n)

@@ -26,7 +26,8 @@ module _ (u : Universe) (rows : List (List ℕ)) (are : AreRows u rows) (place n
   more = with_word rows place name all
 
   at_place : slice_index_or more place [] ≡ slice_set row name all
-  at_place = get_or-set_same rows place (slice_set row name all) [] (omega (arith, within, are.long))
+  at_place = get_or-set_same rows place (slice_set row name all) []
+      (omega (arith, within, are.long))
 
   elsewhere : (k : ℕ) → k ≢ place → slice_index_or more k [] ≡ slice_index_or rows k []
   elsewhere k other = get_or-set_other rows place k (slice_set row name all) [] other
@@ -52,13 +53,14 @@ module _ (u : Universe) (rows : List (List ℕ)) (are : AreRows u rows) (place n
   pub kept_names : (k n : ℕ) → HasName u rows k n → HasName u more k n
   kept_names k n has b lt = elim (cases_eq k place) [
     | inr other ↦ ap (λ r. variants_of r n b) (elsewhere k other) ∙ has b lt
-    | inl same ↦ ap (λ j. variants_of (slice_index_or more j []) n b) same ∙ elim (cases_eq n name) [
-      | inl here ↦
-          ap (λ j. variants_of (slice_index_or more place []) j b) here
-          ∙ name_noted b (subst (λ j. b < variants u j) here lt)
-      | inr other ↦
-          ap (λ r. variants_of r n b) at_place
-          ∙ ap (λ word. word_has word b) (get_or-set_other row name n all 0 other)
-          ∙ ap (λ j. variants_of (slice_index_or rows j []) n b) (sym same) ∙ has b lt
-    ]
+    | inl same ↦ ap (λ j. variants_of (slice_index_or more j []) n b) same
+        ∙ elim (cases_eq n name) [
+          | inl here ↦
+              ap (λ j. variants_of (slice_index_or more place []) j b) here
+              ∙ name_noted b (subst (λ j. b < variants u j) here lt)
+          | inr other ↦
+              ap (λ r. variants_of r n b) at_place
+              ∙ ap (λ word. word_has word b) (get_or-set_other row name n all 0 other)
+              ∙ ap (λ j. variants_of (slice_index_or rows j []) n b) (sym same) ∙ has b lt
+        ]
   ]

@@ -32,7 +32,8 @@ covers_more u es i lt old other new is union so_far k c known some =
 
 pub kept_more : (start old other new : List ℕ)
     → IsUnion (variants_of old) (variants_of other) (variants_of new)
-    → IsSubset (variants_of start) (variants_of old) → IsSubset (variants_of start) (variants_of new)
+    → IsSubset (variants_of start) (variants_of old)
+    → IsSubset (variants_of start) (variants_of new)
 kept_more start old other new union so_far k c is = union k c ∙ or_left _ _ (so_far k c is)
 
 pub covers_all : (u : Universe) (es : Relations) (i : ℕ) (row : List ℕ) → length es ≡ i

@@ -180,7 +180,8 @@ module _ (u : Universe) (first m : May) where
   below-zero = λ i. record { slots = λ n. slot n i; cost = m.cost; built = m.built }
     where
       slot : (n : ℕ) → m.slots n ≡ (joined_below u first 0 m).slots n
-      slot n = sym (cond-false (nat_lt n 0) (joined_slot u n (first.slots n) (m.slots n)) (m.slots n)
+      slot n = sym (cond-false (nat_lt n 0) (joined_slot u n (first.slots n) (m.slots n))
+          (m.slots n)
           (le-ltb n 0 (omega arith)))
 
   -- the slot of a name that is not joined yet

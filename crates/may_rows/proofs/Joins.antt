@@ -107,7 +107,8 @@ module _ (u : Universe) (n : ℕ) where
     AreJoined = AreOfName (variants u n) all_here all_ready all_last (joined_word all_here all_last)
         × (slot_of all_here all_ready all_last ≡ joined_slot u n (slot_of h r l) (slot_of h' r' l'))
 
-    of_name : ((all_ready ≡ 0) ⊎ ((all_ready ≡ all_here) × (all_last ≡ all_here))) → (all_here ≡ 0 → all_last ≡ 0)
+    of_name : ((all_ready ≡ 0) ⊎ ((all_ready ≡ all_here) × (all_last ≡ all_here)))
+        → (all_here ≡ 0 → all_last ≡ 0)
         → AreOfName (variants u n) all_here all_ready all_last (joined_word all_here all_last)
     of_name phase absent = record {
       phase = phase;

@@ -113,7 +113,8 @@ may_satisfy u n p (MayConfigured current) some is =
     let at = some_below-found (variants u n) (λ b. current b && true) (some refl) in
     let has = (and_parts (current at.0) true at.2).0 in
     some_below-at (variants u n) (λ b. current b && p b) at.0 at.1 (and_from _ _ has
-    (elim (or_cases (not (current at.0)) (p at.0) (every_below-at (variants u n) (λ b. not (current b) || p b) at.0 at.1 is)) [
+    (elim (or_cases (not (current at.0)) (p at.0)
+    (every_below-at (variants u n) (λ b. not (current b) || p b) at.0 at.1 is)) [
       | inl lacks ↦ absurd (both_ways _ (not-true _ lacks) has)
       | inr passes ↦ passes
     ]))
@@ -306,7 +307,8 @@ module _ (u : Universe) (of : Lane) (m : May) (ms : List ℕ) where
       dep = (no_trap _ _ _ (no_trap _ _ _ (no_trap _ _ _ (no_trap _ _ _ none).1).1).1).0
 
       misses : (n : ℕ) → member ms n ≡ true
-          → may_hold u n (λ b. unmet (surely_met u configured) (entries u (variant n b))) (m.slots n)
+          → may_hold u n (λ b. unmet (surely_met u configured) (entries u (variant n b)))
+          (m.slots n)
           ≡ true → ⊥
       misses n is some =
           let f = hold_found u n _ (m.slots n) some in

@@ -173,7 +173,8 @@ module _ (u : Universe) (n : ℕ) where
         let no_last = eqb-true last 0 l in
         let no_both : both ≡ 0 = is.joined ∙ rw l refl in
         rw (h, r)
-        (and_right _ _ (and_left _ _ (ap (λ word. is_some_of u n (word_has word)) no_last ∙ no_bit_of))
+        (and_right _ _ (and_left _ _
+        (ap (λ word. is_some_of u n (word_has word)) no_last ∙ no_bit_of))
         ∙ sym (none_inside no_both))
 
     when_unpacked : (here == 0) ≡ false → (ready == 0) ≡ true → (last == 0) ≡ false → Told

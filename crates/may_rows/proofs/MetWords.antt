@@ -56,7 +56,8 @@ hold_some u w are n is =
 
 unpacked-is : (count here ready last both : ℕ) → AreOfName count here ready last both
     → is_surely_unpacked (slot_of here ready last) ≡ not (here == ready)
-unpacked-is count here ready last both is = by (cases_Bool (here == 0)) (cases_Bool (ready == 0)) is.phase
+unpacked-is count here ready last both is = by (cases_Bool (here == 0)) (cases_Bool (ready == 0))
+    is.phase
   where
     by : ((here == 0) ≡ true) ⊎ ((here == 0) ≡ false)
         → ((ready == 0) ≡ true) ⊎ ((ready == 0) ≡ false)
@@ -108,7 +109,8 @@ module _ (u : Universe) (w : Words) (are : AreWords u w) where
 
 -- ---- the test of a build
 
-either : (n : ℕ) (p q : ℕ → Bool) → some_below n (λ k. p k || q k) ≡ (some_below n p || some_below n q)
+either : (n : ℕ) (p q : ℕ → Bool) → some_below n (λ k. p k || q k)
+    ≡ (some_below n p || some_below n q)
 either n p q =
     same_tests _ _
     (λ some. let at = some_below-found n (λ k. p k || q k) some in
@@ -128,7 +130,8 @@ pub unsettled-is : (u : Universe) (m : May)
     ≡ (some_below (names u) (λ n. is_surely_unpacked (m.slots n)) || some_misses u m)
 unfolding may_be_unsettled
 unsettled-is u m =
-    some_below-same (names u) _ _ (λ n lt. by (λ b. unmet (surely_met u m) (entries u (variant n b))) n (m.slots n))
+    some_below-same (names u) _ _
+    (λ n lt. by (λ b. unmet (surely_met u m) (entries u (variant n b))) n (m.slots n))
     ∙ either (names u) (λ n. is_surely_unpacked (m.slots n)) (misses_at u m)
   where
     by : (p : ℕ → Bool) (n : ℕ) (s : MaySlot)

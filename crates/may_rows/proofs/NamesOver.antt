@@ -14,7 +14,8 @@ pub need_noted : (u : Universe) (k : ℕ) (row : List ℕ)
     → variants_of row n b ≡ true)
     → (n : ℕ) → n < names u → may_need u n k ≡ true → (b : ℕ) × (variants_of row n b ≡ true)
 need_noted u k row noted n lt needs =
-    let c = some_below-found (variants u k) (λ c. may_serve u n (variants u n) (variant k c)) needs in
+    let c = some_below-found (variants u k) (λ c. may_serve u n (variants u n) (variant k c))
+    needs in
     let b = some_below-found (variants u n)
     (λ b. satisfies_any u (entries u (variant n b)) (variant k c.0)) c.2 in
     (b.0, noted n c.0 lt c.1 c.2 b.0 b.1)

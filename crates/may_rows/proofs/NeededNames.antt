@@ -134,9 +134,11 @@ module _ (u : Universe) (w : Words) (are : AreWords u w) (k : ℕ) where
       is.known
       (and_from _ _ is.held
       (any-at (missed u m (k ∷ [])) [] es is.place (slice_get_within es is.place e is.has)
-      (subst (λ e. missed u m (k ∷ []) e ≡ true) (sym (get_or_from_slice_get es is.place e [] is.has))
+      (subst (λ e. missed u m (k ∷ []) e ≡ true)
+      (sym (get_or_from_slice_get es is.place e [] is.has))
       (and_from _ _ (or_left (met_by u m e k) false met) (not_from_false _ unmet))))))
 
   pub needed_is : (t : Bool) → (t ≡ true) ↔ IsMissed u k (slice_index w.last k) w.ready
       → t ≡ some_below (names u) needs
-  needed_is t told = same_tests t _ (λ missed. missed_needs (told.0 missed)) (λ some. told.1 (needs_missed some))
+  needed_is t told = same_tests t _ (λ missed. missed_needs (told.0 missed))
+      (λ some. told.1 (needs_missed some))

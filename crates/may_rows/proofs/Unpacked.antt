@@ -39,11 +39,13 @@ module _ (u : Universe) (m : May) (name : ℕ) where
   other-is p = some_below-same (names u) _ _ (λ n lt. by n (n == name))
     where
       by : (n : ℕ) (same : Bool)
-          → (not same && p n (if same then MayAbsent else m.slots n)) ≡ (not same && p n (m.slots n))
+          → (not same && p n (if same then MayAbsent else m.slots n))
+          ≡ (not same && p n (m.slots n))
       by n true = refl
       by n false = refl
 
-  unmet-is : (es : Relations) → unmet (surely_met_ahead u cleared) es ≡ unmet (surely_pre_met u name m) es
+  unmet-is : (es : Relations) → unmet (surely_met_ahead u cleared) es
+      ≡ unmet (surely_pre_met u name m) es
   unmet-is es = any-same _ _ es (λ e. ap not (ahead-absent u m name e))
 
   pub cleared-is : (of : Lane) (set : Bits)
@@ -53,7 +55,8 @@ module _ (u : Universe) (m : May) (name : ℕ) where
       ∷ (some_of u name set (λ b. unmet-is (pre_depends u (variant name b)) i), PreDepends)
       ∷ (
         some_of u name set
-            (λ b. other-is (λ n s. may_hold u n (λ d. conflict u (variant name b) (variant n d)) s) i),
+            (λ b. other-is (λ n s. may_hold u n (λ d. conflict u (variant name b) (variant n d)) s)
+            i),
         Conflict,
       )
       ∷ (
@@ -78,7 +81,8 @@ last-is count here ready last both is =
         → (ready ≡ 0) ⊎ ((ready ≡ here) × (last ≡ here))
         → word_has last ≡ may_be_last (slot_of here ready last)
     by (inl z) r c =
-        rw z (λ i. λ b. (ap (λ k. word_has k b) (is.absent (eqb-true here 0 z)) ∙ word_has_zero b) i)
+        rw z (λ i. λ b. (ap (λ k. word_has k b) (is.absent (eqb-true here 0 z)) ∙ word_has_zero b)
+        i)
     by (inr h) (inl r) c = rw (h, r) refl
     by (inr h) (inr r) (inl none) = absurd (both_ways _ r (eq-eqb ready 0 none))
     by (inr h) (inr r) (inr same) = rw (h, r) (ap word_has same.1)
@@ -113,7 +117,8 @@ module _ (u : Universe) (known there : Variant → Bool) (name : ℕ) (wanted : 
   module _ (set : ℕ) (pick : IsPick u known there name wanted (Some set)) where
     pub risk-is : (of : Lane)
         → risk u of known there m (Unpack name wanted)
-        ≡ first_trap (cleared_risks u of (with_slot m name MayAbsent) (may_use u m) name (word_has set))
+        ≡ first_trap (cleared_risks u of (with_slot m name MayAbsent) (may_use u m) name
+        (word_has set))
     risk-is of =
         ap (unpack_risk u there of m name wanted) pick.1
         ∙ ap (λ bits. first_trap (unpack_risks u of m name bits)) (sym pick.2)
@@ -138,8 +143,10 @@ module _ (u : Universe) (known there : Variant → Bool) (name : ℕ) (wanted : 
     }
       where
         at : (n : ℕ)
-            → (if n == name then slot_of set 0 last else (if n == name then MayAbsent else m.slots n))
-            ≡ (if n == name then MayUnpacked (word_has set) (may_be_last (m.slots n)) else m.slots n)
+            → (if n == name then slot_of set 0 last
+            else (if n == name then MayAbsent else m.slots n))
+            ≡ (if n == name then MayUnpacked (word_has set) (may_be_last (m.slots n)) else m.slots
+            n)
         at n =
             elim (cases_eq n name) [
               | inl same ↦
@@ -165,6 +172,7 @@ last-word u w is name = last-is _ _ _ _ _ (is.each name)
 -- the tests of equal maps and spaces
 pub same_risks : (u : Universe) (of : Lane) (m k : May) (used was name : ℕ) (set : Bits) → m ≡ k
     → used ≡ was
-    → first_trap (cleared_risks u of m used name set) ≡ first_trap (cleared_risks u of k was name set)
+    → first_trap (cleared_risks u of m used name set)
+    ≡ first_trap (cleared_risks u of k was name set)
 same_risks u of m k used was name set same_map same_use =
     λ i. first_trap (cleared_risks u of (same_map i) (same_use i) name set)

@@ -177,7 +177,8 @@ pub deconfigured-is : (m : May) (ms : List ℕ)
     → slots_after may_be_withdrawn m ms ≡ slots_after may_be_deconfigured m ms
 deconfigured-is m ms right = λ i. record { slots = λ n. at n i; cost = m.cost; built = m.built }
   where
-    same : (s : MaySlot) → is_surely_configured s ≡ true → may_be_withdrawn s ≡ may_be_deconfigured s
+    same : (s : MaySlot) → is_surely_configured s ≡ true → may_be_withdrawn s
+        ≡ may_be_deconfigured s
     same MayAbsent e = cc
     same (MayUnpacked current last) e = cc
     same (MayConfigured current) e = refl

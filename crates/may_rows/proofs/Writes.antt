@@ -84,7 +84,8 @@ module _ (u : Universe) (w : Words) (is : AreWords u w) where
   size_within n lt =
       let one =
       sum_below-at (names u) (λ k. may_size u k ((may_of w).slots k)) n lt in
-      let same = size-is u n (slice_index w.here n) (slice_index w.ready n) (slice_index w.last n) in
+      let same = size-is u n (slice_index w.here n) (slice_index w.ready n)
+      (slice_index w.last n) in
       omega (arith, one, same, is.used_is)
 
   pub used_small : IsKept u → w.used ≤ MOST_NAMES * MOST_SIZE
@@ -94,7 +95,8 @@ module _ (u : Universe) (w : Words) (is : AreWords u w) where
       sum_below-few (names u) (λ k. may_size u k ((may_of w).slots k))
       (λ k. let small =
       greatest_size-small u k (word_has (slice_index w.here k)) kept in
-      let same = size-is u k (slice_index w.here k) (slice_index w.ready k) (slice_index w.last k) in
+      let same = size-is u k (slice_index w.here k) (slice_index w.ready k)
+      (slice_index w.last k) in
       omega (arith, small, same)) in
       let few = kept.few_names in
       let listed = kept.sound.listed in

@@ -37,7 +37,8 @@ pub record AreRows (u : Universe) (rows : List (List ℕ)) : Type 0 where
 
 -- the rows with a word of one of them replaced
 abbrev pub with_word : List (List ℕ) → (place name word : ℕ) → List (List ℕ)
-with_word rows place name word = slice_set rows place (slice_set (slice_index_or rows place []) name word)
+with_word rows place name word = slice_set rows place
+    (slice_set (slice_index_or rows place []) name word)
 
 -- the row of name k has all variants of name n
 abbrev pub HasName : Universe → List (List ℕ) → (k n : ℕ) → Type 0

@@ -1,5 +1,5 @@
--- What a chroot may hold behind two branches, name by name. Parameters: u a universe, first what may
--- be at the end of the first branch, m at that of the second.
+-- What a chroot may hold behind two branches, name by name. Parameters: u a universe, first what
+-- may be at the end of the first branch, m at that of the second.
 --
 --   either_last_word     the word of what was configured last
 --   joined_below         the map where the names below a number are joined

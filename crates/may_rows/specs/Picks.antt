@@ -16,7 +16,8 @@ pub record AreOfArchive (u : Universe) (known there : Variant → Bool) : Type 0
   pub known_there : (v : Variant) → known v ≡ true → there v ≡ true
   pub there_known : (v : Variant) → there v ≡ true → IsKnown u v
 
--- no known variant is wanted; or the highest one is this, and the word has the candidates from it up
+-- no known variant is wanted; or the highest one is this, and the word has the candidates from it
+-- up
 abbrev pub IsPick : Universe → (known there : Variant → Bool) → ℕ → Option (Op × List ℕ)
     → Option ℕ → Type 0
 IsPick u known there name wanted None = newest u known name wanted ≡ None

@@ -1,5 +1,5 @@
--- A deconfigure and a remove in two steps: the members are withdrawn, and then the map tells whether
--- one of them may still be needed. The project's own rules.
+-- A deconfigure and a remove in two steps: the members are withdrawn, and then the map tells
+-- whether one of them may still be needed. The project's own rules.
 use Rattle.std.specs.Prelude.{ℕ, Bool, false, not, ◌&&◌, List, [], ◌∷◌}
 use Rattle.std.specs.List.{list_any}
 use Rattle.deb_relation.specs.Relations.{Entry, Relations}
@@ -27,7 +27,8 @@ may_have_met u members m e =
 
 -- such an entry is not surely met any more
 abbrev pub may_be_missed : Universe → List ℕ → May → Relations → Bool
-may_be_missed u members m es = list_any (λ e. may_have_met u members m e && not (surely_met u m e)) es
+may_be_missed u members m es = list_any (λ e. may_have_met u members m e && not (surely_met u m e))
+    es
 
 -- a configured name may hold a variant with such an entry, by name
 abbrev pub needs_at : Universe → List ℕ → May → ℕ → Bool

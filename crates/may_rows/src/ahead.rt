@@ -69,8 +69,8 @@ fn meets_alternative(
     )
 }
 
-/// Tells whether a Pre-Depends entry is surely met ahead of an unpack, where the state holds nothing of
-/// the name that is unpacked.
+/// Tells whether a Pre-Depends entry is surely met ahead of an unpack, where the state holds
+/// nothing of the name that is unpacked.
 pub fn meets_ahead(
     universe: &Universe,
     tables: &Tables,

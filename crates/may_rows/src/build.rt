@@ -109,8 +109,8 @@ fn build_risk(of: LaneOf<'_>, state: &MayHold, doubts: &Doubts, recipe: u32) -> 
     None
 }
 
-/// Builds a recipe, or tells the first trap that this may meet. `doubts` tells which entries of what
-/// is configured are not known to be met.
+/// Builds a recipe, or tells the first trap that this may meet. `doubts` tells which entries of
+/// what is configured are not known to be met.
 ///
 /// # Errors
 ///

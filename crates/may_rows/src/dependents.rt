@@ -15,7 +15,8 @@ use std::marker::Model;
 use std::snapshot::Snapshot;
 
 /// For each name all variants of the names that may need it: of those with a variant that has a
-/// Depends or Pre-Depends entry which a variant of the name satisfies. A contract sees the universe.
+/// Depends or Pre-Depends entry which a variant of the name satisfies. A contract sees the
+/// universe.
 #[derive(Drop)]
 pub struct Dependents {
     universe: Snapshot<Universe>,

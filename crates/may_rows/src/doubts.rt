@@ -60,7 +60,8 @@ impl Doubts {
         }
     }
 
-    /// Notes a name that is unpacked over. Where there is no room for it, nothing is known any more.
+    /// Notes a name that is unpacked over. Where there is no room for it, nothing is known any
+    /// more.
     fn note(&mut self, name: u32)
         ensures { IsDoubted self.old name self.new }
     {

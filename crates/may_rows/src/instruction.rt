@@ -73,8 +73,8 @@ fn go_on(
 
 /// Goes on by an instruction of the chroot, where it is safe; branches begin and end by
 /// [`MayHold::copy`] and [`MayHold::join`]. `words` is what of the name that it unpacks, if it
-/// does, is in the archive. `doubts` tells which entries of what is configured are not known to be met,
-/// and is kept so: a build looks at no others.
+/// does, is in the archive. `doubts` tells which entries of what is configured are not known to be
+/// met, and is kept so: a build looks at no others.
 ///
 /// # Errors
 ///

@@ -11,8 +11,8 @@ use crate::state::MayHold;
 use farm_universe::Universe;
 use std::alloc::{AllocError, Global};
 
-/// What may have been configured last behind both branches, or nothing where that is not known behind
-/// one.
+/// What may have been configured last behind both branches, or nothing where that is not known
+/// behind one.
 fn either_last(last: u64, other: u64) -> u64
     ensures { result ≡ either_last_word last other }
 {
@@ -128,8 +128,8 @@ impl MayHold {
         join_built(&first.built, &mut self.built);
     }
 
-    /// Joins what may be held at the end of the second branch with that at the end of the first one:
-    /// what either may hold, the greater cost, and the recipes that both have built.
+    /// Joins what may be held at the end of the second branch with that at the end of the first
+    /// one: what either may hold, the greater cost, and the recipes that both have built.
     pub fn join(&mut self, universe: &Universe, first: &MayHold)
         requires words { AreWords universe.now self.old }
         requires first { AreWords universe.now first.now }

@@ -126,8 +126,8 @@ fn unpack_risk(of: LaneOf<'_>, state: &MayHold, used: u64, name: u32, set: u64) 
 }
 
 /// Unpacks a variant of a name, one that is in the relation and as high as the highest that is
-/// surely in the archive, or tells the first trap that this may meet. `words` is what of the name is
-/// in the archive.
+/// surely in the archive, or tells the first trap that this may meet. `words` is what of the name
+/// is in the archive.
 ///
 /// # Errors
 ///

@@ -16,8 +16,8 @@ use Rattle.refusal_reasons.specs.declared.types.Reason.{Reason}
 use Rattle.refusal_reasons.specs.First.{first_of, first_name}
 use Rattle.refusal_reasons.specs.Reasons.{needed_entry}
 
--- unpacked or configured, a member may satisfy the entry; configured outside the set, nothing surely
--- does
+-- unpacked or configured, a member may satisfy the entry; configured outside the set, nothing
+-- surely does
 abbrev pub loses : Universe → List ℕ → May → Entry → Bool
 loses u members m e =
     some_may_member u members m (satisfies_entry u e) && not (surely_met_outside u members m e)

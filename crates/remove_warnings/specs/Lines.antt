@@ -1,5 +1,5 @@
--- The warnings of what `remove` leaves behind, a line each. The project's own format. Parameters: u a
--- universe, p a plan, rows what its lanes know, ls the lines of its text, l a lane, i a place.
+-- The warnings of what `remove` leaves behind, a line each. The project's own format. Parameters: u
+-- a universe, p a plan, rows what its lanes know, ls the lines of its text, l a lane, i a place.
 --
 --   place_said       what is said of the instruction at a place
 --   looked_at        how many instructions of a lane are looked at

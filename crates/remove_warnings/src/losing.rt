@@ -15,7 +15,8 @@ use farm_universe::Universe;
 use may_rows::MayHold;
 use sat_rows::Tables;
 
-/// What the search for an unpacked package goes by: `outside` is what may be held without the members.
+/// What the search for an unpacked package goes by: `outside` is what may be held without the
+/// members.
 #[derive(Drop)]
 pub struct Search<'a> {
     pub universe: &'a Universe,

@@ -25,8 +25,8 @@ use sat_rows::Tables;
 use std::alloc::{AllocError, Global};
 use wait_order::KnownWords;
 
-/// The first unpacked variant that an instruction may leave with an entry that is lost, where it is a
-/// `remove` and this may be held.
+/// The first unpacked variant that an instruction may leave with an entry that is lost, where it is
+/// a `remove` and this may be held.
 fn left_by(
     universe: &Universe,
     tables: &Tables,
@@ -80,7 +80,8 @@ fn place_note<K: KnownWords>(
     Ok(text)
 }
 
-/// How many instructions of a lane are looked at: all, or up to the one by whose number it is refused.
+/// How many instructions of a lane are looked at: all, or up to the one by whose number it is
+/// refused.
 fn looked_at<K: KnownWords>(
     alloc: Global,
     stage: &Stage<'_, K>,
@@ -150,10 +151,10 @@ fn lane_note<K: KnownWords>(
     Ok(text)
 }
 
-/// Gives a warning of each `remove`, up to the instruction by whose number its lane is refused, that
-/// may leave an unpacked package with an entry of its Depends or Pre-Depends that a removed one may
-/// satisfy and nothing configured surely meets: of the first such package and entry. `lines` are those
-/// of the plan's text.
+/// Gives a warning of each `remove`, up to the instruction by whose number its lane is refused,
+/// that may leave an unpacked package with an entry of its Depends or Pre-Depends that a removed
+/// one may satisfy and nothing configured surely meets: of the first such package and entry.
+/// `lines` are those of the plan's text.
 ///
 /// # Errors
 ///

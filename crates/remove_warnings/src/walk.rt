@@ -41,8 +41,8 @@ fn go_on<K: KnownWords>(
     }
 }
 
-/// Goes on to a place from the one ahead of it, whose instruction is safe; at the first place nothing is
-/// ahead.
+/// Goes on to a place from the one ahead of it, whose instruction is safe; at the first place
+/// nothing is ahead.
 ///
 /// # Errors
 ///

@@ -4,4 +4,5 @@ use Rattle.deb_profile.proofs.reduction.is_bare_entry.Goals as goal
 
 pub returns-then-not-is_empty : goal.returns-then-not-is_empty
 returns-then-not-is_empty c =
-    rw c.alternatives.ensures at c.all_bare.ensures ∙ all-bare c.args.entry.now c.if-not-is_empty.ensures
+    rw c.alternatives.ensures at c.all_bare.ensures
+    ∙ all-bare c.args.entry.now c.if-not-is_empty.ensures

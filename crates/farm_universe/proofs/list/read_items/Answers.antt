@@ -38,7 +38,8 @@ returns-in_err-add_item-clause-read c =
     c.from_residual-in_err-add_item.ensures.1 in
     rw (p.1, p.2)
     (items-stop (table_view c.args.table.now) c.loop-item.list.variants.items _ _ _ _
-    c.in_ok-entry.entry c.in-Some.ensures.entry c.in_ok-entry.ensures refusal_of c.in_err-add_item.field-0.0
+    c.in_ok-entry.entry c.in-Some.ensures.entry c.in_ok-entry.ensures refusal_of
+    c.in_err-add_item.field-0.0
     c.loop-item.invariant.judged c.in_err-add_item.ensures.read c.loop-item.invariant.so_far)
 
 pub loop-item-smaller : goal.loop-item-smaller

@@ -10,7 +10,8 @@ use Rattle.farm_universe.proofs.source_table.add.Goals as goal
 pub put_at-requires-clause-room : goal.put_at-requires-clause-room
 put_at-requires-clause-room c =
     source_room (source_view c.args.table.now) c.place_of-at.result
-    (listed_source_view c.args.listed) (sym c.fault_at.ensures ∙ ap (option_map code_of) c.in_default.is)
+    (listed_source_view c.args.listed)
+    (sym c.fault_at.ensures ∙ ap (option_map code_of) c.in_default.is)
 
 pub returns-clause-fit : goal.returns-clause-fit
 returns-clause-fit c =

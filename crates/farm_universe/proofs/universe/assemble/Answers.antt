@@ -4,4 +4,5 @@ use Rattle.farm_universe.proofs.universe.assemble.Goals as goal
 
 pub invariant_of-result : goal.invariant_of-result
 invariant_of-result c =
-    IsKept-universe_with (land_view c.args.farm.land) c.requires.land c.args.farm.yard c.requires.yard
+    IsKept-universe_with (land_view c.args.farm.land) c.requires.land c.args.farm.yard
+    c.requires.yard

@@ -8,7 +8,8 @@ pub loop-number-init : goal.loop-number-init
 loop-number-init c = record {
   long = c.requires.long;
   kept = λ k b is. is;
-  covers = covers_none c.args.universe.now (depends c.args.universe.now c.args.variant) c.args.row.now;
+  covers = covers_none c.args.universe.now (depends c.args.universe.now c.args.variant)
+      c.args.row.now;
 }
 
 pub loop-number-preserved : goal.loop-number-preserved
@@ -18,9 +19,16 @@ loop-number-preserved c = record {
       c.in_ok-or_into.ensures.set c.loop-number.invariant.kept;
   covers = covers_more c.args.universe.now (depends c.args.universe.now c.args.variant)
       c.loop-number.number
-      (omega (arith, c.loop-number-test.true, c.len-count.ensures, ap length c.relations.ensures.depends))
+      (omega (
+        arith,
+        c.loop-number-test.true,
+        c.len-count.ensures,
+        ap length
+            c.relations.ensures.depends,
+      ))
       c.loop-number.row c.depends.result.now c.or_into.new.self
-      (subst (λ w. IsRowOf w (satisfies_entry w (entry_at (depends w c.args.variant) c.loop-number.number))
+      (subst (λ w. IsRowOf w
+      (satisfies_entry w (entry_at (depends w c.args.variant) c.loop-number.number))
       c.depends.result.now) c.requires.same c.depends.ensures)
       c.in_ok-or_into.ensures.set c.loop-number.invariant.covers;
 }

@@ -8,7 +8,8 @@ pub loop-number-init : goal.loop-number-init
 loop-number-init c = record {
   long = c.requires.long;
   kept = λ k b is. is;
-  covers = covers_none c.args.universe.now (pre_depends c.args.universe.now c.args.variant) c.args.row.now;
+  covers = covers_none c.args.universe.now (pre_depends c.args.universe.now c.args.variant)
+      c.args.row.now;
 }
 
 pub loop-number-preserved : goal.loop-number-preserved
@@ -18,16 +19,24 @@ loop-number-preserved c = record {
       c.in_ok-or_into.ensures.set c.loop-number.invariant.kept;
   covers = covers_more c.args.universe.now (pre_depends c.args.universe.now c.args.variant)
       c.loop-number.number
-      (omega (arith, c.loop-number-test.true, c.len-count.ensures, ap length c.relations.ensures.pre_depends))
+      (omega (
+        arith,
+        c.loop-number-test.true,
+        c.len-count.ensures,
+        ap length
+            c.relations.ensures.pre_depends,
+      ))
       c.loop-number.row c.pre_depends.result.now c.or_into.new.self
-      (subst (λ w. IsRowOf w (satisfies_entry w (entry_at (pre_depends w c.args.variant) c.loop-number.number))
+      (subst (λ w. IsRowOf w
+      (satisfies_entry w (entry_at (pre_depends w c.args.variant) c.loop-number.number))
       c.pre_depends.result.now) c.requires.same c.pre_depends.ensures)
       c.in_ok-or_into.ensures.set c.loop-number.invariant.covers;
 }
 
 pub returns-clause-covers : goal.returns-clause-covers
 returns-clause-covers c =
-    covers_all c.args.universe.now (pre_depends c.args.universe.now c.args.variant) c.loop-number.number
+    covers_all c.args.universe.now (pre_depends c.args.universe.now c.args.variant)
+    c.loop-number.number
     c.loop-number.row
     (omega (arith, c.len-count.ensures, ap length c.relations.ensures.pre_depends))
     c.loop-number.invariant.covers

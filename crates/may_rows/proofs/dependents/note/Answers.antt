@@ -9,7 +9,8 @@ loop-place-init c = record {
   inside = c.skip-place.ensures.inside;
   rows = c.requires.rows;
   kept = λ k n has. has;
-  noted = λ k bit lt in_row. absurd (both_ways _ (c.skip-place.ensures.none k bit (omega arith) lt) in_row);
+  noted = λ k bit lt in_row. absurd
+      (both_ways _ (c.skip-place.ensures.none k bit (omega arith) lt) in_row);
 }
 
 pub loop-place-preserved : goal.loop-place-preserved

@@ -7,7 +7,8 @@ abbrev pub invariant-loop-place : goal.invariant-loop-place
 invariant-loop-place l = record {
   inside : l.place ≤ length l.row;
   rows : AreRows l.universe l.rows.items;
-  kept : (k n : ℕ) → HasName l.universe l.initial.rows.items k n → HasName l.universe l.rows.items k n;
+  kept : (k n : ℕ) → HasName l.universe l.initial.rows.items k n
+      → HasName l.universe l.rows.items k n;
   noted : (k c : ℕ) → k < l.place → variants_of l.row k c ≡ true
       → HasName l.universe l.rows.items k l.name;
 }

@@ -20,7 +20,8 @@ returns c =
     let words : c.deref.result.now ≡ w.ready =
     cc (ap (λ (x : Words). x.ready) c.state.view_is, c.deref.ensures.value) in
     needed_is c.args.of.universe.now w c.requires k t
-    (subst (λ (u : Universe). (t ≡ true) ↔ IsMissed u k (get_or w.last k 0) w.ready) c.args.of.tables_are
+    (subst (λ (u : Universe). (t ≡ true) ↔ IsMissed u k (get_or w.last k 0) w.ready)
+    c.args.of.tables_are
     (subst (λ ws. (t ≡ true) ↔ IsMissed c.args.of.tables.now k (get_or w.last k 0) ws) words
     (subst (λ word. (t ≡ true) ↔ IsMissed c.args.of.tables.now k word c.deref.result.now)
     c.last_word.ensures c.is_missed.ensures)))

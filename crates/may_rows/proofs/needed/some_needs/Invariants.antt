@@ -9,6 +9,7 @@ use Rattle.may_rows.proofs.needed.some_needs.Given as goal
 abbrev pub invariant-loop-place : goal.invariant-loop-place
 invariant-loop-place l =
     list_any
-    (λ k. some_below (names l.of.universe.now) (needs_at l.of.universe.now (k ∷ []) (may_of l.state)))
+    (λ k. some_below (names l.of.universe.now)
+    (needs_at l.of.universe.now (k ∷ []) (may_of l.state)))
     (take l.place l.members)
     ≡ false

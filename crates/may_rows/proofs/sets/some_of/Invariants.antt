@@ -7,5 +7,6 @@ use Rattle.may_rows.proofs.sets.some_of.Given as goal
 
 abbrev pub invariant-loop-bit : goal.invariant-loop-bit
 invariant-loop-bit g l =
-    some_below l.bit (λ b. word_has l.set b && g.T.VariantTest.test l.universe l.test (variant l.name b))
+    some_below l.bit (λ b. word_has l.set b && g.T.VariantTest.test l.universe l.test
+    (variant l.name b))
     ≡ false

@@ -10,7 +10,8 @@ returns-then-some_unpacked c =
     let m = may_of c.args.state.now in
     c.if-some_unpacked.true
     ∙ sym (unsettled-is u m
-    ∙ ap (λ t. t || some_misses u m) (sym (c.some_unpacked.ensures u c.requires.state) ∙ c.if-some_unpacked.true))
+    ∙ ap (λ t. t || some_misses u m)
+    (sym (c.some_unpacked.ensures u c.requires.state) ∙ c.if-some_unpacked.true))
 
 pub returns-else-some_unpacked : goal.returns-else-some_unpacked
 returns-else-some_unpacked c =
@@ -18,4 +19,5 @@ returns-else-some_unpacked c =
     let m = may_of c.args.state.now in
     c.some_doubted.ensures
     ∙ sym (unsettled-is u m
-    ∙ ap (λ t. t || some_misses u m) (sym (c.some_unpacked.ensures u c.requires.state) ∙ c.if-some_unpacked.false))
+    ∙ ap (λ t. t || some_misses u m)
+    (sym (c.some_unpacked.ensures u c.requires.state) ∙ c.if-some_unpacked.false))

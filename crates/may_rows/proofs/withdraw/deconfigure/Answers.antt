@@ -11,7 +11,8 @@ pub returns-in-Some-clause-answer : goal.returns-in-Some-clause-answer
 returns-in-Some-clause-answer c known there =
     told_before c.args.of.universe.now c.args.members.now (may_of c.args.state.now)
     c.requires.members.known
-    (deconfigure_risks_before c.args.of.lane.now (may_of c.args.state.now) c.args.members.now) c.in-Some.trap (sym c.in-Some.ensures)
+    (deconfigure_risks_before c.args.of.lane.now (may_of c.args.state.now) c.args.members.now)
+    c.in-Some.trap (sym c.in-Some.ensures)
 
 pub returns-then-some_needs-clause-answer : goal.returns-then-some_needs-clause-answer
 returns-then-some_needs-clause-answer c known there =

@@ -12,13 +12,15 @@ pub returns-in-Some-clause-answer : goal.returns-in-Some-clause-answer
 returns-in-Some-clause-answer c known there =
     told_before c.args.of.universe.now c.args.members.now (may_of c.args.state.now)
     c.requires.members.known
-    (remove_risks_before c.args.of.universe.now c.args.of.lane.now (may_of c.args.state.now) c.args.members.now) c.in-Some.trap (sym c.in-Some.ensures)
+    (remove_risks_before c.args.of.universe.now c.args.of.lane.now (may_of c.args.state.now)
+    c.args.members.now) c.in-Some.trap (sym c.in-Some.ensures)
 
 pub returns-then-some_needs-clause-answer : goal.returns-then-some_needs-clause-answer
 returns-then-some_needs-clause-answer c known there =
     told_needed c.args.of.universe.now c.args.members.now (may_of c.args.state.now)
     c.requires.members.known
-    (remove_risks_before c.args.of.universe.now c.args.of.lane.now (may_of c.args.state.now) c.args.members.now)
+    (remove_risks_before c.args.of.universe.now c.args.of.lane.now (may_of c.args.state.now)
+    c.args.members.now)
     c.some_needs.result
     (may_of c.withdraw_members.new.state) c.withdraw_members.ensures.map c.some_needs.ensures
     (sym c.in_default.ensures) c.if-some_needs.true
@@ -36,7 +38,8 @@ returns-clause-answer c known there =
     let m = may_of c.args.state.now in
     let ms = c.args.members.now in (
       told_none c.args.of.universe.now ms m c.requires.members.known
-          (remove_risks_before c.args.of.universe.now c.args.of.lane.now (may_of c.args.state.now) c.args.members.now)
+          (remove_risks_before c.args.of.universe.now c.args.of.lane.now (may_of c.args.state.now)
+          c.args.members.now)
           c.some_needs.result (may_of c.withdraw_members.new.state)
           c.withdraw_members.ensures.map c.some_needs.ensures (sym c.in_default.ensures)
           c.if-some_needs.false,

@@ -18,7 +18,8 @@ may_hit_at-requires-clause-within c =
 
 pub returns-then-may_hit_at : goal.returns-then-may_hit_at
 returns-then-may_hit_at c e is =
-    sym (list_any_at (meets c.args.of.now.universe.now (may_of c.args.of.now.state.now) e) c.args.of.now.members.now
+    sym (list_any_at (meets c.args.of.now.universe.now (may_of c.args.of.now.state.now) e)
+    c.args.of.now.members.now
     c.loop-place.place 0 c.loop-place-test.true
     (sym (c.may_hit_at.ensures e is) ∙ c.if-may_hit_at.true))
 

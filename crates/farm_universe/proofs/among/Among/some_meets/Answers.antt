@@ -8,5 +8,6 @@ use Rattle.farm_universe.proofs.among.Among.some_meets.Goals as goal
 pub returns : goal.returns
 returns c =
     c.any_satisfied.ensures
-    ∙ any-swap (is_other c.args.besides) (λ (m : Member). satisfies (member_facts m)) c.args.self.now
+    ∙ any-swap (is_other c.args.besides) (λ (m : Member). satisfies (member_facts m))
+    c.args.self.now
     c.args.entry.now

@@ -12,12 +12,15 @@ returns c =
     let u = c.args.universe.now in
     let v = c.args.variant in
     let view = ap (λ (w : Words). w.here) c.state.view_is in
-    let words : c.deref.result.now ≡ c.args.self.now.state.now.here = cc (view, c.deref.ensures.value) in
+    let words : c.deref.result.now ≡ c.args.self.now.state.now.here = cc
+    (view, c.deref.ensures.value) in
     let told = subst
-    (λ ws. (c.is_broken_by_some.result ≡ true) ↔ HaveCommon (variants_of ws) (passes u (breakers_of u v))) words
+    (λ ws. (c.is_broken_by_some.result ≡ true) ↔ HaveCommon (variants_of ws)
+    (passes u (breakers_of u v))) words
     (subst
     (λ t. (c.is_broken_by_some.result ≡ true)
     ↔ HaveCommon (variants_of c.deref.result.now) (passes t (breakers_of t v))) c.requires.fits.0
     c.is_broken_by_some.ensures) in
-    common_is u c.args.self.now.state.now c.requires.fits.1 (breakers_of u v) c.is_broken_by_some.result told
+    common_is u c.args.self.now.state.now c.requires.fits.1 (breakers_of u v)
+    c.is_broken_by_some.result told
     ∙ may_hold-other u (may_of c.args.self.now.state.now) v (λ w. breaks u w v)

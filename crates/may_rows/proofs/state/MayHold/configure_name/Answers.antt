@@ -9,7 +9,8 @@ pub turn-requires-clause-words : goal.turn-requires-clause-words
 turn-requires-clause-words c =
     let n = c.args.name in
     let here = slice_index c.args.self.now.here n in
-    subst (λ word. AreOfName (variants c.args.universe.now n) here word word (joined_word here word))
+    subst (λ word. AreOfName (variants c.args.universe.now n) here word word
+    (joined_word here word))
     (sym c.here_word-here.ensures)
     (configured-words _ _ _ _ _ (c.requires.words.each n))
 

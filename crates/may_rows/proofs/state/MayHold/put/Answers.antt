@@ -22,7 +22,8 @@ pub overflow_add-self : goal.overflow_add-self
 overflow_add-self c =
     let used : c.self.inside.used ≡ c.args.self.now.used =
     ap (λ (v : Words). v.used) c.self.view_is in
-    let small = used_small c.args.universe.now c.args.self.now c.requires.state c.names-names.ensures.kept in
+    let small = used_small c.args.universe.now c.args.self.now c.requires.state
+    c.names-names.ensures.kept in
     omega (arith, used, small, c.greatest_size-after.ensures.small)
 
 new_is : (c : goal.After-write) → c.write.new.self

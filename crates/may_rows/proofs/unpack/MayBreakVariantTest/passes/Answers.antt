@@ -12,12 +12,15 @@ returns c =
     let u = c.args.universe.now in
     let v = c.args.variant in
     let view = ap (λ (w : Words). w.ready) c.state.view_is in
-    let words : c.deref.result.now ≡ c.args.self.now.state.now.ready = cc (view, c.deref.ensures.value) in
+    let words : c.deref.result.now ≡ c.args.self.now.state.now.ready = cc
+    (view, c.deref.ensures.value) in
     let told = subst
-    (λ ws. (c.breaks_some.result ≡ true) ↔ HaveCommon (variants_of ws) (passes u (broken_by u v))) words
+    (λ ws. (c.breaks_some.result ≡ true) ↔ HaveCommon (variants_of ws) (passes u (broken_by u v)))
+    words
     (subst
     (λ t. (c.breaks_some.result ≡ true)
     ↔ HaveCommon (variants_of c.deref.result.now) (passes t (broken_by t v))) c.requires.fits.0
     c.breaks_some.ensures) in
-    common_configured_is u c.args.self.now.state.now c.requires.fits.1 (broken_by u v) c.breaks_some.result told
+    common_configured_is u c.args.self.now.state.now c.requires.fits.1 (broken_by u v)
+    c.breaks_some.result told
     ∙ may_hold_configured-other u (may_of c.args.self.now.state.now) v (breaks u v)

@@ -12,12 +12,15 @@ returns c =
     let u = c.args.universe.now in
     let v = c.args.variant in
     let view = ap (λ (w : Words). w.here) c.state.view_is in
-    let words : c.deref.result.now ≡ c.args.self.now.state.now.here = cc (view, c.deref.ensures.value) in
+    let words : c.deref.result.now ≡ c.args.self.now.state.now.here = cc
+    (view, c.deref.ensures.value) in
     let told = subst
-    (λ ws. (c.conflicts_with_some.result ≡ true) ↔ HaveCommon (variants_of ws) (passes u (conflicts_with u v))) words
+    (λ ws. (c.conflicts_with_some.result ≡ true) ↔ HaveCommon (variants_of ws)
+    (passes u (conflicts_with u v))) words
     (subst
     (λ t. (c.conflicts_with_some.result ≡ true)
     ↔ HaveCommon (variants_of c.deref.result.now) (passes t (conflicts_with t v))) c.requires.fits.0
     c.conflicts_with_some.ensures) in
-    common_is u c.args.self.now.state.now c.requires.fits.1 (conflicts_with u v) c.conflicts_with_some.result told
+    common_is u c.args.self.now.state.now c.requires.fits.1 (conflicts_with u v)
+    c.conflicts_with_some.result told
     ∙ may_hold-other u (may_of c.args.self.now.state.now) v (conflict u v)

@@ -26,7 +26,8 @@ returns-then-may_hit c =
     c.requires.fits.0 c.entry_row-row.ensures in
     ap not (c.surely_meets.ensures u e c.requires.fits.1.1.0 row)
     ∙ ap (λ hit. hit && not (surely_met u (may_of t.outside.now) e))
-    (sym (sym (c.may_hit.ensures u (satisfies_entry u e) c.requires.fits.1.0 row) ∙ c.if-may_hit.true))
+    (sym (sym (c.may_hit.ensures u (satisfies_entry u e) c.requires.fits.1.0 row)
+    ∙ c.if-may_hit.true))
 
 pub returns-else-may_hit : goal.returns-else-may_hit
 returns-else-may_hit c =
@@ -37,4 +38,5 @@ returns-else-may_hit c =
     c.requires.fits.0 c.entry_row-row.ensures in
     c.if-may_hit.false
     ∙ ap (λ hit. hit && not (surely_met u (may_of t.outside.now) e))
-    (sym (sym (c.may_hit.ensures u (satisfies_entry u e) c.requires.fits.1.0 row) ∙ c.if-may_hit.false))
+    (sym (sym (c.may_hit.ensures u (satisfies_entry u e) c.requires.fits.1.0 row)
+    ∙ c.if-may_hit.false))
