@@ -1,8 +1,8 @@
 -- A row as it is read, item by item.
-use Rattle.std.proofs.Common.{◌≡◌, ℕ, ◌≤◌, Bool, true, false, ◌&&◌, ◌||◌, ◌==◌, List, [], ◌∷◌, ◌++◌, length, refl, sym, ap, ◌∙◌, append_assoc, Option, Some, None, Result, Ok, Err, nat_lt, arith}
+use Rattle.std.proofs.Common.{◌≡◌, ℕ, ◌≤◌, Bool, true, false, ◌&&◌, ◌||◌, ◌==◌, List, [], ◌∷◌, ◌++◌, length, refl, sym, ap, ◌∙◌, append_assoc, Option, Some, None, Result, Ok, Err, nat_lt, arith, eq-eqb, inl, inr}
 use Rattle.std.specs.Option.{option_map, option_and_then}
 use Rattle.std.proofs.Math.Bool.{or-false}
-use Rattle.std.proofs.lemmas.Bool.{ltb-true, ltb-false}
+use Rattle.std.proofs.lemmas.Bool.{cases_Bool, eqb-true, eqb-false, ne_eqb, ltb-true, ltb-false}
 use Rattle.std.proofs.lemmas.List.{append-nil, get_or_past}
 use Rattle.std.proofs.lemmas.List.Folds.{list_any-append}
 use Rattle.bit_rows.specs.Sets.{variants_of, HasNone, AddsVariant}
@@ -19,7 +19,6 @@ use Rattle.farm_model.specs.Universe.{Universe}
 use Rattle.farm_universe.proofs.ArchiveLaws.{length-words_of}
 use Rattle.farm_universe.proofs.ListLaws.{has_bit-words_of}
 use Rattle.farm_universe.specs.ListText.{words_of}
-use Rattle.plan_asm.proofs.Doubles.{eq-turn}
 use Rattle.cert_text.specs.Items.{said_by, said}
 use Rattle.cert_text.specs.Rows.{item_variant, ahead_of, comes_behind, variants_behind, row_of_items, row_at}
 
@@ -32,6 +31,13 @@ pub so_far-nil : (n : ℕ) (row : List ℕ) → length row ≡ n → HasNone (va
     → IsSoFar n row []
 so_far-nil n row long none = record { long = long; bits = λ name bit. none name bit }
 
+eqb-turned : (a b : ℕ) → (a == b) ≡ (b == a)
+eqb-turned a b =
+    elim (cases_Bool (b == a)) [
+      | inl is ↦ eq-eqb a b (sym (eqb-true b a is)) ∙ sym is
+      | inr other ↦ ne_eqb a b (λ e. eqb-false b a other (sym e)) ∙ sym other
+    ]
+
 pub so_far-push : (n : ℕ) (row new : List ℕ) (vs : List Variant) (v : Variant) → IsSoFar n row vs
     → length new ≡ length row → AddsVariant (variants_of row) v.name v.bit (variants_of new)
     → IsSoFar n new (vs ++ v ∷ [])
@@ -41,8 +47,8 @@ so_far-push n row new vs v is long adds = record {
   bits = λ name bit.
       adds name bit
       ∙ ap (λ b. b || (name == v.name && bit == v.bit)) (is.bits name bit)
-      ∙ ap (λ b. contains vs (variant name bit) || (b && bit == v.bit)) (eq-turn name v.name)
-      ∙ ap (λ b. contains vs (variant name bit) || (v.name == name && b)) (eq-turn bit v.bit)
+      ∙ ap (λ b. contains vs (variant name bit) || (b && bit == v.bit)) (eqb-turned name v.name)
+      ∙ ap (λ b. contains vs (variant name bit) || (v.name == name && b)) (eqb-turned bit v.bit)
       ∙ ap (λ b. contains vs (variant name bit) || b)
       (sym (or-false (v.name == name && v.bit == bit)))
       ∙ sym (list_any-append (λ w. same w (variant name bit)) vs (v ∷ []));
