@@ -21,8 +21,8 @@ use Rattle.farm_model.specs.Universe.{Package}
 use Rattle.farm_universe.specs.declared.limits.TheConstants.{MOST_SIZE}
 use Rattle.farm_universe.specs.Fields.{needed_at, name_at, version_text_at, up_to, size_at, flag_at}
 use Rattle.farm_universe.specs.Keyed.{keys_with, groups_with}
-use Rattle.farm_universe.specs.PackagesText.{Listed, PackageTable, package_at, package_relations_at, is_below, table_of, packages_of}
-use Rattle.farm_universe.specs.TableSteps.{put_at, code_at, add, add_paragraph, tell_paragraph}
+use Rattle.farm_universe.specs.PackagesText.{Listed, PackageTable, is_below, table_of, packages_of}
+use Rattle.farm_universe.specs.TableSteps.{first_package_at, first_package_relations_at, put_at, code_at, add, add_paragraph, tell_paragraph}
 use Rattle.farm_universe.specs.TableView.{IsOrderly, IsFit}
 use Rattle.farm_universe.proofs.FitLaws.{IsFit-put}
 use Rattle.farm_universe.proofs.TableLaws.{steps-packages_of}
@@ -74,8 +74,8 @@ size-has : (text : Option (List ℕ)) → IfOk (size_at text) (λ n. n ≤ MOST_
 size-has None = omega arith
 size-has (Some text) = up_to-has (number_at text)
 
-package-has : (p : Paragraph) → IfOk (package_at p) IsSpelledListed
-unfolding package_at
+package-has : (p : Paragraph) → IfOk (first_package_at p) IsSpelledListed
+unfolding first_package_at
 package-has p =
     let field : (name : List ℕ) → IfOk (needed_at p name) (λ _. Unit {0}) =
     λ name. always (needed_at p name) in
@@ -92,7 +92,7 @@ package-has p =
     (size-has (value_of p (codes "Installed-Size")))
     (λ size small. then-has (λ _. Unit {0}) IsSpelledListed
     (flag_at (value_of p (codes "Essential"))) _ (always _)
-    (λ _ _. then-has (λ _. Unit {0}) IsSpelledListed (package_relations_at p) _ (always _)
+    (λ _ _. then-has (λ _. Unit {0}) IsSpelledListed (first_package_relations_at p) _ (always _)
     (λ _ _. record { name = named; version = is; small = small })))))))
 
 -- ---- a table with one more package
@@ -150,7 +150,7 @@ paragraph-has : (table : PackageTable) (p : Paragraph) → IsSpelledTable table
 unfolding add_paragraph
 paragraph-has table p is =
     placed-has IsSpelledTable PACKAGES p.line _
-    (then-has IsSpelledListed IsSpelledTable (package_at p) (add table) (package-has p)
+    (then-has IsSpelledListed IsSpelledTable (first_package_at p) (add table) (package-has p)
     (λ listed fine. add-has table listed is fine))
 
 empty-spelled : IsSpelledTable (table_of [])
