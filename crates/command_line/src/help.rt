@@ -40,8 +40,7 @@ pub const EXPLAIN: &str = "\
 Tells whether the plan is safe, and for a person why it is not";
 
 pub const EXPLAIN_MORE: &str = "\
-The answer is that of `check`, and where the plan is refused, why. For a fault of a text these are
-    the
+The answer is that of `check`, and where the plan is refused, why. For a fault of a text these are the
 line and what was expected there. For an instruction that may go wrong they are its line in the plan
 and the first reason; and the same for each further lane that has one. With `--json` it is one JSON
 object on a line, in which `why` and `warnings` are lists of lines.
@@ -56,14 +55,12 @@ pub const LIST: &str = "\
 Prints the plan with its blocks expanded, one instruction a line";
 
 pub const LIST_MORE: &str = "\
-The answer is a plan that means the same, and that can be checked in place of the given one. The
-    plan
+The answer is a plan that means the same, and that can be checked in place of the given one. The plan
 need not be safe. Where a text cannot be read, the answer is its first fault, as
 `refused 303 plan line 2`.
 
 With `--number` two numbers stand before each line: that of the instruction in its lane, as refusals
-tell it, and that of the line of the plan that it comes from. A line that is no instruction has
-    `-` in
+tell it, and that of the line of the plan that it comes from. A line that is no instruction has `-` in
 place of the first.
 
 Example:
@@ -75,8 +72,7 @@ pub const CERT: &str = "\
 Prints a certificate of the plan, by which anyone can check that it is safe";
 
 pub const CERT_MORE: &str = "\
-The answer is the certificate of a plan that `check` accepts: `cert 1`, then a line for what each
-    lane
+The answer is the certificate of a plan that `check` accepts: `cert 1`, then a line for what each lane
 knows of the archive behind each of its waits and publishes, and then an order in which all of them
 can be made. `verify-cert` checks it without having to find it. Where `check` refuses the plan, the
 answer is that refusal.
@@ -90,18 +86,13 @@ pub const VERIFY_CERT: &str = "\
 Tells whether a certificate shows that the plan is safe, whoever made it";
 
 pub const VERIFY_CERT_MORE: &str = "\
-A certificate says what each lane knows of the archive behind each of its waits and publishes, and
-    an
-order in which all of them can be made. It is checked by itself, and what it says is not trusted.
-    The
-answer is `certified`: the plan is then safe in whatever order its lanes take turns. Or it is one
-    line
+A certificate says what each lane knows of the archive behind each of its waits and publishes, and an
+order in which all of them can be made. It is checked by itself, and what it says is not trusted. The
+answer is `certified`: the plan is then safe in whatever order its lanes take turns. Or it is one line
 with the first fault: `refused 451 line 3` for a text that is no certificate of this plan,
 `refused 452 lane b instruction 5` where a lane need not know what it says,
-`refused 453 lane b instruction 2 X1 Missing` for an instruction that may trap as far as it tells,
-    or
-`refused 454 item 2` for an item of its order that cannot be made. Where another text cannot be
-    read,
+`refused 453 lane b instruction 2 X1 Missing` for an instruction that may trap as far as it tells, or
+`refused 454 item 2` for an item of its order that cannot be made. Where another text cannot be read,
 the answer is its first fault, as `refused 303 plan line 2`.
 
 Example:
@@ -134,8 +125,7 @@ Checks the plan and runs it: each lane in a thread of its own, over one archive"
 pub const RUN_MORE: &str = "\
 Where `check` refuses the plan, the answer is that refusal, and nothing is run. Else each lane takes
 its instructions in its own thread, and a lane that waits sleeps until another has published what it
-waits for. Once all have ended, the answer is `finished`, what was published in the order in which
-    it
+waits for. Once all have ended, the answer is `finished`, what was published in the order in which it
 came into the archive, and of each lane what it spent and what its chroot holds. A build is an
 instruction with declared outputs here: no package is built, and no file is written. On a terminal,
 or with `--progress`, the error output tells meanwhile of each publication and of each lane that
