@@ -1,8 +1,8 @@
 -- A configure by the words.
-use Rattle.std.proofs.Common.{◌≡◌, ◌⊎◌, inl, inr, ℕ, Bool, true, false, not, ◌&&◌, ◌||◌, ◌==◌, List, [], ◌∷◌, ◌++◌, refl, ap, ◌∙◌, if◌then◌else◌}
+use Rattle.std.proofs.Common.{◌≡◌, ◌⊎◌, inl, inr, ℕ, ◌<◌, Bool, true, false, not, ◌&&◌, ◌||◌, ◌==◌, List, [], ◌∷◌, ◌++◌, refl, ap, ◌∙◌, if◌then◌else◌}
 use Rattle.std.proofs.Math.Bool.{or-false}
 use Rattle.std.proofs.lemmas.Bool.{cases_Bool}
-use Rattle.std.specs.List.{list_any}
+use Rattle.std.specs.List.{fold, list_any}
 use Rattle.deb_relation.specs.Relations.{Entry, Relations}
 use Rattle.farm_model.specs.declared.types.Variant.{Variant}
 use Rattle.farm_model.specs.declared.types.Trap.TheVariants.{WrongState, PreDepends, Depends, Broken, OverBudget}
@@ -14,13 +14,16 @@ use Rattle.plan_model.specs.Plan.{Lane, set_cost}
 use Rattle.plan_model.specs.May.{Bits, MaySlot, MayAbsent, MayUnpacked, MayConfigured, May, some_name, may_hold, surely_configured, surely_holds, surely_met, surely_met_with, is_surely_unpacked}
 use Rattle.plan_model.specs.MayAt.{may_be_configured}
 use Rattle.plan_model.specs.Risk.{may_exceed, some_may_member, configure_risks}
-use Rattle.may_rows.specs.Words.{slot_of, joined_word, AreOfName}
-use Rattle.may_rows.specs.Configures.{slots_after, risks_before, risks_after}
+use Rattle.plan_model.specs.Sound.{IsNameSet}
+use Rattle.may_rows.specs.Words.{Words, slot_of, may_of, joined_word, AreOfName, AreWords, with_slot}
+use Rattle.may_rows.specs.Configures.{name_configured, slots_after, risks_before, risks_after}
+use Rattle.may_rows.proofs.MemberWords.{after-members}
+use Rattle.may_rows.proofs.Writes.{map-written, are-written}
 use Rattle.may_rows.proofs.MetAhead.{any-same}
 
--- ---- the words of one name
+-- ---- the words of one name, and of the members
 
-pub configured-words : (count here ready last both : ℕ) → AreOfName count here ready last both
+configured-words : (count here ready last both : ℕ) → AreOfName count here ready last both
     → AreOfName count here here here (joined_word here here)
 configured-words count here ready last both is = record {
   phase = inr (refl, refl);
@@ -30,7 +33,7 @@ configured-words count here ready last both is = record {
   joined = refl;
 }
 
-pub configured-slot : (count here ready last both : ℕ) → AreOfName count here ready last both
+configured-slot : (count here ready last both : ℕ) → AreOfName count here ready last both
     → slot_of here here here ≡ may_be_configured (slot_of here ready last)
 configured-slot count here ready last both is = by (cases_Bool (here == 0))
     (cases_Bool (ready == 0))
@@ -41,6 +44,23 @@ configured-slot count here ready last both is = by (cases_Bool (here == 0))
     by (inl z) r = rw z refl
     by (inr h) (inl r) = rw (h, r) refl
     by (inr h) (inr r) = rw (h, r) refl
+
+configured-name : (u : Universe) (w : Words) (n : ℕ) → AreWords u w → n < names u
+    → AreWords u (name_configured w n)
+    × (may_of (name_configured w n)
+    ≡ with_slot (may_of w) n (may_be_configured ((may_of w).slots n)))
+configured-name u w n are lt = (
+  are-written u w are n _ _ _ lt (configured-words _ _ _ _ _ (are.each n)) w.used refl,
+  map-written u w are n _ _ _ lt
+      ∙ ap (with_slot (may_of w) n) (configured-slot _ _ _ _ _ (are.each n)),
+)
+
+-- the members configured in turn: what the words keep, and their map
+pub configured-members : (u : Universe) (w next : Words) (ms : List ℕ) → AreWords u w
+    → IsNameSet u ms → next ≡ fold name_configured w ms
+    → AreWords u next × (may_of next ≡ slots_after may_be_configured (may_of w) ms)
+configured-members u w next ms are named =
+    after-members u name_configured may_be_configured (configured-name u) w ms are named next
 
 -- ---- the tests of the map where the members are configured
 

@@ -10,6 +10,7 @@ pub mod Unpacked
 pub mod Builds
 pub mod BaseMaps
 pub mod MemberSlots
+pub mod MemberWords
 pub mod Configured
 pub mod Withdrawn
 pub mod MetAfter

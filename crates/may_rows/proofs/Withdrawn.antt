@@ -1,7 +1,7 @@
 -- A deconfigure and a remove by the words.
 use Rattle.std.proofs.Common.{◌≡◌, ◌⊎◌, inl, inr, ℕ, ◌<◌, Bool, true, false, not, ◌&&◌, ◌==◌, List, [], ◌∷◌, ◌++◌, length, All, Some, None, refl, sym, ap, ◌∙◌, if◌then◌else◌}
 use Rattle.std.specs.Prelude.{slice_index_or}
-use Rattle.std.specs.List.{list_any}
+use Rattle.std.specs.List.{fold, list_any}
 use Rattle.std.proofs.lemmas.Bool.{cases_Bool, and_from, and_parts, eq-eqb, eqb-true, both_ways}
 use Rattle.std.proofs.lemmas.Option.{none-some}
 use Rattle.clause_kernel.specs.Rows.{word_has}
@@ -20,21 +20,24 @@ use Rattle.plan_model.specs.Plan.{Lane}
 use Rattle.plan_model.specs.May.{Bits, MaySlot, MayAbsent, MayUnpacked, MayConfigured, May, some_of, may_hold_configured, surely_configured, surely_met, is_surely_configured}
 use Rattle.plan_model.specs.MayAt.{may_be_last, may_be_deconfigured}
 use Rattle.plan_model.specs.Risk.{surely_met_outside, may_meet, may_be_needed}
-use Rattle.may_rows.specs.Words.{slot_of, joined_word, AreOfName}
+use Rattle.plan_model.specs.Sound.{IsNameSet}
+use Rattle.may_rows.specs.Words.{Words, slot_of, may_of, joined_word, AreOfName, AreWords, with_slot}
 use Rattle.may_rows.specs.Configures.{slots_after}
-use Rattle.may_rows.specs.Withdraws.{may_be_withdrawn, may_have_met, may_be_missed, needs_at, deconfigure_risks_before}
+use Rattle.may_rows.specs.Withdraws.{name_withdrawn, may_be_withdrawn, may_have_met, may_be_missed, needs_at, deconfigure_risks_before}
 use Rattle.may_rows.proofs.ByNumber.{any-found, any-at}
 use Rattle.may_rows.proofs.MemberSlots.{member-at, first_trap-front, first_trap-back}
+use Rattle.may_rows.proofs.MemberWords.{after-members}
+use Rattle.may_rows.proofs.Writes.{map-written, are-written}
 use Rattle.may_rows.proofs.MetAhead.{any-same}
 
--- ---- the words of one name
+-- ---- the words of one name, and of the members
 
 empty_ready : (here ready last : ℕ) → (ready ≡ 0) ⊎ ((ready ≡ here) × (last ≡ here)) → here ≡ 0
     → ready ≡ 0
 empty_ready here ready last (inl none) z = none
 empty_ready here ready last (inr same) z = same.0 ∙ z
 
-pub withdrawn-words : (count here ready last both : ℕ) → AreOfName count here ready last both
+withdrawn-words : (count here ready last both : ℕ) → AreOfName count here ready last both
     → AreOfName count here 0 ready (joined_word here ready)
 withdrawn-words count here ready last both is = record {
   phase = inl refl;
@@ -47,7 +50,7 @@ withdrawn-words count here ready last both is = record {
   joined = refl;
 }
 
-pub withdrawn-slot : (count here ready last both : ℕ) → AreOfName count here ready last both
+withdrawn-slot : (count here ready last both : ℕ) → AreOfName count here ready last both
     → slot_of here 0 ready ≡ may_be_withdrawn (slot_of here ready last)
 withdrawn-slot count here ready last both is =
     by (cases_Bool (here == 0)) (cases_Bool (ready == 0)) is.phase
@@ -63,6 +66,23 @@ withdrawn-slot count here ready last both is =
     by (inr h) (inr r) (inl none) = absurd (both_ways _ r (eq-eqb ready 0 none))
     by (inr h) (inr r) (inr same) =
         rw (h, r) (ap (λ k. MayUnpacked (word_has here) (word_has k)) same.0)
+
+withdrawn-name : (u : Universe) (w : Words) (n : ℕ) → AreWords u w → n < names u
+    → AreWords u (name_withdrawn w n)
+    × (may_of (name_withdrawn w n)
+    ≡ with_slot (may_of w) n (may_be_withdrawn ((may_of w).slots n)))
+withdrawn-name u w n are lt = (
+  are-written u w are n _ _ _ lt (withdrawn-words _ _ _ _ _ (are.each n)) w.used refl,
+  map-written u w are n _ _ _ lt
+      ∙ ap (with_slot (may_of w) n) (withdrawn-slot _ _ _ _ _ (are.each n)),
+)
+
+-- the members withdrawn in turn: what the words keep, and their map
+pub withdrawn-members : (u : Universe) (w next : Words) (ms : List ℕ) → AreWords u w
+    → IsNameSet u ms → next ≡ fold name_withdrawn w ms
+    → AreWords u next × (may_of next ≡ slots_after may_be_withdrawn (may_of w) ms)
+withdrawn-members u w next ms are named =
+    after-members u name_withdrawn may_be_withdrawn (withdrawn-name u) w ms are named next
 
 -- ---- members by their places
 

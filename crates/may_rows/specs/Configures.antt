@@ -1,6 +1,6 @@
 -- The tests of a configure, in two parts: those that are told before the members are configured,
 -- and those that are told by the map where they are. The project's own rules.
-use Rattle.std.specs.Prelude.{ℕ, Bool, not, ◌&&◌, ◌==◌, List, [], ◌∷◌, if◌then◌else◌}
+use Rattle.std.specs.Prelude.{ℕ, Bool, not, ◌&&◌, ◌==◌, List, [], ◌∷◌, slice_index, if◌then◌else◌}
 use Rattle.std.specs.List.{list_any}
 use Rattle.farm_model.specs.declared.types.Trap.{Trap}
 use Rattle.farm_model.specs.declared.types.Trap.TheVariants.{WrongState, PreDepends, Depends, Broken, OverBudget}
@@ -10,6 +10,12 @@ use Rattle.farm_model.specs.Chroot.{member, unmet}
 use Rattle.plan_model.specs.Plan.{Lane, set_cost}
 use Rattle.plan_model.specs.May.{MaySlot, May, some_name, may_hold, surely_met, is_surely_unpacked}
 use Rattle.plan_model.specs.Risk.{may_exceed, some_may_member}
+use Rattle.may_rows.specs.Words.{Words, written}
+
+-- the words where what is present of a name is configured
+abbrev pub name_configured : Words → ℕ → Words
+name_configured w n =
+    written w n (slice_index w.here n) (slice_index w.here n) (slice_index w.here n)
 
 -- the map with each member's slot changed
 abbrev pub slots_after : (MaySlot → MaySlot) → May → List ℕ → May

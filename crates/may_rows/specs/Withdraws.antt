@@ -1,6 +1,6 @@
 -- A deconfigure and a remove in two steps: the members are withdrawn, and then the map tells
 -- whether one of them may still be needed. The project's own rules.
-use Rattle.std.specs.Prelude.{ℕ, Bool, false, not, ◌&&◌, List, [], ◌∷◌}
+use Rattle.std.specs.Prelude.{ℕ, Bool, false, not, ◌&&◌, List, [], ◌∷◌, slice_index}
 use Rattle.std.specs.List.{list_any}
 use Rattle.deb_relation.specs.Relations.{Entry, Relations}
 use Rattle.farm_model.specs.declared.types.Trap.{Trap}
@@ -12,6 +12,11 @@ use Rattle.plan_model.specs.May.{MaySlot, MayAbsent, MayUnpacked, MayConfigured,
 use Rattle.plan_model.specs.MayAt.{may_be_last}
 use Rattle.plan_model.specs.Plan.{Lane, set_cost}
 use Rattle.plan_model.specs.Risk.{may_exceed, some_may_member}
+use Rattle.may_rows.specs.Words.{Words, written}
+
+-- the words where what is configured of a name is no longer ready, but its last
+abbrev pub name_withdrawn : Words → ℕ → Words
+name_withdrawn w n = written w n (slice_index w.here n) 0 (slice_index w.ready n)
 
 -- a slot whose variant is no longer configured, with what was configured until then
 abbrev pub may_be_withdrawn : MaySlot → MaySlot

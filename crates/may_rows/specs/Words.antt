@@ -6,6 +6,7 @@
 --   joined_word         the word of `both`
 --   AreOfName           what the words of one name keep
 --   AreWords            what all of them keep
+--   HasName             they have a place for a name
 --   written             the words with those of one name replaced
 --   with_slot           a map with the slot of one name replaced
 --   with_spent          the words, and the map, where more was spent
@@ -75,6 +76,13 @@ pub record AreWords (u : Universe) (w : Words) : Type 0 where
   pub each : (n : ℕ) → AreOfName (variants u n) (slice_index w.here n) (slice_index w.ready n)
       (slice_index w.last n) (slice_index w.both n)
   pub used_is : w.used ≡ may_use u (may_of w)
+
+-- each list has a place for the name
+pub record HasName (w : Words) (n : ℕ) : Type 0 where
+  pub here_there : n < length w.here
+  pub ready_there : n < length w.ready
+  pub last_there : n < length w.last
+  pub both_there : n < length w.both
 
 -- the words with those of one name replaced
 abbrev pub written : Words → ℕ → (here ready last : ℕ) → Words

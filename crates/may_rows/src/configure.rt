@@ -1,17 +1,16 @@
 //! A configure under a may map.
 
-ghost use Rattle.std.specs.Prelude.{◌≡◌, ◌<◌, ◌&&◌, ◌==◌, Bool, not, OnOk};
-ghost use Rattle.std.specs.List.{list_any};
+ghost use Rattle.std.specs.Prelude.{◌≡◌, ◌&&◌, ◌==◌, Bool, All, not, OnOk};
+ghost use Rattle.std.specs.List.{fold, list_any};
 ghost use Rattle.farm_model.specs.declared.types.Variant.{Variant};
 ghost use Rattle.farm_model.specs.Chroot.{unmet};
 ghost use Rattle.farm_model.specs.Packages as packages;
 ghost use Rattle.farm_model.specs.Traps.{first_trap};
 ghost use Rattle.plan_model.specs.May as may;
-ghost use Rattle.plan_model.specs.MayAt.{may_be_configured};
 ghost use Rattle.plan_model.specs.Sound.{IsNameSet};
-ghost use Rattle.may_rows.specs.Words.{AreWords, may_of, with_slot};
+ghost use Rattle.may_rows.specs.Words.{AreWords, HasName, may_of};
 ghost use Rattle.may_rows.specs.Walk.{Answers, IsOfLane};
-ghost use Rattle.may_rows.specs.Configures.{risks_before, risks_after, slots_after};
+ghost use Rattle.may_rows.specs.Configures.{name_configured, risks_before, risks_after};
 
 use crate::entries::{misses_depends, misses_pre_depends};
 use crate::instruction::LaneOf;
@@ -141,27 +140,22 @@ fn risk_after(
 
 impl MayHold {
     /// Configures what is present of a name.
-    fn configure_name(&mut self, universe: &Universe, name: u32)
-        requires words { AreWords universe.now self.old }
-        requires named { name < packages.names universe.now }
-        ensures words { AreWords universe.now self.new }
-        ensures map { may_of self.new ≡ with_slot (may_of self.old) name
-            (may_be_configured ((may_of self.old).slots name)) }
+    fn configure_name(&mut self, name: u32)
+        requires { HasName self.old name }
+        ensures { self.new ≡ name_configured self.old name }
     {
         let here = self.here_word(name);
-        self.turn(universe, name, here, here);
+        self.write(name, here, here, here);
     }
 }
 
 /// Configures the words of the members.
-fn configure_members(universe: &Universe, state: &mut MayHold, members: &[u32])
-    requires words { AreWords universe.now state.old }
-    requires members { IsNameSet universe.now members.now }
-    ensures words { AreWords universe.now state.new }
-    ensures map { may_of state.new ≡ slots_after may_be_configured (may_of state.old) members.now }
+fn configure_members(state: &mut MayHold, members: &[u32])
+    requires { All (HasName state.old) members.now }
+    ensures { state.new ≡ fold name_configured state.old members.now }
 {
     for place in 0..members.len() {
-        state.configure_name(universe, members[place]);
+        state.configure_name(members[place]);
     }
 }
 
@@ -183,7 +177,7 @@ pub fn configure(of: LaneOf<'_>, state: &mut MayHold, members: &[u32]) -> Result
     if let Some(trap) = risk_before(universe, of.tables, of.lane, state, members) {
         return Err(trap);
     }
-    configure_members(universe, state, members);
+    configure_members(state, members);
     if let Some(trap) = risk_after(universe, of.tables, state, members) {
         return Err(trap);
     }

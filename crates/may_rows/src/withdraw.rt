@@ -1,16 +1,15 @@
 //! A deconfigure and a remove under a may map.
 
-ghost use Rattle.std.specs.Prelude.{◌≡◌, ◌<◌, Bool, not, OnOk};
-ghost use Rattle.std.specs.List.{list_any};
+ghost use Rattle.std.specs.Prelude.{◌≡◌, Bool, All, not, OnOk};
+ghost use Rattle.std.specs.List.{fold, list_any};
 ghost use Rattle.farm_model.specs.declared.types.Variant.{Variant};
-ghost use Rattle.farm_model.specs.Packages as packages;
 ghost use Rattle.farm_model.specs.Traps.{first_trap};
 ghost use Rattle.plan_model.specs.May.{MayAbsent, is_surely_configured, is_surely_present};
 ghost use Rattle.plan_model.specs.Sound.{IsNameSet};
-ghost use Rattle.may_rows.specs.Words.{AreWords, may_of, with_slot};
+ghost use Rattle.may_rows.specs.Words.{AreWords, HasName, may_of};
 ghost use Rattle.may_rows.specs.Walk.{Answers, IsOfLane};
 ghost use Rattle.may_rows.specs.Configures.{slots_after};
-ghost use Rattle.may_rows.specs.Withdraws.{may_be_withdrawn, deconfigure_risks_before, remove_risks_before};
+ghost use Rattle.may_rows.specs.Withdraws.{name_withdrawn, deconfigure_risks_before, remove_risks_before};
 
 use crate::instruction::LaneOf;
 use crate::members::some_may_member;
@@ -23,27 +22,23 @@ use plan_asm::{Instruction, Lane};
 
 impl MayHold {
     /// Takes what is configured of a name out of what is ready, and keeps it as the last.
-    fn withdraw_name(&mut self, universe: &Universe, name: u32)
-        requires words { AreWords universe.now self.old }
-        requires named { name < packages.names universe.now }
-        ensures words { AreWords universe.now self.new }
-        ensures map { may_of self.new ≡ with_slot (may_of self.old) name
-            (may_be_withdrawn ((may_of self.old).slots name)) }
+    fn withdraw_name(&mut self, name: u32)
+        requires { HasName self.old name }
+        ensures { self.new ≡ name_withdrawn self.old name }
     {
+        let here = self.here_word(name);
         let ready = self.ready_word(name);
-        self.turn(universe, name, 0, ready);
+        self.write(name, here, 0, ready);
     }
 }
 
 /// Withdraws the members.
-fn withdraw_members(universe: &Universe, state: &mut MayHold, members: &[u32])
-    requires words { AreWords universe.now state.old }
-    requires members { IsNameSet universe.now members.now }
-    ensures words { AreWords universe.now state.new }
-    ensures map { may_of state.new ≡ slots_after may_be_withdrawn (may_of state.old) members.now }
+fn withdraw_members(state: &mut MayHold, members: &[u32])
+    requires { All (HasName state.old) members.now }
+    ensures { state.new ≡ fold name_withdrawn state.old members.now }
 {
     for place in 0..members.len() {
-        state.withdraw_name(universe, members[place]);
+        state.withdraw_name(members[place]);
     }
 }
 
@@ -133,7 +128,7 @@ pub fn deconfigure(of: LaneOf<'_>, state: &mut MayHold, members: &[u32]) -> Resu
     if let Some(trap) = deconfigure_risk(universe, of.lane, state, members) {
         return Err(trap);
     }
-    withdraw_members(universe, state, members);
+    withdraw_members(state, members);
     if some_needs(of, state, members) {
         return Err(Trap::StillNeeded); // X9
     }
@@ -159,7 +154,7 @@ pub fn remove(of: LaneOf<'_>, state: &mut MayHold, members: &[u32]) -> Result<()
     if let Some(trap) = remove_risk(universe, of.lane, state, members) {
         return Err(trap);
     }
-    withdraw_members(universe, state, members);
+    withdraw_members(state, members);
     if some_needs(of, state, members) {
         return Err(Trap::StillNeeded); // X9
     }

@@ -1,6 +1,6 @@
 //! Changes of what a chroot may hold of one name.
 
-ghost use Rattle.std.specs.Prelude.{◌≡◌, ◌<◌, ◌+◌, ◌^◌, length, slice_index};
+ghost use Rattle.std.specs.Prelude.{◌≡◌, ◌<◌, ◌+◌, ◌^◌, length};
 ghost use Rattle.farm_model.specs.Packages.{names, variants};
 ghost use Rattle.may_rows.specs.Words.{AreWords, AreOfName, joined_word, written, slot_of, may_of, with_slot, with_spent, with_recipe};
 
@@ -17,7 +17,7 @@ fn joined(here: u64, last: u64) -> u64
 
 impl MayHold {
     /// Writes the words of a name.
-    fn write(&mut self, name: u32, here: u64, ready: u64, last: u64)
+    pub(crate) fn write(&mut self, name: u32, here: u64, ready: u64, last: u64)
         requires here { name < length self.old.here }
         requires ready { name < length self.old.ready }
         requires last { name < length self.old.last }
@@ -28,21 +28,6 @@ impl MayHold {
         self.ready[name as usize] = ready;
         self.last[name as usize] = last;
         self.both[name as usize] = joined(here, last);
-    }
-
-    /// Writes the words of a name whose variants stay.
-    pub(crate) fn turn(&mut self, _universe: &Universe, name: u32, ready: u64, last: u64)
-        requires state { AreWords _universe.now self.old }
-        requires named { name < names _universe.now }
-        requires words { AreOfName (variants _universe.now name) (slice_index self.old.here name)
-            ready last (joined_word (slice_index self.old.here name) last) }
-        ensures state { AreWords _universe.now self.new }
-        ensures map { may_of self.new ≡ with_slot (may_of self.old) name
-            (slot_of (slice_index self.old.here name) ready last) }
-        ensures words { self.new ≡ written self.old name (slice_index self.old.here name) ready last }
-    {
-        let here = self.here_word(name);
-        self.write(name, here, ready, last);
     }
 
     /// Writes the words of a name, and keeps the space that may be taken.

@@ -1,12 +1,11 @@
-use Rattle.std.proofs.Common.{◌≡◌, take}
-use Rattle.plan_model.specs.MayAt.{may_be_configured}
-use Rattle.may_rows.specs.Configures.{slots_after}
-use Rattle.may_rows.specs.Words.{AreWords, may_of}
+use Rattle.std.proofs.Common.{◌≡◌, All, take}
+use Rattle.std.specs.List.{fold}
+use Rattle.may_rows.specs.Configures.{name_configured}
+use Rattle.may_rows.specs.Words.{HasName}
 use Rattle.may_rows.proofs.configure.configure_members.Given as goal
 
 abbrev pub invariant-loop-place : goal.invariant-loop-place
 invariant-loop-place l = record {
-  words : AreWords l.universe l.state;
-  map : may_of l.state
-      ≡ slots_after may_be_configured (may_of l.initial.state) (take l.place l.members);
+  members : All (HasName l.state) l.members;
+  words : l.state ≡ fold name_configured l.initial.state (take l.place l.members);
 }
