@@ -6,3 +6,4 @@ pub mod Kept
 pub mod Told
 pub mod HitNames
 pub mod Excluded
+pub mod EntryRows

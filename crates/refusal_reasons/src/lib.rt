@@ -19,5 +19,6 @@ mod types;
 mod unpack;
 mod withdraw;
 
+pub use entries::{entry_count, entry_row};
 pub use plan::reason;
 pub use types::{Field, Reason};
