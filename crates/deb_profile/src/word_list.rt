@@ -6,30 +6,31 @@ ghost use Rattle.deb_text.specs.Answers.{Gives};
 ghost use Rattle.deb_text.specs.Words.{is_word, words};
 ghost use Rattle.deb_relation.specs.View.{refusal_of};
 ghost use Rattle.deb_profile.specs.Restriction.{is_among};
-ghost use Rattle.deb_profile.specs.WordList.{word_at, words_at};
+ghost use Rattle.deb_profile.specs.WordList.{words_at};
 
-use deb_relation::{BAD_WORD, RelationError, Word, WordRule, read_words};
+use deb_relation::{BAD_WORD, RelationError};
 use deb_text::{is_word, next_word};
 use std::alloc::Global;
 use std::marker::Model;
 
-/// The names of an architecture, the wildcards that match it among them, as
+/// The names of an architecture, the wildcards that match it among them, as they are written:
 /// `riscv64 any linux-any`. A contract sees their list.
 #[derive(Debug, Drop)]
 pub struct ArchNames {
-    list: Vec<Word>,
+    text: Vec<u8>,
 }
 
 impl Model for ArchNames {
     ghost use Rattle.std.specs.Prelude.{ℕ, List};
+    ghost use Rattle.deb_text.specs.Words.{words};
 
     ghost Value = { List (List ℕ) };
 
-    ghost view = { λ names. names.list.items };
+    ghost view = { λ names. words names.text.items };
 }
 
 impl ArchNames {
-    /// Reads names that are separated by blanks.
+    /// Reads names that are separated by blanks. It takes the memory of their text.
     ///
     /// # Errors
     ///
@@ -39,22 +40,22 @@ impl ArchNames {
         ensures { Gives refusal_of (λ names. names) result (words_at text.now) }
     {
         Ok(ArchNames {
-            list: read_words(alloc, &AnyWord, text)?,
+            text: keep_words(alloc, text)?,
         })
     }
 
-    /// The names in their order.
-    pub fn names(&self) -> &[Word]
-        ensures { result.now ≡ self.now }
+    /// The text that has the names in their order, separated by blanks.
+    pub fn text(&self) -> &[u8]
+        ensures { words result.now ≡ self.now }
     {
-        &self.list
+        &self.text
     }
 
     /// Tells whether a name is the architecture's.
     pub fn matches(&self, name: &[u8]) -> bool
         ensures { result ≡ is_among self.now name.now }
     {
-        is_among(&self.list, name)
+        has_word(&self.text, name)
     }
 }
 
@@ -84,11 +85,8 @@ impl ProfileSet {
     pub fn parse(alloc: Global, text: &[u8]) -> Result<ProfileSet, RelationError>
         ensures { Gives refusal_of (λ profiles. profiles) result (words_at text.now) }
     {
-        if !are_words(text) {
-            return Err(RelationError { code: BAD_WORD });
-        }
         Ok(ProfileSet {
-            text: Vec::from_slice(alloc, text)?,
+            text: keep_words(alloc, text)?,
         })
     }
 
@@ -107,6 +105,16 @@ impl ProfileSet {
     {
         has_word(&self.text, profile)
     }
+}
+
+/// The text, where each of its words is one.
+fn keep_words(alloc: Global, text: &[u8]) -> Result<Vec<u8>, RelationError>
+    ensures { Gives refusal_of (λ kept. words kept.items) result (words_at text.now) }
+{
+    if !are_words(text) {
+        return Err(RelationError { code: BAD_WORD });
+    }
+    Ok(Vec::from_slice(alloc, text)?)
 }
 
 /// Tells whether no word of a text has a byte that it may not have.
@@ -135,27 +143,4 @@ fn has_word(text: &[u8], wanted: &[u8]) -> bool
         rest = after;
     }
     false
-}
-
-/// The words of a list, each as it stands.
-#[derive(Drop)]
-struct AnyWord;
-
-impl WordRule for AnyWord {
-    type Read = Word;
-
-    ghost meaning = { λ _. word_at };
-
-    fn read(&self, alloc: Global, word: &[u8]) -> Result<Word, RelationError> {
-        if !is_word(word) {
-            return Err(RelationError { code: BAD_WORD });
-        }
-        Ok(Word::from_slice(alloc, word)?)
-    }
-}
-
-fn is_among(list: &[Word], word: &[u8]) -> bool
-    ensures { result ≡ is_among list.now word.now }
-{
-    list.iter().any(|other| word == other.text())
 }

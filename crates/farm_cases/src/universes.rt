@@ -5,6 +5,7 @@ ghost use Rattle.farm_model.specs.Packages.{names};
 ghost use Rattle.farm_model.specs.Sound.{IsKnown};
 
 use crate::relations::push_relations;
+use deb_text::next_word;
 use farm_universe::{Universe, Variant};
 use std::alloc::AllocError;
 
@@ -68,6 +69,16 @@ fn push_base(text: &mut String, universe: &Universe, number: u32) -> Result<(), 
     Ok(())
 }
 
+fn word_count(text: &[u8]) -> u64 {
+    let mut count = 0u64;
+    let mut rest = text;
+    while let Some((_word, after)) = next_word(rest) {
+        count = count.saturating_add(1);
+        rest = after;
+    }
+    count
+}
+
 /// Puts the lines of a universe behind a text: the names, the base chroots and how many names the
 /// farm's architecture has.
 pub fn push_universe(text: &mut String, universe: &Universe) -> Result<(), AllocError> {
@@ -80,7 +91,7 @@ pub fn push_universe(text: &mut String, universe: &Universe) -> Result<(), Alloc
     writeln!(
         text,
         "architecture names {}",
-        universe.arch_names().names().len()
+        word_count(universe.arch_names().text())
     )?;
     Ok(())
 }

@@ -12,7 +12,7 @@ use crate::paragraphs::read_paragraphs;
 use crate::word_set::WordSet;
 use crate::words::{Word, push_count};
 use deb_stanza::Paragraphs;
-use deb_text::push_pieces;
+use deb_text::{next_word, push_pieces};
 use farm_universe::Universe;
 use itoa::Buffer;
 use std::alloc::{AllocError, Global};
@@ -41,10 +41,10 @@ fn architecture_set(alloc: Global, universe: &Universe) -> Result<WordSet, Alloc
     ensures { IfOk result (λ set. set ≡ distinct bytes_eq universe.now.architectures) }
 {
     let mut set = WordSet::new(alloc);
-    let mut left = universe.arch_names().names();
-    while let [name, rest @ ..] = left {
-        set.add(alloc, name.text())?;
-        left = rest;
+    let mut rest = universe.arch_names().text();
+    while let Some((name, after)) = next_word(rest) {
+        set.add(alloc, name)?;
+        rest = after;
     }
     Ok(set)
 }

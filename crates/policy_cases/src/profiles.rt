@@ -6,6 +6,7 @@ use crate::stanzas;
 use case_files::TableRow;
 use deb_profile::{ArchNames, ProfileSet, keeps, reduce};
 use deb_relation::{Atom, Entry, Facts, Kind, Relations, satisfies};
+use deb_text::next_word;
 use deb_version::Version;
 use std::alloc::Global;
 
@@ -33,9 +34,12 @@ fn profiles(alloc: Global, text: &[u8]) -> Result<ProfileSet, Refusal> {
 
 fn spell_names(alloc: Global, text: &[u8]) -> Answer {
     let mut answer = Vec::new(alloc);
-    for name in ArchNames::parse(alloc, text)?.names() {
-        answer.extend_from_slice(name.text())?;
+    let names = ArchNames::parse(alloc, text)?;
+    let mut rest = names.text();
+    while let Some((name, after)) = next_word(rest) {
+        answer.extend_from_slice(name)?;
         answer.push(b';')?;
+        rest = after;
     }
     Ok(answer)
 }

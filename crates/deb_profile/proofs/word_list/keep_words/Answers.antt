@@ -1,7 +1,7 @@
 use Rattle.std.proofs.Common.{◌≡◌, rules, false, true, Ok, sym, ap, ◌∙◌}
 use Rattle.deb_text.specs.Words.{words}
 use Rattle.deb_profile.proofs.WordLaws.{words-read, words-refused}
-use Rattle.deb_profile.proofs.word_list.ProfileSet.parse.Goals as goal
+use Rattle.deb_profile.proofs.word_list.keep_words.Goals as goal
 
 pub returns-then-not-are_words : goal.returns-then-not-are_words
 returns-then-not-are_words c =
