@@ -23,7 +23,7 @@ use Rattle.may_rows.proofs.MetAhead.{any-same}
 
 -- ---- the words of one name, and of the members
 
-configured-words : (count here ready last both : ℕ) → AreOfName count here ready last both
+pub configured-words : (count here ready last both : ℕ) → AreOfName count here ready last both
     → AreOfName count here here here (joined_word here here)
 configured-words count here ready last both is = record {
   phase = inr (refl, refl);
@@ -33,7 +33,7 @@ configured-words count here ready last both is = record {
   joined = refl;
 }
 
-configured-slot : (count here ready last both : ℕ) → AreOfName count here ready last both
+pub configured-slot : (count here ready last both : ℕ) → AreOfName count here ready last both
     → slot_of here here here ≡ may_be_configured (slot_of here ready last)
 configured-slot count here ready last both is = by (cases_Bool (here == 0))
     (cases_Bool (ready == 0))

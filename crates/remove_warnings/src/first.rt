@@ -3,10 +3,10 @@
 ghost use Rattle.std.specs.Prelude.{◌≡◌, ◌<◌, None, IfOk, length, if◌then◌else◌};
 ghost use Rattle.clause_kernel.specs.Rows.{word_has};
 ghost use Rattle.farm_model.specs.Packages as packages;
-ghost use Rattle.farm_model.specs.Packages.{satisfies_entry, variant, variants};
+ghost use Rattle.farm_model.specs.Packages.{variant, variants};
 ghost use Rattle.farm_model.specs.Sound.{IsKnown};
 ghost use Rattle.plan_model.specs.Sound.{IsNameSet};
-ghost use Rattle.sat_rows.specs.Rows.{IsRowOf, entry_at};
+ghost use Rattle.sat_rows.specs.Rows.{entry_at};
 ghost use Rattle.may_rows.specs.Words.{AreWords, may_of};
 ghost use Rattle.refusal_reasons.specs.First as first;
 ghost use Rattle.refusal_reasons.specs.Reasons.{field_of, needed_field, needed_entry};
@@ -15,38 +15,11 @@ ghost use Rattle.remove_warnings.specs.Parts.{IsSearch};
 
 use crate::losing::{Search, loses};
 use crate::without::without;
-use bit_rows::Row;
 use farm_universe::{Universe, Variant};
 use may_rows::{MayHold, has_bit, variant_count};
-use refusal_reasons::{Field, Reason};
+use refusal_reasons::{Field, Reason, entry_count, entry_row};
 use sat_rows::Tables;
 use std::alloc::AllocError;
-
-/// How many entries a field of a variant has.
-fn entry_count(universe: &Universe, variant: Variant, field: Field) -> usize
-    requires known { IsKnown universe.now variant }
-    ensures { result ≡ length (field_of universe.now variant field) }
-{
-    match field {
-        Field::PreDepends => universe.relations(variant).pre_depends.len(),
-        Field::Depends => universe.relations(variant).depends.len(),
-    }
-}
-
-/// The variants that satisfy an entry of a field of a variant.
-fn entry_row<'a>(of: &Search<'a>, variant: Variant, field: Field, number: usize) -> &'a Row
-    requires search { IsSearch of.now.universe.now of.now.tables.now of.now.members.now
-        of.now.state.now of.now.outside.now }
-    requires known { IsKnown of.now.universe.now variant }
-    requires there { number < length (field_of of.now.universe.now variant field) }
-    ensures { IsRowOf of.now.universe.now (satisfies_entry of.now.universe.now
-        (entry_at (field_of of.now.universe.now variant field) number)) result.now }
-{
-    match field {
-        Field::PreDepends => of.tables.pre_depends(variant, number),
-        Field::Depends => of.tables.depends(variant, number),
-    }
-}
 
 /// Tells whether an entry of a field of a variant is lost.
 fn loses_entry(of: &Search, variant: Variant, field: Field, number: usize) -> bool
@@ -57,7 +30,7 @@ fn loses_entry(of: &Search, variant: Variant, field: Field, number: usize) -> bo
     ensures { result ≡ spec.loses of.now.universe.now of.now.members.now (may_of of.now.state.now)
         (entry_at (field_of of.now.universe.now variant field) number) }
 {
-    let row = entry_row(of, variant, field, number);
+    let row = entry_row(of.tables, variant, field, number);
     loses(of, row)
 }
 
