@@ -45,6 +45,10 @@ impl Model for Chroot {
 
 impl Chroot {
     /// Makes a chroot that holds what a base chroot holds.
+    ///
+    /// # Errors
+    ///
+    /// [`AllocError`] where memory is refused.
     pub fn open(alloc: Global, universe: &Universe, base: u32) -> Result<Chroot, AllocError>
         requires { base < length universe.now.bases }
         ensures opened { IfOk result (λ chroot. chroot ≡ opened universe.now base) }

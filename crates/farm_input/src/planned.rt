@@ -19,6 +19,11 @@ pub struct Planned {
 }
 
 /// Reads the packages, the sources and the farm as a universe, and then the plan.
+///
+/// # Errors
+///
+/// The first fault of the texts, in this order, with its file and its line; 900 where memory is
+/// refused.
 #[tactic(auto, unfolding(crate::specs::Planned::planned_of))]
 pub fn read_texts(
     alloc: Global,
