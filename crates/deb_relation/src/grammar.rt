@@ -1,24 +1,35 @@
 //! How the name, the qualifier and the version relation of an alternative are read.
 
-ghost use Rattle.std.specs.Prelude.{◌≡◌};
+ghost use Rattle.std.specs.Prelude.{◌≡◌, true};
+ghost use Rattle.std.specs.List.{list_all};
 ghost use Rattle.std.specs.Option.{option_map};
 ghost use Rattle.deb_text.specs.Answers.{Gives};
+ghost use Rattle.deb_text.specs.Bytes.{is_name_byte};
+ghost use Rattle.deb_text.specs.Words.{is_name};
 ghost use Rattle.deb_relation.specs.Grammar.{name_at, qualifier_at, operator_of, is_equal, operator_at, version_in, closed_at, relation_in, relation_at};
 ghost use Rattle.deb_relation.specs.View.{refusal_of};
 
 use crate::error::{BAD_NAME, BAD_OPERATOR, BAD_VERSION, NOT_CLOSED, NOT_EQUAL, RelationError};
 use crate::kind::Kind;
 use crate::operator::Op;
-use deb_text::{Class, MEMORY, is_name, skip_front, split_front};
+use deb_text::{Class, MEMORY, begins_with, skip_front, split_front};
 use deb_version::Version;
 use std::alloc::Global;
+
+/// Tells whether bytes of names, as they are here, make a name.
+fn make_name(bytes: &[u8]) -> bool
+    requires { list_all is_name_byte bytes.now ≡ true }
+    ensures { result ≡ is_name bytes.now }
+{
+    bytes.len() >= 2 && begins_with(Class::Lower, bytes)
+}
 
 #[tactic(auto, unfolding(crate::specs::Grammar::name_at))]
 pub fn read_name(text: &[u8]) -> Result<(&[u8], &[u8]), RelationError>
     ensures { Gives refusal_of (λ part. (part.0.now, part.1.now)) result (name_at text.now) }
 {
     let (name, rest) = split_front(Class::Name, text);
-    if !is_name(name) {
+    if !make_name(name) {
         return Err(RelationError { code: BAD_NAME });
     }
     Ok((name, rest))

@@ -39,7 +39,7 @@ module _ {X : Type 0} where
       (take-onto_last f (drop i xs) (j - i) (omega (arith, length-drop i xs)))
 
   -- the part up to the end
-  range-to_end : (xs : List X) (i : ℕ) → slice_range xs i (length xs) ≡ drop i xs
+  pub range-to_end : (xs : List X) (i : ℕ) → slice_range xs i (length xs) ≡ drop i xs
   range-to_end xs i = take_all (length xs - i) (drop i xs) (omega (arith, length-drop i xs))
 
   range-onto_last : (f : X → X) (xs : List X) (i : ℕ) → i < length xs

@@ -1,5 +1,6 @@
 pub mod CutLaws
 pub mod HeadLaws
+pub mod LastLaws
 pub mod NameLaws
 pub mod PartsLaws
 pub mod StateLaws

@@ -1,22 +1,22 @@
 -- The names of the open paragraph, in a set.
-use Rattle.std.proofs.Common.{◌≡◌, ℕ, Bool, true, false, ◌||◌, ◌&&◌, List, [], ◌∷◌, ◌++◌, map, Option, Some, None, Ok, Err, refl, sym, ap, subst, ◌∙◌, Ordering, inl, inr}
+use Rattle.std.proofs.Common.{◌≡◌, ℕ, Bool, true, false, ◌||◌, ◌&&◌, List, [], ◌∷◌, ◌++◌, map, Option, Some, None, IfSome, Ok, Err, refl, sym, ap, subst, ◌∙◌, Ordering, inl, inr}
 use Rattle.std.specs.Global.{Vec}
-use Rattle.std.specs.BTreeSet.{BTreeSet, insert_key, contains}
+use Rattle.std.specs.BTreeSet.{BTreeSet, insert_key}
 use Rattle.std.specs.BTreeMap.{is_at}
 use Rattle.std.specs.declared.cmp.Ordering.TheVariants.{Less, Equal, Greater}
 use Rattle.std.specs.Ordering.{is_eq, nat_cmp, match_ordering}
 use Rattle.std.specs.Cmp.Lexicographic.{slice_cmp}
 use Rattle.std.specs.List.{list_any, list_all}
 use Rattle.std.specs.Str.{bytes_eq}
-use Rattle.std.proofs.lemmas.Bool.{cases_Bool, or_parts, and_parts, and_from}
+use Rattle.std.proofs.lemmas.Bool.{cases_Bool, and_parts, and_from}
 use Rattle.std.proofs.lemmas.List.{map_push}
 use Rattle.std.proofs.lemmas.List.Folds.{list_any-append, list_all-append}
 use Rattle.std.proofs.lemmas.Map.Text.{is_eq-slice_cmp}
+use Rattle.deb_text.proofs.ListLaws.{bytes-same}
 use Rattle.deb_text.specs.Cuts.{is_nil}
 use Rattle.deb_stanza.specs.Cut.{onto_last}
-use Rattle.deb_stanza.specs.Draft.{State, last_texts, open_texts, longer, larger, with_head, lowered, IsKnown, IsFit, draft_state}
+use Rattle.deb_stanza.specs.Draft.{State, last_texts, open_texts, open_names, longer, larger, with_head, lowered, has_key, HasNames, IsKnown, IsFit, draft_state}
 use Rattle.deb_stanza.specs.declared.draft.Draft.{Draft}
-use Rattle.deb_stanza.specs.declared.error.TheConstants.{FIELD_TWICE}
 use Rattle.deb_stanza.specs.declared.table.Start.{Start}
 use Rattle.deb_text.specs.Lines.{Line}
 use Rattle.deb_text.specs.Steps.{answer}
@@ -82,17 +82,14 @@ colons-longer more (t ∷ u ∷ us) have =
     and_from (has_colon t) (list_all has_colon (onto_last (λ t. t ++ more) (u ∷ us))) parts.0
     (colons-longer more (u ∷ us) parts.1)
 
-pub known-longer : (names : BTreeSet (Vec ℕ)) (more : List ℕ) (ts : List (List ℕ))
+pub known-longer : (names : Option (BTreeSet (Vec ℕ))) (more : List ℕ) (ts : List (List ℕ))
     → IsKnown names ts → IsKnown names (onto_last (λ t. t ++ more) ts)
 known-longer names more ts known = record {
-  keys =
-      λ q. known.keys q
-      ∙ ap (λ ns. list_any (bytes_eq q) (map lowered ns)) (sym (names-longer more ts known.colons));
+  names =
+      subst (λ given. IfSome names (λ set. HasNames set given))
+      (sym (names-longer more ts known.colons)) known.names;
   colons = colons-longer more ts known.colons;
 }
-
-pub known-none : (names : BTreeSet (Vec ℕ)) → names.keys ≡ [] → IsKnown names []
-known-none names none = record { keys = λ q. rw none refl; colons = refl }
 
 -- ---- a new name
 
@@ -101,26 +98,46 @@ swap_or true true c = refl
 swap_or true false c = refl
 swap_or false b c = refl
 
-any-insert_key : {K : Type 0} (cmp : K → K → Ordering) (k : K) (p : K → Bool) (xs : List K)
-    → list_any (is_at (cmp k)) xs ≡ false
-    → list_any p (insert_key cmp xs k) ≡ (p k || list_any p xs)
-any-insert_key cmp k p [] none = refl
-any-insert_key cmp k p (x ∷ xs) none =
-    let parts = or_parts (is_eq (cmp k x)) (list_any (is_at (cmp k)) xs) none in
-    by (cmp k x) parts.0 (any-insert_key cmp k p xs parts.1) where
-      by : (o : Ordering) → is_eq o ≡ false
-          → list_any p (insert_key cmp xs k) ≡ (p k || list_any p xs)
-          → list_any p (match_ordering o (k ∷ x ∷ xs) (x ∷ xs) (x ∷ insert_key cmp xs k))
-          ≡ (p k || (p x || list_any p xs))
-      by Less is later = refl
-      by Equal is later = absurd cc
-      by Greater is later = rw later (swap_or (p x) (p k) (list_any p xs))
+pub push_or : (a b c : Bool) → ((a || b) || c) ≡ (b || (a || c))
+push_or true true c = refl
+push_or true false c = refl
+push_or false b c = refl
+
+pub or_none : (a : Bool) → (a || false) ≡ a
+or_none true = refl
+or_none false = refl
+
+twice_or : (a b : Bool) → (a || b) ≡ (a || (a || b))
+twice_or true b = refl
+twice_or false b = refl
 
 -- how the set compares its keys
 abbrev pub key_cmp : Vec ℕ → Vec ℕ → Ordering
 key_cmp a b = slice_cmp nat_cmp a.items b.items
 
-any-cmp : (key : Vec ℕ) (ks : List (Vec ℕ))
+abbrev pub is_key : List ℕ → Vec ℕ → Bool
+is_key q k = bytes_eq q k.items
+
+-- equal keys pass the same tests
+same_key : (q : List ℕ) (k x : Vec ℕ) → is_eq (key_cmp k x) ≡ true → is_key q x ≡ is_key q k
+same_key q k x is =
+    ap (bytes_eq q)
+    (sym (bytes-same k.items x.items (sym (is_eq-slice_cmp k.items x.items) ∙ is)))
+
+-- a set has one more key
+pub any-insert_key : (k : Vec ℕ) (q : List ℕ) (xs : List (Vec ℕ))
+    → list_any (is_key q) (insert_key key_cmp xs k) ≡ (is_key q k || list_any (is_key q) xs)
+any-insert_key k q [] = refl
+any-insert_key k q (x ∷ xs) = by (key_cmp k x) (same_key q k x) (any-insert_key k q xs) where
+  by : (o : Ordering) → (is_eq o ≡ true → is_key q x ≡ is_key q k)
+      → list_any (is_key q) (insert_key key_cmp xs k) ≡ (is_key q k || list_any (is_key q) xs)
+      → list_any (is_key q) (match_ordering o (k ∷ x ∷ xs) (x ∷ xs) (x ∷ insert_key key_cmp xs k))
+      ≡ (is_key q k || (is_key q x || list_any (is_key q) xs))
+  by Less same later = refl
+  by Equal same later = rw (same refl) (twice_or (is_key q k) (list_any (is_key q) xs))
+  by Greater same later = rw later (swap_or (is_key q x) (is_key q k) (list_any (is_key q) xs))
+
+pub any-cmp : (key : Vec ℕ) (ks : List (Vec ℕ))
     → list_any (is_at (key_cmp key)) ks ≡ list_any (λ k. bytes_eq key.items k.items) ks
 any-cmp key [] = refl
 any-cmp key (k ∷ ks) = rw (is_eq-slice_cmp key.items k.items, any-cmp key ks) refl
@@ -130,42 +147,10 @@ any-lowered : (name : List ℕ) (ns : List (List ℕ))
 any-lowered name [] = refl
 any-lowered name (n ∷ ns) = rw (any-lowered name ns) refl
 
--- the set has a name where one of the texts has it
-pub contains-known : (names : BTreeSet (Vec ℕ)) (ts : List (List ℕ)) → IsKnown names ts
-    → (key : Vec ℕ) (name : List ℕ) → key.items ≡ lowered name
-    → contains key_cmp names key ≡ list_any (same_name name) (map name_of ts)
-contains-known names ts known key name is =
-    any-cmp key names.keys ∙ known.keys key.items
-    ∙ ap (λ q. list_any (bytes_eq q) (map lowered (map name_of ts))) is
-    ∙ any-lowered name (map name_of ts)
-
-or_back : (a b : Bool) → (a || b) ≡ (b || (a || false))
-or_back true true = refl
-or_back true false = refl
-or_back false true = refl
-or_back false false = refl
-
--- it has one more where a text with that name comes
-pub known-push : (names more : BTreeSet (Vec ℕ)) (ts : List (List ℕ)) (text : List ℕ) (key : Vec ℕ)
-    → IsKnown names ts
-    → key.items ≡ lowered (name_of text) → has_colon text ≡ true
-    → contains key_cmp names key ≡ false → more.keys ≡ insert_key key_cmp names.keys key
-    → IsKnown more (ts ++ text ∷ [])
-known-push names more ts text key known is colon new keys = record {
-  keys = λ q.
-      ap (list_any (λ (k : Vec ℕ). bytes_eq q k.items)) keys
-      ∙ any-insert_key key_cmp key (λ (k : Vec ℕ). bytes_eq q k.items) names.keys new
-      ∙ ap (λ b. bytes_eq q key.items || b) (known.keys q)
-      ∙ ap (λ k. bytes_eq q k || list_any (bytes_eq q) (map lowered (map name_of ts))) is
-      ∙ or_back (bytes_eq q (lowered (name_of text)))
-      (list_any (bytes_eq q) (map lowered (map name_of ts)))
-      ∙ sym (ap (λ ns. list_any (bytes_eq q) (map lowered ns)) (map_push name_of ts text)
-      ∙ ap (list_any (bytes_eq q)) (map_push lowered (map name_of ts) (name_of text))
-      ∙ list_any-append (bytes_eq q) (map lowered (map name_of ts)) (lowered (name_of text) ∷ []));
-  colons =
-      list_all-append has_colon ts (text ∷ [])
-      ∙ and_from (list_all has_colon ts) (has_colon text && true) known.colons (rw colon refl);
-}
+-- the set has a name where one of these is the same
+pub has-same : (names : BTreeSet (Vec ℕ)) (given : List (List ℕ)) (name : List ℕ)
+    → HasNames names given → has_key names (lowered name) ≡ list_any (same_name name) given
+has-same names given name has = has.keys (lowered name) ∙ any-lowered name given
 
 -- ---- a line that begins a field
 
@@ -177,11 +162,7 @@ pub told-ok : {X : Type 0} (line : ℕ) (code : Option ℕ) (x y : X)
 told-ok line None x y is = (refl, (cc))
 told-ok line (Some code) x y is = absurd (ok≢err is)
 
--- a second field of its name, or the first
-pub head-twice : (given : List (List ℕ)) (line : List ℕ) → name_fault line ≡ None
-    → list_any (same_name (name_of line)) given ≡ true → head_fault given line ≡ Some FIELD_TWICE
-head-twice given line none is = rw (none, is) refl
-
+-- it is the first field of its name
 pub head-fine : (given : List (List ℕ)) (line : List ℕ) → name_fault line ≡ None
     → list_any (same_name (name_of line)) given ≡ false → head_fault given line ≡ None
 head-fine given line none is = rw (none, is) refl
@@ -199,14 +180,24 @@ nil-raws bytes fields [] some = absurd cc
 nil-raws bytes fields (p ∷ ps) some = refl
 
 -- the names after such a line
-pub known-head : (d : Draft) (more : BTreeSet (Vec ℕ)) (s : State) (l : Line) (key : Vec ℕ)
-    → IsFit d → s ≡ with_head (draft_state d) l
-    → key.items ≡ lowered (name_of l.1) → has_colon l.1 ≡ true
-    → contains key_cmp d.names key ≡ false → more.keys ≡ insert_key key_cmp d.names.keys key
+pub known-head : (d : Draft) (more : Option (BTreeSet (Vec ℕ))) (s : State) (l : Line)
+    (name : List ℕ) → IsFit d → s ≡ with_head (draft_state d) l
+    → name ≡ name_of l.1 → has_colon l.1 ≡ true
+    → IfSome more (λ set. HasNames set (open_names (draft_state d) ++ name ∷ []))
     → IsKnown more (open_texts s)
-known-head d more s l key fit is key_is colon new keys =
+known-head d more s l name fit is name_is colon has =
     let some = λ (o : d.is_open ≡ true).
     nil-raws d.table.bytes.items d.table.fields.items d.table.paragraphs.items (fit.some o) in
+    let ts = open_texts (draft_state d) in
     subst (IsKnown more)
     (sym (ap open_texts is ∙ open_texts-head (table_raws d.table) d.is_open l some))
-    (known-push d.names more (open_texts (draft_state d)) l.1 key fit.known key_is colon new keys)
+    (record {
+      names =
+          subst (λ (given : List (List ℕ)). IfSome more (λ set. HasNames set given))
+          (ap (λ (n : List ℕ). map name_of ts ++ n ∷ []) name_is ∙ sym (map_push name_of ts l.1))
+          has;
+      colons =
+          list_all-append has_colon ts (l.1 ∷ [])
+          ∙ and_from (list_all has_colon ts) (has_colon l.1 && true) fit.known.colons
+          (rw colon refl);
+    })

@@ -1,29 +1,34 @@
 //! Going from line to line.
 
-ghost use Rattle.std.specs.Prelude.{◌≡◌, ◌+◌, ◌<◌, ◌≤◌, ◌^◌, true, false, [], ◌∷◌, ◌++◌, length, map, OnOk, IfOk, IfErr, Ok, Err, None, if◌then◌else◌};
+ghost use Rattle.std.specs.Prelude.{◌≡◌, ◌+◌, ◌<◌, ◌≤◌, ◌^◌, true, false, not, [], ◌∷◌, ◌++◌, length, map, OnOk, IfOk, IfErr, IfSome, Ok, Err, None, if◌then◌else◌};
+ghost use Rattle.std.specs.List.{list_any};
 ghost use Rattle.deb_text.specs.Answers.{Gives, refusal_of, fault_at};
 ghost use Rattle.deb_text.specs.Cuts.{is_nil};
 ghost use Rattle.deb_text.specs.Lines.{control_lines};
 ghost use Rattle.deb_text.specs.Steps.{answer, judged};
 ghost use Rattle.deb_stanza.specs.Cut.{onto_last};
-ghost use Rattle.deb_stanza.specs.Draft.{draft_state, IsFit, HasRoom, longer, open_names, step, with_head};
-ghost use Rattle.deb_stanza.specs.Stanza.{fault_of, head_fault, paragraphs_of, told_at};
+ghost use Rattle.deb_stanza.specs.Draft.{draft_state, HasNames, IsFit, HasRoom, longer, names_from, open_names, step, with_head};
+ghost use Rattle.deb_stanza.specs.Stanza.{fault_of, head_fault, paragraphs_of, same_name, told_at};
 ghost use Rattle.deb_stanza.specs.View.{IsSound, line_of, table_paragraphs};
 
 use crate::error::{CONTINUES_NO_FIELD, FIELD_TWICE, MOST_BYTES};
-use crate::fields::{fault, head_name, lowered_name};
+use crate::fields::{fault, head_name, insert_name};
 use crate::table::{Table, empty_table};
 use deb_text::{Class, Fault, Line, begins_with, is_blank_line, is_comment, next_line};
-use std::alloc::Global;
+use std::alloc::{AllocError, Global};
 use std::collections::BTreeSet;
 
-/// The paragraphs so far. Where the last one is open, `names` has the names of its fields in
-/// small letters.
+/// From so many fields on, the names of a paragraph are kept in a set. Of fewer, each name is
+/// compared with a new one.
+const MANY: usize = 16;
+
+/// The paragraphs so far. Where the last one is open and has many fields, `names` has their names
+/// in small letters.
 #[derive(Drop)]
 pub struct Draft {
     pub table: Table,
     pub is_open: bool,
-    pub names: BTreeSet<Vec<u8>>,
+    pub names: Option<BTreeSet<Vec<u8>>>,
 }
 
 /// A draft without paragraphs.
@@ -35,13 +40,13 @@ pub fn empty_draft(alloc: Global) -> Draft
     Draft {
         table: empty_table(alloc),
         is_open: false,
-        names: BTreeSet::new(alloc),
+        names: None,
     }
 }
 
 impl Draft {
     /// Takes a line that separates.
-    fn close(&mut self, alloc: Global)
+    fn close(&mut self)
         requires fit { IsFit self.old }
         ensures state { draft_state self.new ≡ record (draft_state self.old) { is_open = false } }
         ensures fit { IsFit self.new }
@@ -50,7 +55,7 @@ impl Draft {
         // Of the lines that separate, the first one alone changes something.
         if self.is_open {
             self.is_open = false;
-            self.names = BTreeSet::new(alloc);
+            self.names = None;
         }
     }
 
@@ -98,6 +103,49 @@ impl Draft {
         Ok(())
     }
 
+    /// Where the fields of the open paragraph begin.
+    fn open_start(&self) -> usize
+        requires { IsSound self.now.table }
+        ensures within { result ≤ length self.now.table.fields.items }
+        ensures names { names_from self.now.table result ≡ open_names (draft_state self.now) }
+    {
+        if self.is_open {
+            self.table.last_start()
+        } else {
+            self.table.fields.len()
+        }
+    }
+
+    /// Puts the names of the open paragraph into a set, once it has many.
+    fn keep_names(&mut self, alloc: Global) -> Result<(), AllocError>
+        requires fit { IsFit self.old }
+        ensures fit { OnOk result (IsFit self.new) }
+        ensures state { draft_state self.new ≡ draft_state self.old }
+        ensures table { self.new.table ≡ self.old.table }
+    {
+        let start = self.open_start();
+        if self.names.is_none() && self.table.fields.len() - start >= MANY {
+            self.names = Some(self.table.name_set(alloc, start)?);
+        }
+        Ok(())
+    }
+
+    /// Tells whether no field of the open paragraph has this name. A set of names has it then.
+    fn takes_name(&mut self, alloc: Global, name: &[u8]) -> Result<bool, AllocError>
+        requires fit { IsFit self.old }
+        ensures new { IfOk result (λ is_new. is_new
+            ≡ not (list_any (same_name name.now) (open_names (draft_state self.old)))) }
+        ensures names { OnOk result (IfSome self.new.names
+            (λ set. HasNames set (open_names (draft_state self.old) ++ name.now ∷ []))) }
+        ensures state { draft_state self.new ≡ draft_state self.old }
+        ensures table { self.new.table ≡ self.old.table }
+    {
+        match &mut self.names {
+            Some(names) => insert_name(alloc, names, name),
+            None => Ok(!self.table.has_name(self.open_start(), name)),
+        }
+    }
+
     /// Takes a line that begins a field.
     fn begin_field(&mut self, alloc: Global, line: Line) -> Result<(), Fault>
         requires fit { IsFit self.old }
@@ -111,8 +159,8 @@ impl Draft {
             ≤ length self.old.table.bytes.items + length line.entry.bytes.now + 1) }
     {
         let name = head_name(line)?;
-        let key = lowered_name(alloc, name)?;
-        if !self.names.insert(key)? {
+        self.keep_names(alloc)?;
+        if !self.takes_name(alloc, name)? {
             return Err(fault(line.number, FIELD_TWICE));
         }
         self.add_head(line)?;
@@ -130,7 +178,7 @@ impl Draft {
             ≤ length self.old.table.bytes.items + length line.entry.bytes.now + 1) }
     {
         if is_blank_line(line.bytes) {
-            self.close(alloc);
+            self.close();
             Ok(())
         } else if begins_with(Class::Space, line.bytes) {
             self.go_on(line)

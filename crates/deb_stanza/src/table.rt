@@ -1,15 +1,17 @@
 //! The fields of all paragraphs, in one run of bytes.
 
-ghost use Rattle.std.specs.Prelude.{◌≡◌, ◌+◌, ◌<◌, ◌≤◌, ◌^◌, slice_index_or, slice_range, [], ◌∷◌, ◌++◌, length, OnOk};
+ghost use Rattle.std.specs.Prelude.{◌≡◌, ◌+◌, ◌<◌, ◌≤◌, ◌^◌, slice_index_or, slice_range, [], ◌∷◌, ◌++◌, length, drop, OnOk, IfOk};
+ghost use Rattle.std.specs.List.{list_any};
 ghost use Rattle.std.specs.Option.{option_map};
 ghost use Rattle.deb_stanza.specs.Cut.{end_at, onto_last};
-ghost use Rattle.deb_stanza.specs.Draft.{longer, larger};
-ghost use Rattle.deb_stanza.specs.Stanza.{paragraph_at, value_of};
+ghost use Rattle.deb_stanza.specs.Draft.{HasNames, last_texts, longer, larger, names_from};
+ghost use Rattle.deb_stanza.specs.Stanza.{name_of, paragraph_at, same_name, value_of};
 ghost use Rattle.deb_stanza.specs.View.{IsSound, first_of, own, table_paragraphs, table_raws, table_texts, value_among, value_named};
 
-use crate::fields::behind_name;
+use crate::fields::{behind_name, insert_name, name_part};
 use deb_text::trim;
 use std::alloc::{AllocError, Global};
+use std::collections::BTreeSet;
 
 /// Where a paragraph begins: the place of its first field, and the number of its first line.
 #[derive(Clone, Copy, Debug)]
@@ -172,6 +174,47 @@ impl Table {
             }
         }
         None
+    }
+
+    /// Where the fields of the last paragraph begin, or the end where there is none.
+    pub fn last_start(&self) -> usize
+        requires { IsSound self.now }
+        ensures within { result ≤ length self.now.fields.items }
+        ensures texts { drop result (table_texts self.now) ≡ last_texts (table_raws self.now) }
+    {
+        match self.paragraphs.last() {
+            Some(start) => start.first as usize,
+            None => self.fields.len(),
+        }
+    }
+
+    /// Tells whether a field from this one on has that name.
+    pub fn has_name(&self, start: usize, name: &[u8]) -> bool
+        requires { IsSound self.now }
+        ensures { result ≡ list_any (same_name name.now) (names_from self.now start) }
+    {
+        self.value_among(start, self.fields.len(), name).is_some()
+    }
+
+    /// The name of a field.
+    fn name(&self, field: usize) -> &[u8]
+        requires sound { IsSound self.now }
+        requires within { field < length self.now.fields.items }
+        ensures { result.now ≡ name_of (slice_index_or (table_texts self.now) field []) }
+    {
+        name_part(self.text(field))
+    }
+
+    /// The names of the fields from this one on, in small letters.
+    pub fn name_set(&self, alloc: Global, start: usize) -> Result<BTreeSet<Vec<u8>>, AllocError>
+        requires { IsSound self.now }
+        ensures { IfOk result (λ set. HasNames set (names_from self.now start)) }
+    {
+        let mut names = BTreeSet::new(alloc);
+        for field in start..self.fields.len() {
+            insert_name(alloc, &mut names, self.name(field))?;
+        }
+        Ok(names)
     }
 
     /// The value of the field of that name in a paragraph.

@@ -1,6 +1,7 @@
 pub mod ByteLaws
 pub mod DigitLaws
 pub mod MeaningLaws
+pub mod PlaceLaws
 pub mod PolicyTable
 pub mod RunCuts
 pub mod RunLaws

@@ -1,11 +1,12 @@
 //! The grammar of versions: the pieces of a text, and what is wrong with them.
 
-ghost use Rattle.std.specs.Prelude.{◌≡◌, nat_lt, unwrap_or, codes, true, false, MatchOption, Ok, Err, if◌then◌else◌};
+ghost use Rattle.std.specs.Prelude.{◌≡◌, ◌≤◌, nat_lt, true, false, MatchOption, Ok, Err, if◌then◌else◌};
 ghost use Rattle.std.specs.List.{list_all};
 ghost use Rattle.deb_text.specs.Answers.{Gives};
 ghost use Rattle.deb_text.specs.Bytes.{is_digit};
 ghost use Rattle.deb_text.specs.Numbers.{number};
 ghost use Rattle.deb_version.specs.Grammar.{is_revision_byte, is_upstream_byte, pieces_of, has_empty_piece, has_bad_byte, epoch_number};
+ghost use Rattle.deb_version.specs.Places.{start_of};
 ghost use Rattle.deb_version.specs.View.{refusal_of, pieces_view};
 
 use crate::error::{EPOCH_TOO_LARGE, VersionError};
@@ -44,13 +45,14 @@ pub fn cut_into_pieces(text: &[u8]) -> Pieces<'_>
     }
 }
 
-/// The revision, which is `0` where it is absent.
-pub fn revision_or_zero(pieces: Pieces<'_>) -> &[u8]
-    ensures { result.now ≡ unwrap_or (pieces_view pieces.entry).revision (codes "0") }
+/// Where the upstream begins in the text.
+pub fn start_of(pieces: &Pieces) -> usize
+    requires { start_of (pieces_view pieces.now) ≤ MAX_LENGTH }
+    ensures { result ≡ start_of (pieces_view pieces.now) }
 {
-    match pieces.revision {
-        Some(revision) => revision,
-        None => b"0",
+    match pieces.epoch {
+        Some(epoch) => epoch.len() + 1,
+        None => 0,
     }
 }
 

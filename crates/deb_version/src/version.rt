@@ -7,12 +7,13 @@ ghost use Rattle.std.specs.Cmp.Rules.{comparing};
 ghost use Rattle.std.specs.Ordering.{as_partial_cmp, eq_by_cmp};
 ghost use Rattle.deb_version.specs.OrderLaws.{text_cmp_total, text_eq_equiv};
 ghost use Rattle.deb_version.specs.Grammar.{version_at, parts_at, text_cmp};
+ghost use Rattle.deb_version.specs.Order.{revision_of};
 ghost use Rattle.deb_text.specs.Answers.{Gives};
 ghost use Rattle.deb_version.specs.View.{refusal_of};
 
 use crate::error::{BAD_CHARACTER, EMPTY_PART, TOO_LONG, VersionError};
 use crate::grammar::{
-    MAX_LENGTH, cut_into_pieces, epoch_of, has_bad_byte, has_empty_piece, revision_or_zero,
+    MAX_LENGTH, cut_into_pieces, epoch_of, has_bad_byte, has_empty_piece, start_of,
 };
 use crate::order::compare_parts;
 use std::alloc::{AllocError, Global};
@@ -27,18 +28,20 @@ use std::marker::Model;
 pub struct Version {
     text: Vec<u8>,
     epoch: u32,
+    /// Where the upstream begins in the text, and where it ends: comparing needs no search.
+    start: u16,
+    end: u16,
 }
 
 impl Model for Version {
-    ghost use Rattle.std.specs.Prelude.{◌≡◌, ℕ, List, Ok};
-    ghost use Rattle.deb_version.specs.Grammar.{version_at, pieces_of, parts_with};
+    ghost use Rattle.std.specs.Prelude.{ℕ, List};
+    ghost use Rattle.deb_version.specs.Places.{IsVersion};
 
     ghost Value = { List ℕ };
 
     ghost view = { λ v. v.text.items };
 
-    ghost invariant = { λ v. version_at v.text.items
-        ≡ Ok (parts_with v.epoch (pieces_of v.text.items)) };
+    ghost invariant = { λ v. IsVersion v.text.items v.epoch v.start v.end };
 }
 
 impl Version {
@@ -70,9 +73,12 @@ impl Version {
                 code: BAD_CHARACTER,
             });
         }
+        let start = start_of(&pieces);
         Ok(Version {
             epoch: epoch_of(&pieces)?,
             text: Vec::from_slice(alloc, text)?,
+            start: start as u16,
+            end: (start + pieces.upstream.len()) as u16,
         })
     }
 
@@ -90,18 +96,36 @@ impl Version {
     pub fn compare(&self, other: &Version) -> Ordering
         ensures order { result ≡ text_cmp self.now other.now }
     {
+        if self.text == other.text {
+            return Ordering::Equal;
+        }
         match self.epoch.cmp(&other.epoch) {
             Ordering::Equal => {}
             unequal => return unequal,
         }
-        // cut again, so that a version is no more than its text and its epoch
-        let left = cut_into_pieces(&self.text);
-        let right = cut_into_pieces(&other.text);
-        match compare_parts(left.upstream, right.upstream) {
+        match compare_parts(self.upstream(), other.upstream()) {
             Ordering::Equal => {}
             unequal => return unequal,
         }
-        compare_parts(revision_or_zero(left), revision_or_zero(right))
+        compare_parts(self.revision_or_zero(), other.revision_or_zero())
+    }
+
+    fn upstream(&self) -> &[u8]
+        ensures { result.now ≡ (parts_at self.now).upstream }
+    {
+        &self.text[usize::from(self.start)..usize::from(self.end)]
+    }
+
+    /// The revision, which is `0` where it is absent.
+    fn revision_or_zero(&self) -> &[u8]
+        ensures { result.now ≡ revision_of (parts_at self.now) }
+    {
+        let end = usize::from(self.end);
+        if end < self.text.len() {
+            &self.text[end + 1..]
+        } else {
+            b"0"
+        }
     }
 }
 
@@ -112,6 +136,8 @@ impl Clone for Version {
         Ok(Version {
             text: self.text.clone()?,
             epoch: self.epoch,
+            start: self.start,
+            end: self.end,
         })
     }
 }
