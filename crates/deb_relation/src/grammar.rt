@@ -24,6 +24,12 @@ fn make_name(bytes: &[u8]) -> bool
     bytes.len() >= 2 && begins_with(Class::Lower, bytes)
 }
 
+/// Reads the name at the front of an alternative, and gives what stands behind it too (Debian
+/// Policy 5.6.1).
+///
+/// # Errors
+///
+/// [`BAD_NAME`] where it is no name.
 #[tactic(auto, unfolding(crate::specs::Grammar::name_at))]
 pub fn read_name(text: &[u8]) -> Result<(&[u8], &[u8]), RelationError>
     ensures { Gives refusal_of (λ part. (part.0.now, part.1.now)) result (name_at text.now) }
@@ -35,6 +41,12 @@ pub fn read_name(text: &[u8]) -> Result<(&[u8], &[u8]), RelationError>
     Ok((name, rest))
 }
 
+/// Reads the qualifier, if a colon stands at the front, and gives what stands behind it too (Debian
+/// Policy 7.1).
+///
+/// # Errors
+///
+/// [`BAD_NAME`] where the colon has no qualifier behind it.
 #[tactic(auto, unfolding(crate::specs::Grammar::qualifier_at))]
 pub fn read_qualifier(text: &[u8]) -> Result<(Option<&[u8]>, &[u8]), RelationError>
     ensures { Gives refusal_of (λ part. (option_map (λ q. q.now) part.0, part.1.now)) result
@@ -111,6 +123,13 @@ fn skip_bracket(text: &[u8]) -> Result<&[u8], RelationError>
     }
 }
 
+/// Reads the relation to a version, if a bracket stands at the front, and gives what stands behind
+/// it too (Debian Policy 7.1).
+///
+/// # Errors
+///
+/// In this order: [`BAD_OPERATOR`]; [`NOT_EQUAL`] in a kind that takes `=` alone; [`BAD_VERSION`];
+/// [`NOT_CLOSED`] where no bracket closes it there. 900 where memory is refused.
 #[tactic(auto, unfolding(crate::specs::Grammar::relation_at))]
 pub fn read_relation(
     alloc: Global,

@@ -19,18 +19,21 @@ pub enum Kind {
 }
 
 impl Kind {
+    /// Tells whether a version stands behind `=` alone (Debian Policy 7.5).
     pub(crate) fn is_provide(self) -> bool
         ensures { result ≡ is_provide self }
     {
         matches!(self, Kind::Provide)
     }
 
+    /// Tells whether an entry may have several alternatives.
     pub(crate) fn has_alternatives(self) -> bool
         ensures { result ≡ has_alternatives self }
     {
         matches!(self, Kind::Need | Kind::BuildNeed)
     }
 
+    /// Tells whether an alternative may have architectures and profiles.
     pub(crate) fn has_restrictions(self) -> bool
         ensures { result ≡ has_restrictions self }
     {

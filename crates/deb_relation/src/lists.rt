@@ -65,6 +65,14 @@ fn read_archs_in(alloc: Global, text: &[u8]) -> Result<(Option<ArchList>, &[u8])
     Ok((Some(read_arch_list(alloc, inside)?), rest))
 }
 
+/// Reads the list of architectures, if a bracket stands at the front, and gives what stands behind
+/// it too (Debian Policy 7.1).
+///
+/// # Errors
+///
+/// In this order: [`RESTRICTION`] in a kind that has none; [`NOT_CLOSED`] where no bracket closes
+/// it; [`BAD_ARCHITECTURES`] for an empty or a mixed list or a bad item. 900 where memory is
+/// refused.
 #[tactic(auto, unfolding(crate::specs::Restrictions::archs_at))]
 pub fn read_archs(
     alloc: Global,
@@ -151,6 +159,13 @@ fn read_lists(alloc: Global, text: &[u8]) -> Result<Vec<ProfileList>, RelationEr
     Ok(lists)
 }
 
+/// Reads the lists of profiles, to the end of the text (BuildProfileSpec).
+///
+/// # Errors
+///
+/// Of the first list with a fault: [`RESTRICTION`] in a kind that has none; [`NOT_CLOSED`] where no
+/// bracket closes it; [`BAD_PROFILES`] for an empty list or a bad item; [`BAD_NAME`] for a byte
+/// that begins none. 900 where memory is refused.
 #[tactic(auto, unfolding(crate::specs::Restrictions::profiles_at))]
 pub fn read_profiles(
     alloc: Global,

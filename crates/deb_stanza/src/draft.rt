@@ -168,6 +168,11 @@ impl Draft {
     }
 
     /// Takes the next line, which is no comment.
+    ///
+    /// # Errors
+    ///
+    /// [`CONTINUES_NO_FIELD`], and those of [`head_name`](crate::fields::head_name), then
+    /// [`FIELD_TWICE`], at the line. [`Fault::MEMORY`] where memory ran out.
     pub fn take_line(&mut self, alloc: Global, line: Line) -> Result<(), Fault>
         requires fit { IsFit self.old }
         requires room { HasRoom self.old line.bytes.now }
@@ -189,6 +194,10 @@ impl Draft {
 }
 
 /// The paragraphs of a text, which is no longer than texts may be.
+///
+/// # Errors
+///
+/// The first of those of [`Draft::take_line`].
 pub fn read_lines(alloc: Global, text: &[u8]) -> Result<Table, Fault>
     requires { length text.now ≤ MOST_BYTES }
     ensures read { Gives refusal_of table_paragraphs result

@@ -46,6 +46,10 @@ fn is_field_name(name: &[u8]) -> bool
 }
 
 /// The name before the first colon of a line.
+///
+/// # Errors
+///
+/// [`NO_COLON`], then [`BAD_FIELD_NAME`], at the line.
 pub fn head_name(line: Line<'_>) -> Result<&[u8], Fault>
     ensures name { Gives refusal_of (λ name. name.now) result
         (answer (told_at line.entry.number (name_fault line.entry.bytes.now))
@@ -69,6 +73,11 @@ fn lowered_name(alloc: Global, name: &[u8]) -> Result<Vec<u8>, AllocError>
 }
 
 /// Puts a name into a set of names in small letters, and tells whether it was not there.
+///
+/// # Errors
+///
+/// [`AllocError`] where memory is refused. The set has then the names that it had, or this one
+/// more.
 pub fn insert_name(
     alloc: Global,
     names: &mut BTreeSet<Vec<u8>>,

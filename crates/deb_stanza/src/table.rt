@@ -94,6 +94,10 @@ impl Table {
     }
 
     /// Gives the last paragraph one more field.
+    ///
+    /// # Errors
+    ///
+    /// [`AllocError`] where memory is refused. What the table has then is not said.
     pub fn add_field(&mut self, text: &[u8]) -> Result<(), AllocError>
         requires sound { IsSound self.old }
         requires some { 0 < length text.now }
@@ -109,6 +113,10 @@ impl Table {
     }
 
     /// Begins a paragraph with its first field.
+    ///
+    /// # Errors
+    ///
+    /// [`AllocError`] where memory is refused. What the table has then is not said.
     pub fn add_paragraph(&mut self, line: u32, text: &[u8]) -> Result<(), AllocError>
         requires sound { IsSound self.old }
         requires some { 0 < length text.now }
@@ -125,6 +133,10 @@ impl Table {
     }
 
     /// Lets the last field go on with a line.
+    ///
+    /// # Errors
+    ///
+    /// [`AllocError`] where memory is refused. What the last field has then is not said.
     pub fn go_on(&mut self, line: &[u8]) -> Result<(), AllocError>
         requires sound { IsSound self.old }
         ensures raws { OnOk result (table_raws self.new
@@ -206,6 +218,10 @@ impl Table {
     }
 
     /// The names of the fields from this one on, in small letters.
+    ///
+    /// # Errors
+    ///
+    /// [`AllocError`] where memory is refused.
     pub fn name_set(&self, alloc: Global, start: usize) -> Result<BTreeSet<Vec<u8>>, AllocError>
         requires { IsSound self.now }
         ensures { IfOk result (λ set. HasNames set (names_from self.now start)) }

@@ -79,6 +79,10 @@ pub fn has_bad_byte(pieces: &Pieces) -> bool
 }
 
 /// Reads the epoch, which is 0 where it is absent.
+///
+/// # Errors
+///
+/// [`EPOCH_TOO_LARGE`] over [`MAX_EPOCH`].
 pub fn epoch_of(pieces: &Pieces) -> Result<u32, VersionError>
     requires { has_bad_byte (pieces_view pieces.now) ≡ false }
     ensures { Gives refusal_of (λ n. n) result
