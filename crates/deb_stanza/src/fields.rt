@@ -76,8 +76,7 @@ fn lowered_name(alloc: Global, name: &[u8]) -> Result<Vec<u8>, AllocError>
 ///
 /// # Errors
 ///
-/// [`AllocError`] where memory is refused. The set has then the names that it had, or this one
-/// more.
+/// [`AllocError`] where memory is refused. What the set has then is not said.
 pub fn insert_name(
     alloc: Global,
     names: &mut BTreeSet<Vec<u8>>,
