@@ -37,6 +37,10 @@ fn read_numbered(
 }
 
 /// The row of a line `known NAME NUMBER: ..` of this name and number, if the line is one.
+///
+/// # Errors
+///
+/// [`AllocError`] where memory is refused.
 #[tactic(auto, unfolding(crate::specs::CertLines::known_row))]
 pub fn read_known(
     alloc: Global,

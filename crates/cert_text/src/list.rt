@@ -64,6 +64,10 @@ fn is_initial(universe: &Universe, variant: Variant) -> bool
 
 /// The row that a list of variants says, if it says one: each item comes behind the one before it,
 /// and none is in the initial archive.
+///
+/// # Errors
+///
+/// [`AllocError`] where memory is refused.
 pub fn read_row(alloc: Global, spelled: Spelled<'_>, text: &[u8]) -> Result<Option<Row>, AllocError>
     ensures { IfOk result (λ row. row ≡ row_at spelled.entry.universe.now text.now) }
 {

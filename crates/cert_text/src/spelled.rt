@@ -49,6 +49,10 @@ fn noted(variants: &IndexMap<Vec<u8>, Variant>, text: &[u8]) -> Option<Variant>
 }
 
 /// The variant that an item says. One that is written as it would be printed is looked up.
+///
+/// # Errors
+///
+/// [`AllocError`] where memory is refused.
 pub fn variant_said(
     alloc: Global,
     spelled: Spelled<'_>,

@@ -29,6 +29,10 @@ fn slot_in(universe: &Universe, number: u32, name: u32) -> Slot
 }
 
 /// What a base chroot holds of each name.
+///
+/// # Errors
+///
+/// [`AllocError`] where memory is refused.
 pub fn base_slots(alloc: Global, universe: &Universe, number: u32) -> Result<Vec<Slot>, AllocError>
     requires { number < length universe.now.bases }
     ensures based { IfOk result (λ slots. slots.items ≡ base_chroot universe.now number) }

@@ -30,6 +30,7 @@ impl Model for Slots {
     ghost invariant = { λ s. IsListed s.slots.items s.present.items (vec_capacity s.present) };
 }
 
+/// Tells whether a variant is there, unpacked or configured.
 pub fn is_present(slot: Slot) -> bool
     ensures { result ≡ chroots.is_present slot }
 {

@@ -22,12 +22,14 @@ pub fn slot_at(slots: &Slots, name: u32) -> Slot
     slots.at(name)
 }
 
+/// Tells whether a variant is there and unpacked alone.
 pub fn is_unpacked(slot: Slot) -> bool
     ensures { result ≡ chroots.is_unpacked slot }
 {
     matches!(slot, Slot::Unpacked { .. })
 }
 
+/// Tells whether a variant is there and configured.
 pub fn is_configured(slot: Slot) -> bool
     ensures { result ≡ chroots.is_configured slot }
 {
@@ -56,6 +58,7 @@ pub fn last_of(slot: Slot) -> Option<u32>
     }
 }
 
+/// What state of installation a name is in.
 pub fn phase_of(slot: Slot) -> Phase
     ensures { result ≡ phase_of slot }
 {

@@ -52,6 +52,7 @@ pub struct Output {
 }
 
 impl Output {
+    /// An output without a byte, that takes bytes in this manner.
     pub fn new(alloc: Global, manner: Manner) -> Output {
         Output {
             taken: Vec::new(alloc),

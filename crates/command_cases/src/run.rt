@@ -49,6 +49,10 @@ fn judge_all(
 }
 
 /// Prints of each case of a file whether its answer is the wanted one.
+///
+/// # Errors
+///
+/// Where a file cannot be read, memory is refused or a line cannot be printed.
 pub fn run_file(
     rt: &(impl Files + Print + AllocGlobal + Threads + Wait + Eprint + Sync),
     file: &str,

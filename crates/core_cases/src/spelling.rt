@@ -14,6 +14,10 @@ fn is_known(universe: &Universe, variant: Variant) -> bool
 }
 
 /// The version of a variant, as the packages text spells it.
+///
+/// # Errors
+///
+/// [`AllocError`] where memory is refused. What stands behind the text then is not said.
 pub fn push_version(
     text: &mut String,
     universe: &Universe,

@@ -81,6 +81,10 @@ fn push_lane(text: &mut String, universe: &Universe, lane: &Lane) -> Result<(), 
 }
 
 /// Puts the lines of a plan behind a text: how many events it has, and the lanes in file order.
+///
+/// # Errors
+///
+/// [`AllocError`] where memory is refused. What stands behind the text then is not said.
 pub fn push_plan(text: &mut String, universe: &Universe, plan: &Plan) -> Result<(), AllocError> {
     writeln!(text, "count {}", plan.count())?;
     for number in 0..plan.lanes() {

@@ -20,6 +20,10 @@ fn operator(op: Op) -> &'static str {
 }
 
 /// A relation to a version, as ` (>= 2.40)`.
+///
+/// # Errors
+///
+/// [`AllocError`] where memory is refused. What stands behind the text then is not said.
 pub fn push_relation(
     text: &mut String,
     relation: &Option<(Op, Version)>,
@@ -44,6 +48,10 @@ fn push_alternative(text: &mut String, atom: &Atom) -> Result<(), AllocError> {
 }
 
 /// An entry, as ` libgmp | libgmp:odd`.
+///
+/// # Errors
+///
+/// [`AllocError`] where memory is refused. What stands behind the text then is not said.
 pub fn push_entry(text: &mut String, entry: &Entry) -> Result<(), AllocError> {
     let mut is_first = true;
     for atom in entry.alternatives() {
@@ -57,6 +65,10 @@ pub fn push_entry(text: &mut String, entry: &Entry) -> Result<(), AllocError> {
 }
 
 /// Puts the entries of a field that has some behind a text, each behind the field's name.
+///
+/// # Errors
+///
+/// [`AllocError`] where memory is refused. What stands behind the text then is not said.
 pub fn push_relations(
     text: &mut String,
     field: &str,
@@ -109,6 +121,10 @@ fn push_passing(
 }
 
 /// Puts the variants that pass for the alternatives of a field behind a text, a line each.
+///
+/// # Errors
+///
+/// [`AllocError`] where memory is refused. What stands behind the text then is not said.
 pub fn push_all_passing(
     text: &mut String,
     universe: &Universe,

@@ -81,6 +81,10 @@ fn word_count(text: &[u8]) -> u64 {
 
 /// Puts the lines of a universe behind a text: the names, the base chroots and how many names the
 /// farm's architecture has.
+///
+/// # Errors
+///
+/// [`AllocError`] where memory is refused. What stands behind the text then is not said.
 pub fn push_universe(text: &mut String, universe: &Universe) -> Result<(), AllocError> {
     for name in 0..universe.names() {
         push_name(text, universe, name)?;

@@ -129,6 +129,10 @@ pub struct RunFiles<'a> {
 }
 
 /// Runs the lanes of the plan of files.
+///
+/// # Errors
+///
+/// Those of [`read_files`] and of [`answer_run`].
 pub fn run_files<'a, R: Threads + Wait + Eprint + Sync, F: Source, S: Sink, E: Sink>(
     rt: &R,
     alloc: Global,

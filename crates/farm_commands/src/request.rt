@@ -29,6 +29,7 @@ pub struct FileTexts {
 }
 
 impl FileTexts {
+    /// The four texts.
     pub fn texts(&self) -> Texts<'_>
         ensures { texts_view result ≡ texts_in_files self.now }
     {

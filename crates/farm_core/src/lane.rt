@@ -26,6 +26,10 @@ pub struct LaneRun {
 
 impl LaneRun {
     /// A lane at its beginning, in its base chroot.
+    ///
+    /// # Errors
+    ///
+    /// [`AllocError`] where memory is refused.
     pub fn open(alloc: Global, universe: &Universe, lane: &Lane) -> Result<LaneRun, AllocError>
         requires { lane.now.base < length universe.now.bases }
         ensures start { IfOk result (λ run. shown run ≡ start_lane universe.now lane.now) }

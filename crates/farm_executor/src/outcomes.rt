@@ -87,6 +87,10 @@ fn give_back(
 }
 
 /// Runs all lanes, from their seats until all have come back.
+///
+/// # Errors
+///
+/// [`AllocError`] where memory is refused.
 pub fn run_seats<R: Threads + Wait + Sync, G: Gate + Sync>(
     rt: &R,
     alloc: Global,

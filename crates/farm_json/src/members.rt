@@ -57,6 +57,10 @@ fn of_accepted(alloc: Global, accepted: &Accepted) -> Result<Map<String, Value>,
 }
 
 /// The members of a verdict.
+///
+/// # Errors
+///
+/// [`AllocError`] where memory is refused.
 pub fn of_verdict(
     alloc: Global,
     verdict: &Result<Accepted, Refusal>,
@@ -71,6 +75,10 @@ pub fn of_verdict(
 }
 
 /// The same, and what explains it.
+///
+/// # Errors
+///
+/// [`AllocError`] where memory is refused.
 pub fn of_explained(
     alloc: Global,
     verdict: &Result<Accepted, Refusal>,

@@ -107,6 +107,10 @@ fn reason_value(alloc: Global, note: &Note) -> Result<Value, AllocError>
 }
 
 /// Gives notes as a list of objects.
+///
+/// # Errors
+///
+/// [`AllocError`] where memory is refused.
 pub fn reason_list(alloc: Global, notes: &[Note]) -> Result<Value, AllocError>
     ensures { IfOk result (λ value. view value ≡ spec.reasons_data (all_facts notes.now)) }
 {

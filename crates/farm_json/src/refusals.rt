@@ -112,6 +112,10 @@ fn of_stuck(alloc: Global, lanes: &[Vec<u8>]) -> Result<Map<String, Value>, Allo
 }
 
 /// The members of a refusal.
+///
+/// # Errors
+///
+/// [`AllocError`] where memory is refused.
 pub fn of_refusal(alloc: Global, refusal: &Refusal) -> Result<Map<String, Value>, AllocError>
     ensures { IfOk result (λ members. members_view members.entries
         ≡ spec.refusal_members refusal.now) }

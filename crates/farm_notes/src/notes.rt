@@ -64,6 +64,10 @@ fn push_item(text: &mut Vec<u8>, items: &Items, place: usize) -> Result<(), Allo
 }
 
 /// Puts the line of an item behind a text, where there is one.
+///
+/// # Errors
+///
+/// [`AllocError`] where memory is refused. What stands behind the text then is not said.
 pub fn push_item_note(
     text: &mut Vec<u8>,
     items: &Items,
@@ -186,6 +190,10 @@ fn push_cause(
 }
 
 /// Puts the line of a cause behind a text, where there is one.
+///
+/// # Errors
+///
+/// [`AllocError`] where memory is refused. What stands behind the text then is not said.
 pub fn push_cause_note(
     text: &mut Vec<u8>,
     universe: &Universe,

@@ -18,6 +18,10 @@ use farm_universe::Universe;
 use std::alloc::{AllocError, Global};
 
 /// Reads the paragraphs of a text; `None` where it has a fault.
+///
+/// # Errors
+///
+/// [`AllocError`] where memory is refused.
 pub fn read_paragraphs(alloc: Global, text: &[u8]) -> Result<Option<Paragraphs>, AllocError>
     ensures { IfOk result (λ read. read ≡ spec.readable (paragraphs_at text.now)) }
 {
@@ -92,6 +96,10 @@ pub fn list_name(paragraphs: &Paragraphs, place: usize) -> &'static [u8]
 }
 
 /// The items of a list of variants; none where there is no list.
+///
+/// # Errors
+///
+/// [`AllocError`] where memory is refused.
 pub fn entries_in(alloc: Global, value: Option<&[u8]>) -> Result<Relations, AllocError>
     ensures { IfOk result
         (λ items. items ≡ spec.entries_in (option_map (λ v. v.now) value.entry)) }
@@ -107,6 +115,10 @@ pub fn entries_in(alloc: Global, value: Option<&[u8]>) -> Result<Relations, Allo
 }
 
 /// The variants of items, less what names none.
+///
+/// # Errors
+///
+/// [`AllocError`] where memory is refused.
 pub fn members_of(
     alloc: Global,
     universe: &Universe,
@@ -156,6 +168,10 @@ fn read_universe(
 
 /// The universe that the packages, the sources and the farm text before a paragraph describe, whose
 /// place and first line these are; `None` where they have a fault.
+///
+/// # Errors
+///
+/// [`AllocError`] where memory is refused.
 #[tactic(auto, unfolding(crate::specs::Parts::universe_before))]
 pub fn universe_before(
     alloc: Global,
@@ -172,6 +188,10 @@ pub fn universe_before(
 }
 
 /// The universe that the packages text before a line describes; `None` where it has a fault.
+///
+/// # Errors
+///
+/// [`AllocError`] where memory is refused.
 #[tactic(auto, unfolding(crate::specs::Parts::packages_before))]
 pub fn packages_before(
     alloc: Global,

@@ -98,6 +98,7 @@ impl<'a> Among<'a> {
         Ok(found(alloc, members_of(alloc, table, variants)?)?)
     }
 
+    /// The members, as the list has them.
     pub fn members(&self) -> &[Member<'a>]
         ensures { result.now ≡ self.now }
     {

@@ -26,6 +26,7 @@ impl Model for Base {
 }
 
 impl Base {
+    /// A base chroot of this name, of a capacity in KiB, with these variants configured.
     pub(crate) fn new(name: Vec<u8>, capacity: u64, packages: Vec<Variant>) -> Base
         ensures { result ≡ record {
           name = name.items;

@@ -82,6 +82,11 @@ fn read_base(
 }
 
 /// Goes on by a paragraph without the field Recipe.
+///
+/// # Errors
+///
+/// The first of 201, 121 and 203 of `Chroot`, 201 and 202 of `Capacity`, those of [`read_list`] of
+/// `Packages`, 209, and 210. [`FieldFault::Memory`] where memory is refused.
 #[tactic(auto, unfolding(crate::specs::FarmText::bases_with))]
 pub fn add_base(
     alloc: Global,

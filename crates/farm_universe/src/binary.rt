@@ -49,6 +49,7 @@ impl Model for Package {
 }
 
 impl Package {
+    /// A package of this version, with its Installed-Size in KiB.
     pub fn new(version: Version, size: u64, essential: bool, relations: PackageRelations) -> Package
         ensures { result ≡ record {
           version = version;
@@ -69,6 +70,7 @@ impl Package {
         }
     }
 
+    /// Its version (Debian Policy 5.6.12).
     pub fn version(&self) -> &Version
         ensures { result.now ≡ self.now.version }
     {
@@ -89,6 +91,7 @@ impl Package {
         self.essential
     }
 
+    /// Its relation fields (Debian Policy 7).
     pub fn relations(&self) -> &PackageRelations
         ensures { result.now ≡ record {
           pre_depends = self.now.pre_depends;
@@ -217,6 +220,10 @@ fn place_for(given: &[Package], binary: &Package) -> usize
 }
 
 /// Puts a package in its place among others of its name, by version.
+///
+/// # Errors
+///
+/// Where memory is refused, with the package.
 pub fn insert_in_order(
     given: &mut Vec<Package>,
     binary: Package,

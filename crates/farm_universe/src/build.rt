@@ -157,6 +157,11 @@ fn reduce_in_mode(
 }
 
 /// Reads the fields Source, Mode and Profiles, and keeps the first entries of the build.
+///
+/// # Errors
+///
+/// The first of 201, 121 to 128 and 206 of `Source`, 202 of `Mode`, and 131 of `Profiles`.
+/// [`FieldFault::Memory`] where memory is refused.
 #[tactic(auto, unfolding(crate::specs::RecipeSteps::first_build_at, crate::specs::RecipeText::build_at))]
 pub fn read_build(alloc: Global, land: &Land, paragraph: &Paragraph) -> Result<Build, FieldFault>
     requires { IsLand (land_view land.now) }

@@ -91,6 +91,10 @@ impl FieldFault {
 }
 
 /// What is read of a paragraph, a fault told at the paragraph's first line.
+///
+/// # Errors
+///
+/// The fault, at the first line of the paragraph; [`Fault::MEMORY`] where memory is refused.
 pub fn told<X>(file: u8, paragraph: &Paragraph, read: Result<X, FieldFault>) -> Result<X, Fault>
     ensures { result ≡ field_told file paragraph.now read }
 {

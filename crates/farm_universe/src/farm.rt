@@ -114,6 +114,11 @@ fn read_yard(alloc: Global, land: &Land, paragraphs: &Paragraphs) -> Result<Yard
 }
 
 /// Reads the paragraphs of the farm text.
+///
+/// # Errors
+///
+/// 201 at line 0 where there is no paragraph; else the first fault of a paragraph, told at its
+/// first line. [`Fault::MEMORY`] where memory is refused.
 #[tactic(auto, unfolding(crate::specs::FarmText::farm_of))]
 pub fn read_farm(
     alloc: Global,

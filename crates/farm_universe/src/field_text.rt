@@ -36,6 +36,10 @@ impl Model for FieldText {
 
 impl FieldText {
     /// Judges a field, and keeps its text.
+    ///
+    /// # Errors
+    ///
+    /// 121 to 130, the first fault of the field. [`FieldFault::Memory`] where memory is refused.
     pub fn read(alloc: Global, kind: Kind, text: &[u8]) -> Result<FieldText, FieldFault>
         ensures { Gives refusal_of (λ field. field) result (relations_at kind text.now) }
     {
@@ -57,6 +61,10 @@ impl FieldText {
     }
 
     /// What is left of the field, up to this many entries.
+    ///
+    /// # Errors
+    ///
+    /// [`FieldFault::Memory`] where memory is refused.
     pub fn reduce(
         &self,
         alloc: Global,

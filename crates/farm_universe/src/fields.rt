@@ -16,6 +16,10 @@ use deb_version::Version;
 use std::alloc::Global;
 
 /// Reads a name.
+///
+/// # Errors
+///
+/// 121 where it is none. [`FieldFault::Memory`] where memory is refused.
 pub fn read_name(alloc: Global, text: &[u8]) -> Result<Vec<u8>, FieldFault>
     ensures { Gives refusal_of (λ name. name.items) result (name_at text.now) }
 {
@@ -26,6 +30,10 @@ pub fn read_name(alloc: Global, text: &[u8]) -> Result<Vec<u8>, FieldFault>
 }
 
 /// Reads a version.
+///
+/// # Errors
+///
+/// 111 to 114, by what is wrong with it. [`FieldFault::Memory`] where memory is refused.
 pub fn read_version(alloc: Global, text: &[u8]) -> Result<Version, FieldFault>
     ensures { Gives refusal_of (λ version. version) result (version_text_at text.now) }
 {
@@ -33,6 +41,10 @@ pub fn read_version(alloc: Global, text: &[u8]) -> Result<Version, FieldFault>
 }
 
 /// Reads a number that is at most `most`.
+///
+/// # Errors
+///
+/// 202 where it is no number, or over that.
 pub fn read_number_up_to(most: u64, text: &[u8]) -> Result<u64, FieldFault>
     ensures read { Gives refusal_of (λ n. n) result (number_up_to most text.now) }
     ensures small { IfOk result (λ n. n ≤ most) }
@@ -49,6 +61,10 @@ pub fn read_number_up_to(most: u64, text: &[u8]) -> Result<u64, FieldFault>
 }
 
 /// Reads Installed-Size or Scratch, in KiB.
+///
+/// # Errors
+///
+/// 202 where it is no number, or over [`MOST_SIZE`].
 pub fn read_size(value: Option<&[u8]>) -> Result<u64, FieldFault>
     ensures read { Gives refusal_of (λ n. n) result
         (size_at (option_map (λ v. v.now) value.entry)) }
@@ -73,6 +89,10 @@ fn flag_of(text: &[u8]) -> Result<bool, FieldFault>
 }
 
 /// Reads a field of `yes` or `no`, `no` where it is absent.
+///
+/// # Errors
+///
+/// 202 for another word.
 pub fn read_flag(value: Option<&[u8]>) -> Result<bool, FieldFault>
     ensures { Gives refusal_of (λ flag. flag) result
         (flag_at (option_map (λ v. v.now) value.entry)) }
@@ -84,6 +104,10 @@ pub fn read_flag(value: Option<&[u8]>) -> Result<bool, FieldFault>
 }
 
 /// Judges a relation field, and keeps it as it is written.
+///
+/// # Errors
+///
+/// 121 to 130, the first fault of the field. [`FieldFault::Memory`] where memory is refused.
 pub fn keep_relations(
     alloc: Global,
     kind: Kind,
@@ -99,6 +123,10 @@ pub fn keep_relations(
 }
 
 /// Reads a relation field, and keeps its first entries.
+///
+/// # Errors
+///
+/// 121 to 130, the first fault of the whole field. [`FieldFault::Memory`] where memory is refused.
 pub fn read_relations(
     alloc: Global,
     kind: Kind,

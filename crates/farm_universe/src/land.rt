@@ -72,6 +72,11 @@ fn read_head(alloc: Global, table: &PackageTable, paragraph: &Paragraph) -> Resu
 }
 
 /// Reads the first paragraph, and tells its fault at its line.
+///
+/// # Errors
+///
+/// The first of 201 and 131 of `Architecture-Names` and those of [`read_list`] of `Archive`, told
+/// at the paragraph's first line. [`Fault::MEMORY`] where memory is refused.
 #[tactic(auto, using(crate::proofs::ToldLaws::gives_told))]
 pub fn tell_head(alloc: Global, table: &PackageTable, paragraph: &Paragraph) -> Result<Head, Fault>
     requires { IsFit (table_view table.now) }
@@ -83,6 +88,10 @@ pub fn tell_head(alloc: Global, table: &PackageTable, paragraph: &Paragraph) -> 
 }
 
 /// Puts together what the later paragraphs are read against.
+///
+/// # Errors
+///
+/// [`AllocError`] where memory is refused.
 pub fn make_land(
     alloc: Global,
     table: PackageTable,

@@ -150,6 +150,10 @@ fn add_item(table: &PackageTable, list: &mut VariantList, entry: &Entry) -> Resu
 }
 
 /// A list without a variant.
+///
+/// # Errors
+///
+/// [`FieldFault::Memory`] where memory is refused.
 pub fn empty_list(alloc: Global, table: &PackageTable) -> Result<VariantList, FieldFault>
     ensures empty { IfOk result (λ list. list.variants.items ≡ []) }
     ensures listed { IfOk result (AreListed (table_view table.now)) }
@@ -183,6 +187,11 @@ fn read_items(alloc: Global, table: &PackageTable, text: &[u8]) -> Result<Varian
 
 /// Reads a list of variants. Its items are judged before the first is looked up, and none of them
 /// is kept.
+///
+/// # Errors
+///
+/// 121 to 128, the first fault of the whole field; else, item by item, 205 for one that names no
+/// variant and 203 for one that stands twice. [`FieldFault::Memory`] where memory is refused.
 #[tactic(auto, unfolding(crate::specs::ListText::list_at))]
 pub fn read_list(
     alloc: Global,

@@ -32,6 +32,7 @@ impl<'a> Model for Member<'a> {
 }
 
 impl<'a> Member<'a> {
+    /// The variant of a table.
     pub fn of(table: &'a PackageTable, variant: Variant) -> Member<'a>
         requires fit { IsFit (table_view table.now) }
         requires place { IsPlace (table_view table.now) variant }
@@ -51,6 +52,7 @@ impl<'a> Member<'a> {
         self.number
     }
 
+    /// Its name.
     pub fn name(&self) -> &'a [u8]
         ensures { result.now ≡ self.now.name }
     {
@@ -64,6 +66,7 @@ impl<'a> Member<'a> {
         self.binary.size()
     }
 
+    /// Its relation fields, reduced to the farm's architecture.
     pub fn relations(&self) -> &'a PackageRelations
         ensures { result.now ≡ record {
           pre_depends = self.now.binary.pre_depends;

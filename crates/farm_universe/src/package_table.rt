@@ -185,6 +185,11 @@ impl ParagraphStep for PackageStep {
 }
 
 /// Reads the paragraphs of the packages text.
+///
+/// # Errors
+///
+/// The first fault of a paragraph, told at its first line: those of [`read_package`], then 203, 204
+/// and 210. [`Fault::MEMORY`] where memory is refused.
 pub fn read_table(alloc: Global, paragraphs: &Paragraphs) -> Result<PackageTable, Fault>
     ensures read { Gives fault_of table_view result (packages_of paragraphs.now) }
     ensures fit { IfOk result (λ table. IsFit (table_view table)) }

@@ -40,6 +40,12 @@ fn read_package_relations(
 }
 
 /// Reads a paragraph of the packages text.
+///
+/// # Errors
+///
+/// The first of 201 and 121 of `Package`, 201 and 111 to 114 of `Version`, 202 of `Installed-Size`
+/// and of `Essential`, and 121 to 129 of the relation fields. [`FieldFault::Memory`] where memory
+/// is refused.
 #[tactic(auto, unfolding(crate::specs::TableSteps::first_package_at))]
 pub fn read_package(alloc: Global, paragraph: &Paragraph) -> Result<Listed, FieldFault>
     ensures read { Gives refusal_of listed_view result (first_package_at paragraph.now) }

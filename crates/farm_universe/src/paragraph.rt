@@ -53,6 +53,10 @@ impl<'a> Paragraph<'a> {
     }
 
     /// The value of a field that has to stand.
+    ///
+    /// # Errors
+    ///
+    /// 201 where it is absent.
     pub fn needed(&self, name: &[u8]) -> Result<&'a [u8], FieldFault>
         ensures { Gives refusal_of (λ v. v.now) result (needed_at self.now name.now) }
     {

@@ -33,6 +33,8 @@ impl Model for Recipe {
 }
 
 impl Recipe {
+    /// A recipe of these parts: what it takes in steps and in KiB, what it needs and excludes, and
+    /// what it gives.
     pub(crate) fn new(
         name: Vec<u8>,
         steps: u64,

@@ -169,6 +169,12 @@ fn put(list: &mut RecipeList, recipe: Recipe) -> Result<(), FieldFault>
 }
 
 /// Goes on by a paragraph with the field Recipe.
+///
+/// # Errors
+///
+/// The first of 121 and 203 of its name, those of [`read_build`], 201 and 202 of `Steps`, 202 of
+/// `Scratch`, of `Outputs` 208, those of [`read_list`](crate::list::read_list) and 207, and 210.
+/// [`FieldFault::Memory`] where memory is refused.
 #[tactic(auto, unfolding(crate::specs::FarmText::recipes_with))]
 pub fn add_recipe(
     alloc: Global,

@@ -163,6 +163,11 @@ impl ParagraphStep for SourceStep {
 }
 
 /// Reads the paragraphs of the sources text.
+///
+/// # Errors
+///
+/// The first fault of a paragraph, told at its first line: those of [`read_source`], then 203 and
+/// 210. [`Fault::MEMORY`] where memory is refused.
 pub fn read_sources(alloc: Global, paragraphs: &Paragraphs) -> Result<SourceTable, Fault>
     ensures read { Gives fault_of source_view result (sources_of paragraphs.now) }
     ensures fit { IfOk result (λ table. IsSourceTable (source_view table)) }

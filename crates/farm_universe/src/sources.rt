@@ -70,6 +70,11 @@ fn read_build_fields(
 }
 
 /// Reads a paragraph of the sources text.
+///
+/// # Errors
+///
+/// The first of 201 and 121 of the name, 201 and 111 to 114 of `Version`, and 121 to 130 of the six
+/// fields of a build. [`FieldFault::Memory`] where memory is refused.
 #[tactic(auto, unfolding(crate::specs::SourcesText::source_at))]
 pub fn read_source(alloc: Global, paragraph: &Paragraph) -> Result<ListedSource, FieldFault>
     ensures { Gives refusal_of listed_source_view result (source_at paragraph.now) }

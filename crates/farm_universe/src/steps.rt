@@ -41,6 +41,10 @@ pub trait ParagraphStep {
 }
 
 /// Goes on by all paragraphs from this one on, up to the first fault.
+///
+/// # Errors
+///
+/// The first fault that the step tells.
 pub fn read_steps<S: ParagraphStep>(
     alloc: Global,
     step: &S,

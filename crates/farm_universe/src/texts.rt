@@ -27,6 +27,11 @@ fn read_paragraphs(alloc: Global, file: u8, text: &[u8]) -> Result<Paragraphs, F
 }
 
 /// Reads the packages text.
+///
+/// # Errors
+///
+/// 105 at line 0, or 101 to 104 at the faulty line; else the first fault of a paragraph, told at
+/// its first line. [`Fault::MEMORY`] where memory is refused.
 #[tactic(auto, unfolding(crate::specs::UniverseText::table_at))]
 pub fn read_packages_text(alloc: Global, packages: &[u8]) -> Result<PackageTable, Fault>
     ensures read { Gives fault_of table_view result (table_at packages.now) }
@@ -37,6 +42,11 @@ pub fn read_packages_text(alloc: Global, packages: &[u8]) -> Result<PackageTable
 }
 
 /// Reads the sources text.
+///
+/// # Errors
+///
+/// 105 at line 0, or 101 to 104 at the faulty line; else the first fault of a paragraph, told at
+/// its first line. [`Fault::MEMORY`] where memory is refused.
 #[tactic(auto, unfolding(crate::specs::UniverseText::sources_at))]
 pub fn read_sources_text(alloc: Global, sources: &[u8]) -> Result<SourceTable, Fault>
     ensures read { Gives fault_of source_view result (sources_at sources.now) }
@@ -47,6 +57,11 @@ pub fn read_sources_text(alloc: Global, sources: &[u8]) -> Result<SourceTable, F
 }
 
 /// Reads the farm text.
+///
+/// # Errors
+///
+/// 105 at line 0, or 101 to 104 at the faulty line; else the first fault of a paragraph, told at
+/// its first line. [`Fault::MEMORY`] where memory is refused.
 #[tactic(auto, unfolding(crate::specs::UniverseText::farm_at))]
 pub fn read_farm_text(
     alloc: Global,

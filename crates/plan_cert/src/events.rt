@@ -97,6 +97,10 @@ fn lane_events(
 }
 
 /// The events of each lane.
+///
+/// # Errors
+///
+/// [`AllocError`] where memory is refused.
 pub fn all_events(
     alloc: Global,
     universe: &Universe,

@@ -50,6 +50,10 @@ fn first_source(question: Question<'_>, variants: &[Variant]) -> Option<usize>
 }
 
 /// A row with the first outputs of a recipe, so many of them.
+///
+/// # Errors
+///
+/// [`AllocError`] where memory is refused.
 pub fn with_outputs(
     universe: &Universe,
     before: &Row,
@@ -143,6 +147,10 @@ fn is_initial(question: Question<'_>) -> bool
 }
 
 /// Tells whether each variant of `new` is in the archive whenever some variant of `sources` is.
+///
+/// # Errors
+///
+/// [`AllocError`] where memory is refused.
 pub fn are_facts(question: Question<'_>) -> Result<bool, AllocError>
     ensures { IfOk result (λ yes. IsTrue yes ↔ AreFacts question.entry.claim.universe.now
         question.entry.claim.plan.now.lanes (rows_of question.entry.claim.known.now)

@@ -48,6 +48,10 @@ fn all_publishes(alloc: Global, plan: &Plan) -> Result<Vec<LanePublishes>, Alloc
 }
 
 /// Lists the origins of a plan, so that the facts of each wait go over its publishes alone.
+///
+/// # Errors
+///
+/// [`AllocError`] where memory is refused.
 pub fn find_origins(alloc: Global, universe: &Universe, plan: &Plan) -> Result<Origins, AllocError>
     requires { IsUniverse universe.now }
     ensures { IfOk result (AreOrigins universe.now plan.now.lanes) }

@@ -14,6 +14,7 @@ pub struct Seen {
     pub published: Option<u64>,
 }
 
+/// Nothing was asked of the archive.
 pub const NOTHING: Seen = Seen {
     loaded: None,
     drawn: None,

@@ -130,6 +130,10 @@ impl Found {
     }
 
     /// Puts variants under a number, if there are any.
+    ///
+    /// # Errors
+    ///
+    /// [`AllocError`] where memory is refused. What was found is then not said.
     pub fn add(&mut self, number: usize, word: u64) -> Result<(), AllocError>
         ensures { OnOk result (Puts number word self.old self.new) }
     {
@@ -141,6 +145,10 @@ impl Found {
     }
 
     /// Puts words behind these.
+    ///
+    /// # Errors
+    ///
+    /// [`AllocError`] where memory is refused. What was found is then not said.
     pub fn add_all(&mut self, words: &[NumberWord]) -> Result<(), AllocError>
         ensures { OnOk result ((n b : ℕ) → among self.new n b ≡ (among self.old n b
             || among words.now n b)) }
@@ -239,6 +247,10 @@ impl Found {
     }
 
     /// Puts the variants that satisfy some alternative of an entry.
+    ///
+    /// # Errors
+    ///
+    /// [`AllocError`] where memory is refused. What was found is then not said.
     pub fn add_entry(
         &mut self,
         universe: &Universe,
@@ -256,6 +268,10 @@ impl Found {
     }
 
     /// Puts the variants that satisfy some entry of a field.
+    ///
+    /// # Errors
+    ///
+    /// [`AllocError`] where memory is refused. What was found is then not said.
     pub fn add_field(
         &mut self,
         universe: &Universe,

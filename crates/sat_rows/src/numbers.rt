@@ -34,12 +34,14 @@ impl Model for PreNumbers {
 }
 
 impl PreNumbers {
+    /// The number of the entry.
     pub fn entry(&self) -> usize
         ensures { result ≡ self.now.entry }
     {
         self.entry
     }
 
+    /// The number of an alternative by itself.
     pub fn alternative(&self, number: usize) -> usize
         requires { number < length self.now.alternatives }
         ensures { result ≡ slice_index_or self.now.alternatives number 0 }
@@ -67,6 +69,7 @@ impl Model for Numbers {
 }
 
 impl Numbers {
+    /// The numbers of an entry of Pre-Depends.
     pub fn pre_depends(&self, number: usize) -> &PreNumbers
         requires { number < length self.now.pre_depends }
         ensures { result.now ≡ slice_index_or self.now.pre_depends number no_pre_numbers }
@@ -74,6 +77,7 @@ impl Numbers {
         &self.pre_depends[number]
     }
 
+    /// The number of an entry of Depends.
     pub fn depends(&self, number: usize) -> usize
         requires { number < length self.now.depends }
         ensures { result ≡ slice_index_or self.now.depends number 0 }
@@ -81,12 +85,14 @@ impl Numbers {
         self.depends[number]
     }
 
+    /// The numbers of all entries of Pre-Depends.
     pub fn all_pre_depends(&self) -> &[PreNumbers]
         ensures { result.now ≡ self.now.pre_depends }
     {
         &self.pre_depends
     }
 
+    /// The numbers of all entries of Depends.
     pub fn all_depends(&self) -> &[usize]
         ensures { result.now ≡ self.now.depends }
     {
@@ -110,6 +116,7 @@ impl Model for NameNumbers {
 }
 
 impl NameNumbers {
+    /// The numbers of the variant with this bit.
     pub fn variant(&self, bit: u32) -> &Numbers
         requires { bit < length self.now }
         ensures { result.now ≡ slice_index_or self.now bit no_numbers }
@@ -133,6 +140,7 @@ impl Model for Needs {
 }
 
 impl Needs {
+    /// The number of a need.
     pub fn need(&self, number: usize) -> usize
         requires { number < length self.now }
         ensures { result ≡ slice_index_or self.now number 0 }

@@ -14,6 +14,10 @@ use std::alloc::{AllocError, Global};
 
 /// Answers `compare`, `conflicts NAME VERSION`, `breaks NAME VERSION` and `broken-by NAME VERSION`,
 /// or with the row that another question asks for.
+///
+/// # Errors
+///
+/// [`AllocError`] where memory is refused.
 pub fn answer(
     alloc: Global,
     universe: &Universe,

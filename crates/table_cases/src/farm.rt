@@ -18,6 +18,10 @@ use std::thread::Threads;
 use std::{fs, io};
 
 /// Tells of each case of a file whether its answer is the wanted one.
+///
+/// # Errors
+///
+/// Where a file cannot be read, memory is refused or a line cannot be printed.
 pub fn tell_file(
     rt: &(impl Threads + Sync + AllocGlobal + Clock + Files + Print),
     file: &str,

@@ -29,6 +29,10 @@ fn time_of(
 }
 
 /// Builds the rows so often, and gives the nanoseconds of the shortest time.
+///
+/// # Errors
+///
+/// Where memory is refused or the clock cannot be read.
 pub fn least_time(
     rt: &(impl Threads + Sync + AllocGlobal + Clock),
     universe: &Universe,
