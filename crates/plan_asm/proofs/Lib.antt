@@ -17,3 +17,4 @@ pub mod WriteLaws
 pub mod Landings
 pub mod Noted
 pub mod PutLaws
+pub mod UnpackLaws

@@ -12,3 +12,4 @@ pub mod Seen
 pub mod Listing
 pub mod Landings
 pub mod RecipeNumbers
+pub mod Unpacks

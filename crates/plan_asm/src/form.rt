@@ -7,7 +7,7 @@ ghost use Rattle.std.specs.Option.{option_map};
 ghost use Rattle.deb_text.specs.Answers.{Gives, refusal_code};
 ghost use Rattle.deb_text.specs.Words.{words, is_word};
 ghost use Rattle.plan_asm.specs.declared.error.TheConstants.{BAD_LINE};
-ghost use Rattle.plan_asm.specs.Forms.{form_at, wording_by, lane_form, end_form, else_form};
+ghost use Rattle.plan_asm.specs.Forms.{first_word, behind_word, form_at, form_by, wording_by, lane_form, end_form, else_form};
 ghost use Rattle.plan_asm.specs.Forms.{in_line, unqualified, piece_at, unpack_form, when_form, one_word, some_words};
 ghost use Rattle.plan_asm.specs.LineErrors.{refusal_of_line};
 ghost use Rattle.plan_asm.specs.View.{wording_of, form_of};
@@ -161,7 +161,7 @@ fn read_else<'a>(text: &[u8]) -> Result<Wording<'a>, LineError>
     Ok(Wording::Else)
 }
 
-fn read_unpack<'a>(alloc: Global, text: &[u8]) -> Result<Wording<'a>, LineError>
+pub fn read_unpack<'a>(alloc: Global, text: &[u8]) -> Result<Wording<'a>, LineError>
     ensures { Gives refusal_of_line wording_of result (unpack_form text.now) }
 {
     let piece = read_piece(alloc, text)?;
@@ -250,17 +250,10 @@ fn read_wording<'a>(alloc: Global, word: &[u8], rest: &'a [u8]) -> Result<Wordin
     }
 }
 
-/// Reads a line of a plan by itself.
-///
-/// # Errors
-///
-/// [`BadLine`](LineError::BadLine) where it is none of the lines that a plan has. 900 where memory
-/// ran out.
-#[tactic(auto, unfolding(crate::specs::Forms::form_at))]
-pub fn read_form(alloc: Global, line: &[u8]) -> Result<Form<'_>, LineError>
-    ensures { Gives refusal_of_line form_of result (form_at line.now) }
+/// Reads a line by its first word, and what stands behind it.
+pub fn form_by<'a>(alloc: Global, word: &[u8], rest: &'a [u8]) -> Result<Form<'a>, LineError>
+    ensures { Gives refusal_of_line form_of result (form_by word.now rest.now) }
 {
-    let (word, rest) = split_front(Class::Solid, skip_front(Class::Blank, line));
     if word == b"lane".as_slice() {
         read_lane(rest)
     } else if word == b"end".as_slice() {
@@ -272,4 +265,26 @@ pub fn read_form(alloc: Global, line: &[u8]) -> Result<Form<'_>, LineError>
     } else {
         Ok(Form::Instruction(read_wording(alloc, word, rest)?))
     }
+}
+
+/// Takes the first word of a line, and gives what stands behind it too.
+pub fn cut_word(line: &[u8]) -> (&[u8], &[u8])
+    ensures word { result.0.now ≡ first_word line.now }
+    ensures rest { result.1.now ≡ behind_word line.now }
+{
+    split_front(Class::Solid, skip_front(Class::Blank, line))
+}
+
+/// Reads a line of a plan by itself.
+///
+/// # Errors
+///
+/// [`BadLine`](LineError::BadLine) where it is none of the lines that a plan has. 900 where memory
+/// ran out.
+#[tactic(auto, unfolding(crate::specs::Forms::form_at))]
+pub fn read_form(alloc: Global, line: &[u8]) -> Result<Form<'_>, LineError>
+    ensures { Gives refusal_of_line form_of result (form_at line.now) }
+{
+    let (word, rest) = cut_word(line);
+    form_by(alloc, word, rest)
 }

@@ -15,6 +15,7 @@ mod print;
 mod reader;
 mod recipe_numbers;
 mod side;
+mod unpacks;
 
 pub use error::{
     BAD_LINE, FILE, LineError, MOST_INSTRUCTIONS, MOST_LANES, NAME_TAKEN, NAME_TWICE, NO_PLAN,

@@ -1,11 +1,12 @@
 //! A text read as a plan.
 
-ghost use Rattle.std.specs.Prelude.{◌≡◌, ◌<◌, length, drop, IfOk};
+ghost use Rattle.std.specs.Prelude.{◌≡◌, ◌<◌, length, drop, IfOk, OnOk};
 ghost use Rattle.std.specs.Option.{option_map};
 ghost use Rattle.deb_stanza.specs.Plain.{plain_lines_at};
 ghost use Rattle.deb_text.specs.Answers.{Gives, fault_at, refusal_of};
 ghost use Rattle.farm_model.specs.Sound.{IsUniverse};
 ghost use Rattle.farm_universe.specs.Told.{in_file};
+ghost use Rattle.plan_asm.specs.Unpacks.{take_unpack, AreRead};
 ghost use Rattle.plan_asm.specs.Drafts.{put, take_block, take_end, take_form, take_instruction, take_lane, take_use};
 ghost use Rattle.plan_asm.specs.PlanText.{take_text, take_line, reading_of};
 ghost use Rattle.plan_asm.specs.PlanText.{plan_in, plan_of};
@@ -17,11 +18,12 @@ ghost use Rattle.plan_asm.specs.View.{form_of, wording_of};
 
 use crate::assembly::Assembly;
 use crate::error::{FILE, LineError, NO_PLAN};
-use crate::form::{Form, LaneHead, Wording, read_form};
+use crate::form::{Form, LaneHead, Wording, cut_word, form_by};
 use crate::names::{Names, known_base, read_instruction};
 use crate::plan::Plan;
 use crate::recipe_numbers::recipe_numbers;
 use crate::side::Side;
+use crate::unpacks::{Unpacks, read_unpack_line};
 use deb_stanza::{Lines, plain_lines};
 use deb_text::{Fault, is_head};
 use farm_universe::Universe;
@@ -220,32 +222,64 @@ fn take_form(
     }
 }
 
-#[tactic(auto, unfolding(crate::specs::PlanText::take_text))]
-fn take_text(
+/// Goes on by an `unpack` line, by the text behind the word.
+fn take_unpack<'t>(
     alloc: Global,
     names: Names<'_>,
     number: u32,
     so_far: &mut Reading,
-    line: &[u8],
+    text: &'t [u8],
+    unpacks: &mut Unpacks<'t>,
 ) -> Result<(), LineError>
-    ensures { Gives refusal_of_line (λ _. so_far.new) result
-        (take_text names.entry.universe.now number so_far.old line.now) }
+    requires { AreRead names.universe.now unpacks.old }
+    ensures value { Gives refusal_of_line (λ _. so_far.new) result
+        (take_unpack names.entry.universe.now number so_far.old text.now) }
+    ensures read { OnOk result (AreRead names.entry.universe.now unpacks.new) }
 {
-    let form = read_form(alloc, line)?;
+    if !so_far.draft.is_open() {
+        return Err(LineError::BadLine);
+    }
+    let instruction = read_unpack_line(alloc, names, text, unpacks)?;
+    put(alloc, number, so_far, instruction)
+}
+
+/// Goes on by a line.
+#[tactic(auto, unfolding(crate::specs::PlanText::take_text, crate::specs::Forms::form_at))]
+fn take_text<'t>(
+    alloc: Global,
+    names: Names<'_>,
+    number: u32,
+    so_far: &mut Reading,
+    line: &'t [u8],
+    unpacks: &mut Unpacks<'t>,
+) -> Result<(), LineError>
+    requires { AreRead names.universe.now unpacks.old }
+    ensures value { Gives refusal_of_line (λ _. so_far.new) result
+        (take_text names.entry.universe.now number so_far.old line.now) }
+    ensures read { OnOk result (AreRead names.entry.universe.now unpacks.new) }
+{
+    let (word, rest) = cut_word(line);
+    if word == b"unpack".as_slice() {
+        return take_unpack(alloc, names, number, so_far, rest, unpacks);
+    }
+    let form = form_by(alloc, word, rest)?;
     take_form(alloc, names, number, so_far, form)
 }
 
-fn take_line(
+fn take_line<'t>(
     alloc: Global,
     names: Names<'_>,
     so_far: &mut Reading,
     number: u32,
-    line: &[u8],
+    line: &'t [u8],
+    unpacks: &mut Unpacks<'t>,
 ) -> Result<(), Fault>
-    ensures { Gives refusal_of (λ _. so_far.new) result
+    requires { AreRead names.universe.now unpacks.old }
+    ensures value { Gives refusal_of (λ _. so_far.new) result
         (take_line names.entry.universe.now so_far.old (number, line.now)) }
+    ensures read { OnOk result (AreRead names.entry.universe.now unpacks.new) }
 {
-    match take_text(alloc, names, number, so_far, line) {
+    match take_text(alloc, names, number, so_far, line, unpacks) {
         Ok(()) => Ok(()),
         Err(error) => Err(error.at(number)),
     }
@@ -258,8 +292,16 @@ fn read_sections(alloc: Global, names: Names<'_>, lines: &Lines) -> Result<Readi
         (reading_of names.entry.universe.now (drop 1 lines.now)) }
 {
     let mut so_far = outside(Assembly::new(alloc));
+    let mut unpacks = Unpacks::new(alloc)?;
     for i in 1..lines.count() {
-        take_line(alloc, names, &mut so_far, lines.number(i), lines.line(i))?;
+        take_line(
+            alloc,
+            names,
+            &mut so_far,
+            lines.number(i),
+            lines.line(i),
+            &mut unpacks,
+        )?;
     }
     Ok(so_far)
 }
