@@ -27,7 +27,6 @@ use crate::place::push_where;
 use crate::reasons::push_reason;
 use farm_report::verdict_text;
 use farm_universe::Trap;
-use may_rows::Dependents;
 use plan_asm::Instruction;
 use plan_lines::PlanLines;
 use plan_verifier::walk::{walk, walk_to};
@@ -182,14 +181,12 @@ fn push_reasons<K: KnownWords>(
 fn trap_text<K: KnownWords>(
     alloc: Global,
     stage: &Stage<'_, K>,
-    dependents: &Dependents,
     lines: &PlanLines,
     number: usize,
     met: Met,
 ) -> Result<(Vec<u8>, Kind), AllocError>
     requires stage { IsStage stage.now.universe.now stage.now.plan.now.lanes
         stage.now.tables.now stage.now.outputs.now (K.known stage.now.known.now) }
-    requires dependents { dependents.now ≡ stage.now.universe.now }
     requires lane { number < length stage.now.plan.now.lanes }
     requires instruction { 0 < met.instruction }
     requires place { met.instruction
@@ -210,7 +207,7 @@ fn trap_text<K: KnownWords>(
         number,
     };
     // The walk has come to this place before: it can end for want of memory alone.
-    let Ok(may) = walk_to(alloc, stage, dependents, number, place) else {
+    let Ok(may) = walk_to(alloc, stage, number, place) else {
         return Err(AllocError);
     };
     let told = reason(alloc, stage, number, place, &may, met.trap)?;
@@ -222,14 +219,12 @@ fn trap_text<K: KnownWords>(
 fn trap_note<K: KnownWords>(
     alloc: Global,
     stage: &Stage<'_, K>,
-    dependents: &Dependents,
     lines: &PlanLines,
     number: usize,
     met: Met,
 ) -> Result<Note, AllocError>
     requires stage { IsStage stage.now.universe.now stage.now.plan.now.lanes
         stage.now.tables.now stage.now.outputs.now (K.known stage.now.known.now) }
-    requires dependents { dependents.now ≡ stage.now.universe.now }
     requires lane { number < length stage.now.plan.now.lanes }
     requires instruction { 0 < met.instruction }
     requires place { met.instruction
@@ -247,7 +242,7 @@ fn trap_note<K: KnownWords>(
         instruction,
         Some(met.trap),
     )?;
-    let (text, kind) = trap_text(alloc, stage, dependents, lines, number, met)?;
+    let (text, kind) = trap_text(alloc, stage, lines, number, met)?;
     Ok(Note {
         kind,
         place: Some(place),
@@ -284,14 +279,12 @@ fn uneven_head<K: KnownWords>(
 fn uneven_text<K: KnownWords>(
     alloc: Global,
     stage: &Stage<'_, K>,
-    dependents: &Dependents,
     lines: &PlanLines,
     number: usize,
     instruction: u32,
 ) -> Result<Vec<u8>, AllocError>
     requires stage { IsStage stage.now.universe.now stage.now.plan.now.lanes
         stage.now.tables.now stage.now.outputs.now (K.known stage.now.known.now) }
-    requires dependents { dependents.now ≡ stage.now.universe.now }
     requires lane { number < length stage.now.plan.now.lanes }
     requires instruction { 0 < instruction }
     ensures { IfOk result (λ text. text.items ≡ spec.parting_text stage.now.universe.now
@@ -300,7 +293,7 @@ fn uneven_text<K: KnownWords>(
 {
     let mut text = uneven_head(alloc, stage, lines, number, instruction)?;
     let end = end_behind(stage.plan, number, instruction as usize - 1);
-    push_parting(&mut text, alloc, stage, dependents, number, end)?;
+    push_parting(&mut text, alloc, stage, number, end)?;
     Ok(text)
 }
 
@@ -308,14 +301,12 @@ fn uneven_text<K: KnownWords>(
 fn uneven_note<K: KnownWords>(
     alloc: Global,
     stage: &Stage<'_, K>,
-    dependents: &Dependents,
     lines: &PlanLines,
     number: usize,
     instruction: u32,
 ) -> Result<Note, AllocError>
     requires stage { IsStage stage.now.universe.now stage.now.plan.now.lanes
         stage.now.tables.now stage.now.outputs.now (K.known stage.now.known.now) }
-    requires dependents { dependents.now ≡ stage.now.universe.now }
     requires lane { number < length stage.now.plan.now.lanes }
     requires instruction { 0 < instruction }
     ensures { IfOk result (λ note. facts note ≡ spec.parting_note stage.now.universe.now
@@ -324,7 +315,7 @@ fn uneven_note<K: KnownWords>(
 {
     let of = u64::from(instruction);
     let place = note_place(alloc, stage.plan, lines, number, of, None)?;
-    let text = uneven_text(alloc, stage, dependents, lines, number, instruction)?;
+    let text = uneven_text(alloc, stage, lines, number, instruction)?;
     Ok(Note {
         kind: Kind::Uneven,
         place: Some(place),
@@ -336,18 +327,16 @@ fn uneven_note<K: KnownWords>(
 fn lane_note<K: KnownWords>(
     alloc: Global,
     stage: &Stage<'_, K>,
-    dependents: &Dependents,
     lines: &PlanLines,
     number: usize,
 ) -> Result<Option<Note>, AllocError>
     requires stage { IsStage stage.now.universe.now stage.now.plan.now.lanes
         stage.now.tables.now stage.now.outputs.now (K.known stage.now.known.now) }
-    requires dependents { dependents.now ≡ stage.now.universe.now }
     requires lane { number < length stage.now.plan.now.lanes }
     ensures { IfOk result (λ note. found_facts note ≡ spec.lane_notes stage.now.universe.now
         stage.now.plan.now.lanes (K.known stage.now.known.now).rows lines.now.lanes number) }
 {
-    match walk(alloc, stage, dependents, number) {
+    match walk(alloc, stage, number) {
         Ok(_) => Ok(None),
         Err(
             WalkError::Unsafe {
@@ -357,10 +346,10 @@ fn lane_note<K: KnownWords>(
             },
         ) => {
             let met = Met { instruction, trap };
-            Ok(Some(trap_note(alloc, stage, dependents, lines, number, met)?))
+            Ok(Some(trap_note(alloc, stage, lines, number, met)?))
         }
         Err(WalkError::Uneven { instruction, .. }) => {
-            Ok(Some(uneven_note(alloc, stage, dependents, lines, number, instruction)?))
+            Ok(Some(uneven_note(alloc, stage, lines, number, instruction)?))
         }
         Err(WalkError::Memory) => Err(AllocError),
     }
@@ -396,10 +385,9 @@ pub fn unsafe_notes<K: KnownWords>(
         stage.now.universe.now stage.now.plan.now.lanes (K.known stage.now.known.now).rows
         lines.now.lanes) }
 {
-    let dependents = Dependents::build(alloc, stage.universe, stage.tables)?;
     let mut notes = Vec::new(alloc);
     for number in 0..stage.plan.lanes() {
-        let found = lane_note(alloc, stage, &dependents, lines, number)?;
+        let found = lane_note(alloc, stage, lines, number)?;
         push_found(&mut notes, found)?;
     }
     Ok(notes)

@@ -11,7 +11,7 @@ use crate::held::push_slot;
 use crate::words::Word;
 use deb_text::push_pieces;
 use farm_universe::Universe;
-use may_rows::{Dependents, MayHold};
+use may_rows::MayHold;
 use plan_asm::{Instruction, Plan};
 use plan_verifier::walk::walk_to;
 use plan_verifier::{Branch, Stage};
@@ -128,13 +128,11 @@ fn push_ends<K: KnownWords>(
     text: &mut Vec<u8>,
     alloc: Global,
     stage: &Stage<'_, K>,
-    dependents: &Dependents,
     number: usize,
     end: usize,
 ) -> Result<(), AllocError>
     requires stage { IsStage stage.now.universe.now stage.now.plan.now.lanes
         stage.now.tables.now stage.now.outputs.now (K.known stage.now.known.now) }
-    requires dependents { dependents.now ≡ stage.now.universe.now }
     requires lane { number < length stage.now.plan.now.lanes }
     requires end { end < length (lane stage.now.plan.now.lanes number).instructions }
     ensures { OnOk result (text.new.items ≡ text.old.items
@@ -142,7 +140,7 @@ fn push_ends<K: KnownWords>(
         (K.known stage.now.known.now).rows number (Some end)) }
 {
     // The walk has come to this place before: it can end for want of memory alone.
-    let Ok(may) = walk_to(alloc, stage, dependents, number, end) else {
+    let Ok(may) = walk_to(alloc, stage, number, end) else {
         return Err(AllocError);
     };
     match &may.branch {
@@ -162,13 +160,11 @@ pub fn push_parting<K: KnownWords>(
     text: &mut Vec<u8>,
     alloc: Global,
     stage: &Stage<'_, K>,
-    dependents: &Dependents,
     number: usize,
     end: Option<usize>,
 ) -> Result<(), AllocError>
     requires stage { IsStage stage.now.universe.now stage.now.plan.now.lanes
         stage.now.tables.now stage.now.outputs.now (K.known stage.now.known.now) }
-    requires dependents { dependents.now ≡ stage.now.universe.now }
     requires lane { number < length stage.now.plan.now.lanes }
     requires end { IfSome end (λ at.
         at < length (lane stage.now.plan.now.lanes number).instructions) }
@@ -177,7 +173,7 @@ pub fn push_parting<K: KnownWords>(
         (K.known stage.now.known.now).rows number end) }
 {
     match end {
-        Some(end) => push_ends(text, alloc, stage, dependents, number, end),
+        Some(end) => push_ends(text, alloc, stage, number, end),
         None => Ok(()),
     }
 }

@@ -27,12 +27,6 @@ some_of-zero u n word p zero =
     some_below-none (variants u n) (λ b. word_has word b && p b)
     (λ b lt. ap (λ h. h && p b) (ap (λ k. word_has k b) zero ∙ word_has_zero b))
 
--- a variant that passes is a bit of the row
-pub row_bit_from : (u : Universe) (p : Variant → Bool) (row : List ℕ) → IsRowOf u p row
-    → (n b : ℕ) → b < variants u n → p (variant n b) ≡ true → variants_of row n b ≡ true
-row_bit_from u p row is n b lt passing =
-    is.set n b ∙ and_from _ _ (lt-ltb b (variants u n) lt) passing
-
 -- the name of a bit is in the universe
 pub bit_named : (u : Universe) (words : List ℕ) → length words ≡ names u → (n b : ℕ)
     → word_has (slice_index words n) b ≡ true → n < names u

@@ -15,7 +15,5 @@ pub mod Configured
 pub mod Withdrawn
 pub mod MetAfter
 pub mod MetWords
-pub mod DependentRows
 pub mod NeededNames
-pub mod DependentNames
-pub mod NamesOver
+pub mod MissedNames

@@ -1,11 +1,11 @@
--- After a safe instruction a name misses an entry only where it missed one before, or where it may
--- need the configured name that was unpacked over.
+-- After a safe instruction an entry is missed only where it was missed before, or where a variant of
+-- the configured name that was unpacked over satisfies it.
 use Rattle.std.proofs.Common.{◌≡◌, ◌⊎◌, inl, inr, ℕ, ◌<◌, ◌≢◌, Bool, true, false, not, ◌&&◌, ◌||◌, ◌==◌, List, [], ◌∷◌, Option, Some, None, refl, sym, ap, ◌∙◌, subst, if◌then◌else◌}
-use Rattle.std.specs.Prelude.{slice_index_or}
+use Rattle.std.specs.Prelude.{slice_get, slice_index_or}
 use Rattle.std.specs.List.{list_any}
 use Rattle.std.proofs.lemmas.Bool.{cases_Bool, cases_eq, and_from, and_parts, or_cases, not-true, not_from_false, both_ways, eq-eqb, eqb-true, ne_eqb}
 use Rattle.std.proofs.lemmas.List.Folds.{list_any-append}
-use Rattle.std.proofs.lemmas.Option.{none-some}
+use Rattle.std.proofs.lemmas.Option.{none-some, slice_get-get_or, slice_get_within, get_or_from_slice_get}
 use Rattle.deb_relation.specs.declared.operator.Op.{Op}
 use Rattle.deb_relation.specs.Relations.{Entry, Relations}
 use Rattle.farm_model.specs.declared.types.Variant.{Variant}
@@ -13,15 +13,15 @@ use Rattle.farm_model.specs.declared.types.Trap.{Trap}
 use Rattle.farm_model.specs.Chroot.{member, unmet, entries}
 use Rattle.farm_model.specs.Traps.{first_trap}
 use Rattle.farm_model.specs.Universe.{Universe}
-use Rattle.farm_model.specs.Packages.{variant, names, variants, pre_depends, depends, satisfies_entry, satisfies_any}
+use Rattle.farm_model.specs.Packages.{variant, names, variants, pre_depends, depends, satisfies_entry}
 use Rattle.farm_model.proofs.BelowLaws.{some_below-at, some_below-found, some_below-mono, every_below-at}
+use Rattle.farm_universe.proofs.PlaceLaws.{named}
 use Rattle.plan_model.specs.Plan.{Lane}
 use Rattle.plan_model.specs.May.{Bits, MaySlot, MayAbsent, MayUnpacked, MayConfigured, May, may_hold, may_hold_configured, surely_configured, surely_met, surely_met_with, is_surely_configured}
 use Rattle.plan_model.specs.MayAt.{may_be_configured, may_unpack, may_change}
 use Rattle.plan_model.specs.Risk.{some_may_member, configure_risks, may_meet, surely_met_outside, may_be_needed}
 use Rattle.may_rows.specs.Configures.{slots_after}
-use Rattle.may_rows.specs.Dependents.{may_serve}
-use Rattle.may_rows.specs.Met.{misses_at, may_need}
+use Rattle.may_rows.specs.Met.{misses_at, MayMiss, may_serve}
 use Rattle.may_rows.proofs.ByNumber.{any-found, any-at}
 use Rattle.may_rows.proofs.Configured.{unmet-after}
 use Rattle.may_rows.proofs.MetAhead.{any-same}
@@ -119,6 +119,58 @@ may_satisfy u n p (MayConfigured current) some is =
       | inr passes ↦ passes
     ]))
 
+-- a name may hold a variant with an entry that passes
+pub entry_passing : (u : Universe) (n b : ℕ) (e : Entry) (s : MaySlot) (p : Entry → Bool)
+    → may_hold_configured u n (λ d. d == b) s ≡ true → (i : ℕ)
+    → slice_get (entries u (variant n b)) i ≡ Some e → p e ≡ true
+    → may_hold_configured u n (λ d. list_any p (entries u (variant n d))) s ≡ true
+entry_passing u n b e s p held i has passing =
+    let es = entries u (variant n b) in
+    let some : list_any p es ≡ true =
+    any-at p [] es i (slice_get_within es i e has)
+    (ap p (get_or_from_slice_get es i e [] has) ∙ passing) in
+    configured_mono u n (λ d. d == b) (λ d. list_any p (entries u (variant n d))) s
+    (λ d same. ap (λ k. list_any p (entries u (variant n k))) (eqb-true d b same) ∙ some) held
+
+-- what may be held is of a name of the universe
+pub held_named : (u : Universe) (n : ℕ) (p : Bits) (s : MaySlot)
+    → may_hold_configured u n p s ≡ true → n < names u
+held_named u n p s held = let b = configured_found u n p s held in named u n b.0 b.3
+
+-- a name misses an entry where one of its variants may miss one
+pub missed_at : (u : Universe) (m : May) (n b : ℕ) (e : Entry) → MayMiss u m n b e
+    → misses_at u m n ≡ true
+missed_at u m n b e is =
+    entry_passing u n b e (m.slots n) (λ x. not (surely_met u m x)) is.held is.place is.has
+    (not_from_false _ is.missed)
+
+pub at_missed : (u : Universe) (m : May) (n : ℕ) → misses_at u m n ≡ true
+    → (b : ℕ) × (e : Entry) × MayMiss u m n b e
+at_missed u m n is =
+    let b = configured_found u n (λ d. unmet (surely_met u m) (entries u (variant n d))) (m.slots n)
+    is in
+    let es = entries u (variant n b.0) in
+    let i = any-found (λ e. not (surely_met u m e)) [] es b.1 in (
+      b.0,
+      slice_index_or es i.0 [],
+      record {
+        held = b.2 (λ d. d == b.0) (eq-eqb b.0 b.0 refl);
+        place = i.0;
+        has = slice_get-get_or es i.0 [] i.1;
+        missed = not-true _ i.2;
+      },
+    )
+
+-- the same in another map
+missed_in : (u : Universe) (m after : May) (n b : ℕ) (e : Entry) → after.slots n ≡ m.slots n
+    → surely_met u m e ≡ false → MayMiss u after n b e → MayMiss u m n b e
+missed_in u m after n b e same missed is = record {
+  held = ap (may_hold_configured u n (λ d. d == b)) (sym same) ∙ is.held;
+  place = is.place;
+  has = is.has;
+  missed = missed;
+}
+
 -- each surely configured name may hold something
 abbrev pub HoldSome : Universe → May → Type 0
 HoldSome u m = (n : ℕ) → is_surely_configured (m.slots n) ≡ true
@@ -126,10 +178,9 @@ HoldSome u m = (n : ℕ) → is_surely_configured (m.slots n) ≡ true
 
 -- ---- slots that change
 
--- what misses an entry missed one before
+-- what may be missed might have been before
 abbrev pub KeepsMet : Universe → (m after : May) → Type 0
-KeepsMet u m after =
-    (n : ℕ) → n < names u → misses_at u after n ≡ true → misses_at u m n ≡ true
+KeepsMet u m after = (n b : ℕ) (e : Entry) → MayMiss u after n b e → MayMiss u m n b e
 
 module _ (u : Universe) (m after : May) where
   met_more : ((n : ℕ) (p : Bits) → surely_configured u n p (m.slots n) ≡ true
@@ -143,14 +194,9 @@ module _ (u : Universe) (m after : May) where
       → surely_configured u n p (after.slots n) ≡ true)
       → ((n : ℕ) → (after.slots n ≡ m.slots n) ⊎ (misses_at u after n ≡ false))
       → KeepsMet u m after
-  met_after more each n lt is = elim (each n) [
-    | inl same ↦
-        configured_mono u n _ _ (m.slots n)
-        (λ b. unmet_less (surely_met u m) (surely_met u after) (entries u (variant n b))
-        (met_more more))
-        (ap (may_hold_configured u n
-        (λ b. unmet (surely_met u after) (entries u (variant n b)))) (sym same) ∙ is)
-    | inr none ↦ absurd (both_ways _ none is)
+  met_after more each n b e is = elim (each n) [
+    | inl same ↦ missed_in u m after n b e same (implied _ _ (met_more more e) is.missed) is
+    | inr none ↦ absurd (both_ways _ none (missed_at u after n b e is))
   ]
 
 pub met_same : (u : Universe) (m after : May) → ((n : ℕ) → after.slots n ≡ m.slots n)
@@ -193,7 +239,7 @@ module _ (u : Universe) (there : Variant → Bool) (m : May) (name : ℕ)
 
   -- an entry that was met, and is not where the name is unpacked over
   lost_name : HoldSome u m → (e : Entry) → surely_met u m e ≡ true → surely_met u unpacked e ≡ false
-      → (c : ℕ) × (c < variants u name) × (satisfies_entry u e (variant name c) ≡ true)
+      → may_serve u e name ≡ true
   unfolding surely_met
   lost_name hold e was gone =
       let p : ℕ → Bits = λ n b. satisfies_entry u e (variant n b) in
@@ -203,52 +249,37 @@ module _ (u : Universe) (there : Variant → Bool) (m : May) (name : ℕ)
             let c = configured_found u name (p name) (m.slots name)
             (may_satisfy u name (p name) (m.slots name) (hold name)
             (subst (λ n. surely_configured u n (p n) (m.slots n) ≡ true) same k.2)) in
-            (c.0, c.3, c.1)
+            some_below-at (variants u name) (p name) c.0 c.3 c.1
         | inr other ↦ absurd (both_ways _ gone (some_below-at (names u)
             (λ n. surely_configured u n (p n) (unpacked.slots n)) k.0 k.1
             (ap (surely_configured u k.0 (p k.0)) (slot_kept k.0 other) ∙ k.2)))
       ]
 
-  met_over : HoldSome u m → (n : ℕ) → misses_at u unpacked n ≡ true
-      → (misses_at u m n ≡ true) ⊎ (may_need u n name ≡ true)
-  met_over hold n is = elim (cases_eq n name) [
-    | inl same ↦ absurd (both_ways _ (none_unpacked n same) is)
-    | inr other ↦
-        let b = configured_found u n (λ d. unmet (surely_met u unpacked) (entries u (variant n d)))
-        (m.slots n)
-        (ap (may_hold_configured u n (λ d. unmet (surely_met u unpacked) (entries u (variant n d))))
-        (sym (slot_kept n other)) ∙ is) in
-        let es = entries u (variant n b.0) in
-        let i = any-found (λ e. not (surely_met u unpacked e)) [] es b.1 in
-        let e : Entry = slice_index_or es i.0 [] in
-        elim (cases_Bool (surely_met u m e)) [
-          | inr missed ↦ inl (b.2 (λ d. unmet (surely_met u m) (entries u (variant n d)))
-              (any-at (λ d. not (surely_met u m d)) [] es i.0 i.1 (not_from_false _ missed)))
-          | inl was ↦
-              let c = lost_name hold e was (not-true _ i.2) in
-              inr (some_below-at (variants u name)
-              (λ d. may_serve u n (variants u n) (variant name d)) c.0 c.1
-              (some_below-at (variants u n)
-              (λ d. satisfies_any u (entries u (variant n d)) (variant name c.0)) b.0 b.3
-              (any-at (λ x. satisfies_entry u x (variant name c.0)) [] es i.0 i.1 c.2)))
-        ]
+  met_over : HoldSome u m → (n b : ℕ) (e : Entry) → MayMiss u unpacked n b e
+      → MayMiss u m n b e ⊎ (may_serve u e name ≡ true)
+  met_over hold n b e is = elim (cases_eq n name) [
+    | inl same ↦ absurd (both_ways _ (none_unpacked n same) (missed_at u unpacked n b e is))
+    | inr other ↦ elim (cases_Bool (surely_met u m e)) [
+      | inr missed ↦ inl (missed_in u m unpacked n b e (slot_kept n other) missed is)
+      | inl was ↦ inr (lost_name hold e was is.missed)
+    ]
   ]
 
 pub met_unpacked : (u : Universe) (there : Variant → Bool) (m : May) (name : ℕ)
     (wanted : Option (Op × List ℕ)) (highest : Option ℕ)
     → is_surely_configured (m.slots name) ≡ false
     → KeepsMet u m (may_unpack u there m name wanted highest)
-met_unpacked u there m name wanted None free = λ n lt is. is
+met_unpacked u there m name wanted None free = λ n b e is. is
 met_unpacked u there m name wanted (Some highest) free =
     met_once u there m name wanted highest free
 
 pub met_upgraded : (u : Universe) (there : Variant → Bool) (m : May) (name : ℕ)
-    (wanted : Option (Op × List ℕ)) (highest : Option ℕ) → HoldSome u m → (n : ℕ)
-    → misses_at u (may_unpack u there m name wanted highest) n ≡ true
-    → (misses_at u m n ≡ true) ⊎ (may_need u n name ≡ true)
-met_upgraded u there m name wanted None hold n is = inl is
-met_upgraded u there m name wanted (Some highest) hold n is =
-    met_over u there m name wanted highest hold n is
+    (wanted : Option (Op × List ℕ)) (highest : Option ℕ) → HoldSome u m → (n b : ℕ) (e : Entry)
+    → MayMiss u (may_unpack u there m name wanted highest) n b e
+    → MayMiss u m n b e ⊎ (may_serve u e name ≡ true)
+met_upgraded u there m name wanted None hold n b e is = inl is
+met_upgraded u there m name wanted (Some highest) hold n b e is =
+    met_over u there m name wanted highest hold n b e is
 
 -- ---- the first trap
 
@@ -377,43 +408,28 @@ module _ (u : Universe) (m : May) (ms : List ℕ) (f : MaySlot → MaySlot)
             (ap (surely_configured u k.0 (p k.0)) (slot_out k.0 out) ∙ k.2)))
       ]
 
-  needed : (n : ℕ) → n < names u → member ms n ≡ false → misses_at u m n ≡ false
-      → misses_at u withdrawn n ≡ true → may_be_needed u ms m ≡ true
+  needed : (n b : ℕ) (e : Entry) → MayMiss u withdrawn n b e → member ms n ≡ false
+      → surely_met u m e ≡ true → may_be_needed u ms m ≡ true
   unfolding may_be_needed
-  needed n lt out met misses =
-      let b = configured_found u n (λ k. unmet (surely_met u withdrawn) (entries u (variant n k)))
-      (m.slots n)
-      (ap (may_hold_configured u n (λ k. unmet (surely_met u withdrawn) (entries u (variant n k))))
-      (sym (slot_out n out)) ∙ misses) in
-      let es = entries u (variant n b.0) in
-      let i = any-found (λ e. not (surely_met u withdrawn e)) [] es b.1 in
-      let e = slice_index_or es i.0 [] in
-      let gone = not-true _ i.2 in
-      let was : surely_met u m e ≡ true = elim (cases_Bool (surely_met u m e)) [
-        | inl is ↦ is
-        | inr missed ↦ absurd (both_ways _ met
-            (b.2 (λ k. unmet (surely_met u m) (entries u (variant n k)))
-            (any-at (λ d. not (surely_met u m d)) [] es i.0 i.1 (not_from_false _ missed))))
-      ] in
+  needed n b e is out was =
+      let needs : Entry → Bool = λ c. may_meet u ms m c && not (surely_met_outside u ms m c) in
+      let held = ap (may_hold_configured u n (λ d. d == b)) (sym (slot_out n out)) ∙ is.held in
       some_below-at (names u)
-      (λ k. not (member ms k) && may_hold_configured u k (λ d. list_any
-      (λ c. may_meet u ms m c && not (surely_met_outside u ms m c)) (entries u (variant k d)))
-      (m.slots k)) n lt
+      (λ k. not (member ms k)
+      && may_hold_configured u k (λ d. list_any needs (entries u (variant k d))) (m.slots k)) n
+      (held_named u n (λ d. d == b) (m.slots n) held)
       (and_from _ _ (not_from_false _ out)
-      (b.2 (λ d. list_any (λ c. may_meet u ms m c && not (surely_met_outside u ms m c))
-      (entries u (variant n d)))
-      (any-at (λ c. may_meet u ms m c && not (surely_met_outside u ms m c)) [] es i.0 i.1
-      (and_from _ _ (lost e was gone)
-      (not_from_false _ (implied _ _ (outside_stays e) gone))))))
+      (entry_passing u n b e (m.slots n) needs held is.place is.has
+      (and_from _ _ (lost e was is.missed)
+      (not_from_false _ (implied _ _ (outside_stays e) is.missed)))))
 
   pub met_withdrawn : KeepsMet u m withdrawn
-  met_withdrawn n lt is = elim (cases_Bool (misses_at u m n)) [
-    | inl missed ↦ missed
-    | inr met ↦ absurd (elim (cases_Bool (member ms n)) [
-      | inl among ↦ both_ways _
-          (not_configured u n (λ b. true) (withdrawn.slots n)
-          (ap is_surely_configured (slot_in n among) ∙ off (m.slots n))).1
-          (configured_mono u n _ _ (withdrawn.slots n) (λ b passes. refl) is)
-      | inr out ↦ both_ways _ not_needed (needed n lt out met is)
-    ])
+  met_withdrawn n b e is = elim (cases_Bool (member ms n)) [
+    | inl among ↦ absurd (both_ways _
+        (not_configured u n (λ d. d == b) (withdrawn.slots n)
+        (ap is_surely_configured (slot_in n among) ∙ off (m.slots n))).1 is.held)
+    | inr out ↦ elim (cases_Bool (surely_met u m e)) [
+      | inr missed ↦ missed_in u m withdrawn n b e (slot_out n out) missed is
+      | inl was ↦ absurd (both_ways _ not_needed (needed n b e is out was))
+    ]
   ]

@@ -1,11 +1,12 @@
 -- What is unpacked, and what is configured, by the words.
-use Rattle.std.proofs.Common.{◌≡◌, ◌↔◌, ◌⊎◌, inl, inr, ℕ, Bool, true, false, not, ◌&&◌, ◌||◌, ◌==◌, slice_index, None, [], ◌∷◌, Ok, ◌<◌, refl, sym, ap, subst, ◌∙◌, arith}
+use Rattle.std.proofs.Common.{◌≡◌, ◌↔◌, ◌⊎◌, inl, inr, ℕ, Bool, true, false, not, ◌&&◌, ◌||◌, ◌==◌, slice_index, None, [], ◌∷◌, Ok, refl, sym, ap, subst, ◌∙◌, arith}
 use Rattle.std.specs.List.{list_any}
 use Rattle.std.proofs.lemmas.List.Folds.{list_any-append}
 use Rattle.std.proofs.lemmas.Bool.{cases_Bool, and_from, or_cases, or_left, or_right, not-true, not_from_false, both_ways, eq-eqb, eqb-true}
 use Rattle.std.proofs.lemmas.Grind.{same_number_lists}
 use Rattle.clause_kernel.specs.Rows.{word_has}
 use Rattle.clause_kernel.proofs.Words.{some_bit}
+use Rattle.deb_relation.specs.Relations.{Entry}
 use Rattle.farm_model.specs.Below.{some_below}
 use Rattle.farm_model.specs.Chroot.{unmet, entries}
 use Rattle.farm_model.specs.Universe.{Universe, Recipe}
@@ -18,15 +19,14 @@ use Rattle.plan_model.specs.May.{MaySlot, MayAbsent, MayUnpacked, MayConfigured,
 use Rattle.plan_model.specs.MayAt.{may_be_deconfigured, may_after}
 use Rattle.plan_model.specs.Plan.{Lane}
 use Rattle.plan_model.specs.Risk.{may_be_unsettled, build_risks, risk}
-use Rattle.plan_model.specs.Sound.{IsInstruction}
 use Rattle.plan_model.specs.Turn.{newest}
 use Rattle.plan_model.specs.declared.instructions.Instruction.{Instruction}
 use Rattle.plan_model.specs.declared.instructions.Instruction.TheVariants.{Unpack, Configure, Deconfigure, Remove, Build, Publish}
-use Rattle.may_rows.specs.Met.{misses_at, some_misses, may_need, Doubt, AreDoubts, settled, upgrades, IsDoubted, IsDoubtAfter}
+use Rattle.may_rows.specs.Met.{misses_at, some_misses, MayMiss, may_serve, Doubt, AreDoubts, settled, upgrades, IsDoubted, IsDoubtAfter}
 use Rattle.may_rows.specs.Walk.{Answers}
 use Rattle.may_rows.specs.Words.{Words, slot_of, may_of, AreOfName, AreWords}
 use Rattle.may_rows.proofs.Bridges.{configured-is, ready_known}
-use Rattle.may_rows.proofs.MetAfter.{HoldSome, KeepsMet, implied, no_trap, met_same, met_unpacked, met_upgraded, met_configured, met_withdrawn}
+use Rattle.may_rows.proofs.MetAfter.{HoldSome, KeepsMet, implied, held_named, missed_at, no_trap, met_same, met_unpacked, met_upgraded, met_configured, met_withdrawn}
 
 -- ---- words of one name
 
@@ -141,6 +141,13 @@ unsettled-is u m =
     by p n (MayUnpacked current last) = refl
     by p n (MayConfigured current) = refl
 
+-- some name misses an entry where one of its variants may miss one
+pub some_missed : (u : Universe) (m : May) (n b : ℕ) (e : Entry) → MayMiss u m n b e
+    → some_misses u m ≡ true
+some_missed u m n b e is =
+    some_below-at (names u) (misses_at u m) n
+    (held_named u n (λ d. d == b) (m.slots n) is.held) (missed_at u m n b e is)
+
 -- ---- an instruction
 
 -- a build is safe where nothing misses an entry
@@ -155,46 +162,44 @@ built_met u of m r none =
 doubts_kept : (u : Universe) (m after : May) (d new : Doubt) → KeepsMet u m after → AreDoubts u m d
     → new ≡ d → AreDoubts u after new
 doubts_kept u m after d new keeps are same = subst (AreDoubts u after) (sym same) (record {
-  named = are.named;
-  among = λ known n lt is. are.among known n lt (keeps n lt is);
+  among = λ known n b e is. are.among known n b e (keeps n b e is);
 })
 
 -- one name more
-doubts_more : (u : Universe) (m after : May) (old new : Doubt) (k : ℕ) → k < names u
-    → ((n : ℕ) → misses_at u after n ≡ true → (misses_at u m n ≡ true) ⊎ (may_need u n k ≡ true))
+doubts_more : (u : Universe) (m after : May) (old new : Doubt) (k : ℕ)
+    → ((n b : ℕ) (e : Entry) → MayMiss u after n b e
+    → MayMiss u m n b e ⊎ (may_serve u e k ≡ true))
     → AreDoubts u m old → IsDoubted old k new → AreDoubts u after new
-doubts_more u m after old new k within either are more = record {
-  named = more.named u within are.named;
-  among = λ known n lt is.
-      ap (list_any (may_need u n)) (more.over known)
-      ∙ (list_any-append (may_need u n) old.over (k ∷ [])
-      ∙ elim (either n is) [
-        | inl before ↦ or_left _ _ (are.among (more.known known) n lt before)
-        | inr needs ↦ or_right (list_any (may_need u n) old.over) _ (or_left _ false needs)
+doubts_more u m after old new k either are more = record {
+  among = λ known n b e is.
+      ap (list_any (may_serve u e)) (more.over known)
+      ∙ (list_any-append (may_serve u e) old.over (k ∷ [])
+      ∙ elim (either n b e is) [
+        | inl before ↦ or_left _ _ (are.among (more.known known) n b e before)
+        | inr served ↦ or_right (list_any (may_serve u e) old.over) _ (or_left _ false served)
       ]);
 }
 
 doubts_settled : (u : Universe) (m after : May) (new : Doubt) → KeepsMet u m after
     → some_misses u m ≡ false → new ≡ settled → AreDoubts u after new
 doubts_settled u m after new keeps met same = subst (AreDoubts u after) (sym same) (record {
-  named = λ k d lt. absurd (omega (arith, lt));
-  among = λ known n lt is. absurd (both_ways _ met
-      (some_below-at (names u) (misses_at u m) n lt (keeps n lt is)));
+  among = λ known n b e is. absurd (both_ways _ met
+      (some_missed u m n b e (keeps n b e is)));
 })
 
 pub doubts_step : (u : Universe) (of : Lane) (known there : Variant → Bool) (m : May)
-    → HoldSome u m → (old new : Doubt) → AreDoubts u m old → (x : Instruction) → IsInstruction u x
+    → HoldSome u m → (old new : Doubt) → AreDoubts u m old → (x : Instruction)
     → risk u of known there m x ≡ None → (upgraded : Bool) → upgraded ≡ upgrades m x
     → IsDoubtAfter upgraded x old new → AreDoubts u (may_after u known there m x) new
-doubts_step u of known there m hold old new are (Unpack name wanted) is none true same after =
-    doubts_more u m _ old new name is
+doubts_step u of known there m hold old new are (Unpack name wanted) none true same after =
+    doubts_more u m _ old new name
     (met_upgraded u there m name wanted (newest u known name wanted) hold) are (after.0 refl)
-doubts_step u of known there m hold old new are (Unpack name wanted) is none false same after =
+doubts_step u of known there m hold old new are (Unpack name wanted) none false same after =
     doubts_kept u m _ old new
     (met_unpacked u there m name wanted (newest u known name wanted) (sym same)) are (after.1 refl)
-doubts_step u of known there m hold old new are (Configure members) is none upgraded same after =
+doubts_step u of known there m hold old new are (Configure members) none upgraded same after =
     doubts_kept u m _ old new (met_configured u of m members none) are after
-doubts_step u of known there m hold old new are (Deconfigure members) is none upgraded same after =
+doubts_step u of known there m hold old new are (Deconfigure members) none upgraded same after =
     doubts_kept u m _ old new
     (met_withdrawn u m members may_be_deconfigured off hold
     (no_trap _ _ _ (no_trap _ _ _ (no_trap _ _ _ none).1).1).0) are after
@@ -203,23 +208,23 @@ doubts_step u of known there m hold old new are (Deconfigure members) is none up
     off MayAbsent = refl
     off (MayUnpacked current last) = refl
     off (MayConfigured current) = refl
-doubts_step u of known there m hold old new are (Remove members) is none upgraded same after =
+doubts_step u of known there m hold old new are (Remove members) none upgraded same after =
     doubts_kept u m _ old new
     (met_withdrawn u m members (λ s. MayAbsent) (λ s. refl) hold
     (no_trap _ _ _ (no_trap _ _ _ (no_trap _ _ _ (no_trap _ _ _ none).1).1).1).0) are after
-doubts_step u of known there m hold old new are (Build r) is none upgraded same after =
+doubts_step u of known there m hold old new are (Build r) none upgraded same after =
     doubts_settled u m _ new (met_same u m _ (λ n. refl)) (built_met u of m (recipe u r) none) after
-doubts_step u of known there m hold old new are (Publish r) is none upgraded same after =
+doubts_step u of known there m hold old new are (Publish r) none upgraded same after =
     doubts_kept u m _ old new (met_same u m _ (λ n. refl)) are after
-doubts_step u of known there m hold old new are _ is none upgraded same after =
-    doubts_kept u m _ old new (λ n lt missing. missing) are after
+doubts_step u of known there m hold old new are _ none upgraded same after =
+    doubts_kept u m _ old new (λ n b e missing. missing) are after
 
 -- what is answered to it
 pub doubts_answer : (u : Universe) (of : Lane) (known there : Variant → Bool) (m : May)
-    → HoldSome u m → (old new : Doubt) → AreDoubts u m old → (x : Instruction) → IsInstruction u x
+    → HoldSome u m → (old new : Doubt) → AreDoubts u m old → (x : Instruction)
     → (next : May) → Answers u of known there m x next (Ok tt)
     → (upgraded : Bool) → upgraded ≡ upgrades m x → IsDoubtAfter upgraded x old new
     → AreDoubts u next new
-doubts_answer u of known there m hold old new are x is next answer upgraded same after =
+doubts_answer u of known there m hold old new are x next answer upgraded same after =
     subst (λ map. AreDoubts u map new) answer.1
-    (doubts_step u of known there m hold old new are x is answer.0 upgraded same after)
+    (doubts_step u of known there m hold old new are x answer.0 upgraded same after)

@@ -1,11 +1,10 @@
 -- What is needed, member by member and name by name.
-use Rattle.std.proofs.Common.{◌≡◌, ◌↔◌, inl, inr, ℕ, Bool, true, false, not, ◌&&◌, nat_lt, List, [], ◌∷◌, sym, ap, subst, ◌∙◌}
+use Rattle.std.proofs.Common.{◌≡◌, ◌↔◌, ℕ, Bool, true, false, not, ◌&&◌, ◌==◌, nat_lt, List, [], ◌∷◌, refl, sym, ap, ◌∙◌}
 use Rattle.std.specs.Prelude.{slice_index, slice_index_or}
 use Rattle.std.specs.List.{list_any}
 use Rattle.std.proofs.Math.Bool.{or-false}
-use Rattle.std.proofs.lemmas.Bool.{cases_Bool, and_from, and_parts, or_left, not-true, not_from_false, both_ways, ltb-true, lt-ltb}
-use Rattle.std.proofs.lemmas.Option.{slice_get-get_or, slice_get_within, get_or_from_slice_get}
-use Rattle.clause_kernel.specs.Rows.{word_has}
+use Rattle.std.proofs.lemmas.Bool.{and_from, and_parts, or_left, not-true, not_from_false, eq-eqb, ltb-true, lt-ltb}
+use Rattle.std.proofs.lemmas.Option.{slice_get-get_or}
 use Rattle.deb_relation.specs.Relations.{Entry}
 use Rattle.farm_model.specs.Below.{some_below}
 use Rattle.farm_model.specs.Chroot.{entries}
@@ -17,11 +16,12 @@ use Rattle.farm_universe.proofs.PlaceLaws.{named}
 use Rattle.plan_model.specs.May.{Bits, May, some_of, surely_met}
 use Rattle.plan_model.specs.MayAt.{may_be_last}
 use Rattle.sat_rows.specs.Served.{IsMissed}
+use Rattle.may_rows.specs.Met.{MayMiss}
 use Rattle.may_rows.specs.Words.{Words, AreWords, may_of}
 use Rattle.may_rows.specs.Withdraws.{may_have_met, may_be_missed, needs_at}
-use Rattle.may_rows.proofs.Bridges.{configured-is, met_from, met_to}
 use Rattle.may_rows.proofs.ByNumber.{any-found, any-at}
-use Rattle.may_rows.proofs.MetAfter.{configured_found}
+use Rattle.may_rows.proofs.MetAfter.{configured_found, entry_passing}
+use Rattle.may_rows.proofs.MissedNames.{missed-from, missed-to}
 use Rattle.may_rows.proofs.Unpacked.{last-word}
 
 module _ (u : Universe) (m : May) where
@@ -77,10 +77,6 @@ module _ (u : Universe) (w : Words) (are : AreWords u w) (k : ℕ) where
   abbrev needs : ℕ → Bool
   needs = needs_at u (k ∷ []) m
 
-  -- one of the variants of a name that may miss an entry
-  abbrev may_miss : ℕ → Bits
-  may_miss n b = may_be_missed u (k ∷ []) m (entries u (variant n b))
-
   -- one of the withdrawn ones that may have satisfied the entry
   abbrev may_have : Entry → Bits
   may_have e b = may_be_last (m.slots k) b && satisfies_entry u e (variant k b)
@@ -88,55 +84,40 @@ module _ (u : Universe) (w : Words) (are : AreWords u w) (k : ℕ) where
   needs_missed : some_below (names u) needs ≡ true → IsMissed u k (slice_index w.last k) w.ready
   needs_missed some =
       let n = some_below-found (names u) needs some in
-      let b = some_below-found (variants u n.0)
-      (λ b. word_has (slice_index w.ready n.0) b && may_miss n.0 b)
-      (sym (configured-is u n.0 (may_miss n.0) _ _ _ _ (are.each n.0)) ∙ n.2) in
-      let held = and_parts _ _ b.2 in
+      let b = configured_found u n.0 (λ d. may_be_missed u (k ∷ []) m (entries u (variant n.0 d)))
+      (m.slots n.0) n.2 in
       let es = entries u (variant n.0 b.0) in
-      let i = any-found (missed u m (k ∷ [])) [] es held.1 in
+      let i = any-found (missed u m (k ∷ [])) [] es b.1 in
       let e : Entry = slice_index_or es i.0 [] in
       let parts = and_parts (may_have_met u (k ∷ []) m e) (not (surely_met u m e)) i.2 in
       let c = some_below-found (variants u k) (may_have e)
       (sym (or-false (met_by u m e k)) ∙ parts.0) in
       let met = and_parts _ _ c.2 in
-      record {
-        owner = variant n.0 b.0;
-        known = b.1;
-        held = held.0;
+      let missing : MayMiss u m n.0 b.0 e = record {
+        held = b.2 (λ d. d == b.0) (eq-eqb b.0 b.0 refl);
         place = i.0;
-        entry = e;
         has = slice_get-get_or es i.0 [] i.1;
-        bit = c.0;
-        taken = ap (λ (bits : Bits). bits c.0) (last-word u w are k) ∙ met.0;
-        satisfied = and_from _ _ (lt-ltb c.0 (variants u k) c.1) met.1;
-        unmet = λ inside.
-            both_ways (surely_met u m e) (not-true _ parts.1) (met_from u w are e inside);
-      }
+        missed = not-true _ parts.1;
+      } in
+      missed-from u w are n.0 b.0 e missing k (slice_index w.last k) c.0
+      (ap (λ (bits : Bits). bits c.0) (last-word u w are k) ∙ met.0)
+      (and_from _ _ (lt-ltb c.0 (variants u k) c.1) met.1)
 
   missed_needs : IsMissed u k (slice_index w.last k) w.ready → some_below (names u) needs ≡ true
   missed_needs is =
       let n = is.owner.name in
       let b = is.owner.bit in
       let e = is.entry in
-      let es = entries u (variant n b) in
+      let missing = missed-to u w are k (slice_index w.last k) is in
       let passing = and_parts (nat_lt is.bit (variants u k)) _ is.satisfied in
       let met = some_below-at (variants u k) (may_have e) is.bit
       (ltb-true is.bit (variants u k) passing.0)
       (and_from _ _ (sym (ap (λ (bits : Bits). bits is.bit) (last-word u w are k)) ∙ is.taken)
       passing.1) in
-      let unmet : surely_met u m e ≡ false = elim (cases_Bool (surely_met u m e)) [
-        | inr out ↦ out
-        | inl met ↦ absurd (is.unmet (met_to u w are e met))
-      ] in
       some_below-at (names u) needs n (named u n b is.known)
-      (configured-is u n (may_miss n) _ _ _ _ (are.each n)
-      ∙ some_below-at (variants u n) (λ b. word_has (slice_index w.ready n) b && may_miss n b) b
-      is.known
-      (and_from _ _ is.held
-      (any-at (missed u m (k ∷ [])) [] es is.place (slice_get_within es is.place e is.has)
-      (subst (λ e. missed u m (k ∷ []) e ≡ true)
-      (sym (get_or_from_slice_get es is.place e [] is.has))
-      (and_from _ _ (or_left (met_by u m e k) false met) (not_from_false _ unmet))))))
+      (entry_passing u n b e (m.slots n) (missed u m (k ∷ [])) missing.held missing.place
+      missing.has
+      (and_from _ _ (or_left (met_by u m e k) false met) (not_from_false _ missing.missed)))
 
   pub needed_is : (t : Bool) → (t ≡ true) ↔ IsMissed u k (slice_index w.last k) w.ready
       → t ≡ some_below (names u) needs

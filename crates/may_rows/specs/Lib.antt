@@ -1,4 +1,3 @@
-pub mod Dependents
 pub mod Words
 pub mod Joins
 pub mod Met

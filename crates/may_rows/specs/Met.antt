@@ -2,21 +2,22 @@
 --
 --   misses_at      a name may hold a configured variant with an entry that is not surely met
 --   some_misses    some name does
---   may_need       a name may need another
---   Doubt          what is known of the names that miss an entry
+--   MayMiss        such a name, with the variant and the entry
+--   may_serve      a name has a variant that satisfies an entry
+--   Doubt          what is known of the entries that are missed
 --   AreDoubts      it is so
 --   upgrades       an instruction unpacks a variant over a configured one
 --   IsDoubtAfter   what is known after a safe instruction
-use Rattle.std.specs.Prelude.{◌≡◌, ℕ, ◌<◌, Bool, true, false, List, [], ◌∷◌, ◌++◌, All}
+use Rattle.std.specs.Prelude.{◌≡◌, ℕ, ◌==◌, Bool, true, false, List, [], ◌∷◌, ◌++◌, Some, slice_get}
 use Rattle.std.specs.List.{list_any}
+use Rattle.deb_relation.specs.Relations.{Entry}
 use Rattle.farm_model.specs.Below.{some_below}
 use Rattle.farm_model.specs.Chroot.{unmet, entries}
 use Rattle.farm_model.specs.Universe.{Universe}
-use Rattle.farm_model.specs.Packages.{variant, names, variants}
+use Rattle.farm_model.specs.Packages.{variant, names, variants, satisfies_entry}
 use Rattle.plan_model.specs.declared.instructions.Instruction.{Instruction}
 use Rattle.plan_model.specs.declared.instructions.Instruction.TheVariants.{Unpack, Build}
 use Rattle.plan_model.specs.May.{May, may_hold_configured, surely_met, is_surely_configured}
-use Rattle.may_rows.specs.Dependents.{may_serve}
 
 abbrev pub misses_at : Universe → May → ℕ → Bool
 misses_at u m n =
@@ -25,20 +26,27 @@ misses_at u m n =
 abbrev pub some_misses : Universe → May → Bool
 some_misses u m = some_below (names u) (misses_at u m)
 
--- a variant of name n has an entry that a variant of name k satisfies
-abbrev pub may_need : Universe → (n k : ℕ) → Bool
-may_need u n k = some_below (variants u k) (λ c. may_serve u n (variants u n) (variant k c))
+-- name n may hold variant b configured, b has the entry, and the entry is not surely met
+pub record MayMiss (u : Universe) (m : May) (n b : ℕ) (e : Entry) : Type 0 where
+  pub held : may_hold_configured u n (λ d. d == b) (m.slots n) ≡ true
+  pub place : ℕ
+  pub has : slice_get (entries u (variant n b)) place ≡ Some e
+  pub missed : surely_met u m e ≡ false
+
+-- a variant of name k satisfies the entry
+abbrev pub may_serve : Universe → Entry → ℕ → Bool
+may_serve u e k = some_below (variants u k) (λ c. satisfies_entry u e (variant k c))
 
 -- the names that were unpacked over since all was known to be met; or nothing is known
 pub record Doubt : Type 0 where
   pub known : Bool
   pub over : List ℕ
 
--- where something is known, what misses an entry may need one of the names
+-- where something is known, each entry that may be missed is one that a variant of one of the names
+-- satisfies
 pub record AreDoubts (u : Universe) (m : May) (d : Doubt) : Type 0 where
-  pub named : All (λ k. k < names u) d.over
-  pub among : d.known ≡ true → (n : ℕ) → n < names u → misses_at u m n ≡ true
-      → list_any (may_need u n) d.over ≡ true
+  pub among : d.known ≡ true → (n b : ℕ) (e : Entry) → MayMiss u m n b e
+      → list_any (may_serve u e) d.over ≡ true
 
 -- nothing misses an entry
 abbrev pub settled : Doubt
@@ -52,8 +60,6 @@ upgrades m _ = false
 pub record IsDoubted (old : Doubt) (k : ℕ) (new : Doubt) : Type 0 where
   pub known : new.known ≡ true → old.known ≡ true
   pub over : new.known ≡ true → new.over ≡ old.over ++ k ∷ []
-  pub named : (u : Universe) → k < names u → All (λ j. j < names u) old.over
-      → All (λ j. j < names u) new.over
 
 -- a build asks for all, and an unpack over what is configured may take away what an entry needs
 abbrev pub IsDoubtAfter : Bool → Instruction → Doubt → Doubt → Type 0

@@ -94,7 +94,7 @@ fn build_risk(of: LaneOf<'_>, state: &MayHold, doubts: &Doubts, recipe: u32) -> 
     if may_exceed(of.lane.budget(), state, costs.steps()) {
         return Some(Trap::OverBudget); // X14
     }
-    if may_be_unsettled(universe, of.tables, of.dependents, state, doubts) {
+    if may_be_unsettled(universe, of.tables, state, doubts) {
         return Some(Trap::Unsettled); // X10
     }
     if misses_needs(universe, of.tables, state, recipe) {

@@ -1,7 +1,6 @@
 //! Which entries of what is configured are not known to be met.
 
-ghost use Rattle.std.specs.Prelude.{◌≡◌, ◌<◌, true, false, []};
-ghost use Rattle.farm_model.specs.Packages.{names};
+ghost use Rattle.std.specs.Prelude.{◌≡◌, true, false, []};
 ghost use Rattle.may_rows.specs.Met.{IsDoubted, IsDoubtAfter, upgrades};
 ghost use Rattle.may_rows.specs.Words.{may_of};
 
@@ -14,7 +13,7 @@ use std::marker::Model;
 const MOST_OVER: usize = 64;
 
 /// The names that were unpacked over since each entry of what is configured was known to be met, so
-/// that a build looks only at what may need one of them.
+/// that a build looks only at the entries that one of them satisfies.
 #[derive(Debug, Drop)]
 pub struct Doubts {
     /// Whether something is known at all.

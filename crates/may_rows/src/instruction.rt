@@ -11,7 +11,6 @@ ghost use Rattle.may_rows.specs.Walk.{Answers, AreWordsFor, IsOfLane};
 
 use crate::build::{build, publish};
 use crate::configure::configure;
-use crate::dependents::Dependents;
 use crate::doubts::{Doubts, upgrades};
 use crate::state::MayHold;
 use crate::unpack::unpack;
@@ -32,10 +31,8 @@ pub struct ArchiveWords {
 pub struct LaneOf<'a> {
     pub universe: &'a Universe,
     pub tables: &'a Tables,
-    pub dependents: &'a Dependents,
     pub lane: &'a Lane,
     ghost tables_are: { tables.now ≡ universe.now },
-    ghost dependents_are: { dependents.now ≡ universe.now },
 }
 
 /// Goes on by an instruction, where it is safe.

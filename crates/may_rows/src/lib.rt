@@ -5,7 +5,6 @@ mod ahead;
 mod base;
 mod build;
 mod configure;
-mod dependents;
 mod doubts;
 mod entries;
 mod instruction;
@@ -23,7 +22,6 @@ mod withdraw;
 mod write;
 
 pub use ahead::meets_ahead;
-pub use dependents::Dependents;
 pub use doubts::Doubts;
 pub use instruction::{ArchiveWords, LaneOf, step};
 pub use sets::{has_bit, variant_count};

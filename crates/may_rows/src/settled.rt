@@ -1,8 +1,8 @@
 //! Whether all that is present is configured, with each of its entries met.
 
-ghost use Rattle.std.specs.Prelude.{◌≡◌, ◌<◌, ◌||◌, ℕ, true, false, length, All};
+ghost use Rattle.std.specs.Prelude.{◌≡◌, ◌||◌, ℕ, true, false, length};
 ghost use Rattle.std.specs.List.{list_any};
-ghost use Rattle.bit_rows.specs.Sets.{variants_of};
+ghost use Rattle.deb_relation.specs.Relations.{Entry};
 ghost use Rattle.farm_model.specs.Below.{some_below};
 ghost use Rattle.farm_model.specs.Chroot.{unmet, entries};
 ghost use Rattle.farm_model.specs.Packages.{names};
@@ -10,19 +10,17 @@ ghost use Rattle.farm_model.specs.Universe.{Universe};
 ghost use Rattle.plan_model.specs.May as may;
 ghost use Rattle.plan_model.specs.Risk.{may_be_unsettled};
 ghost use Rattle.may_rows.specs.Met as spec;
-ghost use Rattle.may_rows.specs.Met.{AreDoubts};
+ghost use Rattle.may_rows.specs.Met.{MayMiss, AreDoubts};
 ghost use Rattle.may_rows.specs.Words.{AreWords, may_of};
 
-use crate::dependents::Dependents;
 use crate::doubts::Doubts;
 use crate::entries::{misses_depends, misses_pre_depends};
 use crate::members::may_hold_configured;
 use crate::state::MayHold;
-use bit_rows::Row;
 use clause_kernel::same;
 use farm_universe::relations::VariantTest;
 use farm_universe::{Universe, Variant};
-use sat_rows::Tables;
+use sat_rows::{Tables, mask};
 
 /// The variants with a Depends or Pre-Depends entry that may not be met.
 #[derive(Drop)]
@@ -76,66 +74,32 @@ fn some_unpacked(state: &MayHold) -> bool
     !same(&state.here, &state.ready)
 }
 
-/// Tells whether a name that a row has may miss an entry.
-fn misses_in(universe: &Universe, tables: &Tables, state: &MayHold, row: &Row, name: u32) -> bool
+/// Tells whether a configured variant may have an entry that is not met, and that a variant of a
+/// name satisfies.
+fn misses_over(universe: &Universe, tables: &Tables, state: &MayHold, over: u32) -> bool
     requires same { tables.now ≡ universe.now }
     requires state { AreWords universe.now state.now }
-    requires named { name < length row.now }
-    ensures some { result ≡ true → spec.misses_at universe.now (may_of state.now) name ≡ true }
-    ensures none { result ≡ false → (b : ℕ) → variants_of row.now name b ≡ true
-        → spec.misses_at universe.now (may_of state.now) name ≡ false }
+    ensures some { result ≡ true → spec.some_misses universe.now (may_of state.now) ≡ true }
+    ensures none { result ≡ false → (n b : ℕ) (e : Entry)
+        → MayMiss universe.now (may_of state.now) n b e
+        → spec.may_serve universe.now e over ≡ false }
 {
-    row.word(name as usize) != 0 && misses_at(universe, tables, state, name)
+    let all = mask(universe, over, None);
+    tables.is_missed(over, all, &state.ready)
 }
 
-/// Tells whether a name that may need the one that was unpacked over may miss an entry.
-fn misses_over(
-    universe: &Universe,
-    tables: &Tables,
-    dependents: &Dependents,
-    state: &MayHold,
-    over: u32,
-) -> bool
+/// Tells whether a configured variant may have an entry that is not met, and that a variant of one
+/// of the names that were unpacked over satisfies.
+fn some_misses_over(universe: &Universe, tables: &Tables, state: &MayHold, over: &[u32]) -> bool
     requires same { tables.now ≡ universe.now }
-    requires same_dependents { dependents.now ≡ universe.now }
     requires state { AreWords universe.now state.now }
-    requires named { over < names universe.now }
     ensures some { result ≡ true → spec.some_misses universe.now (may_of state.now) ≡ true }
-    ensures none { result ≡ false → (n : ℕ) → n < names universe.now
-        → spec.may_need universe.now n over ≡ true
-        → spec.misses_at universe.now (may_of state.now) n ≡ false }
-{
-    let row = dependents.of(over);
-    let names = universe.names() as usize;
-    let mut name = row.skip(0);
-    while name < names {
-        if misses_in(universe, tables, state, row, name as u32) {
-            return true;
-        }
-        name = row.skip(name + 1);
-    }
-    false
-}
-
-/// Tells whether a name that may need one of those that were unpacked over may miss an entry.
-fn some_misses_over(
-    universe: &Universe,
-    tables: &Tables,
-    dependents: &Dependents,
-    state: &MayHold,
-    over: &[u32],
-) -> bool
-    requires same { tables.now ≡ universe.now }
-    requires same_dependents { dependents.now ≡ universe.now }
-    requires state { AreWords universe.now state.now }
-    requires named { All (λ k. k < names universe.now) over.now }
-    ensures some { result ≡ true → spec.some_misses universe.now (may_of state.now) ≡ true }
-    ensures none { result ≡ false → (n : ℕ) → n < names universe.now
-        → list_any (spec.may_need universe.now n) over.now ≡ true
-        → spec.misses_at universe.now (may_of state.now) n ≡ false }
+    ensures none { result ≡ false → (n b : ℕ) (e : Entry)
+        → MayMiss universe.now (may_of state.now) n b e
+        → list_any (spec.may_serve universe.now e) over.now ≡ false }
 {
     for place in 0..over.len() {
-        if misses_over(universe, tables, dependents, state, over[place]) {
+        if misses_over(universe, tables, state, over[place]) {
             return true;
         }
     }
@@ -144,21 +108,14 @@ fn some_misses_over(
 
 /// Tells whether a configured variant of some name may have an entry that is not met, where only
 /// what is in doubt is looked at.
-fn some_doubted(
-    universe: &Universe,
-    tables: &Tables,
-    dependents: &Dependents,
-    state: &MayHold,
-    doubts: &Doubts,
-) -> bool
+fn some_doubted(universe: &Universe, tables: &Tables, state: &MayHold, doubts: &Doubts) -> bool
     requires same { tables.now ≡ universe.now }
-    requires same_dependents { dependents.now ≡ universe.now }
     requires state { AreWords universe.now state.now }
     requires doubts { AreDoubts universe.now (may_of state.now) doubts.now }
     ensures { result ≡ spec.some_misses universe.now (may_of state.now) }
 {
     if doubts.known {
-        some_misses_over(universe, tables, dependents, state, &doubts.over)
+        some_misses_over(universe, tables, state, &doubts.over)
     } else {
         some_misses(universe, tables, state)
     }
@@ -169,15 +126,13 @@ fn some_doubted(
 pub fn may_be_unsettled(
     universe: &Universe,
     tables: &Tables,
-    dependents: &Dependents,
     state: &MayHold,
     doubts: &Doubts,
 ) -> bool
     requires same { tables.now ≡ universe.now }
-    requires same_dependents { dependents.now ≡ universe.now }
     requires state { AreWords universe.now state.now }
     requires doubts { AreDoubts universe.now (may_of state.now) doubts.now }
     ensures { result ≡ may_be_unsettled universe.now (may_of state.now) }
 {
-    some_unpacked(state) || some_doubted(universe, tables, dependents, state, doubts)
+    some_unpacked(state) || some_doubted(universe, tables, state, doubts)
 }

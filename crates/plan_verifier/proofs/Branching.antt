@@ -1,5 +1,5 @@
 -- What may be held behind a `when`, an `else` and an `end`.
-use Rattle.std.proofs.Common.{◌≡◌, ℕ, suc, ◌≤◌, true, false, List, Option, Some, None, refl, sym, ap, ◌∙◌, subst, arith}
+use Rattle.std.proofs.Common.{◌≡◌, ℕ, suc, ◌≤◌, true, false, List, Option, Some, None, refl, sym, ap, ◌∙◌, subst}
 use Rattle.std.proofs.lemmas.Bool.{false≢true, both_ways}
 use Rattle.deb_relation.specs.declared.operator.Op.{Op}
 use Rattle.farm_model.specs.declared.types.Trap.{Trap}
@@ -26,10 +26,7 @@ use Rattle.plan_verifier.proofs.Steps.{maps-next, hazard-is}
 
 -- nothing is known
 nothing_known : (u : Universe) (m : May) → AreDoubts u m forgotten
-nothing_known u m = record {
-  named = λ k d lt. absurd (omega (arith, lt));
-  among = λ known. absurd (false≢true known);
-}
+nothing_known u m = record { among = λ known. absurd (false≢true known) }
 
 module _ (u : Universe) (p : Plan) (rows : Rows) (l i : ℕ)
     (branched : IsBranched (lane p l).instructions) where

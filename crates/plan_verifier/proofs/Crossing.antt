@@ -12,9 +12,7 @@ use Rattle.farm_universe.specs.contracts.binary.Package as Package
 use Rattle.farm_universe.specs.contracts.recipe.Recipe as Recipe
 use Rattle.farm_universe.specs.contracts.base.Base as Base
 use Rattle.farm_universe.specs.contracts.universe.Universe as Universe
-use Rattle.may_rows.specs.contracts.dependents.Dependents as Dependents
 use Rattle.plan_asm.specs.contracts.plan.Plan as Plan
-use Rattle.plan_verifier.specs.contracts.side_by_side.StageLanes as StageLanes
 use Rattle.plan_verifier.specs.contracts.stage.Stage as Stage
 use Rattle.sat_rows.specs.contracts.tables.Tables as Tables
 use Rattle.wait_order.specs.contracts.known.Known as Known
@@ -64,21 +62,11 @@ known_sync = let u = universe_sync in let p = plan_sync in let o = outputs_sync 
 pub tables_sync : IsSync Tables.the_row
 tables_sync = let u = universe_sync in search (maps.crosses, crosses, sendable) depth 60 fits 50000
 
-pub dependents_sync : IsSync Dependents.the_row
-dependents_sync = let u = universe_sync in search (crosses, sendable) depth 60 fits 50000
-
-stage_sync : (a : NamedLft) (K : RattleType) → IsSync K → IsSync (Stage.the_row a K)
+-- a stage, where what it knows may be shared
+pub stage_sync : (a : NamedLft) (K : RattleType) → IsSync K → IsSync (Stage.the_row a K)
 stage_sync a K k =
     let u = universe_sync in
     let p = plan_sync in
     let o = outputs_sync in
     let t = tables_sync in
-    search (crosses, sendable) depth 60 fits 50000
-
--- the lanes of a stage, where what they know may be shared
-pub stage_lanes_sync : (a b : NamedLft) (K : RattleType) → IsSync K
-    → IsSync (StageLanes.the_row a b K)
-stage_lanes_sync a b K k =
-    let s = stage_sync b K k in
-    let d = dependents_sync in
     search (crosses, sendable) depth 60 fits 50000

@@ -12,11 +12,10 @@ ghost use Rattle.plan_verifier.specs.Walk.{Walked};
 ghost use Rattle.wait_order.specs.KnownRows.{rows_of};
 
 use crate::refusal::Refusal;
-use crate::side_by_side::{StageLanes, lanes_at_once, walk_each};
+use crate::side_by_side::{lanes_at_once, walk_each};
 use crate::stage::Stage;
 use crate::walk::WalkError;
 use farm_universe::{Trap, Universe};
-use may_rows::Dependents;
 use plan_asm::Plan;
 use sat_rows::Tables;
 use std::alloc::Global;
@@ -63,13 +62,8 @@ pub fn walk_lanes<K: KnownWords + Sync>(
     ensures { AreWalked stage.now.universe.now stage.now.plan.now.lanes
         (K.known stage.now.known.now).rows result }
 {
-    let dependents = Dependents::build(alloc, stage.universe, stage.tables)?;
-    let lanes = StageLanes {
-        stage: &*stage,
-        dependents: &dependents,
-    };
     let least = lanes_at_once(stage.plan);
-    let walks = walk_each(rt, alloc, &lanes, stage.plan.lanes(), least)?;
+    let walks = walk_each(rt, alloc, stage, stage.plan.lanes(), least)?;
     costs_of(alloc, stage, &walks)
 }
 

@@ -8,7 +8,6 @@ ghost use Rattle.plan_verifier.specs.declared.walk.WalkError as error;
 
 use crate::stage::Stage;
 use crate::walk::{WalkError, walk};
-use may_rows::Dependents;
 use plan_asm::Plan;
 use rayon::prelude::*;
 use std::alloc::{AllocError, Global};
@@ -38,25 +37,17 @@ pub trait LaneWalks {
         ensures { told self.now number result };
 }
 
-/// The lanes of a stage.
-#[derive(Drop)]
-pub struct StageLanes<'a, 'b, K> {
-    pub stage: &'a Stage<'b, K>,
-    pub dependents: &'a Dependents,
-}
+impl<K: KnownWords> LaneWalks for Stage<'_, K> {
+    ghost lanes = { λ stage. length stage.plan.now.lanes };
 
-impl<K: KnownWords> LaneWalks for StageLanes<'_, '_, K> {
-    ghost lanes = { λ of. length of.stage.now.plan.now.lanes };
+    ghost ready = { λ stage. IsStage stage.universe.now stage.plan.now.lanes
+        stage.tables.now stage.outputs.now (K.known stage.known.now) };
 
-    ghost ready = { λ of. IsStage of.stage.now.universe.now of.stage.now.plan.now.lanes
-        of.stage.now.tables.now of.stage.now.outputs.now (K.known of.stage.now.known.now)
-        × (of.dependents.now ≡ of.stage.now.universe.now) };
-
-    ghost told = { λ of number result. Walked of.stage.now.universe.now
-        of.stage.now.plan.now.lanes (K.known of.stage.now.known.now).rows number result };
+    ghost told = { λ stage number result. Walked stage.universe.now
+        stage.plan.now.lanes (K.known stage.known.now).rows number result };
 
     fn walk_lane(&self, alloc: Global, number: usize) -> Result<u64, WalkError> {
-        walk(alloc, self.stage, self.dependents, number)
+        walk(alloc, self, number)
     }
 }
 

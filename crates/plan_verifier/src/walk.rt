@@ -13,7 +13,7 @@ ghost use Rattle.plan_verifier.specs.Walk.{is_plain, IsAdvanced, Walked, WalkedT
 use crate::branch::{Branch, LaneMay};
 use crate::stage::Stage;
 use farm_universe::Trap;
-use may_rows::{ArchiveWords, Dependents, Doubts, LaneOf, MayHold, step};
+use may_rows::{ArchiveWords, Doubts, LaneOf, MayHold, step};
 use plan_asm::Instruction;
 use std::alloc::{AllocError, AllocFailed, Global};
 use wait_order::KnownWords;
@@ -100,7 +100,6 @@ fn words_at<K: KnownWords>(
 /// Goes on by an instruction that neither begins nor ends a branch.
 fn step_on<K: KnownWords>(
     stage: &Stage<'_, K>,
-    dependents: &Dependents,
     number: usize,
     place: usize,
     instruction: &Instruction,
@@ -108,7 +107,6 @@ fn step_on<K: KnownWords>(
 ) -> Result<(), WalkError>
     requires stage { IsStage stage.now.universe.now stage.now.plan.now.lanes
         stage.now.tables.now stage.now.outputs.now (K.known stage.now.known.now) }
-    requires dependents { dependents.now ≡ stage.now.universe.now }
     requires lane { number < length stage.now.plan.now.lanes }
     requires here { instruction_at stage.now.plan.now.lanes number place ≡ Some instruction.now }
     requires place { place < length (lane stage.now.plan.now.lanes number).instructions }
@@ -124,7 +122,6 @@ fn step_on<K: KnownWords>(
     let of = LaneOf {
         universe: stage.universe,
         tables: stage.tables,
-        dependents,
         lane,
     };
     let stepped = step(of, &mut may.here, &mut may.doubts, instruction, words);
@@ -146,14 +143,12 @@ fn step_on<K: KnownWords>(
 /// branches that part, and [`WalkError::Memory`] where memory is refused.
 pub fn advance<K: KnownWords>(
     stage: &Stage<'_, K>,
-    dependents: &Dependents,
     number: usize,
     place: usize,
     may: &mut LaneMay,
 ) -> Result<(), WalkError>
     requires stage { IsStage stage.now.universe.now stage.now.plan.now.lanes
         stage.now.tables.now stage.now.outputs.now (K.known stage.now.known.now) }
-    requires dependents { dependents.now ≡ stage.now.universe.now }
     requires lane { number < length stage.now.plan.now.lanes }
     requires place { place < length (lane stage.now.plan.now.lanes number).instructions }
     requires at { IsAt stage.now.universe.now stage.now.plan.now.lanes
@@ -185,7 +180,7 @@ pub fn advance<K: KnownWords>(
         | Instruction::Remove(_)
         | Instruction::Build(_)
         | Instruction::Publish(_)
-        | Instruction::Wait(_) => step_on(stage, dependents, number, place, instruction, may),
+        | Instruction::Wait(_) => step_on(stage, number, place, instruction, may),
     }
 }
 
@@ -199,7 +194,6 @@ pub fn advance<K: KnownWords>(
 pub fn walk_to<K: KnownWords>(
     alloc: Global,
     stage: &Stage<'_, K>,
-    dependents: &Dependents,
     number: usize,
     end: usize,
 ) -> Result<LaneMay, WalkError>
@@ -207,7 +201,6 @@ pub fn walk_to<K: KnownWords>(
         stage.now.tables.now stage.now.outputs.now (K.known stage.now.known.now) }
     requires lane { number < length stage.now.plan.now.lanes }
     requires end { end ≤ length (lane stage.now.plan.now.lanes number).instructions }
-    requires dependents { dependents.now ≡ stage.now.universe.now }
     ensures { WalkedTo stage.now.universe.now stage.now.plan.now.lanes
         (K.known stage.now.known.now).rows number end result }
 {
@@ -219,7 +212,7 @@ pub fn walk_to<K: KnownWords>(
         branch: Branch::Outside,
     };
     for place in 0..end {
-        advance(stage, dependents, number, place, &mut may)?;
+        advance(stage, number, place, &mut may)?;
     }
     Ok(may)
 }
@@ -233,17 +226,15 @@ pub fn walk_to<K: KnownWords>(
 pub fn walk<K: KnownWords>(
     alloc: Global,
     stage: &Stage<'_, K>,
-    dependents: &Dependents,
     number: usize,
 ) -> Result<u64, WalkError>
     requires stage { IsStage stage.now.universe.now stage.now.plan.now.lanes
         stage.now.tables.now stage.now.outputs.now (K.known stage.now.known.now) }
     requires lane { number < length stage.now.plan.now.lanes }
-    requires dependents { dependents.now ≡ stage.now.universe.now }
     ensures { Walked stage.now.universe.now stage.now.plan.now.lanes
         (K.known stage.now.known.now).rows number result }
 {
     let end = stage.plan.lane(number).instructions().len();
-    let may = walk_to(alloc, stage, dependents, number, end)?;
+    let may = walk_to(alloc, stage, number, end)?;
     Ok(may.here.cost())
 }

@@ -15,7 +15,7 @@ use crate::first::left_unmet;
 use crate::text::push_reason;
 use crate::walk::go_to;
 use farm_universe::Universe;
-use may_rows::{Dependents, MayHold};
+use may_rows::MayHold;
 use plan_asm::{Instruction, Plan};
 use plan_lines::PlanLines;
 use plan_verifier::walk::{walk, walk_to};
@@ -85,18 +85,16 @@ fn place_note<K: KnownWords>(
 fn looked_at<K: KnownWords>(
     alloc: Global,
     stage: &Stage<'_, K>,
-    dependents: &Dependents,
     number: usize,
 ) -> Result<usize, AllocError>
     requires stage { IsStage stage.now.universe.now stage.now.plan.now.lanes
         stage.now.tables.now stage.now.outputs.now (K.known stage.now.known.now) }
-    requires dependents { dependents.now ≡ stage.now.universe.now }
     requires lane { number < length stage.now.plan.now.lanes }
     ensures { IfOk result (λ count. count ≡ spec.looked_at stage.now.plan.now.lanes number
         (first_hazard stage.now.universe.now stage.now.plan.now.lanes
         (K.known stage.now.known.now).rows number)) }
 {
-    match walk(alloc, stage, dependents, number) {
+    match walk(alloc, stage, number) {
         Ok(_) => Ok(stage.plan.lane(number).instructions().len()),
         Err(WalkError::Unsafe { instruction, .. }) => Ok(instruction as usize),
         Err(WalkError::Uneven { instruction, .. }) => Ok(instruction as usize),
@@ -108,18 +106,16 @@ fn looked_at<K: KnownWords>(
 fn first_held<K: KnownWords>(
     alloc: Global,
     stage: &Stage<'_, K>,
-    dependents: &Dependents,
     number: usize,
 ) -> Result<LaneMay, AllocError>
     requires stage { IsStage stage.now.universe.now stage.now.plan.now.lanes
         stage.now.tables.now stage.now.outputs.now (K.known stage.now.known.now) }
-    requires dependents { dependents.now ≡ stage.now.universe.now }
     requires lane { number < length stage.now.plan.now.lanes }
     ensures { IfOk result (λ may. IsAt stage.now.universe.now stage.now.plan.now.lanes
         (K.known stage.now.known.now).rows number 0 may) }
 {
     // Ahead of the first instruction it can end for want of memory alone.
-    match walk_to(alloc, stage, dependents, number, 0) {
+    match walk_to(alloc, stage, number, 0) {
         Ok(may) => Ok(may),
         Err(_) => Err(AllocError),
     }
@@ -129,22 +125,20 @@ fn first_held<K: KnownWords>(
 fn lane_note<K: KnownWords>(
     alloc: Global,
     stage: &Stage<'_, K>,
-    dependents: &Dependents,
     lines: &PlanLines,
     number: usize,
 ) -> Result<Vec<u8>, AllocError>
     requires stage { IsStage stage.now.universe.now stage.now.plan.now.lanes
         stage.now.tables.now stage.now.outputs.now (K.known stage.now.known.now) }
-    requires dependents { dependents.now ≡ stage.now.universe.now }
     requires lane { number < length stage.now.plan.now.lanes }
     ensures { IfOk result (λ text. text.items ≡ spec.lane_said stage.now.universe.now
         stage.now.plan.now.lanes (K.known stage.now.known.now).rows lines.now.lanes number) }
 {
     let mut text = Vec::new(alloc);
-    let count = looked_at(alloc, stage, dependents, number)?;
-    let mut may = first_held(alloc, stage, dependents, number)?;
+    let count = looked_at(alloc, stage, number)?;
+    let mut may = first_held(alloc, stage, number)?;
     for place in 0..count {
-        go_to(stage, dependents, number, place, &mut may)?;
+        go_to(stage, number, place, &mut may)?;
         let note = place_note(alloc, stage, lines, number, place, &may)?;
         text.extend_from_slice(&note)?;
     }
@@ -170,10 +164,9 @@ pub fn left_notes<K: KnownWords>(
     ensures { IfOk result (λ text. text.items ≡ spec.left_text stage.now.universe.now
         stage.now.plan.now.lanes (K.known stage.now.known.now).rows lines.now.lanes) }
 {
-    let dependents = Dependents::build(alloc, stage.universe, stage.tables)?;
     let mut text = Vec::new(alloc);
     for number in 0..stage.plan.lanes() {
-        let note = lane_note(alloc, stage, &dependents, lines, number)?;
+        let note = lane_note(alloc, stage, lines, number)?;
         text.extend_from_slice(&note)?;
     }
     Ok(text)

@@ -1,10 +1,9 @@
 //! One step of the walk over a lane whose instructions are safe up to a place.
 
-ghost use Rattle.std.specs.Prelude.{◌≡◌, ◌<◌, ◌+◌, ◌-◌, OnOk, length};
+ghost use Rattle.std.specs.Prelude.{◌<◌, ◌+◌, ◌-◌, OnOk, length};
 ghost use Rattle.plan_verifier.specs.Stage.{IsStage};
 ghost use Rattle.plan_verifier.specs.Branch.{IsAt};
 
-use may_rows::Dependents;
 use plan_verifier::walk::advance;
 use plan_verifier::{LaneMay, Stage};
 use std::alloc::AllocError;
@@ -17,14 +16,12 @@ use wait_order::KnownWords;
 /// [`AllocError`] where memory is refused.
 fn go_on<K: KnownWords>(
     stage: &Stage<'_, K>,
-    dependents: &Dependents,
     number: usize,
     place: usize,
     may: &mut LaneMay,
 ) -> Result<(), AllocError>
     requires stage { IsStage stage.now.universe.now stage.now.plan.now.lanes
         stage.now.tables.now stage.now.outputs.now (K.known stage.now.known.now) }
-    requires dependents { dependents.now ≡ stage.now.universe.now }
     requires lane { number < length stage.now.plan.now.lanes }
     requires at { IsAt stage.now.universe.now stage.now.plan.now.lanes
         (K.known stage.now.known.now).rows number place may.old }
@@ -35,7 +32,7 @@ fn go_on<K: KnownWords>(
     if place >= stage.plan.lane(number).instructions().len() {
         return Err(AllocError);
     }
-    match advance(stage, dependents, number, place, may) {
+    match advance(stage, number, place, may) {
         Ok(()) => Ok(()),
         Err(_) => Err(AllocError),
     }
@@ -49,14 +46,12 @@ fn go_on<K: KnownWords>(
 /// [`AllocError`] where memory is refused.
 pub fn go_to<K: KnownWords>(
     stage: &Stage<'_, K>,
-    dependents: &Dependents,
     number: usize,
     place: usize,
     may: &mut LaneMay,
 ) -> Result<(), AllocError>
     requires stage { IsStage stage.now.universe.now stage.now.plan.now.lanes
         stage.now.tables.now stage.now.outputs.now (K.known stage.now.known.now) }
-    requires dependents { dependents.now ≡ stage.now.universe.now }
     requires lane { number < length stage.now.plan.now.lanes }
     requires at { IsAt stage.now.universe.now stage.now.plan.now.lanes
         (K.known stage.now.known.now).rows number (place - 1) may.old }
@@ -66,5 +61,5 @@ pub fn go_to<K: KnownWords>(
     if place == 0 {
         return Ok(());
     }
-    go_on(stage, dependents, number, place - 1, may)
+    go_on(stage, number, place - 1, may)
 }

@@ -1,63 +1,44 @@
-use Rattle.std.proofs.Common.{◌≡◌, ℕ, ◌<◌, inl, inr, true, length, ap, subst, ◌∙◌, arith}
-use Rattle.std.proofs.lemmas.Bool.{cases_eq, cases_lt, both_ways}
-use Rattle.bit_rows.specs.Sets.{variants_of}
-use Rattle.farm_model.specs.Packages.{names, variant, variants}
-use Rattle.farm_model.proofs.BelowLaws.{some_below-at}
-use Rattle.may_rows.specs.Dependents.{may_serve}
-use Rattle.may_rows.specs.Met.{misses_at}
-use Rattle.may_rows.specs.Words.{may_of}
-use Rattle.may_rows.proofs.NamesOver.{need_noted}
+use Rattle.std.proofs.Common.{◌≡◌, ◌↔◌, ℕ, Bool, true, List, length, sym, ap, subst, ◌∙◌}
+use Rattle.farm_model.specs.Packages.{names}
+use Rattle.farm_model.specs.Universe.{Universe}
+use Rattle.sat_rows.specs.Served.{IsMissed}
+use Rattle.may_rows.specs.Words.{Words}
+use Rattle.may_rows.proofs.MissedNames.{over-some, over-none}
 use Rattle.may_rows.proofs.settled.misses_over.Goals as goal
 
-pub loop-name-init : goal.loop-name-init
-loop-name-init c =
-    let u = c.args.universe.now in
-    let row = c.of-row.result.now in
-    let noted =
-    subst (λ v. (n bit : ℕ) → n < names v → bit < variants v c.args.over
-    → may_serve v n (variants v n) (variant c.args.over bit) ≡ true → (b : ℕ) → b < variants v n
-    → variants_of row n b ≡ true) c.requires.same_dependents c.of-row.ensures.noted in
-    let long : length row ≡ names u = c.of-row.ensures.long ∙ ap names c.requires.same_dependents in
-    record {
-      inside = c.skip-name.ensures.inside;
-      none = λ n lt needs.
-          let at = need_noted u c.args.over row noted n
-          (omega (arith, lt, c.skip-name.ensures.inside, long)) needs in
-          absurd (both_ways _ (c.skip-name.ensures.none n at.0 (omega arith) lt) at.1);
-    }
+-- told of these words by tables of the same universe
+told : (u from : Universe) (k word : ℕ) (words ready : List ℕ) (t : Bool) → from ≡ u → ready ≡ words
+    → (t ≡ true) ↔ IsMissed from k word ready → (t ≡ true) ↔ IsMissed u k word words
+told u from k word words ready t universe same is =
+    subst (λ v. (t ≡ true) ↔ IsMissed v k word words) universe
+    (subst (λ ws. (t ≡ true) ↔ IsMissed from k word ws) same is)
 
-pub loop-name-preserved : goal.loop-name-preserved
-loop-name-preserved c =
-    let u = c.args.universe.now in
-    let row = c.of-row.result.now in
-    let noted =
-    subst (λ v. (n bit : ℕ) → n < names v → bit < variants v c.args.over
-    → may_serve v n (variants v n) (variant c.args.over bit) ≡ true → (b : ℕ) → b < variants v n
-    → variants_of row n b ≡ true) c.requires.same_dependents c.of-row.ensures.noted in
-    let long : length row ≡ names u = c.of-row.ensures.long ∙ ap names c.requires.same_dependents in
-    record {
-      inside = c.skip-name-in-loop-name.ensures.inside;
-      none = λ n lt needs.
-          let at = need_noted u c.args.over row noted n
-          (omega (arith, lt, c.skip-name-in-loop-name.ensures.inside, long)) needs in
-          elim (cases_lt n c.loop-name.name) [
-            | inl before ↦ c.loop-name.invariant.none n before needs
-            | inr behind ↦ elim (cases_eq n c.loop-name.name) [
-              | inl same ↦
-                  ap (misses_at u (may_of c.args.state.now)) same
-                  ∙ c.misses_in.ensures.none c.if-misses_in.false at.0
-                  (subst (λ k. variants_of row k at.0 ≡ true) same at.1)
-              | inr other ↦ absurd (both_ways _ (c.skip-name-in-loop-name.ensures.none n at.0
-                  (omega (arith, behind, other)) lt) at.1)
-            ]
-          ];
-    }
+pub is_missed-requires : goal.is_missed-requires
+is_missed-requires c =
+    let words : c.deref.result.now ≡ c.args.state.now.ready =
+    cc (ap (λ (x : Words). x.ready) c.state.view_is, c.deref.ensures.value) in
+    ap length words ∙ c.requires.state.ready_long ∙ sym (ap names c.requires.same)
 
-pub returns-then-misses_in-clause-some : goal.returns-then-misses_in-clause-some
-returns-then-misses_in-clause-some c _ =
-    some_below-at (names c.args.universe.now)
-    (misses_at c.args.universe.now (may_of c.args.state.now)) c.loop-name.name
-    (omega arith) (c.misses_in.ensures.some c.if-misses_in.true)
+pub returns-clause-some : goal.returns-clause-some
+returns-clause-some c is =
+    let u = c.args.universe.now in
+    let w = c.args.state.now in
+    let k = c.args.over in
+    let word = c.mask-all.result in
+    let t = c.is_missed.result in
+    let words : c.deref.result.now ≡ w.ready =
+    cc (ap (λ (x : Words). x.ready) c.state.view_is, c.deref.ensures.value) in
+    over-some u w c.requires.state k word c.mask-all.ensures t
+    (told u c.args.tables.now k word w.ready c.deref.result.now t c.requires.same words c.is_missed.ensures) is
 
 pub returns-clause-none : goal.returns-clause-none
-returns-clause-none c _ n lt needs = c.loop-name.invariant.none n (omega (arith, lt)) needs
+returns-clause-none c is =
+    let u = c.args.universe.now in
+    let w = c.args.state.now in
+    let k = c.args.over in
+    let word = c.mask-all.result in
+    let t = c.is_missed.result in
+    let words : c.deref.result.now ≡ w.ready =
+    cc (ap (λ (x : Words). x.ready) c.state.view_is, c.deref.ensures.value) in
+    over-none u w c.requires.state k word c.mask-all.ensures t
+    (told u c.args.tables.now k word w.ready c.deref.result.now t c.requires.same words c.is_missed.ensures) is

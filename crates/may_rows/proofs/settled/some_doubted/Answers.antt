@@ -3,8 +3,9 @@ use Rattle.std.specs.List.{list_any}
 use Rattle.std.proofs.lemmas.Bool.{cases_Bool, both_ways}
 use Rattle.farm_model.specs.Packages.{names}
 use Rattle.farm_model.proofs.BelowLaws.{some_below-found}
-use Rattle.may_rows.specs.Met.{misses_at, some_misses, may_need, Doubt}
+use Rattle.may_rows.specs.Met.{misses_at, some_misses, may_serve, Doubt}
 use Rattle.may_rows.specs.Words.{may_of}
+use Rattle.may_rows.proofs.MetAfter.{at_missed}
 use Rattle.may_rows.proofs.settled.some_doubted.Goals as goal
 
 pub returns-then-doubts : goal.returns-then-doubts
@@ -21,9 +22,10 @@ returns-then-doubts c =
       | inr lacks ↦ lacks ∙ sym (elim (cases_Bool (some_misses u m)) [
         | inr none ↦ none
         | inl some ↦
-            let at = some_below-found (names u) (misses_at u m) some in
-            absurd (both_ways _ (c.some_misses_over.ensures.none lacks at.0 at.1
-            (ap (list_any (may_need u at.0)) (sym over)
-            ∙ c.requires.doubts.among known at.0 at.1 at.2)) at.2)
+            let n = some_below-found (names u) (misses_at u m) some in
+            let at = at_missed u m n.0 n.2 in
+            absurd (both_ways _ (c.some_misses_over.ensures.none lacks n.0 at.0 at.1 at.2)
+            (ap (list_any (may_serve u at.1)) (sym over)
+            ∙ c.requires.doubts.among known n.0 at.0 at.1 at.2))
       ])
     ]

@@ -1,5 +1,4 @@
-use Rattle.std.proofs.Common.{◌≡◌, ◌<◌, All, refl, sym, ap, subst, ◌∙◌, arith}
-use Rattle.farm_model.specs.Packages.{names}
+use Rattle.std.proofs.Common.{◌≡◌, refl, sym, ap, subst, ◌∙◌, arith}
 use Rattle.plan_model.specs.May.{May}
 use Rattle.plan_model.specs.Plan.{Lane, lane, no_lane}
 use Rattle.plan_verifier.specs.Branch.{IsAt}
@@ -22,11 +21,7 @@ loop-place-init g c =
           words = c.in_ok-of_base.ensures.words;
           within = omega (arith, free);
         };
-        doubts = record {
-          named = subst (All (λ k. k < names u)) (sym c.new.ensures.none)
-              (λ k d lt. absurd (omega (arith, lt)));
-          among = λ known. cc (known, c.new.ensures.unknown);
-        };
+        doubts = record { among = λ known. cc (known, c.new.ensures.unknown) };
         branch = refl;
       };
       safe = λ k lt. absurd (omega arith);
