@@ -17,6 +17,9 @@ use std::marker::Model;
 /// How many slots there are, by the hash of a text.
 const SLOTS: usize = 8192;
 
+/// How many lines are kept at most, so that what they take does not grow with the text.
+const MOST_KEPT: usize = 16_384;
+
 /// The text of an `unpack` line behind the word, and what it was read as.
 #[derive(Drop)]
 struct Known<'t> {
@@ -130,6 +133,9 @@ pub fn read_unpack_line<'t>(
     }
     let wording = read_unpack(alloc, text)?;
     let instruction = read_instruction(alloc, names, wording)?;
+    if unpacks.known.len() >= MOST_KEPT {
+        return Ok(instruction);
+    }
     unpacks.keep(slot, text, copy_instruction(alloc, &instruction)?)?;
     Ok(instruction)
 }
