@@ -18,7 +18,7 @@ use Rattle.plan_asm.specs.declared.error.TheConstants.{MOST_INSTRUCTIONS}
 use Rattle.plan_model.specs.declared.instructions.Instruction.{Instruction}
 use Rattle.plan_model.specs.declared.instructions.Instruction.TheVariants.{Unpack, Publish, Wait, When}
 use Rattle.plan_model.specs.Plan.{lane, instruction_at, capacity, unpack_cost}
-use Rattle.plan_model.specs.Safety.{IsAnnotation}
+use Rattle.plan_verifier.proofs.Promises.{annotation}
 use Rattle.plan_model.specs.Turn.{LaneState, first_only}
 use Rattle.plan_verifier.specs.Accepted.{AcceptedPlan, IsAccepted, known_rows}
 use Rattle.lane_runner.specs.Calls.{IsRunning, IsLastOutput}
@@ -28,11 +28,6 @@ use Rattle.lane_runner.proofs.Unpacks.{some_newest, unpack_free, unpack_goes}
 use Rattle.lane_runner.proofs.Whens.{when_goes}
 use Rattle.lane_runner.proofs.Waits.{one_word, waits_on, passes_on}
 use Rattle.lane_runner.proofs.Publishes.{given_lane, output_left, output_next, one_drawn, output_paid, publishes_on, is_last}
-
--- an accepted plan is annotated
-pub annotated : (a : AcceptedPlan) → IsAccepted a
-    → IsAnnotation a.universe a.plan (known_rows a)
-annotated a accepted = record { keeps = accepted.known.keeps; safe = accepted.safe }
 
 -- what an end tells of a load, of the runner's plan and lane
 pub loaded : (a b : AcceptedPlan) (l m : ℕ) → b ≡ a → m ≡ l → (name found : ℕ) (r q : Record)
@@ -69,7 +64,7 @@ module _ (a : AcceptedPlan) (accepted : IsAccepted a) (w : Runner) (c : Held) (b
 
     pub takes_some : o ≡ None → ⊥
     takes_some none =
-        some_newest u a.plan (known_rows a) accepted.sound (annotated a accepted) w c r run.on name
+        some_newest u a.plan (known_rows a) accepted.sound (annotation a accepted) w c r run.on name
         wanted here found within o picked none
 
     module _ (k : ℕ) (some : o ≡ Some k) where
@@ -78,7 +73,7 @@ module _ (a : AcceptedPlan) (accepted : IsAccepted a) (w : Runner) (c : Held) (b
           (unpack_traps u (room u c) c.slots (variant name k))
       unfolding capacity
       can_take short =
-          let free = unpack_free u a.plan (known_rows a) accepted.sound (annotated a accepted) w c r
+          let free = unpack_free u a.plan (known_rows a) accepted.sound (annotation a accepted) w c r
           run.on name wanted here found within o picked k some in
           record {
             next = place_below (Unpack name wanted) here;
@@ -98,7 +93,7 @@ module _ (a : AcceptedPlan) (accepted : IsAccepted a) (w : Runner) (c : Held) (b
       takes v d q b' l' v_is d_is held q_is same_plan same_lane = record {
         about_is = same_plan ∙ run.about_is;
         lane_is = same_lane ∙ run.lane_is ∙ sym (ap (λ (x : Runner). x.lane) v_is);
-        on = unpack_goes u a.plan (known_rows a) accepted.sound (annotated a accepted) w c r run.on
+        on = unpack_goes u a.plan (known_rows a) accepted.sound (annotation a accepted) w c r run.on
             name wanted here found within o picked k some v d q v_is
             (ap (λ (x : Held). x.slots) d_is) (ap (λ (x : Held). x.base) d_is) held
             (loaded a b w.lane l run.about_is run.lane_is name found r q q_is);
@@ -117,7 +112,7 @@ module _ (a : AcceptedPlan) (accepted : IsAccepted a) (w : Runner) (c : Held) (b
   branches name wanted here found bounds holds is v q b' l' v_is q_is same_plan same_lane = record {
     about_is = same_plan ∙ run.about_is;
     lane_is = same_lane ∙ run.lane_is ∙ sym (ap (λ (x : Runner). x.lane) v_is);
-    on = when_goes u a.plan (known_rows a) accepted.sound (annotated a accepted) w c r run.on name
+    on = when_goes u a.plan (known_rows a) accepted.sound (annotation a accepted) w c r run.on name
         wanted here found (bounded a b w.lane l run.about_is run.lane_is name found r bounds) holds
         is v q v_is (loaded a b w.lane l run.about_is run.lane_is name found r q q_is);
   }
@@ -132,14 +127,14 @@ module _ (a : AcceptedPlan) (accepted : IsAccepted a) (w : Runner) (c : Held) (b
     -- whether some variant of the name in its word satisfies the entry
     abbrev pub word_passes : Bool
     word_passes =
-        one_word u a.plan (known_rows a) accepted.sound (annotated a accepted) w c r run.on e here
+        one_word u a.plan (known_rows a) accepted.sound (annotation a accepted) w c r run.on e here
         name found
 
     pub waits : word_passes ≡ false → IsRunning a w c b' l' q
     waits fails = record {
       about_is = same_plan ∙ run.about_is;
       lane_is = same_lane ∙ run.lane_is;
-      on = waits_on u a.plan (known_rows a) accepted.sound (annotated a accepted) w c r run.on e
+      on = waits_on u a.plan (known_rows a) accepted.sound (annotation a accepted) w c r run.on e
           here
           name found q q_told fails;
     }
@@ -151,7 +146,7 @@ module _ (a : AcceptedPlan) (accepted : IsAccepted a) (w : Runner) (c : Held) (b
         subst (λ x. IsRunning a x c b' l' q) (sym v_is) (record {
           about_is = same_plan ∙ run.about_is;
           lane_is = same_lane ∙ run.lane_is;
-          on = passes_on u a.plan (known_rows a) accepted.sound (annotated a accepted) w c r run.on
+          on = passes_on u a.plan (known_rows a) accepted.sound (annotation a accepted) w c r run.on
               e
               here name found (bounded a b w.lane l run.about_is run.lane_is name found r bounds)
               found_one
@@ -166,7 +161,7 @@ module _ (a : AcceptedPlan) (accepted : IsAccepted a) (w : Runner) (c : Held) (b
         subst (λ (x : AcceptedPlan × ℕ × LaneState).
         (v : Variant) × (next_output x.0.universe x.0.plan x.1 x.2 ≡ Some v))
         (λ i. (sym (same_plan ∙ run.about_is) i, sym (same_lane ∙ run.lane_is) i, sym at i))
-        (output_next u a.plan (known_rows a) accepted.sound (annotated a accepted) w c r run.on
+        (output_next u a.plan (known_rows a) accepted.sound (annotation a accepted) w c r run.on
         recipe
         here)
 
@@ -186,7 +181,7 @@ module _ (a : AcceptedPlan) (accepted : IsAccepted a) (w : Runner) (c : Held) (b
           × (slice_get q.serials (outputs_made x.0.universe (lane x.0.plan x.1) q.at)
           ≡ Some serial))
           (λ i. (sym (same_plan ∙ run.about_is) i, sym (same_lane ∙ run.lane_is) i))
-          (one_drawn u a.plan (known_rows a) accepted.sound (annotated a accepted) w c r run.on
+          (one_drawn u a.plan (known_rows a) accepted.sound (annotation a accepted) w c r run.on
           recipe
           here serial q drawn)
 
@@ -204,7 +199,7 @@ module _ (a : AcceptedPlan) (accepted : IsAccepted a) (w : Runner) (c : Held) (b
             about_is = next_plan ∙ plan_is;
             lane_is = next_lane ∙ lane_is
                 ∙ sym (given_lane (lane a.plan w.lane) (length (outputs u recipe)) w _ v v_is);
-            on = publishes_on u a.plan (known_rows a) accepted.sound (annotated a accepted) w c r
+            on = publishes_on u a.plan (known_rows a) accepted.sound (annotation a accepted) w c r
                 run.on recipe here serial q q' drawn told v v_is;
           }
 
@@ -219,19 +214,19 @@ module _ (a : AcceptedPlan) (accepted : IsAccepted a) (w : Runner) (c : Held) (b
           subst (λ (x : AcceptedPlan × ℕ). q' ≡ after_publish x.0.universe x.0.plan x.1 q)
           (λ i. (plan_is i, lane_is i)) q_is in
           subst (λ (m : ℕ). IsLastOutput u a.plan m q' h) (sym (next_lane ∙ lane_is))
-          (is_last u a.plan (known_rows a) accepted.sound (annotated a accepted) w c r run.on recipe
+          (is_last u a.plan (known_rows a) accepted.sound (annotation a accepted) w c r run.on recipe
           here serial q q' drawn told h lane_here serial_is variant_is)
 
     -- what the output costs is within the budget, or nothing
     pub can_give : (w.spent + first_only w.made (length (outputs u recipe))
         ≤ (lane a.plan w.lane).budget) ⊎ (first_only w.made (length (outputs u recipe)) ≡ 0)
     can_give =
-        output_paid u a.plan (known_rows a) accepted.sound (annotated a accepted) w c r run.on
+        output_paid u a.plan (known_rows a) accepted.sound (annotation a accepted) w c r run.on
         recipe
         here
 
     pub more_left : w.made < length (outputs u recipe)
     more_left =
-        output_left u a.plan (known_rows a) accepted.sound (annotated a accepted) w c r run.on
+        output_left u a.plan (known_rows a) accepted.sound (annotation a accepted) w c r run.on
         recipe
         here

@@ -10,7 +10,8 @@ use Rattle.plan_model.specs.Safety.{IsAnnotation}
 use Rattle.plan_verifier.specs.Accepted.{AcceptedPlan, known_rows, IsAccepted, StaysForeseen}
 
 module _ (a : AcceptedPlan) (is : IsAccepted a) where
-  annotation : IsAnnotation a.universe a.plan (known_rows a)
+  -- it is annotated
+  pub annotation : IsAnnotation a.universe a.plan (known_rows a)
   annotation = record { keeps = is.known.keeps; safe = is.safe }
 
   pub safe_of : IsSafe a.universe a.plan

@@ -27,7 +27,7 @@ use Rattle.word_archive.specs.Serials.{IsPublishedBelow, made_by}
 use Rattle.word_archive.proofs.Lists.{get_some}
 use Rattle.word_archive.proofs.Loads.{in_plan, stands_at}
 use Rattle.word_archive.proofs.Moves.{lane_shown}
-use Rattle.word_archive.proofs.Records.{annotated}
+use Rattle.plan_verifier.proofs.Promises.{annotation}
 use Rattle.word_archive.proofs.SerialsDrawn.{all_less, found_at, less_at, times_drawn}
 
 -- what is read past the last record
@@ -150,7 +150,7 @@ module _ (a : AcceptedPlan) (accepted : IsAccepted a) (words : List ℕ) (record
       ap (λ x. ready u (lane p l) x) (stands_at a accepted words records stopped st l r here) in
       let at : world_lane (with_lane w l now) l ≡ now =
       get_or-set_same w.lanes l now no_state (omega (arith, st.reached.lanes, inside)) in
-      let foreseen = worlds_are_foreseen u p (known_rows a) accepted.sound (annotated a accepted)
+      let foreseen = worlds_are_foreseen u p (known_rows a) accepted.sound (annotation a accepted)
       (with_lane w l now) (ready_reached u p accepted.sound l inside w st.reached) in
       let there : has_bit w.words v ≡ true =
       foreseen.known l v inside

@@ -27,7 +27,8 @@ use Rattle.word_archive.proofs.HaltWord.{halts_stay}
 use Rattle.word_archive.proofs.Lists.{get_set, index_set, index_set_other, index_take, map_set}
 use Rattle.word_archive.proofs.Loads.{in_plan, stands_at}
 use Rattle.word_archive.proofs.Moves.{changed, lane_moves}
-use Rattle.word_archive.proofs.Records.{annotated, record_holds}
+use Rattle.word_archive.proofs.Records.{record_holds}
+use Rattle.plan_verifier.proofs.Promises.{annotation}
 use Rattle.word_archive.proofs.SerialsKept.{serials_stay}
 use Rattle.word_archive.proofs.WordBits.{or_both, or_grows, set_bits}
 
@@ -60,7 +61,7 @@ module _ (a : AcceptedPlan) (accepted : IsAccepted a) (words : List ℕ) (record
   pub given_next : OutputReaches a.universe a.plan w l v (behind r.at)
   given_next =
       subst (λ x. OutputReaches a.universe a.plan w l v (behind x)) at_is
-      (outputs_reach a.universe a.plan (known_rows a) accepted.sound (annotated a accepted) w
+      (outputs_reach a.universe a.plan (known_rows a) accepted.sound (annotation a accepted) w
       st.reached l v inside (ap comes at_is ∙ next))
 
   -- it is one output more

@@ -1,21 +1,16 @@
 -- What is kept of a lane's record.
 use Rattle.std.proofs.Common.{Bool, List, Some, arith, length, slice_get, subst, ℕ, ◌<◌, ◌≡◌}
 use Rattle.plan_model.specs.Plan.{lane}
-use Rattle.plan_model.specs.Safety.{IsAnnotation}
 use Rattle.plan_model.specs.Turn.{LaneState}
 use Rattle.farm_laws.specs.EventsLeft.{InPlace}
 use Rattle.archive_laws.proofs.Counted.{in_place}
 use Rattle.lane_records.specs.Bounds.{IsRecord}
 use Rattle.lane_records.specs.Records.{Record}
-use Rattle.plan_verifier.specs.Accepted.{AcceptedPlan, IsAccepted, known_rows}
+use Rattle.plan_verifier.specs.Accepted.{AcceptedPlan, IsAccepted}
 use Rattle.word_archive.specs.Rule.{AreWordsOf, shown}
 use Rattle.word_archive.proofs.Lists.{some_length}
 use Rattle.word_archive.proofs.Moves.{lane_shown}
 use Rattle.word_archive.proofs.SerialsKept.{few_at}
-
--- an accepted plan is annotated
-pub annotated : (a : AcceptedPlan) → IsAccepted a → IsAnnotation a.universe a.plan (known_rows a)
-annotated a h = record { keeps = h.known.keeps; safe = h.safe }
 
 -- the rule says so of each record
 pub record_holds : (a : AcceptedPlan) → IsAccepted a → (words : List ℕ) (records : List Record)

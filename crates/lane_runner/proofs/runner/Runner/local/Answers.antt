@@ -8,7 +8,7 @@ use Rattle.plan_model.specs.declared.instructions.Instruction.TheVariants.{Confi
 use Rattle.plan_model.specs.Plan.{Lane, build_cost}
 use Rattle.plan_verifier.specs.Accepted.{known_rows}
 use Rattle.lane_runner.specs.OnWay.{passed, CanPass, IsOnWay}
-use Rattle.lane_runner.proofs.Accepts.{annotated}
+use Rattle.plan_verifier.proofs.Promises.{annotation}
 use Rattle.lane_runner.proofs.LocalKinds.{can_configure, configures, can_deconfigure, deconfigures, can_remove, removes, can_build, builds}
 use Rattle.lane_runner.proofs.runner.Runner.local.Goals as goal
 
@@ -35,7 +35,7 @@ configure-requires-clause-free c =
     subst (λ (x : Universe × Lane). CanPass x.1 w (length ms) (configure_traps x.0 k.slots ms))
     (λ i. (sym c.universe-universe.ensures i, sym c.lane_of-lane.ensures.lane i))
     (can_configure a.universe a.plan (known_rows a) c.keeps.ensures.sound
-    (annotated a c.keeps.ensures)
+    (annotation a c.keeps.ensures)
     w k c.requires.on.0 c.requires.on.1 short ms here)
 
 pub returns-in-Configure-clause-on : goal.returns-in-Configure-clause-on
@@ -56,7 +56,7 @@ returns-in-Configure-clause-on c = λ r on.
     let place = c.configure.ensures.place
     ∙ ap (λ (of : Lane). passed of w (length ms)) c.lane_of-lane.ensures.lane in
     subst (λ v. IsOnWay a.universe a.plan (known_rows a) v d r) (sym place)
-    (configures a.universe a.plan (known_rows a) c.keeps.ensures.sound (annotated a c.keeps.ensures)
+    (configures a.universe a.plan (known_rows a) c.keeps.ensures.sound (annotation a c.keeps.ensures)
     w k r on short ms here d told held)
 
 pub deconfigure-requires-clause-named : goal.deconfigure-requires-clause-named
@@ -84,7 +84,7 @@ deconfigure-requires-clause-free c =
     subst (λ (x : Universe × Lane). CanPass x.1 w (length ms) (deconfigure_traps x.0 k.slots ms))
     (λ i. (sym c.universe-universe.ensures i, sym c.lane_of-lane.ensures.lane i))
     (can_deconfigure a.universe a.plan (known_rows a) c.keeps.ensures.sound
-    (annotated a c.keeps.ensures)
+    (annotation a c.keeps.ensures)
     w k c.requires.on.0 c.requires.on.1 short ms here)
 
 pub returns-in-Deconfigure-clause-on : goal.returns-in-Deconfigure-clause-on
@@ -107,7 +107,7 @@ returns-in-Deconfigure-clause-on c = λ r on.
     ∙ ap (λ (of : Lane). passed of w (length ms)) c.lane_of-lane.ensures.lane in
     subst (λ v. IsOnWay a.universe a.plan (known_rows a) v d r) (sym place)
     (deconfigures a.universe a.plan (known_rows a) c.keeps.ensures.sound
-    (annotated a c.keeps.ensures)
+    (annotation a c.keeps.ensures)
     w k r on short ms here d told held)
 
 pub remove-requires-clause-named : goal.remove-requires-clause-named
@@ -132,7 +132,7 @@ remove-requires-clause-free c =
     c.lane_of-lane.ensures.lane c.lane_of-lane.ensures.short in
     subst (λ (x : Universe × Lane). CanPass x.1 w (length ms) (remove_traps x.0 k.slots ms))
     (λ i. (sym c.universe-universe.ensures i, sym c.lane_of-lane.ensures.lane i))
-    (can_remove a.universe a.plan (known_rows a) c.keeps.ensures.sound (annotated a c.keeps.ensures)
+    (can_remove a.universe a.plan (known_rows a) c.keeps.ensures.sound (annotation a c.keeps.ensures)
     w k c.requires.on.0 c.requires.on.1 short ms here)
 
 pub returns-in-Remove-clause-on : goal.returns-in-Remove-clause-on
@@ -153,7 +153,7 @@ returns-in-Remove-clause-on c = λ r on.
     let place = c.remove.ensures.place
     ∙ ap (λ (of : Lane). passed of w (length ms)) c.lane_of-lane.ensures.lane in
     subst (λ v. IsOnWay a.universe a.plan (known_rows a) v d r) (sym place)
-    (removes a.universe a.plan (known_rows a) c.keeps.ensures.sound (annotated a c.keeps.ensures)
+    (removes a.universe a.plan (known_rows a) c.keeps.ensures.sound (annotation a c.keeps.ensures)
     w k r on short ms here d told held)
 
 pub build-requires-clause-known : goal.build-requires-clause-known
@@ -174,7 +174,7 @@ build-requires-clause-free c =
     c.lane_of-lane.ensures.lane c.lane_of-lane.ensures.short in
     subst (λ (x : Universe × Lane). CanPass x.1 w (build_cost (recipe x.0 number)) [])
     (λ i. (sym c.universe-universe.ensures i, sym c.lane_of-lane.ensures.lane i))
-    (can_build a.universe a.plan (known_rows a) c.keeps.ensures.sound (annotated a c.keeps.ensures)
+    (can_build a.universe a.plan (known_rows a) c.keeps.ensures.sound (annotation a c.keeps.ensures)
     w c.args.chroot.now c.requires.on.0 c.requires.on.1 short number here)
 
 pub returns-in-Build-clause-on : goal.returns-in-Build-clause-on
@@ -189,5 +189,5 @@ returns-in-Build-clause-on c = λ r on.
     ∙ ap (λ (x : Lane × Universe). passed x.0 w (build_cost (recipe x.1 number)))
     (λ i. (c.lane_of-lane.ensures.lane i, c.universe-universe.ensures i)) in
     subst (λ v. IsOnWay a.universe a.plan (known_rows a) v c.args.chroot.now r) (sym place)
-    (builds a.universe a.plan (known_rows a) c.keeps.ensures.sound (annotated a c.keeps.ensures)
+    (builds a.universe a.plan (known_rows a) c.keeps.ensures.sound (annotation a c.keeps.ensures)
     w c.args.chroot.now r on short number here)

@@ -1,6 +1,6 @@
 use Rattle.std.proofs.Common.{refl}
 use Rattle.plan_verifier.specs.Accepted.{known_rows}
-use Rattle.lane_runner.proofs.Accepts.{annotated}
+use Rattle.plan_verifier.proofs.Promises.{annotation}
 use Rattle.lane_runner.proofs.Ends.{starts}
 use Rattle.lane_runner.proofs.runner.Runner.new.Goals as goal
 
@@ -12,6 +12,6 @@ returns-clause-running g c =
       about_is = c.requires.ours.0;
       lane_is = c.requires.ours.1;
       on = starts a.universe a.plan (known_rows a) c.keeps.ensures.sound
-          (annotated a c.keeps.ensures) c.args.lane c.requires.lane c.args.chroot.now _
+          (annotation a c.keeps.ensures) c.args.lane c.requires.lane c.args.chroot.now _
           c.requires.chroot.0 c.requires.chroot.1 fresh.at fresh.undrawn;
     }

@@ -10,7 +10,7 @@ use Rattle.word_archive.specs.Seats.{LaneSeatOf}
 use Rattle.word_archive.specs.Steps.{loaded_record}
 use Rattle.word_archive.specs.Views.{lane_in, lane_view, record_in}
 use Rattle.word_archive.proofs.Loads.{loads_as}
-use Rattle.word_archive.proofs.Records.{annotated}
+use Rattle.plan_verifier.proofs.Promises.{annotation}
 use Rattle.word_archive.proofs.SeatKept.{made_here, seat_after}
 
 pub load-requires : goal.load-requires
@@ -60,6 +60,6 @@ returns-clause-bounds c =
     c.load.result)
     is_lane c.load.ensures.2.1 in
     let bounds = loads_are_in_bounds v.about.universe v.about.plan (known_rows v.about)
-    accepted.sound (annotated v.about accepted) l h.1.in_plan (record_in v).at c.args.name
+    accepted.sound (annotation v.about accepted) l h.1.in_plan (record_in v).at c.args.name
     c.load.result loaded in
     subst (λ (s : LaneSeatOf). IsBoundedFor s c.args.name c.load.result) c.seat.view_is bounds
