@@ -91,25 +91,6 @@ fn find_grounds(
     }
 }
 
-/// The rows of a universe, and what the lanes of a plan over it know.
-fn rows_and_known(
-    rt: &(impl Threads + Sync),
-    alloc: Global,
-    universe: &Universe,
-    plan: &Plan,
-) -> Result<(Tables, Known), AllocError>
-    requires { IsSound universe.now plan.now.lanes }
-    ensures tables { IfOk result (λ made. made.0 ≡ universe.now) }
-    ensures universe { IfOk result (λ made. made.1.universe ≡ universe.now) }
-    ensures plan { IfOk result (λ made. made.1.plan ≡ plan.now.lanes) }
-    ensures greatest { IfOk result (λ made. IsGreatest universe.now plan.now.lanes
-        (rows_of made.1)) }
-{
-    let tables = Tables::build(rt, alloc, universe)?;
-    let known = knowledge(alloc, universe, &tables, plan)?;
-    Ok((tables, known))
-}
-
 impl Examined {
     /// Examines what four texts stand for.
     ///
@@ -126,8 +107,30 @@ impl Examined {
         ensures universe { IfOk result (λ examined. examined.universe ≡ planned.universe) }
         ensures plan { IfOk result (λ examined. examined.plan ≡ planned.plan.lanes) }
     {
-        match rows_and_known(rt, alloc, &planned.universe, &planned.plan) {
-            Ok((tables, known)) => Ok(Examined {
+        match Tables::build(rt, alloc, &planned.universe) {
+            Ok(tables) => Examined::by_tables(alloc, planned, tables),
+            Err(error) => Err(error),
+        }
+    }
+
+    /// Examines what four texts stand for by the rows of their universe.
+    ///
+    /// # Errors
+    ///
+    /// [`AllocError`] where memory ran out.
+    pub fn by_tables(
+        alloc: Global,
+        planned: Planned,
+        tables: Tables,
+    ) -> Result<Examined, AllocError>
+        requires counted { planned.plan.count ≡ count planned.universe planned.plan.lanes }
+        requires sound { IsSound planned.universe planned.plan.lanes }
+        requires tables { tables ≡ planned.universe }
+        ensures universe { IfOk result (λ examined. examined.universe ≡ planned.universe) }
+        ensures plan { IfOk result (λ examined. examined.plan ≡ planned.plan.lanes) }
+    {
+        match knowledge(alloc, &planned.universe, &tables, &planned.plan) {
+            Ok(known) => Ok(Examined {
                 planned,
                 tables,
                 known,

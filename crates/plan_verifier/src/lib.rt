@@ -8,6 +8,7 @@ mod examined;
 mod laws;
 mod message;
 mod possible;
+mod ready;
 mod refusal;
 mod side_by_side;
 mod stage;

@@ -10,8 +10,10 @@ ghost use Rattle.plan_verifier.specs.Verdict.{IsVerdict, IsVerdictOn};
 
 use crate::accepted::Accepted;
 use crate::examined::Examined;
+use crate::ready::{Ready, read_ready};
 use crate::refusal::Refusal;
-use farm_input::{Planned, read_texts};
+use farm_input::Planned;
+use sat_rows::Tables;
 use std::alloc::Global;
 use std::thread::Threads;
 
@@ -29,13 +31,34 @@ fn conclude(
     }
 }
 
-/// Judges a plan over a universe.
-fn judge(rt: &(impl Threads + Sync), alloc: Global, planned: Planned) -> Result<Accepted, Refusal>
+/// Judges a plan over a universe with its rows.
+fn judge(rt: &(impl Threads + Sync), alloc: Global, ready: Ready) -> Result<Accepted, Refusal>
+    requires counted { ready.planned.plan.count
+        ≡ count ready.planned.universe ready.planned.plan.lanes }
+    requires sound { IsSound ready.planned.universe ready.planned.plan.lanes }
+    requires tables { IfOk ready.tables (λ tables. tables ≡ ready.planned.universe) }
+    ensures { IsVerdictOn ready.planned.universe ready.planned.plan.lanes result }
+{
+    let Ready { planned, tables } = ready;
+    match tables {
+        Ok(tables) => judge_by(rt, alloc, planned, tables),
+        Err(_) => Err(Refusal::Memory),
+    }
+}
+
+/// Judges a plan over a universe by the rows of the universe.
+fn judge_by(
+    rt: &(impl Threads + Sync),
+    alloc: Global,
+    planned: Planned,
+    tables: Tables,
+) -> Result<Accepted, Refusal>
     requires counted { planned.plan.count ≡ count planned.universe planned.plan.lanes }
     requires sound { IsSound planned.universe planned.plan.lanes }
+    requires tables { tables ≡ planned.universe }
     ensures { IsVerdictOn planned.universe planned.plan.lanes result }
 {
-    match Examined::of(rt, alloc, planned) {
+    match Examined::by_tables(alloc, planned, tables) {
         Ok(examined) => conclude(rt, alloc, examined),
         Err(_) => Err(Refusal::Memory),
     }
@@ -70,8 +93,8 @@ pub fn check(
     ensures foreseen { IfOk result StaysForeseen }
     ensures verdict { IsVerdict (planned_of packages.now sources.now farm.now plan.now) result }
 {
-    let planned = read_texts(alloc, packages, sources, farm, plan)?;
-    let accepted = judge(rt, alloc, planned)?;
+    let ready = read_ready(rt, alloc, packages, sources, farm, plan)?;
+    let accepted = judge(rt, alloc, ready)?;
     accepted.every_interleaving();
     accepted.every_state();
     Ok(accepted)
