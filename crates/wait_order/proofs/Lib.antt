@@ -6,6 +6,7 @@ pub mod Turns
 pub mod Written
 pub mod Ends
 pub mod Falls
+pub mod Visits
 pub mod Numbering
 pub mod Asked
 pub mod Carried

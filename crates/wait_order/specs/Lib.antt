@@ -3,6 +3,7 @@ pub mod Standing
 pub mod Settled
 pub mod Answer
 pub mod Column
+pub mod Visit
 pub mod Points
 pub mod Marks
 pub mod Hits

@@ -1,11 +1,13 @@
 //! How many outputs of one lane each point knows: the greatest counts, by rounds over the points.
 
-ghost use Rattle.std.specs.Prelude.{◌≡◌, ℕ, ◌<◌, ◌≤◌, length, All, Some, slice_get, slice_index, true, false, IfOk};
+ghost use Rattle.std.specs.Prelude.{◌≡◌, ℕ, ◌+◌, ◌<◌, ◌≤◌, length, All, Some, slice_get, slice_index, true, false, IfOk};
 ghost use Rattle.std.specs.List.{sum};
 ghost use Rattle.wait_order.specs.declared.column.Point.{Point};
 ghost use Rattle.wait_order.specs.Column as spec;
 ghost use Rattle.wait_order.specs.Column.{of_list, IsIn, ArePlaced, IsPlaced, ArePointsIn, IsAbove, IsGreatestColumn};
+ghost use Rattle.wait_order.specs.Visit.{IsVisit, AreSettled};
 
+use crate::visit::Visit;
 use std::alloc::{AllocError, Global};
 
 /// An output that a point looks for: the point whose counts hold at its publish, its lane, and its
@@ -116,23 +118,89 @@ fn round(lane: usize, total: u64, points: &[Point], x: &mut [u64]) -> bool
     changed
 }
 
-/// The greatest counts of the outputs of one lane, of which there are `total`. `visit` is the order
-/// of the first look at the points: it decides the time and not the answer.
+/// Looks at the point of a place of the visit.
+fn look(lane: usize, total: u64, points: &[Point], visit: &Visit, x: &mut [u64], k: usize)
+    requires placed { ArePointsIn (length x.old) points.now }
+    requires long { length x.old ≡ length points.now }
+    requires visit { IsVisit points.now visit.now }
+    requires there { k < length visit.now.order.items }
+    ensures above { IsAbove lane total points.now x.old → IsAbove lane total points.now x.new }
+    ensures settled { AreSettled lane total points.now visit.now x.old k
+        → AreSettled lane total points.now visit.now x.new (k + 1) }
+{
+    let w = visit.order[k];
+    if w >= points.len() {
+        return;
+    }
+    if visit.places[w] != k {
+        return;
+    }
+    x[w] = bound(lane, total, x, &points[w]);
+}
+
+/// The counts behind a look at each point, in the order of the visit.
+fn first_look(
+    alloc: Global,
+    lane: usize,
+    total: u64,
+    points: &[Point],
+    visit: &Visit,
+) -> Result<Vec<u64>, AllocError>
+    requires placed { ArePointsIn (length points.now) points.now }
+    requires visit { IsVisit points.now visit.now }
+    ensures long { IfOk result (λ counts. length counts.items ≡ length points.now) }
+    ensures above { IfOk result (λ counts. IsAbove lane total points.now counts.items) }
+    ensures settled { IfOk result (λ counts. AreSettled lane total points.now visit.now counts.items
+        (length visit.now.order.items)) }
+{
+    let mut counts = vec![in alloc; total; points.len()]?;
+    for k in 0..visit.order.len() {
+        look(lane, total, points, visit, &mut counts, k);
+    }
+    Ok(counts)
+}
+
+/// Tells whether a point is known to know no more than it may.
+fn is_settled(lane: usize, total: u64, points: &[Point], x: &[u64], w: usize) -> bool
+    requires placed { ArePointsIn (length x.now) points.now }
+    requires long { length x.now ≡ length points.now }
+    ensures { result ≡ true → (p : Point) → slice_get points.now w ≡ Some p
+        → slice_index x.now w ≤ spec.bound lane total (of_list x.now) p }
+{
+    w < points.len() && x[w] <= bound(lane, total, x, &points[w])
+}
+
+/// Tells whether each of these points is known to know no more than it may.
+fn are_settled(lane: usize, total: u64, points: &[Point], x: &[u64], late: &[usize]) -> bool
+    requires placed { ArePointsIn (length x.now) points.now }
+    requires long { length x.now ≡ length points.now }
+    ensures { result ≡ true → All (λ w. (p : Point) → slice_get points.now w ≡ Some p
+        → slice_index x.now w ≤ spec.bound lane total (of_list x.now) p) late.now }
+{
+    for w in late {
+        if !is_settled(lane, total, points, x, *w) {
+            return false;
+        }
+    }
+    true
+}
+
+/// The greatest counts of the outputs of one lane, of which there are `total`. `visit` decides the
+/// time and not the answer: where no point is late, one look at each is all.
 pub fn column(
     alloc: Global,
     lane: usize,
     total: u64,
     points: &[Point],
-    visit: &[usize],
+    visit: &Visit,
 ) -> Result<Vec<u64>, AllocError>
     requires placed { ArePointsIn (length points.now) points.now }
+    requires visit { IsVisit points.now visit.now }
     ensures { IfOk result (λ counts. IsGreatestColumn lane total points.now counts.items) }
 {
-    let mut counts = vec![in alloc; total; points.len()]?;
-    for w in visit {
-        if *w < points.len() {
-            let _changed = tighten(lane, total, points, &mut counts, *w);
-        }
+    let mut counts = first_look(alloc, lane, total, points, visit)?;
+    if are_settled(lane, total, points, &counts, &visit.late) {
+        return Ok(counts);
     }
     while round(lane, total, points, &mut counts) {}
     Ok(counts)

@@ -7,9 +7,11 @@ ghost use Rattle.wait_order.specs.Column as spec;
 ghost use Rattle.wait_order.specs.Column.{of_list, IsIn, ArePointsIn};
 ghost use Rattle.wait_order.specs.Marks.{AreLanes};
 ghost use Rattle.wait_order.specs.Columns.{AreColumns};
+ghost use Rattle.wait_order.specs.Visit.{IsVisit};
 
 use crate::column::{Point, column, count_at};
 use crate::marks::LaneOutputs;
+use crate::visit::Visit;
 use std::alloc::{AllocError, Global};
 use std::marker::Model;
 
@@ -51,9 +53,10 @@ pub fn columns(
     alloc: Global,
     lanes: &[LaneOutputs],
     points: &[Point],
-    visit: &[usize],
+    visit: &Visit,
 ) -> Result<Vec<Counts>, AllocError>
-    requires { ArePointsIn (length points.now) points.now }
+    requires placed { ArePointsIn (length points.now) points.now }
+    requires visit { IsVisit points.now visit.now }
     ensures { IfOk result (λ columns. (u : farm.Universe) (p : model.Plan)
         → AreLanes u p lanes.now → AreColumns u p points.now columns.items (length p)) }
 {

@@ -206,7 +206,7 @@ fn walk_lane(
 {
     let instructions = plan.lane(number).instructions();
     let mut outputs = Vec::new(alloc);
-    let mut past = Vec::new(alloc);
+    let mut past = Vec::with_capacity(alloc, instructions.len() + 1)?;
     let mut last = LastPoints {
         here: None,
         ahead: None,

@@ -10,7 +10,7 @@ use crate::known::Known;
 use crate::marks::walk;
 use crate::outputs::Outputs;
 use crate::points::points;
-use crate::visit::visit;
+use crate::visit::visit_of;
 use farm_universe::Universe;
 use plan_asm::Plan;
 use sat_rows::Tables;
@@ -37,7 +37,7 @@ pub fn knowledge(
 {
     let marks = walk(alloc, universe, plan)?;
     let points = points(alloc, universe, tables, plan, &marks)?;
-    let visit = visit(alloc, &points)?;
+    let visit = visit_of(alloc, &points)?;
     let columns = columns(alloc, &marks.lanes, &points, &visit)?;
     let outputs = Outputs::of_lanes(alloc, universe, plan, marks.lanes)?;
     Ok(Known::new(outputs, columns))

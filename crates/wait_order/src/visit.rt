@@ -1,9 +1,22 @@
 //! An order in which the points of a plan may pass, for the first look of the columns at them.
 
-ghost use Rattle.std.specs.Prelude.{◌≡◌, ◌<◌, length, OnOk};
+ghost use Rattle.std.specs.Prelude.{◌≡◌, ◌⊎◌, ℕ, ◌<◌, length, All, Some, slice_get, true, IfOk, OnOk};
+ghost use Rattle.std.specs.List.{Contains};
+ghost use Rattle.wait_order.specs.declared.column.Point.{Point};
+ghost use Rattle.wait_order.specs.declared.column.Source.{Source};
+ghost use Rattle.wait_order.specs.Visit.{IsEarlier, IsReady, IsInTurn, IsVisit};
 
 use crate::column::{Point, Source};
 use std::alloc::{AllocError, Global};
+
+/// The points in the order of the first look at them, the place of each, and those that build on a
+/// point that comes no earlier.
+#[derive(Debug, Drop)]
+pub struct Visit {
+    pub order: Vec<usize>,
+    pub places: Vec<usize>,
+    pub late: Vec<usize>,
+}
 
 /// Tells whether a point has passed. Where there is none, the lane's beginning has.
 fn has_passed(passed: &[bool], point: Option<usize>) -> bool {
@@ -115,7 +128,7 @@ fn add_others(passed: &[bool], visit: &mut Vec<usize>) -> Result<(), AllocError>
 
 /// The points that pass, in an order in which they do, and then the others. No point builds on a
 /// `when`, so one that does not pass is looked at once the others have their counts.
-pub fn visit(alloc: Global, points: &[Point]) -> Result<Vec<usize>, AllocError> {
+fn order(alloc: Global, points: &[Point]) -> Result<Vec<usize>, AllocError> {
     let starts = starts(alloc, points)?;
     let mut nexts = starts.clone()?;
     let mut passed = vec![in alloc; false; points.len()]?;
@@ -127,4 +140,113 @@ pub fn visit(alloc: Global, points: &[Point]) -> Result<Vec<usize>, AllocError> 
     }
     add_others(&passed, &mut visit)?;
     Ok(visit)
+}
+
+/// For each of so many points its place in the order.
+fn places(alloc: Global, order: &[usize], count: usize) -> Result<Vec<usize>, AllocError>
+    ensures { IfOk result (λ places. length places.items ≡ count) }
+{
+    let mut places = vec![in alloc; order.len(); count]?;
+    for k in 0..order.len() {
+        if order[k] < count {
+            places[order[k]] = k;
+        }
+    }
+    Ok(places)
+}
+
+/// Tells whether a point is known to stand before a place. Where there is none, the lane's
+/// beginning does.
+fn is_earlier(places: &[usize], k: usize, point: Option<usize>) -> bool
+    ensures { result ≡ true → IsEarlier places.now k point }
+{
+    match point {
+        None => true,
+        Some(w) => w < places.len() && places[w] < k,
+    }
+}
+
+/// Tells whether the points of these sources are known to stand before a place.
+fn are_earlier(places: &[usize], k: usize, sources: &[Source]) -> bool
+    ensures { result ≡ true → All (λ (s : Source). IsEarlier places.now k s.point) sources.now }
+{
+    for source in sources {
+        if !is_earlier(places, k, source.point) {
+            return false;
+        }
+    }
+    true
+}
+
+/// Tells whether all that a point builds on is known to stand before a place.
+fn is_ready(places: &[usize], k: usize, p: &Point) -> bool
+    ensures { result ≡ true → IsReady places.now k p.now }
+{
+    is_earlier(places, k, p.before) && are_earlier(places, k, &p.sources)
+}
+
+/// Tells whether a point is known to stand at its place in the order, behind all that it builds on.
+fn is_in_turn(order: &[usize], places: &[usize], w: usize, p: &Point) -> bool
+    requires { w < length places.now }
+    ensures { result ≡ true → IsInTurn order.now places.now w p.now }
+{
+    let k = places[w];
+    k < order.len() && order[k] == w && is_ready(places, k, p)
+}
+
+/// Puts a point behind the others, unless it is known to be in turn.
+fn add_late(
+    order: &[usize],
+    places: &[usize],
+    w: usize,
+    p: &Point,
+    late: &mut Vec<usize>,
+) -> Result<(), AllocError>
+    requires { w < length places.now }
+    ensures kept { OnOk result
+        ((v : ℕ) → Contains late.old.items v → Contains late.new.items v) }
+    ensures placed { OnOk result
+        (Contains late.new.items w ⊎ IsInTurn order.now places.now w p.now) }
+{
+    if is_in_turn(order, places, w, p) {
+        return Ok(());
+    }
+    late.push(w)?;
+    Ok(())
+}
+
+/// The points that are not known to be in turn.
+fn late(
+    alloc: Global,
+    points: &[Point],
+    order: &[usize],
+    places: &[usize],
+) -> Result<Vec<usize>, AllocError>
+    requires { length places.now ≡ length points.now }
+    ensures { IfOk result (λ late. (w : ℕ) (p : Point) → slice_get points.now w ≡ Some p
+        → Contains late.items w ⊎ IsInTurn order.now places.now w p) }
+{
+    let mut late = Vec::new(alloc);
+    for w in 0..points.len() {
+        add_late(order, places, w, &points[w], &mut late)?;
+    }
+    Ok(late)
+}
+
+/// The visit of the points of a plan.
+///
+/// # Errors
+///
+/// [`AllocError`] where memory is refused.
+pub fn visit_of(alloc: Global, points: &[Point]) -> Result<Visit, AllocError>
+    ensures { IfOk result (IsVisit points.now) }
+{
+    let order = order(alloc, points)?;
+    let places = places(alloc, &order, points.len())?;
+    let late = late(alloc, points, &order, &places)?;
+    Ok(Visit {
+        order,
+        places,
+        late,
+    })
 }

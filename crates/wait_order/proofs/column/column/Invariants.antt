@@ -3,13 +3,6 @@ use Rattle.std.specs.List.{sum}
 use Rattle.wait_order.specs.Column.{IsAbove}
 use Rattle.wait_order.proofs.column.column.Given as goal
 
-abbrev pub invariant-loop-w : goal.invariant-loop-w
-invariant-loop-w l = record {
-  long : length l.counts.items ≡ length l.points;
-  above : IsAbove l.lane l.total l.points
-      l.counts.items;
-}
-
 abbrev pub invariant-loop : goal.invariant-loop
 invariant-loop l = record {
   long : length l.counts.items ≡ length l.points;

@@ -14,8 +14,8 @@ use Rattle.wait_order.proofs.plan_rows.knowledge.Goals as goal
 make : Universe → Plan → List (List ℕ) → KnownRows
 make u p columns = record { universe = u; plan = p; columns = columns }
 
-pub columns-requires : goal.columns-requires
-columns-requires c =
+pub columns-requires-clause-placed : goal.columns-requires-clause-placed
+columns-requires-clause-placed c =
     points_in c.args.universe.now c.args.plan.now.lanes c.requires.sound c.deref-3.result.now
     (subst (ArePoints c.args.universe.now c.args.plan.now.lanes) (sym c.deref-3.ensures.value)
     c.in_ok-points.ensures)
