@@ -1,5 +1,5 @@
 -- A wait passes where the rows of its entry and of the archive have a common variant.
-use Rattle.std.proofs.Common.{◌≡◌, ◌<◌, ℕ, Bool, true, ◌&&◌, nat_lt, List, sym, ◌∙◌}
+use Rattle.std.proofs.Common.{◌≡◌, ℕ, Bool, true, ◌&&◌, nat_lt, List, sym, ◌∙◌}
 use Rattle.std.specs.Prelude.{◌↔◌, IsTrue}
 use Rattle.std.proofs.lemmas.Bool.{and_parts, and_from, lt-ltb, ltb-true}
 use Rattle.bit_rows.specs.Sets.{variants_of, HaveCommon}
@@ -13,7 +13,6 @@ use Rattle.farm_model.proofs.TestLaws.{same_tests}
 use Rattle.farm_universe.proofs.PlaceLaws.{named}
 use Rattle.plan_model.specs.Turn as turn
 use Rattle.sat_rows.specs.Rows.{IsRowOf}
-use Rattle.wait_order.specs.Entries.{IsOffered}
 
 pub hit_passes : (u : Universe) (e : Entry) (test : Variant → Bool) (a b : List ℕ) (hit : Bool)
     → (IsTrue hit ↔ HaveCommon (variants_of a) (variants_of b)) → IsRowOf u test a
@@ -47,22 +46,3 @@ hit_passes u e test a b hit common is_a is_b = same_tests hit (turn.passes u tes
           is_a.set n.0 k.0 ∙ and_from _ _ lt parts.0,
           is_b.set n.0 k.0 ∙ and_from _ _ lt parts.1,
         )
-
--- the archive has what the entry waits for
-pub offered_passes : (u : Universe) (e : Entry) (test : Variant → Bool) (there : List ℕ)
-    → IsOffered u there e → IsRowOf u test there → turn.passes u test e ≡ true
-offered_passes u e test there is row =
-    some_below-at (names u) (λ n. some_below (variants u n) (both n)) is.name
-    (named u is.name is.bit lt)
-    (some_below-at (variants u is.name) (both is.name) is.bit lt
-    (and_from _ _ parts.1 is.satisfies))
-  where
-    both : ℕ → ℕ → Bool
-    both n k = test (variant n k) && satisfies_entry u e (variant n k)
-
-    parts : (nat_lt is.bit (variants u is.name) ≡ true) × (test (variant is.name is.bit) ≡ true)
-    parts = and_parts (nat_lt is.bit (variants u is.name)) (test (variant is.name is.bit))
-        (sym (row.set is.name is.bit) ∙ is.there)
-
-    lt : is.bit < variants u is.name
-    lt = ltb-true is.bit (variants u is.name) parts.0

@@ -3,12 +3,10 @@
 --   IsPlain           an alternative without qualifier and restriction
 --   IsLonger          more entries behind the same
 --   AreFor            each value is one of the entry of its number
---   IsOffered         a row has what satisfies an entry
-use Rattle.std.specs.Prelude.{◌≡◌, ℕ, true, List, [], Some, None, slice_get}
-use Rattle.bit_rows.specs.Sets.{variants_of}
+use Rattle.std.specs.Prelude.{◌≡◌, ℕ, List, [], Some, None, slice_get}
 use Rattle.deb_relation.specs.Relations.{Atom, Entry}
 use Rattle.farm_model.specs.Universe.{Universe}
-use Rattle.farm_model.specs.Packages.{variant, satisfies_entry}
+use Rattle.farm_model.specs.Packages.{satisfies_entry}
 use Rattle.sat_rows.specs.Rows.{IsRowOf}
 
 pub record IsPlain (a : Atom) : Type 0 where
@@ -31,10 +29,3 @@ AreFor {V} Is es vs = (k : ℕ) (v : V) → slice_get vs k ≡ Some v → IsFor 
 -- the row of an entry
 abbrev pub IsEntryRow : Universe → Entry → List ℕ → Type 0
 IsEntryRow u e row = IsRowOf u (satisfies_entry u e) row
-
--- a variant that satisfies the entry is in the row
-pub record IsOffered (u : Universe) (row : List ℕ) (e : Entry) : Type 0 where
-  pub name : ℕ
-  pub bit : ℕ
-  pub there : variants_of row name bit ≡ true
-  pub satisfies : satisfies_entry u e (variant name bit) ≡ true

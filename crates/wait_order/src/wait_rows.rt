@@ -1,22 +1,18 @@
 //! The rows of the entries that waits name, each made once.
 
-ghost use Rattle.std.specs.Prelude.{◌≡◌, ◌<◌, Bool, true, length, IfOk};
-ghost use Rattle.clause_kernel.specs.Rows.{word_has};
+ghost use Rattle.std.specs.Prelude.{◌≡◌, Bool, length, IfOk};
 ghost use Rattle.deb_relation.specs.Relations as relations;
 ghost use Rattle.farm_model.specs.declared.types.Variant.{Variant};
 ghost use Rattle.farm_model.specs.Universe as universes;
 ghost use Rattle.farm_model.specs.Packages.{names, satisfies_entry};
-ghost use Rattle.farm_model.specs.Sound.{IsUniverse};
 ghost use Rattle.plan_model.specs.Turn.{passes};
 ghost use Rattle.sat_rows.specs.Rows.{IsRowOf};
-ghost use Rattle.wait_order.specs.Entries.{IsEntryRow, IsOffered, AreFor};
+ghost use Rattle.wait_order.specs.Entries.{IsEntryRow, AreFor};
 
 use crate::entries::Entries;
 use bit_rows::Row;
 use deb_relation::Entry;
-use farm_model::Variant;
 use farm_universe::Universe;
-use farm_universe::relations::satisfies_entry;
 use sat_rows::Tables;
 use std::alloc::{AllocError, Global};
 use std::marker::Model;
@@ -40,47 +36,6 @@ impl<'p> Model for WaitRows<'p> {
 
     ghost invariant = { λ rows. AreFor (IsEntryRow rows.universe.value) rows.entries
         rows.rows.items };
-}
-
-/// Tells whether a word has a bit.
-fn word_has(word: u64, bit: u32) -> bool
-    requires { bit < 64 }
-    ensures { result ≡ word_has word bit }
-{
-    (word >> bit) & 1 == 1
-}
-
-/// Tells whether a variant of a name is in a row and satisfies an entry.
-fn has_named(universe: &Universe, row: &Row, entry: &Entry, name: u32) -> bool
-    requires sound { IsUniverse universe.now }
-    requires row { length row.now ≡ names universe.now }
-    requires name { name < names universe.now }
-    ensures { result ≡ true → IsOffered universe.now row.now entry.now }
-{
-    let word = row.word(name as usize);
-    for bit in 0..universe.variants(name) {
-        let variant = Variant { name, bit };
-        if word_has(word, bit) && satisfies_entry(universe, entry, variant) {
-            return true;
-        }
-    }
-    false
-}
-
-/// Tells whether the archive is known to have a variant that satisfies an entry: it is one of the
-/// name of the first alternative, as mostly.
-fn is_offered(universe: &Universe, archive: &Row, entry: &Entry) -> bool
-    requires sound { IsUniverse universe.now }
-    requires archive { length archive.now ≡ names universe.now }
-    ensures { result ≡ true → IsOffered universe.now archive.now entry.now }
-{
-    let Some(first) = entry.alternatives().first() else {
-        return false;
-    };
-    match universe.find(&first.name) {
-        Some(name) => has_named(universe, archive, entry, name),
-        None => false,
-    }
 }
 
 /// Tells whether some variant of both rows is there: where one row is that of an entry, whether a
@@ -116,7 +71,6 @@ impl<'p> WaitRows<'p> {
         entry: &'p Entry,
         archive: &Row,
     ) -> Result<bool, AllocError>
-        requires sound { IsUniverse universe.now }
         requires about { self.old ≡ universe.now }
         requires tables { tables.now ≡ universe.now }
         requires archive { length archive.now ≡ names universe.now }
@@ -125,10 +79,6 @@ impl<'p> WaitRows<'p> {
             → passed ≡ passes universe.now test entry.now) }
         ensures same { self.new ≡ self.old }
     {
-        // most waits need no row
-        if is_offered(universe, archive, entry) {
-            return Ok(true);
-        }
         let number = self.entries.number(entry)?;
         if number < self.rows.len() {
             return Ok(is_met(archive, &self.rows[number]));

@@ -2,13 +2,7 @@ use Rattle.std.proofs.Common.{◌≡◌, length, slice_get, refl, sym, ap, subst
 use Rattle.std.proofs.lemmas.Option.{slice_get_read}
 use Rattle.wait_order.specs.Entries.{IsEntryRow, AreFor}
 use Rattle.wait_order.proofs.KeptLaws.{for_longer, for_push, for_at}
-use Rattle.wait_order.proofs.Passes.{offered_passes}
 use Rattle.wait_order.proofs.wait_rows.WaitRows.passes.Goals as goal
-
-pub returns-then-is_offered-clause-passes : goal.returns-then-is_offered-clause-passes
-returns-then-is_offered-clause-passes c =
-    λ test row. sym (offered_passes c.args.universe.now c.args.entry.now test c.args.archive.now
-    (c.is_offered.ensures c.if-is_offered.true) row)
 
 pub invariant_of-self : goal.invariant_of-self
 invariant_of-self c =
