@@ -1,6 +1,6 @@
 -- A word of one name hits a row where some variant of the word passes.
 use Rattle.std.proofs.Common.{◌≡◌, ◌↔◌, ℕ, Bool, true, ◌&&◌, List, sym, ◌∙◌}
-use Rattle.std.proofs.lemmas.Bool.{and_from, and_parts, ltb-true}
+use Rattle.std.proofs.lemmas.Bool.{and_from, and_parts, lt-ltb, ltb-true}
 use Rattle.bit_rows.specs.Sets.{variants_of, HasSomeAt}
 use Rattle.clause_kernel.specs.Rows.{word_has}
 use Rattle.farm_model.specs.declared.types.Variant.{Variant}
@@ -10,7 +10,6 @@ use Rattle.farm_model.proofs.BelowLaws.{some_below-at, some_below-found}
 use Rattle.farm_model.proofs.TestLaws.{same_tests}
 use Rattle.plan_model.specs.May.{some_of}
 use Rattle.sat_rows.specs.Rows.{IsRowOf}
-use Rattle.may_rows.proofs.Bridges.{row_bit_from}
 
 pub hit_at_is : (u : Universe) (p : Variant → Bool) (row : List ℕ) → IsRowOf u p row → (n word : ℕ)
     → (t : Bool) → (t ≡ true) ↔ HasSomeAt (variants_of row) n word
@@ -24,4 +23,9 @@ hit_at_is u p row is n word t told =
     (λ some. let f =
     some_below-found (variants u n) (λ b. word_has word b && p (variant n b)) some in
     let parts = and_parts _ _ f.2 in
-    told.1 (f.0, parts.0, row_bit_from u p row is n f.0 f.1 parts.1))
+    told.1 (
+      f.0,
+      parts.0,
+      is.set n f.0
+          ∙ and_from _ _ (lt-ltb f.0 (variants u n) f.1) parts.1,
+    ))
