@@ -12,7 +12,7 @@ use Rattle.clause_kernel.proofs.Words.{word_has-or}
 use Rattle.bit_rows.specs.Sets.{Variants, IsWordOf, ReplacesName, AddsVariant}
 
 -- the word `1 << bit`
-bit_word : (bit : ℕ) → bit < 64 → 1 * 2 ^ bit % 2 ^ 64 ≡ 2 ^ bit
+pub bit_word : (bit : ℕ) → bit < 64 → 1 * 2 ^ bit % 2 ^ 64 ≡ 2 ^ bit
 bit_word bit within =
     let small : 1 * 2 ^ bit < 2 ^ 64 = omega (arith, pow-lt within) in
     let one : 1 * 2 ^ bit ≡ 2 ^ bit = omega arith in mod-eq_of_lt small ∙ one

@@ -11,7 +11,7 @@ use Rattle.clause_kernel.proofs.Words.{word_has_zero}
 use Rattle.farm_model.specs.declared.types.Variant.{Variant}
 use Rattle.farm_model.specs.Packages.{names, variant, variants, same, contains}
 use Rattle.farm_model.specs.Universe.{Universe}
-use Rattle.farm_universe.proofs.ListLaws.{same-self, same-is}
+use Rattle.farm_model.proofs.VariantLaws.{same-refl, same-true}
 use Rattle.farm_universe.specs.ListText.{words_of}
 use Rattle.cert_text.specs.Certificates.{IsNewRow}
 use Rattle.cert_text.specs.Rows.{in_row, named_variants, named_in_row, row_variants}
@@ -36,9 +36,9 @@ contains-in_row row x (v ∷ vs) =
         → contains (in_row row (v ∷ vs)) x ≡ (bit_of row x && contains (v ∷ vs) x)
     by true true true es eq er later = rw (eq, es, er) refl
     by true true false es eq er later =
-        absurd (true≢false (sym eq ∙ ap (bit_of row) (same-is v x es) ∙ er))
+        absurd (true≢false (sym eq ∙ ap (bit_of row) (same-true v x es) ∙ er))
     by true false true es eq er later =
-        absurd (true≢false (sym er ∙ ap (bit_of row) (sym (same-is v x es)) ∙ eq))
+        absurd (true≢false (sym er ∙ ap (bit_of row) (sym (same-true v x es)) ∙ eq))
     by true false false es eq er later = rw (eq, er) (later ∙ rw er refl)
     by false true true es eq er later = rw (eq, es, er) (later ∙ rw er refl)
     by false true false es eq er later = rw (eq, es, er) (later ∙ rw er refl)
@@ -73,7 +73,7 @@ module _ (n b : ℕ) where
           let here : a ≡ b = omega (arith, ltb-false a b e, low) in
           or_left (same (variant n a) (variant n b)) _
           (subst (λ k. same (variant n k) (variant n b) ≡ true) (sym here)
-          (same-self (variant n b)))
+          (same-refl (variant n b)))
 
   names-have : (u : Universe) → b < variants u n → (m a : ℕ) → a ≤ n → n < a + m
       → contains (flat_map (named_variants u) (range_with_len a m)) (variant n b) ≡ true

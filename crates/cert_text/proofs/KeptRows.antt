@@ -27,7 +27,8 @@ use Rattle.farm_model.specs.Packages.{names, variant, variants, initial, has_bit
 use Rattle.farm_model.specs.Sound.{IsKnown}
 use Rattle.farm_model.specs.Universe.{Universe}
 use Rattle.farm_universe.proofs.ArchiveLaws.{length-words_of}
-use Rattle.farm_universe.proofs.ListLaws.{has_bit-words_of, has_bit-past, All-contains}
+use Rattle.farm_model.proofs.VariantLaws.{contained}
+use Rattle.farm_universe.proofs.ListLaws.{has_bit-words_of, has_bit-past}
 use Rattle.farm_universe.specs.ListText.{has_version, pinned, words_of}
 use Rattle.plan_asm.proofs.Places.{place-within}
 use Rattle.plan_model.specs.Plan.{Lane, Plan, lane}
@@ -113,7 +114,7 @@ module _ (u : Universe) where
   bit-new vs new n b is = by (nat_lt n (names u)) refl where
     by : (t : Bool) → nat_lt n (names u) ≡ t → IsNew u (variant n b)
     by true e =
-        All-contains (IsNew u) vs (variant n b) new
+        contained (IsNew u) vs (variant n b) new
         (sym (has_bit-words_of (names u) vs (variant n b) (ltb-true n (names u) e)) ∙ is)
     by false e =
         let past : length (words_of (names u) vs) ≤ n =

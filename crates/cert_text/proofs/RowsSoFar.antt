@@ -16,6 +16,7 @@ use Rattle.deb_text.specs.Steps.{then_all, traverse}
 use Rattle.farm_model.specs.declared.types.Variant.{Variant}
 use Rattle.farm_model.specs.Packages.{names, variant, same, contains, has_bit}
 use Rattle.farm_model.specs.Universe.{Universe}
+use Rattle.farm_model.proofs.TestLaws.{eqb-turned}
 use Rattle.farm_universe.proofs.ArchiveLaws.{length-words_of}
 use Rattle.farm_universe.proofs.ListLaws.{has_bit-words_of}
 use Rattle.farm_universe.specs.ListText.{words_of}
@@ -30,13 +31,6 @@ pub record IsSoFar (n : ℕ) (row : List ℕ) (vs : List Variant) : Type 0 where
 pub so_far-nil : (n : ℕ) (row : List ℕ) → length row ≡ n → HasNone (variants_of row)
     → IsSoFar n row []
 so_far-nil n row long none = record { long = long; bits = λ name bit. none name bit }
-
-eqb-turned : (a b : ℕ) → (a == b) ≡ (b == a)
-eqb-turned a b =
-    elim (cases_Bool (b == a)) [
-      | inl is ↦ eq-eqb a b (sym (eqb-true b a is)) ∙ sym is
-      | inr other ↦ ne_eqb a b (λ e. eqb-false b a other (sym e)) ∙ sym other
-    ]
 
 pub so_far-push : (n : ℕ) (row new : List ℕ) (vs : List Variant) (v : Variant) → IsSoFar n row vs
     → length new ≡ length row → AddsVariant (variants_of row) v.name v.bit (variants_of new)

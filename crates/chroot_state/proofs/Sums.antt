@@ -7,7 +7,7 @@ use Rattle.farm_model.specs.Below.{sum_below}
 use Rattle.farm_model.specs.Universe.{Universe}
 use Rattle.farm_model.specs.Packages.{names}
 use Rattle.farm_model.specs.Chroot.{Chroot, slot, size_in, used}
-use Rattle.farm_model.proofs.BelowLaws.{sum_below-change}
+use Rattle.farm_model.proofs.BelowLaws.{sum_below-change, sum_below-few}
 use Rattle.farm_universe.proofs.SizeLaws.{size_small}
 use Rattle.farm_universe.specs.Kept.{IsKept}
 use Rattle.farm_universe.specs.declared.limits.TheConstants.{MOST_NAMES, MOST_SIZE}
@@ -39,18 +39,13 @@ slot-small u n Absent kept known = omega arith
 slot-small u n (Unpacked b last) kept known = size_small u n b kept known.0
 slot-small u n (Configured b) kept known = size_small u n b kept known
 
-sum-small : (n : ℕ) (f : ℕ → ℕ) → ((k : ℕ) → f k ≤ MOST_SIZE) → sum_below n f ≤ n * MOST_SIZE
-sum-small zero f h = omega arith
-sum-small (suc n) f h =
-    let rest = sum-small n f h in let now = h n in omega (arith, rest, now)
-
 -- a chroot takes no more than its names can
 pub used-small : (u : Universe) (c : Chroot) → IsKept u → AreSlots u c
     → used u c ≤ MOST_NAMES * MOST_SIZE
 unfolding used names
 used-small u c kept slots =
     let sum =
-    sum-small (length c) (λ n. size_in u n (slot c n))
+    sum_below-few MOST_SIZE (length c) (λ n. size_in u n (slot c n))
     (λ n. slot-small u n (slot c n) kept (slots.known n)) in
     let few : length c ≤ MOST_NAMES = omega
     (arith, slots.long, kept.few_names, kept.sound.listed) in

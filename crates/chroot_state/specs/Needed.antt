@@ -7,19 +7,19 @@ use Rattle.std.specs.Prelude.{ℕ, Bool, not, ◌&&◌, List}
 use Rattle.std.specs.List.{list_any}
 use Rattle.deb_relation.specs.Relations.{Entry}
 use Rattle.farm_model.specs.Universe.{Universe}
-use Rattle.farm_model.specs.Packages.{variant, satisfies_entry}
-use Rattle.farm_model.specs.Chroot.{Chroot, slot, some_slot, holds_configured, member, entries}
+use Rattle.farm_model.specs.Packages.{satisfies_entry}
+use Rattle.farm_model.specs.Chroot.{Chroot, slot, some_slot, has_configured, member, entries}
 
 -- a configured member satisfies the entry
 abbrev pub met_inside : Universe → List ℕ → Chroot → Entry → Bool
 met_inside u members c e =
-    list_any (λ m. holds_configured (λ b. satisfies_entry u e (variant m b)) (slot c m)) members
+    list_any (λ m. has_configured (satisfies_entry u e) m (slot c m)) members
 
 -- a configured variant outside the set satisfies the entry
 unfoldable pub met_outside : Universe → List ℕ → Chroot → Entry → Bool
 met_outside u members c e =
     some_slot c (λ n s. not (member members n)
-    && holds_configured (λ b. satisfies_entry u e (variant n b)) s)
+    && has_configured (satisfies_entry u e) n s)
 
 abbrev pub needs_members : Universe → List ℕ → Chroot → Entry → Bool
 needs_members u members c e = met_inside u members c e && not (met_outside u members c e)
@@ -27,4 +27,4 @@ needs_members u members c e = met_inside u members c e && not (met_outside u mem
 unfoldable pub is_needed : Universe → List ℕ → Chroot → Bool
 is_needed u members c =
     some_slot c (λ n s. not (member members n)
-    && holds_configured (λ b. list_any (needs_members u members c) (entries u (variant n b))) s)
+    && has_configured (λ v. list_any (needs_members u members c) (entries u v)) n s)

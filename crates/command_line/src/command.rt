@@ -6,36 +6,52 @@ use std::alloc::{AllocError, Global};
 
 const PORTFARM: &str = "portfarm";
 
+/// The command `check`.
 pub const CHECK: &str = "check";
 
+/// The command `explain`.
 pub const EXPLAIN: &str = "explain";
 
+/// The command `list`.
 pub const LIST: &str = "list";
 
+/// The command `cert`.
 pub const CERT: &str = "cert";
 
+/// The command `verify-cert`.
 pub const VERIFY_CERT: &str = "verify-cert";
 
+/// The command `step`.
 pub const STEP: &str = "step";
 
+/// The command `run`.
 pub const RUN: &str = "run";
 
+/// The parameter with the name of the Packages index.
 pub const PACKAGES: &str = "packages";
 
+/// The parameter with the name of the Sources index.
 pub const SOURCES: &str = "sources";
 
+/// The parameter with the name of the farm description.
 pub const FARM: &str = "farm";
 
+/// The parameter with the name of the plan.
 pub const PLAN: &str = "plan";
 
+/// The parameter with the name of the certificate.
 pub const CERTIFICATE: &str = "certificate";
 
+/// The option `--schedule`.
 pub const SCHEDULE: &str = "schedule";
 
+/// The option `--progress`.
 pub const PROGRESS: &str = "progress";
 
+/// The option `--number`.
 pub const NUMBER: &str = "number";
 
+/// The option `--json`.
 pub const JSON: &str = "json";
 
 /// What stands for standard input in place of the name of a file.
@@ -150,6 +166,10 @@ fn with_verdicts<'a>(alloc: Global) -> Result<Command<'a>, AllocError> {
 }
 
 /// The commands of the program, whose words begin behind its name.
+///
+/// # Errors
+///
+/// [`AllocError`] where memory is refused.
 pub fn portfarm<'a>(alloc: Global) -> Result<Command<'a>, AllocError> {
     let program = with_verdicts(alloc)?;
     let program = program.subcommand(list(alloc)?)?;

@@ -1,10 +1,13 @@
 //! What the help of the commands says.
 
+/// The version of the program.
 pub const VERSION: &str = "0.1.0";
 
+/// What the program is for, in a line.
 pub const PORTFARM: &str = "\
 Checks plans that rebuild a Debian port on its build farm, before anything is built";
 
+/// What the help of the program says behind it.
 pub const PORTFARM_MORE: &str = "\
 A plan has lanes of instructions, each over one chroot, which share one archive that only grows.
 
@@ -22,9 +25,11 @@ Status:
   3  a file cannot be read, memory ran out, a lane cannot be started, or the answer cannot be
      written";
 
+/// What `check` does, in a line.
 pub const CHECK: &str = "\
 Tells whether the plan is safe in whatever order its lanes take turns";
 
+/// What the help of `check` says behind that line.
 pub const CHECK_MORE: &str = "\
 The answer is `accepted`, how many lanes and events there are, and what each lane costs at most; or
 one line with the first thing that may go wrong, as `refused 401 lane a instruction 3 X7 Depends`,
@@ -36,9 +41,11 @@ Example:
 
 Status: 0 accepted, 1 refused, 2 wrong words, 3 nothing could be answered";
 
+/// What `explain` does, in a line.
 pub const EXPLAIN: &str = "\
 Tells whether the plan is safe, and for a person why it is not";
 
+/// What the help of `explain` says behind that line.
 pub const EXPLAIN_MORE: &str = "\
 The answer is that of `check`, and where the plan is refused, why. For a fault of a text these are the
 line and what was expected there. For an instruction that may go wrong they are its line in the plan
@@ -51,9 +58,11 @@ Example:
 Status: 0 accepted, 1 refused, 2 wrong words, 3 nothing could be answered, or memory ran out behind
 the verdict";
 
+/// What `list` does, in a line.
 pub const LIST: &str = "\
 Prints the plan with its blocks expanded, one instruction a line";
 
+/// What the help of `list` says behind that line.
 pub const LIST_MORE: &str = "\
 The answer is a plan that means the same, and that can be checked in place of the given one. The plan
 need not be safe. Where a text cannot be read, the answer is its first fault, as
@@ -68,9 +77,11 @@ Example:
 
 Status: 0 listed, 1 refused, 2 wrong words, 3 nothing could be answered";
 
+/// What `cert` does, in a line.
 pub const CERT: &str = "\
 Prints a certificate of the plan, by which anyone can check that it is safe";
 
+/// What the help of `cert` says behind that line.
 pub const CERT_MORE: &str = "\
 The answer is the certificate of a plan that `check` accepts: `cert 1`, then a line for what each lane
 knows of the archive behind each of its waits and publishes, and then an order in which all of them
@@ -82,9 +93,11 @@ Example:
 
 Status: 0 certified, 1 refused, 2 wrong words, 3 nothing could be answered";
 
+/// What `verify-cert` does, in a line.
 pub const VERIFY_CERT: &str = "\
 Tells whether a certificate shows that the plan is safe, whoever made it";
 
+/// What the help of `verify-cert` says behind that line.
 pub const VERIFY_CERT_MORE: &str = "\
 A certificate says what each lane knows of the archive behind each of its waits and publishes, and an
 order in which all of them can be made. It is checked by itself, and what it says is not trusted. The
@@ -100,9 +113,11 @@ Example:
 
 Status: 0 certified, 1 refused, 2 wrong words, 3 nothing could be answered";
 
+/// What `step` does, in a line.
 pub const STEP: &str = "\
 Lets lanes take turns in a given order, and shows what has come of it";
 
+/// What the help of `step` says behind that line.
 pub const STEP_MORE: &str = "\
 Each turn takes one instruction of its lane, or one output of a publish; a lane that waits in vain
 or has finished stays as it is. The answer is `ran` and the number of turns, or the first trap with
@@ -119,9 +134,11 @@ Example, in which the first lane takes two turns and then the second one:
 Status: 0 stepped without a trap, 1 trapped or refused, 2 wrong words or a schedule that is none,
 3 nothing could be answered";
 
+/// What `run` does, in a line.
 pub const RUN: &str = "\
 Checks the plan and runs it: each lane in a thread of its own, over one archive";
 
+/// What the help of `run` says behind that line.
 pub const RUN_MORE: &str = "\
 Where `check` refuses the plan, the answer is that refusal, and nothing is run. Else each lane takes
 its instructions in its own thread, and a lane that waits sleeps until another has published what it
@@ -137,21 +154,30 @@ Example:
 Status: 0 finished, 1 refused, 2 wrong words, 3 nothing could be answered, or a lane could not be
 started";
 
+/// What the Packages index is, in a line.
 pub const PACKAGES: &str = "Packages index: the packages, with their versions, sizes and relations";
 
+/// What the Sources index is, in a line.
 pub const SOURCES: &str = "Sources index: what each source package needs to be built";
 
+/// What the farm description is, in a line.
 pub const FARM: &str = "The farm: its architecture, its archive, recipes of builds, and chroots";
 
+/// What the plan is, in a line.
 pub const PLAN: &str = "The plan: lanes of instructions, and blocks that they use";
 
+/// What the certificate is, in a line.
 pub const CERTIFICATE: &str = "The certificate of the plan, as `cert` prints it";
 
+/// What `--progress` does, in a line.
 pub const PROGRESS: &str = "Tell on the error output what is published, and which lanes wait";
 
+/// What `--number` does, in a line.
 pub const NUMBER: &str = "Put before each line its instruction's number, and its line in the plan";
 
+/// What `--json` does, in a line.
 pub const JSON: &str = "Answer with one JSON object on a line";
 
+/// What `--schedule` does, in a line.
 pub const SCHEDULE: &str = "\
 Lanes in the order of their turns, as 0,0,1: 0 is the first lane; or @FILE, a file that has them";

@@ -55,9 +55,8 @@ fn read_up_to<'a, R: Read + Drop>(
         read.items ≡ take most bytes)) }
     ensures fault { IfErr result IsReadFault }
 {
-    let mut read = Vec::new(alloc);
-    match reader.take(u64::from(most)).read_to_end(&mut read) {
-        Ok(_) => Ok(read),
+    match bounded_read::read_up_to(alloc, reader, most) {
+        Ok(read) => Ok(read),
         Err(error) if error.kind() == ErrorKind::OutOfMemory => Err(OutsideFault::OutOfMemory),
         Err(_) => Err(OutsideFault::CannotRead(name)),
     }

@@ -10,6 +10,7 @@ use Rattle.farm_model.specs.declared.types.Variant.{Variant}
 use Rattle.farm_model.specs.Below.{some_below, highest_below}
 use Rattle.farm_model.specs.Universe.{Universe}
 use Rattle.farm_model.specs.Packages.{variant, same, contains, outputs, initial}
+pub use Rattle.farm_model.proofs.VariantLaws.{same-true, same-refl}
 use Rattle.plan_model.specs.declared.instructions.Instruction.{Instruction}
 use Rattle.plan_model.specs.declared.instructions.Instruction.TheVariants.{Publish}
 use Rattle.plan_model.specs.Branches.{IsBranched}
@@ -58,18 +59,6 @@ some-highest (suc n) p =
       | inl here ↦ rw here refl
       | inr fails ↦ rw fails (some-highest n p)
     ]
-
-pub same-true : (v w : Variant) → same v w ≡ true → v ≡ w
-unfolding same
-same-true v w e =
-    let parts = and_parts _ _ e in
-    let n = eqb-true v.name w.name parts.0 in
-    let b = eqb-true v.bit w.bit parts.1 in
-    ap (λ k. variant k v.bit) n ∙ ap (λ k. variant w.name k) b
-
-pub same-refl : (v : Variant) → same v v ≡ true
-unfolding same
-same-refl v = and_from _ _ (eq-eqb v.name v.name refl) (eq-eqb v.bit v.bit refl)
 
 -- one more publication
 pub archive-push : (u : Universe) (published : List Publication) (l : ℕ) (v w : Variant)

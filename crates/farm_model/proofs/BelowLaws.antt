@@ -1,8 +1,9 @@
 -- Laws of the tests, sums and choices over the numbers below n.
-use Rattle.std.proofs.Common.{◌≡◌, ℕ, zero, suc, ◌+◌, ◌<◌, ◌≤◌, Bool, true, false, cond, inl, inr, Some, refl, sym, ap, ◌∙◌, subst, arith, add-one}
+use Rattle.std.proofs.Common.{◌≡◌, ℕ, zero, suc, ◌+◌, ◌*◌, ◌<◌, ◌≤◌, Bool, true, false, ◌||◌, cond, inl, inr, Some, refl, sym, ap, ◌∙◌, subst, arith, add-one}
 use Rattle.std.proofs.lemmas.Option.{none-some, same_Some}
 use Rattle.std.proofs.lemmas.Bool.{both_ways, cond-true, cond-false, false≢true, or_cases, or_left, or_right, and_parts, and_from, cases_eq, cases_Bool}
 use Rattle.farm_model.specs.Below.{some_below, every_below, sum_below, greatest_below, highest_below}
+use Rattle.farm_model.proofs.TestLaws.{or-four}
 
 pub some_below-at : (n : ℕ) (p : ℕ → Bool) (k : ℕ) → k < n → p k ≡ true → some_below n p ≡ true
 some_below-at zero p k h e = absurd (omega arith)
@@ -158,3 +159,17 @@ highest_below-there (suc n) p k h e =
             (r.0, cond-false (p n) (Some n) (highest_below n p) fails ∙ r.1)
       ]
     ]
+
+-- a sum of numbers of which none is over the most
+pub sum_below-few : (most n : ℕ) (f : ℕ → ℕ) → ((k : ℕ) → f k ≤ most) → sum_below n f ≤ n * most
+sum_below-few most zero f few = omega arith
+sum_below-few most (suc n) f few =
+    let rest = sum_below-few most n f few in let here = few n in omega (arith, rest, here)
+
+-- some number passes one of two tests
+pub some_below-or : (n : ℕ) (p q : ℕ → Bool)
+    → some_below n (λ k. p k || q k) ≡ (some_below n p || some_below n q)
+some_below-or zero p q = refl
+some_below-or (suc n) p q =
+    ap (λ rest. (p n || q n) || rest) (some_below-or n p q)
+    ∙ or-four (p n) (q n) (some_below n p) (some_below n q)

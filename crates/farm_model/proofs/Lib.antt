@@ -1,5 +1,6 @@
-pub mod BelowLaws
 pub mod TestLaws
+pub mod BelowLaws
 pub mod TrapLaws
 pub mod ChangedLaws
 pub mod FindLaws
+pub mod VariantLaws

@@ -40,6 +40,18 @@ holds_configured p Absent = false
 holds_configured p (Unpacked b last) = false
 holds_configured p (Configured b) = p b
 
+-- a present variant of this name passes
+abbrev pub has_present : (Variant → Bool) → ℕ → Slot → Bool
+has_present p n s = holds (λ b. p (variant n b)) s
+
+-- a configured variant of this name passes
+abbrev pub has_configured : (Variant → Bool) → ℕ → Slot → Bool
+has_configured p n s = holds_configured (λ b. p (variant n b)) s
+
+-- the slot of some name other than this one passes
+abbrev pub some_other : Chroot → ℕ → (ℕ → Slot → Bool) → Bool
+some_other c name p = some_slot c (λ n s. not (n == name) && p n s)
+
 -- a variant is present
 abbrev pub is_present : Slot → Bool
 is_present Absent = false
@@ -81,14 +93,14 @@ member members n = list_any (λ m. m == n) members
 
 -- a configured variant satisfies the entry (Policy 7.2, Depends)
 unfoldable pub met : Universe → Chroot → Entry → Bool
-met u c e = some_slot c (λ n s. holds_configured (λ b. satisfies_entry u e (variant n b)) s)
+met u c e = some_slot c (has_configured (satisfies_entry u e))
 
 -- the same, where the present variants of the members count too, since they are configured together
 -- (the project's own rule; Policy 7.2 leaves open where a circle of dependencies is broken)
 unfoldable pub met_with : Universe → List ℕ → Chroot → Entry → Bool
 met_with u members c e =
-    some_slot c (λ n s. holds_configured (λ b. satisfies_entry u e (variant n b)) s
-    || (member members n && holds (λ b. satisfies_entry u e (variant n b)) s))
+    some_slot c (λ n s. has_configured (satisfies_entry u e) n s
+    || (member members n && has_present (satisfies_entry u e) n s))
 
 -- one alternative is satisfied by an unpacked variant and by the one that was configured last
 abbrev pub both_satisfy : Universe → Entry → ℕ → ℕ → Option ℕ → Bool
@@ -106,7 +118,7 @@ pre_meets u e n (Configured b) = satisfies_entry u e (variant n b)
 -- in variants that satisfy the entry (Policy 7.2, Pre-Depends; one alternative for both: the
 -- project's own rule)
 unfoldable pub pre_met : Universe → ℕ → Chroot → Entry → Bool
-pre_met u name c e = some_slot c (λ n s. not (n == name) && pre_meets u e n s)
+pre_met u name c e = some_other c name (pre_meets u e)
 
 -- an entry of the list is not met
 abbrev pub unmet : (Entry → Bool) → Relations → Bool
@@ -119,7 +131,7 @@ entries u v = depends u v ++ pre_depends u v
 -- a present variant is not configured, or an entry of one is not met (the project's own rule)
 unfoldable pub unsettled : Universe → Chroot → Bool
 unsettled u c = some_slot c (λ n s. is_unpacked s
-    || holds (λ b. unmet (met u c) (entries u (variant n b))) s)
+    || has_present (λ v. unmet (met u c) (entries u v)) n s)
 
 -- a slot of a base chroot: the package found is configured
 abbrev pub base_slot : Option Variant → Slot

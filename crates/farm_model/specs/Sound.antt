@@ -3,13 +3,13 @@
 --   IsKnown                     a variant of the universe
 --   IsSettledBase               what a base chroot keeps
 --   IsUniverse, IsInOrder       what every universe keeps
-use Rattle.std.specs.Prelude.{◌≡◌, ℕ, suc, ◌<◌, ◌≤◌, Bool, true, false, not, ◌&&◌, ◌==◌, length, Some, slice_get, All}
+use Rattle.std.specs.Prelude.{◌≡◌, ℕ, suc, ◌<◌, ◌≤◌, Bool, true, false, length, Some, slice_get, All}
 use Rattle.std.specs.declared.cmp.Ordering.TheVariants.{Less}
 use Rattle.deb_version.specs.Grammar.{text_cmp}
 use Rattle.farm_model.specs.declared.types.Variant.{Variant}
 use Rattle.farm_model.specs.Universe.{Universe}
 use Rattle.farm_model.specs.Packages.{variant, variants, package_of, base, outputs, initial, conflict, breaks}
-use Rattle.farm_model.specs.Chroot.{Chroot, some_slot, holds, used, unsettled, base_chroot}
+use Rattle.farm_model.specs.Chroot.{Chroot, some_slot, has_present, some_other, used, unsettled, base_chroot}
 
 -- a variant of the universe
 abbrev pub IsKnown : Universe → Variant → Type 0
@@ -17,8 +17,7 @@ IsKnown u v = v.bit < variants u v.name
 
 -- two present variants of different names stand in the relation
 unfoldable pub some_two : Chroot → (Variant → Variant → Bool) → Bool
-some_two c p = some_slot c (λ n s. holds
-    (λ b. some_slot c (λ m t. not (m == n) && holds (λ d. p (variant n b) (variant m d)) t)) s)
+some_two c p = some_slot c (has_present (λ v. some_other c v.name (has_present (p v))))
 
 -- a base chroot: one variant of a name, each entry met, no conflict, nothing broken, within the
 -- capacity

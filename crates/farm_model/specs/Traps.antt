@@ -6,7 +6,7 @@
 --   unpack_traps, configure_traps, deconfigure_traps,
 --   remove_traps, build_traps                                    the tests of each instruction
 --   unpacked, configured, deconfigured, removed                  the chroot after it
-use Rattle.std.specs.Prelude.{ℕ, ◌+◌, Bool, not, ◌&&◌, ◌==◌, nat_lt, List, [], ◌∷◌, length, map, Option, Some, None, slice_set, if◌then◌else◌}
+use Rattle.std.specs.Prelude.{ℕ, ◌+◌, Bool, not, ◌&&◌, nat_lt, List, [], ◌∷◌, length, map, Option, Some, None, slice_set, if◌then◌else◌}
 use Rattle.std.specs.List.{list_any, range_with_len}
 use Rattle.farm_model.specs.declared.types.Variant.{Variant}
 use Rattle.farm_model.specs.declared.types.Slot.{Slot}
@@ -14,8 +14,8 @@ use Rattle.farm_model.specs.declared.types.Slot.TheVariants.{Absent, Unpacked, C
 use Rattle.farm_model.specs.declared.types.Trap.{Trap}
 use Rattle.farm_model.specs.declared.types.Trap.TheVariants.{PreDepends, Conflict, BreaksOther, Full, WrongState, Depends, Broken, StillNeeded, Unsettled, BuildDepends, BuildConflict, Essential}
 use Rattle.farm_model.specs.Universe.{Universe, Recipe}
-use Rattle.farm_model.specs.Packages.{variant, size, essential, pre_depends, depends, satisfies_any, conflict, breaks}
-use Rattle.farm_model.specs.Chroot.{Chroot, slot, some_slot, holds, holds_configured, is_present, is_unpacked, is_configured, last_of, used, member, met, met_with, pre_met, unmet, entries, unsettled}
+use Rattle.farm_model.specs.Packages.{size, essential, pre_depends, depends, satisfies_any, conflict, breaks}
+use Rattle.farm_model.specs.Chroot.{Chroot, slot, some_slot, some_other, has_present, has_configured, is_present, is_unpacked, is_configured, last_of, used, member, met, met_with, pre_met, unmet, entries, unsettled}
 
 -- the first trap whose test holds
 unfoldable pub first_trap : List (Bool × Trap) → Option Trap
@@ -28,14 +28,8 @@ first_trap (x ∷ xs) = if x.0 then Some x.1 else first_trap xs
 abbrev pub unpack_traps : Universe → ℕ → Chroot → Variant → List (Bool × Trap)
 unpack_traps u capacity c v =
     (unmet (pre_met u v.name c) (pre_depends u v), PreDepends)  -- X2
-    ∷ (
-      some_slot c (λ n s. not (n == v.name) && holds (λ b. conflict u v (variant n b)) s),
-      Conflict,  -- X3
-    )
-    ∷ (
-      some_slot c (λ n s. not (n == v.name) && holds_configured (λ b. breaks u v (variant n b)) s),
-      BreaksOther,  -- X4
-    )
+    ∷ (some_other c v.name (has_present (conflict u v)), Conflict)  -- X3
+    ∷ (some_other c v.name (has_configured (breaks u v)), BreaksOther)  -- X4
     ∷ (nat_lt capacity (used u c + size u v), Full)  -- X5
     ∷ []
 
@@ -50,7 +44,7 @@ changed f c members = map (λ n. if member members n then f (slot c n) else slot
 
 -- some member's present variant passes
 abbrev pub some_member : List ℕ → Chroot → (Variant → Bool) → Bool
-some_member members c p = list_any (λ m. holds (λ b. p (variant m b)) (slot c m)) members
+some_member members c p = list_any (λ m. has_present p m (slot c m)) members
 
 -- configure: a member is not unpacked; a Pre-Depends entry is not met, and members do not count
 -- (Policy 7.2); a Depends entry is met neither by a configured variant nor by a member (7.2); a
@@ -61,8 +55,7 @@ configure_traps u c members =
     ∷ (some_member members c (λ v. unmet (met u c) (pre_depends u v)), PreDepends)  -- X2
     ∷ (some_member members c (λ v. unmet (met_with u members c) (depends u v)), Depends)  -- X7
     ∷ (
-      some_member members c (λ v. some_slot c
-          (λ n s. not (n == v.name) && holds (λ b. breaks u (variant n b) v) s)),
+      some_member members c (λ v. some_other c v.name (has_present (λ other. breaks u other v))),
       Broken,  -- X8
     )
     ∷ []
@@ -83,8 +76,8 @@ unfoldable pub still_needed : Universe → List ℕ → Chroot → Chroot → Bo
 still_needed u members before after =
     some_slot before
     (λ n s. not (member members n)
-    && holds_configured (λ b. list_any (λ e. met u before e && not (met u after e))
-    (entries u (variant n b))) s)
+    && has_configured (λ v. list_any (λ e. met u before e && not (met u after e)) (entries u v))
+    n s)
 
 -- a slot whose variant is unpacked again, and was configured last
 abbrev pub deconfigured_slot : Slot → Slot
@@ -122,9 +115,6 @@ abbrev pub build_traps : Universe → ℕ → Chroot → Recipe → List (Bool �
 build_traps u capacity c r =
     (unsettled u c, Unsettled)  -- X10
     ∷ (unmet (met u c) r.needs, BuildDepends)  -- X11
-    ∷ (
-      some_slot c (λ n s. holds (λ b. satisfies_any u r.clashes (variant n b)) s),
-      BuildConflict,  -- X12
-    )
+    ∷ (some_slot c (has_present (satisfies_any u r.clashes)), BuildConflict)  -- X12
     ∷ (nat_lt capacity (used u c + r.scratch), Full)  -- X5
     ∷ []

@@ -242,16 +242,3 @@ module _ (l : Land) (is : IsLand l) (yard : Yard) (are : IsYard l yard) where
         u.recipes are.recipes.each;
     few_recipes = are.recipes.few;
   }
-
--- ---- what callers of a universe meet
-
--- a known variant has a name of the universe
-pub known-name : (u : Universe) (v : Variant) → IsKnown u v → v.name < names u
-unfolding variants names
-known-name u v known = by (nat_lt v.name (length u.packages)) refl where
-  by : (t : Bool) → nat_lt v.name (length u.packages) ≡ t → v.name < length u.packages
-  by true e = ltb-true _ _ e
-  by false e =
-      let nothing : length (get_or u.packages v.name []) ≡ 0 =
-      ap length (get_or_past u.packages v.name [] (ltb-false _ _ e)) in
-      absurd (omega (arith, known, nothing))

@@ -25,15 +25,6 @@ All-slice_get P [] (suc i) x all e = absurd cc
 All-slice_get P (y ∷ ys) zero x all e = let is : y ≡ x = cc in subst P is (All-head P y ys all)
 All-slice_get P (y ∷ ys) (suc i) x all e = All-slice_get P ys i x (All-tail P y ys all) e
 
--- an item that passes
-pub any-at : {X : Type 0} (p : X → Bool) (xs : List X) (i : ℕ) (x : X) → slice_get xs i ≡ Some x
-    → p x ≡ true → list_any p xs ≡ true
-any-at p [] zero x e is = absurd cc
-any-at p [] (suc i) x e is = absurd cc
-any-at p (y ∷ ys) zero x e is =
-    let same : y ≡ x = cc in or_left (p y) _ (subst (λ z. p z ≡ true) (sym same) is)
-any-at p (y ∷ ys) (suc i) x e is = or_right (p y) _ (any-at p ys i x e is)
-
 -- the same over what is made of the items
 module _ {X Y : Type 0} (m : X → Y) (p : Y → Bool) where
   pub any-map-at : (xs : List X) (i : ℕ) (x : X) → slice_get xs i ≡ Some x → p (m x) ≡ true

@@ -11,6 +11,8 @@ use Rattle.deb_text.proofs.StepLaws.{steps-judged}
 use Rattle.deb_relation.specs.Relations.{Entry}
 use Rattle.farm_model.specs.declared.types.Variant.{Variant}
 use Rattle.farm_model.specs.Packages.{same, contains, has_bit}
+use Rattle.farm_model.proofs.VariantLaws.{same-refl, same-true, contained}
+use Rattle.item_index.proofs.ItemLaws.{any-at}
 use Rattle.farm_universe.specs.declared.error.TheConstants.{TWICE}
 use Rattle.farm_universe.specs.declared.list.VariantList.{VariantList}
 use Rattle.farm_universe.specs.FarmSteps.{add_variant, add_item, word_set}
@@ -18,34 +20,8 @@ use Rattle.farm_universe.specs.FarmView.{IsListed, IsPlace, AreWords, IsOnce, Ar
 use Rattle.farm_universe.specs.ListText.{variant_at, twice, variants_in, words_of}
 use Rattle.farm_universe.specs.PackagesText.{PackageTable}
 use Rattle.farm_universe.proofs.ArchiveLaws.{length-words_of, words_of-push, get_or-words_of, bit_at-word_of}
-use Rattle.farm_universe.proofs.ListFacts.{slice_get-push, any-at}
+use Rattle.farm_universe.proofs.ListFacts.{slice_get-push}
 use Rattle.farm_universe.proofs.ToldLaws.{read_step-keeps}
-
--- ---- the same variant
-
-pub same-self : (v : Variant) → same v v ≡ true
-unfolding same
-same-self v = rw (eq-eqb v.name v.name refl, eq-eqb v.bit v.bit refl) refl
-
-pub same-is : (v w : Variant) → same v w ≡ true → v ≡ w
-unfolding same
-same-is v w is =
-    let parts = and_parts (eqb v.name w.name) (eqb v.bit w.bit) is in
-    let name = eqb-true v.name w.name parts.0 in
-    let bit = eqb-true v.bit w.bit parts.1 in
-    λ j. record { name = name j; bit = bit j }
-
--- what holds of all of them holds of one that is among them
-pub All-contains : (P : Variant → Type 0) (vs : List Variant) (v : Variant) → All P vs
-    → contains vs v ≡ true → P v
-All-contains P [] v all there = absurd cc
-All-contains P (w ∷ ws) v all there =
-    by (same w v) refl there (All-contains P ws v (All-tail P w ws all))
-  where
-    by : (b : Bool) → same w v ≡ b → (b || contains ws v) ≡ true → (contains ws v ≡ true → P v)
-        → P v
-    by true is some later = subst P (same-is w v is) (All-head P w ws all)
-    by false is some later = later some
 
 -- ---- the words so far
 
@@ -79,7 +55,7 @@ module _ (table : PackageTable) (list : VariantList) (is : AreListed table list)
     known v set = by (nat_lt v.name (length table.names)) refl where
       by : (b : Bool) → nat_lt v.name (length table.names) ≡ b → IsListed table v
       by true e =
-          (All-contains (IsPlace table) list.variants.items v is.known
+          (contained (IsPlace table) list.variants.items v is.known
           (sym (has_bit-listed v (ltb-true _ _ e)) ∙ set)).listed
       by false e =
           absurd (true≢false (sym set
@@ -103,7 +79,7 @@ IsOnce-push vs v once none i j w wi wj =
     there : (k : ℕ) → slice_get vs k ≡ Some w → v ≡ w → ⊥
     there k at is =
         true≢false (sym (any-at (λ x. same x v) vs k w at
-        (subst (λ x. same x v ≡ true) is (same-self v))) ∙ none)
+        (subst (λ x. same x v ≡ true) is (same-refl v))) ∙ none)
 
 -- one variant more, with its bit
 pub AreListed-push : (table : PackageTable) (list new : VariantList) (v : Variant)

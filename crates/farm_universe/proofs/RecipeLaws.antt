@@ -24,8 +24,8 @@ use Rattle.farm_universe.specs.Land.{Land}
 use Rattle.farm_universe.specs.ListText.{with_bit}
 use Rattle.farm_universe.specs.RecipeText.{outputs_at, is_taken, new_outputs, build_entries}
 use Rattle.farm_universe.proofs.ArchiveLaws.{bit-with_bit}
-use Rattle.farm_universe.proofs.ListFacts.{any-at}
-use Rattle.farm_universe.proofs.ListLaws.{same-self}
+use Rattle.item_index.proofs.ItemLaws.{any-at}
+use Rattle.farm_model.proofs.VariantLaws.{same-refl}
 
 -- ---- words with more bits
 
@@ -105,7 +105,7 @@ given [] zero (suc i) v at = absurd cc
 given [] (suc q) zero v at = absurd cc
 given [] (suc q) (suc i) v at = absurd cc
 given (x ∷ xs) zero i v at =
-    rw (any-at (λ w. same w v) x.outputs i v at (same-self v)) refl
+    rw (any-at (λ w. same w v) x.outputs i v at (same-refl v)) refl
 given (x ∷ xs) (suc q) i v at = or_right (contains x.outputs v) _ (given xs q i v at)
 
 -- what no item passes, no item at an index passes

@@ -9,6 +9,7 @@ use Rattle.std.proofs.lemmas.Bool.{both_ways, cases_lt, cases_Bool, and_from, an
 use Rattle.clause_kernel.specs.Rows.{word_has}
 use Rattle.clause_kernel.specs.Kernels.{bits_left}
 use Rattle.clause_kernel.proofs.Words.{word_has_zero, word_has-and, word_has-left}
+use Rattle.bit_rows.proofs.OneName.{bit_word}
 use Rattle.bit_rows.specs.Newest.{IsCommonBit, IsNewest}
 use Rattle.deb_relation.specs.declared.operator.Op.{Op}
 use Rattle.farm_model.specs.declared.types.Variant.{Variant}
@@ -24,13 +25,8 @@ use Rattle.may_rows.specs.Picks.{AreOfArchive, IsPick}
 
 -- ---- the bits from one up
 
-one_at : (bit : ℕ) → bit < 64 → 1 * 2 ^ bit % 2 ^ 64 ≡ 2 ^ bit
-one_at bit within =
-    let small : 1 * 2 ^ bit < 2 ^ 64 = omega (arith, pow-lt within) in
-    let one : 1 * 2 ^ bit ≡ 2 ^ bit = omega arith in mod-eq_of_lt small ∙ one
-
 pub one_within : (bit : ℕ) → bit < 64 → 1 ≤ 1 * 2 ^ bit % 2 ^ 64
-one_within bit within = omega (arith, one_at bit within, pow_pos bit)
+one_within bit within = omega (arith, bit_word bit within, pow_pos bit)
 
 low_bits : (bit b : ℕ) → not (word_has (2 ^ bit - 1) b) ≡ nat_le bit b
 low_bits bit b =
@@ -48,7 +44,7 @@ pub bits_from : (word bit : ℕ) → bit < 64 → (b : ℕ)
     → word_has (bit_xor word (bit_and word (1 * 2 ^ bit % 2 ^ 64 - 1))) b
     ≡ (word_has word b && nat_le bit b)
 bits_from word bit within b =
-    ap (λ n. word_has (bits_left word (n - 1)) b) (one_at bit within)
+    ap (λ n. word_has (bits_left word (n - 1)) b) (bit_word bit within)
     ∙ word_has-left word (2 ^ bit - 1) b
     ∙ ap (λ t. word_has word b && t) (low_bits bit b)
 

@@ -11,7 +11,7 @@ use Rattle.farm_model.specs.Below.{some_below, every_below}
 use Rattle.farm_model.specs.Universe.{Universe}
 use Rattle.farm_model.specs.declared.types.Variant.{Variant}
 use Rattle.farm_model.specs.Packages.{variant, names, variants, pre_depends, satisfies, satisfies_entry}
-use Rattle.farm_model.proofs.BelowLaws.{some_below-at, some_below-found, some_below-same, every_below-at, every_below-all}
+use Rattle.farm_model.proofs.BelowLaws.{some_below-or, some_below-at, some_below-found, some_below-same, every_below-at, every_below-all}
 use Rattle.farm_model.proofs.TestLaws.{same_tests}
 use Rattle.plan_model.specs.May.{Bits, MayAbsent, May, all_of, is_some_of, surely_pre_meets, surely_pre_met}
 use Rattle.sat_rows.specs.Rows.{IsRowOf, IsAlternativeRow, entry_at}
@@ -28,19 +28,6 @@ pub any-same : {X : Type 0} (p q : X → Bool) (xs : List X) → ((x : X) → p 
     → list_any p xs ≡ list_any q xs
 any-same p q [] same = refl
 any-same p q (x ∷ xs) same = rw (same x, any-same p q xs same) refl
-
-either_of : (a b c d : Bool) → ((a || b) || (c || d)) ≡ ((a || c) || (b || d))
-either_of true b c d = refl
-either_of false true true d = refl
-either_of false true false d = refl
-either_of false false c d = refl
-
-some_below-or : (n : ℕ) (p q : ℕ → Bool)
-    → some_below n (λ k. p k || q k) ≡ (some_below n p || some_below n q)
-some_below-or zero p q = refl
-some_below-or (suc n) p q =
-    ap (λ rest. (p n || q n) || rest) (some_below-or n p q)
-    ∙ either_of (p n) (q n) (some_below n p) (some_below n q)
 
 none_below : (n : ℕ) → some_below n (λ k. false) ≡ false
 none_below zero = refl

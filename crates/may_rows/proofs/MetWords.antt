@@ -13,7 +13,7 @@ use Rattle.farm_model.specs.Universe.{Universe, Recipe}
 use Rattle.farm_model.specs.declared.types.Variant.{Variant}
 use Rattle.farm_model.specs.Traps.{first_trap}
 use Rattle.farm_model.specs.Packages.{variant, names, variants, recipe}
-use Rattle.farm_model.proofs.BelowLaws.{some_below-at, some_below-found, some_below-same}
+use Rattle.farm_model.proofs.BelowLaws.{some_below-or, some_below-at, some_below-found, some_below-same}
 use Rattle.farm_model.proofs.TestLaws.{same_tests}
 use Rattle.plan_model.specs.May.{MaySlot, MayAbsent, MayUnpacked, MayConfigured, May, may_hold, may_hold_configured, surely_met, is_surely_unpacked, is_surely_configured}
 use Rattle.plan_model.specs.MayAt.{may_be_deconfigured, may_after}
@@ -109,22 +109,6 @@ module _ (u : Universe) (w : Words) (are : AreWords u w) where
 
 -- ---- the test of a build
 
-either : (n : ℕ) (p q : ℕ → Bool) → some_below n (λ k. p k || q k)
-    ≡ (some_below n p || some_below n q)
-either n p q =
-    same_tests _ _
-    (λ some. let at = some_below-found n (λ k. p k || q k) some in
-    elim (or_cases (p at.0) (q at.0) at.2) [
-      | inl left ↦ or_left _ _ (some_below-at n p at.0 at.1 left)
-      | inr right ↦ or_right (some_below n p) _ (some_below-at n q at.0 at.1 right)
-    ])
-    (λ some. elim (or_cases (some_below n p) (some_below n q) some) [
-      | inl left ↦ let at = some_below-found n p left in
-          some_below-at n (λ k. p k || q k) at.0 at.1 (or_left _ _ at.2)
-      | inr right ↦ let at = some_below-found n q right in
-          some_below-at n (λ k. p k || q k) at.0 at.1 (or_right (p at.0) _ at.2)
-    ])
-
 pub unsettled-is : (u : Universe) (m : May)
     → may_be_unsettled u m
     ≡ (some_below (names u) (λ n. is_surely_unpacked (m.slots n)) || some_misses u m)
@@ -132,7 +116,7 @@ unfolding may_be_unsettled
 unsettled-is u m =
     some_below-same (names u) _ _
     (λ n lt. by (λ b. unmet (surely_met u m) (entries u (variant n b))) n (m.slots n))
-    ∙ either (names u) (λ n. is_surely_unpacked (m.slots n)) (misses_at u m)
+    ∙ some_below-or (names u) (λ n. is_surely_unpacked (m.slots n)) (misses_at u m)
   where
     by : (p : ℕ → Bool) (n : ℕ) (s : MaySlot)
         → (is_surely_unpacked s || may_hold u n p s)

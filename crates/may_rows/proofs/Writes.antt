@@ -10,7 +10,7 @@ use Rattle.clause_kernel.proofs.Words.{word_has_zero}
 use Rattle.farm_model.specs.Below.{sum_below, greatest_below}
 use Rattle.farm_model.specs.Universe.{Universe}
 use Rattle.farm_model.specs.Packages.{variant, names, variants, size}
-use Rattle.farm_model.proofs.BelowLaws.{sum_below-change}
+use Rattle.farm_model.proofs.BelowLaws.{sum_below-change, sum_below-few}
 use Rattle.farm_universe.specs.Kept.{IsKept}
 use Rattle.farm_universe.specs.declared.limits.TheConstants.{MOST_NAMES, MOST_SIZE}
 use Rattle.farm_universe.proofs.SizeLaws.{size_small}
@@ -65,11 +65,6 @@ sum_below-at (suc n) f k lt =
       | inl same ↦ let e : f k ≡ f n = ap f same in omega arith
       | inr other ↦ let rest = sum_below-at n f k (omega arith) in omega (arith, rest)
     ]
-
-sum_below-few : (n : ℕ) (f : ℕ → ℕ) → ((k : ℕ) → f k ≤ MOST_SIZE) → sum_below n f ≤ n * MOST_SIZE
-sum_below-few zero f few = omega arith
-sum_below-few (suc n) f few =
-    let rest = sum_below-few n f few in let here = few n in omega (arith, rest, here)
 
 pub greatest_size-small : (u : Universe) (n : ℕ) (set : ℕ → Bool) → IsKept u
     → greatest_size u n set ≤ MOST_SIZE

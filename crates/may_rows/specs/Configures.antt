@@ -5,10 +5,10 @@ use Rattle.std.specs.List.{list_any}
 use Rattle.farm_model.specs.declared.types.Trap.{Trap}
 use Rattle.farm_model.specs.declared.types.Trap.TheVariants.{WrongState, PreDepends, Depends, Broken, OverBudget}
 use Rattle.farm_model.specs.Universe.{Universe}
-use Rattle.farm_model.specs.Packages.{variant, pre_depends, depends, breaks}
+use Rattle.farm_model.specs.Packages.{pre_depends, depends, breaks}
 use Rattle.farm_model.specs.Chroot.{member, unmet}
 use Rattle.plan_model.specs.Plan.{Lane, set_cost}
-use Rattle.plan_model.specs.May.{MaySlot, May, some_name, may_hold, surely_met, is_surely_unpacked}
+use Rattle.plan_model.specs.May.{MaySlot, May, some_other_name, may_have, surely_met, is_surely_unpacked}
 use Rattle.plan_model.specs.Risk.{may_exceed, some_may_member}
 use Rattle.may_rows.specs.Words.{Words, written}
 
@@ -19,10 +19,8 @@ name_configured w n =
 
 -- the map with each member's slot changed
 abbrev pub slots_after : (MaySlot → MaySlot) → May → List ℕ → May
-slots_after f m members = record {
+slots_after f m members = record m {
   slots = λ n. if member members n then f (m.slots n) else m.slots n;
-  cost = m.cost;
-  built = m.built;
 }
 
 abbrev pub risks_before : Universe → Lane → May → List ℕ → List (Bool × Trap)
@@ -37,8 +35,7 @@ risks_after u m members =
     (some_may_member u members m (λ v. unmet (surely_met u m) (depends u v)), Depends)
     ∷ (
       some_may_member u members m
-          (λ v. some_name u m (λ n s. not (n == v.name)
-          && may_hold u n (λ b. breaks u (variant n b) v) s)),
+          (λ v. some_other_name u v.name m (may_have u (λ other. breaks u other v))),
       Broken,
     )
     ∷ []

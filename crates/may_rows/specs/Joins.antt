@@ -16,10 +16,8 @@ abbrev pub either_last_word : ℕ → ℕ → ℕ
 either_last_word last other = if last == 0 || other == 0 then 0 else bit_or last other
 
 abbrev pub joined_below : Universe → May → ℕ → May → May
-joined_below u first k m = record {
+joined_below u first k m = record m {
   slots = λ n. if nat_lt n k then joined_slot u n (first.slots n) (m.slots n) else m.slots n;
-  cost = m.cost;
-  built = m.built;
 }
 
 -- of the recipes, those below k are built where both lists have them
@@ -31,12 +29,7 @@ pub record BothBelow (first old : List Bool) (k : ℕ) (new : List Bool) : Type 
 
 -- the words with the greater cost, and the recipes that both have built
 abbrev pub joined_rest : Words → Words → Words
-joined_rest first w = record {
-  here = w.here;
-  ready = w.ready;
-  last = w.last;
-  both = w.both;
-  used = w.used;
+joined_rest first w = record w {
   cost = max first.cost w.cost;
   built = both_built first.built w.built;
 }

@@ -17,11 +17,11 @@ use Rattle.farm_model.specs.Universe.{Universe}
 use Rattle.farm_model.specs.Packages.{variant, names, variants, satisfies_entry}
 use Rattle.plan_model.specs.declared.instructions.Instruction.{Instruction}
 use Rattle.plan_model.specs.declared.instructions.Instruction.TheVariants.{Unpack, Build}
-use Rattle.plan_model.specs.May.{May, may_hold_configured, surely_met, is_surely_configured}
+use Rattle.plan_model.specs.May.{May, may_hold_configured, may_have_configured, surely_met, is_surely_configured}
 
 abbrev pub misses_at : Universe → May → ℕ → Bool
 misses_at u m n =
-    may_hold_configured u n (λ b. unmet (surely_met u m) (entries u (variant n b))) (m.slots n)
+    may_have_configured u (λ v. unmet (surely_met u m) (entries u v)) n (m.slots n)
 
 abbrev pub some_misses : Universe → May → Bool
 some_misses u m = some_below (names u) (misses_at u m)

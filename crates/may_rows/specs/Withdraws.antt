@@ -6,9 +6,9 @@ use Rattle.deb_relation.specs.Relations.{Entry, Relations}
 use Rattle.farm_model.specs.declared.types.Trap.{Trap}
 use Rattle.farm_model.specs.declared.types.Trap.TheVariants.{WrongState, OverBudget, Essential}
 use Rattle.farm_model.specs.Universe.{Universe}
-use Rattle.farm_model.specs.Packages.{variant, essential, satisfies_entry}
+use Rattle.farm_model.specs.Packages.{essential, satisfies_entry}
 use Rattle.farm_model.specs.Chroot.{entries}
-use Rattle.plan_model.specs.May.{MaySlot, MayAbsent, MayUnpacked, MayConfigured, May, some_of, may_hold_configured, surely_met, is_surely_configured, is_surely_present}
+use Rattle.plan_model.specs.May.{MaySlot, MayAbsent, MayUnpacked, MayConfigured, May, any_of, may_have_configured, surely_met, is_surely_configured, is_surely_present}
 use Rattle.plan_model.specs.MayAt.{may_be_last}
 use Rattle.plan_model.specs.Plan.{Lane, set_cost}
 use Rattle.plan_model.specs.Risk.{may_exceed, some_may_member}
@@ -27,8 +27,7 @@ may_be_withdrawn (MayConfigured current) = MayUnpacked current current
 -- a withdrawn member may have satisfied the entry
 abbrev pub may_have_met : Universe → List ℕ → May → Entry → Bool
 may_have_met u members m e =
-    list_any (λ k. some_of u k (may_be_last (m.slots k)) (λ b. satisfies_entry u e (variant k b)))
-    members
+    list_any (λ k. any_of u k (may_be_last (m.slots k)) (satisfies_entry u e)) members
 
 -- such an entry is not surely met any more
 abbrev pub may_be_missed : Universe → List ℕ → May → Relations → Bool
@@ -38,7 +37,7 @@ may_be_missed u members m es = list_any (λ e. may_have_met u members m e && not
 -- a configured name may hold a variant with such an entry, by name
 abbrev pub needs_at : Universe → List ℕ → May → ℕ → Bool
 needs_at u members m n =
-    may_hold_configured u n (λ b. may_be_missed u members m (entries u (variant n b))) (m.slots n)
+    may_have_configured u (λ v. may_be_missed u members m (entries u v)) n (m.slots n)
 
 -- the tests of a deconfigure that are told before the members are withdrawn
 abbrev pub deconfigure_risks_before : Lane → May → List ℕ → List (Bool × Trap)

@@ -86,51 +86,28 @@ pub record HasName (w : Words) (n : ℕ) : Type 0 where
 
 -- the words with those of one name replaced
 abbrev pub written : Words → ℕ → (here ready last : ℕ) → Words
-written w n here ready last = record {
+written w n here ready last = record w {
   here = slice_set w.here n here;
   ready = slice_set w.ready n ready;
   last = slice_set w.last n last;
   both = slice_set w.both n (joined_word here last);
-  used = w.used;
-  cost = w.cost;
-  built = w.built;
 }
 
 -- the words where so much more was spent
 abbrev pub with_spent : Words → ℕ → Words
-with_spent w cost = record {
-  here = w.here;
-  ready = w.ready;
-  last = w.last;
-  both = w.both;
-  used = w.used;
-  cost = w.cost + cost;
-  built = w.built;
-}
+with_spent w cost = record w { cost = w.cost + cost }
 
 -- the words where this recipe was built too
 abbrev pub with_recipe : Words → ℕ → Words
-with_recipe w r = record {
-  here = w.here;
-  ready = w.ready;
-  last = w.last;
-  both = w.both;
-  used = w.used;
-  cost = w.cost;
-  built = with_built w.built r;
-}
+with_recipe w r = record w { built = with_built w.built r }
 
 -- the map where so much more was spent
 abbrev pub may_spend : May → ℕ → May
-may_spend m cost = record { slots = m.slots; cost = m.cost + cost; built = m.built }
+may_spend m cost = record m { cost = m.cost + cost }
 
 -- the map with the slot of one name replaced
 abbrev pub with_slot : May → ℕ → MaySlot → May
-with_slot m name s = record {
-  slots = λ n. if n == name then s else m.slots n;
-  cost = m.cost;
-  built = m.built;
-}
+with_slot m name s = record m { slots = λ n. if n == name then s else m.slots n }
 
 -- some name has bits in these words, and each is of a variant that passes
 abbrev pub some_name_inside : Universe → List ℕ → (Variant → Bool) → Bool

@@ -5,6 +5,7 @@ use Rattle.std.proofs.lemmas.Bool.{eqb-true, eqb-false, or_parts, eq-eqb, ne_eqb
 use Rattle.std.proofs.lemmas.List.{take_more, get_or-set_same, get_or-set_other, take-append-drop, append-nil}
 use Rattle.std.proofs.lemmas.List.Folds.{list_any-append}
 use Rattle.farm_model.specs.Chroot.{member}
+use Rattle.farm_model.proofs.TestLaws.{eqb-turned, or-four}
 use Rattle.plan_asm.specs.declared.error.TheConstants.{PUBLISHED_TWICE}
 use Rattle.plan_asm.specs.Drafts.{published_once}
 use Rattle.plan_asm.specs.Seen.{Marks}
@@ -18,30 +19,16 @@ pub or-nil : (a : Bool) → (a || false) ≡ a
 or-nil true = refl
 or-nil false = refl
 
-or-four : (a b c d : Bool) → ((a || b) || (c || d)) ≡ ((a || c) || (b || d))
-or-four true b c d = refl
-or-four false true true d = refl
-or-four false true false d = refl
-or-four false false c d = refl
-
-eq-turn : (a b : ℕ) → (a == b) ≡ (b == a)
-eq-turn a b = go (a == b) (b == a) refl refl where
-  go : (s t : Bool) → (a == b) ≡ s → (b == a) ≡ t → (a == b) ≡ (b == a)
-  go true true e f = e ∙ sym f
-  go false false e f = e ∙ sym f
-  go true false e f = absurd (eqb-false b a f (sym (eqb-true a b e)))
-  go false true e f = absurd (eqb-false a b e (sym (eqb-true b a f)))
-
 pub double-push : (ns : List ℕ) (n : ℕ) → has_double (ns ++ n ∷ []) ≡ (has_double ns || member ns n)
 double-push [] n = refl
 double-push (x ∷ ns) n =
-    rw (list_any-append (λ y. y == x) ns (n ∷ []), double-push ns n, eq-turn n x, or-nil (x == n))
+    rw (list_any-append (λ y. y == x) ns (n ∷ []), double-push ns n, eqb-turned n x, or-nil (x == n))
     (or-four (member ns x) (x == n) (has_double ns) (member ns n))
 
 -- a test of equality turned round
 any-turn : (ns : List ℕ) (n : ℕ) → list_any (λ m. n == m) ns ≡ member ns n
 any-turn [] n = refl
-any-turn (x ∷ ns) n = rw (eq-turn n x, any-turn ns n) refl
+any-turn (x ∷ ns) n = rw (eqb-turned n x, any-turn ns n) refl
 
 -- a recipe that is new, and one that is not
 pub new-once : (ns : List ℕ) (n : ℕ) → has_double ns ≡ false → list_any (λ m. n == m) ns ≡ false

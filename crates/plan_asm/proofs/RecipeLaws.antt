@@ -106,8 +106,3 @@ module _ (names : List (List ℕ)) (es : List (Vec ℕ × ℕ)) (are : AreFirstP
       none : (o : Option ℕ) → o ≡ or_else o None
       none None = refl
       none (Some j) = refl
-
--- no name that is there
-pub absent : {X : Type 0} (o : Option X) → is_some o ≡ false → o ≡ None
-absent None e = refl
-absent (Some x) e = absurd (false≢true (sym e))

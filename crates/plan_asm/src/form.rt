@@ -161,6 +161,11 @@ fn read_else<'a>(text: &[u8]) -> Result<Wording<'a>, LineError>
     Ok(Wording::Else)
 }
 
+/// Reads what stands behind `unpack`: a name, and perhaps a relation to a version.
+///
+/// # Errors
+///
+/// [`BadLine`](LineError::BadLine) where it is anything else. 900 where memory ran out.
 pub fn read_unpack<'a>(alloc: Global, text: &[u8]) -> Result<Wording<'a>, LineError>
     ensures { Gives refusal_of_line wording_of result (unpack_form text.now) }
 {
@@ -251,6 +256,11 @@ fn read_wording<'a>(alloc: Global, word: &[u8], rest: &'a [u8]) -> Result<Wordin
 }
 
 /// Reads a line by its first word, and what stands behind it.
+///
+/// # Errors
+///
+/// [`BadLine`](LineError::BadLine) where it is none of the lines that a plan has. 900 where memory
+/// ran out.
 pub fn form_by<'a>(alloc: Global, word: &[u8], rest: &'a [u8]) -> Result<Form<'a>, LineError>
     ensures { Gives refusal_of_line form_of result (form_by word.now rest.now) }
 {

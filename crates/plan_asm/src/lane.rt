@@ -44,6 +44,10 @@ impl Lane {
     }
 
     /// Puts an instruction behind the others.
+    ///
+    /// # Errors
+    ///
+    /// [`AllocError`] where memory is refused.
     pub(crate) fn push(&mut self, instruction: Instruction) -> Result<(), AllocError>
         ensures { OnOk result (self.new ≡ with_instructions self.old (instruction ∷ [])) }
     {
@@ -52,6 +56,10 @@ impl Lane {
     }
 
     /// Puts instructions behind the others.
+    ///
+    /// # Errors
+    ///
+    /// [`AllocError`] where memory is refused.
     pub(crate) fn append(&mut self, mut instructions: Vec<Instruction>) -> Result<(), AllocError>
         ensures { OnOk result (self.new ≡ with_instructions self.old instructions.items) }
     {

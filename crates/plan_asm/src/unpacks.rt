@@ -63,6 +63,10 @@ fn slot_of(text: &[u8]) -> usize {
 
 impl<'t> Unpacks<'t> {
     /// No line so far.
+    ///
+    /// # Errors
+    ///
+    /// [`AllocError`] where memory is refused.
     pub fn new(alloc: Global) -> Result<Unpacks<'t>, AllocError>
         ensures { IfOk result (λ unpacks. unpacks ≡ []) }
     {

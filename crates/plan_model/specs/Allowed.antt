@@ -1,7 +1,7 @@
 -- A chroot is one that a may map allows.
 --
 --   AllowsLast, Allows, AllowsAll       a last configured variant, a slot, a chroot
-use Rattle.std.specs.Prelude.{◌≡◌, ℕ, ◌<◌, true, length, Option, Some, None}
+use Rattle.std.specs.Prelude.{◌≡◌, ℕ, ◌<◌, true, length, Option, Some}
 use Rattle.farm_model.specs.declared.types.Slot.{Slot}
 use Rattle.farm_model.specs.declared.types.Slot.TheVariants.{Absent, Unpacked, Configured}
 use Rattle.farm_model.specs.Universe.{Universe}

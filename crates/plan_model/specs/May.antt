@@ -8,6 +8,7 @@ use Rattle.std.specs.Prelude.{ℕ, Bool, true, false, not, ◌&&◌, ◌||◌, �
 use Rattle.std.specs.List.{list_any}
 use Rattle.deb_relation.specs.Relations.{Entry}
 use Rattle.farm_model.specs.Below.{some_below, every_below, sum_below, greatest_below}
+use Rattle.farm_model.specs.declared.types.Variant.{Variant}
 use Rattle.farm_model.specs.Universe.{Universe}
 use Rattle.farm_model.specs.Packages.{names, variant, variants, size, satisfies, satisfies_entry}
 use Rattle.farm_model.specs.Chroot.{member}
@@ -70,36 +71,60 @@ surely_configured u n p MayAbsent = false
 surely_configured u n p (MayUnpacked current last) = false
 surely_configured u n p (MayConfigured current) = all_of u n current p
 
+-- the same of tests of variants, for the slot of this name: a present variant may pass
+abbrev pub may_have : Universe → (Variant → Bool) → ℕ → MaySlot → Bool
+may_have u p n s = may_hold u n (λ b. p (variant n b)) s
+
+-- a configured variant may pass
+abbrev pub may_have_configured : Universe → (Variant → Bool) → ℕ → MaySlot → Bool
+may_have_configured u p n s = may_hold_configured u n (λ b. p (variant n b)) s
+
+-- a variant is present, and passes whichever it is
+abbrev pub surely_has : Universe → (Variant → Bool) → ℕ → MaySlot → Bool
+surely_has u p n s = surely_holds u n (λ b. p (variant n b)) s
+
+-- a variant is configured, and passes whichever it is
+abbrev pub surely_has_configured : Universe → (Variant → Bool) → ℕ → MaySlot → Bool
+surely_has_configured u p n s = surely_configured u n (λ b. p (variant n b)) s
+
+-- each of these variants of a name passes
+abbrev pub each_of : Universe → ℕ → Bits → (Variant → Bool) → Bool
+each_of u n set p = all_of u n set (λ b. p (variant n b))
+
+-- some of them passes
+abbrev pub any_of : Universe → ℕ → Bits → (Variant → Bool) → Bool
+any_of u n set p = some_of u n set (λ b. p (variant n b))
+
+-- the slot of some name other than this one passes
+abbrev pub some_other_name : Universe → ℕ → May → (ℕ → MaySlot → Bool) → Bool
+some_other_name u name m p = some_name u m (λ n s. not (n == name) && p n s)
+
 -- some configured name satisfies the entry whichever variant it holds
 unfoldable pub surely_met : Universe → May → Entry → Bool
-surely_met u m e = some_name u m
-    (λ n s. surely_configured u n (λ b. satisfies_entry u e (variant n b)) s)
+surely_met u m e = some_name u m (surely_has_configured u (satisfies_entry u e))
 
 -- the same, where members count too
 unfoldable pub surely_met_with : Universe → List ℕ → May → Entry → Bool
 surely_met_with u members m e =
-    some_name u m
-    (λ n s. surely_configured u n (λ b. satisfies_entry u e (variant n b)) s
-    || (member members n && surely_holds u n (λ b. satisfies_entry u e (variant n b)) s))
+    some_name u m (λ n s. surely_has_configured u (satisfies_entry u e) n s
+    || (member members n && surely_has u (satisfies_entry u e) n s))
 
 -- of an unpacked name, for one alternative: there are present and last configured variants, and all
 -- satisfy it
 abbrev pub all_satisfy : Universe → Entry → ℕ → Bits → Bits → Bool
 all_satisfy u e n current last =
     is_some_of u n current && (is_some_of u n last
-    && list_any (λ a. all_of u n current (λ b. satisfies u a (variant n b))
-    && all_of u n last (λ b. satisfies u a (variant n b))) e)
+    && list_any (λ a. each_of u n current (satisfies u a) && each_of u n last (satisfies u a)) e)
 
 -- a name's slot meets the entry ahead of an unpack, whichever variant it holds
 abbrev pub surely_pre_meets : Universe → Entry → ℕ → MaySlot → Bool
 surely_pre_meets u e n MayAbsent = false
 surely_pre_meets u e n (MayUnpacked current last) = all_satisfy u e n current last
-surely_pre_meets u e n (MayConfigured current) =
-    all_of u n current (λ b. satisfies_entry u e (variant n b))
+surely_pre_meets u e n (MayConfigured current) = each_of u n current (satisfies_entry u e)
 
 -- some name other than the one to be unpacked surely meets the entry ahead of the unpack
 unfoldable pub surely_pre_met : Universe → ℕ → May → Entry → Bool
-surely_pre_met u name m e = some_name u m (λ n s. not (n == name) && surely_pre_meets u e n s)
+surely_pre_met u name m e = some_other_name u name m (surely_pre_meets u e)
 
 -- the greatest size of the variants that a name may hold
 abbrev pub greatest_size : Universe → ℕ → Bits → ℕ

@@ -12,7 +12,7 @@ use Rattle.farm_model.specs.Universe.{Universe}
 use Rattle.farm_model.specs.Packages.{recipe, base}
 use Rattle.farm_model.specs.Chroot.{member}
 use Rattle.plan_model.specs.declared.instructions.Instruction.{Instruction}
-use Rattle.plan_model.specs.declared.instructions.Instruction.TheVariants.{Unpack, Configure, Deconfigure, Remove, Build, Publish, Wait, When, Otherwise, EndWhen}
+use Rattle.plan_model.specs.declared.instructions.Instruction.TheVariants.{Unpack, Configure, Deconfigure, Remove, Build, Publish, When, Otherwise, EndWhen}
 use Rattle.plan_model.specs.Plan.{Lane, Plan, lane, instruction_at, set_cost, build_cost, publish_cost}
 use Rattle.plan_model.specs.Turn.{no_builds, with_built, newest}
 use Rattle.plan_model.specs.Known.{Rows, possible}
@@ -32,10 +32,9 @@ abbrev pub may_unpack : Universe → (Variant → Bool) → May → ℕ → Opti
 may_unpack u there m name wanted None = m
 may_unpack u there m name wanted (Some highest) =
     let set = candidates u there name wanted highest in
-    record {
+    record m {
       slots = λ n. if n == name then MayUnpacked set (may_be_last (m.slots n)) else m.slots n;
       cost = m.cost + greatest_cost u name set;
-      built = m.built;
     }
 
 -- a slot after its variant is configured
@@ -52,12 +51,9 @@ may_be_deconfigured (MayConfigured current) = MayUnpacked current current
 
 -- each member's slot changed
 abbrev pub may_change : (MaySlot → MaySlot) → May → List ℕ → May
-may_change f m members = record {
-  slots =
-      λ n. if member members n then f (m.slots n) else m.slots n;
-  cost =
-      m.cost + set_cost members;
-  built = m.built;
+may_change f m members = record m {
+  slots = λ n. if member members n then f (m.slots n) else m.slots n;
+  cost = m.cost + set_cost members;
 }
 
 -- the map after an instruction
@@ -68,13 +64,9 @@ may_after u known there m (Configure members) = may_change may_be_configured m m
 may_after u known there m (Deconfigure members) = may_change may_be_deconfigured m members
 may_after u known there m (Remove members) = may_change (λ s. MayAbsent) m members
 may_after u known there m (Build r) =
-    record {
-      slots = m.slots;
-      cost = m.cost + build_cost (recipe u r);
-      built = with_built m.built r;
-    }
+    record m { cost = m.cost + build_cost (recipe u r); built = with_built m.built r }
 may_after u known there m (Publish r) =
-    record { slots = m.slots; cost = m.cost + publish_cost u r; built = m.built }
+    record m { cost = m.cost + publish_cost u r }
 may_after u known there m _ = m
 
 -- a slot of a base chroot: the package found, and no other
@@ -102,13 +94,13 @@ pub record Maps : Type 0 where
 -- behind an instruction: both branches begin with the map ahead of their `when`
 abbrev pub maps_behind : Universe → (Variant → Bool) → (Variant → Bool) → Maps → Instruction → Maps
 maps_behind u known there m (When name wanted) =
-    record { here = m.here; ahead = m.here; first = m.first }
+    record m { ahead = m.here }
 maps_behind u known there m Otherwise =
-    record { here = m.ahead; ahead = m.ahead; first = m.here }
+    record m { here = m.ahead; first = m.here }
 maps_behind u known there m EndWhen =
-    record { here = joined u m.first m.here; ahead = m.ahead; first = m.first }
+    record m { here = joined u m.first m.here }
 maps_behind u known there m x =
-    record { here = may_after u known there m.here x; ahead = m.ahead; first = m.first }
+    record m { here = may_after u known there m.here x }
 
 -- behind the instruction that is there, if any
 abbrev pub maps_behind_some : Universe → (Variant → Bool) → (Variant → Bool) → Maps

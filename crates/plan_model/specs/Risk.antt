@@ -4,7 +4,7 @@
 --
 --   candidates                  the variants that an unpack may take
 --   unpack_risks, .., risk      the tests of each instruction; the first trap that it may meet
-use Rattle.std.specs.Prelude.{ℕ, ◌+◌, Bool, not, ◌&&◌, ◌||◌, ◌==◌, nat_lt, nat_le, List, [], ◌∷◌, Option, Some, None}
+use Rattle.std.specs.Prelude.{ℕ, ◌+◌, Bool, not, ◌&&◌, ◌||◌, nat_lt, nat_le, List, [], ◌∷◌, Option, Some, None}
 use Rattle.std.specs.List.{list_any}
 use Rattle.deb_relation.specs.declared.operator.Op.{Op}
 use Rattle.deb_relation.specs.Relations.{Entry}
@@ -19,7 +19,7 @@ use Rattle.plan_model.specs.declared.instructions.Instruction.{Instruction}
 use Rattle.plan_model.specs.declared.instructions.Instruction.TheVariants.{Unpack, Configure, Deconfigure, Remove, Build, Publish}
 use Rattle.plan_model.specs.Plan.{Lane, capacity, size_cost, set_cost, build_cost, publish_cost}
 use Rattle.plan_model.specs.Turn.{was_built, newest}
-use Rattle.plan_model.specs.May.{Bits, MaySlot, May, some_of, some_name, may_hold, may_hold_configured, surely_configured, surely_met, surely_met_with, surely_pre_met, greatest_size, may_use, is_surely_unpacked, is_surely_configured, is_surely_present}
+use Rattle.plan_model.specs.May.{Bits, May, any_of, some_name, some_other_name, may_have, may_have_configured, surely_has_configured, surely_met, surely_met_with, surely_pre_met, greatest_size, may_use, is_surely_unpacked, is_surely_configured, is_surely_present}
 
 -- the variants that an unpack may take: those that may be there and are wanted, from the highest
 -- known one up
@@ -35,28 +35,31 @@ greatest_cost u name set = size_cost (greatest_size u name set)
 abbrev pub may_exceed : Lane → May → ℕ → Bool
 may_exceed of m cost = nat_lt of.budget (m.cost + cost)
 
--- an unpack of one of these variants, for each of them
-abbrev pub unpack_risks : Universe → Lane → May → ℕ → Bits → List (Bool × Trap)
-unpack_risks u of m name set =
+-- an unpack of one of these variants, for each of them, where an entry is `met` ahead of it and so
+-- much space is `used`
+abbrev pub unpack_risks_by : Universe → Lane → May → ℕ → Bits → (met : Entry → Bool) → (used : ℕ)
+    → List (Bool × Trap)
+unpack_risks_by u of m name set met used =
     (may_exceed of m (greatest_cost u name set), OverBudget)  -- X14
     ∷ (
-      some_of u name set (λ b. unmet (surely_pre_met u name m) (pre_depends u (variant name b))),
+      any_of u name set (λ v. unmet met (pre_depends u v)),
       PreDepends,  -- X2
     )
     ∷ (
-      some_of u name set (λ b. some_name u m
-          (λ n s. not (n == name) && may_hold u n
-          (λ d. conflict u (variant name b) (variant n d)) s)),
+      any_of u name set (λ v. some_other_name u name m (may_have u (conflict u v))),
       Conflict,  -- X3
     )
     ∷ (
-      some_of u name set (λ b. some_name u m
-          (λ n s. not (n == name) && may_hold_configured u n
-          (λ d. breaks u (variant name b) (variant n d)) s)),
+      any_of u name set (λ v. some_other_name u name m (may_have_configured u (breaks u v))),
       BreaksOther,  -- X4
     )
-    ∷ (nat_lt (capacity u of) (may_use u m + greatest_size u name set), Full)  -- X5
+    ∷ (nat_lt (capacity u of) (used + greatest_size u name set), Full)  -- X5
     ∷ []
+
+-- the same, where it is surely met under the map, and what the map may hold is there
+abbrev pub unpack_risks : Universe → Lane → May → ℕ → Bits → List (Bool × Trap)
+unpack_risks u of m name set =
+    unpack_risks_by u of m name set (surely_pre_met u name m) (may_use u m)
 
 -- no known variant is wanted, or the highest one is this
 abbrev pub unpack_risk : Universe → (Variant → Bool) → Lane → May → ℕ → Option (Op × List ℕ)
@@ -68,7 +71,7 @@ unpack_risk u there of m name wanted (Some highest) =
 -- some variant that a member may hold passes
 abbrev pub some_may_member : Universe → List ℕ → May → (Variant → Bool) → Bool
 some_may_member u members m p =
-    list_any (λ k. may_hold u k (λ b. p (variant k b)) (m.slots k)) members
+    list_any (λ k. may_have u p k (m.slots k)) members
 
 -- configure: each test of its traps, for every variant that a member may hold
 abbrev pub configure_risks : Universe → Lane → May → List ℕ → List (Bool × Trap)
@@ -85,8 +88,7 @@ configure_risks u of m members =
     )
     ∷ (
       some_may_member u members m
-          (λ v. some_name u m (λ n s. not (n == v.name)
-          && may_hold u n (λ b. breaks u (variant n b) v) s)),
+          (λ v. some_other_name u v.name m (may_have u (λ other. breaks u other v))),
       Broken,  -- X8
     )
     ∷ []
@@ -95,12 +97,12 @@ configure_risks u of m members =
 unfoldable pub surely_met_outside : Universe → List ℕ → May → Entry → Bool
 surely_met_outside u members m e =
     some_name u m (λ n s. not (member members n)
-    && surely_configured u n (λ b. satisfies_entry u e (variant n b)) s)
+    && surely_has_configured u (satisfies_entry u e) n s)
 
 -- a configured member may satisfy the entry
 unfoldable pub may_meet : Universe → List ℕ → May → Entry → Bool
 may_meet u members m e = some_name u m
-    (λ n s. member members n && may_hold_configured u n (λ b. satisfies_entry u e (variant n b)) s)
+    (λ n s. member members n && may_have_configured u (satisfies_entry u e) n s)
 
 -- an entry of a variant that a configured name outside the set may hold: a member may meet it, and
 -- no other surely does
@@ -108,9 +110,8 @@ unfoldable pub may_be_needed : Universe → List ℕ → May → Bool
 may_be_needed u members m =
     some_name u m
     (λ n s. not (member members n)
-    && may_hold_configured u n (λ b. list_any
-    (λ e. may_meet u members m e && not (surely_met_outside u members m e))
-    (entries u (variant n b))) s)
+    && may_have_configured u (λ v. list_any
+    (λ e. may_meet u members m e && not (surely_met_outside u members m e)) (entries u v)) n s)
 
 -- deconfigure: each test of its traps
 abbrev pub deconfigure_risks : Universe → Lane → May → List ℕ → List (Bool × Trap)
@@ -132,8 +133,7 @@ remove_risks u of m members =
 -- a present name may be unpacked alone, or hold a variant with an entry that is not surely met
 unfoldable pub may_be_unsettled : Universe → May → Bool
 may_be_unsettled u m = some_name u m
-    (λ n s. is_surely_unpacked s || may_hold u n
-    (λ b. unmet (surely_met u m) (entries u (variant n b))) s)
+    (λ n s. is_surely_unpacked s || may_have u (λ v. unmet (surely_met u m) (entries u v)) n s)
 
 -- build: each test of its traps
 abbrev pub build_risks : Universe → Lane → May → Recipe → List (Bool × Trap)
@@ -141,10 +141,7 @@ build_risks u of m r =
     (may_exceed of m (build_cost r), OverBudget)  -- X14
     ∷ (may_be_unsettled u m, Unsettled)  -- X10
     ∷ (unmet (surely_met u m) r.needs, BuildDepends)  -- X11
-    ∷ (
-      some_name u m (λ n s. may_hold u n (λ b. satisfies_any u r.clashes (variant n b)) s),
-      BuildConflict,  -- X12
-    )
+    ∷ (some_name u m (may_have u (satisfies_any u r.clashes)), BuildConflict)  -- X12
     ∷ (nat_lt (capacity u of) (may_use u m + r.scratch), Full)  -- X5
     ∷ []
 

@@ -76,34 +76,27 @@ pub data Turn : Type 0 where
 
 -- the lane behind its instruction
 abbrev pub past : Lane → LaneState → ℕ → Chroot → LaneState
-past of st cost chroot = record {
+past of st cost chroot = record st {
   done = next_place of st.done;
   made = 0;
   chroot = chroot;
-  spent =
-      st.spent + cost;
-  built = st.built;
+  spent = st.spent + cost;
 }
 
 -- the lane behind a build
 abbrev pub past_build : Lane → LaneState → ℕ → ℕ → LaneState
-past_build of st cost r = record {
+past_build of st cost r = record st {
   done = next_place of st.done;
   made = 0;
-  chroot = st.chroot;
-  spent =
-      st.spent + cost;
+  spent = st.spent + cost;
   built = with_built st.built r;
 }
 
 -- the lane behind a `when`: in its first branch where it holds, else in its second one
 abbrev pub past_when : Lane → LaneState → Bool → LaneState
-past_when of st holds = record {
+past_when of st holds = record st {
   done = if holds then next_place of st.done else else_place of st.done;
   made = 0;
-  chroot = st.chroot;
-  spent = st.spent;
-  built = st.built;
 }
 
 -- goes on, unless there is a trap
@@ -132,14 +125,7 @@ unpacks u of st name (Some b) =
 abbrev pub given : Lane → ℕ → LaneState → ℕ → LaneState
 given of count st cost =
     if nat_lt (suc st.made) count
-    then record {
-      done = st.done;
-      made = suc st.made;
-      chroot = st.chroot;
-      spent =
-          st.spent + cost;
-      built = st.built;
-    }
+    then record st { made = suc st.made; spent = st.spent + cost }
     else past of st cost st.chroot
 
 -- a publish is charged whole with its first output

@@ -77,7 +77,7 @@ with_bit words v = slice_set words v.name (bit_or (slice_index words v.name) (2 
 
 -- the lane's turn in the world; none where it does not step
 abbrev pub world_after : World → ℕ → Turn → Option World
-world_after w l (Goes next) = Some (record { words = w.words; lanes = slice_set w.lanes l next })
+world_after w l (Goes next) = Some (record w { lanes = slice_set w.lanes l next })
 world_after w l (Gives next v) =
     Some (record { words = with_bit w.words v; lanes = slice_set w.lanes l next })
 world_after w l _ = None

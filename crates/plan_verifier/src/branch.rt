@@ -31,6 +31,10 @@ pub struct LaneMay {
 
 impl LaneMay {
     /// Goes behind a `when`, whose branches begin with what may be held ahead of it.
+    ///
+    /// # Errors
+    ///
+    /// [`AllocError`] where memory is refused.
     pub fn begin(&mut self, at: u32) -> Result<(), AllocError>
         ensures { OnOk result (self.new ≡ record {
           here = self.old.here;

@@ -5,8 +5,8 @@
 use Rattle.std.specs.Prelude.{ℕ, Bool, not, ◌&&◌, nat_lt, if◌then◌else◌}
 use Rattle.deb_relation.specs.Relations.{Entry}
 use Rattle.farm_model.specs.Universe.{Universe}
-use Rattle.farm_model.specs.Packages.{variant, satisfies_entry}
-use Rattle.plan_model.specs.May.{MaySlot, MayAbsent, MayUnpacked, MayConfigured, May, some_name, may_hold, surely_met}
+use Rattle.farm_model.specs.Packages.{satisfies_entry}
+use Rattle.plan_model.specs.May.{MaySlot, MayAbsent, MayUnpacked, MayConfigured, May, some_name, may_have, surely_met}
 
 -- a slot where it is configured, else nothing
 abbrev pub configured_alone : MaySlot → MaySlot
@@ -22,15 +22,12 @@ kept_slot (MayConfigured current) s = MayAbsent
 
 -- the map where that alone is kept of the names below k
 abbrev pub kept_below : (other m : May) → ℕ → May
-kept_below other m k = record {
-  slots =
-      λ n. if nat_lt n k then kept_slot (other.slots n) (m.slots n) else m.slots n;
-  cost = m.cost;
-  built = m.built;
+kept_below other m k = record m {
+  slots = λ n. if nat_lt n k then kept_slot (other.slots n) (m.slots n) else m.slots n;
 }
 
 -- what the one map holds may meet the entry, and the other does not surely meet it
 abbrev pub needs_inside : Universe → (inside outside : May) → Entry → Bool
 needs_inside u inside outside e =
-    some_name u inside (λ n s. may_hold u n (λ b. satisfies_entry u e (variant n b)) s)
+    some_name u inside (may_have u (satisfies_entry u e))
     && not (surely_met u outside e)

@@ -16,6 +16,7 @@ use Rattle.plan_model.specs.declared.instructions.Instruction.TheVariants.{Publi
 use Rattle.plan_model.specs.Plan.{Plan, lane, instruction_at}
 use Rattle.plan_model.specs.Known.{Rows, gives, within_reach, possible, IsFact, Follows, is_of, Adds}
 use Rattle.farm_laws.proofs.Archive.{same-true, same-refl, list_any-take}
+use Rattle.farm_model.proofs.VariantLaws.{contained, name_within}
 use Rattle.verdict_laws.specs.Greatest.{every_variant, is_that, follows_at, is_fact, follows, adds}
 
 pub every_variant-all : (u : Universe) (test : Variant → Bool) → ((v : Variant) → test v ≡ true)
@@ -24,32 +25,12 @@ every_variant-all u test h =
     every_below-all (names u) _ (λ n lt. every_below-all (variants u n) _
     (λ b lt'. h (variant n b)))
 
--- a name with a variant is a name of the universe
-name_within : (u : Universe) (v : Variant) → IsKnown u v → v.name < names u
-unfolding names variants
-name_within u v known =
-    elim (cases_lt v.name (length u.packages)) [
-      | inl lt ↦ lt
-      | inr past ↦ let none : length (get_or u.packages v.name []) ≡ 0 =
-          ap length (get_or_past u.packages v.name [] past) in absurd (omega (arith, none, known))
-    ]
-
 pub every_variant-at : (u : Universe) (test : Variant → Bool) (v : Variant) → IsKnown u v
     → every_variant u test ≡ true → test v ≡ true
 every_variant-at u test v known e =
     every_below-at (variants u v.name) (λ b. test (variant v.name b)) v.bit known
     (every_below-at (names u) (λ n. every_below (variants u n) (λ b. test (variant n b))) v.name
     (name_within u v known) e)
-
-contained : (P : Variant → Type 0) (vs : List Variant) (v : Variant) → All P vs
-    → contains vs v ≡ true → P v
-contained P [] v all e = absurd (false≢true e)
-contained P (w ∷ ws) v all e =
-    elim (or_cases (same w v) _ e) [
-      | inl here ↦ subst P (same-true w v here)
-          (All-head P w ws all)
-      | inr rest ↦ contained P ws v (All-tail P w ws all) rest
-    ]
 
 given_by : (P : Type 0) (test : Instruction → Bool) (xs : List Instruction)
     → ((x : Instruction) → test x ≡ true → P) → list_any test xs ≡ true → P

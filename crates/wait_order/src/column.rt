@@ -187,6 +187,10 @@ fn are_settled(lane: usize, total: u64, points: &[Point], x: &[u64], late: &[usi
 
 /// The greatest counts of the outputs of one lane, of which there are `total`. `visit` decides the
 /// time and not the answer: where no point is late, one look at each is all.
+///
+/// # Errors
+///
+/// [`AllocError`] where memory is refused.
 pub fn column(
     alloc: Global,
     lane: usize,

@@ -31,6 +31,10 @@ impl Model for Counts {
 
 impl Counts {
     /// The count of one point.
+    ///
+    /// # Errors
+    ///
+    /// [`AllocError`] where memory is refused.
     pub fn one(alloc: Global, count: u64) -> Result<Counts, AllocError>
         ensures { IfOk result (λ counts. counts ≡ count ∷ []) }
     {
@@ -49,6 +53,10 @@ impl Counts {
 }
 
 /// The greatest counts of each lane's outputs.
+///
+/// # Errors
+///
+/// [`AllocError`] where memory is refused.
 pub fn columns(
     alloc: Global,
     lanes: &[LaneOutputs],

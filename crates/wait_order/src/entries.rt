@@ -110,6 +110,10 @@ fn is_same(a: &Entry, b: &Entry) -> bool
 
 impl<'p> Entries<'p> {
     /// Makes the empty list of entries.
+    ///
+    /// # Errors
+    ///
+    /// [`AllocError`] where memory is refused.
     pub fn new(alloc: Global) -> Result<Entries<'p>, AllocError>
         ensures { IfOk result (λ entries. entries ≡ []) }
     {
@@ -127,6 +131,10 @@ impl<'p> Entries<'p> {
     }
 
     /// The number of an entry, which is put behind the others where it is not known to be there.
+    ///
+    /// # Errors
+    ///
+    /// [`AllocError`] where memory is refused.
     pub fn number(&mut self, entry: &'p Entry) -> Result<usize, AllocError>
         ensures at { IfOk result (λ number. slice_get self.new number ≡ Some entry.now) }
         ensures longer { IsLonger self.old self.new }

@@ -158,6 +158,10 @@ fn behind(instruction: &Instruction, next: usize, last: LastPoints) -> LastPoint
 }
 
 /// Goes past one instruction of a lane.
+///
+/// # Errors
+///
+/// [`AllocError`] where memory is refused.
 pub fn pass(
     universe: &Universe,
     at: LaneAt<'_>,
@@ -231,6 +235,10 @@ fn walk_lane(
 }
 
 /// Goes over all lanes.
+///
+/// # Errors
+///
+/// [`AllocError`] where memory is refused.
 pub fn walk(alloc: Global, universe: &Universe, plan: &Plan) -> Result<Marks, AllocError>
     ensures marks { IfOk result (λ found. found.marks.items
         ≡ all_marks universe.now plan.now.lanes (length plan.now.lanes)) }

@@ -65,6 +65,10 @@ fn totals(alloc: Global, lanes: &[LaneOutputs]) -> Result<Vec<Counts>, AllocErro
 
 impl Outputs {
     /// Puts the outputs of the lanes together.
+    ///
+    /// # Errors
+    ///
+    /// [`AllocError`] where memory is refused.
     pub(crate) fn of_lanes(
         alloc: Global,
         universe: &Universe,
@@ -132,6 +136,10 @@ impl Outputs {
     }
 
     /// The variants of all names, as a row. `archive` is the initial archive.
+    ///
+    /// # Errors
+    ///
+    /// [`AllocError`] where memory is refused.
     pub(crate) fn row(
         &self,
         alloc: Global,

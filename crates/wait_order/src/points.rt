@@ -281,6 +281,10 @@ fn point_of<'p>(
 }
 
 /// The points of a plan.
+///
+/// # Errors
+///
+/// [`AllocError`] where memory is refused.
 pub fn points(
     alloc: Global,
     universe: &Universe,

@@ -109,6 +109,10 @@ fn make<'p>(
 }
 
 /// Takes a lane on as far as it goes, and tells whether it moved.
+///
+/// # Errors
+///
+/// [`AllocError`] where memory is refused.
 pub fn advance<'p>(
     course: Course<'p>,
     number: u32,

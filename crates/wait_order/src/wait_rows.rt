@@ -52,6 +52,10 @@ fn is_met(archive: &Row, row: &Row) -> bool
 
 impl<'p> WaitRows<'p> {
     /// Makes the rows of no entry.
+    ///
+    /// # Errors
+    ///
+    /// [`AllocError`] where memory is refused.
     pub fn new(alloc: Global, universe: &Universe) -> Result<WaitRows<'p>, AllocError>
         ensures { IfOk result (λ rows. rows ≡ universe.now) }
     {
@@ -63,6 +67,10 @@ impl<'p> WaitRows<'p> {
     }
 
     /// Tells whether a wait passes.
+    ///
+    /// # Errors
+    ///
+    /// [`AllocError`] where memory is refused.
     pub fn passes(
         &mut self,
         alloc: Global,

@@ -3,7 +3,8 @@ use Rattle.indexmap.proofs.CallerLemmas.{insert_entry-new}
 use Rattle.std.specs.Map.{lookup}
 use Rattle.std.specs.Str.{bytes_eq}
 use Rattle.std.specs.Prelude.{None}
-use Rattle.plan_asm.proofs.RecipeLaws.{absent, firsts-old, firsts-put}
+use Rattle.plan_asm.proofs.RecipeLaws.{firsts-old, firsts-put}
+use Rattle.plan_asm.proofs.WriteLaws.{lookup-none}
 use Rattle.plan_asm.proofs.recipe_numbers.put_name.Goals as goal
 
 pub returns-then-contains_key : goal.returns-then-contains_key
@@ -17,6 +18,6 @@ returns c before number are =
     let same = c.in_ok-from_slice.ensures.items in
     let new : lookup (λ k. bytes_eq key.items k.items) c.args.numbers.now.entries ≡ None =
     subst (λ z. lookup (λ k. bytes_eq z k.items) c.args.numbers.now.entries ≡ None) (sym same)
-    (absent _ (sym c.contains_key.ensures ∙ c.if-contains_key.false)) in
+    (lookup-none _ (sym c.contains_key.ensures ∙ c.if-contains_key.false)) in
     firsts-put before c.args.numbers.now.entries are _ key c.args.name.now c.args.number same number
     (c.in_ok-insert.ensures.entries ∙ insert_entry-new _ c.args.numbers.now key _ new)
