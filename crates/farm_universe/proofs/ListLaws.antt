@@ -1,22 +1,22 @@
 -- The lists of variants so far are what the items so far say.
-use Rattle.std.proofs.Common.{◌≡◌, ℕ, ◌<◌, ◌≤◌, Bool, true, false, nat_lt, List, [], ◌∷◌, ◌++◌, length, refl, sym, ap, subst, ◌∙◌, true≢false, eqb, eq-eqb, arith, All, Some, Ok, Err, zero, suc, Option, None, Result, inl, inr, ◌||◌}
+use Rattle.std.proofs.Common.{◌≡◌, ℕ, ◌<◌, ◌≤◌, Bool, true, false, nat_lt, List, [], ◌∷◌, ◌++◌, length, refl, sym, ap, subst, ◌∙◌, true≢false, eqb, arith, All, Some, Ok, Err, zero, suc, Option, None, Result, inl, inr}
 use Rattle.std.specs.Int.{bit_at}
 use Rattle.std.specs.Prelude.{slice_get}
-use Rattle.std.proofs.lemmas.Bool.{and_parts, eqb-true, ltb-true, ltb-false}
+use Rattle.std.proofs.lemmas.Bool.{ltb-true, ltb-false}
 use Rattle.std.proofs.lemmas.List.{get_or_past}
-use Rattle.std.proofs.lemmas.List.Elements.{All-nil, All-push, All-head, All-tail}
+use Rattle.std.proofs.lemmas.List.Elements.{All-nil, All-push}
 use Rattle.std.proofs.lemmas.Nat.Bits.{bit_at-zero}
 use Rattle.deb_text.specs.Steps.{answer, or_else, first_fault, judged, steps, good_before, goods, own_or, item_fault}
 use Rattle.deb_text.proofs.StepLaws.{steps-judged}
 use Rattle.deb_relation.specs.Relations.{Entry}
 use Rattle.farm_model.specs.declared.types.Variant.{Variant}
 use Rattle.farm_model.specs.Packages.{same, contains, has_bit}
-use Rattle.farm_model.proofs.VariantLaws.{same-refl, same-true, contained}
+use Rattle.farm_model.proofs.VariantLaws.{same-refl, contained}
 use Rattle.item_index.proofs.ItemLaws.{any-at}
 use Rattle.farm_universe.specs.declared.error.TheConstants.{TWICE}
 use Rattle.farm_universe.specs.declared.list.VariantList.{VariantList}
 use Rattle.farm_universe.specs.FarmSteps.{add_variant, add_item, word_set}
-use Rattle.farm_universe.specs.FarmView.{IsListed, IsPlace, AreWords, IsOnce, AreListed}
+use Rattle.farm_universe.specs.FarmView.{IsListed, IsPlace, AreWords, IsOnce, AreDifferent, AreListed}
 use Rattle.farm_universe.specs.ListText.{variant_at, twice, variants_in, words_of}
 use Rattle.farm_universe.specs.PackagesText.{PackageTable}
 use Rattle.farm_universe.proofs.ArchiveLaws.{length-words_of, words_of-push, get_or-words_of, bit_at-word_of}
@@ -97,37 +97,66 @@ AreListed-push table list new v is place none variants words = record {
   once = subst IsOnce (sym variants) (IsOnce-push list.variants.items v is.once none);
 }
 
+IsOnce-none : IsOnce []
+IsOnce-none zero j v vi vj = absurd cc
+IsOnce-none (suc i) j v vi vj = absurd cc
+
 -- a list without a variant
 pub AreListed-none : (table : PackageTable) (list : VariantList) → list.variants.items ≡ []
     → list.words.items ≡ words_of (length table.names) [] → AreListed table list
 AreListed-none table list none words = record {
   words = words ∙ ap (words_of (length table.names)) (sym none);
   known = subst (All (IsPlace table)) (sym none) (All-nil (IsPlace table));
-  once = subst IsOnce (sym none) nothing;
-} where
-  nothing : IsOnce []
-  nothing zero j v vi vj = absurd cc
-  nothing (suc i) j v vi vj = absurd cc
+  once = subst IsOnce (sym none) IsOnce-none;
+}
 
 -- an item whose variant stands in the list, and one whose variant does not
+module _ (table : PackageTable) (vs : List Variant) (entry : Entry) (v : Variant)
+    (read : variant_at table entry ≡ Ok v) where
+  pub item-twice : contains vs v ≡ true → add_item table vs entry ≡ Err TWICE
+  unfolding add_item add_variant
+  item-twice there = rw (read, there) refl
+
+  pub item-new : contains vs v ≡ false → add_item table vs entry ≡ Ok (vs ++ v ∷ [])
+  unfolding add_item add_variant
+  item-new none = rw (read, none) refl
+
+-- the same where words tell it
 module _ (table : PackageTable) (list : VariantList) (entry : Entry) (v : Variant)
     (is : AreListed table list) (place : IsPlace table v) (read : variant_at table entry ≡ Ok v)
   where
     pub add_item-twice : has_bit list.words.items v ≡ true
         → add_item table list.variants.items entry ≡ Err TWICE
-    unfolding add_item add_variant
     add_item-twice set =
-        let there : contains list.variants.items v ≡ true =
-        sym (has_bit-listed table list is v place.name) ∙ set in
-        rw (read, there) refl
+        item-twice table list.variants.items entry v read
+        (sym (has_bit-listed table list is v place.name) ∙ set)
 
     pub add_item-new : has_bit list.words.items v ≡ false
         → add_item table list.variants.items entry ≡ Ok (list.variants.items ++ v ∷ [])
-    unfolding add_item add_variant
     add_item-new free =
-        let none : contains list.variants.items v ≡ false =
-        sym (has_bit-listed table list is v place.name) ∙ free in
-        rw (read, none) refl
+        item-new table list.variants.items entry v read
+        (sym (has_bit-listed table list is v place.name) ∙ free)
+
+-- ---- lists without words
+
+pub AreDifferent-none : (table : PackageTable) (vs : List Variant) → vs ≡ []
+    → AreDifferent table vs
+AreDifferent-none table vs none = record {
+  known = subst (All (IsPlace table)) (sym none) (All-nil (IsPlace table));
+  once = subst IsOnce (sym none) IsOnce-none;
+}
+
+pub AreDifferent-push : (table : PackageTable) (vs new : List Variant) (v : Variant)
+    → AreDifferent table vs → IsPlace table v → contains vs v ≡ false → new ≡ vs ++ v ∷ []
+    → AreDifferent table new
+AreDifferent-push table vs new v are place none is = record {
+  known = subst (All (IsPlace table)) (sym is) (All-push (IsPlace table) vs v are.known place);
+  once = subst IsOnce (sym is) (IsOnce-push vs v are.once none);
+}
+
+pub AreDifferent-listed : (table : PackageTable) (list : VariantList) → AreListed table list
+    → AreDifferent table list.variants.items
+AreDifferent-listed table list are = record { known = are.known; once = are.once }
 
 -- item by item the reader gives what all of them say
 pub steps-variants_in : (table : PackageTable) (entries : List Entry)

@@ -1,9 +1,10 @@
 -- One recipe more: what is true of the recipes so far stays true.
-use Rattle.std.proofs.Common.{◌≡◌, ℕ, zero, suc, ◌+◌, ◌<◌, ◌≤◌, Bool, true, false, List, [], ◌∷◌, ◌++◌, map, sum, drop, length, length-append, length-set, get_or, refl, sym, ap, subst, ◌∙◌, true≢false, eqb, arith, All, Some, Ok, codes, inl, inr, ◌⊎◌, ◌||◌, ◌&&◌}
+use Rattle.std.proofs.Common.{◌≡◌, ℕ, zero, suc, ◌+◌, ◌<◌, ◌≤◌, Bool, true, false, List, [], ◌∷◌, ◌++◌, map, sum, drop, Option, None, length, length-append, length-set, get_or, refl, sym, ap, subst, ◌∙◌, true≢false, eqb, arith, All, Some, Ok, codes, inl, inr, ◌⊎◌, ◌||◌, ◌&&◌}
 use Rattle.std.specs.Int.{bit_at}
 use Rattle.std.specs.Prelude.{slice_get}
 use Rattle.std.specs.List.{list_any}
 use Rattle.std.proofs.Math.Bool.{or_assoc, or-false}
+use Rattle.std.proofs.lemmas.Option.{none-some}
 use Rattle.std.proofs.lemmas.Bool.{eqb-true, eqb-false, or_parts, or_right}
 use Rattle.std.proofs.lemmas.Grind.{get_or-set_at}
 use Rattle.std.proofs.lemmas.List.{get_or-set_other, map_push, at_drop_more}
@@ -12,6 +13,8 @@ use Rattle.std.proofs.lemmas.List.Folds.{list_any-append}
 use Rattle.std.proofs.lemmas.List.Sums.{fold-append}
 use Rattle.deb_stanza.specs.Stanza.{Paragraph, value_of}
 use Rattle.deb_text.specs.Steps.{◌>>=◌}
+use Rattle.deb_text.proofs.ListLaws.{bytes-same}
+use Rattle.std.specs.Str.{bytes_eq}
 use Rattle.farm_model.specs.declared.types.Variant.{Variant}
 use Rattle.farm_model.specs.Packages.{same, contains, has_bit}
 use Rattle.farm_model.specs.Universe.{Recipe}
@@ -19,13 +22,69 @@ use Rattle.farm_universe.specs.declared.recipes.RecipeList.{RecipeList}
 use Rattle.farm_universe.specs.Fields.{refused_if}
 use Rattle.farm_universe.specs.declared.error.TheConstants.{TAKEN}
 use Rattle.farm_universe.specs.FarmSteps.{word_set, taken_with}
-use Rattle.farm_universe.specs.FarmView.{IsPlace, AreNew, IsNew, IsRecipe, outputs_of, GivesOnce, AreTaken, AreRecipes}
+use Rattle.item_index.specs.Items.{item, listed, IsKept, IsListed as IsListedUnder}
+use Rattle.item_index.specs.declared.item.Item.{Item}
+use Rattle.farm_universe.specs.Among.{holds}
+use Rattle.farm_universe.specs.FarmView.{AreNamed, IsPlace, AreNew, IsNew, IsRecipe, outputs_of, GivesOnce, AreTaken, AreRecipes}
 use Rattle.farm_universe.specs.Land.{Land}
 use Rattle.farm_universe.specs.ListText.{with_bit}
 use Rattle.farm_universe.specs.RecipeText.{outputs_at, is_taken, new_outputs, build_entries}
 use Rattle.farm_universe.proofs.ArchiveLaws.{bit-with_bit}
-use Rattle.item_index.proofs.ItemLaws.{any-at}
+use Rattle.farm_universe.proofs.ListFacts.{slice_get-push}
+use Rattle.item_index.proofs.ItemLaws.{any-at, any-found}
+use Rattle.farm_model.proofs.TestLaws.{same_tests}
 use Rattle.farm_model.proofs.VariantLaws.{same-refl}
+
+-- ---- names
+
+-- a recipe of this name is among those listed under it
+pub AreNamed-none : (lists : List (List (Item ℕ))) (rs : List Recipe) → rs ≡ [] → AreNamed lists rs
+AreNamed-none lists rs none k r at =
+    absurd (none-some r (sym (ap (λ xs. slice_get xs k) none) ∙ at))
+
+pub AreNamed-push : (lists more : List (List (Item ℕ))) (rs new : List Recipe) (r : Recipe)
+    → AreNamed lists rs → IsKept lists more → IsListedUnder more r.name (item (length rs) 0 0)
+    → new ≡ rs ++ r ∷ [] → AreNamed more new
+AreNamed-push lists more rs new r are kept there is k q at =
+    elim (slice_get-push rs r k q (sym (ap (λ xs. slice_get xs k) is) ∙ at)) [
+      | inl before ↦ kept q.name (item k 0 0) (are k q before)
+      | inr last ↦
+          subst (λ n. IsListedUnder more q.name (item n 0 0)) (sym last.0)
+          (subst (λ (x : Recipe). IsListedUnder more x.name (item (length rs) 0 0)) last.1 there)
+    ]
+
+-- the recipe of the number that an item has goes by the name
+abbrev pub has_name : List Recipe → List ℕ → Item ℕ → Bool
+has_name rs name at = holds (λ (r : Recipe). bytes_eq name r.name) (slice_get rs at.owner)
+
+pub named_is : (lists : List (List (Item ℕ))) (rs : List Recipe) (name : List ℕ)
+    → AreNamed lists rs
+    → list_any (has_name rs name) (listed lists name)
+    ≡ list_any (λ (r : Recipe). bytes_eq name r.name) rs
+named_is lists rs name are = same_tests _ _ to from where
+  to : list_any (has_name rs name) (listed lists name) ≡ true
+      → list_any (λ (r : Recipe). bytes_eq name r.name) rs ≡ true
+  to some =
+      let found = any-found (has_name rs name) (listed lists name) some in
+      by found.1 (slice_get rs found.1.owner) refl found.3
+    where
+      by : (at : Item ℕ) (o : Option Recipe) → slice_get rs at.owner ≡ o
+          → has_name rs name at ≡ true → list_any (λ (r : Recipe). bytes_eq name r.name) rs ≡ true
+      by at None e is =
+          absurd (true≢false (sym is ∙ ap (holds (λ (r : Recipe). bytes_eq name r.name)) e))
+      by at (Some r) e is =
+          any-at (λ (q : Recipe). bytes_eq name q.name) rs at.owner r e
+          (sym (ap (holds (λ (q : Recipe). bytes_eq name q.name)) e) ∙ is)
+
+  from : list_any (λ (r : Recipe). bytes_eq name r.name) rs ≡ true
+      → list_any (has_name rs name) (listed lists name) ≡ true
+  from some =
+      let found = any-found (λ (r : Recipe). bytes_eq name r.name) rs some in
+      let there = are found.0 found.1 found.2 in
+      let same : name ≡ found.1.name = bytes-same name found.1.name found.3 in
+      let at = subst (λ n. IsListedUnder lists n (item found.0 0 0)) (sym same) there in
+      any-at (has_name rs name) (listed lists name) at.0 (item found.0 0 0) at.1
+      (rw (found.2, found.3) refl)
 
 -- ---- words with more bits
 
@@ -227,8 +286,9 @@ entries-push rs r =
 pub AreRecipes-push : (l : Land) (list new : RecipeList) (r : Recipe) → AreRecipes l list
     → IsNew l list.recipes.items r → new.recipes.items ≡ list.recipes.items ++ r ∷ []
     → new.taken.items ≡ taken_with list.taken.items r.outputs
+    → AreNamed new.by_name new.recipes.items
     → new.entries ≡ list.entries + build_entries r → AreRecipes l new
-AreRecipes-push l list new r is fresh recipes taken entries =
+AreRecipes-push l list new r is fresh recipes taken named entries =
     let counted : new.entries ≡ sum (map build_entries (list.recipes.items ++ r ∷ [])) =
     omega (arith, entries, is.entries, entries-push list.recipes.items r) in
     record {
@@ -246,6 +306,7 @@ AreRecipes-push l list new r is fresh recipes taken entries =
           subst (λ rs. AreTaken l rs new.taken.items) (sym recipes)
           (subst (AreTaken l (list.recipes.items ++ r ∷ [])) (sym taken)
           (AreTaken-push l list.recipes.items r list.taken.items is.taken fresh.new.outputs.known));
+      named = named;
       entries =
           subst (λ rs. new.entries ≡ sum (map build_entries rs)) (sym recipes) counted;
       room = omega (arith, entries, is.entries, fresh.room);

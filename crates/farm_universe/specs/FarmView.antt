@@ -11,6 +11,8 @@ use Rattle.farm_universe.specs.declared.list.VariantList.{VariantList}
 use Rattle.farm_universe.specs.declared.recipes.RecipeList.{RecipeList}
 use Rattle.farm_universe.specs.declared.farm.Farm.{Farm}
 use Rattle.farm_universe.specs.declared.farm.Yard.{Yard}
+use Rattle.item_index.specs.Items.{item, IsListed as IsListedUnder}
+use Rattle.item_index.specs.declared.item.Item.{Item}
 use Rattle.farm_universe.specs.BaseText.{is_settled_base}
 use Rattle.farm_universe.specs.FarmText as text
 use Rattle.farm_universe.specs.Land as land
@@ -59,6 +61,11 @@ pub record AreWords (table : PackageTable) (words : List ℕ) : Type 0 where
 -- no variant stands twice
 abbrev pub IsOnce : List Variant → Type 0
 IsOnce vs = (i j : ℕ) (v : Variant) → slice_get vs i ≡ Some v → slice_get vs j ≡ Some v → i ≡ j
+
+-- different variants of the table
+pub record AreDifferent (table : PackageTable) (vs : List Variant) : Type 0 where
+  pub known : All (IsPlace table) vs
+  pub once : IsOnce vs
 
 -- different variants of the table, and the words that have their bits
 pub record AreListed (table : PackageTable) (list : VariantList) : Type 0 where
@@ -118,12 +125,18 @@ pub record AreTaken (l : land.Land) (rs : List Recipe) (words : List ℕ) : Type
   pub bits : (v : Variant) → v.name < length l.table.names
       → has_bit words v ≡ is_taken l.initial rs v
 
+-- each recipe is listed under its name, by its number
+abbrev pub AreNamed : List (List (Item ℕ)) → List Recipe → Type 0
+AreNamed lists rs =
+    (k : ℕ) (r : Recipe) → slice_get rs k ≡ Some r → IsListedUnder lists r.name (item k 0 0)
+
 -- what is true of the recipes so far
 pub record AreRecipes (l : land.Land) (list : RecipeList) : Type 0 where
   pub few : length list.recipes.items ≤ MOST_RECIPES
   pub each : All (IsRecipe l) list.recipes.items
   pub once : GivesOnce list.recipes.items
   pub taken : AreTaken l list.recipes.items list.taken.items
+  pub named : AreNamed list.by_name list.recipes.items
   pub entries : list.entries ≡ sum (map build_entries list.recipes.items)
   pub room : list.entries ≤ MOST_ENTRIES
 

@@ -50,7 +50,7 @@ fn read_packages(
     ensures known { IfOk result (λ vs. All (IsPlace (table_view table.now)) vs.items) }
 {
     match value {
-        Some(text) => Ok(read_list(alloc, table, text)?.variants),
+        Some(text) => read_list(alloc, table, text),
         None => Ok(Vec::new(alloc)),
     }
 }

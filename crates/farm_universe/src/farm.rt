@@ -12,6 +12,7 @@ use crate::base::Base;
 use crate::bases::add_base;
 use crate::error::{ABSENT, FieldFault, told};
 use crate::land::{Land, make_land, tell_head};
+use crate::limits::MOST_RECIPES;
 use crate::package_table::PackageTable;
 use crate::paragraph::Paragraph;
 use crate::recipes::{RecipeList, add_recipe};
@@ -20,6 +21,7 @@ use crate::steps::{ParagraphStep, read_steps};
 use deb_stanza::Paragraphs;
 use deb_text::Fault;
 use deb_text::files::FARM;
+use item_index::ItemIndex;
 use std::alloc::{AllocError, Global};
 
 /// What the later paragraphs say so far.
@@ -95,6 +97,7 @@ fn empty_yard(alloc: Global, land: &Land) -> Result<Yard, AllocError>
     Ok(Yard {
         recipes: RecipeList {
             recipes: Vec::new(alloc),
+            by_name: ItemIndex::new(alloc, MOST_RECIPES)?,
             taken: land.initial.clone()?,
             entries: 0,
         },

@@ -11,7 +11,7 @@ ghost use Rattle.farm_universe.specs.TableView.{table_view, IsFit};
 ghost use Rattle.farm_universe.specs.View.{refusal_of};
 
 use crate::error::{FieldFault, told};
-use crate::list::{empty_list, read_list};
+use crate::list::{empty_list, read_with_words};
 use crate::package_table::PackageTable;
 use crate::paragraph::Paragraph;
 use crate::reduction::reduce_table;
@@ -50,7 +50,7 @@ fn read_archive(
     ensures words { IfOk result (λ words. AreWords (table_view table.now) words.items) }
 {
     match value {
-        Some(text) => Ok(read_list(alloc, table, text)?.words),
+        Some(text) => Ok(read_with_words(alloc, table, text)?.words),
         None => Ok(empty_list(alloc, table)?.words),
     }
 }
@@ -75,7 +75,7 @@ fn read_head(alloc: Global, table: &PackageTable, paragraph: &Paragraph) -> Resu
 ///
 /// # Errors
 ///
-/// The first of 201 and 131 of `Architecture-Names` and those of [`read_list`] of `Archive`, told
+/// The first of 201 and 131 of `Architecture-Names` and those of [`read_with_words`] of `Archive`, told
 /// at the paragraph's first line. [`Fault::MEMORY`] where memory is refused.
 #[tactic(auto, using(crate::proofs::ToldLaws::gives_told))]
 pub fn tell_head(alloc: Global, table: &PackageTable, paragraph: &Paragraph) -> Result<Head, Fault>

@@ -8,8 +8,8 @@ ghost use Rattle.deb_relation.specs.declared.kind.Kind.TheVariants.{Provide};
 ghost use Rattle.deb_relation.specs.Field.{only_judged, relations_at};
 ghost use Rattle.farm_universe.specs.FarmSteps.{add_item, word_set, taken_with};
 ghost use Rattle.farm_universe.specs.ListText.{has_version, find_variant, pinned, variant_at, list_at};
-ghost use Rattle.farm_universe.specs.FarmView.{AreListed, AreWords, IsPlace};
-ghost use Rattle.farm_model.specs.Packages.{has_bit};
+ghost use Rattle.farm_universe.specs.FarmView.{AreDifferent, AreListed, AreWords, IsPlace};
+ghost use Rattle.farm_model.specs.Packages.{contains, has_bit, same};
 ghost use Rattle.farm_universe.specs.TableView.{table_view, IsFit};
 ghost use Rattle.farm_universe.specs.View.{refusal_of};
 
@@ -185,15 +185,15 @@ fn read_items(alloc: Global, table: &PackageTable, text: &[u8]) -> Result<Varian
     Ok(list)
 }
 
-/// Reads a list of variants. Its items are judged before the first is looked up, and none of them
-/// is kept.
+/// Reads a list of variants, and the words that have their bits. Its items are judged before the
+/// first is looked up, and none of them is kept.
 ///
 /// # Errors
 ///
 /// 121 to 128, the first fault of the whole field; else, item by item, 205 for one that names no
 /// variant and 203 for one that stands twice. [`FieldFault::Memory`] where memory is refused.
 #[tactic(auto, unfolding(crate::specs::ListText::list_at))]
-pub fn read_list(
+pub fn read_with_words(
     alloc: Global,
     table: &PackageTable,
     text: &[u8],
@@ -206,4 +206,101 @@ pub fn read_list(
 {
     Relations::judge(alloc, text, Kind::Provide)?;
     read_items(alloc, table, text)
+}
+
+/// The length in bytes from which words are kept while a list is read. They are as many as there
+/// are names, so in a shorter text each item is compared with those ahead of it.
+const LONG_LIST: usize = 512;
+
+/// Tells whether two variants are the same.
+#[tactic(auto, unfolding(farm_model::specs::Packages::same))]
+fn is_same(one: Variant, other: Variant) -> bool
+    ensures { result ≡ same one other }
+{
+    one.name == other.name && one.bit == other.bit
+}
+
+/// Tells whether a variant is among others.
+fn is_among(variants: &[Variant], variant: Variant) -> bool
+    ensures { result ≡ contains variants.now variant }
+{
+    variants.iter().any(|other| is_same(*other, variant))
+}
+
+/// Goes on by an item of a short list.
+#[tactic(auto, unfolding(crate::specs::FarmSteps::add_item, crate::specs::FarmSteps::add_variant))]
+fn add_short_item(
+    table: &PackageTable,
+    variants: &mut Vec<Variant>,
+    entry: &Entry,
+) -> Result<(), FieldFault>
+    requires fit { IsFit (table_view table.now) }
+    requires different { AreDifferent (table_view table.now) variants.old.items }
+    ensures read { Gives refusal_of (λ _. variants.new.items) result
+        (add_item (table_view table.now) variants.old.items entry.now) }
+    ensures different { OnOk result (AreDifferent (table_view table.now) variants.new.items) }
+{
+    let variant = read_variant(table, entry)?;
+    if is_among(variants, variant) {
+        return Err(FieldFault::Twice);
+    }
+    variants.push(variant)?;
+    Ok(())
+}
+
+/// Reads the items of a short list that was judged, one after the other.
+fn read_short_items(
+    alloc: Global,
+    table: &PackageTable,
+    text: &[u8],
+) -> Result<Vec<Variant>, FieldFault>
+    requires fit { IsFit (table_view table.now) }
+    requires judged { only_judged (relations_at Provide text.now) ≡ Ok tt }
+    ensures read { Gives refusal_of (λ vs. vs.items) result
+        (list_at (table_view table.now) text.now) }
+    ensures different { IfOk result (λ vs. AreDifferent (table_view table.now) vs.items) }
+{
+    let mut variants = Vec::new(alloc);
+    let mut left = Some(text);
+    while let Some((item, after)) = next_entry(left) {
+        let entry = Entry::parse(alloc, item, Kind::Provide)?;
+        add_short_item(table, &mut variants, &entry)?;
+        left = after;
+    }
+    Ok(variants)
+}
+
+/// Reads a list of variants that was judged.
+fn read_judged(alloc: Global, table: &PackageTable, text: &[u8]) -> Result<Vec<Variant>, FieldFault>
+    requires fit { IsFit (table_view table.now) }
+    requires judged { only_judged (relations_at Provide text.now) ≡ Ok tt }
+    ensures read { Gives refusal_of (λ vs. vs.items) result
+        (list_at (table_view table.now) text.now) }
+    ensures different { IfOk result (λ vs. AreDifferent (table_view table.now) vs.items) }
+{
+    if text.len() < LONG_LIST {
+        read_short_items(alloc, table, text)
+    } else {
+        Ok(read_items(alloc, table, text)?.variants)
+    }
+}
+
+/// Reads a list of variants, as [`read_with_words`] does.
+///
+/// # Errors
+///
+/// Those of [`read_with_words`].
+#[tactic(auto, unfolding(crate::specs::ListText::list_at))]
+pub fn read_list(
+    alloc: Global,
+    table: &PackageTable,
+    text: &[u8],
+) -> Result<Vec<Variant>, FieldFault>
+    requires fit { IsFit (table_view table.now) }
+    ensures read { Gives refusal_of (λ vs. vs.items) result
+        (list_at (table_view table.now) text.now) }
+    ensures different { IfOk result (λ vs. AreDifferent (table_view table.now) vs.items) }
+{
+    Relations::judge(alloc, text, Kind::Provide)?;
+    read_judged(alloc, table, text)
 }

@@ -1,13 +1,14 @@
 //! The recipes of the farm text.
 
-ghost use Rattle.std.specs.Prelude.{◌≡◌, ◌+◌, ◌<◌, ◌≤◌, ◌++◌, ◌∷◌, [], IfOk, OnOk, IfErr, None, All, length};
+ghost use Rattle.std.specs.Prelude.{◌≡◌, ◌+◌, ◌<◌, ◌≤◌, ◌++◌, ◌∷◌, [], IfOk, OnOk, IfErr, None, All, length, slice_get};
 ghost use Rattle.std.specs.List.{list_any};
 ghost use Rattle.std.specs.Option.{option_map};
 ghost use Rattle.std.specs.Str.{bytes_eq};
 ghost use Rattle.deb_text.specs.Answers.{Gives};
+ghost use Rattle.farm_universe.specs.Among.{holds};
 ghost use Rattle.farm_universe.specs.FarmSteps.{taken_with};
 ghost use Rattle.farm_universe.specs.FarmText.{recipes_with};
-ghost use Rattle.farm_universe.specs.FarmView.{AreOutputs, AreNew, AreRecipes, IsLand, IsNew, land_view};
+ghost use Rattle.farm_universe.specs.FarmView.{AreNamed, AreOutputs, AreNew, AreRecipes, IsLand, IsNew, land_view};
 ghost use Rattle.farm_universe.specs.RecipeSteps.{first_recipe_at};
 ghost use Rattle.farm_universe.specs.RecipeText.{outputs_at, build_entries, is_build_over, recipe_name, new_outputs, recipe_at};
 ghost use Rattle.farm_universe.specs.TableView.{table_view, IsFit};
@@ -24,6 +25,7 @@ use crate::package_table::PackageTable;
 use crate::paragraph::Paragraph;
 use crate::recipe::Recipe;
 use farm_model::Variant;
+use item_index::{Item, ItemIndex};
 use std::alloc::Global;
 
 /// The recipes so far, the words of the initial archive and of their outputs, and how many entries
@@ -31,22 +33,46 @@ use std::alloc::Global;
 #[derive(Drop)]
 pub struct RecipeList {
     pub recipes: Vec<Recipe>,
+    pub by_name: ItemIndex<usize>,
     pub taken: Vec<u64>,
     pub entries: usize,
 }
 
-fn is_given(recipes: &[Recipe], name: &[u8]) -> bool
-    ensures { result ≡ list_any (λ r. bytes_eq name.now r.name) recipes.now }
+/// Tells whether the recipe that an item is of has a name.
+fn has_name(recipes: &[Recipe], item: &Item<usize>, name: &[u8]) -> bool
+    ensures { result ≡ holds (λ r. bytes_eq name.now r.name)
+        (slice_get recipes.now item.now.owner) }
 {
-    recipes.iter().any(|recipe| name == recipe.name())
+    match recipes.get(item.owner) {
+        Some(recipe) => name == recipe.name(),
+        None => false,
+    }
+}
+
+/// Tells whether the recipe of one of these items has a name.
+fn some_has_name(recipes: &[Recipe], items: &[Item<usize>], name: &[u8]) -> bool
+    ensures { result ≡ list_any (λ item. holds (λ r. bytes_eq name.now r.name)
+        (slice_get recipes.now item.owner)) items.now }
+{
+    items.iter().any(|item| has_name(recipes, item, name))
+}
+
+/// Tells whether a recipe has a name.
+fn is_given(list: &RecipeList, name: &[u8]) -> bool
+    requires { AreNamed list.now.by_name list.now.recipes.items }
+    ensures { result ≡ list_any (λ r. bytes_eq name.now r.name) list.now.recipes.items }
+{
+    some_has_name(&list.recipes, list.by_name.listed(name), name)
 }
 
 /// Reads a name that no recipe has yet.
-fn read_recipe_name(alloc: Global, recipes: &[Recipe], given: &[u8]) -> Result<Vec<u8>, FieldFault>
-    ensures { Gives refusal_of (λ name. name.items) result (recipe_name recipes.now given.now) }
+fn read_recipe_name(alloc: Global, list: &RecipeList, given: &[u8]) -> Result<Vec<u8>, FieldFault>
+    requires { AreNamed list.now.by_name list.now.recipes.items }
+    ensures { Gives refusal_of (λ name. name.items) result
+        (recipe_name list.now.recipes.items given.now) }
 {
     let name = read_name(alloc, given)?;
-    if is_given(recipes, &name) {
+    if is_given(list, &name) {
         return Err(FieldFault::Twice);
     }
     Ok(name)
@@ -66,7 +92,7 @@ fn read_outputs(
     let Some(text) = value else {
         return Err(FieldFault::NoOutput);
     };
-    let outputs = read_list(alloc, table, text)?.variants;
+    let outputs = read_list(alloc, table, text)?;
     if outputs.is_empty() {
         return Err(FieldFault::NoOutput);
     }
@@ -121,7 +147,7 @@ fn read_first_recipe(
         (first_recipe_at (land_view land.now) list.now.recipes.items paragraph.now given.now) }
     ensures new { IfOk result (IsNew (land_view land.now) list.now.recipes.items) }
 {
-    let name = read_recipe_name(alloc, &list.recipes, given)?;
+    let name = read_recipe_name(alloc, list, given)?;
     let build = read_build(alloc, land, paragraph)?;
     let steps = read_number_up_to(MOST_SIZE, paragraph.needed(b"Steps")?)?;
     let scratch = read_size(paragraph.field(b"Scratch"))?;
@@ -157,13 +183,21 @@ fn put(list: &mut RecipeList, recipe: Recipe) -> Result<(), FieldFault>
     requires names { All (λ v. v.name < length list.old.taken.items) recipe.outputs }
     requires bits { All (λ v. v.bit < 64) recipe.outputs }
     ensures recipes { OnOk result
-        (list.new.recipes.items ≡ list.old.recipes.items ++ recipe ∷ []) }
+        ((list.new.recipes.items ≡ list.old.recipes.items ++ recipe ∷ [])
+        × (AreNamed list.old.by_name list.old.recipes.items
+        → AreNamed list.new.by_name list.new.recipes.items)) }
     ensures taken { list.new.taken.items ≡ taken_with list.old.taken.items recipe.outputs }
     ensures entries { list.new.entries ≡ list.old.entries + build_entries recipe }
     ensures memory { IfErr result (λ e. refusal_of e ≡ None) }
 {
     list.entries += recipe.needs().len() + recipe.clashes().len();
     set_bits(&mut list.taken, recipe.outputs());
+    let item = Item {
+        owner: list.recipes.len(),
+        entry: 0,
+        alternative: 0,
+    };
+    list.by_name.add(recipe.name(), item)?;
     list.recipes.push(recipe)?;
     Ok(())
 }

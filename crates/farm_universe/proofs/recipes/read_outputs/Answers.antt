@@ -20,9 +20,9 @@ returns-in_err-outputs-clause-read c =
 
 pub returns-then-is_empty-clause-read : goal.returns-then-is_empty-clause-read
 returns-then-is_empty-clause-read c =
-    let vs = c.in_ok-outputs.field-0.variants.items in
-    let size : length vs ≡ c.in_ok-outputs.field-0.variants.len =
-    omega (arith, c.in_ok-outputs.field-0.variants.ok.0) in
+    let vs = c.in_ok-outputs.outputs.items in
+    let size : length vs ≡ c.in_ok-outputs.outputs.len =
+    omega (arith, c.in_ok-outputs.outputs.ok.0) in
     rw c.in-Some.is
     (outputs-of (table_view c.args.table.now) c.in-Some.text.now vs c.in_ok-outputs.ensures.read
     ∙ ap (λ none. if none then Err NO_OUTPUT else Ok vs)
@@ -30,9 +30,9 @@ returns-then-is_empty-clause-read c =
 
 pub returns-clause-read : goal.returns-clause-read
 returns-clause-read c =
-    let vs = c.in_ok-outputs.field-0.variants.items in
-    let size : length vs ≡ c.in_ok-outputs.field-0.variants.len =
-    omega (arith, c.in_ok-outputs.field-0.variants.ok.0) in
+    let vs = c.in_ok-outputs.outputs.items in
+    let size : length vs ≡ c.in_ok-outputs.outputs.len =
+    omega (arith, c.in_ok-outputs.outputs.ok.0) in
     rw c.in-Some.is
     (outputs-of (table_view c.args.table.now) c.in-Some.text.now vs c.in_ok-outputs.ensures.read
     ∙ ap (λ none. if none then Err NO_OUTPUT else Ok vs)
