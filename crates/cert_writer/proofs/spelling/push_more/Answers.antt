@@ -1,11 +1,11 @@
-use Rattle.std.proofs.Common.{◌≡◌, true, false, sym, ◌∙◌, eq-eqb}
+use Rattle.std.proofs.Common.{◌≡◌, true, false, refl, sym, ◌∙◌, eq-eqb}
 use Rattle.std.proofs.lemmas.Bool.{ne_eqb}
 use Rattle.std.proofs.lemmas.Nat.Bits.{shr_and_one}
 use Rattle.std.specs.Int.{bit_at}
 use Rattle.clause_kernel.specs.Rows.{word_has}
-use Rattle.cert_writer.proofs.ListParts.{item-more, item-none, still-more, still-none}
-use Rattle.cert_writer.proofs.spelling.push_named.Goals as goal
-use Rattle.cert_writer.proofs.spelling.push_named.Goals.{then-word-bit-eq1+in_ok-push_item, else-word-bit-eq1}
+use Rattle.cert_writer.proofs.ListParts.{item-more, item-none}
+use Rattle.cert_writer.proofs.spelling.push_more.Goals as goal
+use Rattle.cert_writer.proofs.spelling.push_more.Goals.{then-word-bit-eq1+in_ok-push_item, else-word-bit-eq1}
 
 pub loop-bit-preserved : goal.loop-bit-preserved
 loop-bit-preserved c =
@@ -17,19 +17,12 @@ loop-bit-preserved c =
       | then-word-bit-eq1+in_ok-push_item w ↦
           let is : word_has word b ≡ true =
           eq-eqb (bit_at word b) 1 (sym (shr_and_one word b) ∙ w.if-word-bit-eq1.true) in
-          record {
-            text = item-more u c.args.is_first word n b c.args.text.now.items c.loop-bit.text.items
-                c.loop-bit.invariant.text c.loop-bit.still c.if-word-bit-eq1.text.items
-                c.loop-bit.invariant.still is (rw w.text-is w.in_ok-push_item.ensures);
-            still = w.still-is ∙ still-more u c.args.is_first word n b is;
-          }
+          item-more u false word n b c.args.text.now.items c.loop-bit.text.items
+          c.loop-bit.invariant false c.if-word-bit-eq1.text.items refl is
+          (rw w.text-is w.in_ok-push_item.ensures)
       | else-word-bit-eq1 w ↦
           let is : word_has word b ≡ false =
           ne_eqb (bit_at word b) 1 (λ e. w.if-word-bit-eq1.false (shr_and_one word b ∙ e)) in
-          record {
-            text = rw w.text-is (item-none u c.args.is_first word n b c.args.text.now.items
-                c.loop-bit.text.items c.loop-bit.invariant.text is);
-            still = w.still-is ∙ still-none u c.args.is_first word n b c.loop-bit.still
-                c.loop-bit.invariant.still is;
-          }
+          rw w.text-is (item-none u false word n b c.args.text.now.items c.loop-bit.text.items
+          c.loop-bit.invariant is)
     ]
