@@ -38,7 +38,8 @@ fn new_word(universe: &Universe, words: &[u64], name: u32) -> u64
 #[tactic(auto, unfolding(cert_text::specs::Printed::variant_text))]
 fn push_item(text: &mut Vec<u8>, universe: &Universe, variant: Variant) -> Result<(), AllocError>
     requires { IsIn universe.now variant }
-    ensures { OnOk result (text.new.items ≡ text.old.items ++ item_text universe.now false variant) }
+    ensures { OnOk result (text.new.items ≡ text.old.items
+        ++ item_text universe.now false variant) }
 {
     let name = universe.name_text(variant.name);
     let version = universe.version(variant).text();

@@ -69,11 +69,19 @@ returns-clause-added c of test at is =
     row_same u _ _ c.loop-n.words
     (λ v. ap (λ b. test v || b)
     (all-first outs c.loop-n.n c.args.to total v
-    (omega (arith, c.loop-n-test.false, c.loop-n.auto.n-end, c.min-end.ensures, c.min-start.ensures, c.requires.order)) refl
+    (omega (
+      arith,
+      c.loop-n-test.false,
+      c.loop-n.auto.n-end,
+      c.min-end.ensures,
+      c.min-start.ensures,
+      c.requires.order,
+    )) refl
     ∙ ap (λ os. any_output (take c.args.to os) v) same))
     (c.loop-n.invariant.1 test
     (row_same u _ _ c.args.words.now
     (λ v. ap (λ b. test v || b)
     (ap (λ os. any_output (take c.args.from os) v) (sym same)
-    ∙ sym (all-first outs c.min-start.result c.args.from total v (omega (arith, c.min-start.ensures)) refl)))
+    ∙ sym (all-first outs c.min-start.result c.args.from total v
+    (omega (arith, c.min-start.ensures)) refl)))
     is))
