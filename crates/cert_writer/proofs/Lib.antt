@@ -6,3 +6,4 @@ pub mod SendingLaws
 pub mod TestRows
 pub mod Texts
 pub mod Whole
+pub mod Spellings

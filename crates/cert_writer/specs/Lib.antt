@@ -1,3 +1,4 @@
+pub mod Carried
 pub mod Lines
 pub mod NewRows
 pub mod Sending

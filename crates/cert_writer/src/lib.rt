@@ -2,6 +2,7 @@
 //! ever held whole.
 #![tactic(auto)]
 
+mod carried;
 mod pending;
 mod spelling;
 mod stop;

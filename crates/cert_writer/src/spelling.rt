@@ -1,55 +1,96 @@
 //! The lines of a certificate, each by what is known at its place.
 
-ghost use Rattle.std.specs.Prelude.{◌≡◌, ◌<◌, ◌≤◌, ◌++◌, ◌&&◌, length, IfOk, OnOk};
+ghost use Rattle.std.specs.Prelude.{◌≡◌, ℕ, ◌<◌, ◌≤◌, ◌++◌, ◌&&◌, false, drop, length, IfOk, OnOk, if◌then◌else◌};
 ghost use Rattle.bit_rows.specs.Sets.{variants_of, IsWordOf};
-ghost use Rattle.cert_text.specs.Printed.{known_line, list_text, order_line};
+ghost use Rattle.cert_text.specs.Printed.{known_line, list_text, more_text, order_line};
 ghost use Rattle.cert_text.specs.Rows.{IsIn, row_variants, named_variants};
 ghost use Rattle.farm_model.specs.Packages.{names};
+ghost use Rattle.farm_model.specs.Sound.{IsUniverse};
 ghost use Rattle.farm_universe.specs.Kept.{IsKept};
+ghost use Rattle.plan_model.specs.Known.{Rows};
 ghost use Rattle.plan_model.specs.Plan.{lane};
 ghost use Rattle.plan_verifier.specs.Accepted.{known_rows};
+ghost use Rattle.sat_rows.specs.Rows.{IsRowOf};
+ghost use Rattle.cert_writer.specs.Carried.{AreSpelled, IsSpelled};
 ghost use Rattle.cert_writer.specs.Lines.{item_text, in_word, is_none, part_text};
 ghost use Rattle.cert_writer.specs.NewRows.{new_row};
 
+use crate::carried::Spelled;
 use deb_text::push_pieces;
 use farm_model::Variant;
 use farm_universe::Universe;
 use itoa::Buffer;
 use plan_verifier::Accepted;
 use std::alloc::AllocError;
-use wait_order::KnownWords;
 
-/// What a lane knows of a name at a place and the initial archive does not have, as a word.
-fn new_word(accepted: &Accepted, number: usize, place: usize, name: u32) -> u64
-    requires lane { number < length accepted.now.plan }
-    requires place { place ≤ length (lane accepted.now.plan number).instructions }
-    requires name { name < names accepted.now.universe }
-    ensures { IsWordOf (variants_of (new_row accepted.now.universe (known_rows accepted.now)
-        number place)) name result }
+/// What a lane knows of a name, less what the initial archive has of it, as a word.
+fn new_word(universe: &Universe, words: &[u64], name: u32) -> u64
+    requires sound { IsUniverse universe.now }
+    requires words { length words.now ≡ names universe.now }
+    requires name { name < names universe.now }
+    ensures { (known : Rows) (l i : ℕ) → IsRowOf universe.now (known l i) words.now
+        → IsWordOf (variants_of (new_row universe.now known l i)) name result }
 {
-    accepted.keeps();
-    let universe = accepted.universe();
-    let known = accepted.known().word(universe, number, place, name);
-    known & !universe.initial(name)
+    words[name as usize] & !universe.initial(name)
 }
 
-/// Puts a variant behind the others of a list: a space ahead of the first one, and a comma and a
-/// space ahead of each other.
+/// Puts a variant behind others of a list.
 #[tactic(auto, unfolding(cert_text::specs::Printed::variant_text))]
-fn push_item(
-    text: &mut Vec<u8>,
-    universe: &Universe,
-    variant: Variant,
-    is_first: bool,
-) -> Result<(), AllocError>
+fn push_item(text: &mut Vec<u8>, universe: &Universe, variant: Variant) -> Result<(), AllocError>
     requires { IsIn universe.now variant }
-    ensures { OnOk result
-        (text.new.items ≡ text.old.items ++ item_text universe.now is_first variant) }
+    ensures { OnOk result (text.new.items ≡ text.old.items
+        ++ item_text universe.now false variant) }
 {
-    let ahead = if is_first { b" ".as_slice() } else { b", " };
     let name = universe.name_text(variant.name);
     let version = universe.version(variant).text();
-    push_pieces(text, &[ahead, name, b" (= ", version, b")"])
+    push_pieces(text, &[b", ", name, b" (= ", version, b")"])
+}
+
+/// Puts the variants of a name that a word has behind others of a list.
+fn push_more(
+    text: &mut Vec<u8>,
+    universe: &Universe,
+    name: u32,
+    word: u64,
+) -> Result<(), AllocError>
+    requires kept { IsKept universe.now }
+    requires name { name < names universe.now }
+    ensures { OnOk result (text.new.items ≡ text.old.items
+        ++ more_text universe.now (in_word word (named_variants universe.now name))) }
+{
+    for bit in 0..universe.variants(name) {
+        if word >> bit & 1 == 1 {
+            push_item(text, universe, Variant { name, bit })?;
+        }
+    }
+    Ok(())
+}
+
+/// Spells the variants of a name that a word has, unless they are spelled already.
+fn spell(universe: &Universe, name: u32, word: u64, spelled: &mut Spelled) -> Result<(), AllocError>
+    requires kept { IsKept universe.now }
+    requires name { name < names universe.now }
+    requires spelled { IsSpelled universe.now name spelled.old }
+    ensures spelled { OnOk result (IsSpelled universe.now name spelled.new) }
+    ensures word { OnOk result (spelled.new.word ≡ word) }
+{
+    if spelled.word == word {
+        return Ok(());
+    }
+    spelled.text.clear();
+    push_more(&mut spelled.text, universe, name, word)?;
+    spelled.word = word;
+    Ok(())
+}
+
+/// What stands behind others of a list, or at its start, which has no comma.
+fn placed(items: &[u8], is_first: bool) -> &[u8]
+    ensures { result.now ≡ (if is_first then drop 1 items.now else items.now) }
+{
+    if is_first && !items.is_empty() {
+        return &items[1..];
+    }
+    items
 }
 
 /// Puts the variants of a name that a word has behind the others of a list, and tells whether the
@@ -60,22 +101,21 @@ fn push_named(
     name: u32,
     word: u64,
     is_first: bool,
+    spelled: &mut Spelled,
 ) -> Result<bool, AllocError>
     requires kept { IsKept universe.now }
     requires name { name < names universe.now }
+    requires spelled { IsSpelled universe.now name spelled.old }
     ensures text { OnOk result (text.new.items ≡ text.old.items
         ++ part_text universe.now is_first (in_word word (named_variants universe.now name))) }
     ensures first { IfOk result (λ still.
         still ≡ (is_first && is_none (in_word word (named_variants universe.now name)))) }
+    ensures spelled { OnOk result (IsSpelled universe.now name spelled.new) }
 {
-    let mut still = is_first;
-    for bit in 0..universe.variants(name) {
-        if word >> bit & 1 == 1 {
-            push_item(text, universe, Variant { name, bit }, still)?;
-            still = false;
-        }
-    }
-    Ok(still)
+    spell(universe, name, word, spelled)?;
+    let items = spelled.text.as_slice();
+    text.extend_from_slice(placed(items, is_first))?;
+    Ok(is_first && items.is_empty())
 }
 
 /// Puts what a lane knows at a place and the initial archive does not have behind a text, as a
@@ -85,26 +125,32 @@ fn push_list(
     accepted: &Accepted,
     number: usize,
     place: usize,
+    words: &[u64],
+    spelled: &mut [Spelled],
 ) -> Result<(), AllocError>
-    requires lane { number < length accepted.now.plan }
-    requires place { place ≤ length (lane accepted.now.plan number).instructions }
-    ensures { OnOk result (text.new.items ≡ text.old.items
+    requires words { IsRowOf accepted.now.universe (known_rows accepted.now number place)
+        words.now }
+    requires spelled { AreSpelled accepted.now.universe spelled.old }
+    ensures text { OnOk result (text.new.items ≡ text.old.items
         ++ list_text accepted.now.universe (row_variants accepted.now.universe
         (new_row accepted.now.universe (known_rows accepted.now) number place))) }
+    ensures spelled { OnOk result (AreSpelled accepted.now.universe spelled.new) }
 {
+    accepted.keeps();
     let universe = accepted.universe();
     let mut is_first = true;
     for name in 0..universe.names() {
-        let word = new_word(accepted, number, place, name);
+        let word = new_word(universe, words, name);
         if word != 0 {
-            is_first = push_named(text, universe, name, word, is_first)?;
+            let of = &mut spelled[name as usize];
+            is_first = push_named(text, universe, name, word, is_first, of)?;
         }
     }
     Ok(())
 }
 
 /// Puts the line of a row behind a text: what a lane knows behind the instruction of this number,
-/// from 1.
+/// from 1. The words are those of what it knows there.
 ///
 /// # Errors
 ///
@@ -115,18 +161,23 @@ pub fn push_known(
     accepted: &Accepted,
     number: usize,
     place: usize,
+    words: &[u64],
+    spelled: &mut [Spelled],
 ) -> Result<(), AllocError>
     requires lane { number < length accepted.now.plan }
-    requires place { place ≤ length (lane accepted.now.plan number).instructions }
-    ensures { OnOk result (text.new.items ≡ text.old.items
+    requires words { IsRowOf accepted.now.universe (known_rows accepted.now number place)
+        words.now }
+    requires spelled { AreSpelled accepted.now.universe spelled.old }
+    ensures text { OnOk result (text.new.items ≡ text.old.items
         ++ known_line accepted.now.universe (lane accepted.now.plan number).name
         (place, new_row accepted.now.universe (known_rows accepted.now) number place)) }
+    ensures spelled { OnOk result (AreSpelled accepted.now.universe spelled.new) }
 {
     let name = accepted.plan().lane(number).name();
     let mut digits = Buffer::new();
     let digits = digits.format(place).as_bytes();
     push_pieces(text, &[b"known ", name, b" ", digits, b":"])?;
-    push_list(text, accepted, number, place)?;
+    push_list(text, accepted, number, place, words, spelled)?;
     text.extend_from_slice(b"\n")?;
     Ok(())
 }

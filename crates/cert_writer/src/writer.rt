@@ -5,11 +5,13 @@ ghost use Rattle.std.specs.List.{flat_map, range_with_len};
 ghost use Rattle.cert_text.specs.Printed.{known_line, order_line};
 ghost use Rattle.plan_model.specs.Plan.{lane};
 ghost use Rattle.plan_verifier.specs.Accepted.{known_rows};
+ghost use Rattle.cert_writer.specs.Carried.{IsReady, IsCarried};
 ghost use Rattle.cert_writer.specs.Lines.{all_lines, lane_text, place_text};
 ghost use Rattle.cert_writer.specs.NewRows.{new_row};
 ghost use Rattle.cert_writer.specs.Sending.{IsSentOn};
 ghost use Rattle.cert_writer.specs.Written.{IsCertificateWritten};
 
+use crate::carried::Carried;
 use crate::pending::Pending;
 use crate::spelling::{push_known, push_order};
 use crate::stop::CertStop;
@@ -17,22 +19,34 @@ use plan_verifier::Accepted;
 use report_sink::{Sink, whether_written};
 use std::alloc::{AllocError, Global};
 
-/// Sends the line of a row on.
+/// Sends the line of the row at the place that is carried on.
 fn write_known<S: Sink>(
     pending: &mut Pending,
     accepted: &Accepted,
     number: usize,
-    place: usize,
+    carried: &mut Carried,
     out: &mut S,
 ) -> Result<(), CertStop>
     requires going { (S.state out.old).failed ≡ false }
     requires lane { number < length accepted.now.plan }
-    requires place { place ≤ length (lane accepted.now.plan number).instructions }
-    ensures { IsSentOn (S.state out.old) (S.state out.new) pending.old pending.new
-        (known_line accepted.now.universe (lane accepted.now.plan number).name
-        (place, new_row accepted.now.universe (known_rows accepted.now) number place)) result }
+    requires carried { IsCarried accepted.now number carried.old }
+    ensures sent { IsSentOn (S.state out.old) (S.state out.new) pending.old pending.new
+        (known_line accepted.now.universe (lane accepted.now.plan number).name (
+          carried.old.place,
+          new_row accepted.now.universe (known_rows accepted.now) number carried.old.place,
+        )) result }
+    ensures carried { OnOk result (IsCarried accepted.now number carried.new) }
 {
-    match push_known(&mut pending.text, accepted, number, place) {
+    let place = carried.place;
+    let words = carried.words.as_slice();
+    match push_known(
+        &mut pending.text,
+        accepted,
+        number,
+        place,
+        words,
+        &mut carried.spelled,
+    ) {
         Ok(()) => pending.send_pieces(out),
         Err(_) => Err(pending.no_memory()),
     }
@@ -44,20 +58,24 @@ fn write_place<S: Sink>(
     accepted: &Accepted,
     number: usize,
     place: usize,
+    carried: &mut Carried,
     out: &mut S,
 ) -> Result<(), CertStop>
     requires going { (S.state out.old).failed ≡ false }
     requires lane { number < length accepted.now.plan }
     requires place { place < length (lane accepted.now.plan number).instructions }
-    ensures { IsSentOn (S.state out.old) (S.state out.new) pending.old pending.new
+    requires carried { IsCarried accepted.now number carried.old }
+    ensures sent { IsSentOn (S.state out.old) (S.state out.new) pending.old pending.new
         (place_text accepted.now.universe accepted.now.plan (known_rows accepted.now) number place)
         result }
+    ensures carried { OnOk result (IsCarried accepted.now number carried.new) }
 {
     let instructions = accepted.plan().lane(number).instructions();
     if !instructions[place].teaches() {
         return Ok(());
     }
-    write_known(pending, accepted, number, place + 1, out)
+    carried.go_on(accepted, number, place + 1);
+    write_known(pending, accepted, number, carried, out)
 }
 
 /// Sends the lines of a lane on.
@@ -65,16 +83,20 @@ fn write_lane<S: Sink>(
     pending: &mut Pending,
     accepted: &Accepted,
     number: usize,
+    carried: &mut Carried,
     out: &mut S,
 ) -> Result<(), CertStop>
     requires going { (S.state out.old).failed ≡ false }
     requires lane { number < length accepted.now.plan }
-    ensures { IsSentOn (S.state out.old) (S.state out.new) pending.old pending.new
+    requires ready { IsReady accepted.now.universe carried.old }
+    ensures sent { IsSentOn (S.state out.old) (S.state out.new) pending.old pending.new
         (lane_text accepted.now.universe accepted.now.plan (known_rows accepted.now) number)
         result }
+    ensures ready { OnOk result (IsReady accepted.now.universe carried.new) }
 {
+    carried.begin(accepted, number);
     for place in 0..accepted.plan().lane(number).instructions().len() {
-        write_place(pending, accepted, number, place, out)?;
+        write_place(pending, accepted, number, place, carried, out)?;
     }
     Ok(())
 }
@@ -83,15 +105,17 @@ fn write_lane<S: Sink>(
 fn write_lanes<S: Sink>(
     pending: &mut Pending,
     accepted: &Accepted,
+    carried: &mut Carried,
     out: &mut S,
 ) -> Result<(), CertStop>
     requires going { (S.state out.old).failed ≡ false }
+    requires ready { IsReady accepted.now.universe carried.old }
     ensures { IsSentOn (S.state out.old) (S.state out.new) pending.old pending.new
         (flat_map (lane_text accepted.now.universe accepted.now.plan (known_rows accepted.now))
         (range_with_len 0 (length accepted.now.plan))) result }
 {
     for number in 0..accepted.plan().lanes() {
-        write_lane(pending, accepted, number, out)?;
+        write_lane(pending, accepted, number, carried, out)?;
     }
     Ok(())
 }
@@ -146,15 +170,17 @@ fn begun(alloc: Global) -> Result<Pending, AllocError>
 fn write_lines<S: Sink>(
     pending: &mut Pending,
     accepted: &Accepted,
+    carried: &mut Carried,
     out: &mut S,
 ) -> Result<(), CertStop>
-    requires { (S.state out.old).failed ≡ false }
+    requires going { (S.state out.old).failed ≡ false }
+    requires ready { IsReady accepted.now.universe carried.old }
     ensures sent { IsSentOn (S.state out.old) (S.state out.new) pending.old pending.new
         (all_lines accepted.now.universe accepted.now.plan (known_rows accepted.now)
         accepted.now.order) result }
     ensures all { OnOk result (pending.new.text.items ≡ []) }
 {
-    write_lanes(pending, accepted, out)?;
+    write_lanes(pending, accepted, carried, out)?;
     write_order(pending, accepted, out)?;
     pending.send(out)
 }
@@ -180,7 +206,10 @@ pub fn write_certificate<S: Sink>(
     let Ok(mut pending) = begun(alloc) else {
         return Err(CertStop::OutOfMemory);
     };
-    write_lines(&mut pending, accepted, out)?;
+    let Ok(mut carried) = Carried::new(alloc, accepted.universe()) else {
+        return Err(CertStop::OutOfMemory);
+    };
+    write_lines(&mut pending, accepted, &mut carried, out)?;
     let count = pending.bytes_sent();
     Ok(count)
 }

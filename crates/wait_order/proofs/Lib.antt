@@ -32,3 +32,4 @@ pub mod ClockWords
 pub mod PastLaws
 pub mod PossibleRows
 pub mod TotalLaws
+pub mod WordRows

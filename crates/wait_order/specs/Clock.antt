@@ -4,8 +4,9 @@
 --
 --   count_of, IsClockFor     the counts of a clock; it has one for each lane
 --   row_of                   the initial archive, and of each lane so many outputs
+--   AreWithin                no more of a lane than of it in others
 --   IsCounted                an output that counts is this variant
-use Rattle.std.specs.Prelude.{◌≡◌, ℕ, ◌<◌, ◌||◌, ◌==◌, Bool, List, length, take, if◌then◌else◌}
+use Rattle.std.specs.Prelude.{◌≡◌, ℕ, ◌<◌, ◌≤◌, ◌||◌, ◌==◌, Bool, List, length, take, if◌then◌else◌}
 use Rattle.farm_model.specs.declared.types.Variant.{Variant}
 use Rattle.farm_model.specs.Below.{some_below}
 use Rattle.farm_model.specs.Universe.{Universe}
@@ -33,6 +34,10 @@ pub record IsClockFor (lanes : ℕ) (clock : Clock) : Type 0 where
 abbrev pub row_of : Universe → Plan → (ℕ → ℕ) → Variant → Bool
 row_of u p x v =
     initial u v || some_below (length p) (λ j. contains (take (x j) (lane_outputs u (lane p j))) v)
+
+-- of each of so many lanes no more than others
+abbrev pub AreWithin : ℕ → (ℕ → ℕ) → (ℕ → ℕ) → Type 0
+AreWithin lanes x y = (j : ℕ) → j < lanes → x j ≤ y j
 
 -- the output at a place counts, and is this variant of the name
 pub record IsCounted (lanes : List LaneOutputs) (x : ℕ → ℕ) (at : OutputPlace) (n b : ℕ)

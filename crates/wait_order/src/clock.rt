@@ -32,8 +32,23 @@ pub struct Clock<'k> {
     pub last: Option<usize>,
 }
 
+impl<'k> Clock<'k> {
+    /// The clock of the lane's beginning, which counts none.
+    pub fn begun(&self) -> Clock<'k>
+        ensures none { (j : ℕ) → count_of result j ≡ 0 }
+        ensures fits { (lanes : ℕ) → IsClockFor lanes self.now → IsClockFor lanes result }
+    {
+        Clock {
+            lane: self.lane,
+            own: 0,
+            columns: self.columns,
+            last: None,
+        }
+    }
+}
+
 /// How many outputs of a lane count.
-fn counted(clock: &Clock, other: usize) -> u64
+pub fn counted(clock: &Clock, other: usize) -> u64
     requires other { other < length clock.now.columns.now }
     requires there { IsIn (length (column_of clock.now.columns.now other)) clock.now.last }
     ensures { result ≡ count_of clock.now other }

@@ -112,6 +112,40 @@ impl Known {
         let clock = self.clock(number, place);
         self.outputs.row(alloc, universe, archive, &clock)
     }
+
+    /// Puts what a lane knows at a place into words, one for each name, whatever they had.
+    pub fn fill_words(&self, universe: &Universe, number: usize, place: usize, words: &mut [u64])
+        requires of_universe { self.now.universe ≡ universe.now }
+        requires lane { number < length self.now.plan }
+        requires place { place ≤ length (lane self.now.plan number).instructions }
+        requires words { length words.old ≡ names universe.now }
+        ensures { IsRowOf universe.now (rows_of self.now number place) words.new }
+    {
+        let clock = self.clock(number, place);
+        self.outputs.fill_words(universe, &clock, words);
+    }
+
+    /// Takes the words of what a lane knows at a place to another of its places. Where it knows no
+    /// less there, only what is new is looked at.
+    pub fn move_words(
+        &self,
+        universe: &Universe,
+        number: usize,
+        from: usize,
+        to: usize,
+        words: &mut [u64],
+    )
+        requires of_universe { self.now.universe ≡ universe.now }
+        requires lane { number < length self.now.plan }
+        requires from { from ≤ length (lane self.now.plan number).instructions }
+        requires to { to ≤ length (lane self.now.plan number).instructions }
+        requires words { IsRowOf universe.now (rows_of self.now number from) words.old }
+        ensures { IsRowOf universe.now (rows_of self.now number to) words.new }
+    {
+        let before = self.clock(number, from);
+        let clock = self.clock(number, to);
+        self.outputs.move_words(universe, &before, &clock, words);
+    }
 }
 
 impl KnownWords for Known {

@@ -17,6 +17,7 @@ mod rounds;
 mod standing;
 mod visit;
 mod wait_rows;
+mod words;
 
 pub use known::{Known, KnownWords};
 pub use outputs::Outputs;

@@ -17,6 +17,7 @@ use crate::clock::{Clock, clock_row, clock_word};
 use crate::columns::Counts;
 use crate::known_outputs::KnownOutputs;
 use crate::marks::{LaneOutputs, Past, walk};
+use crate::words::{fill_words, move_words};
 use bit_rows::Row;
 use farm_universe::Universe;
 use plan_asm::Plan;
@@ -158,6 +159,44 @@ impl Outputs {
             lanes: &self.lanes,
         };
         clock_row(alloc, known, archive, clock)
+    }
+
+    /// Puts the words of a clock in the place of others.
+    pub(crate) fn fill_words(&self, universe: &Universe, clock: &Clock, words: &mut [u64])
+        requires of_universe { self.now.universe ≡ universe.now }
+        requires clock { IsClockFor (length self.now.plan) clock.now }
+        requires words { length words.old ≡ names universe.now }
+        ensures { IsRowOf universe.now (row_of universe.now self.now.plan (count_of clock.now))
+            words.new }
+    {
+        let known = KnownOutputs {
+            universe,
+            lanes: &self.lanes,
+        };
+        fill_words(known, words, clock);
+    }
+
+    /// Puts the words of a clock in the place of those of another.
+    pub(crate) fn move_words(
+        &self,
+        universe: &Universe,
+        from: &Clock,
+        to: &Clock,
+        words: &mut [u64],
+    )
+        requires of_universe { self.now.universe ≡ universe.now }
+        requires from { IsClockFor (length self.now.plan) from.now }
+        requires to { IsClockFor (length self.now.plan) to.now }
+        requires words { IsRowOf universe.now
+            (row_of universe.now self.now.plan (count_of from.now)) words.old }
+        ensures { IsRowOf universe.now (row_of universe.now self.now.plan (count_of to.now))
+            words.new }
+    {
+        let known = KnownOutputs {
+            universe,
+            lanes: &self.lanes,
+        };
+        move_words(known, words, from, to);
     }
 
     /// What of a name may be in the archive at a place of a lane, as a word: what is there from the

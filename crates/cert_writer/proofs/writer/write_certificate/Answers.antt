@@ -14,6 +14,10 @@ pub returns-in_default : goal.returns-in_default
 returns-in_default g c =
     not_begun c.args.accepted.now c.keeps.ensures (g.S.Sink.state c.args.out.now)
 
+pub returns-in_default-new : goal.returns-in_default-new
+returns-in_default-new g c =
+    not_begun c.args.accepted.now c.keeps.ensures (g.S.Sink.state c.args.out.now)
+
 pub returns-in_err-write_lines : goal.returns-in_err-write_lines
 returns-in_err-write_lines g c =
     let e = err_from_is_err_and c.from_residual-in_err-write_lines.result

@@ -15,7 +15,10 @@ there : (p : Plan) (l i : ℕ) (xs : List Instruction) → xs ≡ (lane p l).ins
 there p l i xs is lt = element (lane p l).instructions i (omega (arith, lt, ap length is))
 
 pub loop-place-init : goal.loop-place-init
-loop-place-init g c = none_sent (g.S.Sink.state c.args.out.now) c.args.pending.now c.requires.going
+loop-place-init g c = record {
+  sent = none_sent (g.S.Sink.state c.args.out.now) c.args.pending.now c.requires.going;
+  carried = c.begin.ensures;
+}
 
 pub loop-place-preserved : goal.loop-place-preserved
 loop-place-preserved g c =
@@ -27,14 +30,19 @@ loop-place-preserved g c =
     ∙ ap (λ (p : Plan). (lane p l).instructions) c.plan.ensures.lanes) c.loop-place-test.true in
     let old = g.S.Sink.state c.args.out.now in
     let new = g.S.Sink.state c.write_place.new.out in
-    subst (IsSent old new c.args.pending.now c.write_place.new.pending)
-    (sym (text-next a.universe a.plan (known_rows a) l i x.0 x.1))
-    (sent_twice old (g.S.Sink.state c.loop-place.out) c.args.pending.now c.loop-place.pending
-    (text_to a.universe a.plan (known_rows a) l i) (place_text a.universe a.plan (known_rows a) l i)
-    c.loop-place.invariant new c.write_place.new.pending c.in_ok-write_place.ensures)
+    record {
+      sent = subst (IsSent old new c.args.pending.now c.write_place.new.pending)
+          (sym (text-next a.universe a.plan (known_rows a) l i x.0 x.1))
+          (sent_twice old (g.S.Sink.state c.loop-place.out) c.args.pending.now c.loop-place.pending
+          (text_to a.universe a.plan (known_rows a) l i)
+          (place_text a.universe a.plan (known_rows a) l i)
+          c.loop-place.invariant.sent new c.write_place.new.pending
+          c.in_ok-write_place.ensures.sent);
+      carried = c.in_ok-write_place.ensures.carried;
+    }
 
-pub returns-in_err-write_place : goal.returns-in_err-write_place
-returns-in_err-write_place g c =
+pub returns-in_err-write_place-clause-sent : goal.returns-in_err-write_place-clause-sent
+returns-in_err-write_place-clause-sent g c =
     let a = c.args.accepted.now in
     let l = c.args.number in
     let i = c.loop-place.place in
@@ -48,11 +56,11 @@ returns-in_err-write_place g c =
     (text_to a.universe a.plan (known_rows a) l i) (place_text a.universe a.plan (known_rows a) l i)
     (text_behind a.universe a.plan (known_rows a) l (i + 1))
     (lane_text a.universe a.plan (known_rows a) l) _
-    (text-around a.universe a.plan (known_rows a) l i x.0 x.1) c.loop-place.invariant
-    c.in_err-write_place.ensures)
+    (text-around a.universe a.plan (known_rows a) l i x.0 x.1) c.loop-place.invariant.sent
+    c.in_err-write_place.ensures.sent)
 
-pub returns : goal.returns
-returns g c =
+pub returns-clause-sent : goal.returns-clause-sent
+returns-clause-sent g c =
     let a = c.args.accepted.now in
     let l = c.args.number in
     let is = c.instructions-place-end.ensures ∙ ap (λ of. of.instructions) c.lane.ensures
@@ -61,4 +69,9 @@ returns g c =
     c.args.pending.now c.loop-place.pending)
     (text-all a.universe a.plan (known_rows a) l c.loop-place.place
     (omega (arith, c.loop-place-test.false, ap length is)))
-    c.loop-place.invariant
+    c.loop-place.invariant.sent
+
+pub returns-clause-ready : goal.returns-clause-ready
+returns-clause-ready g c =
+    let is = c.loop-place.invariant.carried in
+    record { long = is.words.long; spelled = is.spelled }

@@ -9,15 +9,21 @@ use Rattle.cert_writer.specs.Lines.{lane_text}
 use Rattle.cert_writer.specs.Sending.{IsSent}
 
 pub loop-number-init : goal.loop-number-init
-loop-number-init g c = none_sent (g.S.Sink.state c.args.out.now) c.args.pending.now c.requires.going
+loop-number-init g c = record {
+  sent = none_sent (g.S.Sink.state c.args.out.now) c.args.pending.now c.requires.going;
+  ready = c.requires.ready;
+}
 
 pub loop-number-preserved : goal.loop-number-preserved
 loop-number-preserved g c =
     let a = c.args.accepted.now in
-    next_number (lane_text a.universe a.plan (known_rows a)) c.loop-number.number
-    (g.S.Sink.state c.args.out.now) (g.S.Sink.state c.loop-number.out)
-    (g.S.Sink.state c.write_lane.new.out) c.args.pending.now c.loop-number.pending
-    c.loop-number.invariant c.write_lane.new.pending c.in_ok-write_lane.ensures
+    record {
+      sent = next_number (lane_text a.universe a.plan (known_rows a)) c.loop-number.number
+          (g.S.Sink.state c.args.out.now) (g.S.Sink.state c.loop-number.out)
+          (g.S.Sink.state c.write_lane.new.out) c.args.pending.now c.loop-number.pending
+          c.loop-number.invariant.sent c.write_lane.new.pending c.in_ok-write_lane.ensures.sent;
+      ready = c.in_ok-write_lane.ensures.ready;
+    }
 
 pub returns-in_err-write_lane : goal.returns-in_err-write_lane
 returns-in_err-write_lane g c =
@@ -28,9 +34,9 @@ returns-in_err-write_lane g c =
     (stopped_number (lane_text a.universe a.plan (known_rows a)) c.loop-number.number
     (g.S.Sink.state c.args.out.now) (g.S.Sink.state c.loop-number.out)
     (g.S.Sink.state c.write_lane.new.out) c.args.pending.now c.loop-number.pending
-    c.loop-number.invariant (length a.plan) _
+    c.loop-number.invariant.sent (length a.plan) _
     (omega (arith, c.loop-number-test.true, c.lanes-number-end.ensures.lanes, long))
-    c.in_err-write_lane.ensures)
+    c.in_err-write_lane.ensures.sent)
 
 pub returns : goal.returns
 returns g c =
@@ -47,4 +53,4 @@ returns g c =
     subst (λ n. IsSent (g.S.Sink.state c.args.out.now) (g.S.Sink.state c.loop-number.out)
     c.args.pending.now c.loop-number.pending
     (flat_map (lane_text a.universe a.plan (known_rows a)) (range_with_len 0 n)))
-    all c.loop-number.invariant
+    all c.loop-number.invariant.sent

@@ -6,6 +6,7 @@ use Rattle.wait_order.proofs.Leading.{read_at}
 use Rattle.cert_writer.proofs.Places.{place-quiet, place-learnt}
 use Rattle.cert_writer.proofs.SendingLaws.{none_sent}
 use Rattle.cert_writer.proofs.writer.write_place.Goals as goal
+use Rattle.cert_writer.specs.Lines.{row_text}
 use Rattle.cert_writer.specs.Sending.{IsSent, IsSentOn}
 
 there : (p : Plan) (l i : ℕ) (xs : List Instruction) (x : Instruction) → xs
@@ -13,8 +14,8 @@ there : (p : Plan) (l i : ℕ) (xs : List Instruction) (x : Instruction) → xs
     → i < length (lane p l).instructions → x ≡ get_or xs i x → instruction_at p l i ≡ Some x
 there p l i xs x is lt at = read_at p l xs i x is (omega (arith, lt, ap length is)) at
 
-pub returns-then-not-teaches : goal.returns-then-not-teaches
-returns-then-not-teaches g c =
+pub returns-then-not-teaches-clause-sent : goal.returns-then-not-teaches-clause-sent
+returns-then-not-teaches-clause-sent g c =
     let a = c.args.accepted.now in
     let l = c.args.number in
     let i = c.args.place in
@@ -29,8 +30,8 @@ returns-then-not-teaches g c =
     (sym c.teaches.ensures ∙ c.if-not-teaches.true)))
     (none_sent s c.args.pending.now c.requires.going)
 
-pub returns : goal.returns
-returns g c =
+pub returns-clause-sent : goal.returns-clause-sent
+returns-clause-sent g c =
     let a = c.args.accepted.now in
     let l = c.args.number in
     let i = c.args.place in
@@ -41,6 +42,7 @@ returns g c =
     c.requires.place c.index-instructions-place.is in
     subst (λ text. IsSentOn (g.S.Sink.state c.args.out.now) (g.S.Sink.state c.write_known.new.out)
     c.args.pending.now c.write_known.new.pending text c.write_known.result)
-    (sym (place-learnt a.universe a.plan (known_rows a) l i x at
+    (ap (row_text a.universe a.plan (known_rows a) l) c.go_on.ensures.place
+    ∙ sym (place-learnt a.universe a.plan (known_rows a) l i x at
     (sym c.teaches.ensures ∙ c.if-not-teaches.false)))
-    c.write_known.ensures
+    c.write_known.ensures.sent
