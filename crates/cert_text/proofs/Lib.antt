@@ -5,3 +5,6 @@ pub mod RowLists
 pub mod RowsSoFar
 pub mod Searches
 pub mod ItemLaws
+pub mod Ends
+pub mod Repeated
+pub mod ByteLanes

@@ -3,7 +3,8 @@
 --
 --   said u text      the variant that an item says, if it says one
 --   AreSaid u es     each text says the variant that is noted beside it
-use Rattle.std.specs.Prelude.{◌≡◌, ℕ, List, Option, Some, None, Result, Ok, Err}
+--   EachIsSaid u xs  each of these texts says its variant
+use Rattle.std.specs.Prelude.{◌≡◌, ℕ, List, All, Option, Some, None, Result, Ok, Err}
 use Rattle.std.specs.Global.{Vec}
 use Rattle.std.specs.Map.{lookup}
 use Rattle.std.specs.Str.{bytes_eq}
@@ -31,3 +32,11 @@ abbrev pub AreSaid : Universe → List (Vec ℕ × Variant) → Type 0
 AreSaid u es =
     (text : List ℕ) (v : Variant) → lookup (λ k. bytes_eq text k.items) es ≡ Some v
     → IsSaid u text v
+
+-- an item by its text, and a variant
+pub record SaidText : Type 0 where
+  pub text : List ℕ
+  pub variant : Variant
+
+abbrev pub EachIsSaid : Universe → List SaidText → Type 0
+EachIsSaid u items = All (λ (item : SaidText). IsSaid u item.text item.variant) items

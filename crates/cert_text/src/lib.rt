@@ -9,6 +9,8 @@ mod list;
 mod places;
 mod printer;
 mod reader;
+mod repeats;
+mod same;
 mod spelled;
 
 pub use certificate::Certificate;

@@ -1,13 +1,15 @@
 //! The row of a list of variants.
 
-ghost use Rattle.std.specs.Prelude.{◌≡◌, ◌<◌, None, All, length, IfOk, IfSome};
+ghost use Rattle.std.specs.Prelude.{◌≡◌, ◌<◌, None, All, length, IfOk, IfSome, OnOk};
 ghost use Rattle.std.specs.Option.{option_map};
+ghost use Rattle.cert_text.specs.Items.{EachIsSaid};
 ghost use Rattle.cert_text.specs.Rows.{IsIn, find_variant, item_variant, is_behind, variants_behind, row_at};
 ghost use Rattle.farm_model.specs.Packages.{names, initial};
 ghost use Rattle.farm_universe.specs.Kept.{IsKept};
 ghost use Rattle.farm_universe.specs.ListText.{words_of};
 
-use crate::spelled::{Spelled, variant_said};
+use crate::repeats::{Repeats, variant_repeated};
+use crate::spelled::Spelled;
 use bit_rows::Row;
 use deb_relation::{Entry, next_entry};
 use deb_version::Version;
@@ -42,7 +44,7 @@ pub fn item_variant(universe: &Universe, item: &Entry) -> Option<Variant>
 }
 
 /// Tells whether a variant has a later name than the last one or, of the same name, a higher bit.
-fn is_behind(last: Option<Variant>, variant: Variant) -> bool
+pub fn is_behind(last: Option<Variant>, variant: Variant) -> bool
     ensures { result ≡ is_behind last variant }
 {
     match last {
@@ -68,15 +70,23 @@ fn is_initial(universe: &Universe, variant: Variant) -> bool
 /// # Errors
 ///
 /// [`AllocError`] where memory is refused.
-pub fn read_row(alloc: Global, spelled: Spelled<'_>, text: &[u8]) -> Result<Option<Row>, AllocError>
-    ensures { IfOk result (λ row. row ≡ row_at spelled.entry.universe.now text.now) }
+pub fn read_row<'t>(
+    alloc: Global,
+    spelled: Spelled<'_>,
+    repeats: &mut Repeats<'t>,
+    text: &'t [u8],
+) -> Result<Option<Row>, AllocError>
+    requires { EachIsSaid spelled.universe.now repeats.old }
+    ensures row { IfOk result (λ row. row ≡ row_at spelled.entry.universe.now text.now) }
+    ensures kept { OnOk result (EachIsSaid spelled.entry.universe.now repeats.new) }
 {
     let universe = spelled.universe;
+    repeats.begin_line();
     let mut row = Row::new(alloc, universe.names() as usize)?;
     let mut last = None;
     let mut left = Some(text);
     while let Some((item, after)) = next_entry(left) {
-        let Some(variant) = variant_said(alloc, spelled, item)? else {
+        let Some(variant) = variant_repeated(alloc, spelled, repeats, item)? else {
             return Ok(None);
         };
         if !is_behind(last, variant) || is_initial(universe, variant) {

@@ -6,6 +6,7 @@ ghost use Rattle.std.specs.Option.{option_map};
 ghost use Rattle.cert_text.specs.Certificates.{IsCertificate, count_rows, row_places};
 ghost use Rattle.cert_text.specs.CertText.{first_row, rows_in, lanes_in, order_at, rest_in, certificate_in, in_text, certificate_of};
 ghost use Rattle.cert_text.specs.Faults.{refusal_of};
+ghost use Rattle.cert_text.specs.Items.{EachIsSaid};
 ghost use Rattle.cert_text.specs.declared.fault.CertFault.TheVariants.{Text};
 ghost use Rattle.deb_stanza.specs.Plain.{plain_lines_at};
 ghost use Rattle.deb_stanza.specs.declared.error.TheConstants.{MOST_BYTES};
@@ -18,6 +19,7 @@ use crate::certificate::Certificate;
 use crate::fault::CertFault;
 use crate::line::{read_known, read_order};
 use crate::places::row_places;
+use crate::repeats::Repeats;
 use crate::spelled::{Spelled, spelled_variants};
 use bit_rows::Row;
 use deb_stanza::{Lines, plain_lines};
@@ -35,22 +37,26 @@ struct Source<'a, 't> {
 }
 
 /// The row that the line at this place says.
-fn read_first(
+fn read_first<'t>(
     alloc: Global,
-    source: Source<'_, '_>,
+    source: Source<'_, 't>,
+    repeats: &mut Repeats<'t>,
     name: &[u8],
     number: u32,
     at: usize,
 ) -> Result<Row, CertFault>
-    requires { at ≤ length source.lines.now }
+    requires at { at ≤ length source.lines.now }
+    requires kept { EachIsSaid source.spelled.universe.now repeats.old }
     ensures row { Gives refusal_of (λ row. row) result (first_row source.entry.spelled.universe.now
         source.entry.end name.now number (drop at source.entry.lines.now)) }
     ensures there { OnOk result (at < length source.entry.lines.now) }
+    ensures kept { OnOk result (EachIsSaid source.entry.spelled.universe.now repeats.new) }
 {
     if at == source.lines.count() {
         return Err(CertFault::Text { line: source.end });
     }
-    match read_known(alloc, source.spelled, name, number, source.lines.line(at))? {
+    let line = source.lines.line(at);
+    match read_known(alloc, source.spelled, repeats, name, number, line)? {
         Some(row) => Ok(row),
         None => Err(CertFault::Text {
             line: source.lines.number(at),
@@ -74,9 +80,11 @@ fn read_rows(
     ensures count { IfOk result (λ rows. length rows.items ≡ length numbers.now) }
     ensures there { OnOk result (start + length numbers.now ≤ length source.entry.lines.now) }
 {
+    let mut repeats = Repeats::new(alloc);
     let mut rows = Vec::new(alloc);
     for i in 0..numbers.len() {
-        rows.push(read_first(alloc, source, name, numbers[i], start + i)?)?;
+        let row = read_first(alloc, source, &mut repeats, name, numbers[i], start + i)?;
+        rows.push(row)?;
     }
     Ok(rows)
 }

@@ -1,5 +1,5 @@
 -- Rows behind instructions, by subsets of rows.
-use Rattle.std.proofs.Common.{◌≡◌, ℕ, zero, suc, ◌<◌, ◌≤◌, Bool, true, false, not, ◌||◌, nat_lt, List, [], length, take, Some, None, inl, inr, sym, ap, subst, ◌∙◌, arith}
+use Rattle.std.proofs.Common.{◌≡◌, ℕ, zero, suc, ◌<◌, ◌≤◌, Bool, true, false, not, ◌||◌, nat_lt, List, [], length, take, Some, None, inl, inr, refl, sym, ap, subst, ◌∙◌, arith}
 use Rattle.std.specs.Prelude.{◌↔◌, IsTrue}
 use Rattle.std.proofs.lemmas.Bool.{cases_Bool, or_cases, or_left, or_right, and_parts, and_from, both_ways, lt-ltb, not-true, not_from_false, false≢true}
 use Rattle.std.proofs.lemmas.List.{take_all}
@@ -103,6 +103,36 @@ module _ (u : Universe) (p : Plan) (rows : Rows) (sound : IsUniverse u) (l i : �
       λ h. facts.1 (λ c v source some. let s = source-of c source in (h v some).1 c s.0 s.1),
     )
 
+-- what is known at one place is known at the other
+abbrev pub IsWithin : Rows → ℕ → ℕ → ℕ → Type 0
+IsWithin rows l i k = (v : Variant) → rows l i v ≡ true → rows l k v ≡ true
+
+-- by what is known at the two places alone
+module _ (u : Universe) (p : Plan) (rows : Rows) (l i : ℕ) (x : Instruction)
+    (at : instruction_at p l i ≡ Some x) where
+  -- no more than was known
+  pub within-justified : IsWithin rows l (suc i) (row_before p l i x)
+      → IsTrue true ↔ IsJustified u p rows l (suc i)
+  within-justified within = (
+    λ t y v there e. inl (subst (λ z. rows l (row_before p l i z) v ≡ true)
+        (same_Some x y (sym at ∙ there)) (within v e)),
+    λ j. refl,
+  )
+
+  -- more, behind an instruction that adds nothing
+  pub more-unjustified : (answer : Bool)
+      → IsTrue answer ↔ IsWithin rows l (suc i) (row_before p l i x) → answer ≡ false
+      → ((v : Variant) → Adds u p rows l i v x → ⊥)
+      → IsTrue false ↔ IsJustified u p rows l (suc i)
+  more-unjustified answer within miss none = (
+    λ f. absurd (false≢true f),
+    λ j. absurd (both_ways answer miss (within.1 (λ v e.
+        elim (j x v at e) [
+          | inl old ↦ old
+          | inr new ↦ absurd (none v new)
+        ]))),
+  )
+
 -- the row behind an instruction, by what is in it
 module _ (u : Universe) (p : Plan) (rows : Rows) (l i : ℕ) (lt : l < length p)
     (below : i < length (lane p l).instructions) (known : HaveKnown u p rows) (x : Instruction)
@@ -125,21 +155,6 @@ module _ (u : Universe) (p : Plan) (rows : Rows) (l i : ℕ) (lt : l < length p)
 
   is-there : (y : Instruction) → instruction_at p l i ≡ Some y → x ≡ y
   is-there y there = same_Some x y (sym at ∙ there)
-
-  -- an instruction that adds nothing
-  pub quiet-justified : ((v : Variant) → Adds u p rows l i v x → ⊥) → (answer : Bool)
-      → (IsTrue answer ↔ IsSubset (variants_of after) (variants_of before))
-      → IsTrue answer ↔ IsJustified u p rows l (suc i)
-  quiet-justified none answer subset = (
-    λ t y v there e. inl (subst (λ z. Old z v) (is-there y there)
-        (sym (before-has v) ∙ subset.0 t v.name v.bit (after-has v ∙ e))),
-    λ j. subset.1 (λ n b some.
-        let v = variant n b in
-        elim (j x v at (sym (after-has v) ∙ some)) [
-          | inl old ↦ before-has v ∙ old
-          | inr new ↦ absurd (none v new)
-        ]),
-  )
 
   -- one that looks for something
   pub asked-justified : (test : Variant → Bool) → asked u x ≡ Some test → (new : List ℕ)

@@ -152,9 +152,11 @@ fn is_justified(alloc: Global, at: At<'_>) -> Result<bool, AllocError>
     let place = at.place;
     let _lanes = claim.plan.lanes();
     let instruction = &claim.plan.lane(number).instructions()[place];
-    let before = claim
-        .known
-        .row(number, place_before(instruction, place, at.when));
+    let from = place_before(instruction, place, at.when);
+    if claim.known.knows_within(number, place + 1, from) {
+        return Ok(true);
+    }
+    let before = claim.known.row(number, from);
     let after = claim.known.row(number, place + 1);
     if let Some(recipe) = instruction.published() {
         let count = claim.universe.outputs(recipe).len();
@@ -167,7 +169,7 @@ fn is_justified(alloc: Global, at: At<'_>) -> Result<bool, AllocError>
         let yes = may_follow(at, asked, &new)?;
         return Ok(yes);
     }
-    Ok(after.within(before))
+    Ok(false)
 }
 
 /// Finds the first row behind an instruction of a lane that is not justified.

@@ -1,6 +1,7 @@
 //! Known rows as a certificate states them: one for each place of a plan at which they change.
 
-ghost use Rattle.std.specs.Prelude.{◌≡◌, ◌<◌, ◌≤◌, length, slice_index};
+ghost use Rattle.std.specs.Prelude.{◌≡◌, ◌<◌, ◌≤◌, ◌↔◌, true, IsTrue, length, slice_index};
+ghost use Rattle.farm_model.specs.declared.types.Variant.{Variant};
 ghost use Rattle.plan_model.specs.Plan.{lane};
 ghost use Rattle.sat_rows.specs.Rows.{IsRowOf};
 ghost use Rattle.plan_cert.specs.PlaceRows.{rows_of, AreKept};
@@ -101,6 +102,20 @@ impl StatedRows {
         ensures { IsRowOf self.now.universe (rows_of self.now number place) result.now }
     {
         &self.rows[self.places[number].number(place)]
+    }
+
+    /// Tells whether all that a lane knows at a place is known to it at another, too. Places that
+    /// share a row are not compared.
+    pub fn knows_within(&self, number: usize, place: usize, other: usize) -> bool
+        requires lane { number < length self.now.plan }
+        requires place { place ≤ length (lane self.now.plan number).instructions }
+        requires other { other ≤ length (lane self.now.plan number).instructions }
+        ensures { IsTrue result ↔ ((v : Variant) → rows_of self.now number place v ≡ true
+            → rows_of self.now number other v ≡ true) }
+    {
+        let places = &self.places[number];
+        let (here, there) = (places.number(place), places.number(other));
+        here == there || self.rows[here].within(&self.rows[there])
     }
 }
 

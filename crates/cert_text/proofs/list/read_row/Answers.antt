@@ -4,12 +4,12 @@ use Rattle.deb_relation.specs.Field.{entries_left}
 use Rattle.farm_model.specs.Packages.{names}
 use Rattle.farm_universe.specs.ListText.{words_of}
 use Rattle.cert_text.specs.Rows.{comes_behind}
-use Rattle.cert_text.proofs.RowsSoFar.{so_far-push, so_far-words, left-none, left-stops, left-goes, left-ends, variants_said, row-said}
+use Rattle.cert_text.proofs.RowsSoFar.{so_far-nil, left-begins, so_far-push, so_far-words, left-none, left-stops, left-goes, left-ends, variants_said, row-said}
 use Rattle.cert_text.proofs.list.read_row.Goals.{then-not-is_behind-via-then-not-is_behind, then-not-is_behind-via-else-not-is_behind+then-is_initial}
 use Rattle.cert_text.proofs.list.read_row.Goals as goal
 
-pub returns-in_default-2 : goal.returns-in_default-2
-returns-in_default-2 c =
+pub returns-in_default-2-clause-row : goal.returns-in_default-2-clause-row
+returns-in_default-2-clause-row c =
     let u = c.args.spelled.universe.now in
     let none : variants_said u None (entries_left (Some c.args.text.now)) ≡ None =
     left-none u c.loop-item.invariant.variants c.loop-item.last c.in-Some.item.now _ _ _
@@ -17,8 +17,8 @@ returns-in_default-2 c =
     (sym c.in_ok-variant.ensures.said ∙ c.in_default-2.is) in
     sym (row-said u c.args.text.now ∙ ap (option_map (words_of (names u))) none)
 
-pub returns-then-not-is_behind : goal.returns-then-not-is_behind
-returns-then-not-is_behind c =
+pub returns-then-not-is_behind-clause-row : goal.returns-then-not-is_behind-clause-row
+returns-then-not-is_behind-clause-row c =
     let u = c.args.spelled.universe.now in
     let last = c.loop-item.last in
     let v = c.in-Some-2.variant in
@@ -37,6 +37,17 @@ returns-then-not-is_behind c =
           ) refl)
     ]
 
+pub loop-item-init : goal.loop-item-init
+loop-item-init c =
+    let u = c.args.spelled.universe.now in
+    record {
+      variants = [];
+      row = so_far-nil (names u) c.in_ok-row.row (c.in_ok-row.ensures.len ∙ c.names.ensures.number)
+          c.in_ok-row.ensures.set;
+      left = left-begins u (entries_left (Some c.args.text.now));
+      kept = c.begin_line.ensures u c.requires;
+    }
+
 pub loop-item-preserved : goal.loop-item-preserved
 loop-item-preserved c =
     let u = c.args.spelled.universe.now in
@@ -53,10 +64,11 @@ loop-item-preserved c =
           c.in_ok-set_bit.ensures.len c.in_ok-set_bit.ensures.set;
       left = left-goes u vs c.loop-item.last c.in-Some.item.now _ _ _ c.in-Some.ensures.entry
           c.loop-item.invariant.left v (sym c.in_ok-variant.ensures.said ∙ c.in-Some-2.is) fine;
+      kept = c.in_ok-variant.ensures.kept;
     }
 
-pub returns : goal.returns
-returns c =
+pub returns-clause-row : goal.returns-clause-row
+returns-clause-row c =
     let u = c.args.spelled.universe.now in
     let vs = c.loop-item.invariant.variants in
     let total : variants_said u None (entries_left (Some c.args.text.now)) ≡ Some vs =

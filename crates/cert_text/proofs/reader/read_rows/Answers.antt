@@ -16,12 +16,13 @@ loop-i-preserved c =
     record {
       so_far = rw (c.in_ok-push.ensures.items, ← next)
           (front-goes c.loop-i.rows.items _ _ _ (rw cut at c.loop-i.invariant.so_far) _
-          c.in_ok-read_first.ensures.row);
+          c.in_ok-row.ensures.row);
       count = omega (
         arith,
         ap length c.in_ok-push.ensures.items,
-        length-append c.loop-i.rows.items (c.in_ok-read_first.field-0 ∷ []),
+        length-append c.loop-i.rows.items (c.in_ok-row.row ∷ []),
         c.loop-i.invariant.count,
       );
-      there = omega (arith, c.in_ok-read_first.ensures.there);
+      kept = c.in_ok-row.ensures.kept;
+      there = omega (arith, c.in_ok-row.ensures.there);
     }

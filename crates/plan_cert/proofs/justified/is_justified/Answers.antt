@@ -1,3 +1,4 @@
+use Rattle.std.specs.Prelude.{◌↔◌, IsTrue}
 use Rattle.std.proofs.Common.{◌≡◌, ◌+◌, suc, Some, length, ap, subst, ◌∙◌, List, ℕ, arith}
 use Rattle.bit_rows.specs.Sets.{variants_of, IsDifference}
 use Rattle.farm_model.specs.Universe.{Universe}
@@ -11,7 +12,7 @@ use Rattle.verdict_laws.proofs.RowBefore.{row_before-le}
 use Rattle.plan_cert.specs.PlaceRows.{rows_of}
 use Rattle.plan_cert.specs.Opens.{place_before, IsAskedRow}
 use Rattle.plan_cert.proofs.HeldLaws.{before-is}
-use Rattle.plan_cert.proofs.JustifiedLaws.{quiet-justified, publish-justified, asked-justified, adds-nothing}
+use Rattle.plan_cert.proofs.JustifiedLaws.{IsWithin, more-unjustified, within-justified, publish-justified, asked-justified, adds-nothing}
 use Rattle.plan_cert.proofs.justified.is_justified.Goals as goal
 
 pub overflow_add-place : goal.overflow_add-place
@@ -33,11 +34,11 @@ returns-in-Some c =
     let at : instruction_at p l i ≡ Some x =
     read_at p l c.instructions.result.now i x xs (omega (arith, ap length xs, c.args.at.in_lane))
     c.index-instructions-place.is in
-    let place : c.place_before.result ≡ row_before p l i x =
-    c.place_before.ensures ∙ ap (λ o. place_before i o x) c.args.at.when_is ∙ before-is p l i x in
+    let place : c.place_before-from.result ≡ row_before p l i x =
+    c.place_before-from.ensures ∙ ap (λ o. place_before i o x) c.args.at.when_is ∙ before-is p l i x in
     let before_is : IsRowOf u (rows l (row_before p l i x)) c.row-before.result.now =
     subst (λ (k : ℕ). IsRowOf u (rows l k) c.row-before.result.now) place
-    (subst (λ (w : Universe). IsRowOf w (rows l c.place_before.result) c.row-before.result.now)
+    (subst (λ (w : Universe). IsRowOf w (rows l c.place_before-from.result) c.row-before.result.now)
     c.args.at.claim.of_universe c.row-before.ensures) in
     let next : i + 1 ≡ suc i = omega arith in
     let after_is : IsRowOf u (rows l (suc i)) c.row-after.result.now =
@@ -66,11 +67,11 @@ returns-in-Some-2 c =
     let at : instruction_at p l i ≡ Some x =
     read_at p l c.instructions.result.now i x xs (omega (arith, ap length xs, c.args.at.in_lane))
     c.index-instructions-place.is in
-    let place : c.place_before.result ≡ row_before p l i x =
-    c.place_before.ensures ∙ ap (λ o. place_before i o x) c.args.at.when_is ∙ before-is p l i x in
+    let place : c.place_before-from.result ≡ row_before p l i x =
+    c.place_before-from.ensures ∙ ap (λ o. place_before i o x) c.args.at.when_is ∙ before-is p l i x in
     let before_is : IsRowOf u (rows l (row_before p l i x)) c.row-before.result.now =
     subst (λ (k : ℕ). IsRowOf u (rows l k) c.row-before.result.now) place
-    (subst (λ (w : Universe). IsRowOf w (rows l c.place_before.result) c.row-before.result.now)
+    (subst (λ (w : Universe). IsRowOf w (rows l c.place_before-from.result) c.row-before.result.now)
     c.args.at.claim.of_universe c.row-before.ensures) in
     let next : i + 1 ≡ suc i = omega arith in
     let after_is : IsRowOf u (rows l (suc i)) c.row-after.result.now =
@@ -97,22 +98,51 @@ returns c =
     let at : instruction_at p l i ≡ Some x =
     read_at p l c.instructions.result.now i x xs (omega (arith, ap length xs, c.args.at.in_lane))
     c.index-instructions-place.is in
-    let place : c.place_before.result ≡ row_before p l i x =
-    c.place_before.ensures ∙ ap (λ o. place_before i o x) c.args.at.when_is ∙ before-is p l i x in
-    let before_is : IsRowOf u (rows l (row_before p l i x)) c.row-before.result.now =
-    subst (λ (k : ℕ). IsRowOf u (rows l k) c.row-before.result.now) place
-    (subst (λ (w : Universe). IsRowOf w (rows l c.place_before.result) c.row-before.result.now)
-    c.args.at.claim.of_universe c.row-before.ensures) in
+    let place : c.place_before-from.result ≡ row_before p l i x =
+    c.place_before-from.ensures ∙ ap (λ o. place_before i o x) c.args.at.when_is
+    ∙ before-is p l i x in
     let next : i + 1 ≡ suc i = omega arith in
-    let after_is : IsRowOf u (rows l (suc i)) c.row-after.result.now =
-    subst (λ (k : ℕ). IsRowOf u (rows l k) c.row-after.result.now) next
-    (subst (λ (w : Universe). IsRowOf w (rows l (i + 1)) c.row-after.result.now)
-    c.args.at.claim.of_universe c.row-after.ensures) in
-    quiet-justified u p rows l i c.args.at.in_plan c.args.at.in_lane c.args.at.claim.have_known x at
-    c.row-before.result.now c.row-after.result.now before_is after_is
+    more-unjustified u p rows l i x at c.knows_within.result
+    (subst (λ (k : ℕ). IsTrue c.knows_within.result ↔ IsWithin rows l (suc i) k) place
+    (subst (λ (k : ℕ). IsTrue c.knows_within.result ↔ IsWithin rows l k c.place_before-from.result)
+    next c.knows_within.ensures))
+    c.if-knows_within.false
     (λ v. adds-nothing u p rows l i v x c.in_default.ensures.none
     (subst (IsAskedRow u x) c.in_default-2.is c.in_ok-asked.ensures))
-    c.within-2.result c.within-2.ensures.set
+
+pub returns-then-knows_within : goal.returns-then-knows_within
+returns-then-knows_within c =
+    let u = c.args.at.claim.universe.now in
+    let p = c.args.at.claim.plan.now.lanes in
+    let rows = rows_of c.args.at.claim.known.now in
+    let l = c.args.at.number in
+    let i = c.args.at.place in
+    let x = c.index-instructions-place.result in
+    let xs = c.instructions.ensures ∙ ap (λ of. of.instructions) c.lane.ensures in
+    let at : instruction_at p l i ≡ Some x =
+    read_at p l c.instructions.result.now i x xs (omega (arith, ap length xs, c.args.at.in_lane))
+    c.index-instructions-place.is in
+    let place : c.place_before-from.result ≡ row_before p l i x =
+    c.place_before-from.ensures ∙ ap (λ o. place_before i o x) c.args.at.when_is
+    ∙ before-is p l i x in
+    let next : i + 1 ≡ suc i = omega arith in
+    within-justified u p rows l i x at
+    (subst (λ (k : ℕ). IsWithin rows l (suc i) k) place
+    (subst (λ (k : ℕ). IsWithin rows l k c.place_before-from.result) next
+    (c.knows_within.ensures.0 c.if-knows_within.true)))
+
+pub knows_within-requires-clause-other : goal.knows_within-requires-clause-other
+knows_within-requires-clause-other c =
+    let p = c.args.at.claim.plan.now.lanes in
+    let l = c.args.at.number in
+    let i = c.args.at.place in
+    let x = c.index-instructions-place.result in
+    let place : c.place_before-from.result ≡ row_before p l i x =
+    c.place_before-from.ensures ∙ ap (λ o. place_before i o x) c.args.at.when_is
+    ∙ before-is p l i x in
+    let le = row_before-le p l i x in
+    let same = ap (λ q. length (lane q l).instructions) c.args.at.claim.of_plan in
+    omega (arith, place, le, c.args.at.in_lane, same)
 
 pub row-before-requires-clause-place : goal.row-before-requires-clause-place
 row-before-requires-clause-place c =
@@ -120,8 +150,8 @@ row-before-requires-clause-place c =
     let l = c.args.at.number in
     let i = c.args.at.place in
     let x = c.index-instructions-place.result in
-    let place : c.place_before.result ≡ row_before p l i x =
-    c.place_before.ensures ∙ ap (λ o. place_before i o x) c.args.at.when_is ∙ before-is p l i x in
+    let place : c.place_before-from.result ≡ row_before p l i x =
+    c.place_before-from.ensures ∙ ap (λ o. place_before i o x) c.args.at.when_is ∙ before-is p l i x in
     let le = row_before-le p l i x in
     let same = ap (λ q. length (lane q l).instructions) c.args.at.claim.of_plan in
     omega (arith, place, le, c.args.at.in_lane, same)
