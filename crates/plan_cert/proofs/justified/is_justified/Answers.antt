@@ -35,7 +35,8 @@ returns-in-Some c =
     read_at p l c.instructions.result.now i x xs (omega (arith, ap length xs, c.args.at.in_lane))
     c.index-instructions-place.is in
     let place : c.place_before-from.result ≡ row_before p l i x =
-    c.place_before-from.ensures ∙ ap (λ o. place_before i o x) c.args.at.when_is ∙ before-is p l i x in
+    c.place_before-from.ensures ∙ ap (λ o. place_before i o x) c.args.at.when_is
+    ∙ before-is p l i x in
     let before_is : IsRowOf u (rows l (row_before p l i x)) c.row-before.result.now =
     subst (λ (k : ℕ). IsRowOf u (rows l k) c.row-before.result.now) place
     (subst (λ (w : Universe). IsRowOf w (rows l c.place_before-from.result) c.row-before.result.now)
@@ -68,7 +69,8 @@ returns-in-Some-2 c =
     read_at p l c.instructions.result.now i x xs (omega (arith, ap length xs, c.args.at.in_lane))
     c.index-instructions-place.is in
     let place : c.place_before-from.result ≡ row_before p l i x =
-    c.place_before-from.ensures ∙ ap (λ o. place_before i o x) c.args.at.when_is ∙ before-is p l i x in
+    c.place_before-from.ensures ∙ ap (λ o. place_before i o x) c.args.at.when_is
+    ∙ before-is p l i x in
     let before_is : IsRowOf u (rows l (row_before p l i x)) c.row-before.result.now =
     subst (λ (k : ℕ). IsRowOf u (rows l k) c.row-before.result.now) place
     (subst (λ (w : Universe). IsRowOf w (rows l c.place_before-from.result) c.row-before.result.now)
@@ -151,7 +153,8 @@ row-before-requires-clause-place c =
     let i = c.args.at.place in
     let x = c.index-instructions-place.result in
     let place : c.place_before-from.result ≡ row_before p l i x =
-    c.place_before-from.ensures ∙ ap (λ o. place_before i o x) c.args.at.when_is ∙ before-is p l i x in
+    c.place_before-from.ensures ∙ ap (λ o. place_before i o x) c.args.at.when_is
+    ∙ before-is p l i x in
     let le = row_before-le p l i x in
     let same = ap (λ q. length (lane q l).instructions) c.args.at.claim.of_plan in
     omega (arith, place, le, c.args.at.in_lane, same)

@@ -18,10 +18,13 @@ returns-else-here-there c =
     let long = ap (λ p. length (lane p l).instructions) plan in
     let lane_places : c.index-places.result.now ≡ get_or places l [] =
     c.index-places.ensures
-    ∙ get_or_default places l c.index-places.result.now [] (omega (arith, lt, c.self.invariant.lanes)) in
-    let number : (n i : ℕ) → n ≡ slice_index c.index-places.result.now i → n ≡ row_number places l i =
+    ∙ get_or_default places l c.index-places.result.now []
+    (omega (arith, lt, c.self.invariant.lanes)) in
+    let number : (n i : ℕ) → n ≡ slice_index c.index-places.result.now i
+    → n ≡ row_number places l i =
     λ n i is. is ∙ ap (λ (ns : List ℕ). slice_index ns i) lane_places in
-    let words : (row : List ℕ) (n i : ℕ) → i ≤ length (lane c.self.inside.plan.value.lanes l).instructions
+    let words : (row : List ℕ) (n i : ℕ)
+    → i ≤ length (lane c.self.inside.plan.value.lanes l).instructions
     → row ≡ get_or rows n row → n ≡ row_number places l i → row ≡ words_at known l i =
     λ row n i le is at.
     is
