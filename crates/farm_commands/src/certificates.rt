@@ -1,6 +1,6 @@
 //! What is answered about certificates.
 
-ghost use Rattle.std.specs.Prelude.{◌≡◌, OnErr};
+ghost use Rattle.std.specs.Prelude.{◌≡◌, IfOk, OnErr};
 ghost use Rattle.cert_text.specs.CertText.{certificate_of};
 ghost use Rattle.farm_commands.specs.Answers.{IsAnswered};
 ghost use Rattle.farm_commands.specs.CertAnswers.{AnswersCert, AnswersVerifyCert, IsCertAnswered, IsTextVerdict, MayTellLength, ShowsCert, TellsCert};
@@ -13,12 +13,12 @@ use crate::source::MOST_FILE;
 use crate::status::FINE;
 use cert_text::{CertFault, read};
 use cert_writer::write_certificate;
-use farm_input::{Planned, Texts, read_texts};
+use farm_input::Texts;
 use farm_report::write_cert_verdict;
 use itoa::Buffer;
 use plan_asm::Plan;
-use plan_cert::check_certificate;
-use plan_verifier::{Accepted, Refusal, check};
+use plan_cert::check_by_tables;
+use plan_verifier::{Accepted, Ready, Refusal, check, read_ready};
 use report_sink::{Sink, write_pieces};
 use std::alloc::Global;
 use std::thread::Threads;
@@ -102,15 +102,21 @@ pub fn answer_cert<'a, S: Sink, E: Sink>(
 fn check_text(
     rt: &(impl Threads + Sync),
     alloc: Global,
-    planned: &Planned,
+    ready: &Ready,
     cert: &[u8],
 ) -> Result<(), CertFault>
-    requires sound { IsSound planned.now.universe planned.now.plan.lanes }
-    ensures { IsTextVerdict planned.now.universe planned.now.plan.lanes
-        (certificate_of planned.now.universe planned.now.plan.lanes cert.now) result }
+    requires sound { IsSound ready.now.planned.universe ready.now.planned.plan.lanes }
+    requires tables { IfOk ready.now.tables (λ tables. tables ≡ ready.now.planned.universe) }
+    ensures { IsTextVerdict ready.now.planned.universe ready.now.planned.plan.lanes
+        (certificate_of ready.now.planned.universe ready.now.planned.plan.lanes cert.now) result }
 {
-    let certificate = read(alloc, &planned.universe, &planned.plan, cert)?;
-    check_certificate(rt, alloc, &planned.universe, &planned.plan, &certificate)
+    let universe = &ready.planned.universe;
+    let plan = &ready.planned.plan;
+    let certificate = read(alloc, universe, plan, cert)?;
+    match &ready.tables {
+        Ok(tables) => check_by_tables(rt, alloc, universe, tables, plan, &certificate),
+        Err(_) => Err(CertFault::Memory),
+    }
 }
 
 /// Answers with the verdict on a certificate. Want of memory is none.
@@ -147,10 +153,18 @@ pub fn answer_verify_cert<'a, S: Sink>(
     ensures { IsAnswered (AnswersVerifyCert cert.now (texts_view texts.entry)) (S.state out.old)
         (S.state out.new) result }
 {
-    let planned = match read_texts(alloc, texts.packages, texts.sources, texts.farm, texts.plan) {
-        Ok(planned) => planned,
+    let made = read_ready(
+        rt,
+        alloc,
+        texts.packages,
+        texts.sources,
+        texts.farm,
+        texts.plan,
+    );
+    let ready = match made {
+        Ok(ready) => ready,
         Err(fault) => return answer_verdict(Err(Refusal::from(fault)), out),
     };
-    let verdict = check_text(rt, alloc, &planned, cert);
-    answer_certified(&planned.plan, verdict, out)
+    let verdict = check_text(rt, alloc, &ready, cert);
+    answer_certified(&ready.planned.plan, verdict, out)
 }

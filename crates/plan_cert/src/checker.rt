@@ -84,6 +84,35 @@ fn check_claim(
     Ok(())
 }
 
+/// Checks a certificate of a plan as [`check_certificate`] does, by the rows of its universe.
+///
+/// # Errors
+///
+/// Those of [`check_certificate`].
+pub fn check_by_tables(
+    rt: &(impl Threads + Sync),
+    alloc: Global,
+    universe: &Universe,
+    tables: &Tables,
+    plan: &Plan,
+    certificate: &Certificate,
+) -> Result<(), CertFault>
+    requires sound { IsSound universe.now plan.now.lanes }
+    requires tables { tables.now ≡ universe.now }
+    requires certificate { IsCertificate universe.now plan.now.lanes certificate.now }
+    ensures verdict { IsCertVerdict universe.now plan.now.lanes certificate.now result }
+    ensures safe { OnOk result (IsSafe universe.now plan.now.lanes) }
+{
+    let known = stated_known(alloc, universe, plan, certificate)?;
+    let claim = Claim {
+        universe,
+        tables,
+        plan,
+        known: &known,
+    };
+    check_claim(rt, alloc, claim, certificate)
+}
+
 /// Checks a certificate of a plan over a universe, whoever made it: its rows, joined with the
 /// initial archive, are known at each place; under them each instruction is safe; and its list is
 /// an order of the waits and outputs.
@@ -111,13 +140,6 @@ pub fn check_certificate(
     ensures verdict { IsCertVerdict universe.now plan.now.lanes certificate.now result }
     ensures safe { OnOk result (IsSafe universe.now plan.now.lanes) }
 {
-    let known = stated_known(alloc, universe, plan, certificate)?;
     let tables = Tables::build(rt, alloc, universe)?;
-    let claim = Claim {
-        universe,
-        tables: &tables,
-        plan,
-        known: &known,
-    };
-    check_claim(rt, alloc, claim, certificate)
+    check_by_tables(rt, alloc, universe, &tables, plan, certificate)
 }

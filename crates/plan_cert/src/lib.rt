@@ -15,6 +15,6 @@ mod stated;
 mod stated_rows;
 
 pub use cert_text::{CertFault, Certificate, print, read};
-pub use checker::check_certificate;
+pub use checker::{check_by_tables, check_certificate};
 pub use laws::{faults_refuse, first_fault_is_one};
 pub use maker::certificate;

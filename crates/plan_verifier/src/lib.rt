@@ -22,6 +22,7 @@ pub use costs::{check_lanes, walk_lanes};
 pub use examined::{Examined, Grounds};
 pub use laws::{refusals_are_right, verdicts_are_one};
 pub use possible::{add_outputs, possible_row};
+pub use ready::{Ready, read_ready};
 pub use refusal::{Refusal, STUCK, UNEVEN, UNSAFE};
 pub use stage::Stage;
 pub use verdict::check;

@@ -6,7 +6,7 @@ use Rattle.farm_input.specs.View.{texts_view}
 
 pub returns : goal.returns
 returns g c =
-    answered-by (TellsCert c.in-Ok.planned.plan.lanes c.check_text-verdict.result)
+    answered-by (TellsCert c.in-Ok.ready.planned.plan.lanes c.check_text-verdict.result)
     (AnswersVerifyCert c.args.cert.now (texts_view c.args.texts)) _ _ _
     (λ text status is. subst (λ planned. Verifies c.args.cert.now planned text status)
     (sym c.in-Ok.ensures.read) (c.check_text-verdict.result, c.check_text-verdict.ensures, is))

@@ -1,5 +1,6 @@
-use Rattle.std.proofs.Common.{subst, sym}
+use Rattle.std.proofs.Common.{subst, sym, Err}
 use Rattle.std.proofs.lemmas.Result.{err_from_is_err_and}
+use Rattle.cert_text.specs.declared.fault.CertFault.TheVariants.{Memory}
 use Rattle.farm_commands.specs.CertAnswers.{IsTextVerdict}
 use Rattle.farm_commands.proofs.CertLaws.{not_read}
 use Rattle.farm_commands.proofs.certificates.check_text.Goals as goal
@@ -9,9 +10,15 @@ returns-in_err-certificate g c =
     let e = err_from_is_err_and c.from_residual.result c.from_residual.ensures.1 in
     rw (e.1, e.2) (not_read _ _ _ _ c.in_err-certificate.ensures.certificate)
 
-pub returns : goal.returns
-returns g c =
-    let planned = c.args.planned.now in
-    subst (λ of. IsTextVerdict planned.universe planned.plan.lanes of c.check_certificate.result)
+pub returns-in-Ok : goal.returns-in-Ok
+returns-in-Ok g c =
+    let planned = c.args.ready.now.planned in
+    subst (λ of. IsTextVerdict planned.universe planned.plan.lanes of c.check_by_tables.result)
     (sym c.in_ok-certificate.ensures.certificate)
-    c.check_certificate.ensures.verdict
+    c.check_by_tables.ensures.verdict
+
+pub returns-in-Err : goal.returns-in-Err
+returns-in-Err g c =
+    let planned = c.args.ready.now.planned in
+    subst (λ of. IsTextVerdict planned.universe planned.plan.lanes of (Err Memory))
+    (sym c.in_ok-certificate.ensures.certificate) tt
