@@ -87,7 +87,7 @@ module _ (u : Universe) (w : Words) (is : AreWords u w) where
   unfolding may_use names
   used_small kept =
       let sum =
-      sum_below-few (names u) (λ k. may_size u k ((may_of w).slots k))
+      sum_below-few MOST_SIZE (names u) (λ k. may_size u k ((may_of w).slots k))
       (λ k. let small =
       greatest_size-small u k (word_has (slice_index w.here k)) kept in
       let same = size-is u k (slice_index w.here k) (slice_index w.ready k)
