@@ -17,8 +17,8 @@ returns-in-Ok g c =
     (sym c.in_ok-certificate.ensures.certificate)
     c.check_by_tables.ensures.verdict
 
-pub returns-in-Err : goal.returns-in-Err
-returns-in-Err g c =
+pub returns : goal.returns
+returns g c =
     let planned = c.args.ready.now.planned in
     subst (λ of. IsTextVerdict planned.universe planned.plan.lanes of (Err Memory))
     (sym c.in_ok-certificate.ensures.certificate) tt
