@@ -1,5 +1,5 @@
 -- Names and versions in a universe that was read.
-use Rattle.std.proofs.Common.{◌≡◌, ℕ, zero, suc, ◌<◌, List, [], ◌∷◌, map, get_or, length, refl, sym, ap, ◌∙◌, IfOk, All, arith}
+use Rattle.std.proofs.Common.{◌≡◌, ℕ, zero, suc, ◌<◌, List, [], ◌∷◌, map, drop, get_or, length, refl, sym, ap, subst, ◌∙◌, IfOk, All, arith}
 use Rattle.std.specs.declared.cmp.Ordering.TheVariants.{Less}
 use Rattle.std.specs.List.{list_all}
 use Rattle.std.proofs.lemmas.Bool.{and_parts}
@@ -11,8 +11,8 @@ use Rattle.deb_text.specs.declared.files.TheConstants.{PACKAGES, FARM}
 use Rattle.deb_version.specs.Grammar.{text_cmp}
 use Rattle.farm_model.specs.Packages.{variant, variants, no_package, package_of}
 use Rattle.farm_model.specs.Universe.{Package, Universe}
-use Rattle.farm_universe.specs.FarmText.{Head, Yard, head_at, land_of, yard_of, universe_with, farm_of}
-use Rattle.farm_universe.specs.Land.{reduced_package}
+use Rattle.farm_universe.specs.FarmText.{Head, Yard, head_at, land_at, land_of, yard_of, universe_with, farm_of}
+use Rattle.farm_universe.specs.Land.{Land, reduced_package}
 use Rattle.farm_universe.specs.PackagesText.{PackageTable, is_below, packages_of}
 use Rattle.farm_universe.specs.SourcesText.{SourceTable}
 use Rattle.farm_universe.specs.TableView.{Rises}
@@ -110,15 +110,27 @@ module _ (table : PackageTable) (is : IsSpelledTable table) (sources : SourceTab
 
 -- ---- the texts
 
+-- what the first paragraph makes of the packages and the sources
+IsLandOf : PackageTable → SourceTable → Land → Type 0
+IsLandOf table sources land = (head : Head) × (land ≡ land_of table sources head)
+
+land-has : (table : PackageTable) (sources : SourceTable) (ps : List Paragraph)
+    → IfOk (land_at table sources ps) (IsLandOf table sources)
+unfolding land_at IsLandOf
+land-has table sources [] = tt
+land-has table sources (p ∷ ps) =
+    then-has (λ _. Unit {0}) (IsLandOf table sources) (told FARM p (head_at table p)) _ (always _)
+    (λ head _. (head, refl))
+
 farm-has : (table : PackageTable) (sources : SourceTable) (ps : List Paragraph)
     → IsSpelledTable table → IfOk (farm_of table sources ps) IsSpelled
-unfolding farm_of
-farm-has table sources [] is = tt
-farm-has table sources (p ∷ ps) is =
-    then-has (λ _. Unit {0}) IsSpelled (told FARM p (head_at table p)) _ (always _)
-    (λ head _. then-has (λ _. Unit {0}) IsSpelled (yard_of (land_of table sources head) ps) _
-    (always _)
-    (λ yard _. universe-spelled table is sources head yard))
+unfolding farm_of IsLandOf
+farm-has table sources ps is =
+    then-has (IsLandOf table sources) IsSpelled (land_at table sources ps) _
+    (land-has table sources ps)
+    (λ land of. then-has (λ _. Unit {0}) IsSpelled (yard_of land (drop 1 ps)) _ (always _)
+    (λ yard _. subst (λ l. IsSpelled (universe_with l yard)) (sym of.1)
+    (universe-spelled table is sources of.0 yard)))
 
 farm_text-has : (table : PackageTable) (sources : SourceTable) (farm : List ℕ)
     → IsSpelledTable table → IfOk (farm_at table sources farm) IsSpelled

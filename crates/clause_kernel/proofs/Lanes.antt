@@ -6,7 +6,8 @@ use Rattle.std.proofs.lemmas.Bool.{ne_eqb}
 use lib.Lanes.{mask_l, top}
 use Rattle.clause_kernel.specs.Kernels.{some_pair}
 
-any-mask : (t : ℕ → ℕ → Bool) (xs ys : List ℕ)
+-- some test of a vector holds where its mask has a bit
+pub any-mask : (t : ℕ → ℕ → Bool) (xs ys : List ℕ)
     → not (eqb (mask_l (zip2 t xs ys)) 0) ≡ some_pair t xs ys
 any-mask t [] ys = refl
 any-mask t (x ∷ xs) [] = refl
@@ -25,7 +26,8 @@ any-mask t (x ∷ xs) (y ∷ ys) =
     one true m c e = nonzero (1 + 2 * m) (omega arith)
     one false m c e = twice m ∙ e
 
-length-tests : (t : ℕ → ℕ → Bool) (xs ys : List ℕ) → length (zip2 t xs ys) ≤ length xs
+-- no more tests than lanes
+pub length-tests : (t : ℕ → ℕ → Bool) (xs ys : List ℕ) → length (zip2 t xs ys) ≤ length xs
 length-tests t [] ys = omega arith
 length-tests t (x ∷ xs) [] = omega arith
 length-tests t (x ∷ xs) (y ∷ ys) = omega (arith, length-tests t xs ys)

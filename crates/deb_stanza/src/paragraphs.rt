@@ -1,6 +1,6 @@
 //! The paragraphs of a text.
 
-ghost use Rattle.std.specs.Prelude.{◌≡◌, ◌<◌, length};
+ghost use Rattle.std.specs.Prelude.{◌≡◌, ◌<◌, ◌≤◌, length};
 ghost use Rattle.std.specs.Option.{option_map};
 ghost use Rattle.deb_text.specs.Answers.{Gives, refusal_of};
 ghost use Rattle.deb_stanza.specs.Stanza.{paragraph_at, paragraphs_at, value_of};
@@ -68,6 +68,23 @@ impl Paragraphs {
         ensures { result ≡ (paragraph_at self.now paragraph).line }
     {
         self.table.paragraphs[paragraph].line
+    }
+
+    /// Where a part of the paragraphs ends, for whoever reads them part by part: behind this one,
+    /// and behind as many more as begin within `bytes` bytes of fields from its own start.
+    pub fn part_end(&self, first: usize, bytes: usize) -> usize
+        requires { first < length self.now }
+        ensures some { first < result }
+        ensures within { result ≤ length self.now }
+    {
+        let count = self.count();
+        let start = self.table.bytes_before(first);
+        for next in first + 1..count {
+            if self.table.bytes_before(next).saturating_sub(start) >= bytes {
+                return next;
+            }
+        }
+        count
     }
 
     /// The value of a paragraph's field, where it has one of that name, but for the case of

@@ -233,6 +233,18 @@ impl Table {
         Ok(names)
     }
 
+    /// How many bytes the fields of the paragraphs before this one have.
+    pub fn bytes_before(&self, paragraph: usize) -> usize {
+        let first = match self.paragraphs.get(paragraph) {
+            Some(start) => start.first as usize,
+            None => self.fields.len(),
+        };
+        match self.fields.get(first) {
+            Some(start) => *start as usize,
+            None => self.bytes.len(),
+        }
+    }
+
     /// The value of the field of that name in a paragraph.
     pub fn value(&self, paragraph: usize, name: &[u8]) -> Option<&[u8]>
         requires sound { IsSound self.now }

@@ -10,14 +10,8 @@ use Rattle.plan_model.specs.declared.instructions.Instruction.{Instruction}
 use Rattle.plan_model.specs.declared.instructions.Instruction.TheVariants.{Publish, Wait, When, Otherwise, EndWhen}
 use Rattle.plan_model.specs.Branches.{Side, Outside, InFirst, InSecond, side_behind, side_behind_some, side_at, may_stand, IsBranched}
 use Rattle.plan_model.specs.Plan.{Plan, lane, outputs_of, lane_outputs, Ways, ways_ahead, ways, count}
+use Rattle.plan_asm.proofs.BranchLaws.{drop-some}
 use Rattle.farm_archive.specs.Room.{outputs_in}
-
--- the instruction at a place and those behind it
-drop_at : (xs : List Instruction) (k : ℕ) (x : Instruction) → slice_get xs k ≡ Some x
-    → drop k xs ≡ x ∷ drop (suc k) xs
-drop_at [] k x e = cc
-drop_at (y ∷ ys) zero x e = let same : y ≡ x = cc in ap (λ z. z ∷ ys) same
-drop_at (y ∷ ys) (suc k) x e = drop_at ys k x e
 
 drop_past : (xs : List Instruction) (k : ℕ) → slice_get xs k ≡ None → drop k xs ≡ []
 drop_past [] zero e = refl
@@ -79,7 +73,7 @@ module _ (u : Universe) where
             (outputs_from behind) (ways u behind)) e rest in
             let here = one (side_at xs k) k x (outputs_from behind) (ways u behind)
             (branched.stands k x e) next in
-            rw (drop_at xs k x e)
+            rw (drop-some xs k x e)
             (subst (λ m. AreCounted (side_at xs k) m (ways u (x ∷ behind))) (sym parts) here)
 
     all : outputs_from xs ≤ (ways u xs).here

@@ -4,7 +4,7 @@
 --   turn_of p word       the lane that a word names
 --   turns_of p text      the lanes that a file names, if each word names one
 --   is_turns_fault       a fault of such a text as one of the command
-use Rattle.std.specs.Prelude.{◌≡◌, ℕ, ◌+◌, Bool, nat_lt, List, [], ◌∷◌, length, Result, Ok, Err, if◌then◌else◌}
+use Rattle.std.specs.Prelude.{◌≡◌, ℕ, ◌+◌, nat_lt, List, [], ◌∷◌, length, Result, Ok, Err, if◌then◌else◌}
 use Rattle.std.specs.List.{list_all}
 use Rattle.std.specs.Str.{bytes_eq}
 use Rattle.command_line.specs.Schedule.{lane_at, lane_words}

@@ -21,6 +21,7 @@ use plan_cert::check_by_tables;
 use plan_verifier::{Accepted, Ready, Refusal, check, read_ready};
 use report_sink::{Sink, write_pieces};
 use std::alloc::Global;
+use std::mem::ManuallyDrop;
 use std::thread::Threads;
 
 /// Says on the error output that a certificate of so many bytes is longer than a text that is read
@@ -89,7 +90,11 @@ pub fn answer_cert<'a, S: Sink, E: Sink>(
         texts.plan,
     );
     match verdict {
-        Ok(accepted) => answer_accepted(alloc, &accepted, out, errors),
+        Ok(accepted) => {
+            // The program ends with its answer: what it has read goes with it.
+            let kept = ManuallyDrop::new(accepted);
+            answer_accepted(alloc, &*kept, out, errors)
+        }
         Err(refusal) => answer_verdict(Err(refusal), out),
     }
 }
@@ -113,8 +118,9 @@ fn check_text(
     let universe = &ready.planned.universe;
     let plan = &ready.planned.plan;
     let certificate = read(alloc, universe, plan, cert)?;
+    let kept = ManuallyDrop::new(certificate);
     match &ready.tables {
-        Ok(tables) => check_by_tables(rt, alloc, universe, tables, plan, &certificate),
+        Ok(tables) => check_by_tables(rt, alloc, universe, tables, plan, &*kept),
         Err(_) => Err(CertFault::Memory),
     }
 }
@@ -165,6 +171,8 @@ pub fn answer_verify_cert<'a, S: Sink>(
         Ok(ready) => ready,
         Err(fault) => return answer_verdict(Err(Refusal::from(fault)), out),
     };
-    let verdict = check_text(rt, alloc, &ready, cert);
+    let kept = ManuallyDrop::new(ready);
+    let ready = &*kept;
+    let verdict = check_text(rt, alloc, ready, cert);
     answer_certified(&ready.planned.plan, verdict, out)
 }

@@ -1,5 +1,5 @@
 -- What is told of a slot, by its words.
-use Rattle.std.proofs.Common.{◌≡◌, ◌⊎◌, inl, inr, ℕ, Bool, true, false, not, ◌==◌, List, [], refl, if◌then◌else◌}
+use Rattle.std.proofs.Common.{◌≡◌, ◌⊎◌, inl, inr, ℕ, true, false, not, ◌==◌, [], refl, if◌then◌else◌}
 use Rattle.std.proofs.lemmas.Bool.{cases_Bool}
 use Rattle.clause_kernel.specs.Rows.{word_has}
 use Rattle.deb_relation.specs.Relations.{Entry}

@@ -9,7 +9,7 @@ use Rattle.farm_model.specs.Universe.{Universe}
 use Rattle.farm_model.specs.Packages.{names}
 use Rattle.plan_model.specs.declared.instructions.Instruction.{Instruction}
 use Rattle.plan_model.specs.declared.instructions.Instruction.TheVariants.{EndWhen}
-use Rattle.plan_model.specs.Branches.{Side, Outside, InFirst, InSecond, side_at}
+use Rattle.plan_model.specs.Branches.{Side, InSecond, side_at}
 use Rattle.plan_model.specs.Join.{is_same_phase}
 use Rattle.plan_model.specs.Known.{Rows}
 use Rattle.plan_model.specs.May.{MaySlot, May}

@@ -49,7 +49,8 @@ pub over-may : (limit a b x y : ℕ) → a ≤ b → x ≤ y → nat_lt limit (a
 over-may limit a b x y h k e = let lt = ltb-true limit (a + x) e in
     lt-ltb limit (b + y) (omega arith)
 
-unmet-may : (meets surely : Entry → Bool) (es : List Entry)
+-- an entry is not met where less is met
+pub unmet-may : (meets surely : Entry → Bool) (es : List Entry)
     → ((e : Entry) → surely e ≡ true → meets e ≡ true) → unmet meets es ≡ true
     → unmet surely es ≡ true
 unmet-may meets surely es h = list_any-mono _ _ es (λ e. not-mono (meets e) (surely e) (h e))

@@ -1,5 +1,5 @@
 -- Names, versions and slots, as a state tells them.
-use Rattle.std.proofs.Common.{◌≡◌, ℕ, List, [], refl, ap, option_map, Some, None}
+use Rattle.std.proofs.Common.{◌≡◌, ℕ, List, [], refl, option_map, Some, None}
 use Rattle.std.specs.List.{flat_map, range_with_len}
 use Rattle.chroot_state.specs.Held.{Held}
 use Rattle.chroot_state.specs.Slots.{bit_of, phase_of}

@@ -11,10 +11,11 @@ pub mod ListLaws
 pub mod TextListLaws
 pub mod RecipeLaws
 pub mod SettledLaws
-pub mod FarmLaws
 pub mod KeptLaws
 pub mod PlaceLaws
 pub mod SizeLaws
 pub mod OutputLaws
 pub mod AmongLaws
 pub mod OnceLaws
+pub mod PartLaws
+pub mod TablePartLaws

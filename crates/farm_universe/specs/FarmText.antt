@@ -3,8 +3,9 @@
 --
 --   head_at table p                what the first paragraph says, or its first fault
 --   later_at land yard p           what the later paragraphs say with this one
+--   land_at table sources ps       what they are read against
 --   farm_of table sources ps       what the paragraphs say, or the first fault
-use Rattle.std.specs.Prelude.{ℕ, List, [], ◌∷◌, ◌++◌, length, Option, Some, None, Result, Ok, Err, codes}
+use Rattle.std.specs.Prelude.{ℕ, List, [], ◌∷◌, ◌++◌, drop, length, Option, Some, None, Result, Ok, Err, codes}
 use Rattle.deb_text.specs.declared.fault.Fault.{Fault}
 use Rattle.deb_text.specs.declared.files.TheConstants.{FARM}
 use Rattle.deb_text.specs.Answers.{fault_at}
@@ -97,10 +98,15 @@ universe_with land yard = record {
   architectures = land.architectures;
 }
 
--- a farm text without a paragraph is refused at line 0
+-- what the first paragraph says behind packages and sources; a text without one is refused at
+-- line 0
+unfoldable pub land_at : PackageTable → SourceTable → List Paragraph → Result Land Fault
+land_at table sources [] = Err (fault_at FARM 0 ABSENT)
+land_at table sources (p ∷ ps) =
+    told FARM p (head_at table p) >>= λ head. Ok (land_of table sources head)
+
 unfoldable pub farm_of : PackageTable → SourceTable → List Paragraph → Result Universe Fault
-farm_of table sources [] = Err (fault_at FARM 0 ABSENT)
-farm_of table sources (p ∷ ps) = do
-  head ← told FARM p (head_at table p)
-  yard ← yard_of (land_of table sources head) ps
-  Ok (universe_with (land_of table sources head) yard)
+farm_of table sources ps = do
+  land ← land_at table sources ps
+  yard ← yard_of land (drop 1 ps)
+  Ok (universe_with land yard)

@@ -1,13 +1,18 @@
 -- What is true of what the farm text says.
-use Rattle.std.specs.Prelude.{◌≡◌, ℕ, ◌+◌, ◌<◌, ◌≤◌, List, [], length, map, sum, All, true, false, Some, get_or, slice_get}
+use Rattle.std.specs.Prelude.{◌≡◌, ℕ, ◌+◌, ◌<◌, ◌≤◌, List, [], IfOk, Result, length, map, sum, All, true, false, Some, codes, get_or, slice_get}
+use Rattle.std.specs.Global.{Vec}
 use Rattle.std.specs.List.{list_any}
+use Rattle.deb_stanza.specs.Stanza.{Paragraph, value_of}
+use Rattle.deb_text.specs.Answers.{Gives}
 use Rattle.farm_universe.specs.declared.limits.TheConstants.{MOST_BASES, MOST_CAPACITY, MOST_RECIPES, MOST_ENTRIES, MOST_SIZE}
 use Rattle.farm_model.specs.declared.types.Variant.{Variant}
 use Rattle.farm_model.specs.Packages.{has_bit, no_recipe}
 use Rattle.farm_model.specs.Universe.{Recipe, Base, Universe}
+use Rattle.farm_universe.specs.declared.error.FieldFault.{FieldFault}
 use Rattle.farm_universe.specs.declared.land.Head.{Head}
 use Rattle.farm_universe.specs.declared.land.Land.{Land}
 use Rattle.farm_universe.specs.declared.list.VariantList.{VariantList}
+use Rattle.farm_universe.specs.declared.recipe_parts.RecipeParts.{RecipeParts}
 use Rattle.farm_universe.specs.declared.recipes.RecipeList.{RecipeList}
 use Rattle.farm_universe.specs.declared.farm.Farm.{Farm}
 use Rattle.farm_universe.specs.declared.farm.Yard.{Yard}
@@ -18,9 +23,11 @@ use Rattle.farm_universe.specs.FarmText as text
 use Rattle.farm_universe.specs.Land as land
 use Rattle.farm_universe.specs.ListText.{words_of}
 use Rattle.farm_universe.specs.PackagesText.{PackageTable}
-use Rattle.farm_universe.specs.RecipeText.{is_taken, build_entries}
+use Rattle.farm_universe.specs.RecipeSteps.{first_build_at}
+use Rattle.farm_universe.specs.RecipeText.{is_taken, build_entries, outputs_at}
 use Rattle.farm_universe.specs.SourceView.{source_view, IsSourceTable}
 use Rattle.farm_universe.specs.TableView.{table_view, IsFit}
+use Rattle.farm_universe.specs.View.{refusal_of}
 
 -- ---- what the values of the code say
 
@@ -87,6 +94,18 @@ pub record IsLand (l : land.Land) : Type 0 where
   pub words : AreWords l.table l.initial
 
 -- ---- recipes
+
+-- what was read of the outputs of a paragraph
+pub record AreOutputsOf (l : land.Land) (p : Paragraph)
+    (read : Result (Vec Variant) FieldFault) : Type 0 where
+  pub said : Gives refusal_of (λ vs. vs.items) read
+      (outputs_at l.table (value_of p (codes "Outputs")))
+  pub outputs : IfOk read (λ vs. AreOutputs l.table vs.items)
+
+-- what was read of a paragraph whatever recipes stand before it
+pub record AreRecipeParts (l : land.Land) (p : Paragraph) (parts : RecipeParts) : Type 0 where
+  pub build : Gives refusal_of (λ build. build) parts.build (first_build_at l p)
+  pub outputs : AreOutputsOf l p parts.outputs
 
 -- outputs that neither the initial archive has nor a recipe before gives
 pub record AreNew (l : land.Land) (before : List Recipe) (vs : List Variant) : Type 0 where

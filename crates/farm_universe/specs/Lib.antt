@@ -1,6 +1,7 @@
 pub mod Fields
 pub mod FieldView
 pub mod Told
+pub mod Parts
 pub mod Keyed
 pub mod PackagesText
 pub mod SourcesText
@@ -9,6 +10,7 @@ pub mod SourceView
 pub mod View
 pub mod TableSteps
 pub mod TableView
+pub mod TableParts
 pub mod ListText
 pub mod Land
 pub mod RecipeText

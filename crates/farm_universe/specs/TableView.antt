@@ -1,18 +1,28 @@
 -- What the table of packages stands for, and what is true of it at each paragraph.
-use Rattle.std.specs.Prelude.{◌≡◌, ℕ, ◌<◌, ◌≤◌, List, [], ◌∷◌, Option, MatchOption, length, All, true}
+use Rattle.std.specs.Prelude.{◌≡◌, ℕ, ◌<◌, ◌≤◌, List, [], ◌∷◌, Option, MatchOption, Result, IfOk, length, All, true}
 use Rattle.std.specs.List.{list_all}
 use Rattle.std.specs.Str.{bytes_eq}
+use Rattle.deb_text.specs.Answers.{Gives}
 use Rattle.deb_text.specs.Groups.{AllDistinct}
 use Rattle.deb_text.specs.Lists.{lists}
+use Rattle.deb_stanza.specs.Stanza.{Paragraph}
+use Rattle.farm_universe.specs.declared.error.FieldFault.{FieldFault}
 use Rattle.farm_universe.specs.declared.limits.TheConstants.{MOST_NAMES, MOST_ENTRIES, MOST_VARIANTS, MOST_SIZE}
 use Rattle.farm_universe.specs.declared.packages.Listed.{Listed}
 use Rattle.farm_universe.specs.declared.package_table.PackageTable.{PackageTable}
 use Rattle.farm_universe.specs.PackagesText as text
+use Rattle.farm_universe.specs.TableSteps.{first_package_at}
+use Rattle.farm_universe.specs.View.{refusal_of}
 use Rattle.farm_model.specs.Universe.{Package}
 
 -- what a paragraph says
 abbrev pub listed_view : Listed → text.Listed
 listed_view listed = record { name = listed.name.items; binary = listed.binary }
+
+-- what was read of a paragraph of the packages text
+pub record IsListed (p : Paragraph) (read : Result Listed FieldFault) : Type 0 where
+  pub said : Gives refusal_of listed_view read (first_package_at p)
+  pub small : IfOk read (λ listed. listed.binary.size ≤ MOST_SIZE)
 
 -- what the table says
 abbrev pub table_view : PackageTable → text.PackageTable

@@ -1,15 +1,18 @@
 //! What is known of one version of a package.
 
-ghost use Rattle.std.specs.Prelude.{◌≡◌, ◌≤◌, true, nat_le, ◌-◌, SomeIff, OnOk, position, length};
+ghost use Rattle.std.specs.Prelude.{◌≡◌, ◌≤◌, true, nat_le, ◌-◌, SomeIff, OnOk, IfOk, position, length};
 ghost use Rattle.std.specs.List.{list_all, list_any, position_or_len};
 ghost use Rattle.deb_text.specs.Groups.{in_order};
+ghost use Rattle.farm_universe.specs.Land.{reduced_package};
 ghost use Rattle.farm_universe.specs.PackagesText.{entry_count, is_below, is_same};
 ghost use Rattle.farm_universe.specs.TableView.{Rises};
 
 use crate::limits::MOST_ENTRIES;
+use crate::reduction::reduce_relations;
+use deb_profile::ArchNames;
 use deb_relation::Relations;
 use deb_version::Version;
-use std::alloc::AllocFailed;
+use std::alloc::{AllocError, AllocFailed, Global};
 use std::marker::Model;
 
 /// The relation fields of a package (Debian Policy 7).
@@ -104,28 +107,16 @@ impl Package {
         &self.relations
     }
 
-    /// Its version, its Installed-Size in KiB, whether it is Essential, and its relations.
-    pub fn into_parts(self) -> (Version, u64, bool, PackageRelations)
-        ensures { result ≡ (
-          self.version,
-          self.size,
-          self.essential,
-          record {
-            pre_depends = self.pre_depends;
-            depends = self.depends;
-            conflicts = self.conflicts;
-            breaks = self.breaks;
-            provides = self.provides;
-          },
-        ) }
+    /// Reduces its relation fields where they stand (Debian Policy 7.1).
+    ///
+    /// # Errors
+    ///
+    /// Where memory is refused. Some of the fields are then reduced.
+    #[tactic(auto, unfolding(crate::specs::Land::reduced_package))]
+    pub fn reduce(&mut self, alloc: Global, architectures: &ArchNames) -> Result<(), AllocError>
+        ensures { IfOk result (λ _. self.new ≡ reduced_package architectures.now self.old) }
     {
-        let Package {
-            version,
-            size,
-            essential,
-            relations,
-        } = self;
-        (version, size, essential, relations)
+        reduce_relations(alloc, &mut self.relations, architectures)
     }
 
     /// Tells whether its relation fields have at most this many entries.

@@ -156,6 +156,20 @@ fn reduce_in_mode(
     }
 }
 
+/// How many bytes of fields the source has that a paragraph names, for whoever reads builds ahead:
+/// none where it names no source.
+pub fn build_bytes(alloc: Global, land: &Land, paragraph: &Paragraph) -> usize
+    requires { IsLand (land_view land.now) }
+{
+    let Some(text) = paragraph.field(b"Source") else {
+        return 0;
+    };
+    match read_source(alloc, &land.sources, text) {
+        Ok(source) => source.bytes(),
+        Err(_) => 0,
+    }
+}
+
 /// Reads the fields Source, Mode and Profiles, and keeps the first entries of the build.
 ///
 /// # Errors

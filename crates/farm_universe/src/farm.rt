@@ -2,8 +2,8 @@
 
 ghost use Rattle.std.specs.Prelude.{◌≡◌, [], IfOk, OnOk, drop};
 ghost use Rattle.deb_text.specs.Answers.{Gives, refusal_of as fault_of};
-ghost use Rattle.farm_universe.specs.FarmText.{later_at, tell_later, yard_of, farm_of};
-ghost use Rattle.farm_universe.specs.FarmView.{IsLand, IsYard, farm_view, land_view, yard_view};
+ghost use Rattle.farm_universe.specs.FarmText.{later_at, tell_later, yard_of, land_at, farm_of};
+ghost use Rattle.farm_universe.specs.FarmView.{AreRecipeParts, IsLand, IsYard, farm_view, land_view, yard_view};
 ghost use Rattle.farm_universe.specs.SourceView.{source_view, IsSourceTable};
 ghost use Rattle.farm_universe.specs.TableView.{table_view, IsFit};
 ghost use Rattle.farm_universe.specs.View.{refusal_of};
@@ -15,7 +15,9 @@ use crate::land::{Land, make_land, tell_head};
 use crate::limits::MOST_RECIPES;
 use crate::package_table::PackageTable;
 use crate::paragraph::Paragraph;
+use crate::recipe_parts::{RecipeParts, read_all_recipe_parts, read_recipe_parts, recipes_end};
 use crate::recipes::{RecipeList, add_recipe};
+use crate::side_by_side::{is_short, take_part};
 use crate::source_table::SourceTable;
 use crate::steps::{ParagraphStep, read_steps};
 use deb_stanza::Paragraphs;
@@ -23,6 +25,7 @@ use deb_text::Fault;
 use deb_text::files::FARM;
 use item_index::ItemIndex;
 use std::alloc::{AllocError, Global};
+use std::thread::Threads;
 
 /// What the later paragraphs say so far.
 #[derive(Drop)]
@@ -38,22 +41,24 @@ pub struct Farm {
     pub yard: Yard,
 }
 
-/// Goes on by a paragraph.
+/// Goes on by a paragraph, of which these parts were read, if it is that of a recipe.
 #[tactic(auto, unfolding(crate::specs::FarmText::later_at))]
 fn add_later(
     alloc: Global,
     land: &Land,
     yard: &mut Yard,
     paragraph: &Paragraph,
+    parts: RecipeParts,
 ) -> Result<(), FieldFault>
     requires land { IsLand (land_view land.now) }
     requires yard { IsYard (land_view land.now) yard.old }
+    requires parts { AreRecipeParts (land_view land.now) paragraph.now parts }
     ensures read { Gives refusal_of (λ _. yard_view yard.new) result
         (later_at (land_view land.now) (yard_view yard.old) paragraph.now) }
     ensures yard { OnOk result (IsYard (land_view land.now) yard.new) }
 {
     match paragraph.field(b"Recipe") {
-        Some(given) => add_recipe(alloc, land, &mut yard.recipes, paragraph, given),
+        Some(given) => add_recipe(alloc, land, &mut yard.recipes, paragraph, given, parts),
         None => add_base(alloc, &land.table, &mut yard.bases, paragraph),
     }
 }
@@ -69,20 +74,36 @@ impl ParagraphStep for YardStep<'_> {
 
     type SoFar = Yard;
 
+    type Part = RecipeParts;
+
     ghost Said = { text.Yard };
 
     ghost said = { yard_view };
 
-    ghost fits = { λ s yard. IsLand (land_view s.land.now) × IsYard (land_view s.land.now) yard };
+    ghost ready = { λ s. IsLand (land_view s.land.now) };
+
+    ghost is_part = { λ s p parts. AreRecipeParts (land_view s.land.now) p parts };
+
+    ghost fits = { λ s yard. IsYard (land_view s.land.now) yard };
 
     ghost step = { λ s. tell_later (land_view s.land.now) };
 
+    fn read(&self, alloc: Global, paragraph: &Paragraph) -> RecipeParts {
+        read_recipe_parts(alloc, self.land, paragraph)
+    }
+
     #[tactic(auto, using(crate::proofs::ToldLaws::gives_told))]
-    fn take(&self, alloc: Global, yard: &mut Yard, paragraph: &Paragraph) -> Result<(), Fault> {
+    fn take(
+        &self,
+        alloc: Global,
+        yard: &mut Yard,
+        paragraph: &Paragraph,
+        parts: RecipeParts,
+    ) -> Result<(), Fault> {
         told(
             FARM,
             paragraph,
-            add_later(alloc, self.land, yard, paragraph),
+            add_later(alloc, self.land, yard, paragraph, parts),
         )
     }
 }
@@ -116,6 +137,55 @@ fn read_yard(alloc: Global, land: &Land, paragraphs: &Paragraphs) -> Result<Yard
     read_steps(alloc, &YardStep { land }, empty, paragraphs, 1)
 }
 
+/// Reads the paragraphs behind the first by as many threads as there are processors, unless they
+/// are short.
+fn read_yard_side_by_side(
+    rt: &(impl Threads + Sync),
+    alloc: Global,
+    land: &Land,
+    paragraphs: &Paragraphs,
+) -> Result<Yard, Fault>
+    requires { IsLand (land_view land.now) }
+    ensures read { Gives fault_of yard_view result
+        (yard_of (land_view land.now) (drop 1 paragraphs.now)) }
+    ensures yard { IfOk result (IsYard (land_view land.now)) }
+{
+    if is_short(paragraphs, 1) {
+        return read_yard(alloc, land, paragraphs);
+    }
+    let mut yard = empty_yard(alloc, land)?;
+    let step = YardStep { land };
+    let mut number = 1;
+    while number < paragraphs.count() {
+        let end = recipes_end(alloc, land, paragraphs, number);
+        let parts = read_all_recipe_parts(rt, alloc, land, paragraphs, number, end)?;
+        take_part(alloc, &step, &mut yard, paragraphs, number, parts)?;
+        number = end;
+    }
+    Ok(yard)
+}
+
+/// Reads what the later paragraphs are read against: the first one, behind packages and sources.
+#[tactic(auto, unfolding(crate::specs::FarmText::land_at))]
+fn read_land(
+    alloc: Global,
+    table: PackageTable,
+    sources: SourceTable,
+    paragraphs: &Paragraphs,
+) -> Result<Land, Fault>
+    requires fit { IsFit (table_view table) }
+    requires sources { IsSourceTable (source_view sources) }
+    ensures read { Gives fault_of land_view result
+        (land_at (table_view table) (source_view sources) paragraphs.now) }
+    ensures land { IfOk result (λ land. IsLand (land_view land)) }
+{
+    if paragraphs.count() == 0 {
+        return Err(Fault::place(FARM, 0, ABSENT));
+    }
+    let head = tell_head(alloc, &table, &Paragraph::new(paragraphs, 0))?;
+    Ok(make_land(alloc, table, sources, head)?)
+}
+
 /// Reads the paragraphs of the farm text.
 ///
 /// # Errors
@@ -136,11 +206,33 @@ pub fn read_farm(
     ensures land { IfOk result (λ farm. IsLand (land_view farm.land)) }
     ensures yard { IfOk result (λ farm. IsYard (land_view farm.land) farm.yard) }
 {
-    if paragraphs.count() == 0 {
-        return Err(Fault::place(FARM, 0, ABSENT));
-    }
-    let head = tell_head(alloc, &table, &Paragraph::new(paragraphs, 0))?;
-    let land = make_land(alloc, table, sources, head)?;
+    let land = read_land(alloc, table, sources, paragraphs)?;
     let yard = read_yard(alloc, &land, paragraphs)?;
+    Ok(Farm { land, yard })
+}
+
+/// Reads the paragraphs of the farm text as [`read_farm`] does, by as many threads as there are
+/// processors.
+///
+/// # Errors
+///
+/// Those of [`read_farm`].
+#[tactic(auto, unfolding(crate::specs::FarmText::farm_of))]
+pub fn read_farm_side_by_side(
+    rt: &(impl Threads + Sync),
+    alloc: Global,
+    table: PackageTable,
+    sources: SourceTable,
+    paragraphs: &Paragraphs,
+) -> Result<Farm, Fault>
+    requires fit { IsFit (table_view table) }
+    requires sources { IsSourceTable (source_view sources) }
+    ensures read { Gives fault_of farm_view result
+        (farm_of (table_view table) (source_view sources) paragraphs.now) }
+    ensures land { IfOk result (λ farm. IsLand (land_view farm.land)) }
+    ensures yard { IfOk result (λ farm. IsYard (land_view farm.land) farm.yard) }
+{
+    let land = read_land(alloc, table, sources, paragraphs)?;
+    let yard = read_yard_side_by_side(rt, alloc, &land, paragraphs)?;
     Ok(Farm { land, yard })
 }

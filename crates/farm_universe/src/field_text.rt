@@ -60,6 +60,11 @@ impl FieldText {
         }
     }
 
+    /// How many bytes the field is written in.
+    pub fn bytes(&self) -> usize {
+        self.text.len()
+    }
+
     /// What is left of the field, up to this many entries.
     ///
     /// # Errors

@@ -75,8 +75,8 @@ fn read_head(alloc: Global, table: &PackageTable, paragraph: &Paragraph) -> Resu
 ///
 /// # Errors
 ///
-/// The first of 201 and 131 of `Architecture-Names` and those of [`read_with_words`] of `Archive`, told
-/// at the paragraph's first line. [`Fault::MEMORY`] where memory is refused.
+/// The first of 201 and 131 of `Architecture-Names` and those of [`read_with_words`] of `Archive`,
+/// told at the paragraph's first line. [`Fault::MEMORY`] where memory is refused.
 #[tactic(auto, using(crate::proofs::ToldLaws::gives_told))]
 pub fn tell_head(alloc: Global, table: &PackageTable, paragraph: &Paragraph) -> Result<Head, Fault>
     requires { IsFit (table_view table.now) }

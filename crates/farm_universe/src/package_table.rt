@@ -4,27 +4,30 @@ ghost use Rattle.std.specs.Prelude.{◌≡◌, ◌+◌, ◌<◌, ◌≤◌, IfSo
 ghost use Rattle.std.specs.Option.{option_map};
 ghost use Rattle.std.specs.Str.{bytes_eq};
 ghost use Rattle.indexmap.specs.IndexSet.{index_set_len};
-ghost use Rattle.deb_text.specs.Answers.{Gives, refusal_of as fault_of};
+ghost use Rattle.deb_text.specs.Answers.{Fails, Gives, refusal_of as fault_of};
 ghost use Rattle.deb_text.specs.Groups.{in_order, place_in};
 ghost use Rattle.deb_text.specs.Lists.{lists};
 ghost use Rattle.farm_universe.specs.Keyed.{group_at};
-ghost use Rattle.farm_universe.specs.PackagesText.{entry_count, is_below, is_over, packages_of};
+ghost use Rattle.farm_universe.specs.PackagesText.{entry_count, is_below, is_over, packages_of, table_of};
+ghost use Rattle.farm_universe.specs.TableParts.{IsPart, IsReadTo};
 ghost use Rattle.farm_universe.specs.TableSteps.{put_at, code_at, add, add_paragraph, tell_paragraph};
-ghost use Rattle.farm_universe.specs.TableView.{listed_view, table_view, IsFit, IsWithin, Rises};
+ghost use Rattle.farm_universe.specs.TableView.{listed_view, table_view, IsFit, IsListed, IsWithin, Rises};
 ghost use Rattle.farm_universe.specs.View.{code_of, refusal_of};
 
 use crate::binary::{Package, insert_in_order, is_given};
 use crate::error::{FieldFault, told};
 use crate::keyed::{group_at, put_new};
 use crate::limits::{MOST_ENTRIES, MOST_NAMES, MOST_SIZE, MOST_VARIANTS};
-use crate::packages::{Listed, read_package};
+use crate::packages::{Listed, read_package, read_packages};
 use crate::paragraph::Paragraph;
+use crate::side_by_side::{PART_BYTES, is_short, take_part};
 use crate::steps::{ParagraphStep, read_steps};
 use deb_stanza::Paragraphs;
 use deb_text::Fault;
 use deb_text::files::PACKAGES;
 use indexmap::IndexSet;
-use std::alloc::Global;
+use std::alloc::{AllocError, Global};
+use std::thread::{Threads, join};
 
 /// The names in the order of their first appearance, and for each its packages from the lowest
 /// version up.
@@ -140,20 +143,21 @@ fn add(alloc: Global, table: &mut PackageTable, listed: Listed) -> Result<(), Fi
     put_at(alloc, table, at, listed)
 }
 
-/// Goes on by a paragraph.
+/// Goes on by a paragraph, of which this was read.
 #[tactic(auto, unfolding(crate::specs::TableSteps::add_paragraph))]
 fn add_paragraph(
     alloc: Global,
     table: &mut PackageTable,
     paragraph: &Paragraph,
+    read: Result<Listed, FieldFault>,
 ) -> Result<(), FieldFault>
-    requires { IsFit (table_view table.old) }
+    requires fit { IsFit (table_view table.old) }
+    requires read { IsListed paragraph.now read }
     ensures read { Gives refusal_of (λ _. table_view table.new) result
         (add_paragraph (table_view table.old) paragraph.now) }
     ensures fit { OnOk result (IsFit (table_view table.new)) }
 {
-    let listed = read_package(alloc, paragraph)?;
-    add(alloc, table, listed)
+    add(alloc, table, read?)
 }
 
 /// Goes on by a paragraph, and tells its fault at its line.
@@ -165,13 +169,21 @@ impl ParagraphStep for PackageStep {
 
     type SoFar = PackageTable;
 
+    type Part = Result<Listed, FieldFault>;
+
     ghost Said = { text.PackageTable };
 
     ghost said = { table_view };
 
+    ghost is_part = { λ _ p read. IsListed p read };
+
     ghost fits = { λ _ table. IsFit (table_view table) };
 
     ghost step = { λ _. tell_paragraph };
+
+    fn read(&self, alloc: Global, paragraph: &Paragraph) -> Result<Listed, FieldFault> {
+        read_package(alloc, paragraph)
+    }
 
     #[tactic(auto, using(crate::proofs::ToldLaws::gives_told))]
     fn take(
@@ -179,8 +191,25 @@ impl ParagraphStep for PackageStep {
         alloc: Global,
         table: &mut PackageTable,
         paragraph: &Paragraph,
+        read: Result<Listed, FieldFault>,
     ) -> Result<(), Fault> {
-        told(PACKAGES, paragraph, add_paragraph(alloc, table, paragraph))
+        told(
+            PACKAGES,
+            paragraph,
+            add_paragraph(alloc, table, paragraph, read),
+        )
+    }
+}
+
+/// A table without a package.
+fn empty_table(alloc: Global) -> PackageTable
+    ensures empty { table_view result ≡ table_of [] }
+    ensures fit { IsFit (table_view result) }
+{
+    PackageTable {
+        names: IndexSet::new(alloc),
+        packages: Vec::new(alloc),
+        entries: 0,
     }
 }
 
@@ -194,10 +223,123 @@ pub fn read_table(alloc: Global, paragraphs: &Paragraphs) -> Result<PackageTable
     ensures read { Gives fault_of table_view result (packages_of paragraphs.now) }
     ensures fit { IfOk result (λ table. IsFit (table_view table)) }
 {
-    let empty = PackageTable {
-        names: IndexSet::new(alloc),
-        packages: Vec::new(alloc),
-        entries: 0,
-    };
-    read_steps(alloc, &PackageStep, empty, paragraphs, 0)
+    read_steps(alloc, &PackageStep, empty_table(alloc), paragraphs, 0)
+}
+
+/// What was read of the paragraphs from one up to another.
+#[derive(Drop)]
+struct ReadPart {
+    first: usize,
+    end: usize,
+    read: Vec<Result<Listed, FieldFault>>,
+}
+
+/// Reads the part that begins with this paragraph, by as many threads as there are processors.
+///
+/// # Errors
+///
+/// [`AllocError`] where memory is refused for the list.
+fn read_part(
+    rt: &(impl Threads + Sync),
+    alloc: Global,
+    paragraphs: &Paragraphs,
+    first: usize,
+) -> Result<ReadPart, AllocError>
+    requires { first < length paragraphs.now }
+    ensures first { IfOk result (λ part. part.first ≡ first) }
+    ensures part { IfOk result (IsPart paragraphs.now) }
+{
+    let end = paragraphs.part_end(first, PART_BYTES);
+    let read = read_packages(rt, alloc, paragraphs, first, end)?;
+    Ok(ReadPart { first, end, read })
+}
+
+/// Puts a part behind the paragraphs before it.
+///
+/// # Errors
+///
+/// The first fault of one of its paragraphs. [`Fault::MEMORY`] where memory is refused.
+fn take_read(
+    alloc: Global,
+    mut table: PackageTable,
+    paragraphs: &Paragraphs,
+    part: ReadPart,
+) -> Result<PackageTable, Fault>
+    requires table { IsReadTo paragraphs.now part.first table }
+    requires part { IsPart paragraphs.now part }
+    ensures read { IfOk result (IsReadTo paragraphs.now part.end) }
+    ensures fault { IfErr result (λ e. Fails fault_of e (packages_of paragraphs.now)) }
+{
+    take_part(
+        alloc,
+        &PackageStep,
+        &mut table,
+        paragraphs,
+        part.first,
+        part.read,
+    )?;
+    Ok(table)
+}
+
+/// Puts a part behind the paragraphs before it, and reads the next one beside that: neither asks
+/// for the other.
+fn take_beside_next(
+    rt: &(impl Threads + Sync),
+    alloc: Global,
+    paragraphs: &Paragraphs,
+    table: PackageTable,
+    part: ReadPart,
+) -> (Result<ReadPart, AllocError>, Result<PackageTable, Fault>)
+    requires table { IsReadTo paragraphs.now part.first table }
+    requires part { IsPart paragraphs.now part }
+    requires more { part.end < length paragraphs.now }
+    ensures first { IfOk result.0 (λ next. next.first ≡ part.end) }
+    ensures next { IfOk result.0 (IsPart paragraphs.now) }
+    ensures read { IfOk result.1 (IsReadTo paragraphs.now part.end) }
+    ensures fault { IfErr result.1 (λ e. Fails fault_of e (packages_of paragraphs.now)) }
+{
+    let end = part.end;
+    join(
+        rt,
+        || -> Result<ReadPart, AllocError>
+            requires { end < length paragraphs.now }
+            ensures first { IfOk result (λ next. next.first ≡ end) }
+            ensures next { IfOk result (IsPart paragraphs.entry.now) }
+        { read_part(rt, alloc, paragraphs, end) },
+        move || -> Result<PackageTable, Fault>
+            requires table { IsReadTo paragraphs.now part.first table }
+            requires part { IsPart paragraphs.now part }
+            ensures read { IfOk result (IsReadTo paragraphs.entry.now part.end) }
+            ensures fault { IfErr result
+                (λ e. Fails fault_of e (packages_of paragraphs.entry.now)) }
+        { take_read(alloc, table, paragraphs, part) },
+    )
+}
+
+/// Reads the paragraphs of the packages text as [`read_table`] does, by as many threads as there
+/// are processors, unless they are short.
+///
+/// # Errors
+///
+/// Those of [`read_table`].
+pub fn read_table_side_by_side(
+    rt: &(impl Threads + Sync),
+    alloc: Global,
+    paragraphs: &Paragraphs,
+) -> Result<PackageTable, Fault>
+    ensures read { Gives fault_of table_view result (packages_of paragraphs.now) }
+    ensures fit { IfOk result (λ table. IsFit (table_view table)) }
+{
+    if is_short(paragraphs, 0) {
+        return read_table(alloc, paragraphs);
+    }
+    let mut table = empty_table(alloc);
+    let mut part = read_part(rt, alloc, paragraphs, 0)?;
+    while part.end < paragraphs.count() {
+        let (next, taken) = take_beside_next(rt, alloc, paragraphs, table, part);
+        // a fault of this part stands before any of the next one
+        table = taken?;
+        part = next?;
+    }
+    take_read(alloc, table, paragraphs, part)
 }

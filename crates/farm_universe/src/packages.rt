@@ -1,10 +1,12 @@
 //! What a paragraph of the packages text says.
 
-ghost use Rattle.std.specs.Prelude.{IfOk, ◌≤◌};
+ghost use Rattle.std.specs.Prelude.{IfOk, ◌<◌, ◌≤◌, length};
+ghost use Rattle.deb_stanza.specs.Stanza.{paragraph_at};
 ghost use Rattle.deb_text.specs.Answers.{Gives};
 ghost use Rattle.farm_universe.specs.TableSteps.{first_package_at, first_package_relations_at};
 ghost use Rattle.farm_universe.specs.View.{refusal_of};
-ghost use Rattle.farm_universe.specs.TableView.{listed_view};
+ghost use Rattle.farm_universe.specs.Parts.{AreReads};
+ghost use Rattle.farm_universe.specs.TableView.{listed_view, IsListed};
 
 use crate::binary::{Package, PackageRelations};
 use crate::error::FieldFault;
@@ -12,7 +14,10 @@ use crate::fields::{read_flag, read_name, read_relations, read_size, read_versio
 use crate::limits::MOST_SIZE;
 use crate::paragraph::Paragraph;
 use deb_relation::Kind;
-use std::alloc::Global;
+use deb_stanza::Paragraphs;
+use rayon::prelude::*;
+use std::alloc::{AllocError, Global};
+use std::thread::Threads;
 
 /// What a paragraph says.
 #[derive(Debug, Drop)]
@@ -48,8 +53,7 @@ fn read_package_relations(
 /// is refused.
 #[tactic(auto, unfolding(crate::specs::TableSteps::first_package_at))]
 pub fn read_package(alloc: Global, paragraph: &Paragraph) -> Result<Listed, FieldFault>
-    ensures read { Gives refusal_of listed_view result (first_package_at paragraph.now) }
-    ensures small { IfOk result (λ listed. listed.binary.size ≤ MOST_SIZE) }
+    ensures { IsListed paragraph.now result }
 {
     let name = read_name(alloc, paragraph.needed(b"Package")?)?;
     let version = read_version(alloc, paragraph.needed(b"Version")?)?;
@@ -60,4 +64,33 @@ pub fn read_package(alloc: Global, paragraph: &Paragraph) -> Result<Listed, Fiel
         name,
         binary: Package::new(version, size, essential, relations),
     })
+}
+
+/// Reads the paragraphs from one up to another, each by itself, by as many threads as there are
+/// processors.
+///
+/// # Errors
+///
+/// [`AllocError`] where memory is refused for the list.
+pub fn read_packages(
+    rt: &(impl Threads + Sync),
+    alloc: Global,
+    paragraphs: &Paragraphs,
+    from: usize,
+    to: usize,
+) -> Result<Vec<Result<Listed, FieldFault>>, AllocError>
+    requires ascends { from ≤ to }
+    requires within { to ≤ length paragraphs.now }
+    ensures { IfOk result (λ read. AreReads IsListed paragraphs.now from to read.items) }
+{
+    (from..to)
+        .into_par_iter()
+        .with_min_len(1)
+        .map(
+            move |number: usize| -> Result<Listed, FieldFault>
+                requires { number < length paragraphs.now }
+                ensures { IsListed (paragraph_at paragraphs.entry.now number) result }
+            { read_package(alloc, &Paragraph::new(paragraphs, number)) },
+        )
+        .collect::<Vec<Result<Listed, FieldFault>>>(rt, alloc)
 }

@@ -2,29 +2,26 @@
 
 ghost use Rattle.std.specs.Prelude.{◌≡◌, ◌+◌, ◌<◌, ◌≤◌, ◌++◌, ◌∷◌, [], IfOk, OnOk, IfErr, None, All, length, slice_get};
 ghost use Rattle.std.specs.List.{list_any};
-ghost use Rattle.std.specs.Option.{option_map};
 ghost use Rattle.std.specs.Str.{bytes_eq};
 ghost use Rattle.deb_text.specs.Answers.{Gives};
 ghost use Rattle.farm_universe.specs.Among.{holds};
 ghost use Rattle.farm_universe.specs.FarmSteps.{taken_with};
 ghost use Rattle.farm_universe.specs.FarmText.{recipes_with};
-ghost use Rattle.farm_universe.specs.FarmView.{AreNamed, AreOutputs, AreNew, AreRecipes, IsLand, IsNew, land_view};
+ghost use Rattle.farm_universe.specs.FarmView.{AreNamed, AreNew, AreOutputsOf, AreRecipeParts, AreRecipes, IsLand, IsNew, land_view};
 ghost use Rattle.farm_universe.specs.RecipeSteps.{first_recipe_at};
-ghost use Rattle.farm_universe.specs.RecipeText.{outputs_at, build_entries, is_build_over, recipe_name, new_outputs, recipe_at};
-ghost use Rattle.farm_universe.specs.TableView.{table_view, IsFit};
+ghost use Rattle.farm_universe.specs.RecipeText.{build_entries, is_build_over, recipe_name, new_outputs, recipe_at};
 ghost use Rattle.farm_universe.specs.View.{refusal_of};
 
 use crate::binary::room_behind;
-use crate::build::{Build, read_build};
+use crate::build::Build;
 use crate::error::FieldFault;
 use crate::fields::{read_name, read_number_up_to, read_size};
 use crate::land::Land;
 use crate::limits::{MOST_ENTRIES, MOST_RECIPES, MOST_SIZE};
-use crate::list::{has_some_bit, read_list, set_bits};
-use crate::package_table::PackageTable;
+use crate::list::{has_some_bit, set_bits};
 use crate::paragraph::Paragraph;
 use crate::recipe::Recipe;
-use farm_model::Variant;
+use crate::recipe_parts::{Outputs, RecipeParts};
 use item_index::{Item, ItemIndex};
 use std::alloc::Global;
 
@@ -78,42 +75,17 @@ fn read_recipe_name(alloc: Global, list: &RecipeList, given: &[u8]) -> Result<Ve
     Ok(name)
 }
 
-/// Reads a list of variants that has an item.
-fn read_outputs(
-    alloc: Global,
-    table: &PackageTable,
-    value: Option<&[u8]>,
-) -> Result<Vec<Variant>, FieldFault>
-    requires { IsFit (table_view table.now) }
-    ensures read { Gives refusal_of (λ vs. vs.items) result
-        (outputs_at (table_view table.now) (option_map (λ v. v.now) value.entry)) }
-    ensures outputs { IfOk result (λ vs. AreOutputs (table_view table.now) vs.items) }
-{
-    let Some(text) = value else {
-        return Err(FieldFault::NoOutput);
-    };
-    let outputs = read_list(alloc, table, text)?;
-    if outputs.is_empty() {
-        return Err(FieldFault::NoOutput);
-    }
-    Ok(outputs)
-}
-
-/// Reads outputs that are new.
-fn read_new_outputs(
-    alloc: Global,
-    land: &Land,
-    list: &RecipeList,
-    paragraph: &Paragraph,
-) -> Result<Vec<Variant>, FieldFault>
+/// The outputs, if they are new.
+fn new_outputs(land: &Land, list: &RecipeList, paragraph: &Paragraph, read: Outputs) -> Outputs
     requires land { IsLand (land_view land.now) }
     requires list { AreRecipes (land_view land.now) list.now }
+    requires read { AreOutputsOf (land_view land.now) paragraph.now read }
     ensures read { Gives refusal_of (λ vs. vs.items) result
         (new_outputs (land_view land.now) list.now.recipes.items paragraph.now) }
     ensures new { IfOk result
         (λ vs. AreNew (land_view land.now) list.now.recipes.items vs.items) }
 {
-    let outputs = read_outputs(alloc, &land.table, paragraph.field(b"Outputs"))?;
+    let outputs = read?;
     if has_some_bit(&list.taken, &outputs) {
         return Err(FieldFault::Taken);
     }
@@ -140,18 +112,20 @@ fn read_first_recipe(
     list: &RecipeList,
     paragraph: &Paragraph,
     given: &[u8],
+    parts: RecipeParts,
 ) -> Result<Recipe, FieldFault>
     requires land { IsLand (land_view land.now) }
     requires list { AreRecipes (land_view land.now) list.now }
+    requires parts { AreRecipeParts (land_view land.now) paragraph.now parts }
     ensures read { Gives refusal_of (λ r. r) result
         (first_recipe_at (land_view land.now) list.now.recipes.items paragraph.now given.now) }
     ensures new { IfOk result (IsNew (land_view land.now) list.now.recipes.items) }
 {
     let name = read_recipe_name(alloc, list, given)?;
-    let build = read_build(alloc, land, paragraph)?;
+    let build = parts.build?;
     let steps = read_number_up_to(MOST_SIZE, paragraph.needed(b"Steps")?)?;
     let scratch = read_size(paragraph.field(b"Scratch"))?;
-    let outputs = read_new_outputs(alloc, land, list, paragraph)?;
+    let outputs = new_outputs(land, list, paragraph, parts.outputs)?;
     if is_over(list, &build) {
         return Err(FieldFault::OverLimit);
     }
@@ -167,14 +141,16 @@ fn read_recipe(
     list: &RecipeList,
     paragraph: &Paragraph,
     given: &[u8],
+    parts: RecipeParts,
 ) -> Result<Recipe, FieldFault>
     requires land { IsLand (land_view land.now) }
     requires list { AreRecipes (land_view land.now) list.now }
+    requires parts { AreRecipeParts (land_view land.now) paragraph.now parts }
     ensures read { Gives refusal_of (λ r. r) result
         (recipe_at (land_view land.now) list.now.recipes.items paragraph.now given.now) }
     ensures new { IfOk result (IsNew (land_view land.now) list.now.recipes.items) }
 {
-    read_first_recipe(alloc, land, list, paragraph, given)
+    read_first_recipe(alloc, land, list, paragraph, given, parts)
 }
 
 /// Puts a recipe behind the others.
@@ -202,13 +178,14 @@ fn put(list: &mut RecipeList, recipe: Recipe) -> Result<(), FieldFault>
     Ok(())
 }
 
-/// Goes on by a paragraph with the field Recipe.
+/// Goes on by a paragraph with the field Recipe, of which these parts were read.
 ///
 /// # Errors
 ///
-/// The first of 121 and 203 of its name, those of [`read_build`], 201 and 202 of `Steps`, 202 of
-/// `Scratch`, of `Outputs` 208, those of [`read_list`](crate::list::read_list) and 207, and 210.
-/// [`FieldFault::Memory`] where memory is refused.
+/// The first of 121 and 203 of its name, those of [`read_build`](crate::build::read_build), 201 and
+/// 202 of `Steps`, 202 of `Scratch`, of `Outputs` 208, those of
+/// [`read_list`](crate::list::read_list) and 207, and 210. [`FieldFault::Memory`] where memory is
+/// refused.
 #[tactic(auto, unfolding(crate::specs::FarmText::recipes_with))]
 pub fn add_recipe(
     alloc: Global,
@@ -216,13 +193,15 @@ pub fn add_recipe(
     list: &mut RecipeList,
     paragraph: &Paragraph,
     given: &[u8],
+    parts: RecipeParts,
 ) -> Result<(), FieldFault>
     requires land { IsLand (land_view land.now) }
     requires list { AreRecipes (land_view land.now) list.old }
+    requires parts { AreRecipeParts (land_view land.now) paragraph.now parts }
     ensures read { Gives refusal_of (λ _. list.new.recipes.items) result
         (recipes_with (land_view land.now) list.old.recipes.items paragraph.now given.now) }
     ensures list { OnOk result (AreRecipes (land_view land.now) list.new) }
 {
-    let recipe = read_recipe(alloc, land, list, paragraph, given)?;
+    let recipe = read_recipe(alloc, land, list, paragraph, given, parts)?;
     put(list, recipe)
 }

@@ -27,8 +27,12 @@ fn reduce_field(
     Ok(())
 }
 
-/// Reduces the fields of a package where they stand, so that an early return has nothing to drop.
-fn reduce_relations(
+/// Reduces the fields of a package where they stand.
+///
+/// # Errors
+///
+/// Where memory is refused. Some of the fields are then reduced.
+pub fn reduce_relations(
     alloc: Global,
     relations: &mut PackageRelations,
     architectures: &ArchNames,
@@ -48,47 +52,33 @@ fn reduce_relations(
     reduce_field(alloc, &mut relations.provides, architectures)
 }
 
-#[tactic(auto, unfolding(crate::specs::Land::reduced_package))]
-fn reduce_package(
-    alloc: Global,
-    binary: Package,
-    architectures: &ArchNames,
-) -> Result<Package, AllocError>
-    ensures { IfOk result (λ left. left ≡ reduced_package architectures.now binary) }
-{
-    let (version, size, essential, mut relations) = binary.into_parts();
-    reduce_relations(alloc, &mut relations, architectures)?;
-    Ok(Package::new(version, size, essential, relations))
-}
-
+/// Reduces the packages of a name where they stand.
 fn reduce_packages(
     alloc: Global,
-    packages: Vec<Package>,
+    packages: &mut [Package],
     architectures: &ArchNames,
-) -> Result<Vec<Package>, AllocError>
+) -> Result<(), AllocError>
     ensures { IfOk result
-        (λ left. left.items ≡ map (reduced_package architectures.now) packages.items) }
+        (λ _. packages.new ≡ map (reduced_package architectures.now) packages.old) }
 {
-    let mut left = Vec::new(alloc);
-    for binary in packages {
-        left.push(reduce_package(alloc, binary, architectures)?)?;
+    for binary in packages.iter_mut() {
+        binary.reduce(alloc, architectures)?;
     }
-    Ok(left)
+    Ok(())
 }
 
 fn reduce_all(
     alloc: Global,
-    packages: Vec<Vec<Package>>,
+    packages: &mut [Vec<Package>],
     architectures: &ArchNames,
-) -> Result<Vec<Vec<Package>>, AllocError>
-    ensures { IfOk result (λ left. lists left.items
-        ≡ map (map (reduced_package architectures.now)) (lists packages.items)) }
+) -> Result<(), AllocError>
+    ensures { IfOk result (λ _. lists packages.new
+        ≡ map (map (reduced_package architectures.now)) (lists packages.old)) }
 {
-    let mut left = Vec::new(alloc);
-    for named in packages {
-        left.push(reduce_packages(alloc, named, architectures)?)?;
+    for named in packages.iter_mut() {
+        reduce_packages(alloc, named, architectures)?;
     }
-    Ok(left)
+    Ok(())
 }
 
 /// Reduces the relations of all packages of a table.
@@ -104,9 +94,7 @@ pub fn reduce_table(
     ensures { IfOk result
         (λ left. table_view left ≡ reduced_table architectures.now (table_view table)) }
 {
-    Ok(PackageTable {
-        names: table.names,
-        packages: reduce_all(alloc, table.packages, architectures)?,
-        entries: table.entries,
-    })
+    let mut left = table;
+    reduce_all(alloc, &mut left.packages, architectures)?;
+    Ok(left)
 }

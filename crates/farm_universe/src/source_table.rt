@@ -8,7 +8,7 @@ ghost use Rattle.deb_text.specs.Answers.{Gives, refusal_of as fault_of};
 ghost use Rattle.deb_text.specs.Groups.{place_in};
 ghost use Rattle.deb_text.specs.Lists.{lists};
 ghost use Rattle.farm_universe.specs.Keyed.{group_at};
-ghost use Rattle.farm_universe.specs.SourcesText.{is_of_version, sources_of, find_source};
+ghost use Rattle.farm_universe.specs.SourcesText.{is_of_version, source_at, sources_of, find_source};
 ghost use Rattle.farm_universe.specs.SourceSteps.{behind_others, put_source, source_code, add_source, add_source_paragraph, tell_source};
 ghost use Rattle.farm_universe.specs.SourceView.{listed_source_view, source_view, IsSourceTable, IsSourcePlace};
 ghost use Rattle.farm_universe.specs.View.{code_of, refusal_of};
@@ -118,20 +118,21 @@ fn add(alloc: Global, table: &mut SourceTable, listed: ListedSource) -> Result<(
     put_at(alloc, table, at, listed)
 }
 
-/// Goes on by a paragraph.
+/// Goes on by a paragraph, of which this was read.
 #[tactic(auto, unfolding(crate::specs::SourceSteps::add_source_paragraph))]
 fn add_paragraph(
     alloc: Global,
     table: &mut SourceTable,
     paragraph: &Paragraph,
+    read: Result<ListedSource, FieldFault>,
 ) -> Result<(), FieldFault>
-    requires { IsSourceTable (source_view table.old) }
+    requires fit { IsSourceTable (source_view table.old) }
+    requires read { Gives refusal_of listed_source_view read (source_at paragraph.now) }
     ensures read { Gives refusal_of (λ _. source_view table.new) result
         (add_source_paragraph (source_view table.old) paragraph.now) }
     ensures fit { OnOk result (IsSourceTable (source_view table.new)) }
 {
-    let listed = read_source(alloc, paragraph)?;
-    add(alloc, table, listed)
+    add(alloc, table, read?)
 }
 
 /// Goes on by a paragraph, and tells its fault at its line.
@@ -143,13 +144,21 @@ impl ParagraphStep for SourceStep {
 
     type SoFar = SourceTable;
 
+    type Part = Result<ListedSource, FieldFault>;
+
     ghost Said = { text.SourceTable };
 
     ghost said = { source_view };
 
+    ghost is_part = { λ _ p read. Gives refusal_of listed_source_view read (text.source_at p) };
+
     ghost fits = { λ _ table. IsSourceTable (source_view table) };
 
     ghost step = { λ _. tell_source };
+
+    fn read(&self, alloc: Global, paragraph: &Paragraph) -> Result<ListedSource, FieldFault> {
+        read_source(alloc, paragraph)
+    }
 
     #[tactic(auto, using(crate::proofs::ToldLaws::gives_told))]
     fn take(
@@ -157,8 +166,13 @@ impl ParagraphStep for SourceStep {
         alloc: Global,
         table: &mut SourceTable,
         paragraph: &Paragraph,
+        read: Result<ListedSource, FieldFault>,
     ) -> Result<(), Fault> {
-        told(SOURCES, paragraph, add_paragraph(alloc, table, paragraph))
+        told(
+            SOURCES,
+            paragraph,
+            add_paragraph(alloc, table, paragraph, read),
+        )
     }
 }
 

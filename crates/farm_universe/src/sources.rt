@@ -24,12 +24,29 @@ pub struct BuildFields {
     pub indep: FieldText,
 }
 
+impl BuildFields {
+    /// How many bytes the fields are written in.
+    pub fn bytes(&self) -> usize {
+        self.always
+            .bytes()
+            .saturating_add(self.arch.bytes())
+            .saturating_add(self.indep.bytes())
+    }
+}
+
 /// What is known of one version of a source package.
 #[derive(Debug, Drop)]
 pub struct Source {
     pub version: Version,
     pub needs: BuildFields,
     pub clashes: BuildFields,
+}
+
+impl Source {
+    /// How many bytes the fields of a build are written in.
+    pub fn bytes(&self) -> usize {
+        self.needs.bytes().saturating_add(self.clashes.bytes())
+    }
 }
 
 /// What a paragraph says.

@@ -19,7 +19,10 @@ use crate::limits::{MOST_NAMES, MOST_VARIANTS};
 use crate::package_table::{PackageTable, place_of};
 use crate::recipe::Recipe;
 use crate::recipes::RecipeList;
-use crate::texts::{read_farm_text, read_packages_text, read_sources_text};
+use crate::texts::{
+    read_farm_text, read_farm_text_side_by_side, read_packages_beside_sources, read_packages_text,
+    read_sources_text,
+};
 use deb_profile::ArchNames;
 use deb_relation::{Atom, Facts, Op, in_relation, satisfies};
 use deb_text::Fault;
@@ -28,6 +31,7 @@ use farm_model::Variant;
 use indexmap::IndexSet;
 use std::alloc::Global;
 use std::marker::Model;
+use std::thread::Threads;
 
 /// The universe of a farm: names by number, the variants of each from the lowest version up,
 /// recipes, base chroots, and the initial archive.
@@ -142,6 +146,30 @@ impl Universe {
         let table = read_packages_text(alloc, packages)?;
         let sources = read_sources_text(alloc, sources)?;
         Ok(assemble(read_farm_text(alloc, table, sources, farm)?))
+    }
+
+    /// Reads the three texts of a farm as [`read`](Universe::read) does, by as many threads as
+    /// there are processors, but what is short by one.
+    ///
+    /// # Errors
+    ///
+    /// Those of [`read`](Universe::read), by the order of the texts and not by which thread comes
+    /// to one first.
+    #[tactic(auto, unfolding(crate::specs::UniverseText::universe_of))]
+    pub fn read_side_by_side(
+        rt: &(impl Threads + Sync),
+        alloc: Global,
+        packages: &[u8],
+        sources: &[u8],
+        farm: &[u8],
+    ) -> Result<Universe, Fault>
+        ensures { Gives fault_of (λ u. u) result (universe_of packages.now sources.now farm.now) }
+    {
+        let (table, sources) = read_packages_beside_sources(rt, alloc, packages, sources);
+        let table = table?;
+        let sources = sources?;
+        let farm = read_farm_text_side_by_side(rt, alloc, table, sources, farm)?;
+        Ok(assemble(farm))
     }
 
     /// How many names of packages there are.

@@ -1,5 +1,5 @@
 -- What a line keeps of a draft whose instructions can be listed.
-use Rattle.std.proofs.Common.{◌≡◌, ℕ, ◌<◌, ◌≤◌, ◌^◌, Bool, true, false, ◌&&◌, List, [], ◌∷◌, ◌++◌, length, append_assoc, refl, sym, ap, subst, ◌∙◌, Result, Ok, Err, IfOk, All, true≢false}
+use Rattle.std.proofs.Common.{◌≡◌, ℕ, ◌<◌, ◌≤◌, ◌^◌, Bool, true, false, ◌&&◌, List, [], ◌∷◌, ◌++◌, length, append_assoc, refl, sym, subst, ◌∙◌, Result, Ok, Err, IfOk, All, true≢false}
 use Rattle.std.proofs.lemmas.Bool.{and_parts, leb-false, ltb-false}
 use Rattle.std.proofs.lemmas.List.{append-nil}
 use Rattle.std.proofs.lemmas.List.Elements.{All-nil, All-cons, All-push, All-append, All-head, All-tail}
@@ -17,7 +17,7 @@ use Rattle.farm_model.specs.Universe.{Universe}
 use Rattle.plan_asm.specs.declared.error.TheConstants.{MOST_LANES, MOST_INSTRUCTIONS}
 use Rattle.plan_asm.specs.Drafts.{Block, Open, Nothing, InBlock, InLane, Draft, is_open, block_named, instructions_of, published, known_base, instruction_of, open_block, fresh_lane, open_lane, end_open, with_instructions, published_once, within_limit, add, Reading, is_outside, may_say, on_side, take_end, take_form}
 use Rattle.plan_asm.specs.Forms.{Form, BlockForm, LaneForm, EndForm, UseForm, InstructionForm, lane_with, lane_form, one_word, wording_by, form_at, first_word, behind_word}
-use Rattle.plan_asm.proofs.DraftLaws.{instructions_of-push}
+use Rattle.plan_asm.proofs.DraftLaws.{instructions_of-push, published_once-has}
 use Rattle.plan_model.specs.Branches.{Side, Outside, InFirst, InSecond, side_behind}
 use Rattle.plan_model.specs.declared.instructions.Instruction.{Instruction}
 use Rattle.plan_model.specs.declared.instructions.Instruction.TheVariants.{EndWhen}
@@ -137,10 +137,6 @@ within-has xs =
     if-has (λ ys. (xs ≡ ys) × (length xs ≤ MOST_INSTRUCTIONS))
     (nat_lt MOST_INSTRUCTIONS (length xs)) _ _ (λ _. tt)
     (λ few. (refl, ltb-false MOST_INSTRUCTIONS (length xs) few))
-
-published_once-has : (rs : List ℕ) → IfOk (published_once rs) (λ _. has_double rs ≡ false)
-published_once-has rs =
-    if-has (λ _. has_double rs ≡ false) (has_double rs) _ _ (λ _. tt) (λ once. once)
 
 lanes-push : (u : Universe) (ls before : List Lane) (l : Lane) → AreLanes u before ls
     → IsListedLane u l → IsNext (before ++ ls) l.name → AreLanes u before (ls ++ l ∷ [])

@@ -1,5 +1,6 @@
 pub mod Bridges
 pub mod Writes
+pub mod Sizes
 pub mod ByNumber
 pub mod MetAhead
 pub mod Joins

@@ -1,6 +1,6 @@
 -- The tests of a configure, in two parts: those that are told before the members are configured,
 -- and those that are told by the map where they are. The project's own rules.
-use Rattle.std.specs.Prelude.{ℕ, Bool, not, ◌&&◌, ◌==◌, List, [], ◌∷◌, slice_index, if◌then◌else◌}
+use Rattle.std.specs.Prelude.{ℕ, Bool, not, List, [], ◌∷◌, slice_index, if◌then◌else◌}
 use Rattle.std.specs.List.{list_any}
 use Rattle.farm_model.specs.declared.types.Trap.{Trap}
 use Rattle.farm_model.specs.declared.types.Trap.TheVariants.{WrongState, PreDepends, Depends, Broken, OverBudget}

@@ -1,6 +1,6 @@
 //! Which entries of what is configured are not known to be met.
 
-ghost use Rattle.std.specs.Prelude.{◌≡◌, true, false, []};
+ghost use Rattle.std.specs.Prelude.{◌≡◌, ◌++◌, true, false, []};
 ghost use Rattle.may_rows.specs.Met.{IsDoubted, IsDoubtAfter, upgrades};
 ghost use Rattle.may_rows.specs.Words.{may_of};
 
@@ -9,16 +9,19 @@ use plan_asm::Instruction;
 use std::alloc::Global;
 use std::marker::Model;
 
-/// How many names are kept. Where there are more, all that is configured is looked at once.
-const MOST_OVER: usize = 64;
+/// How many names a list keeps. Where there are more, all that is present is looked at once.
+const MOST_NAMES: usize = 64;
 
-/// The names that were unpacked over since each entry of what is configured was known to be met, so
-/// that a build looks only at the entries that one of them satisfies.
+/// What a build has to look at: the entries that one of a few names satisfies, and whether a few
+/// names are unpacked alone.
 #[derive(Debug, Drop)]
 pub struct Doubts {
     /// Whether something is known at all.
     pub(crate) known: bool,
+    /// The names that were unpacked over since each entry of what is configured was known to be met.
     pub(crate) over: Vec<u32>,
+    /// The names that were unpacked or deconfigured since all was known to be configured.
+    pub(crate) loose: Vec<u32>,
 }
 
 impl Model for Doubts {
@@ -26,7 +29,11 @@ impl Model for Doubts {
 
     ghost Value = { Doubt };
 
-    ghost view = { λ doubts. record { known = doubts.known; over = doubts.over.items } };
+    ghost view = { λ doubts. record {
+      known = doubts.known;
+      over = doubts.over.items;
+      loose = doubts.loose.items;
+    } };
 }
 
 /// Tells whether an instruction unpacks a variant over a configured one.
@@ -47,36 +54,40 @@ pub(crate) fn upgrades(state: &MayHold, instruction: &Instruction) -> bool
     }
 }
 
+/// Puts names behind a few others, where they stay few and there is room. Tells whether it did.
+fn add_few(names: &mut Vec<u32>, more: &[u32]) -> bool
+    ensures { result ≡ true → names.new.items ≡ names.old.items ++ more.now }
+{
+    names.len() < MOST_NAMES && more.len() < MOST_NAMES && names.extend_from_slice(more).is_ok()
+}
+
 impl Doubts {
     /// Nothing is known.
     pub fn new(alloc: Global) -> Doubts
-        ensures unknown { result.known ≡ false }
-        ensures none { result.over ≡ [] }
+        ensures { result ≡ record { known = false; over = []; loose = [] } }
     {
         Doubts {
             known: false,
             over: Vec::new(alloc),
+            loose: Vec::new(alloc),
         }
     }
 
-    /// Notes a name that is unpacked over. Where there is no room for it, nothing is known any
-    /// more.
-    fn note(&mut self, name: u32)
-        ensures { IsDoubted self.old name self.new }
+    /// Notes names that are unpacked over, and some that may be unpacked alone. Where there is no
+    /// room for them, nothing is known any more.
+    fn note(&mut self, over: &[u32], loose: &[u32])
+        ensures { IsDoubted self.old over.now loose.now self.new }
     {
-        if self.over.len() < MOST_OVER && self.over.push(name).is_ok() {
-            return;
-        }
-        self.known = false;
+        self.known = self.known && add_few(&mut self.over, over) && add_few(&mut self.loose, loose);
     }
 
     /// Knows nothing any more: what a chroot may hold has changed otherwise than by an instruction.
     pub fn forget(&mut self)
-        ensures unknown { self.new.known ≡ false }
-        ensures none { self.new.over ≡ [] }
+        ensures { self.new ≡ record { known = false; over = []; loose = [] } }
     {
         self.known = false;
         self.over.clear();
+        self.loose.clear();
     }
 
     /// Goes past a safe instruction, where `upgraded` tells whether it unpacked a variant over a
@@ -86,16 +97,17 @@ impl Doubts {
     {
         match instruction {
             Instruction::Unpack { name, relation: _ } => {
-                if upgraded {
-                    self.note(*name);
-                }
+                let name = [*name];
+                let over: &[u32] = if upgraded { &name } else { &[] };
+                self.note(over, &name);
             }
+            Instruction::Deconfigure(members) => self.note(&[], members.as_slice()),
             Instruction::Build(_) => {
                 self.known = true;
                 self.over.clear();
+                self.loose.clear();
             }
             Instruction::Configure(_)
-            | Instruction::Deconfigure(_)
             | Instruction::Remove(_)
             | Instruction::Publish(_)
             | Instruction::Wait(_)

@@ -65,13 +65,36 @@ fn some_misses(universe: &Universe, tables: &Tables, state: &MayHold) -> bool
     false
 }
 
-/// Tells whether some name may hold an unpacked variant alone.
-fn some_unpacked(state: &MayHold) -> bool
+/// Tells whether some name may hold an unpacked variant alone, by all words.
+fn any_unpacked(state: &MayHold) -> bool
     requires { length state.now.here ≡ length state.now.ready }
     ensures { (u : Universe) → AreWords u state.now → result
         ≡ some_below (names u) (λ n. may.is_surely_unpacked ((may_of state.now).slots n)) }
 {
     !same(&state.here, &state.ready)
+}
+
+/// Tells whether one of these names may hold an unpacked variant alone.
+fn some_unpacked_among(state: &MayHold, among: &[u32]) -> bool
+    ensures { result
+        ≡ list_any (λ k. may.is_surely_unpacked ((may_of state.now).slots k)) among.now }
+{
+    among.iter().any(|name| state.is_unpacked(*name))
+}
+
+/// Tells whether some name may hold an unpacked variant alone, where only what is in doubt is
+/// looked at.
+fn some_unpacked(state: &MayHold, doubts: &Doubts) -> bool
+    requires { length state.now.here ≡ length state.now.ready }
+    ensures { (u : Universe) → AreWords u state.now
+        → AreDoubts u (may_of state.now) doubts.now → result
+        ≡ some_below (names u) (λ n. may.is_surely_unpacked ((may_of state.now).slots n)) }
+{
+    if doubts.known {
+        some_unpacked_among(state, &doubts.loose)
+    } else {
+        any_unpacked(state)
+    }
 }
 
 /// Tells whether a configured variant may have an entry that is not met, and that a variant of a
@@ -134,5 +157,5 @@ pub fn may_be_unsettled(
     requires doubts { AreDoubts universe.now (may_of state.now) doubts.now }
     ensures { result ≡ may_be_unsettled universe.now (may_of state.now) }
 {
-    some_unpacked(state) || some_doubted(universe, tables, state, doubts)
+    some_unpacked(state, doubts) || some_doubted(universe, tables, state, doubts)
 }

@@ -30,10 +30,14 @@ fn size_in(universe: &Universe, name: u32, set: u64, bit: u32) -> u64
 }
 
 /// The greatest size of the variants in a set.
+#[tactic(auto, using(crate::proofs::Sizes::greatest_of_none))]
 pub fn greatest_size(universe: &Universe, name: u32, set: u64) -> u64
     ensures size { result ≡ may.greatest_size universe.now name (word_has set) }
     ensures small { result ≤ MOST_SIZE }
 {
+    if set == 0 {
+        return 0;
+    }
     let count = variant_count(universe, name);
     let mut greatest = 0;
     for bit in 0..count {

@@ -8,6 +8,7 @@ ghost use Rattle.farm_model.specs.Packages as packages;
 ghost use Rattle.farm_model.specs.Traps.{first_trap};
 ghost use Rattle.plan_model.specs.May as may;
 ghost use Rattle.may_rows.specs.Words.{AreWords, may_of, surely_met_ahead};
+ghost use Rattle.plan_model.specs.Plan.{size_cost};
 ghost use Rattle.plan_model.specs.Risk.{greatest_cost};
 ghost use Rattle.sat_rows.specs.Rows.{IsWordFor};
 ghost use Rattle.may_rows.specs.Picks.{AreOfArchive};
@@ -86,11 +87,19 @@ impl VariantTest for MayBreak<'_> {
     }
 }
 
+/// What an unpack of a variant of this size, in KiB, costs.
+fn size_cost(size: u64) -> u64
+    requires { size ≤ MOST_SIZE }
+    ensures { result ≡ size_cost size }
+{
+    1 + size / 1024
+}
+
 /// What an unpack of a variant of a set costs at most.
 fn unpack_cost(universe: &Universe, name: u32, set: u64) -> u64
     ensures { result ≡ greatest_cost universe.now name (word_has set) }
 {
-    1 + greatest_size(universe, name, set) / 1024
+    size_cost(greatest_size(universe, name, set))
 }
 
 /// The first trap that an unpack of a variant of a set may meet, where the state holds nothing of
@@ -107,7 +116,7 @@ fn unpack_risk(of: LaneOf<'_>, state: &MayHold, used: u64, name: u32, set: u64) 
     let universe = of.universe;
     let tables = of.tables;
     let size = greatest_size(universe, name, set);
-    if may_exceed(of.lane.budget(), state, unpack_cost(universe, name, set)) {
+    if may_exceed(of.lane.budget(), state, size_cost(size)) {
         return Some(Trap::OverBudget); // X14
     }
     if some_of(universe, name, set, &MissesAhead { tables, state }) {

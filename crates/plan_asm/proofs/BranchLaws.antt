@@ -81,7 +81,8 @@ leads-one number s x may = (stands-kind s x ∙ may, sym (behind-kind number s x
 
 -- ---- whole branches are branches by place
 
-drop-some : (xs : List Instruction) (i : ℕ) (x : Instruction) → slice_get xs i ≡ Some x
+-- the instruction at a place and those behind it
+pub drop-some : (xs : List Instruction) (i : ℕ) (x : Instruction) → slice_get xs i ≡ Some x
     → drop i xs ≡ x ∷ drop (suc i) xs
 drop-some [] i x is = absurd cc
 drop-some (y ∷ ys) zero x is = let same : y ≡ x = cc in ap (λ z. z ∷ ys) same

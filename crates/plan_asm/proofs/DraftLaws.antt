@@ -88,6 +88,11 @@ within_limit-has xs =
     (nat_lt MOST_INSTRUCTIONS (length xs)) _ _ (λ _. tt)
     (λ few. (refl, ltb-false MOST_INSTRUCTIONS (length xs) few))
 
+-- what was published once has no double
+pub published_once-has : (rs : List ℕ) → IfOk (published_once rs) (λ _. has_double rs ≡ false)
+published_once-has rs =
+    if-has (λ _. has_double rs ≡ false) (has_double rs) _ _ (λ _. tt) (λ once. once)
+
 module _ (u : Universe) where
   -- ---- names
 
@@ -268,10 +273,6 @@ module _ (u : Universe) where
         small = rw (instructions-more ls l xs) few;
         once = rw (instructions-more ls l xs) once;
       }
-
-  published_once-has : (rs : List ℕ) → IfOk (published_once rs) (λ _. has_double rs ≡ false)
-  published_once-has rs =
-      if-has (λ _. has_double rs ≡ false) (has_double rs) _ _ (λ _. tt) (λ once. once)
 
   add-has : (bs : List Block) (ls : List Lane) (o : Open) (xs : List Instruction)
       → good bs ls o → All (IsGood u) xs → IfOk (add bs ls o xs) (IsGoodDraft u)

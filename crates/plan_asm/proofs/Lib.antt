@@ -18,3 +18,5 @@ pub mod Landings
 pub mod Noted
 pub mod PutLaws
 pub mod UnpackLaws
+pub mod PlaceLaws
+pub mod PartLaws

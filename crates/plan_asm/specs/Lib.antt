@@ -12,4 +12,6 @@ pub mod Seen
 pub mod Listing
 pub mod Landings
 pub mod RecipeNumbers
+pub mod Said
+pub mod Parts
 pub mod Unpacks

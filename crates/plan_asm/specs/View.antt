@@ -1,13 +1,20 @@
 -- What the types of the crate stand for.
+use Rattle.std.specs.Prelude.{ℕ, Result, Ok, Err}
 use Rattle.deb_text.specs.Words.{words}
+use Rattle.plan_asm.specs.declared.error.LineError.{LineError}
 use Rattle.plan_asm.specs.declared.form.Form.{Form}
 use Rattle.plan_asm.specs.declared.form.Form.TheVariants.{Block, Lane, End, Use, Instruction}
 use Rattle.plan_asm.specs.declared.form.Wording.{Wording}
 use Rattle.plan_asm.specs.declared.form.Wording.TheVariants.{Unpack, Configure, Deconfigure, Remove, Build, Publish, Wait, When, Else}
+use Rattle.plan_asm.specs.declared.said.Said.{Said}
+use Rattle.plan_asm.specs.declared.said.Said.TheVariants as said
 use Rattle.plan_asm.specs.declared.side.Side.{Side}
 use Rattle.plan_asm.specs.declared.side.Side.TheVariants.{Outside, First, Second}
 use Rattle.plan_asm.specs.Forms as spec
+use Rattle.plan_asm.specs.LineErrors.{code_of_line}
+use Rattle.plan_asm.specs.Said as saying
 use Rattle.plan_model.specs.Branches as branches
+use Rattle.plan_model.specs.declared.instructions.Instruction as model
 
 abbrev pub wording_of : Wording → spec.Wording
 wording_of (Unpack name relation) = spec.UnpackForm name.items relation
@@ -32,3 +39,15 @@ abbrev pub side_of : Side → branches.Side
 side_of Outside = branches.Outside
 side_of (First line) = branches.InFirst line
 side_of (Second line) = branches.InSecond line
+
+-- an instruction, or the code of what is wrong with its names
+abbrev pub named_of : Result model.Instruction LineError → Result model.Instruction ℕ
+named_of (Ok instruction) = Ok instruction
+named_of (Err error) = Err (code_of_line error)
+
+abbrev pub said_of : Said → saying.Said
+said_of (said.Block name) = saying.BlockSaid name.now
+said_of (said.Lane head) = saying.LaneSaid head.name.now head.chroot.now head.budget
+said_of said.End = saying.EndSaid
+said_of (said.Use block) = saying.UseSaid block.now
+said_of (said.Instruction standing named) = saying.InstructionSaid standing (named_of named)

@@ -10,11 +10,14 @@ mod form;
 mod landing;
 mod lane;
 mod names;
+mod placing;
 mod plan;
 mod print;
 mod reader;
 mod recipe_numbers;
+mod said;
 mod side;
+mod side_by_side;
 mod unpacks;
 
 pub use error::{
@@ -27,3 +30,4 @@ pub use plan::Plan;
 pub use plan_model::{Instruction, Members};
 pub use print::listing;
 pub use reader::assemble;
+pub use side_by_side::assemble_side_by_side;

@@ -1,11 +1,12 @@
 //! In which branch a line stands.
 
 ghost use Rattle.std.specs.Prelude.{◌≡◌};
-ghost use Rattle.plan_asm.specs.Drafts.{is_outside, is_first, may_say};
-ghost use Rattle.plan_asm.specs.View.{side_of, wording_of};
+ghost use Rattle.plan_asm.specs.Drafts.{is_outside, is_first};
+ghost use Rattle.plan_asm.specs.Said.{allows};
+ghost use Rattle.plan_asm.specs.View.{side_of};
 ghost use Rattle.plan_model.specs.Branches.{second_of, side_behind, home};
 
-use crate::form::Wording;
+use crate::said::Standing;
 use plan_model::Instruction;
 
 /// In which branch the next line of a plan stands, with the number of the line of its `when`.
@@ -30,18 +31,14 @@ impl Side {
         matches!(self, Side::First(_))
     }
 
-    /// Tells whether an instruction may stand here.
-    pub fn may_say(self, wording: &Wording<'_>) -> bool
-        ensures { result ≡ may_say (side_of self) (wording_of wording.now) }
+    /// Tells whether an instruction may stand here that stands so by its kind.
+    pub const fn allows(self, standing: Standing) -> bool
+        ensures { result ≡ allows (side_of self) standing }
     {
-        match wording {
-            Wording::Publish(_) | Wording::Wait(_) | Wording::When { .. } => self.is_outside(),
-            Wording::Else => self.is_first(),
-            Wording::Unpack { .. }
-            | Wording::Configure(_)
-            | Wording::Deconfigure(_)
-            | Wording::Remove(_)
-            | Wording::Build(_) => true,
+        match standing {
+            Standing::Anywhere => true,
+            Standing::OutOfBranches => self.is_outside(),
+            Standing::InFirstBranch => self.is_first(),
         }
     }
 

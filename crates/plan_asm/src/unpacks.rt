@@ -1,15 +1,19 @@
 //! The `unpack` lines of a plan, most of which come more than once.
 
-ghost use Rattle.std.specs.Prelude.{◌≡◌, ◌++◌, ◌∷◌, [], true, Some, slice_get, IfOk, IfSome, OnOk};
+ghost use Rattle.std.specs.Prelude.{◌≡◌, ◌++◌, ◌∷◌, [], Ok, IfOk, IfSome, OnOk, OnErr};
 ghost use Rattle.std.specs.List.{Contains};
 ghost use Rattle.deb_text.specs.Answers.{Gives};
+ghost use Rattle.plan_asm.specs.Drafts.{instruction_of};
+ghost use Rattle.plan_asm.specs.Forms.{unpack_form};
 ghost use Rattle.plan_asm.specs.LineErrors.{refusal_of_line};
-ghost use Rattle.plan_asm.specs.Unpacks.{unpack_of, AreRead};
+ghost use Rattle.plan_asm.specs.Unpacks.{said_unpack, AreRead};
+ghost use Rattle.plan_asm.specs.View.{said_of, wording_of};
 
 use crate::copies::copy_instruction;
 use crate::error::LineError;
-use crate::form::read_unpack;
+use crate::form::{Wording, read_unpack};
 use crate::names::{Names, read_instruction};
+use crate::said::{LineRead, Said, Standing, told};
 use plan_model::Instruction;
 use std::alloc::{AllocError, Global};
 use std::marker::Model;
@@ -102,8 +106,9 @@ impl<'t> Unpacks<'t> {
         text: &'t [u8],
         instruction: Instruction,
     ) -> Result<(), AllocError>
-        ensures { OnOk result (self.new ≡ self.old
+        ensures kept { OnOk result (self.new ≡ self.old
             ++ (record { text = text.now; instruction = instruction }) ∷ []) }
+        ensures not { OnErr result (self.new ≡ self.old) }
     {
         let number = self.known.len();
         self.known.push(Known { text, instruction })?;
@@ -112,34 +117,52 @@ impl<'t> Unpacks<'t> {
         }
         Ok(())
     }
+
+    /// Reads what a text says, and keeps it.
+    fn read_anew(
+        &mut self,
+        alloc: Global,
+        names: Names<'_>,
+        slot: usize,
+        text: &'t [u8],
+        wording: Wording<'_>,
+    ) -> Result<Instruction, LineError>
+        requires known { AreRead names.universe.now self.old }
+        requires says { unpack_form text.now ≡ Ok (wording_of wording) }
+        ensures value { Gives refusal_of_line (λ instruction. instruction) result
+            (instruction_of names.entry.universe.now (wording_of wording.entry)) }
+        ensures known { AreRead names.entry.universe.now self.new }
+    {
+        let instruction = read_instruction(alloc, names, wording)?;
+        if self.known.len() < MOST_KEPT {
+            self.keep(slot, text, copy_instruction(alloc, &instruction)?)?;
+        }
+        Ok(instruction)
+    }
 }
 
-/// The instruction of an `unpack` line, by the text behind the word.
+/// What an `unpack` line says, by the text behind the word.
 ///
 /// # Errors
 ///
-/// [`BadLine`](LineError::BadLine); [`UnknownName`](LineError::UnknownName) for the package; or
-/// that memory ran out.
+/// [`BadLine`](LineError::BadLine), where the text is none of such a line; or that memory ran out.
 pub fn read_unpack_line<'t>(
     alloc: Global,
     names: Names<'_>,
     text: &'t [u8],
     unpacks: &mut Unpacks<'t>,
-) -> Result<Instruction, LineError>
+) -> LineRead<'t>
     requires { AreRead names.universe.now unpacks.old }
-    ensures value { Gives refusal_of_line (λ instruction. instruction) result
-        (unpack_of names.entry.universe.now text.now) }
-    ensures read { OnOk result (AreRead names.entry.universe.now unpacks.new) }
+    ensures value { Gives refusal_of_line said_of result
+        (said_unpack names.entry.universe.now text.now) }
+    ensures read { AreRead names.entry.universe.now unpacks.new }
 {
     let slot = slot_of(text);
     if let Some(known) = unpacks.at(slot, text) {
-        return Ok(copy_instruction(alloc, known)?);
+        let instruction = copy_instruction(alloc, known)?;
+        return Ok(Said::Instruction(Standing::Anywhere, Ok(instruction)));
     }
     let wording = read_unpack(alloc, text)?;
-    let instruction = read_instruction(alloc, names, wording)?;
-    if unpacks.known.len() >= MOST_KEPT {
-        return Ok(instruction);
-    }
-    unpacks.keep(slot, text, copy_instruction(alloc, &instruction)?)?;
-    Ok(instruction)
+    let named = unpacks.read_anew(alloc, names, slot, text, wording);
+    told(Standing::Anywhere, named)
 }

@@ -10,13 +10,13 @@ use Rattle.farm_model.specs.declared.types.Variant.{Variant}
 use Rattle.farm_model.specs.Universe.{Universe}
 use Rattle.farm_model.specs.Packages.{initial}
 use Rattle.plan_model.specs.declared.instructions.Instruction.{Instruction}
-use Rattle.plan_model.specs.declared.instructions.Instruction.TheVariants.{Publish, Wait, When}
-use Rattle.plan_model.specs.Known.{Rows, Adds, row_before, IsGreatest, teaches}
+use Rattle.plan_model.specs.Known.{Rows, row_before, IsGreatest, teaches}
 use Rattle.plan_model.specs.Order.{IsOrder}
 use Rattle.plan_model.specs.Plan.{Plan, lane, instruction_at}
 use Rattle.plan_model.specs.Safety.{IsSafeUnder}
 use Rattle.plan_verifier.specs.Accepted.{AcceptedPlan, IsAccepted, known_rows}
 use Rattle.verdict_laws.proofs.Kept.{greatest_is_carried}
+use Rattle.verdict_laws.proofs.Quiet.{adds_nothing}
 use Rattle.verdict_laws.proofs.RowBefore.{row_before-le, each_place}
 use Rattle.verdict_laws.specs.Agreeing.{Agree}
 use Rattle.plan_cert.proofs.CheckLaws.{keeps-alike, safe-alike}
@@ -26,14 +26,6 @@ use Rattle.plan_cert.proofs.StatedLaws.{next-learns, stated-quiet}
 use Rattle.plan_cert.specs.Certified.{Certifies}
 use Rattle.plan_cert.specs.Made.{IsCertificateOf, AreNewLanes}
 use Rattle.plan_cert.specs.Stated.{rows_before, held_at, lists, stated_rows}
-
--- only what teaches adds to what is known
-adds-learns : (u : Universe) (p : Plan) (known : Rows) (l i : ℕ) (v : Variant) (x : Instruction)
-    → teaches x ≡ false → Adds u p known l i v x → ⊥
-adds-learns u p known l i v (Publish r) quiet adds = false≢true (sym quiet)
-adds-learns u p known l i v (Wait e) quiet adds = false≢true (sym quiet)
-adds-learns u p known l i v (When name wanted) quiet adds = false≢true (sym quiet)
-adds-learns u p known l i v _ quiet adds = adds
 
 -- the initial archive, and what is known besides
 joined : (k s : Bool) → (s ≡ true → k ≡ true) → k ≡ (s || (k && not s))
@@ -80,7 +72,7 @@ module _ (u : Universe) (p : Plan) (known : Rows) (order : List ℕ) (lanes : Li
       same_tests (known l (suc i) v) (known l (row_before p l i x) v)
       (λ e. elim (greatest.keeps.after l i x v lt at e) [
         | inl old ↦ old
-        | inr new ↦ absurd (adds-learns u p known l i v x quiet new)
+        | inr new ↦ absurd (adds_nothing u p known l i v x quiet new)
       ])
       ((greatest_is_carried u p known greatest).kept l i x v lt at)
 

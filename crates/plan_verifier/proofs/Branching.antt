@@ -25,8 +25,11 @@ use Rattle.verdict_laws.proofs.RowBefore.{home-before}
 use Rattle.plan_verifier.proofs.Steps.{maps-next, hazard-is}
 
 -- nothing is known
-nothing_known : (u : Universe) (m : May) → AreDoubts u m forgotten
-nothing_known u m = record { among = λ known. absurd (false≢true known) }
+pub nothing_known : (u : Universe) (m : May) → AreDoubts u m forgotten
+nothing_known u m = record {
+  among = λ known. absurd (false≢true known);
+  loose = λ known. absurd (false≢true known);
+}
 
 module _ (u : Universe) (p : Plan) (rows : Rows) (l i : ℕ)
     (branched : IsBranched (lane p l).instructions) where

@@ -3,53 +3,10 @@ use denote.RattleType.{RattleType}
 use denote.Ref.{NamedLft}
 use denote.Param.Send.{IsSync, sendable}
 use Rattle.std.proofs.Crossing.{crosses}
-use Rattle.std.proofs.MapsCrossing as maps
-use Rattle.deb_relation.specs.contracts.relations.Relations as Relations
-use Rattle.deb_version.specs.contracts.version.Version as Version
-use Rattle.deb_profile.specs.contracts.word_list.ArchNames as ArchNames
-use Rattle.farm_universe.specs.contracts.binary.PackageRelations as PackageRelations
-use Rattle.farm_universe.specs.contracts.binary.Package as Package
-use Rattle.farm_universe.specs.contracts.recipe.Recipe as Recipe
-use Rattle.farm_universe.specs.contracts.base.Base as Base
-use Rattle.farm_universe.specs.contracts.universe.Universe as Universe
-use Rattle.plan_asm.specs.contracts.plan.Plan as Plan
 use Rattle.plan_verifier.specs.contracts.stage.Stage as Stage
-use Rattle.sat_rows.specs.contracts.tables.Tables as Tables
 use Rattle.wait_order.specs.contracts.known.Known as Known
 use Rattle.wait_order.specs.contracts.outputs.Outputs as Outputs
-
-relations_sync : IsSync Relations.the_row
-relations_sync = search (crosses, sendable) depth 60 fits 20000
-
-version_sync : IsSync Version.the_row
-version_sync = search (crosses, sendable) depth 60 fits 20000
-
-arch_names_sync : IsSync ArchNames.the_row
-arch_names_sync = search (crosses, sendable) depth 60 fits 20000
-
-package_relations_sync : IsSync PackageRelations.the_row
-package_relations_sync = let r = relations_sync in search (crosses, sendable) depth 60 fits 20000
-
-package_sync : IsSync Package.the_row
-package_sync = let r = package_relations_sync in let v = version_sync in search (crosses, sendable)
-    depth 60 fits 20000
-
-recipe_sync : IsSync Recipe.the_row
-recipe_sync = let r = relations_sync in search (crosses, sendable) depth 60 fits 20000
-
-base_sync : IsSync Base.the_row
-base_sync = search (crosses, sendable) depth 60 fits 20000
-
-pub universe_sync : IsSync Universe.the_row
-universe_sync =
-    let p = package_sync in
-    let r = recipe_sync in
-    let b = base_sync in
-    let a = arch_names_sync in
-    search (maps.crosses, crosses, sendable) depth 60 fits 20000
-
-pub plan_sync : IsSync Plan.the_row
-plan_sync = search (crosses, sendable) depth 60 fits 50000
+use Rattle.wait_order.proofs.Crossing.{universe_sync, plan_sync, tables_sync}
 
 pub outputs_sync : IsSync Outputs.the_row
 outputs_sync = let u = universe_sync in let p = plan_sync in search (crosses, sendable) depth 60
@@ -58,9 +15,6 @@ outputs_sync = let u = universe_sync in let p = plan_sync in search (crosses, se
 pub known_sync : IsSync Known.the_row
 known_sync = let u = universe_sync in let p = plan_sync in let o = outputs_sync in search
     (crosses, sendable) depth 60 fits 50000
-
-pub tables_sync : IsSync Tables.the_row
-tables_sync = let u = universe_sync in search (maps.crosses, crosses, sendable) depth 60 fits 50000
 
 -- a stage, where what it knows may be shared
 pub stage_sync : (a : NamedLft) (K : RattleType) → IsSync K → IsSync (Stage.the_row a K)

@@ -20,7 +20,7 @@ use Rattle.plan_verifier.specs.declared.branch.Branch.{Branch}
 use Rattle.plan_verifier.specs.declared.branch.LaneMay.{LaneMay}
 
 abbrev pub forgotten : Doubt
-forgotten = record { known = false; over = [] }
+forgotten = record { known = false; over = []; loose = [] }
 
 -- behind an `else`: what was ahead of the `when`, and the end of the first branch is kept
 abbrev pub turned : LaneMay → Branch → LaneMay

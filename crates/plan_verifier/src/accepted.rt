@@ -6,20 +6,20 @@ ghost use Rattle.plan_model.specs.MayAt.{lane_cost};
 ghost use Rattle.plan_model.specs.Plan.{lane, count};
 ghost use Rattle.plan_model.specs.Promise.{IsSafe};
 ghost use Rattle.plan_verifier.specs.Accepted.{IsAccepted, StaysForeseen, known_rows};
+ghost use Rattle.plan_verifier.specs.Examined.{accepted_with, IsGrounds};
 
-use farm_input::Planned;
+use crate::examined::{Examined, Grounds};
 use farm_universe::Universe;
 use plan_asm::Plan;
 use std::marker::Model;
 use wait_order::Known;
 
-/// A plan that was accepted, with the universe that it is about.
+/// A plan that was accepted, with the universe that it is about: one that was examined, and what
+/// its acceptance rests on.
 #[derive(Drop)]
 pub struct Accepted {
-    planned: Planned,
-    known: Known,
-    order: Vec<u32>,
-    costs: Vec<u64>,
+    examined: Examined,
+    grounds: Grounds,
 }
 
 impl Model for Accepted {
@@ -27,58 +27,37 @@ impl Model for Accepted {
 
     ghost Value = { AcceptedPlan };
 
-    ghost use Rattle.std.specs.Prelude.{◌≡◌};
-    ghost use Rattle.plan_model.specs.Plan.{count};
-
     ghost view = { λ a. record {
-      universe = a.planned.universe;
-      plan = a.planned.plan.lanes;
-      known = a.known;
-      order = a.order.items;
-      costs = a.costs.items;
+      universe = a.examined.universe;
+      plan = a.examined.plan;
+      known = a.examined.known;
+      order = a.grounds.order.items;
+      costs = a.grounds.costs.items;
     } };
 
     ghost invariant = { λ a. IsAccepted (record {
-      universe = a.planned.universe;
-      plan = a.planned.plan.lanes;
-      known = a.known;
-      order = a.order.items;
-      costs = a.costs.items;
-    }) × (a.planned.plan.count ≡ count a.planned.universe a.planned.plan.lanes) };
+      universe = a.examined.universe;
+      plan = a.examined.plan;
+      known = a.examined.known;
+      order = a.grounds.order.items;
+      costs = a.grounds.costs.items;
+    }) };
 }
 
 impl Accepted {
-    /// Accepts a plan with what its lanes know, an order of its waits, and its costs.
-    pub(crate) fn new(planned: Planned, known: Known, order: Vec<u32>, costs: Vec<u64>) -> Accepted
-        requires accepted { IsAccepted (record {
-          universe = planned.universe;
-          plan = planned.plan.lanes;
-          known = known;
-          order = order.items;
-          costs = costs.items;
-        }) }
-        requires counted { planned.plan.count ≡ count planned.universe planned.plan.lanes }
-        ensures { result ≡ record {
-          universe = planned.universe;
-          plan = planned.plan.lanes;
-          known = known;
-          order = order.items;
-          costs = costs.items;
-        } }
+    /// Accepts an examined plan by its grounds.
+    pub(crate) fn new(examined: Examined, grounds: Grounds) -> Accepted
+        requires { IsGrounds examined grounds }
+        ensures { result ≡ accepted_with examined grounds.order.items grounds.costs.items }
     {
-        Accepted {
-            planned,
-            known,
-            order,
-            costs,
-        }
+        Accepted { examined, grounds }
     }
 
     /// The universe of the packages, the sources and the farm.
     pub fn universe(&self) -> &Universe
         ensures { result.now ≡ self.now.universe }
     {
-        &self.planned.universe
+        self.examined.universe()
     }
 
     /// The plan.
@@ -86,21 +65,21 @@ impl Accepted {
         ensures lanes { result.now.lanes ≡ self.now.plan }
         ensures counted { result.now.count ≡ count self.now.universe self.now.plan }
     {
-        &self.planned.plan
+        self.examined.plan()
     }
 
     /// What each lane knows of the archive at each place.
     pub fn known(&self) -> &Known
         ensures { result.now ≡ self.now.known }
     {
-        &self.known
+        self.examined.known()
     }
 
     /// The lanes in an order of their waits and outputs: taken in it, each lane gets past its last.
     pub fn order(&self) -> &[u32]
         ensures { result.now ≡ self.now.order }
     {
-        self.order.as_slice()
+        self.grounds.order.as_slice()
     }
 
     /// What a lane spends at most, in steps, for a number below the plan's `lanes`. It is within
@@ -113,14 +92,14 @@ impl Accepted {
         ensures within { result ≤ (lane self.now.plan number).budget }
     {
         self.keeps();
-        self.costs[number]
+        self.grounds.costs[number]
     }
 
     /// Tells what is kept of an accepted plan. It does nothing.
     pub fn keeps(&self)
         ensures { IsAccepted self.now }
     {
-        let _costs = &self.costs;
+        let _costs = &self.grounds.costs;
     }
 
     /// The promise: no interleaving of the lanes meets a trap, in every unfinished state some lane

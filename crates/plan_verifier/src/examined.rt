@@ -1,12 +1,15 @@
 //! What the verdict on a plan is asked of.
 
 ghost use Rattle.std.specs.Prelude.{◌≡◌, Err, IfErr, IfOk};
-ghost use Rattle.plan_model.specs.Known.{IsGreatest};
+ghost use Rattle.plan_model.specs.Known.{IsGreatest, KeepsRows};
+ghost use Rattle.plan_model.specs.Order.{IsOrder};
 ghost use Rattle.plan_model.specs.Plan.{count};
 ghost use Rattle.plan_model.specs.Sound.{IsSound};
+ghost use Rattle.plan_verifier.specs.Costs.{IsWalked};
 ghost use Rattle.plan_verifier.specs.Examined.{accepted_with, knowledge_of, IsGrounds};
 ghost use Rattle.plan_verifier.specs.Stage.{IsStage};
 ghost use Rattle.plan_verifier.specs.Verdict.{IsVerdictOn};
+ghost use Rattle.wait_order.specs.Answer.{IsWhyNone};
 ghost use Rattle.wait_order.specs.KnownRows.{rows_of};
 
 use crate::accepted::Accepted;
@@ -20,14 +23,14 @@ use plan_asm::Plan;
 use sat_rows::Tables;
 use std::alloc::{AllocError, Global};
 use std::marker::Model;
-use std::thread::Threads;
-use wait_order::{Known, OrderError, knowledge, order};
+use std::thread::{Threads, join};
+use wait_order::{Known, OrderError, knowledge_side_by_side, order};
 
 /// What the acceptance of a plan rests on.
 #[derive(Drop)]
 pub struct Grounds {
-    order: Vec<u32>,
-    costs: Vec<u64>,
+    pub(crate) order: Vec<u32>,
+    pub(crate) costs: Vec<u64>,
 }
 
 /// A plan over a universe, with what the verdict on it is asked of: the rows of the universe, and
@@ -60,6 +63,46 @@ impl Model for Examined {
         × (e.planned.plan.count ≡ count e.planned.universe e.planned.plan.lanes) };
 }
 
+/// Walks over the lanes, and looks for an order of their waits beside that: neither asks for the
+/// other.
+fn walks_beside_order(
+    rt: &(impl Threads + Sync),
+    alloc: Global,
+    universe: &Universe,
+    tables: &Tables,
+    plan: &Plan,
+    known: &Known,
+) -> (Result<Vec<u64>, Refusal>, Result<Vec<u32>, OrderError>)
+    requires sound { IsSound universe.now plan.now.lanes }
+    requires tables { tables.now ≡ universe.now }
+    requires of_universe { known.now.universe ≡ universe.now }
+    requires of_plan { known.now.plan ≡ plan.now.lanes }
+    requires keeps { KeepsRows universe.now plan.now.lanes (rows_of known.now) }
+    ensures walked { IsWalked universe.now plan.now.lanes (rows_of known.now) result.0 }
+    ensures order { IfOk result.1 (λ order. IsOrder universe.now plan.now.lanes order.items) }
+    ensures stuck { IfErr result.1 (IsWhyNone universe.now plan.now.lanes) }
+{
+    join(
+        rt,
+        || -> Result<Vec<u64>, Refusal>
+            requires sound { IsSound universe.now plan.now.lanes }
+            requires tables { tables.now ≡ universe.now }
+            requires of_universe { known.now.universe ≡ universe.now }
+            requires of_plan { known.now.plan ≡ plan.now.lanes }
+            requires keeps { KeepsRows universe.now plan.now.lanes (rows_of known.now) }
+            ensures { IsWalked universe.entry.now plan.entry.now.lanes
+                (rows_of known.entry.now) result }
+        { check_lanes(rt, alloc, universe, tables, plan, known) },
+        move || -> Result<Vec<u32>, OrderError>
+            requires sound { IsSound universe.now plan.now.lanes }
+            requires tables { tables.now ≡ universe.now }
+            ensures order { IfOk result
+                (λ order. IsOrder universe.entry.now plan.entry.now.lanes order.items) }
+            ensures stuck { IfErr result (IsWhyNone universe.entry.now plan.entry.now.lanes) }
+        { order(alloc, universe, tables, plan) },
+    )
+}
+
 /// Finds what the acceptance of a plan rests on, by the rows of its universe and what its lanes
 /// know.
 fn find_grounds(
@@ -83,8 +126,9 @@ fn find_grounds(
     ensures refused { IfErr result (λ refusal.
         IsVerdictOn universe.now plan.now.lanes (Err refusal)) }
 {
-    let costs = check_lanes(rt, alloc, universe, tables, plan, known)?;
-    match order(alloc, universe, tables, plan) {
+    let (costs, order) = walks_beside_order(rt, alloc, universe, tables, plan, known);
+    let costs = costs?;
+    match order {
         Ok(order) => Ok(Grounds { order, costs }),
         Err(OrderError::Stuck(lanes)) => Err(stuck_refusal(alloc, plan, &lanes)),
         Err(OrderError::Memory) => Err(Refusal::Memory),
@@ -108,7 +152,7 @@ impl Examined {
         ensures plan { IfOk result (λ examined. examined.plan ≡ planned.plan.lanes) }
     {
         match Tables::build(rt, alloc, &planned.universe) {
-            Ok(tables) => Examined::by_tables(alloc, planned, tables),
+            Ok(tables) => Examined::by_tables(rt, alloc, planned, tables),
             Err(error) => Err(error),
         }
     }
@@ -119,6 +163,7 @@ impl Examined {
     ///
     /// [`AllocError`] where memory ran out.
     pub fn by_tables(
+        rt: &(impl Threads + Sync),
         alloc: Global,
         planned: Planned,
         tables: Tables,
@@ -129,7 +174,7 @@ impl Examined {
         ensures universe { IfOk result (λ examined. examined.universe ≡ planned.universe) }
         ensures plan { IfOk result (λ examined. examined.plan ≡ planned.plan.lanes) }
     {
-        match knowledge(alloc, &planned.universe, &tables, &planned.plan) {
+        match knowledge_side_by_side(rt, alloc, &planned.universe, &tables, &planned.plan) {
             Ok(known) => Ok(Examined {
                 planned,
                 tables,
@@ -152,6 +197,13 @@ impl Examined {
         ensures counted { result.now.count ≡ count self.now.universe self.now.plan }
     {
         &self.planned.plan
+    }
+
+    /// What each lane knows of the archive at each place.
+    pub fn known(&self) -> &Known
+        ensures { result.now ≡ self.now.known }
+    {
+        &self.known
     }
 
     /// What walks over the plan's lanes go by.
@@ -190,8 +242,6 @@ impl Examined {
         requires { IsGrounds self grounds }
         ensures { result ≡ accepted_with self grounds.order.items grounds.costs.items }
     {
-        let Examined { planned, known, .. } = self;
-        let Grounds { order, costs } = grounds;
-        Accepted::new(planned, known, order, costs)
+        Accepted::new(self, grounds)
     }
 }

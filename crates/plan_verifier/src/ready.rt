@@ -11,7 +11,7 @@ ghost use Rattle.plan_model.specs.Sound.{IsPlan, IsSound};
 use deb_text::Fault;
 use farm_input::Planned;
 use farm_universe::Universe;
-use plan_asm::{Plan, assemble};
+use plan_asm::{Plan, assemble_side_by_side};
 use sat_rows::Tables;
 use std::alloc::{AllocError, Global};
 use std::thread::{Threads, join};
@@ -44,7 +44,7 @@ fn plan_beside_tables(
             ensures counted { IfOk result (λ p. p.count ≡ count universe.entry.now p.lanes) }
             ensures sound { IfOk result
                 (λ p. IsUniverse universe.entry.now → IsPlan universe.entry.now p.lanes) }
-        { assemble(alloc, universe, plan) },
+        { assemble_side_by_side(rt, alloc, universe, plan) },
         || Tables::build(rt, alloc, universe),
     )
 }
@@ -76,7 +76,7 @@ pub fn read_ready(
     ensures tables { IfOk result
         (λ ready. IfOk ready.tables (λ tables. tables ≡ ready.planned.universe)) }
 {
-    let universe = Universe::read(alloc, packages, sources, farm)?;
+    let universe = Universe::read_side_by_side(rt, alloc, packages, sources, farm)?;
     let _names = universe.names();
     let (plan, tables) = plan_beside_tables(rt, alloc, &universe, plan);
     let planned = Planned {

@@ -58,7 +58,7 @@ fn judge_by(
     requires tables { tables ≡ planned.universe }
     ensures { IsVerdictOn planned.universe planned.plan.lanes result }
 {
-    match Examined::by_tables(alloc, planned, tables) {
+    match Examined::by_tables(rt, alloc, planned, tables) {
         Ok(examined) => conclude(rt, alloc, examined),
         Err(_) => Err(Refusal::Memory),
     }

@@ -3,9 +3,12 @@
 use crate::toolchain::{FARM, PACKAGES, PLAN, SOURCES};
 use farm_archive::Publication;
 use farm_executor::{RunFault, run_farm};
-use lane_runner::{GAVE_UP, Gate, Go, HALTED, LaneArchive};
+use lane_runner::{GAVE_UP, Gate, Go, HALTED, LaneArchive, LaneStop};
 use plan_verifier::{Accepted, check};
+use std::alloc::Global;
+use std::sync::Wait;
 use std::test::Fail;
+use std::thread::Threads;
 
 /// Where a gate gives up.
 #[derive(Clone, Copy, Debug)]
@@ -49,6 +52,95 @@ impl Gate for GivesUp {
     fn ring(&self) {}
 }
 
+/// A run of two lanes that a gate stopped: by which code and which lane, the ends of both, and the
+/// plan.
+#[derive(Drop)]
+struct Stopped {
+    code: u16,
+    lane: u32,
+    ends: (LaneStop, LaneStop),
+    accepted: Accepted,
+}
+
+/// The ends of two lanes.
+fn both(ends: &[LaneStop]) -> Option<(LaneStop, LaneStop)> {
+    match ends {
+        [first, second] => Some((*first, *second)),
+        _ => None,
+    }
+}
+
+/// What a fault tells of a run that was stopped.
+fn stop_of(fault: RunFault) -> Option<Stopped> {
+    match fault {
+        RunFault::Stopped {
+            code,
+            lane,
+            ends,
+            accepted,
+        } => {
+            let ends = both(&ends)?;
+            Some(Stopped {
+                code,
+                lane,
+                ends,
+                accepted,
+            })
+        }
+        RunFault::Memory => None,
+    }
+}
+
+/// Runs the lanes over a gate that gives up there. Nothing where the run does not stop.
+fn run_up_to(
+    rt: &(impl Threads + Wait + Sync),
+    alloc: Global,
+    accepted: Accepted,
+    at: At,
+) -> Option<Stopped> {
+    match run_farm(rt, alloc, accepted, &GivesUp { at }) {
+        Ok(_) => None,
+        Err(fault) => stop_of(fault),
+    }
+}
+
+/// The end of a lane that stopped by this code, ahead of this instruction.
+const fn end_by(code: u16, instruction: u32) -> LaneStop {
+    LaneStop { code, instruction }
+}
+
+/// The end of this lane and the one of the other.
+const fn ends_from(run: &Stopped, lane: u32) -> (LaneStop, LaneStop) {
+    let (first, second) = run.ends;
+    if lane == 0 {
+        (first, second)
+    } else {
+        (second, first)
+    }
+}
+
+/// Whether this lane gave up there, and the other one is at its end or was halted.
+fn has_stopped(run: &Stopped, lane: u32, instruction: u32) -> bool {
+    let (by, other) = ends_from(run, lane);
+    let is_cause = run.code == GAVE_UP && run.lane == lane;
+    is_cause && by == end_by(GAVE_UP, instruction) && matches!(other.code, 0 | HALTED)
+}
+
+/// The number of the instruction at which a lane waits.
+const fn wait_of(lane: u32) -> u32 {
+    if lane == 0 { 3 } else { 1 }
+}
+
+/// Whether the lane that is the cause gave up at its wait, and the other one is at its end, was
+/// halted, or gave up at its own wait before it was.
+fn has_stopped_at_a_wait(run: &Stopped) -> bool {
+    let lane = run.lane;
+    let (by, other) = ends_from(run, lane);
+    let gave_up_too = other == end_by(GAVE_UP, wait_of(if lane == 0 { 1 } else { 0 }));
+    let is_cause = run.code == GAVE_UP && by == end_by(GAVE_UP, wait_of(lane));
+    is_cause && (gave_up_too || matches!(other.code, 0 | HALTED))
+}
+
 // The lane that gives up is the cause, and stands where it gave up; the other one is at its end, or
 // was halted.
 #[test]
@@ -56,30 +148,12 @@ fn stops_at_each_instruction(rt: HostRuntime) -> Result<(), Fail> {
     let mut accepted = check(&rt, rt.alloc(), PACKAGES, SOURCES, FARM, PLAN)?;
     for (lane, last) in [(0, 7), (1, 5)] {
         for instruction in 1..=last {
-            let gate = GivesUp {
-                at: At::Before { lane, instruction },
-            };
-            let Err(
-                RunFault::Stopped {
-                    code,
-                    lane: by,
-                    ends,
-                    accepted: given_back,
-                },
-            ) = run_farm(&rt, rt.alloc(), accepted, &gate)
-            else {
+            let at = At::Before { lane, instruction };
+            let Some(run) = run_up_to(&rt, rt.alloc(), accepted, at) else {
                 panic!(rt; "the run did not stop");
             };
-            assert_eq!(rt; (code, by), (GAVE_UP, lane));
-            for (number, end) in (0..2).zip(ends.iter()) {
-                if number == lane {
-                    assert_eq!(rt; (end.code, end.instruction), (GAVE_UP, instruction));
-                } else {
-                    assert!(rt; end.code == 0 || end.code == HALTED);
-                }
-            }
-            assert_eq!(rt; ends.len(), 2);
-            accepted = given_back;
+            assert!(rt; has_stopped(&run, lane, instruction));
+            accepted = run.accepted;
         }
     }
     Ok(())
@@ -88,33 +162,36 @@ fn stops_at_each_instruction(rt: HostRuntime) -> Result<(), Fail> {
 // A lane that gives up halts the other one where it waits.
 #[test]
 fn halts_the_other_lane(rt: HostRuntime) -> Result<(), Fail> {
-    // lane and instruction, and the ends: code and instruction of each lane
-    for (lane, instruction, first, second) in [
-        (1, 3, (502, 3), (501, 3)),
-        (0, 1, (501, 1), (502, 1)),
+    let mut accepted = check(&rt, rt.alloc(), PACKAGES, SOURCES, FARM, PLAN)?;
+    // lane and instruction, and the ends of both lanes
+    for (lane, instruction, ends) in [
+        (1, 3, (end_by(HALTED, 3), end_by(GAVE_UP, 3))),
+        (0, 1, (end_by(GAVE_UP, 1), end_by(HALTED, 1))),
     ] {
-        let accepted = check(&rt, rt.alloc(), PACKAGES, SOURCES, FARM, PLAN)?;
-        let gate = GivesUp {
-            at: At::Before { lane, instruction },
-        };
-        let Err(
-            RunFault::Stopped {
-                code,
-                lane: by,
-                ends,
-                accepted: _,
-            },
-        ) = run_farm(&rt, rt.alloc(), accepted, &gate)
-        else {
+        let at = At::Before { lane, instruction };
+        let Some(run) = run_up_to(&rt, rt.alloc(), accepted, at) else {
             panic!(rt; "the run did not stop");
         };
-        assert_eq!(rt; (code, by), (GAVE_UP, lane));
-        let ends = ends.as_slice();
-        assert_eq!(rt; ends.len(), 2);
-        assert_eq!(rt; (ends[0].code, ends[0].instruction), first);
-        assert_eq!(rt; (ends[1].code, ends[1].instruction), second);
+        assert_eq!(rt; (run.code, run.lane, run.ends), (GAVE_UP, lane, ends));
+        accepted = run.accepted;
     }
     Ok(())
+}
+
+/// Runs the lanes over a gate that gives up where one waits in vain. The plan, where each lane that
+/// did stands at its wait, or the run came to its end.
+fn run_up_to_a_wait(
+    rt: &(impl Threads + Wait + Sync),
+    alloc: Global,
+    accepted: Accepted,
+) -> Option<Accepted> {
+    match run_farm(rt, alloc, accepted, &GivesUp { at: At::AnyPause }) {
+        Ok(run) => Some(run.accepted),
+        Err(fault) => {
+            let run = stop_of(fault)?;
+            has_stopped_at_a_wait(&run).then_some(run.accepted)
+        }
+    }
 }
 
 // Where a lane waits in vain in a run, it gives up there; where none does, the run comes to its
@@ -123,28 +200,10 @@ fn halts_the_other_lane(rt: HostRuntime) -> Result<(), Fail> {
 fn stops_at_a_pause(rt: HostRuntime) -> Result<(), Fail> {
     let mut accepted = check(&rt, rt.alloc(), PACKAGES, SOURCES, FARM, PLAN)?;
     for _ in 0..100 {
-        let gate = GivesUp { at: At::AnyPause };
-        accepted = match run_farm(&rt, rt.alloc(), accepted, &gate) {
-            Ok(run) => run.accepted,
-            Err(
-                RunFault::Stopped {
-                    code,
-                    lane,
-                    ends,
-                    accepted,
-                },
-            ) => {
-                assert_eq!(rt; code, GAVE_UP);
-                // the waits of the two lanes
-                let wait = if lane == 0 { 3 } else { 1 };
-                let Some(end) = ends.get(lane as usize) else {
-                    panic!(rt; "a lane has no end");
-                };
-                assert_eq!(rt; (end.code, end.instruction), (GAVE_UP, wait));
-                accepted
-            }
-            Err(RunFault::Memory) => panic!(rt; "memory was refused"),
+        let Some(again) = run_up_to_a_wait(&rt, rt.alloc(), accepted) else {
+            panic!(rt; "a lane stands elsewhere, or memory was refused");
         };
+        accepted = again;
     }
     Ok(())
 }

@@ -14,7 +14,7 @@ use Rattle.farm_model.specs.Universe.{Universe}
 use Rattle.farm_model.specs.Packages.{variant, names, variants, package_of, is_wanted}
 use Rattle.farm_model.specs.Sound.{IsInOrder}
 use Rattle.farm_universe.proofs.PlaceLaws.{no_variants}
-use Rattle.std.specs.Ordering.{is_lt, is_le}
+use Rattle.std.specs.Ordering.{is_lt, is_le, ordering_reverse}
 use Rattle.deb_relation.specs.declared.operator.Op.{Op}
 use Rattle.deb_relation.specs.declared.operator.Op.TheVariants.{Earlier, EarlierOrEqual, Equal as SameVersion, LaterOrEqual, Later}
 use Rattle.deb_relation.specs.Satisfaction.{admits}
@@ -119,6 +119,84 @@ module _ (u : Universe) (n : ℕ) (bound : List ℕ) (e : Bool) where
         before = λ b lt. elim (cases_lt b count) [
           | inl low ↦ is.below b low ∙ sym (lt-ltb b count low)
           | inr ge ↦ is.above b (omega (arith, is.order)) lt ∙ sym (not_lt b count ge)
+        ];
+      }
+
+-- of two variants of a name the one before has the earlier version
+pub rises : (u : Universe) → IsInOrder u → (n a b : ℕ) → a < b → b < variants u n
+    → text_cmp (package_of u (variant n a)).version (package_of u (variant n b)).version ≡ Less
+rises u order n a zero lt there = absurd (omega (arith, lt))
+rises u order n a (suc b) lt there =
+    let version = λ (k : ℕ). (package_of u (variant n k)).version in
+    elim (cases_lt a b) [
+      | inl below ↦
+          text_cmp_total.trans (version a) (version b) (version (suc b))
+          (rises u order n a b below (omega (arith, there))) (order.rising n b there)
+      | inr ge ↦
+          subst (λ k. text_cmp (version k) (version (suc b)) ≡ Less)
+          (let same : b ≡ a = omega (arith, lt, ge) in same) (order.rising n b there)
+    ]
+
+-- those ahead of one that is as early as a version are earlier, and those behind it later
+module _ (u : Universe) (order : IsInOrder u) (n : ℕ) (bound : List ℕ) (bit : ℕ)
+    (there : bit < variants u n)
+    (same : text_cmp (package_of u (variant n bit)).version bound ≡ Equal) where
+  abbrev to_bound : ℕ → Ordering
+  to_bound b = text_cmp (package_of u (variant n b)).version bound
+
+  as_to_bit : (b : ℕ)
+      → text_cmp (package_of u (variant n b)).version (package_of u (variant n bit)).version
+      ≡ to_bound b
+  as_to_bit b =
+      alike_right text_cmp_total (package_of u (variant n bit)).version bound
+      (package_of u (variant n b)).version same
+
+  is_less : (b : ℕ) → b < bit → to_bound b ≡ Less
+  is_less b lt = sym (as_to_bit b) ∙ rises u order n b bit lt there
+
+  is_greater : (b : ℕ) → bit < b → b < variants u n → to_bound b ≡ Greater
+  is_greater b lt inside =
+      sym (as_to_bit b)
+      ∙ text_cmp_total.antisymm (package_of u (variant n b)).version
+      (package_of u (variant n bit)).version
+      ∙ ap ordering_reverse (rises u order n bit b lt inside)
+
+  pub equal_earlier : IsCountBefore u n bound false bit
+  equal_earlier =
+      record {
+        within = omega (arith, there);
+        before = λ b inside. elim (cases_lt b bit) [
+          | inl low ↦ ap (is_before false) (is_less b low) ∙ sym (lt-ltb b bit low)
+          | inr ge ↦ elim (cases_lt bit b) [
+            | inl high ↦
+                ap (is_before false) (is_greater b high inside) ∙ sym (not_lt b bit ge)
+            | inr le ↦
+                ap (is_before false)
+                (subst (λ k. to_bound k ≡ Equal)
+                (let here : bit ≡ b = omega (arith, ge, le) in here) same)
+                ∙ sym (not_lt b bit ge)
+          ]
+        ];
+      }
+
+  pub equal_or_earlier : IsCountBefore u n bound true (bit + 1)
+  equal_or_earlier =
+      record {
+        within = omega (arith, there);
+        before = λ b inside. elim (cases_lt bit b) [
+          | inl high ↦
+              ap (is_before true) (is_greater b high inside)
+              ∙ sym (not_lt b (bit + 1) (omega (arith, high)))
+          | inr le ↦ elim (cases_lt b bit) [
+            | inl low ↦
+                ap (is_before true) (is_less b low)
+                ∙ sym (lt-ltb b (bit + 1) (omega (arith, le)))
+            | inr ge ↦
+                ap (is_before true)
+                (subst (λ k. to_bound k ≡ Equal)
+                (let here : bit ≡ b = omega (arith, ge, le) in here) same)
+                ∙ sym (lt-ltb b (bit + 1) (omega (arith, le)))
+          ]
         ];
       }
 

@@ -1,12 +1,12 @@
 -- Whether words miss what satisfied an entry, by the lists of those who satisfy and who have it.
-use Rattle.std.proofs.Common.{◌≡◌, ◌↔◌, ℕ, ◌<◌, Bool, true, ◌&&◌, ◌==◌, nat_lt, List, [], length, get_or, Some, refl, sym, ap, subst, ◌∙◌, inl, inr, arith, slice_index}
+use Rattle.std.proofs.Common.{◌≡◌, ◌↔◌, ℕ, ◌<◌, Bool, true, not, ◌&&◌, ◌==◌, nat_lt, List, [], length, get_or, Some, refl, sym, ap, subst, ◌∙◌, inl, inr, arith, slice_index}
 use Rattle.std.specs.List.{slice_get}
 use Rattle.std.proofs.lemmas.Bool.{cases_Bool, and_parts, and_from, both_ways, not-true, not_from_false, ltb-true, eqb-true, eq-eqb}
 use Rattle.std.proofs.lemmas.Option.{slice_get_within, slice_get-get_or}
-use Rattle.clause_kernel.specs.Kernels.{shares_bit, met}
+use Rattle.clause_kernel.specs.Kernels.{shares_bit, meets, met}
 use Rattle.clause_kernel.specs.Rows.{word_has}
 use Rattle.clause_kernel.proofs.Meanings.{met-bits}
-use Rattle.clause_kernel.proofs.Words.{shares_bit-bits}
+use Rattle.clause_kernel.proofs.Words.{shares_bit-bits, meets-bits}
 use Rattle.bit_rows.specs.Sets.{variants_of, HasNameInside}
 use Rattle.deb_relation.specs.Relations.{Entry}
 use Rattle.farm_model.specs.declared.types.Variant.{Variant}
@@ -100,10 +100,12 @@ module _ (u : Universe) (rows : List (List ℕ)) (x : Links) (are : AreServed u 
     pub missed_found : misses x rows name word words ≡ true → IsMissed u name word words
     missed_found some =
         let serving = are.serving in
-        let at = any-found (is_missed_by x rows word words) (list_at x.by_name name) some in
+        let own = slice_index words name in
+        let at = any-found (is_missed_by x rows word own words) (list_at x.by_name name) some in
         let k = at.1.number in
         let first = and_parts (shares_bit word at.1.word) _ at.3 in
-        let second = and_parts (hits words (list_at x.by_entry k)) _ first.1 in
+        let others = and_parts (not (meets own at.1.word)) _ first.1 in
+        let second = and_parts (hits words (list_at x.by_entry k)) _ others.1 in
         let shared = (shares_bit-bits word at.1.word).0 first.0 in
         let listed : among (list_at x.by_name name) k shared.0 ≡ true =
         any-at (λ t. (k == t.number) && word_has t.word shared.0) (list_at x.by_name name) at.0 at.1
@@ -137,6 +139,29 @@ module _ (u : Universe) (rows : List (List ℕ)) (x : Links) (are : AreServed u 
           unmet = unmet_is k e.entry e.number second.1;
         }
 
+    -- an entry that is listed under the name, where all that the words have of the name is in its
+    -- word, is met by it
+    met_by_own : (at : NumberWord) (e : Entry) → slice_get are.entries at.number ≡ Some e
+        → (i : ℕ) → slice_get (list_at x.by_name name) i ≡ Some at
+        → meets (slice_index words name) at.word ≡ true
+        → HasNameInside (variants_of words) (passes u (satisfies_entry u e))
+    met_by_own at e is i listed meets_it =
+        let parts = (meets-bits (slice_index words name) at.word).0 meets_it in (
+          name,
+          parts.0,
+          λ b has.
+              let serving = are.serving in
+              let k = at.number in
+              let among_it : among (list_at x.by_name name) k b ≡ true =
+              any-at (λ t. (k == t.number) && word_has t.word b) (list_at x.by_name name) i at
+              listed
+              (and_from _ _ (eq-eqb k k refl) (parts.1 b has)) in
+              let name_there = within x.by_name name k b among_it in
+              sym (serving.are_sets.each k e is name b)
+              ∙ (sym (serving.satisfied.each name k b
+              (omega (arith, name_there, serving.satisfied.long))) ∙ among_it),
+        )
+
     pub missed_from : IsMissed u name word words → misses x rows name word words ≡ true
     missed_from is =
         let serving = are.serving in
@@ -159,12 +184,21 @@ module _ (u : Universe) (rows : List (List ℕ)) (x : Links) (are : AreServed u 
         listed in
         let parts = and_parts (k == at.1.number) _ at.3 in
         let same = eqb-true k at.1.number parts.0 in
-        any-at (is_missed_by x rows word words) (list_at x.by_name name) at.0 at.1 at.2
+        let own = slice_index words name in
+        let entry_is : slice_get are.entries at.1.number ≡ Some is.entry =
+        subst (λ j. slice_get are.entries j ≡ Some is.entry) same noted.is in
+        let not_own : not (meets own at.1.word) ≡ true =
+        not_from_false _ (elim (cases_Bool (meets own at.1.word)) [
+          | inr out ↦ out
+          | inl it ↦ absurd (is.unmet (met_by_own at.1 is.entry entry_is at.0 at.2 it))
+        ]) in
+        any-at (is_missed_by x rows word own words) (list_at x.by_name name) at.0 at.1 at.2
         (and_from _ _ ((shares_bit-bits word at.1.word).1 (is.bit, is.taken, parts.1))
+        (and_from _ _ not_own
         (subst (λ j. (hits words (list_at x.by_entry j) && is_unmet words (slice_get rows j))
         ≡ true) same
         (and_from _ _ (hit_from words (list_at x.by_entry k) v.name v.bit is.held owned)
-        (unmet_from k is.entry noted.is is.unmet))))
+        (unmet_from k is.entry noted.is is.unmet)))))
 
     pub misses_is : (t : Bool) → t ≡ misses x rows name word words
         → (t ≡ true) ↔ IsMissed u name word words

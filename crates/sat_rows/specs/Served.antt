@@ -9,12 +9,12 @@
 --   is_unmet            there is a row, and no name of the words meets it
 --   is_missed_by, misses
 --                       the words hit the owners of an entry that the word satisfies, and do not
---                       meet it
+--                       meet it, by that name or another
 --   IsMissed            they have a variant with such an entry
 use Rattle.std.specs.Prelude.{◌≡◌, ℕ, ◌<◌, Bool, true, false, not, ◌&&◌, List, [], ◌++◌, length, Option, None, Some, slice_get, slice_index, slice_index_or}
 use Rattle.std.specs.List.{list_any}
 use Rattle.bit_rows.specs.Sets.{variants_of, HasNameInside}
-use Rattle.clause_kernel.specs.Kernels.{shares_bit, met}
+use Rattle.clause_kernel.specs.Kernels.{shares_bit, meets, met}
 use Rattle.clause_kernel.specs.Rows.{word_has}
 use Rattle.deb_relation.specs.Relations.{Entry, Relations}
 use Rattle.farm_model.specs.declared.types.Variant.{Variant}
@@ -60,14 +60,15 @@ is_unmet words None = false
 is_unmet words (Some row) = not (met words row)
 
 -- the variants of the word satisfy the entry, a variant of the words has it, and they do not meet
--- it
-abbrev pub is_missed_by : Links → List (List ℕ) → (word : ℕ) → List ℕ → NumberWord → Bool
-is_missed_by x rows word words at =
-    shares_bit word at.word && (hits words (list_at x.by_entry at.number)
-    && is_unmet words (slice_get rows at.number))
+-- it: neither by the name that it is listed under, of which they have this word, nor by another
+abbrev pub is_missed_by : Links → List (List ℕ) → (word own : ℕ) → List ℕ → NumberWord → Bool
+is_missed_by x rows word own words at =
+    shares_bit word at.word && (not (meets own at.word)
+    && (hits words (list_at x.by_entry at.number) && is_unmet words (slice_get rows at.number)))
 
 abbrev pub misses : Links → List (List ℕ) → (name word : ℕ) → List ℕ → Bool
-misses x rows name word words = list_any (is_missed_by x rows word words) (list_at x.by_name name)
+misses x rows name word words =
+    list_any (is_missed_by x rows word (slice_index words name) words) (list_at x.by_name name)
 
 -- a variant that the words have
 pub record IsMissed (u : Universe) (name word : ℕ) (words : List ℕ) : Type 0 where

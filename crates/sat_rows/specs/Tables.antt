@@ -2,6 +2,7 @@
 --
 --   AreEntryRows      rows, and where the entries of each variant and of each recipe have theirs
 --   EntryRows         all three, with those who satisfy and who have the entries
+--   AreExclusions     who excludes whom, and what the recipes exclude
 --   AreKept           the same with what they exclude, and a row without variants
 use Rattle.std.specs.Prelude.{◌≡◌, ℕ, List, length, Option}
 use Rattle.bit_rows.specs.Sets.{variants_of, HasNone}
@@ -10,6 +11,7 @@ use Rattle.farm_model.specs.declared.types.Variant.{Variant}
 use Rattle.farm_model.specs.Universe.{Universe}
 use Rattle.farm_model.specs.Packages.{names}
 use Rattle.item_index.specs.declared.item.Item.{Item}
+use Rattle.sat_rows.specs.declared.tables.Exclusions.{Exclusions}
 use Rattle.sat_rows.specs.Clashes.{AreClashes}
 use Rattle.sat_rows.specs.Entries.{Numbers, AreNumbered, AreNeeds, AreRowsOf}
 use Rattle.sat_rows.specs.Index.{IsProviding}
@@ -23,6 +25,12 @@ pub record AreEntryRows (u : Universe) (by_name : List (List Numbers)) (by_recip
   pub variants : AreNumbered u entries by_name
   pub needs : AreNeeds u entries by_recipe
   pub rows_of : AreRowsOf u entries rows
+
+-- whom the variants exclude, and what the recipes do
+pub record AreExclusions (u : Universe) (all : Exclusions) : Type 0 where
+  pub conflicts : IsExclusion u (λ binary. binary.conflicts) all.conflicts
+  pub breaks : IsExclusion u (λ binary. binary.breaks) all.breaks
+  pub clashes : AreClashes u all.clashes.items
 
 pub record EntryRows : Type 0 where
   pub names : List (List Numbers)

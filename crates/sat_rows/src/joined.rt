@@ -12,7 +12,7 @@ use std::alloc::{AllocError, Global};
 use std::marker::Model;
 
 /// From how many entries of a name on the lists of its variants are made.
-const MANY: usize = 64;
+pub const MANY: usize = 64;
 
 /// How many words the lists of a universe may take.
 const MOST_WORDS: usize = 1_048_576;

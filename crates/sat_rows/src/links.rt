@@ -6,7 +6,7 @@ ghost use Rattle.sat_rows.specs.Found.{hits_other};
 ghost use Rattle.sat_rows.specs.Links.{list_at, reaches, IsJoined};
 
 use crate::found::{Found, NumberWord};
-use crate::joined::{Joined, all_joined, words_at};
+use crate::joined::{Joined, MANY, all_joined, words_at};
 use crate::word::has_bit;
 use farm_universe::Variant;
 use std::alloc::{AllocError, Global};
@@ -87,11 +87,15 @@ impl Links {
         has_bit(entry.word, variant.bit) && self.leads_to_other(entry.number, variant.name, words)
     }
 
-    /// To whom a variant leads, if that is one list.
+    /// To whom a variant leads, if that is one list. None is looked for where there are few
+    /// entries.
     fn joined(&self, variant: Variant) -> Option<&Found>
         ensures { IfSome result (λ found. IsJoined (list_at self.now.by_name variant.name)
             self.now.by_entry variant.bit found.now) }
     {
+        if self.entries(variant.name).len() < MANY {
+            return None;
+        }
         match self.joined.get(variant.name as usize) {
             Some(joined) => joined.get(variant.bit),
             None => None,

@@ -1,6 +1,7 @@
 //! Which Depends and Pre-Depends entries the variants of each name satisfy, and who has them.
 
-ghost use Rattle.std.specs.Prelude.{◌≡◌, ◌<◌, ℕ, [], List, IfOk, length, slice_get, slice_index_or};
+ghost use Rattle.std.specs.Prelude.{◌≡◌, ◌<◌, ℕ, [], List, IfOk, length, slice_get, slice_index, slice_index_or};
+ghost use Rattle.clause_kernel.specs.Kernels.{meets};
 ghost use Rattle.deb_relation.specs.Relations.{Entry};
 ghost use Rattle.sat_rows.specs.Entries.{AreNumbered};
 ghost use Rattle.sat_rows.specs.Links.{list_at, AreSets};
@@ -45,6 +46,23 @@ fn is_unmet(rows: &[Row], number: usize, words: &[u64]) -> bool
     }
 }
 
+/// The word of a name, 0 where there is no such name.
+fn word_of(words: &[u64], name: u32) -> u64
+    ensures { result ≡ slice_index words.now name }
+{
+    match words.get(name as usize) {
+        Some(word) => *word,
+        None => 0,
+    }
+}
+
+/// Tells whether a word has variants, and all of them are in another.
+fn meets(word: u64, other: u64) -> bool
+    ensures { result ≡ meets word other }
+{
+    word != 0 && word & other == word
+}
+
 impl Served {
     /// Puts together who satisfies which entries and who has them, from the numbers of the entries
     /// and the variants that satisfy each.
@@ -78,12 +96,25 @@ impl Served {
         }
     }
 
-    fn is_missed_by(&self, rows: &[Row], word: u64, words: &[u64], at: &NumberWord) -> bool
+    /// Tells whether the words have a variant with an entry that the word satisfies, and that no
+    /// name of the words meets. `own` is the word among them of the name that the entry is listed
+    /// under: what that name itself meets needs no look at the owners and the row.
+    fn is_missed_by(
+        &self,
+        rows: &[Row],
+        word: u64,
+        own: u64,
+        words: &[u64],
+        at: &NumberWord,
+    ) -> bool
         requires { (k : ℕ) → k < length rows.now
             → length words.now ≡ length (slice_index_or rows.now k []) }
-        ensures { result ≡ is_missed_by self.now rows.now word words.now at.now }
+        ensures { result ≡ is_missed_by self.now rows.now word own words.now at.now }
     {
-        word & at.word != 0 && self.is_wanted(at.number, words) && is_unmet(rows, at.number, words)
+        word & at.word != 0
+            && !meets(own, at.word)
+            && self.is_wanted(at.number, words)
+            && is_unmet(rows, at.number, words)
     }
 
     /// Tells whether the words have a variant with an entry that a variant of the name satisfies,
@@ -93,8 +124,9 @@ impl Served {
             → length words.now ≡ length (slice_index_or rows.now k []) }
         ensures { result ≡ misses self.now rows.now name word words.now }
     {
+        let own = word_of(words, name);
         for at in words_at(&self.satisfied, name as usize) {
-            if self.is_missed_by(rows, word, words, at) {
+            if self.is_missed_by(rows, word, own, words, at) {
                 return true;
             }
         }

@@ -1,6 +1,6 @@
 //! The rows of every variant and of every recipe of a universe.
 
-ghost use Rattle.std.specs.Prelude.{◌≡◌, ◌<◌, ◌↔◌, Bool, IsTrue, IfOk, length};
+ghost use Rattle.std.specs.Prelude.{◌≡◌, ◌<◌, ◌↔◌, Bool, List, IsTrue, IfOk, length};
 ghost use Rattle.bit_rows.specs.Sets.{variants_of, HaveCommon};
 ghost use Rattle.farm_model.specs.declared.types.Variant.{Variant};
 ghost use Rattle.farm_model.specs.Packages.{names, pre_depends, depends, satisfies_entry, satisfies_any};
@@ -8,13 +8,17 @@ ghost use Rattle.farm_model.specs.Packages as packages;
 ghost use Rattle.farm_model.specs.Sound.{IsKnown};
 ghost use Rattle.sat_rows.specs.Rows.{passes, IsRowOf, IsSharedRow, IsAlternativeRow, entry_at, conflicts_with, broken_by, breakers_of};
 ghost use Rattle.sat_rows.specs.Index.{IsProviding};
-ghost use Rattle.sat_rows.specs.Served.{AreServed, IsMissed};
-ghost use Rattle.sat_rows.specs.Tables.{AreEntryRows};
+ghost use Rattle.deb_relation.specs.Relations as spec;
+ghost use Rattle.sat_rows.specs.Entries.{AreNumbered, AreRowsOf};
+ghost use Rattle.sat_rows.specs.Served.{AreLong, AreServed, IsServing, IsMissed};
+ghost use Rattle.sat_rows.specs.Links.{AreSets, IsExclusion};
+ghost use Rattle.sat_rows.specs.Tables.{AreEntryRows, AreExclusions};
 
 use crate::clashes::all_clashes;
 use crate::entries::Entries;
 use crate::entry_rows::{all_entry_rows, row_of_entry};
 use crate::exclusion::Exclusion;
+use crate::found::Found;
 use crate::index::{Breaks, Conflicts, Provides, naming};
 use crate::numbers::{NameNumbers, Needs};
 use crate::served::Served;
@@ -26,7 +30,7 @@ use item_index::ItemIndex;
 use std::alloc::{AllocError, Global};
 use std::marker::Model;
 use std::snapshot::Snapshot;
-use std::thread::Threads;
+use std::thread::{Threads, join};
 
 /// Which variants satisfy the entries of each variant and of each recipe, and which exclude it. A
 /// contract sees the universe that the rows are about. Entries with the same alternatives share a
@@ -85,6 +89,38 @@ impl Model for EntryRows {
     } };
 }
 
+/// Makes the rows of the distinct entries, and finds who satisfies them and who has them beside
+/// that: neither asks for the other.
+fn rows_beside_served(
+    rt: &(impl Threads + Sync),
+    alloc: Global,
+    universe: &Universe,
+    names: &[NameNumbers],
+    sets: &[Found],
+) -> (Result<Vec<Row>, AllocError>, Result<Served, AllocError>)
+    requires { AreLong universe.now names.now }
+    ensures rows { (entries : List spec.Entry) → AreSets universe.now entries sets.now
+        → IfOk result.0 (λ rows. AreRowsOf universe.now entries rows.items) }
+    ensures served { (entries : List spec.Entry) → AreNumbered universe.now entries names.now
+        → AreSets universe.now entries sets.now → IfOk result.1 (IsServing universe.now entries) }
+{
+    join(
+        rt,
+        || -> Result<Vec<Row>, AllocError>
+            ensures { (entries : List spec.Entry)
+                → AreSets universe.entry.now entries sets.entry.now
+                → IfOk result (λ rows. AreRowsOf universe.entry.now entries rows.items) }
+        { all_entry_rows(rt, alloc, universe, sets) },
+        move || -> Result<Served, AllocError>
+            requires { AreLong universe.now names.now }
+            ensures { (entries : List spec.Entry)
+                → AreNumbered universe.entry.now entries names.entry.now
+                → AreSets universe.entry.now entries sets.entry.now
+                → IfOk result (IsServing universe.entry.now entries) }
+        { Served::build(alloc, universe, names, sets) },
+    )
+}
+
 impl EntryRows {
     fn build(
         rt: &(impl Threads + Sync),
@@ -100,8 +136,9 @@ impl EntryRows {
         let names = entries.names(alloc, universe)?;
         let needs = entries.recipes(alloc, universe)?;
         let sets = all_sets(rt, alloc, universe, providers, &entries)?;
-        let rows = all_entry_rows(rt, alloc, universe, &sets)?;
-        let served = Served::build(alloc, universe, &names, &sets)?;
+        let (rows, served) = rows_beside_served(rt, alloc, universe, &names, &sets);
+        let rows = rows?;
+        let served = served?;
         Ok(EntryRows {
             names,
             needs,
@@ -109,6 +146,92 @@ impl EntryRows {
             served,
         })
     }
+}
+
+/// Whom the variants exclude, and what the recipes do.
+#[derive(Drop)]
+struct Exclusions {
+    conflicts: Exclusion,
+    breaks: Exclusion,
+    clashes: Vec<Option<Row>>,
+}
+
+/// Finds whom each variant names in Conflicts, and in Breaks beside that: neither asks for the
+/// other.
+fn conflicts_beside_breaks(
+    rt: &(impl Threads + Sync),
+    alloc: Global,
+    universe: &Universe,
+    providers: &ItemIndex<Variant>,
+) -> (Result<Exclusion, AllocError>, Result<Exclusion, AllocError>)
+    requires { IsProviding universe.now providers.now }
+    ensures conflicts { IfOk result.0 (IsExclusion universe.now (λ binary. binary.conflicts)) }
+    ensures breaks { IfOk result.1 (IsExclusion universe.now (λ binary. binary.breaks)) }
+{
+    join(
+        rt,
+        || -> Result<Exclusion, AllocError>
+            requires { IsProviding universe.now providers.now }
+            ensures { IfOk result
+                (IsExclusion universe.entry.now (λ binary. binary.conflicts)) }
+        { Exclusion::build(rt, alloc, universe, providers, &Conflicts {}) },
+        || -> Result<Exclusion, AllocError>
+            requires { IsProviding universe.now providers.now }
+            ensures { IfOk result (IsExclusion universe.entry.now (λ binary. binary.breaks)) }
+        { Exclusion::build(rt, alloc, universe, providers, &Breaks {}) },
+    )
+}
+
+impl Exclusions {
+    fn build(
+        rt: &(impl Threads + Sync),
+        alloc: Global,
+        universe: &Universe,
+        providers: &ItemIndex<Variant>,
+    ) -> Result<Exclusions, AllocError>
+        requires { IsProviding universe.now providers.now }
+        ensures { IfOk result (AreExclusions universe.now) }
+    {
+        let (conflicts, breaks) = conflicts_beside_breaks(rt, alloc, universe, providers);
+        let (conflicts, breaks) = (conflicts?, breaks?);
+        let clashes = all_clashes(rt, alloc, universe, providers)?;
+        Ok(Exclusions {
+            conflicts,
+            breaks,
+            clashes,
+        })
+    }
+}
+
+/// Makes the rows of the entries, and finds who excludes whom beside that: neither asks for the
+/// other.
+fn rows_beside_exclusions(
+    rt: &(impl Threads + Sync),
+    alloc: Global,
+    universe: &Universe,
+    providers: &ItemIndex<Variant>,
+) -> (
+    Result<EntryRows, AllocError>,
+    Result<Exclusions, AllocError>,
+)
+    requires { IsProviding universe.now providers.now }
+    ensures entries { IfOk result.0 (λ x. AreEntryRows universe.now x.names x.needs x.rows) }
+    ensures served { IfOk result.0 (λ x. AreServed universe.now x.rows x.served) }
+    ensures exclusions { IfOk result.1 (AreExclusions universe.now) }
+{
+    join(
+        rt,
+        || -> Result<EntryRows, AllocError>
+            requires { IsProviding universe.now providers.now }
+            ensures entries { IfOk result
+                (λ x. AreEntryRows universe.entry.now x.names x.needs x.rows) }
+            ensures served { IfOk result (λ x. AreServed universe.entry.now x.rows x.served) }
+        { EntryRows::build(rt, alloc, universe, providers) },
+        || -> Result<Exclusions, AllocError>
+            requires { IsProviding universe.now providers.now }
+            ensures { IfOk result (AreExclusions universe.entry.now) }
+        { Exclusions::build(rt, alloc, universe, providers) },
+    )
 }
 
 impl Tables {
@@ -126,16 +249,20 @@ impl Tables {
     {
         let empty = Row::new(alloc, universe.names() as usize)?;
         let providers = naming(alloc, universe, &Provides {})?;
-        let rows = EntryRows::build(rt, alloc, universe, &providers)?;
-        let conflicts = Exclusion::build(rt, alloc, universe, &providers, &Conflicts {})?;
-        let breaks = Exclusion::build(rt, alloc, universe, &providers, &Breaks {})?;
-        let clashes = all_clashes(rt, alloc, universe, &providers)?;
+        let (rows, exclusions) = rows_beside_exclusions(rt, alloc, universe, &providers);
+        let rows = rows?;
+        let exclusions = exclusions?;
         let EntryRows {
             names,
             needs,
             rows,
             served,
         } = rows;
+        let Exclusions {
+            conflicts,
+            breaks,
+            clashes,
+        } = exclusions;
         Ok(Tables {
             universe: Snapshot::of(universe),
             names,

@@ -1,6 +1,6 @@
 //! The variants of one name that pass a test, as a word.
 
-ghost use Rattle.std.specs.Prelude.{◌≡◌, ◌<◌, ◌≤◌, ◌-◌, ◌^◌, ◌==◌, not, ◌&&◌, ◌||◌, ℕ, nat_lt, Some};
+ghost use Rattle.std.specs.Prelude.{◌≡◌, ◌<◌, ◌≤◌, ◌-◌, ◌^◌, ◌==◌, not, ◌&&◌, ◌||◌, ℕ, true, false, nat_lt, Some};
 ghost use Rattle.std.specs.Option.{option_copied};
 ghost use Rattle.clause_kernel.specs.Rows.{word_has};
 ghost use Rattle.farm_model.specs.Packages.{variants, is_wanted};
@@ -109,6 +109,29 @@ fn count_before(universe: &Universe, name: u32, bound: &Version, or_equal: bool)
     low
 }
 
+/// How many variants of a name are earlier than a version, and how many are as early at most. They
+/// stand in the order of their versions, so a few of them are looked at, and one at most is equal.
+fn equal_range(universe: &Universe, name: u32, bound: &Version) -> (u32, u32)
+    ensures earlier { IsCountBefore universe.now name bound.now false result.0 }
+    ensures or_equal { IsCountBefore universe.now name bound.now true result.1 }
+{
+    if name >= universe.names() {
+        return (0, 0);
+    }
+    let mut low = 0;
+    let mut high = universe.variants(name);
+    while low < high {
+        let bit = low + (high - low) / 2;
+        let version = universe.version(Variant { name, bit });
+        match version.compare(bound) {
+            Ordering::Less => low = bit + 1,
+            Ordering::Equal => return (bit, bit + 1),
+            Ordering::Greater => high = bit,
+        }
+    }
+    (low, low)
+}
+
 /// The first bit of the variants of a name whose version stands in a relation, and the one behind
 /// the last.
 fn range_of(universe: &Universe, name: u32, op: Op, bound: &Version) -> (u32, u32)
@@ -117,10 +140,7 @@ fn range_of(universe: &Universe, name: u32, op: Op, bound: &Version) -> (u32, u3
     match op {
         Op::Earlier => (0, count_before(universe, name, bound, false)),
         Op::EarlierOrEqual => (0, count_before(universe, name, bound, true)),
-        Op::Equal => (
-            count_before(universe, name, bound, false),
-            count_before(universe, name, bound, true),
-        ),
+        Op::Equal => equal_range(universe, name, bound),
         Op::LaterOrEqual => (
             count_before(universe, name, bound, false),
             variant_count(universe, name),

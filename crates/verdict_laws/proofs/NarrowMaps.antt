@@ -14,13 +14,8 @@ use Rattle.plan_model.specs.Turn.{was_built}
 use Rattle.plan_model.specs.May.{Bits, MaySlot, May, some_name, may_hold, may_hold_configured, surely_holds, surely_configured, surely_met, surely_met_with, surely_pre_meets, surely_pre_met, may_size, may_use, is_surely_unpacked}
 use Rattle.plan_model.specs.Risk.{greatest_cost, unpack_risks, some_may_member, configure_risks, surely_met_outside, may_meet, may_be_needed, deconfigure_risks, remove_risks, may_be_unsettled, build_risks, publish_risks}
 use Rattle.farm_laws.proofs.Slots.{list_any-mono, not-mono, and-mono, or-mono}
-use Rattle.farm_laws.proofs.MayMaps.{Covers, nil, cons, over-may}
+use Rattle.farm_laws.proofs.MayMaps.{Covers, nil, cons, over-may, unmet-may}
 use Rattle.verdict_laws.proofs.Narrower.{IsPart, NarrowsAll, some_of-mono, greatest_size-mono, may_hold-wider, may_hold_configured-wider, surely_holds-narrower, surely_configured-narrower, surely_pre_meets-narrower, may_size-wider, same_unpacked, same_configured, same_present}
-
--- an entry is not met where less is met
-unmet-mono : (meets less : Entry → Bool) (es : List Entry)
-    → ((e : Entry) → less e ≡ true → meets e ≡ true) → unmet meets es ≡ true → unmet less es ≡ true
-unmet-mono meets less es h = list_any-mono _ _ es (λ e. not-mono (meets e) (less e) (h e))
 
 module _ (u : Universe) (m w : May) (narrow : NarrowsAll u m w) where
   -- a test of some slot that holds of one slot where it holds of the other
@@ -143,7 +138,7 @@ module _ (u : Universe) (m w : May) (narrow : NarrowsAll u m w) where
       (λ n s. is_surely_unpacked s || may_hold u n (misses w n) s)
       (λ n. or-mono _ _ _ _ (λ e. sym (same_unpacked (narrow.each n)) ∙ e)
       (may_hold-wider u n (misses m n) (misses w n)
-      (λ b. unmet-mono (surely_met u m) (surely_met u w) (entries u (variant n b)) met-narrower)
+      (λ b. unmet-may (surely_met u m) (surely_met u w) (entries u (variant n b)) met-narrower)
       (narrow.each n)))
 
   -- the risks of each instruction under the narrower map are among those under the other
@@ -160,7 +155,7 @@ module _ (u : Universe) (m w : May) (narrow : NarrowsAll u m w) where
       (cons
       (some (λ b. unmet (surely_pre_met u name m) (pre_depends u (variant name b)))
       (λ b. unmet (surely_pre_met u name w) (pre_depends u (variant name b)))
-      (λ b. unmet-mono (surely_pre_met u name m) (surely_pre_met u name w)
+      (λ b. unmet-may (surely_pre_met u name m) (surely_pre_met u name w)
       (pre_depends u (variant name b)) (pre_met-narrower name)))
       (cons (some _ _ (λ b. other-wider name (λ n d. conflict u (variant name b) (variant n d))))
       (cons (some _ _ (λ b. other_configured-wider name
@@ -173,9 +168,9 @@ module _ (u : Universe) (m w : May) (narrow : NarrowsAll u m w) where
       cons (over-may of.budget _ _ _ _ narrow.cost (le_refl _))
       (cons (list_any-mono _ _ members (λ k e. ap not (sym (same_unpacked (narrow.each k))) ∙ e))
       (cons (member-wider members _ _
-      (λ v. unmet-mono (surely_met u m) (surely_met u w) (pre_depends u v) met-narrower))
+      (λ v. unmet-may (surely_met u m) (surely_met u w) (pre_depends u v) met-narrower))
       (cons (member-wider members _ _
-      (λ v. unmet-mono (surely_met_with u members m) (surely_met_with u members w) (depends u v)
+      (λ v. unmet-may (surely_met_with u members m) (surely_met_with u members w) (depends u v)
       (met_with-narrower members)))
       (cons (member-wider members _ _ (λ v. other-wider v.name (λ n b. breaks u (variant n b) v)))
       nil))))
@@ -199,7 +194,7 @@ module _ (u : Universe) (m w : May) (narrow : NarrowsAll u m w) where
   build_covers of r =
       cons (over-may of.budget _ _ _ _ narrow.cost (le_refl _))
       (cons unsettled-wider
-      (cons (unmet-mono (surely_met u m) (surely_met u w) r.needs met-narrower)
+      (cons (unmet-may (surely_met u m) (surely_met u w) r.needs met-narrower)
       (cons
       (some_name-mono (λ n s. may_hold u n (λ b. satisfies_any u r.clashes (variant n b)) s)
       (λ n s. may_hold u n (λ b. satisfies_any u r.clashes (variant n b)) s)

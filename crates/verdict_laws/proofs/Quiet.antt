@@ -12,7 +12,7 @@ use Rattle.verdict_laws.proofs.Unions.{there}
 use Rattle.verdict_laws.specs.Families.{HasNoNews, InitialRowsAreGreatest}
 
 -- such an instruction adds nothing
-adds_nothing : (u : Universe) (p : Plan) (rows : Rows) (l i : ℕ) (v : Variant) (x : Instruction)
+pub adds_nothing : (u : Universe) (p : Plan) (rows : Rows) (l i : ℕ) (v : Variant) (x : Instruction)
     → teaches x ≡ false → Adds u p rows l i v x → ⊥
 adds_nothing u p rows l i v (Publish r) quiet add = cc
 adds_nothing u p rows l i v (Wait e) quiet add = cc

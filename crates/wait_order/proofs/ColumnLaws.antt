@@ -1,40 +1,27 @@
--- One more column.
-use Rattle.std.proofs.Common.{◌≡◌, inl, inr, ℕ, ◌+◌, ◌<◌, List, [], ◌∷◌, ◌++◌, length, get_or, refl, sym, ap, subst, ◌∙◌, arith}
-use Rattle.std.proofs.lemmas.List.{length-append, get_or_append_left}
-use Rattle.std.proofs.lemmas.Bool.{cases_eq}
+-- The columns of a plan from those of its lanes.
+use Rattle.std.proofs.Common.{◌≡◌, inl, inr, ℕ, ◌<◌, List, length, subst, ◌∙◌, arith}
+use Rattle.std.proofs.lemmas.Option.{slice_get_cases}
 use Rattle.farm_model.specs.Universe.{Universe}
-use Rattle.plan_model.specs.Plan.{Plan, lane, lane_outputs}
+use Rattle.plan_model.specs.Plan.{Plan}
 use Rattle.wait_order.specs.declared.column.Point.{Point}
+use Rattle.wait_order.specs.declared.marks.LaneOutputs.{LaneOutputs}
 use Rattle.wait_order.specs.Column.{IsGreatestColumn}
-use Rattle.wait_order.specs.Columns.{column_of, AreColumns}
+use Rattle.wait_order.specs.Columns.{column_of, AreColumns, IsLaneColumn}
+use Rattle.wait_order.specs.Marks.{AreLanes}
+use Rattle.wait_order.proofs.Sources.{outs-long}
 
-pub columns_next : (u : Universe) (p : Plan) (ps : List Point) (columns : List (List ℕ))
-    (n total : ℕ)
-    (x : List ℕ) → AreColumns u p ps columns n → total ≡ length (lane_outputs u (lane p n))
-    → IsGreatestColumn n total ps x → AreColumns u p ps (columns ++ x ∷ []) (n + 1)
-columns_next u p ps columns n total x so_far is here =
+-- one for each of the lanes
+pub columns_are : (u : Universe) (p : Plan) (lanes : List LaneOutputs) (ps : List Point)
+    (columns : List (List ℕ)) → AreLanes u p lanes → length columns ≡ length lanes
+    → ((n : ℕ) → n < length lanes → IsLaneColumn lanes ps n (column_of columns n))
+    → AreColumns u p ps columns (length p)
+columns_are u p lanes ps columns are long each =
     record {
-      long = length-append columns (x ∷ []) ∙ ap (λ k. k + 1) so_far.long;
-      each = λ j lt. elim (cases_eq j n) [
-        | inl same ↦
-            subst
-            (λ k. IsGreatestColumn k (length (lane_outputs u (lane p k))) ps
-            (column_of (columns ++ x ∷ []) k)) (sym same)
-            (subst (IsGreatestColumn n (length (lane_outputs u (lane p n))) ps) (sym last)
-            (subst (λ t. IsGreatestColumn n t ps x) is here))
-        | inr other ↦
-            subst (IsGreatestColumn j (length (lane_outputs u (lane p j))) ps)
-            (sym (first j (omega (arith, lt, other)))) (so_far.each j (omega (arith, lt, other)))
+      long = long ∙ are.long;
+      each = λ j lt. elim (slice_get_cases lanes j).1 [
+        | inl a ↦
+            subst (λ n. IsGreatestColumn j n ps (column_of columns j))
+            (outs-long u p j a.0.outputs.items (are.each j a.0 a.2)) (each j a.1 a.0 a.2)
+        | inr b ↦ absurd (omega (arith, b.0, lt, are.long))
       ];
     }
-  where
-    last : column_of (columns ++ x ∷ []) n ≡ x
-    last = at columns n so_far.long
-      where
-        at : (cs : List (List ℕ)) (k : ℕ) → length cs ≡ k → get_or (cs ++ x ∷ []) k [] ≡ x
-        at [] k e = ap (λ i. get_or (x ∷ []) i []) (sym e)
-        at (y ∷ cs) k e = ap (λ i. get_or (y ∷ (cs ++ x ∷ [])) i []) (sym e)
-            ∙ at cs (length cs) refl
-
-    first : (j : ℕ) → j < n → column_of (columns ++ x ∷ []) j ≡ column_of columns j
-    first j lt = get_or_append_left columns (x ∷ []) [] j (omega (arith, lt, so_far.long))

@@ -33,3 +33,5 @@ pub mod PastLaws
 pub mod PossibleRows
 pub mod TotalLaws
 pub mod WordRows
+pub mod EntryLaws
+pub mod Crossing

@@ -1,7 +1,7 @@
 -- The list of points, and the outputs of a lane.
 use Rattle.std.proofs.Common.{◌≡◌, ℕ, zero, suc, ◌+◌, ◌<◌, ◌≤◌, List, [], ◌∷◌, ◌++◌, length, map, Option, Some, slice_get, refl, sym, ap, subst, ◌∙◌, arith, append_assoc}
 use Rattle.std.proofs.lemmas.List.{length-append, length-map, take_all}
-use Rattle.std.proofs.lemmas.Option.{none-some, slice_get_within}
+use Rattle.std.proofs.lemmas.Option.{slice_get_within}
 use Rattle.farm_model.specs.Universe.{Universe}
 use Rattle.plan_model.specs.declared.instructions.Instruction.{Instruction}
 use Rattle.plan_model.specs.declared.instructions.Instruction.TheVariants.{Wait, When}
@@ -14,13 +14,7 @@ use Rattle.wait_order.specs.declared.marks.LastPoints.{LastPoints}
 use Rattle.wait_order.specs.Points.{one_point, point_count, points_before, first_point, point_number, last_after, lasts_at, last_point}
 use Rattle.wait_order.proofs.Numbering.{points-next, lasts-next, count-next, count-start}
 
--- elements of two lists, one behind the other
-pub get-first : {X : Type 0} (xs ys : List X) (k : ℕ) (x : X) → slice_get xs k ≡ Some x
-    → slice_get (xs ++ ys) k ≡ Some x
-get-first [] ys k x e = absurd (none-some x e)
-get-first (y ∷ xs) ys zero x e = e
-get-first (y ∷ xs) ys (suc k) x e = get-first xs ys k x e
-
+-- elements of the second of two lists, one behind the other
 pub get-then : {X : Type 0} (xs ys : List X) (n k : ℕ) → n ≡ length xs + k
     → slice_get (xs ++ ys) n ≡ slice_get ys k
 get-then [] ys n k e = ap (slice_get ys) (let g : n ≡ k = omega (arith, e) in g)

@@ -10,11 +10,12 @@ use Rattle.plan_model.specs.declared.instructions.Instruction.TheVariants.{Wait,
 use Rattle.plan_model.specs.Plan.{Plan, lane, instruction_at, outputs_before}
 use Rattle.plan_model.specs.Known.{is_of}
 use Rattle.verdict_laws.proofs.Unions.{there}
+use Rattle.sat_rows.proofs.WantedLaws.{front_at}
 use Rattle.wait_order.specs.declared.marks.Mark.{Mark}
 use Rattle.wait_order.specs.Marks.{marks_of, marks_at, lane_marks, all_marks}
 use Rattle.wait_order.specs.Points.{asked, points_before, first_point, point_number, last_point}
 use Rattle.wait_order.proofs.Asked.{Asks}
-use Rattle.wait_order.proofs.MarkLaws.{get-first, get-then, lane_marks-long, all_marks-long}
+use Rattle.wait_order.proofs.MarkLaws.{get-then, lane_marks-long, all_marks-long}
 
 -- the mark of the point at a place
 abbrev pub mark_at : Universe → Plan → ℕ → ℕ → Mark
@@ -56,7 +57,7 @@ module _ (u : Universe) (p : Plan) where
             ∙ asks-mark x test l n (outputs_before u (lane p l) n 0) (last_point p l n) asks
             ∙ ap (λ k. Some (mark_at u p l k)) (sym here)
         | inr other ↦
-            get-first (lane_marks u p l n) (marks_at u p l n (instruction_at p l n))
+            front_at (lane_marks u p l n) (marks_at u p l n (instruction_at p l n))
             (points_before p l i)
             (mark_at u p l i) (in_lane n l i x test (omega (arith, le)) (omega (arith, lt, other))
             at asks)
@@ -81,7 +82,7 @@ module _ (u : Universe) (p : Plan) where
             (ap (λ k. instruction_at p k i) (sym here) ∙ at) asks
             ∙ ap (λ k. Some (mark_at u p k i)) (sym here)
         | inr other ↦
-            get-first (all_marks u p n) _ (point_number p l i) (mark_at u p l i)
+            front_at (all_marks u p n) _ (point_number p l i) (mark_at u p l i)
             (in_all n l i x test (omega (arith, lt, other)) at asks)
       ]
 

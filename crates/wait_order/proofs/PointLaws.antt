@@ -10,12 +10,13 @@ use Rattle.plan_model.specs.declared.instructions.Instruction.{Instruction}
 use Rattle.plan_model.specs.declared.instructions.Instruction.TheVariants.{When}
 use Rattle.plan_model.specs.Sound.{IsSound}
 use Rattle.plan_model.specs.Plan.{Plan, lane, instruction_at, outputs_before}
+use Rattle.sat_rows.proofs.WantedLaws.{front_at}
 use Rattle.wait_order.specs.declared.column.Point.{Point}
 use Rattle.wait_order.specs.declared.marks.Mark.{Mark}
 use Rattle.wait_order.specs.Marks.{all_marks}
 use Rattle.wait_order.specs.Points.{asked, point_number, IsPointAt, HasPoint, HasPlace, ArePoints}
 use Rattle.wait_order.specs.Hits.{IsPointOf, HasPointOf}
-use Rattle.wait_order.proofs.MarkLaws.{get-first, get-then, all_marks-long}
+use Rattle.wait_order.proofs.MarkLaws.{get-then, all_marks-long}
 use Rattle.wait_order.proofs.MarkPlaces.{mark_at, in_all, all_back}
 
 module _ (u : Universe) (p : Plan) (marks : List Mark) (ps : List Point)
@@ -92,7 +93,7 @@ points_next u p marks ps w mark of long have at is k m lt at_k =
           }
       | inr other ↦
           let h = have k m (omega (arith, lt, other)) at_k in
-          record { point = h.point; at = get-first ps (of ∷ []) k h.point h.at; is = h.is }
+          record { point = h.point; at = front_at ps (of ∷ []) k h.point h.at; is = h.is }
     ]
 
 -- what a mark says

@@ -14,13 +14,14 @@ use Rattle.clock_laws.proofs.Made.{made}
 use Rattle.clock_laws.proofs.Sets.{some_below_length}
 use Rattle.clock_laws.proofs.Unique.{output_at}
 use Rattle.sat_rows.specs.Rows.{IsRowOf}
+use Rattle.sat_rows.proofs.WantedLaws.{front_at}
 use Rattle.wait_order.specs.declared.column.Source.{Source}
 use Rattle.wait_order.specs.declared.marks.Output.{Output}
 use Rattle.wait_order.specs.Marks.{output_with, outputs_at, outputs_with_points}
 use Rattle.wait_order.specs.Points.{last_point, IsNothing, IsSource, HasNothing, AreSources}
 use Rattle.wait_order.specs.Hits.{HasNoHit, IsHitSource, IsPushed, AreSourcesBelow}
 use Rattle.wait_order.proofs.Numbering.{count-next, count-mono, count-few}
-use Rattle.wait_order.proofs.MarkLaws.{get-first, get-then, outputs_with_points-long}
+use Rattle.wait_order.proofs.MarkLaws.{get-then, outputs_with_points-long}
 
 slice_get-map : {A B : Type 0} (f : A → B) (xs : List A) (k : ℕ) (x : A) → slice_get xs k ≡ Some x
     → slice_get (map f xs) k ≡ Some (f x)
@@ -46,7 +47,7 @@ output-get u p l (suc n) k r m c le lt at out =
           ∙ slice_get-map (output_with (last_point p l n)) (outputs u r) m c out
           ∙ ap (λ j. Some (output_with (last_point p l j) c)) (sym here)
       | inr other ↦
-          get-first (outputs_with_points u p l n) (outputs_at u p l n (instruction_at p l n))
+          front_at (outputs_with_points u p l n) (outputs_at u p l n (instruction_at p l n))
           (outputs_before u (lane p l) k m)
           (output_with (last_point p l k) c)
           (output-get u p l n k r m c (omega (arith, le)) (omega (arith, lt, other)) at out)
@@ -227,7 +228,7 @@ module _ (u : Universe) (p : Plan) (h : ℕ) (outs : List Output)
               record {
                 index = z.index;
                 source = z.source;
-                at = get-first ss (s ∷ []) z.index z.source z.at;
+                at = front_at ss (s ∷ []) z.index z.source z.at;
                 count = z.count;
                 point = z.point;
               };
@@ -250,7 +251,7 @@ module _ (u : Universe) (p : Plan) (h : ℕ) (outs : List Output)
                 record {
                   index = f.index;
                   source = f.source;
-                  at = get-first ss (s ∷ []) f.index f.source f.at;
+                  at = front_at ss (s ∷ []) f.index f.source f.at;
                   is = f.is;
                   of_lane = f.of_lane;
                   early = f.early;

@@ -10,7 +10,6 @@ use Rattle.plan_model.specs.declared.instructions.Instruction.{Instruction}
 use Rattle.plan_model.specs.declared.instructions.Instruction.TheVariants.{Publish}
 use Rattle.plan_model.specs.Plan.{Plan, instruction_at, lane, outputs_before}
 use Rattle.wait_order.specs.declared.column.Source.{Source}
-use Rattle.wait_order.specs.declared.column.Sources.{Sources}
 use Rattle.wait_order.specs.declared.column.Point.{Point}
 use Rattle.wait_order.specs.declared.marks.Mark.{Mark}
 use Rattle.wait_order.specs.declared.marks.Output.{Output}
@@ -83,5 +82,5 @@ abbrev pub may_meet : Mark → Source → Bool
 may_meet mark s = if s.lane == mark.lane then nat_le s.count mark.own else true
 
 -- the sources of an entry, for a wait in no lane of the plan
-abbrev pub AreEntrySources : Universe → Plan → Entry → Sources → Type 0
-AreEntrySources u p e ss = AreSources u p (length p) 0 (satisfies_entry u e) ss.sources.items
+abbrev pub AreEntrySources : Universe → Plan → Entry → List Source → Type 0
+AreEntrySources u p e ss = AreSources u p (length p) 0 (satisfies_entry u e) ss

@@ -13,3 +13,4 @@ pub mod Clock
 pub mod Outputs
 pub mod Entries
 pub mod Supply
+pub mod EntrySources

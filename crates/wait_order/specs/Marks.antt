@@ -76,3 +76,11 @@ pub record IsMark (u : Universe) (p : Plan) (mark : Mark) : Type 0 where
   pub lane_there : mark.lane < length p
   pub place_there : mark.place < length (lane p mark.lane).instructions
   pub own_is : mark.own ≡ outputs_before u (lane p mark.lane) mark.place 0
+
+-- an instruction stands at the place of each mark
+pub record IsThere (p : Plan) (mark : Mark) : Type 0 where
+  pub in_plan : mark.lane < length p
+  pub in_lane : mark.place < length (lane p mark.lane).instructions
+
+abbrev pub AreThere : Plan → List Mark → Type 0
+AreThere p marks = (w : ℕ) (mark : Mark) → slice_get marks w ≡ Some mark → IsThere p mark

@@ -19,12 +19,6 @@ pub struct Source {
     pub count: u64,
 }
 
-/// The outputs that satisfy an entry, of each lane the first.
-#[derive(Debug, Drop)]
-pub struct Sources {
-    pub sources: Vec<Source>,
-}
-
 /// A wait or a `when`: its lane and place, the outputs of the lane before it, the point whose
 /// counts hold ahead of it, and the outputs that it looks for.
 #[derive(Debug, Drop)]

@@ -1,19 +1,24 @@
 //! The columns of all lanes.
 
-ghost use Rattle.std.specs.Prelude.{◌≡◌, ◌∷◌, [], length, IfOk};
+ghost use Rattle.std.specs.Prelude.{◌≡◌, ◌<◌, ◌∷◌, [], length, IfOk};
 ghost use Rattle.farm_model.specs.Universe as farm;
 ghost use Rattle.plan_model.specs.Plan as model;
 ghost use Rattle.wait_order.specs.Column as spec;
 ghost use Rattle.wait_order.specs.Column.{of_list, IsIn, ArePointsIn};
 ghost use Rattle.wait_order.specs.Marks.{AreLanes};
-ghost use Rattle.wait_order.specs.Columns.{AreColumns};
+ghost use Rattle.wait_order.specs.Columns.{AreColumns, IsLaneColumn};
 ghost use Rattle.wait_order.specs.Visit.{IsVisit};
 
 use crate::column::{Point, column, count_at};
 use crate::marks::LaneOutputs;
 use crate::visit::Visit;
+use rayon::prelude::*;
 use std::alloc::{AllocError, Global};
 use std::marker::Model;
+use std::thread::Threads;
+
+/// Of fewer points one thread makes all columns: to wake others would take longer.
+const POINTS_FOR_THREADS: usize = 512;
 
 /// How many outputs of one lane each point knows.
 #[derive(Debug, Drop)]
@@ -52,6 +57,25 @@ impl Counts {
     }
 }
 
+/// The greatest counts of the outputs of one lane.
+fn lane_column(
+    alloc: Global,
+    lanes: &[LaneOutputs],
+    number: usize,
+    points: &[Point],
+    visit: &Visit,
+) -> Result<Counts, AllocError>
+    requires placed { ArePointsIn (length points.now) points.now }
+    requires visit { IsVisit points.now visit.now }
+    requires there { number < length lanes.now }
+    ensures { IfOk result (IsLaneColumn lanes.now points.now number) }
+{
+    let total = lanes[number].outputs.len() as u64;
+    Ok(Counts {
+        counts: column(alloc, number, total, points, visit)?,
+    })
+}
+
 /// The greatest counts of each lane's outputs.
 ///
 /// # Errors
@@ -70,11 +94,50 @@ pub fn columns(
 {
     let mut columns = Vec::new(alloc);
     for number in 0..lanes.len() {
-        let outputs = lanes[number].outputs.as_slice();
-        let total = outputs.len() as u64;
-        columns.push(Counts {
-            counts: column(alloc, number, total, points, visit)?,
-        })?;
+        columns.push(lane_column(alloc, lanes, number, points, visit)?)?;
     }
+    Ok(columns)
+}
+
+/// The fewest columns that one thread makes.
+fn columns_at_once(lanes: &[LaneOutputs], points: &[Point]) -> usize {
+    if points.len() < POINTS_FOR_THREADS {
+        lanes.len()
+    } else {
+        1
+    }
+}
+
+/// The greatest counts of each lane's outputs, by as many threads as there are processors: no
+/// column asks for another.
+///
+/// # Errors
+///
+/// [`AllocError`] where memory is refused. Nothing is left behind.
+pub fn columns_side_by_side(
+    rt: &(impl Threads + Sync),
+    alloc: Global,
+    lanes: &[LaneOutputs],
+    points: &[Point],
+    visit: &Visit,
+) -> Result<Vec<Counts>, AllocError>
+    requires placed { ArePointsIn (length points.now) points.now }
+    requires visit { IsVisit points.now visit.now }
+    ensures { IfOk result (λ columns. (u : farm.Universe) (p : model.Plan)
+        → AreLanes u p lanes.now → AreColumns u p points.now columns.items (length p)) }
+{
+    let columns = (0..lanes.len())
+        .into_par_iter()
+        .with_min_len(columns_at_once(lanes, points))
+        .map(
+            move |number: usize| -> Result<Counts, AllocError>
+                requires placed { ArePointsIn (length points.now) points.now }
+                requires visit { IsVisit points.now visit.now }
+                requires there { number < length lanes.now }
+                ensures { IfOk result
+                    (IsLaneColumn lanes.entry.now points.entry.now number) }
+            { lane_column(alloc, lanes, number, points, visit) },
+        )
+        .collect::<Result<Vec<Counts>, AllocError>>(rt, alloc)??;
     Ok(columns)
 }

@@ -1,6 +1,6 @@
 //! Numbers for the entries that the waits of a plan name.
 
-ghost use Rattle.std.specs.Prelude.{◌≡◌, true, [], Some, slice_get, IfOk, OnOk};
+ghost use Rattle.std.specs.Prelude.{◌≡◌, ◌<◌, true, [], Some, length, slice_get, IfOk, OnOk};
 ghost use Rattle.wait_order.specs.Entries.{IsPlain, IsLonger};
 
 use deb_relation::{Atom, Entry, Op};
@@ -121,6 +121,21 @@ impl<'p> Entries<'p> {
             entries: Vec::new(alloc),
             slots: vec![in alloc; 0; SLOTS]?,
         })
+    }
+
+    /// How many entries there are.
+    pub fn len(&self) -> usize
+        ensures { result ≡ length self.now }
+    {
+        self.entries.len()
+    }
+
+    /// The entry of a number.
+    pub fn entry(&self, number: usize) -> &Entry
+        requires { number < length self.now }
+        ensures { slice_get self.now number ≡ Some result.now }
+    {
+        self.entries[number].entry
     }
 
     /// Tells whether the entry of a number is known to be this one.

@@ -80,9 +80,9 @@ fn ends(alloc: Global, lanes: &[LaneOutputs]) -> Result<Vec<usize>, AllocError>
     ensures ends { IfOk result (λ ends. (l : ℕ) (of : LaneOutputs) → slice_get lanes.now l ≡ Some of
         → slice_index ends.items l ≡ length of.outputs.items) }
 {
-    let mut ends = Vec::with_capacity(alloc, lanes.len())?;
+    let mut ends = vec![in alloc; 0; lanes.len()]?;
     for lane in 0..lanes.len() {
-        ends.push(lanes[lane].outputs.len())?;
+        ends[lane] = lanes[lane].outputs.len();
     }
     Ok(ends)
 }

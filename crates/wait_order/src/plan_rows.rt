@@ -3,18 +3,42 @@
 ghost use Rattle.std.specs.Prelude.{◌≡◌, IfOk};
 ghost use Rattle.plan_model.specs.Known.{IsGreatest};
 ghost use Rattle.plan_model.specs.Sound.{IsSound};
+ghost use Rattle.wait_order.specs.Columns.{HaveColumns};
 ghost use Rattle.wait_order.specs.KnownRows.{rows_of};
+ghost use Rattle.wait_order.specs.Marks.{AreLanes, HavePast};
 
-use crate::columns::columns;
+use crate::columns::{Counts, columns, columns_side_by_side};
 use crate::known::Known;
-use crate::marks::walk;
+use crate::marks::{LaneOutputs, walk};
 use crate::outputs::Outputs;
-use crate::points::points;
+use crate::points::{points, points_side_by_side};
 use crate::visit::visit_of;
 use farm_universe::Universe;
 use plan_asm::Plan;
 use sat_rows::Tables;
 use std::alloc::{AllocError, Global};
+use std::thread::Threads;
+
+/// What the lanes of a plan know by their outputs and the columns of these.
+fn known_of(
+    alloc: Global,
+    universe: &Universe,
+    plan: &Plan,
+    lanes: Vec<LaneOutputs>,
+    columns: Vec<Counts>,
+) -> Result<Known, AllocError>
+    requires sound { IsSound universe.now plan.now.lanes }
+    requires lanes { AreLanes universe.now plan.now.lanes lanes.items }
+    requires past { HavePast universe.now plan.now.lanes lanes.items }
+    requires columns { HaveColumns universe.now plan.now.lanes columns.items }
+    ensures universe { IfOk result (λ known. known.universe ≡ universe.now) }
+    ensures plan { IfOk result (λ known. known.plan ≡ plan.now.lanes) }
+    ensures greatest { IfOk result (λ known. IsGreatest universe.now plan.now.lanes
+        (rows_of known)) }
+{
+    let outputs = Outputs::of_lanes(alloc, universe, plan, lanes)?;
+    Ok(Known::new(outputs, columns))
+}
 
 /// What each lane of a plan knows of the archive at each place: the variants that are there
 /// whenever it stands there, whatever the other lanes did.
@@ -39,6 +63,32 @@ pub fn knowledge(
     let points = points(alloc, universe, tables, plan, &marks)?;
     let visit = visit_of(alloc, &points)?;
     let columns = columns(alloc, &marks.lanes, &points, &visit)?;
-    let outputs = Outputs::of_lanes(alloc, universe, plan, marks.lanes)?;
-    Ok(Known::new(outputs, columns))
+    known_of(alloc, universe, plan, marks.lanes, columns)
+}
+
+/// What each lane of a plan knows of the archive at each place, as [`knowledge`] tells it, by as
+/// many threads as there are processors.
+///
+/// # Errors
+///
+/// [`AllocError`] where memory ran out. Nothing is left behind.
+pub fn knowledge_side_by_side(
+    rt: &(impl Threads + Sync),
+    alloc: Global,
+    universe: &Universe,
+    tables: &Tables,
+    plan: &Plan,
+) -> Result<Known, AllocError>
+    requires sound { IsSound universe.now plan.now.lanes }
+    requires tables { tables.now ≡ universe.now }
+    ensures universe { IfOk result (λ known. known.universe ≡ universe.now) }
+    ensures plan { IfOk result (λ known. known.plan ≡ plan.now.lanes) }
+    ensures greatest { IfOk result (λ known. IsGreatest universe.now plan.now.lanes
+        (rows_of known)) }
+{
+    let marks = walk(alloc, universe, plan)?;
+    let points = points_side_by_side(rt, alloc, universe, tables, plan, &marks)?;
+    let visit = visit_of(alloc, &points)?;
+    let columns = columns_side_by_side(rt, alloc, &marks.lanes, &points, &visit)?;
+    known_of(alloc, universe, plan, marks.lanes, columns)
 }

@@ -77,10 +77,3 @@ pub get_some : {A : Type 0} (xs : List A) (i : ℕ) (d : A) → i < length xs
 get_some [] i d lt = absurd (omega arith)
 get_some (x ∷ xs) zero d lt = refl
 get_some (x ∷ xs) (suc i) d lt = get_some xs i d (omega arith)
-
--- some element stands at each place inside
-pub there_is : {A : Type 0} (xs : List A) (n : ℕ) → n < length xs
-    → (x : A) × (slice_get xs n ≡ Some x)
-there_is [] n lt = absurd (omega arith)
-there_is (x ∷ xs) zero lt = (x, refl)
-there_is (x ∷ xs) (suc n) lt = there_is xs n (omega arith)

@@ -8,9 +8,10 @@ use Rattle.plan_model.specs.Plan.{lane, lane_outputs}
 use Rattle.farm_archive.specs.declared.publication.Publication.{Publication}
 use Rattle.lane_records.specs.Records.{Record}
 use Rattle.plan_verifier.specs.Accepted.{AcceptedPlan}
+use Rattle.farm_laws.proofs.Archive.{element}
 use Rattle.word_archive.specs.History.{first_published, lane_published, lanes_published}
 use Rattle.word_archive.specs.Serials.{drawn, made_by}
-use Rattle.word_archive.proofs.Lists.{get_map, there_is}
+use Rattle.word_archive.proofs.Lists.{get_map}
 use Rattle.word_archive.proofs.SerialSums.{by_sum, drawn_take, is_under, output_at, times_front}
 
 -- what holds of each output of a lane holds of its list
@@ -61,7 +62,7 @@ module _ (a : AcceptedPlan) (records : List Record)
       → sum_by (is_under x) (lanes_published a logs n) ≤ drawn x (take n records)
   in_sum x zero le = omega arith
   in_sum x (suc n) le =
-      let at = there_is records n (omega arith) in
+      let at = element records n (omega arith) in
       let r = at.0 in
       let h = in_sum x n (omega arith) in
       let s = sum_by-append (is_under x) (lanes_published a logs n)
@@ -79,7 +80,7 @@ module _ (a : AcceptedPlan) (records : List Record)
       → All P (lanes_published a logs n)
   in_all P zero le h = All-nil P
   in_all P (suc n) le h =
-      let at = there_is records n (omega arith) in
+      let at = element records n (omega arith) in
       let r = at.0 in
       All-append P (lanes_published a logs n) (lane_published a n (slice_get logs n))
       (in_all P n (omega arith) h)

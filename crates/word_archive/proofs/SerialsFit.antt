@@ -1,5 +1,5 @@
 -- The serials of a plan fit in a word.
-use Rattle.std.proofs.Common.{[], arith, length, refl, suc, zero, ℕ, ◌+◌, ◌<◌, ◌^◌, ◌∷◌, ◌≡◌}
+use Rattle.std.proofs.Common.{[], arith, length, refl, suc, zero, ◌<◌, ◌^◌, ◌∷◌, ◌≡◌}
 use Rattle.std.specs.Prelude.{slice_index_or}
 use Rattle.farm_model.specs.Below.{sum_below}
 use Rattle.farm_model.specs.Universe.{Universe}

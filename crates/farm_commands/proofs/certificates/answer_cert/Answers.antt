@@ -1,4 +1,4 @@
-use Rattle.std.proofs.Common.{inl, Ok, Err, subst}
+use Rattle.std.proofs.Common.{inl, Ok, Err, subst, ◌∙◌}
 use Rattle.farm_commands.specs.Answers.{AnswersVerdict, planned_in}
 use Rattle.farm_commands.specs.CertAnswers.{AnswersCert, ShowsCert}
 use Rattle.farm_commands.proofs.AnswerLaws.{answered-by}
@@ -9,12 +9,13 @@ use Rattle.plan_verifier.specs.Verdict.{IsVerdict}
 
 pub returns-in-Ok-clause-answer : goal.returns-in-Ok-clause-answer
 returns-in-Ok-clause-answer g c =
-    certified-by (ShowsCert c.in-Ok.accepted) (AnswersCert (texts_view c.args.texts)) _ _ _
+    certified-by (ShowsCert c.deref.result.now) (AnswersCert (texts_view c.args.texts)) _ _ _
     (λ text status is. (
       Ok c.in-Ok.accepted,
       subst (IsVerdict (planned_in (texts_view c.args.texts))) c.in-Ok.is
           c.check-verdict.ensures.verdict,
-      is,
+      subst (λ accepted. ShowsCert accepted text status)
+          (c.deref.ensures ∙ c.new-kept.ensures) is,
     ))
     c.answer_accepted.ensures.answer
 

@@ -1,4 +1,4 @@
-use Rattle.std.proofs.Common.{subst, sym, Err}
+use Rattle.std.proofs.Common.{subst, sym, ◌∙◌, Ok, Err}
 use Rattle.std.proofs.lemmas.Result.{err_from_is_err_and}
 use Rattle.cert_text.specs.declared.fault.CertFault.TheVariants.{Memory}
 use Rattle.farm_commands.specs.CertAnswers.{IsTextVerdict}
@@ -15,10 +15,12 @@ returns-in-Ok g c =
     let planned = c.args.ready.now.planned in
     subst (λ of. IsTextVerdict planned.universe planned.plan.lanes of c.check_by_tables.result)
     (sym c.in_ok-certificate.ensures.certificate)
-    c.check_by_tables.ensures.verdict
+    (subst
+    (λ it. IsTextVerdict planned.universe planned.plan.lanes (Ok it) c.check_by_tables.result)
+    (c.deref.ensures ∙ c.new-kept.ensures) c.check_by_tables.ensures.verdict)
 
-pub returns : goal.returns
-returns g c =
+pub returns-in-Err : goal.returns-in-Err
+returns-in-Err g c =
     let planned = c.args.ready.now.planned in
     subst (λ of. IsTextVerdict planned.universe planned.plan.lanes of (Err Memory))
     (sym c.in_ok-certificate.ensures.certificate) tt

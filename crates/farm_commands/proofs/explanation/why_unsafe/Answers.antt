@@ -1,5 +1,5 @@
 use Rattle.std.proofs.Common.{◌≡◌, subst, sym, ap, ◌∙◌}
-use Rattle.farm_commands.specs.Explanations.{AreHazards, TellsHazards, farm_in}
+use Rattle.farm_commands.specs.Explanations.{TellsHazards, farm_in}
 use Rattle.farm_commands.proofs.explanation.why_unsafe.Goals as goal
 use Rattle.farm_explain.proofs.Beginning.{notes_begin_with_the_verdict}
 use Rattle.farm_explain.proofs.NoteTexts.{notes_have_the_text}

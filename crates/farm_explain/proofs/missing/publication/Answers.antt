@@ -1,4 +1,4 @@
-use Rattle.std.proofs.Common.{ℕ, length, sym, arith}
+use Rattle.std.proofs.Common.{length, sym, arith}
 use Rattle.refusal_reasons.proofs.FirstLaws.{first_below-at}
 use Rattle.farm_explain.specs.ReasonText.{place_of, publishing_place}
 use Rattle.farm_explain.proofs.missing.publication.Goals as goal

@@ -1,4 +1,4 @@
-use Rattle.std.proofs.Common.{◌≡◌, ◌<◌, ℕ, Bool, true, false, length, Option, Some, None, sym, ap, ◌∙◌, arith, if◌then◌else◌}
+use Rattle.std.proofs.Common.{◌≡◌, ◌<◌, ℕ, Bool, true, false, length, Some, None, sym, ap, ◌∙◌, arith, if◌then◌else◌}
 use Rattle.plan_model.specs.Plan.{lane}
 use Rattle.refusal_reasons.proofs.FirstLaws.{first_below-at}
 use Rattle.farm_explain.proofs.Below.{one_more}

@@ -1,4 +1,4 @@
-use Rattle.std.proofs.Common.{◌≡◌, ◌<◌, ℕ, Bool, true, false, Option, Some, None, sym, ap, ◌∙◌, arith, if◌then◌else◌}
+use Rattle.std.proofs.Common.{◌≡◌, ℕ, Bool, true, false, Some, None, sym, ap, ◌∙◌, arith, if◌then◌else◌}
 use Rattle.farm_model.specs.Packages.{names}
 use Rattle.may_rows.specs.Words.{may_of}
 use Rattle.plan_model.specs.Join.{is_same_phase}

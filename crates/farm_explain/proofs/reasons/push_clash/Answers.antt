@@ -1,6 +1,5 @@
-use Rattle.std.proofs.Common.{sym, ap, ◌∙◌, ◌++◌, [], false, arith}
+use Rattle.std.proofs.Common.{sym, ap, ◌∙◌, ◌++◌, arith}
 use Rattle.std.proofs.lemmas.List.{append-nil}
-use Rattle.farm_explain.specs.ReasonText.{exclusion_lines, first_satisfied}
 use Rattle.farm_explain.proofs.Unknown.{none_excluded, not_where}
 use Rattle.farm_explain.proofs.reasons.push_clash.Goals as goal
 use Rattle.farm_explain.proofs.reasons.push_clash.Goals.{then-recipe-recipes-via-then-recipe-recipes, then-recipe-recipes-via-else-recipe-recipes+then-not-is_known}

@@ -1,4 +1,4 @@
-use Rattle.std.proofs.Common.{arith, length, sym, ap}
+use Rattle.std.proofs.Common.{arith, sym}
 use Rattle.farm_report.specs.RunText.{lane_end_text}
 use Rattle.report_sink.proofs.ItemLaws.{next_below, last_below}
 use Rattle.farm_report.proofs.finished.write_lane_ends.Goals as goal

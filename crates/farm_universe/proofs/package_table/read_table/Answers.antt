@@ -3,5 +3,5 @@ use Rattle.farm_universe.proofs.package_table.read_table.Goals as goal
 
 pub returns-clause-read : goal.returns-clause-read
 returns-clause-read c =
-    rw (c.new.ensures.empty, c.new-2.ensures.items, steps-packages_of c.args.paragraphs.now)
+    rw (c.empty_table.ensures.empty, steps-packages_of c.args.paragraphs.now)
     at c.read_steps.ensures.read

@@ -11,7 +11,7 @@ returns-then-some_unpacked c =
     c.if-some_unpacked.true
     ∙ sym (unsettled-is u m
     ∙ ap (λ t. t || some_misses u m)
-    (sym (c.some_unpacked.ensures u c.requires.state) ∙ c.if-some_unpacked.true))
+    (sym (c.some_unpacked.ensures u c.requires.state c.requires.doubts) ∙ c.if-some_unpacked.true))
 
 pub returns-else-some_unpacked : goal.returns-else-some_unpacked
 returns-else-some_unpacked c =
@@ -20,4 +20,4 @@ returns-else-some_unpacked c =
     c.some_doubted.ensures
     ∙ sym (unsettled-is u m
     ∙ ap (λ t. t || some_misses u m)
-    (sym (c.some_unpacked.ensures u c.requires.state) ∙ c.if-some_unpacked.false))
+    (sym (c.some_unpacked.ensures u c.requires.state c.requires.doubts) ∙ c.if-some_unpacked.false))

@@ -1,14 +1,18 @@
-use Rattle.std.proofs.Common.{◌≡◌, ◌↔◌, true, ap, subst}
-use Rattle.may_rows.specs.Words.{Words}
-use Rattle.may_rows.proofs.MetWords.{some_unpacked-is}
+use Rattle.std.proofs.Common.{◌≡◌, true, sym, ap, ◌∙◌}
+use Rattle.std.specs.List.{list_any}
+use Rattle.plan_model.specs.May.{is_surely_unpacked}
+use Rattle.may_rows.specs.Met.{Doubt}
+use Rattle.may_rows.specs.Words.{may_of}
+use Rattle.may_rows.proofs.MetWords.{unpacked_among-is}
 use Rattle.may_rows.proofs.settled.some_unpacked.Goals as goal
 
-pub returns : goal.returns
-returns c u are =
-    let here : c.deref.result.now ≡ c.args.state.now.here =
-    cc (ap (λ (w : Words). w.here) c.state.view_is, c.deref.ensures.value) in
-    let ready : c.deref-2.result.now ≡ c.args.state.now.ready =
-    cc (ap (λ (w : Words). w.ready) c.state.view_is, c.deref-2.ensures.value) in
-    some_unpacked-is u c.args.state.now are c.same.result
-    (subst (λ ws. (c.same.result ≡ true) ↔ (c.args.state.now.here ≡ ws)) ready
-    (subst (λ ws. (c.same.result ≡ true) ↔ (ws ≡ c.deref-2.result.now)) here c.same.ensures.equal))
+pub returns-then-doubts : goal.returns-then-doubts
+returns-then-doubts c u are doubts =
+    let view = c.doubts.view_is in
+    let known : c.args.doubts.now.known ≡ true =
+    sym (ap (λ (d : Doubt). d.known) view) ∙ c.if-doubts.true in
+    let loose : c.args.doubts.now.loose ≡ c.deref.result.now =
+    sym (ap (λ (d : Doubt). d.loose) view) ∙ sym c.deref.ensures.value in
+    c.some_unpacked_among.ensures
+    ∙ ap (list_any (λ k. is_surely_unpacked ((may_of c.args.state.now).slots k))) (sym loose)
+    ∙ unpacked_among-is u c.args.state.now are c.args.doubts.now doubts known

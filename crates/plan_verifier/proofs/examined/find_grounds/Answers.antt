@@ -12,10 +12,11 @@ returns-in-Err-Stuck-clause-refused g c =
     let u = c.args.universe.now in
     let p = c.args.plan.now.lanes in
     let lanes = c.in-Err-Stuck.lanes.items in
+    let both = c.walks_beside_order-costs.ensures in
     let why : IsWhyNone u p (Stuck c.in-Err-Stuck.lanes) =
-    subst (IsWhyNone u p) c.in-Err-Stuck.field-0-is c.in-Err-Stuck.ensures.stuck in
+    subst (IsWhyNone u p) c.in-Err-Stuck.field-0-is (rw c.in-Err-Stuck.is at both.stuck) in
     let stuck : AreStuck u p lanes × (lanes ≢ []) = why in
     stuck_verdict u p (rows_of c.args.known.now) c.requires.greatest
-    c.in_ok-costs.ensures.0 lanes stuck.0 stuck.1 c.stuck_refusal.result
+    (rw c.in_ok-costs.was at both.walked).0 lanes stuck.0 stuck.1 c.stuck_refusal.result
     (subst (λ ls. IsToldStuck p ls c.stuck_refusal.result) c.deref.ensures.value
     c.stuck_refusal.ensures)

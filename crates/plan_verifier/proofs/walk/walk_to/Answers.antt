@@ -1,7 +1,10 @@
 use Rattle.std.proofs.Common.{◌≡◌, refl, sym, ap, subst, ◌∙◌, arith}
 use Rattle.plan_model.specs.May.{May}
 use Rattle.plan_model.specs.Plan.{Lane, lane, no_lane}
+use Rattle.may_rows.specs.Met.{AreDoubts}
+use Rattle.may_rows.specs.Words.{may_of}
 use Rattle.plan_verifier.specs.Branch.{IsAt}
+use Rattle.plan_verifier.proofs.Branching.{nothing_known}
 use Rattle.plan_verifier.proofs.walk.walk_to.Goals as goal
 
 pub loop-place-init : goal.loop-place-init
@@ -21,7 +24,8 @@ loop-place-init g c =
           words = c.in_ok-of_base.ensures.words;
           within = omega (arith, free);
         };
-        doubts = record { among = λ known. cc (known, c.new.ensures.unknown) };
+        doubts = subst (AreDoubts u (may_of c.in_ok-of_base.field-0)) (sym c.new.ensures)
+            (nothing_known u (may_of c.in_ok-of_base.field-0));
         branch = refl;
       };
       safe = λ k lt. absurd (omega arith);

@@ -29,11 +29,9 @@ returns-in-Equal c =
     let u = c.args.universe.now in
     let n = c.args.name in
     let bound = c.args.bound.now in
-    subst (λ op. IsRange u n (Some (op, bound)) c.count_before-in-Equal.result
-    c.count_before-in-Equal-2.result)
-    (sym c.in-Equal.is) (between u n bound Equal c.count_before-in-Equal.result
-    c.count_before-in-Equal-2.result as_equal
-    c.count_before-in-Equal.ensures c.count_before-in-Equal-2.ensures)
+    subst (λ op. IsRange u n (Some (op, bound)) c.equal_range.result.0 c.equal_range.result.1)
+    (sym c.in-Equal.is) (between u n bound Equal c.equal_range.result.0 c.equal_range.result.1
+    as_equal c.equal_range.ensures.earlier c.equal_range.ensures.or_equal)
 
 pub returns-in-LaterOrEqual : goal.returns-in-LaterOrEqual
 returns-in-LaterOrEqual c =

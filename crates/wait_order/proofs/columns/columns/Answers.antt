@@ -1,26 +1,32 @@
-use Rattle.std.proofs.Common.{◌+◌, length, get_or, sym, subst, ◌∙◌, arith}
-use Rattle.std.proofs.lemmas.Option.{slice_get-get_or}
-use Rattle.wait_order.specs.Columns.{AreColumns}
-use Rattle.wait_order.proofs.ColumnLaws.{columns_next}
-use Rattle.wait_order.proofs.Sources.{outs-long}
+use Rattle.std.proofs.Common.{◌+◌, ◌∷◌, [], length, sym, ap, subst, ◌∙◌, arith}
+use Rattle.std.proofs.lemmas.List.{length-append}
+use Rattle.sat_rows.proofs.Gathered.{each_next}
+use Rattle.wait_order.specs.Columns.{column_of, IsLaneColumn}
+use Rattle.wait_order.proofs.ColumnLaws.{columns_are}
 use Rattle.wait_order.proofs.columns.columns.Goals as goal
 
 pub returns : goal.returns
 returns c u p are =
-    subst (AreColumns u p c.args.points.now c.loop-number.columns.items)
-    (omega (arith, c.loop-number-test.false, c.loop-number.auto.number-end, are.long))
-    (c.loop-number.invariant u p are)
+    let long = c.loop-number.invariant.long in
+    let last = c.loop-number-test.false in
+    let end = c.loop-number.auto.number-end in
+    columns_are u p c.args.lanes.now c.args.points.now c.loop-number.columns.items are
+    (omega (arith, long, last, end))
+    (λ n lt. c.loop-number.invariant.each n (omega (arith, lt, last)))
 
 pub loop-number-preserved : goal.loop-number-preserved
-loop-number-preserved c u p lanes_are =
-    let n = c.loop-number.number in
+loop-number-preserved c =
     let lanes = c.args.lanes.now in
-    let of = get_or lanes n c.index-lanes-number.result in
-    let are =
-    c.as_slice-outputs.ensures.value ∙ lanes_are.each n of
-    (slice_get-get_or lanes n c.index-lanes-number.result c.loop-number-test.true) in
-    subst (λ cs. AreColumns u p c.args.points.now cs (n + 1)) (sym c.in_ok-push.ensures.items)
-    (columns_next u p c.args.points.now c.loop-number.columns.items n
-    (length c.as_slice-outputs.result.now) c.in_ok-column.field-0.items
-    (c.loop-number.invariant u p lanes_are)
-    (outs-long u p n c.as_slice-outputs.result.now are) c.in_ok-column.ensures)
+    let ps = c.args.points.now in
+    let made = c.loop-number.columns.items in
+    let long = c.loop-number.invariant.long in
+    let x = c.in_ok-lane_column.field-0 in
+    let items = c.in_ok-push.ensures.items in
+    record {
+      long = ap length items ∙ length-append made (x ∷ []) ∙ ap (λ n. n + 1) long;
+      each = λ n lt. subst (λ cs. IsLaneColumn lanes ps n (column_of cs n)) (sym items)
+          (each_next (λ i. IsLaneColumn lanes ps i) made x []
+          (λ i at. c.loop-number.invariant.each i (omega (arith, at, long)))
+          (subst (λ i. IsLaneColumn lanes ps i x) (sym long) c.in_ok-lane_column.ensures) n
+          (omega (arith, lt, long)));
+    }

@@ -1,60 +1,29 @@
-use Rattle.std.proofs.Common.{◌+◌, ◌≤◌, ◌∷◌, [], length, get_or, None, sym, ap, subst, ◌∙◌, arith}
-use Rattle.std.proofs.lemmas.List.{length-append}
-use Rattle.std.proofs.lemmas.Option.{slice_get-get_or, slice_get_within}
-use Rattle.wait_order.specs.declared.marks.Mark.{Mark}
-use Rattle.wait_order.specs.ByName.{AreKnownLanes}
-use Rattle.wait_order.specs.Hits.{HasPointOf}
-use Rattle.wait_order.proofs.HitLaws.{lanes_known}
-use Rattle.wait_order.proofs.PointLaws.{mark_facts, points_next, points_are}
+use Rattle.std.proofs.Common.{length, sym, subst, ◌∙◌}
+use Rattle.wait_order.specs.EntrySources.{AreNumbers, AreAllSources}
+use Rattle.wait_order.specs.Marks.{AreLanes}
+use Rattle.wait_order.proofs.EntryLaws.{all_there, found_for}
 use Rattle.wait_order.proofs.points.points.Goals as goal
 
-none : Mark
-none = record { lane = 0; place = 0; own = 0; before = None }
+pub stock_of-requires-clause-lanes : goal.stock_of-requires-clause-lanes
+stock_of-requires-clause-lanes c =
+    subst (AreLanes c.args.universe.now c.args.plan.now.lanes) (sym c.as_slice-lanes.ensures.value)
+    c.requires.lanes
 
-pub invariant_of-known : goal.invariant_of-known
-invariant_of-known c =
-    record {
-      sound = c.requires.sound.universe;
-      known = subst (AreKnownLanes c.args.universe.now) (sym c.deref.ensures.value)
-          (lanes_known c.args.universe.now c.args.plan.now.lanes c.args.marks.now.lanes.items
-          c.requires.lanes c.requires.sound.universe);
-    }
+pub named_entries-requires : goal.named_entries-requires
+named_entries-requires c =
+    all_there c.args.universe.now c.args.plan.now.lanes c.as_slice-all.result.now
+    (c.as_slice-all.ensures.value ∙ c.requires.marks)
 
-pub point_of-requires-clause-mark : goal.point_of-requires-clause-mark
-unfolding none
-point_of-requires-clause-mark c =
-    let facts = mark_facts c.args.universe.now c.args.plan.now.lanes c.as_slice-all.result.now
-    c.loop-w.w none (c.as_slice-all.ensures.value ∙ c.requires.marks) c.loop-w-test.true in
-    record { lane_there = facts.1; place_there = facts.2; own_is = facts.0 }
+pub points_by-requires-clause-marks : goal.points_by-requires-clause-marks
+points_by-requires-clause-marks c = c.as_slice-all.ensures.value ∙ c.requires.marks
 
-pub loop-w-preserved : goal.loop-w-preserved
-loop-w-preserved c =
+pub points_by-requires-clause-sources : goal.points_by-requires-clause-sources
+points_by-requires-clause-sources c =
     let u = c.args.universe.now in
     let p = c.args.plan.now.lanes in
     let marks = c.as_slice-all.result.now in
-    let w = c.loop-w.w in
-    let items = c.in_ok-push.ensures.items in
-    let at = slice_get-get_or marks w (record { lane = 0; place = 0; own = 0; before = None })
-    c.loop-w-test.true in
-    record {
-      long = ap length items ∙ length-append c.loop-w.points.items (c.in_ok-point_of.field-0 ∷ [])
-          ∙ ap (λ n. n + 1) c.loop-w.invariant.long;
-      have =
-          λ k m lt at_k. subst (λ ps. HasPointOf u p ps k m) (sym items)
-          (points_next u p marks c.loop-w.points.items w
-          (get_or marks w (record { lane = 0; place = 0; own = 0; before = None }))
-          c.in_ok-point_of.field-0 c.loop-w.invariant.long c.loop-w.invariant.have at
-          c.in_ok-point_of.ensures.point k m lt at_k);
-      found = c.in_ok-point_of.ensures.found;
-    }
-
-pub returns : goal.returns
-returns c =
-    let marks = c.as_slice-all.result.now in
-    let end : length marks ≤ c.loop-w.w = c.loop-w-test.false in
-    let last : c.loop-w.w ≤ length marks = c.loop-w.auto.w-end in
-    points_are c.args.universe.now c.args.plan.now.lanes marks c.loop-w.points.items
-    (c.as_slice-all.ensures.value ∙ c.requires.marks)
-    (omega (arith, c.loop-w.invariant.long, end, last))
-    (λ k m at. c.loop-w.invariant.have k m
-    (omega (arith, slice_get_within marks k m at, end)) at)
+    let es = c.in_ok-named.named.entries in
+    found_for u p es c.deref-2.result.now marks c.deref.result.now
+    (subst (λ numbers. AreNumbers p es marks numbers (length marks)) (sym c.deref.ensures.value)
+    c.in_ok-named.ensures)
+    (subst (AreAllSources u p es) (sym c.deref-2.ensures.value) c.in_ok-sources.ensures)

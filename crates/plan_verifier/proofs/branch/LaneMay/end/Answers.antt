@@ -29,6 +29,6 @@ returns-in-Second c of held =
         words = c.join.ensures.words;
         within = omega (arith, cost, first.within, held.here.within);
       },
-      (λ i. record { known = c.forget.ensures.unknown i; over = c.forget.ensures.none i }),
+      c.forget.ensures,
       c.replace.ensures.after,
     )

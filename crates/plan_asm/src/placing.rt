@@ -1,0 +1,246 @@
+//! What a line that was read does behind the lines before it.
+
+ghost use Rattle.std.specs.Prelude.{◌≡◌, ℕ, List};
+ghost use Rattle.deb_text.specs.Answers.{Gives, refusal_of};
+ghost use Rattle.plan_asm.specs.Drafts.{put, take_block, take_end, take_lane, take_use};
+ghost use Rattle.plan_asm.specs.LineErrors.{refusal_of_line};
+ghost use Rattle.plan_asm.specs.PlanText.{take_line, take_text};
+ghost use Rattle.plan_asm.specs.Said.{place, place_instruction, said_at};
+ghost use Rattle.plan_asm.specs.View.{named_of, said_of};
+ghost use Rattle.plan_model.specs.Branches.{Outside};
+
+use crate::assembly::Assembly;
+use crate::error::LineError;
+use crate::form::LaneHead;
+use crate::names::known_base;
+use crate::said::{LineRead, Said, Standing};
+use crate::side::Side;
+use deb_text::Fault;
+use farm_universe::Universe;
+use plan_model::Instruction;
+use std::alloc::Global;
+use std::marker::Model;
+use std::mem;
+
+/// What the lines of a plan say so far, and in which branch the next one stands.
+#[derive(Drop)]
+pub struct Reading {
+    pub draft: Assembly,
+    pub side: Side,
+}
+
+impl Model for Reading {
+    ghost use Rattle.plan_asm.specs.Drafts as spec;
+    ghost use Rattle.plan_asm.specs.View.{side_of};
+
+    ghost Value = { spec.Reading };
+
+    ghost view = { λ it. record { draft = it.draft; side = side_of it.side } };
+}
+
+/// A draft, outside of all branches.
+pub fn outside(draft: Assembly) -> Reading
+    ensures { result ≡ record { draft = draft; side = Outside } }
+{
+    Reading {
+        draft,
+        side: Side::Outside,
+    }
+}
+
+/// Opens a block, where nothing is open.
+fn take_block(
+    alloc: Global,
+    number: u32,
+    before: Assembly,
+    name: &[u8],
+) -> Result<Assembly, LineError>
+    ensures { Gives refusal_of_line (λ next. next) result
+        (take_block number before name.now) }
+{
+    if before.is_open() {
+        return Err(LineError::BadLine);
+    }
+    before.open_block(alloc, number, name)
+}
+
+/// Opens a lane over the base chroot of a name, where nothing is open.
+fn take_lane(
+    alloc: Global,
+    universe: &Universe,
+    number: u32,
+    before: Assembly,
+    head: LaneHead<'_>,
+) -> Result<Assembly, LineError>
+    ensures { Gives refusal_of_line (λ next. next) result
+        (take_lane universe.now number before head.entry.name.now head.entry.chroot.now
+        head.entry.budget) }
+{
+    if before.is_open() {
+        return Err(LineError::BadLine);
+    }
+    let base = known_base(universe, head.chroot)?;
+    before.open_lane(alloc, number, head.name, head.budget, base)
+}
+
+/// Puts what a block stands for into what is open, but into no branch.
+fn take_use(alloc: Global, before: Reading, name: &[u8]) -> Result<Reading, LineError>
+    ensures { Gives refusal_of_line (λ next. next) result
+        (take_use before name.now) }
+{
+    let Reading { draft, side } = before;
+    if !draft.is_open() || !side.is_outside() {
+        return Err(LineError::BadLine);
+    }
+    Ok(Reading {
+        draft: draft.add_use(alloc, name)?,
+        side: Side::Outside,
+    })
+}
+
+/// Ends the second branch, or else the open block or lane.
+fn take_end(alloc: Global, before: Reading) -> Result<Reading, LineError>
+    ensures { Gives refusal_of_line (λ next. next) result (take_end before.draft before.side) }
+{
+    let Reading { mut draft, side } = before;
+    match side {
+        Side::Outside => Ok(outside(draft.end_open(alloc)?)),
+        Side::First(_) => Err(LineError::BadLine),
+        Side::Second(_) => {
+            draft.add(alloc, Instruction::EndWhen)?;
+            Ok(outside(draft))
+        }
+    }
+}
+
+/// Puts the instruction of the line of this number into what is open.
+fn put(
+    alloc: Global,
+    number: u32,
+    before: &mut Reading,
+    instruction: Instruction,
+) -> Result<(), LineError>
+    ensures { Gives refusal_of_line (λ _. before.new) result (put number before.old instruction) }
+{
+    before.side = before.side.behind(number, &instruction);
+    before.draft.add(alloc, instruction)
+}
+
+/// Puts an instruction into what is open, where it may stand and its names are known.
+fn place_instruction(
+    alloc: Global,
+    number: u32,
+    before: &mut Reading,
+    standing: Standing,
+    named: Result<Instruction, LineError>,
+) -> Result<(), LineError>
+    ensures { Gives refusal_of_line (λ _. before.new) result
+        (place_instruction number before.old standing (named_of named)) }
+{
+    if !before.draft.is_open() || !before.side.allows(standing) {
+        return Err(LineError::BadLine);
+    }
+    put(alloc, number, before, named?)
+}
+
+/// Goes on by a line that opens or ends something, which makes what was said so far anew.
+#[tactic(auto, unfolding(crate::specs::Said::place))]
+fn place_section(
+    alloc: Global,
+    universe: &Universe,
+    number: u32,
+    mut before: Reading,
+    said: Said<'_>,
+) -> Result<Reading, LineError>
+    ensures { Gives refusal_of_line (λ next. next) result
+        (place universe.now number before (said_of said.entry)) }
+{
+    match said {
+        Said::Block(name) => Ok(outside(take_block(alloc, number, before.draft, name)?)),
+        Said::Lane(head) => Ok(outside(take_lane(alloc, universe, number, before.draft, head)?)),
+        Said::End => take_end(alloc, before),
+        Said::Use(name) => take_use(alloc, before, name),
+        Said::Instruction(standing, named) => {
+            place_instruction(alloc, number, &mut before, standing, named)?;
+            Ok(before)
+        }
+    }
+}
+
+/// Takes what was said so far away, and leaves nothing in its place.
+fn taken(alloc: Global, so_far: &mut Reading) -> Reading
+    ensures { result ≡ so_far.old }
+{
+    mem::replace(so_far, outside(Assembly::new(alloc)))
+}
+
+fn put_back(so_far: &mut Reading, next: Reading)
+    ensures { so_far.new ≡ next }
+{
+    *so_far = next;
+}
+
+/// Goes on by what a line says. An instruction is put where it goes, and nothing else is moved for
+/// it.
+#[tactic(auto, unfolding(crate::specs::Said::place))]
+fn place(
+    alloc: Global,
+    universe: &Universe,
+    number: u32,
+    so_far: &mut Reading,
+    said: Said<'_>,
+) -> Result<(), LineError>
+    ensures { Gives refusal_of_line (λ _. so_far.new) result
+        (place universe.entry.now number so_far.old (said_of said.entry)) }
+{
+    if let Said::Instruction(standing, named) = said {
+        return place_instruction(alloc, number, so_far, standing, named);
+    }
+    let before = taken(alloc, so_far);
+    match place_section(alloc, universe, number, before, said) {
+        Ok(next) => {
+            put_back(so_far, next);
+            Ok(())
+        }
+        Err(error) => Err(error),
+    }
+}
+
+/// Goes on by a line that was read, the first fault of the two being told.
+fn place_read(
+    alloc: Global,
+    universe: &Universe,
+    number: u32,
+    so_far: &mut Reading,
+    read: LineRead<'_>,
+) -> Result<(), LineError>
+    ensures { (line : List ℕ)
+        → Gives refusal_of_line said_of read.entry (said_at universe.entry.now line)
+        → Gives refusal_of_line (λ _. so_far.new) result
+        (take_text universe.entry.now number so_far.old line) }
+{
+    place(alloc, universe, number, so_far, read?)
+}
+
+/// Goes on by a line that was read, its fault being told at its number.
+///
+/// # Errors
+///
+/// The line's fault; or that memory ran out.
+pub fn place_line(
+    alloc: Global,
+    universe: &Universe,
+    number: u32,
+    so_far: &mut Reading,
+    read: LineRead<'_>,
+) -> Result<(), Fault>
+    ensures { (line : List ℕ)
+        → Gives refusal_of_line said_of read.entry (said_at universe.entry.now line)
+        → Gives refusal_of (λ _. so_far.new) result
+        (take_line universe.entry.now so_far.old (number, line)) }
+{
+    match place_read(alloc, universe, number, so_far, read) {
+        Ok(()) => Ok(()),
+        Err(error) => Err(error.at(number)),
+    }
+}

@@ -1,0 +1,22 @@
+use Rattle.std.proofs.Common.{sym, subst}
+use Rattle.wait_order.specs.Marks.{AreLanes}
+use Rattle.wait_order.specs.Points.{ArePoints}
+use Rattle.wait_order.proofs.Growing.{points_in}
+use Rattle.wait_order.proofs.plan_rows.knowledge_side_by_side.Goals as goal
+
+pub columns_side_by_side-requires-clause-placed : goal.columns_side_by_side-requires-clause-placed
+columns_side_by_side-requires-clause-placed g c κs within =
+    points_in c.args.universe.now c.args.plan.now.lanes c.requires.sound c.deref-3.result.now
+    (subst (ArePoints c.args.universe.now c.args.plan.now.lanes) (sym c.deref-3.ensures.value)
+    c.in_ok-points.ensures)
+
+pub known_of-requires-clause-columns : goal.known_of-requires-clause-columns
+known_of-requires-clause-columns g c =
+    let u = c.args.universe.now in
+    let p = c.args.plan.now.lanes in
+    record {
+      points = c.deref-3.result.now;
+      are_points = subst (ArePoints u p) (sym c.deref-3.ensures.value) c.in_ok-points.ensures;
+      are_columns = c.in_ok-columns.ensures u p
+          (subst (AreLanes u p) (sym c.deref-2.ensures.value) c.in_ok-marks.ensures.lanes);
+    }
