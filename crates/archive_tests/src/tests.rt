@@ -3,8 +3,10 @@
 
 ghost use Rattle.std.specs.Prelude.{◌≡◌};
 
-use plan_verifier::check;
+use plan_verifier::{Accepted, check};
+use std::alloc::Global;
 use std::test::Fail;
+use std::thread::Threads;
 use word_archive::{LaneSeats, SharedArchive};
 
 const PACKAGES: &[u8] =
@@ -22,10 +24,16 @@ const PLAN: &[u8] =
 // The words at the beginning.
 const WORDS: [u64; 3] = [1, 0, 0];
 
+// The plan, accepted. What `check` promises of it is not said again here: no test asks for it, and
+// each would be proved below it.
+fn accepted_plan(rt: &(impl Threads + Sync), alloc: Global) -> Result<Accepted, Fail> {
+    Ok(check(rt, alloc, PACKAGES, SOURCES, FARM, PLAN)?)
+}
+
 // An archive whose seats come back unused has the initial words, and nothing was published.
 #[test]
 fn opens_and_closes(rt: HostRuntime) -> Result<(), Fail> {
-    let accepted = check(&rt, rt.alloc(), PACKAGES, SOURCES, FARM, PLAN)?;
+    let accepted = accepted_plan(&rt, rt.alloc())?;
     let (archive, seats) = SharedArchive::open(rt.alloc(), &accepted)?;
     let closed = archive.close(rt.alloc(), seats)?;
     assert_eq!(rt; closed.words.as_slice(), WORDS.as_slice());
@@ -36,7 +44,7 @@ fn opens_and_closes(rt: HostRuntime) -> Result<(), Fail> {
 // A seat is taken once, until it comes back; the plan has two lanes.
 #[test]
 fn takes_each_seat_once(rt: HostRuntime) -> Result<(), Fail> {
-    let accepted = check(&rt, rt.alloc(), PACKAGES, SOURCES, FARM, PLAN)?;
+    let accepted = accepted_plan(&rt, rt.alloc())?;
     let (_archive, mut seats) = SharedArchive::open(rt.alloc(), &accepted)?;
     // lane, and whether its seat is in
     for (lane, is_in) in [
@@ -74,7 +82,7 @@ fn is_told(archive: &SharedArchive<'_>, seats: &mut LaneSeats, lane: usize) -> b
 // closed all the same.
 #[test]
 fn stops(rt: HostRuntime) -> Result<(), Fail> {
-    let accepted = check(&rt, rt.alloc(), PACKAGES, SOURCES, FARM, PLAN)?;
+    let accepted = accepted_plan(&rt, rt.alloc())?;
     let (archive, mut seats) = SharedArchive::open(rt.alloc(), &accepted)?;
     assert!(rt; !is_told(&archive, &mut seats, 0));
     assert!(rt; !is_told(&archive, &mut seats, 1));
@@ -90,7 +98,7 @@ fn stops(rt: HostRuntime) -> Result<(), Fail> {
 // Where one lane halts, the other is told; each loads the initial words.
 #[test]
 fn loads_and_halts(rt: HostRuntime) -> Result<(), Fail> {
-    let accepted = check(&rt, rt.alloc(), PACKAGES, SOURCES, FARM, PLAN)?;
+    let accepted = accepted_plan(&rt, rt.alloc())?;
     let (archive, mut seats) = SharedArchive::open(rt.alloc(), &accepted)?;
     if let Some(mut seat) = seats.take(0) {
         if accepted.universe().names() == 3 {

@@ -1,10 +1,10 @@
 //! Gates that give up, at each place of the lanes of examples/toolchain.
 
-use crate::toolchain::{FARM, PACKAGES, PLAN, SOURCES};
+use crate::toolchain::accepted_plan;
 use farm_archive::Publication;
 use farm_executor::{RunFault, run_farm};
 use lane_runner::{GAVE_UP, Gate, Go, HALTED, LaneArchive, LaneStop};
-use plan_verifier::{Accepted, check};
+use plan_verifier::Accepted;
 use std::alloc::Global;
 use std::sync::Wait;
 use std::test::Fail;
@@ -145,7 +145,7 @@ fn has_stopped_at_a_wait(run: &Stopped) -> bool {
 // was halted.
 #[test]
 fn stops_at_each_instruction(rt: HostRuntime) -> Result<(), Fail> {
-    let mut accepted = check(&rt, rt.alloc(), PACKAGES, SOURCES, FARM, PLAN)?;
+    let mut accepted = accepted_plan(&rt, rt.alloc())?;
     for (lane, last) in [(0, 7), (1, 5)] {
         for instruction in 1..=last {
             let at = At::Before { lane, instruction };
@@ -162,7 +162,7 @@ fn stops_at_each_instruction(rt: HostRuntime) -> Result<(), Fail> {
 // A lane that gives up halts the other one where it waits.
 #[test]
 fn halts_the_other_lane(rt: HostRuntime) -> Result<(), Fail> {
-    let mut accepted = check(&rt, rt.alloc(), PACKAGES, SOURCES, FARM, PLAN)?;
+    let mut accepted = accepted_plan(&rt, rt.alloc())?;
     // lane and instruction, and the ends of both lanes
     for (lane, instruction, ends) in [
         (1, 3, (end_by(HALTED, 3), end_by(GAVE_UP, 3))),
@@ -198,7 +198,7 @@ fn run_up_to_a_wait(
 // end.
 #[test]
 fn stops_at_a_pause(rt: HostRuntime) -> Result<(), Fail> {
-    let mut accepted = check(&rt, rt.alloc(), PACKAGES, SOURCES, FARM, PLAN)?;
+    let mut accepted = accepted_plan(&rt, rt.alloc())?;
     for _ in 0..100 {
         let Some(again) = run_up_to_a_wait(&rt, rt.alloc(), accepted) else {
             panic!(rt; "a lane stands elsewhere, or memory was refused");

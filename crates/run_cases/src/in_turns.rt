@@ -5,13 +5,13 @@ ghost use Rattle.lane_runner.specs.Calls.{IsRunning, IsSameEnd};
 ghost use Rattle.run_cases.specs.Lanes.{IsSeatedIn};
 ghost use Rattle.word_archive.specs.Seats.{opened_seats};
 
-use crate::toolchain::{FARM, PACKAGES, PLAN, SOURCES};
+use crate::toolchain::accepted_plan;
 use crate::watched::{NOTHING, Seen, Watched, drew, loaded, watch};
 use farm_archive::Publication;
 use farm_executor::{Link, Providers, lanes_in_turns};
 use farm_universe::Variant;
 use lane_runner::{LaneTurns, Turn};
-use plan_verifier::{Accepted, check};
+use plan_verifier::Accepted;
 use std::alloc::Global;
 use std::test::Fail;
 use word_archive::{Closed, LaneSeat, LaneSeats, SharedArchive};
@@ -213,7 +213,7 @@ fn leave_drawn(
 // Each lane sees at once what the other one has published, and both come to their ends.
 #[test]
 fn takes_turns(rt: HostRuntime) -> Result<(), Fail> {
-    let accepted = check(&rt, rt.alloc(), PACKAGES, SOURCES, FARM, PLAN)?;
+    let accepted = accepted_plan(&rt, rt.alloc())?;
     let (archive, seats) = SharedArchive::open(rt.alloc(), &accepted)?;
     let Some((taken, seats)) = play_lanes(rt.alloc(), &accepted, &archive, seats) else {
         panic!(rt; "there are no two lanes");
@@ -241,7 +241,7 @@ fn closed_behind_a_draw(alloc: Global, accepted: &Accepted) -> Option<(u64, Clos
 // A lane that goes no further once it has drawn a serial has published nothing.
 #[test]
 fn stops_behind_a_draw(rt: HostRuntime) -> Result<(), Fail> {
-    let accepted = check(&rt, rt.alloc(), PACKAGES, SOURCES, FARM, PLAN)?;
+    let accepted = accepted_plan(&rt, rt.alloc())?;
     let Some((serial, closed)) = closed_behind_a_draw(rt.alloc(), &accepted) else {
         panic!(rt; "there are no two lanes");
     };

@@ -1,10 +1,10 @@
 //! A gate that gives up where a run has waited too often.
 
-use crate::toolchain::{FARM, PACKAGES, PLAN, SOURCES};
+use crate::toolchain::accepted_plan;
 use farm_archive::Publication;
 use farm_executor::run_farm;
 use lane_runner::{Gate, Go, LaneArchive};
-use plan_verifier::{Accepted, check};
+use plan_verifier::Accepted;
 use std::sync::atomic::{AtomicU64, Ordering};
 use std::test::Fail;
 
@@ -39,7 +39,7 @@ impl Gate for Patient {
 // A lane sees what the other one publishes, though nothing wakes it.
 #[test]
 fn sees_an_output_in_time(rt: HostRuntime) -> Result<(), Fail> {
-    let mut accepted = check(&rt, rt.alloc(), PACKAGES, SOURCES, FARM, PLAN)?;
+    let mut accepted = accepted_plan(&rt, rt.alloc())?;
     for _ in 0..20 {
         let gate = Patient {
             pauses: AtomicU64::new(0),

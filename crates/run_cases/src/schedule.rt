@@ -1,15 +1,14 @@
 //! A schedule of the accepted farm of examples/toolchain.
 
-use crate::toolchain::{FARM, PACKAGES, PLAN, SOURCES};
+use crate::toolchain::accepted_plan;
 use accepted_runs::accepted_schedule;
-use plan_verifier::check;
 use std::test::Fail;
 
 // Twelve events end both lanes. Lane b waits ahead of them until lane a has published, and lanes
 // that wait, have ended or are none change nothing.
 #[test]
 fn runs_an_accepted_plan(rt: HostRuntime) -> Result<(), Fail> {
-    let accepted = check(&rt, rt.alloc(), PACKAGES, SOURCES, FARM, PLAN)?;
+    let accepted = accepted_plan(&rt, rt.alloc())?;
     let schedule = [1, 0, 0, 7, 1, 1, 1, 1, 1, 1, 0, 0, 0, 0, 0];
     let outcome = accepted_schedule(rt.alloc(), &accepted, &schedule)?;
     assert!(rt; outcome.trap.is_none());

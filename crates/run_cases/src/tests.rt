@@ -1,9 +1,9 @@
 //! Runs of the farm of examples/toolchain.
 
-use crate::toolchain::{FARM, PACKAGES, PLAN, SOURCES};
+use crate::toolchain::accepted_plan;
 use farm_executor::{Bell, cause, run_farm};
 use lane_runner::LaneStop;
-use plan_verifier::{Accepted, check};
+use plan_verifier::Accepted;
 use std::alloc::Global;
 use std::sync::Wait;
 use std::test::Fail;
@@ -27,7 +27,7 @@ fn run_again(
 // Each of many runs comes to the same end.
 #[test]
 fn comes_to_the_same_end(rt: HostRuntime) -> Result<(), Fail> {
-    let mut accepted = check(&rt, rt.alloc(), PACKAGES, SOURCES, FARM, PLAN)?;
+    let mut accepted = accepted_plan(&rt, rt.alloc())?;
     for _ in 0..200 {
         let Some(again) = run_again(&rt, rt.alloc(), accepted) else {
             panic!(rt; "the run has another end, or none");

@@ -1,5 +1,10 @@
 //! The farm of examples/toolchain: two lanes, each of which needs what the other one publishes.
 
+use plan_verifier::{Accepted, check};
+use std::alloc::Global;
+use std::test::Fail;
+use std::thread::Threads;
+
 /// The packages of examples/toolchain.
 pub const PACKAGES: &[u8] =
     b"Package: libc6\nVersion: 2.40-1\nInstalled-Size: 2048\n\nPackage: gcc\nVersion: 14-1~stage1\nInstalled-Size: 1024\nDepends: libc6 (>= 2.40)\n\nPackage: gcc\nVersion: 14-1\nInstalled-Size: 3072\nDepends: libc6 (>= 2.40), libgmp\n\nPackage: libgmp\nVersion: 6.3-1\nInstalled-Size: 512\nDepends: libc6\n";
@@ -15,3 +20,13 @@ pub const FARM: &[u8] =
 /// Its plan.
 pub const PLAN: &[u8] =
     b"plan 1\nlane a chroot base budget 100\n  build gcc-stage1\n  publish gcc-stage1\n  wait libgmp\n  unpack libgmp\n  configure libgmp\n  build gcc-full\n  publish gcc-full\nend\nlane b chroot base budget 100\n  wait gcc (= 14-1~stage1)\n  unpack gcc (= 14-1~stage1)\n  configure gcc\n  build gmp\n  publish gmp\nend\n";
+
+/// Its plan, accepted. What `check` promises of it is not said again here: no test asks for it, and
+/// each would be proved below it.
+///
+/// # Errors
+///
+/// The refusal of `check`: for want of memory or of a thread.
+pub fn accepted_plan(rt: &(impl Threads + Sync), alloc: Global) -> Result<Accepted, Fail> {
+    Ok(check(rt, alloc, PACKAGES, SOURCES, FARM, PLAN)?)
+}
