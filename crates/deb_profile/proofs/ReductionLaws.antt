@@ -7,7 +7,8 @@ use Rattle.std.specs.List.{list_all}
 use Rattle.std.specs.Option.{is_none}
 use Rattle.deb_text.specs.Cuts.{is_nil}
 use Rattle.deb_relation.specs.Relations.{Item, ArchList, Atom, Entry, Relations}
-use Rattle.deb_profile.specs.Reduction.{means_nothing, qualifier_left, bare, reduced_entry, entry_left, reduced, is_bare_atom, is_bare_entry, is_bare}
+use Rattle.deb_profile.specs.Reduction.{means_nothing, qualifier_left, bare, reduced_entry, entry_left, reduced, is_bare_entry, is_bare}
+use Rattle.deb_relation.specs.Limits.{is_bare_atom}
 use Rattle.deb_profile.specs.Restriction.{keeps}
 
 -- a qualifier that is left stays left

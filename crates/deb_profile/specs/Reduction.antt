@@ -9,12 +9,12 @@
 --   is_bare field                   nothing of the field can go
 use Rattle.std.specs.Prelude.{ℕ, Bool, not, ◌||◌, ◌&&◌, List, [], ◌∷◌, map, filter, take, codes, Option, Some, None, Result, Ok, if◌then◌else◌}
 use Rattle.std.specs.List.{flat_map, list_all}
-use Rattle.std.specs.Option.{is_none}
 use Rattle.std.specs.Str.{bytes_eq}
 use Rattle.deb_text.specs.Cuts.{is_nil}
 use Rattle.deb_text.specs.Steps.{◌>>=◌}
 use Rattle.deb_relation.specs.declared.kind.Kind.{Kind}
 use Rattle.deb_relation.specs.Field.{relations_at}
+use Rattle.deb_relation.specs.Limits.{is_bare_atom}
 use Rattle.deb_relation.specs.Relations.{Atom, Entry, Relations}
 use Rattle.deb_profile.specs.Restriction.{is_among, keeps}
 
@@ -56,10 +56,6 @@ reduced_at most names active kind text =
     relations_at kind text >>= λ field. Ok (take most (reduced names active field))
 
 -- ---- what stays as it is, whatever the architecture and the profiles
-
--- no qualifier and no restriction
-abbrev pub is_bare_atom : Atom → Bool
-is_bare_atom atom = is_none atom.qualifier && is_none atom.archs && is_nil atom.profiles
 
 abbrev pub is_bare_entry : Entry → Bool
 is_bare_entry entry = not (is_nil entry) && list_all is_bare_atom entry

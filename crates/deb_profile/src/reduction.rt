@@ -6,7 +6,8 @@ ghost use Rattle.std.specs.Option.{option_map};
 ghost use Rattle.deb_text.specs.Answers.{Gives};
 ghost use Rattle.deb_relation.specs.View.{refusal_of};
 ghost use Rattle.deb_profile.specs.Reduction.{means_nothing, qualifier_left, bare, reduced_entry, entry_left, reduced};
-ghost use Rattle.deb_profile.specs.Reduction.{is_bare_atom, is_bare_entry, is_bare, reduced_at};
+ghost use Rattle.deb_relation.specs.Limits.{is_bare_atom};
+ghost use Rattle.deb_profile.specs.Reduction.{is_bare_entry, is_bare, reduced_at};
 
 use crate::restriction::keeps;
 use crate::word_list::{ArchNames, ProfileSet};
@@ -94,13 +95,7 @@ fn is_bare_entry(entry: &Entry) -> bool
 fn all_bare(alternatives: &[Atom]) -> bool
     ensures { result ≡ list_all is_bare_atom alternatives.now }
 {
-    alternatives.iter().all(|atom| is_bare_atom(atom))
-}
-
-fn is_bare_atom(atom: &Atom) -> bool
-    ensures { result ≡ is_bare_atom atom.now }
-{
-    atom.qualifier.is_none() && atom.archs.is_none() && atom.profiles.is_empty()
+    alternatives.iter().all(|atom| atom.is_bare())
 }
 
 /// What is left of one entry, as [`reduce`] leaves it: no alternative where none stays.
@@ -119,7 +114,7 @@ pub fn reduce_entry(
     let mut left = Vec::with_capacity(alloc, entry.len())?;
     for atom in entry.alternatives() {
         if keeps(atom, names, active) {
-            left.push(bare(names, atom.clone_unrestricted()?))?;
+            left.push(bare(names, atom.clone_unrestricted()?)?)?;
         }
     }
     Ok(Entry::from_alternatives(left))
@@ -155,28 +150,18 @@ fn push_kept(
         (left.new.items ≡ left.old.items ++ reduced_entry names.now active.now (atom ∷ [])) }
 {
     if keeps(&atom, names, active) {
-        left.push(bare(names, atom))?;
+        left.push(bare(names, atom)?)?;
     }
     Ok(())
 }
 
-fn bare(names: &ArchNames, atom: Atom) -> Atom
-    ensures { result ≡ bare names.now atom }
+fn bare(names: &ArchNames, atom: Atom) -> Result<Atom, AllocError>
+    ensures { IfOk result (λ left. left ≡ bare names.now atom) }
 {
-    let Atom {
-        name,
-        qualifier,
-        relation,
-        ..
-    } = atom;
-    let profiles = Vec::new(*name.allocator());
-    Atom {
-        name,
-        qualifier: qualifier_left(names, qualifier),
-        relation,
-        archs: None,
-        profiles,
-    }
+    let (name, qualifier, relation) = atom.into_parts();
+    let alloc = *name.allocator();
+    let qualifier = qualifier_left(names, qualifier);
+    Atom::new(alloc, name, qualifier, relation, None, Vec::new(alloc))
 }
 
 fn qualifier_left(names: &ArchNames, qualifier: Option<Vec<u8>>) -> Option<Vec<u8>>

@@ -2,6 +2,7 @@
 
 ghost use Rattle.std.specs.Prelude.{◌≡◌};
 ghost use Rattle.std.specs.List.{list_any, list_all};
+ghost use Rattle.std.specs.Option.{option_copied};
 ghost use Rattle.deb_profile.specs.Restriction.{is_among, arch_holds, item_holds, profiles_hold, keeps};
 
 use crate::word_list::{ArchNames, ProfileSet};
@@ -12,11 +13,11 @@ use deb_relation::{ArchList, Atom, Item, ProfileList, Word};
 pub fn keeps(atom: &Atom, names: &ArchNames, active: &ProfileSet) -> bool
     ensures { result ≡ keeps names.now active.now atom.now }
 {
-    arch_holds(names, &atom.archs) && profiles_hold(active, &atom.profiles)
+    arch_holds(names, atom.archs()) && profiles_hold(active, atom.profiles())
 }
 
-fn arch_holds(names: &ArchNames, archs: &Option<ArchList>) -> bool
-    ensures { result ≡ arch_holds names.now archs.now }
+fn arch_holds(names: &ArchNames, archs: Option<&ArchList>) -> bool
+    ensures { result ≡ arch_holds names.now (option_copied archs.entry) }
 {
     match archs {
         Some(list) => list.negated != some_matches(names, &list.names),

@@ -1,6 +1,7 @@
 pub mod Relations
 pub mod Marks
 pub mod Kinds
+pub mod Limits
 pub mod Grammar
 pub mod Restrictions
 pub mod Field

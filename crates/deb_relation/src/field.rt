@@ -242,13 +242,9 @@ fn read_atom(alloc: Global, kind: Kind, text: &[u8]) -> Result<Atom, RelationErr
     let (relation, rest) = read_relation(alloc, kind, skip_front(Class::Blank, rest))?;
     let (archs, rest) = read_archs(alloc, kind, skip_front(Class::Blank, rest))?;
     let profiles = read_profiles(alloc, kind, rest)?;
-    Ok(Atom {
-        name: Vec::from_slice(alloc, name)?,
-        qualifier: copy_qualifier(alloc, qualifier)?,
-        relation,
-        archs,
-        profiles,
-    })
+    let name = Vec::from_slice(alloc, name)?;
+    let qualifier = copy_qualifier(alloc, qualifier)?;
+    Ok(Atom::new(alloc, name, qualifier, relation, archs, profiles)?)
 }
 
 fn copy_qualifier(alloc: Global, text: Option<&[u8]>) -> Result<Option<Vec<u8>>, AllocError>

@@ -28,7 +28,7 @@ pub struct Facts<'a> {
 pub fn satisfies(facts: &Facts, atom: &Atom) -> bool
     ensures { result ≡ satisfies (facts_of facts.now) atom.now }
 {
-    atom.qualifier.is_none() && (is_its_own(facts, atom) || is_provided(facts.provides, atom))
+    atom.qualifier().is_none() && (is_its_own(facts, atom) || is_provided(facts.provides, atom))
 }
 
 /// Tells whether a version stands in a relation (Debian Policy 7.1). In none, each does.
@@ -70,7 +70,7 @@ fn entry_provides(entry: &Entry, atom: &Atom) -> bool
 pub fn provides_it(atom: &Atom, provided: &Atom) -> bool
     ensures { result ≡ provides_it atom.now provided.now }
 {
-    provided.qualifier.is_none()
+    provided.qualifier().is_none()
         && provided.name == atom.name
         && provides_in(&atom.relation, &provided.relation)
 }

@@ -41,7 +41,7 @@ pub fn push_relation(
 
 fn push_alternative(text: &mut String, atom: &Atom) -> Result<(), AllocError> {
     write!(text, " {}", atom.name.escape_ascii())?;
-    if let Some(qualifier) = &atom.qualifier {
+    if let Some(qualifier) = atom.qualifier() {
         write!(text, ":{}", qualifier.escape_ascii())?;
     }
     push_relation(text, &atom.relation)

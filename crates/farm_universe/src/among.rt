@@ -210,7 +210,7 @@ impl<'a> Among<'a> {
 fn is_bare(atom: &Atom) -> bool
     ensures { result ≡ is_none atom.now.qualifier }
 {
-    atom.qualifier.is_none()
+    atom.qualifier().is_none()
 }
 
 /// Tells whether a member is of another name than this, if one is given.

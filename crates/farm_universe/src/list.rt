@@ -67,7 +67,7 @@ pub fn pinned(entry: &Entry) -> Option<(&[u8], &Version)>
     let [atom] = entry.alternatives() else {
         return None;
     };
-    if atom.qualifier.is_some() {
+    if atom.qualifier().is_some() {
         return None;
     }
     match &atom.relation {

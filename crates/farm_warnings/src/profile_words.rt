@@ -30,7 +30,7 @@ fn note_list(alloc: Global, asked: &mut WordSet, list: &ProfileList) -> Result<(
 fn note_atom(alloc: Global, asked: &mut WordSet, atom: &Atom) -> Result<(), AllocError>
     ensures { OnOk result (asked.new ≡ with_all bytes_eq asked.old (spec.atom_profiles atom.now)) }
 {
-    let mut left = atom.profiles.as_slice();
+    let mut left = atom.profiles();
     while let [list, rest @ ..] = left {
         note_list(alloc, asked, list)?;
         left = rest;

@@ -119,7 +119,7 @@ fn read_end<'a>(text: &[u8]) -> Result<Form<'a>, LineError>
 fn unqualified(atom: Atom) -> Result<Atom, LineError>
     ensures { Gives refusal_of_line (λ piece. piece) result (unqualified atom) }
 {
-    if atom.qualifier.is_some() {
+    if atom.qualifier().is_some() {
         return Err(LineError::BadLine);
     }
     Ok(atom)

@@ -45,7 +45,7 @@ fn push_atom(text: &mut Vec<u8>, atom: &Atom) -> Result<(), AllocError>
     ensures { OnOk result (text.new.items ≡ text.old.items ++ atom_text atom.now) }
 {
     text.extend_from_slice(&atom.name)?;
-    if let Some(qualifier) = &atom.qualifier {
+    if let Some(qualifier) = atom.qualifier() {
         push_pieces(text, &[b":", qualifier])?;
     }
     push_relation(text, &atom.relation)

@@ -52,10 +52,10 @@ fn push_relation(text: &mut Vec<u8>, op: Op, version: &Version) -> Result<(), Al
 }
 
 fn push_restrictions(text: &mut Vec<u8>, atom: &Atom) -> Result<(), AllocError> {
-    if let Some(archs) = &atom.archs {
+    if let Some(archs) = atom.archs() {
         push_archs(text, archs)?;
     }
-    for profiles in &atom.profiles {
+    for profiles in atom.profiles() {
         push_profiles(text, profiles)?;
     }
     Ok(())
@@ -64,7 +64,7 @@ fn push_restrictions(text: &mut Vec<u8>, atom: &Atom) -> Result<(), AllocError> 
 /// Adds an alternative, as `name:qualifier (op version) [architectures] <profiles> ..`.
 fn push_atom(text: &mut Vec<u8>, atom: &Atom) -> Result<(), AllocError> {
     text.extend_from_slice(&atom.name)?;
-    if let Some(qualifier) = &atom.qualifier {
+    if let Some(qualifier) = atom.qualifier() {
         text.extend_from_slice(b":")?;
         text.extend_from_slice(qualifier)?;
     }

@@ -37,7 +37,7 @@ impl AtomTest for ProvidesIt<'_> {
 pub fn is_bare(atom: &Atom) -> bool
     ensures { result ≡ is_none atom.now.qualifier }
 {
-    atom.qualifier.is_none()
+    atom.qualifier().is_none()
 }
 
 /// Tells whether the alternative at the place of an item passes.

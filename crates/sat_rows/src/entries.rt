@@ -31,7 +31,7 @@ fn is_plain(atom: &Atom) -> bool
       profiles = [];
     } }
 {
-    atom.qualifier.is_none() && atom.archs.is_none() && atom.profiles.is_empty()
+    atom.is_bare()
 }
 
 fn is_same_atom(a: &Atom, b: &Atom) -> bool

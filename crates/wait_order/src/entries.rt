@@ -79,7 +79,7 @@ fn is_same_relation(a: &Option<(Op, Version)>, b: &Option<(Op, Version)>) -> boo
 fn is_plain(atom: &Atom) -> bool
     ensures { result ≡ true → IsPlain atom.now }
 {
-    atom.qualifier.is_none() && atom.archs.is_none() && atom.profiles.is_empty()
+    atom.is_bare()
 }
 
 /// Tells whether two alternatives are known to be the same. Of those with a qualifier or a
