@@ -12,6 +12,7 @@ mod lists;
 mod operator;
 mod relations;
 mod restriction;
+mod same;
 mod satisfaction;
 mod words;
 
@@ -25,5 +26,6 @@ pub use kind::Kind;
 pub use operator::Op;
 pub use relations::{Entry, Relations};
 pub use restriction::{ArchList, Item, ProfileList, Word};
+pub use same::{hash_of_entry, is_same_entry};
 pub use satisfaction::{Facts, in_relation, provides_it, satisfies};
 pub use words::{WordRule, read_words};

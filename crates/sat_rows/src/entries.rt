@@ -1,82 +1,12 @@
 //! The distinct entries of a universe, by number, so that each has one row.
 
-ghost use Rattle.std.specs.Prelude.{◌≡◌, ◌<◌, [], IsTrue, IfOk, IfSome, OnOk, None, Some, length, slice_get};
+ghost use Rattle.std.specs.Prelude.{◌≡◌, ◌<◌, [], IfOk, IfSome, OnOk, None, Some, length, slice_get};
 ghost use Rattle.deb_relation.specs.Relations as relations;
 ghost use Rattle.sat_rows.specs.Entries.{IsGrown};
 
-use deb_relation::{Atom, Op};
-use deb_version::Version;
+use deb_relation::{Atom, hash_of_entry, is_same_entry};
 use std::alloc::{AllocError, Global};
 use std::marker::Model;
-
-fn is_same_relation(a: &Option<(Op, Version)>, b: &Option<(Op, Version)>) -> bool
-    ensures { IsTrue result → a.now ≡ b.now }
-{
-    match (a, b) {
-        (Some((op, bound)), Some((other, version))) => {
-            op == other && bound.text() == version.text()
-        }
-        (None, None) => true,
-        _ => false,
-    }
-}
-
-/// Tells whether an alternative has no qualifier and no restriction.
-fn is_plain(atom: &Atom) -> bool
-    ensures { IsTrue result → atom.now ≡ record {
-      name = atom.now.name;
-      qualifier = None;
-      relation = atom.now.relation;
-      archs = None;
-      profiles = [];
-    } }
-{
-    atom.is_bare()
-}
-
-fn is_same_atom(a: &Atom, b: &Atom) -> bool
-    ensures { IsTrue result → a.now ≡ b.now }
-{
-    a.name == b.name && is_same_relation(&a.relation, &b.relation) && is_plain(a) && is_plain(b)
-}
-
-/// Tells whether two entries have the same alternatives, none of them with a qualifier or a
-/// restriction.
-fn is_same_entry(a: &[Atom], b: &[Atom]) -> bool
-    ensures { IsTrue result → a.now ≡ b.now }
-{
-    if a.len() != b.len() {
-        return false;
-    }
-    for place in 0..a.len() {
-        if !is_same_atom(&a[place], &b[place]) {
-            return false;
-        }
-    }
-    true
-}
-
-/// A number of some bytes behind a number of others.
-fn mixed(number: u64, bytes: &[u8]) -> u64 {
-    let mut mixed = number;
-    for byte in bytes {
-        mixed = (mixed ^ *byte as u64).wrapping_mul(0x0100_0000_01b3);
-    }
-    mixed
-}
-
-/// A number of an entry, the same for entries that are the same.
-fn number_of(atoms: &[Atom]) -> u64 {
-    let mut number = 0xcbf2_9ce4_8422_2325;
-    for atom in atoms {
-        number = mixed(number, &atom.name);
-        if let Some((op, bound)) = &atom.relation {
-            number = mixed(number, &[*op as u8]);
-            number = mixed(number, bound.text());
-        }
-    }
-    number
-}
 
 /// One of the entries.
 #[derive(Debug, Drop)]
@@ -165,7 +95,7 @@ impl<'a> Entries<'a> {
         ensures grown { OnOk result (IsGrown self.old self.new) }
         ensures number { IfOk result (λ number. slice_get self.new number ≡ Some atoms.now) }
     {
-        let place = (number_of(atoms) as usize)
+        let place = (hash_of_entry(atoms) as usize)
             .checked_rem(self.last.len())
             .unwrap_or(0);
         let before = self.last.get(place).copied().unwrap_or(usize::MAX);

@@ -25,7 +25,6 @@ pub mod RowSteps
 pub mod ColumnLaws
 pub mod ArchiveRows
 pub mod ClockRows
-pub mod SameEntries
 pub mod KeptLaws
 pub mod MetSources
 pub mod ClockWords

@@ -1,18 +1,12 @@
 -- The entries of waits by number, and what is kept for each. The project's own words.
 --
---   IsPlain           an alternative without qualifier and restriction
 --   IsLonger          more entries behind the same
 --   AreFor            each value is one of the entry of its number
-use Rattle.std.specs.Prelude.{◌≡◌, ℕ, List, [], Some, None, slice_get}
-use Rattle.deb_relation.specs.Relations.{Atom, Entry}
+use Rattle.std.specs.Prelude.{◌≡◌, ℕ, List, Some, slice_get}
+use Rattle.deb_relation.specs.Relations.{Entry}
 use Rattle.farm_model.specs.Universe.{Universe}
 use Rattle.farm_model.specs.Packages.{satisfies_entry}
 use Rattle.sat_rows.specs.Rows.{IsRowOf}
-
-pub record IsPlain (a : Atom) : Type 0 where
-  pub qualifier : a.qualifier ≡ None
-  pub archs : a.archs ≡ None
-  pub profiles : a.profiles ≡ []
 
 abbrev pub IsLonger : List Entry → List Entry → Type 0
 IsLonger es more = (k : ℕ) (e : Entry) → slice_get es k ≡ Some e → slice_get more k ≡ Some e

@@ -1,6 +1,6 @@
 use Rattle.std.proofs.Common.{sym, ◌∙◌, arith}
 use Rattle.std.proofs.lemmas.List.{take_all}
-use Rattle.sat_rows.proofs.entries.is_same_entry.Goals as goal
+use Rattle.deb_relation.proofs.same.is_same_entry.Goals as goal
 
 pub returns : goal.returns
 returns c is =

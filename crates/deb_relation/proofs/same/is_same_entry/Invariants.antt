@@ -1,5 +1,5 @@
 use Rattle.std.proofs.Common.{◌≡◌, take}
-use Rattle.sat_rows.proofs.entries.is_same_entry.Given as goal
+use Rattle.deb_relation.proofs.same.is_same_entry.Given as goal
 
 -- the alternatives so far are the same
 abbrev pub invariant-loop-place : goal.invariant-loop-place
