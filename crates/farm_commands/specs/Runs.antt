@@ -9,7 +9,7 @@
 use Rattle.std.specs.Prelude.{◌≡◌, ◌⊎◌, ℕ, List, ◌++◌, length, codes, Option, Result, Ok, Err}
 use Rattle.command_line.specs.declared.request.Paths.{Paths}
 use Rattle.command_line.specs.declared.request.Request.{Request}
-use Rattle.command_line.specs.Words.{AreWords, IsRequestedBy}
+use Rattle.command_line.specs.Words.{ArePathWords, IsRequestedBy}
 use Rattle.report_sink.specs.Sinks.{SinkState, IsWritten}
 use Rattle.fault_notes.specs.Escapes.{escaped}
 use Rattle.farm_commands.specs.Answers.{IsAnswered}
@@ -77,5 +77,5 @@ abbrev pub MayComeTo : List (List ℕ) → (List ℕ → Option (List ℕ)) → 
     → SinkState → SinkState → SinkState → Result ℕ OutsideFault → Type 0
 MayComeTo words held given old new before after told =
     ComesTo words held given old new told
-    ⊎ ((paths : Paths) × AreWords words paths
+    ⊎ ((paths : Paths) × ArePathWords words paths
     × RunsTo (named held given) paths old new before after told)
