@@ -12,7 +12,7 @@ use Rattle.deb_stanza.specs.declared.draft.Draft.{Draft}
 use Rattle.deb_stanza.specs.declared.table.Table.{Table}
 use Rattle.deb_stanza.specs.Cut.{onto_last}
 use Rattle.deb_stanza.specs.Stanza.{is_colon, name_of, separates, continues, code_of, told_at, first_number, texts_of, parts, open_part}
-use Rattle.deb_stanza.specs.View.{Raw, table_raws, table_texts, IsSound}
+use Rattle.deb_stanza.specs.View.{Raw, table_raws, table_texts, IsSoundTable}
 
 -- the paragraphs so far, and whether the last one is open
 pub record State : Type 0 where
@@ -91,7 +91,7 @@ pub record IsKnown (set : Option (BTreeSet (Vec ℕ))) (texts : List (List ℕ))
   pub colons : list_all (λ text. list_any is_colon text) texts ≡ true
 
 pub record IsFit (d : Draft) : Type 0 where
-  pub table : IsSound d.table
+  pub table : IsSoundTable d.table
   pub known : IsKnown d.names (open_texts (draft_state d))
   pub some : d.is_open ≡ true → is_nil d.table.paragraphs.items ≡ false
 

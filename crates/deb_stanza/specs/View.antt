@@ -43,7 +43,7 @@ abbrev pub table_raws : Table → List Raw
 table_raws t = raws_in t.bytes.items t.fields.items t.paragraphs.items
 
 -- no field is without a byte, and no paragraph without a field
-pub record IsSound (t : Table) : Type 0 where
+pub record IsSoundTable (t : Table) : Type 0 where
   pub fields : IsCut own (length t.bytes.items) t.fields.items
   pub paragraphs : IsCut first_of (length t.fields.items) t.paragraphs.items
 

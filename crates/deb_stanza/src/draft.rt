@@ -9,7 +9,7 @@ ghost use Rattle.deb_text.specs.Steps.{answer, judged};
 ghost use Rattle.deb_stanza.specs.Cut.{onto_last};
 ghost use Rattle.deb_stanza.specs.Draft.{draft_state, HasNames, IsFit, HasRoom, longer, names_from, open_names, step, with_head};
 ghost use Rattle.deb_stanza.specs.Stanza.{fault_of, head_fault, paragraphs_of, same_name, told_at};
-ghost use Rattle.deb_stanza.specs.View.{IsSound, line_of, table_paragraphs};
+ghost use Rattle.deb_stanza.specs.View.{IsSoundTable, line_of, table_paragraphs};
 
 use crate::error::{CONTINUES_NO_FIELD, FIELD_TWICE, MOST_BYTES};
 use crate::fields::{fault, head_name, insert_name};
@@ -81,13 +81,13 @@ impl Draft {
 
     /// Puts a field of this line into the open paragraph, or into a new one.
     fn add_head(&mut self, line: Line) -> Result<(), Fault>
-        requires sound { IsSound self.old.table }
+        requires sound { IsSoundTable self.old.table }
         requires some { self.old.is_open ≡ true → is_nil self.old.table.paragraphs.items ≡ false }
         requires text { 0 < length line.bytes.now }
         requires room { HasRoom self.old line.bytes.now }
         ensures state { OnOk result (draft_state self.new
             ≡ with_head (draft_state self.old) (line_of line.entry)) }
-        ensures sound { OnOk result (IsSound self.new.table) }
+        ensures sound { OnOk result (IsSoundTable self.new.table) }
         ensures some { OnOk result (is_nil self.new.table.paragraphs.items ≡ false) }
         ensures names { self.new.names ≡ self.old.names }
         ensures bytes { OnOk result (self.new.table.bytes.items
@@ -105,7 +105,7 @@ impl Draft {
 
     /// Where the fields of the open paragraph begin.
     fn open_start(&self) -> usize
-        requires { IsSound self.now.table }
+        requires { IsSoundTable self.now.table }
         ensures within { result ≤ length self.now.table.fields.items }
         ensures names { names_from self.now.table result ≡ open_names (draft_state self.now) }
     {
@@ -202,7 +202,7 @@ pub fn read_lines(alloc: Global, text: &[u8]) -> Result<Table, Fault>
     requires { length text.now ≤ MOST_BYTES }
     ensures read { Gives refusal_of table_paragraphs result
         (judged fault_of paragraphs_of (control_lines 1 text.now)) }
-    ensures sound { IfOk result IsSound }
+    ensures sound { IfOk result IsSoundTable }
 {
     let mut draft = empty_draft(alloc);
     let mut rest = text;

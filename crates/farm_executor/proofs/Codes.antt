@@ -11,7 +11,7 @@ use Rattle.lane_runner.specs.declared.run.TheConstants.{GAVE_UP}
 use Rattle.lane_runner.specs.OnWay.{IsEnded}
 use Rattle.plan_verifier.specs.Accepted.{AcceptedPlan}
 use Rattle.farm_executor.specs.declared.causes.TheConstants.{NOT_STARTED}
-use Rattle.farm_executor.specs.Ends.{HasNone, IsCause}
+use Rattle.farm_executor.specs.Ends.{HasNoEndWith, IsCause}
 use Rattle.farm_executor.specs.FarmRuns.{IsEndCode, IsStoppedRun}
 use Rattle.farm_executor.specs.Played.{HasRun, IsPlayed}
 use Rattle.farm_executor.proofs.Within.{within_list}
@@ -81,8 +81,8 @@ module _ (a : AcceptedPlan) (gives_up : Type 0) (stops : List LaneStop) (chroots
           let lt = within_list stops k e at in
           lane_ended k e at (of_lane k (omega (arith, lt, played.lanes.long)))
 
-  module _ (unstarted : HasNone NOT_STARTED stops) (kept : HasNone GAVE_UP stops) where
-    not_code : (code l : ℕ) (o : OfLane l) → HasNone code stops → o.stop.code ≡ code → ⊥
+  module _ (unstarted : HasNoEndWith NOT_STARTED stops) (kept : HasNoEndWith GAVE_UP stops) where
+    not_code : (code l : ℕ) (o : OfLane l) → HasNoEndWith code stops → o.stop.code ≡ code → ⊥
     not_code code l o none is = none l o.stop (within_list stops l o.stop o.stop_at) o.stop_at is
 
     unhalted : (l : ℕ) (o : OfLane l) → o.told.halted ≡ true → ⊥

@@ -8,7 +8,7 @@ use Rattle.lane_runner.specs.declared.run.LaneStop.{LaneStop}
 use Rattle.lane_runner.specs.declared.run.TheConstants.{GAVE_UP}
 use Rattle.plan_verifier.specs.Accepted.{AcceptedPlan, IsAccepted}
 use Rattle.farm_executor.specs.declared.causes.TheConstants.{NOT_STARTED}
-use Rattle.farm_executor.specs.Ends.{HasNone}
+use Rattle.farm_executor.specs.Ends.{HasNoEndWith}
 use Rattle.farm_executor.specs.FarmRuns.{HasCome, IsFarmRun}
 use Rattle.farm_executor.specs.Played.{IsPlayed}
 use Rattle.farm_executor.proofs.Codes.{OfLane, all_ended, of_lane}
@@ -19,7 +19,7 @@ use Rattle.farm_executor.proofs.Within.{within_list}
 module _ (a : AcceptedPlan) (accepted : IsAccepted a) (gives_up : Type 0) (stops : List LaneStop)
     (chroots : List Held) (spent : List ℕ) (history : List Publication)
     (played : IsPlayed a gives_up stops chroots spent history)
-    (unstarted : HasNone NOT_STARTED stops) (kept : HasNone GAVE_UP stops) where
+    (unstarted : HasNoEndWith NOT_STARTED stops) (kept : HasNoEndWith GAVE_UP stops) where
   each_ended : (l : ℕ) (o : OfLane a gives_up stops chroots spent history played l)
       → IsEnded a.universe a.plan l o.steps o.chroot o.told
   each_ended = all_ended a gives_up stops chroots spent history played unstarted kept

@@ -15,7 +15,7 @@ use Rattle.farm_universe.specs.declared.farm.Yard.{Yard}
 use Rattle.farm_universe.specs.declared.limits.TheConstants.{MOST_SIZE, MOST_CAPACITY}
 use Rattle.farm_universe.specs.BaseText.{is_settled_base}
 use Rattle.farm_universe.specs.FarmText.{Head, land_of, universe_with}
-use Rattle.farm_universe.specs.FarmView.{AreWords, IsPlace, IsLand, IsRecipe, outputs_of, IsBase, IsYard, yard_view}
+use Rattle.farm_universe.specs.FarmView.{AreTableWords, IsPlace, IsLand, IsRecipe, outputs_of, IsBase, IsYard, yard_view}
 use Rattle.farm_universe.specs.Kept.{IsKept}
 use Rattle.farm_universe.specs.Land.{Land, reduced_package, reduced_table}
 use Rattle.farm_universe.specs.PackagesText.{PackageTable, is_below}
@@ -104,7 +104,7 @@ IsFit-reduced arch table fit = record {
 }
 
 pub IsLand-made : (table : PackageTable) (sources : SourceTable) (head : Head) → IsFit table
-    → IsSourceTable sources → AreWords table head.initial → IsLand (land_of table sources head)
+    → IsSourceTable sources → AreTableWords table head.initial → IsLand (land_of table sources head)
 IsLand-made table sources head fit are words = record {
   fit = IsFit-reduced head.architectures table fit;
   sources = are;

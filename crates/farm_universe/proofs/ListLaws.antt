@@ -16,7 +16,7 @@ use Rattle.item_index.proofs.ItemLaws.{any-at}
 use Rattle.farm_universe.specs.declared.error.TheConstants.{TWICE}
 use Rattle.farm_universe.specs.declared.list.VariantList.{VariantList}
 use Rattle.farm_universe.specs.FarmSteps.{add_variant, add_item, word_set}
-use Rattle.farm_universe.specs.FarmView.{IsListed, IsPlace, AreWords, IsOnce, AreDifferent, AreListed}
+use Rattle.farm_universe.specs.FarmView.{IsListed, IsPlace, AreTableWords, IsOnce, AreDifferent, AreListed}
 use Rattle.farm_universe.specs.ListText.{variant_at, twice, variants_in, words_of}
 use Rattle.farm_universe.specs.PackagesText.{PackageTable}
 use Rattle.farm_universe.proofs.ArchiveLaws.{length-words_of, words_of-push, get_or-words_of, bit_at-word_of}
@@ -49,7 +49,7 @@ module _ (table : PackageTable) (list : VariantList) (is : AreListed table list)
       ∙ has_bit-words_of (length table.names) list.variants.items v lt
 
   -- the words have bits of the table's variants alone
-  pub AreWords-listed : AreWords table list.words.items
+  pub AreWords-listed : AreTableWords table list.words.items
   AreWords-listed = record { paired = long; known = known } where
     known : (v : Variant) → has_bit list.words.items v ≡ true → IsListed table v
     known v set = by (nat_lt v.name (length table.names)) refl where

@@ -61,7 +61,7 @@ pub record IsPlace (table : PackageTable) (v : Variant) : Type 0 where
   pub listed : IsListed table v
 
 -- a word for each name of the table, with bits of its variants alone
-pub record AreWords (table : PackageTable) (words : List ℕ) : Type 0 where
+pub record AreTableWords (table : PackageTable) (words : List ℕ) : Type 0 where
   pub paired : length words ≡ length table.names
   pub known : (v : Variant) → has_bit words v ≡ true → IsListed table v
 
@@ -91,7 +91,7 @@ pub record AreOutputs (table : PackageTable) (vs : List Variant) : Type 0 where
 pub record IsLand (l : land.Land) : Type 0 where
   pub fit : IsFit l.table
   pub sources : IsSourceTable l.sources
-  pub words : AreWords l.table l.initial
+  pub words : AreTableWords l.table l.initial
 
 -- ---- recipes
 

@@ -19,7 +19,7 @@ use Rattle.plan_model.specs.Risk.{risk}
 use Rattle.plan_model.specs.Safety.{Meets, Parts, parts_of, hazard_of, hazard_at}
 use Rattle.plan_verifier.specs.declared.branch.Branch.{Branch}
 use Rattle.plan_verifier.specs.declared.branch.LaneMay.{LaneMay}
-use Rattle.plan_verifier.specs.Branch.{forgotten, turned, JoinedBy, IsEndOf, IsJoined, IsBranch, IsAt}
+use Rattle.plan_verifier.specs.Branch.{forgotten, turned, JoinedBy, IsBranchEnd, IsBehindEnd, IsBranch, IsAt}
 use Rattle.plan_verifier.specs.Walk.{told_at, is_plain}
 use Rattle.verdict_laws.proofs.RowBefore.{home-before}
 use Rattle.plan_verifier.proofs.Steps.{maps-next, hazard-is}
@@ -94,14 +94,14 @@ module _ (u : Universe) (p : Plan) (rows : Rows) (l i : ℕ)
 
   -- behind an `end` whose branches agree
   -- what is kept of the open branch is of the lane
-  pub held-at : (w : LaneMay) → IsAt u p rows l i w → IsEndOf u (lane p l) w
+  pub held-at : (w : LaneMay) → IsAt u p rows l i w → IsBranchEnd u (lane p l) w
   held-at w at = record {
     here = at.of_lane;
     first = λ k first is. (subst (λ b. IsBranch u (lane p l) side maps b) is at.branch).2;
   }
 
   pub end-at : instruction_at p l i ≡ Some EndWhen → (w next : LaneMay) → IsAt u p rows l i w
-      → IsJoined u (lane p l) w next None
+      → IsBehindEnd u (lane p l) w next None
       → (hazard_at u p rows l i ≡ None) × IsAt u p rows l (suc i) next
   end-at is w next at done = by w.branch at.branch done
     where
@@ -128,7 +128,7 @@ module _ (u : Universe) (p : Plan) (rows : Rows) (l i : ℕ)
 
   -- an `end` whose branches part
   pub parts-at : instruction_at p l i ≡ Some EndWhen → (w next : LaneMay) → IsAt u p rows l i w
-      → (told : ℕ) → IsJoined u (lane p l) w next (Some told)
+      → (told : ℕ) → IsBehindEnd u (lane p l) w next (Some told)
       → (hazard_at u p rows l i ≡ Some Parts) × (told ≡ told_at p l i Parts)
   parts-at is w next at told done = by w.branch at.branch done
     where

@@ -8,7 +8,7 @@ use Rattle.std.specs.Prelude.{ℕ, zero, suc, ◌+◌, ◌==◌, nat_lt, Bool, f
 use Rattle.std.specs.List.{concat, filter, find}
 use Rattle.deb_relation.specs.Relations.{Entry}
 use Rattle.farm_explain.specs.declared.kinds.Kind.{Kind}
-use Rattle.farm_explain.specs.Notes.{NoteFacts, notes_below, place_at, told}
+use Rattle.farm_explain.specs.Notes.{NoteFacts, notes_below, place_at, note_of}
 use Rattle.farm_explain.specs.ReasonText.{publication}
 use Rattle.farm_model.specs.declared.types.Variant.{Variant}
 use Rattle.farm_model.specs.Packages.{initial}
@@ -76,7 +76,7 @@ entry_text u p l i e =
 abbrev pub wait_notes : Universe → Plan → List LaneLines → (l i : ℕ) → Option Entry → List NoteFacts
 wait_notes u p ls l i None = []
 wait_notes u p ls l i (Some e) =
-    told Kind.Wait (Some (place_at p ls l i None)) (entry_text u p l i e)
+    note_of Kind.Wait (Some (place_at p ls l i None)) (entry_text u p l i e)
 
 abbrev pub lane_waits : Universe → Plan → List LaneLines → ℕ → List NoteFacts
 lane_waits u p ls l =
