@@ -2,7 +2,7 @@
 use Rattle.std.proofs.Common.{◌≡◌, ℕ, List, length, bit_or, subst, refl, sym, ap, ap₂, ◌∙◌, arith}
 use Rattle.std.specs.Simd.Lanes.{zip2}
 use Rattle.bit_rows.specs.declared.block.Block.{Block}
-use Rattle.bit_rows.specs.Blocks.{words_of, AreRowBlocks, AreOfOneLength, changed, AreJoined}
+use Rattle.bit_rows.specs.Blocks.{words_of, AreRowBlocks, AreOfOneLength, changed_blocks, AreJoined}
 use Rattle.bit_rows.proofs.RowWords.{length-words_of}
 use Rattle.bit_rows.proofs.Changes.{words_of-each, row_blocks-changed, words_of-changed}
 
@@ -30,7 +30,7 @@ other_row n m xs ys found a b is other long same =
 
 pub changed_row : (f : ℕ → ℕ → ℕ) → ((y : ℕ) → f 0 y ≡ 0) → (n m : ℕ)
     (xs ys found new : List Block) (a b : List ℕ) → IsRow n xs a → IsRow m ys b
-    → length a ≡ length b → found ≡ ys → new ≡ changed f xs found → IsRow n new (zip2 f a b)
+    → length a ≡ length b → found ≡ ys → new ≡ changed_blocks f xs found → IsRow n new (zip2 f a b)
 changed_row f none n m xs ys found new a b is other long same made =
     let there = other_row n m xs ys found a b is other long same in
     record {

@@ -5,22 +5,22 @@ use Rattle.std.proofs.lemmas.List.{take-append-drop, length-append}
 use Rattle.clause_kernel.specs.Kernels.{same}
 use Rattle.clause_kernel.proofs.Meanings.{same-equal}
 use Rattle.bit_rows.specs.declared.block.Block.{Block}
-use Rattle.bit_rows.specs.Blocks.{no_words, words_at, IsAscending, StandsAt, block_of, behind, placed}
+use Rattle.bit_rows.specs.Blocks.{no_words, words_at, IsAscending, StandsAt, block_if_any, behind_place, placed}
 use Rattle.bit_rows.proofs.Places.{words_or_before, words_at-drop}
 
 -- a block, unless its words are all 0
 
-pub block_of_none : (b : Block) → same b.words no_words ≡ true → block_of b ≡ []
+pub block_of_none : (b : Block) → same b.words no_words ≡ true → block_if_any b ≡ []
 block_of_none b e = cond-true (same b.words no_words) [] (b ∷ []) e
 
-pub block_of_one : (b : Block) → same b.words no_words ≡ false → block_of b ≡ b ∷ []
+pub block_of_one : (b : Block) → same b.words no_words ≡ false → block_if_any b ≡ b ∷ []
 block_of_one b e = cond-false (same b.words no_words) [] (b ∷ []) e
 
 pub no_words_same : (ws : List ℕ) → length ws ≡ 8 → same ws no_words ≡ true → ws ≡ no_words
 no_words_same ws long e = (same-equal ws no_words long).0 e
 
 pub words_at-block : (b : Block) (ys : List Block) (place : ℕ) → length b.words ≡ 8
-    → IsAscending (suc b.place) ys → words_at (block_of b ++ ys) place
+    → IsAscending (suc b.place) ys → words_at (block_if_any b ++ ys) place
     ≡ (if b.place == place then b.words else words_at ys place)
 words_at-block b ys place long up =
     elim (cases_Bool (same b.words no_words)) [
@@ -58,8 +58,8 @@ pub length-placed : (at : ℕ) (b : Block) (bs : List Block) → StandsAt at b.p
     → length b.words ≡ 8 → length (placed at b bs)
     ≤ length bs + (if same (words_at bs b.place) no_words then 1 else 0)
 length-placed at b bs stands long =
-    let front = length-append (take at bs) (block_of b ++ behind b.place (drop at bs)) in
-    let back = length-append (block_of b) (behind b.place (drop at bs)) in
+    let front = length-append (take at bs) (block_if_any b ++ behind_place b.place (drop at bs)) in
+    let back = length-append (block_if_any b) (behind_place b.place (drop at bs)) in
     let whole = ap length (take-append-drop at bs) in
     let split = length-append (take at bs) (drop at bs) in
     let one = most_one b in
@@ -72,13 +72,13 @@ length-placed at b bs stands long =
         → (let one : ℕ = 1 in (if same ws no_words then 1 else 0) ≡ one)
     absent_one ws none = cond-true (same ws no_words) 1 0 (ap (λ l. same l no_words) none)
 
-    most_one : (x : Block) → length (block_of x) ≤ 1
+    most_one : (x : Block) → length (block_if_any x) ≤ 1
     most_one x =
         cond_both (same x.words no_words) [] (x ∷ []) (λ l. length l ≤ 1) (λ _. omega arith)
         (λ _. omega arith)
 
     length-behind : (xs : List Block) (place : ℕ) → IsAscending place xs
-        → length (behind place xs) + 1 ≤ length xs
+        → length (behind_place place xs) + 1 ≤ length xs
         + (if same (words_at xs place) no_words then 1 else 0)
     length-behind [] place up = omega arith
     length-behind (x ∷ xs) place up =

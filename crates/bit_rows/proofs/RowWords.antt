@@ -7,7 +7,7 @@ use Rattle.std.proofs.lemmas.List.FromFn.{length-map-range_with_len, get_or-map-
 use Rattle.clause_kernel.specs.Kernels.{same}
 use Rattle.clause_kernel.proofs.Meanings.{same-equal}
 use Rattle.bit_rows.specs.declared.block.Block.{Block}
-use Rattle.bit_rows.specs.Blocks.{no_words, words_or, words_at, word_at, words_of, IsAscending, AreBlocks, AreRowBlocks, StandsAt, block_of, behind, placed}
+use Rattle.bit_rows.specs.Blocks.{no_words, words_or, words_at, word_at, words_of, IsAscending, AreBlocks, AreRowBlocks, StandsAt, block_if_any, behind_place, placed}
 use Rattle.bit_rows.proofs.Places.{ascending_from, ascending-take, ascending-append, words_or_behind, words_or-append, words_at-split}
 use Rattle.bit_rows.proofs.Placed.{words_at-block}
 
@@ -94,13 +94,14 @@ blocks-drop n zero bs each = each
 blocks-drop n (suc m) [] each = tt
 blocks-drop n (suc m) (b ∷ bs) each = blocks-drop n m bs each.1
 
-blocks-behind : (n place : ℕ) (bs : List Block) → AreBlocks n bs → AreBlocks n (behind place bs)
+blocks-behind : (n place : ℕ) (bs : List Block) → AreBlocks n bs
+    → AreBlocks n (behind_place place bs)
 blocks-behind n place [] each = tt
 blocks-behind n place (b ∷ bs) each =
     cond_both (b.place == place) bs (b ∷ bs) (AreBlocks n) (λ _. each.1) (λ _. each)
 
 pub blocks-block_of : (n : ℕ) (b : Block) → length b.words ≡ 8
-    → ((k : ℕ) → n ≤ 8 * b.place + k → get_or b.words k 0 ≡ 0) → AreBlocks n (block_of b)
+    → ((k : ℕ) → n ≤ 8 * b.place + k → get_or b.words k 0 ≡ 0) → AreBlocks n (block_if_any b)
 blocks-block_of n b long inside =
     cond_both (same b.words no_words) [] (b ∷ []) (AreBlocks n) (λ _. tt)
     (λ one. (
@@ -115,7 +116,7 @@ blocks-block_of n b long inside =
 -- a block that is placed
 
 ascending_behind : (place : ℕ) (bs : List Block) → IsAscending place bs
-    → IsAscending (suc place) (behind place bs)
+    → IsAscending (suc place) (behind_place place bs)
 ascending_behind place [] up = tt
 ascending_behind place (b ∷ bs) up =
     cond_both (b.place == place) bs (b ∷ bs) (IsAscending (suc place))
@@ -128,7 +129,7 @@ ascending_behind place (b ∷ bs) up =
     ))
 
 words_at-behind : (this place : ℕ) (bs : List Block) → this ≢ place
-    → words_at (behind this bs) place ≡ words_at bs place
+    → words_at (behind_place this bs) place ≡ words_at bs place
 words_at-behind this place [] ne = refl
 words_at-behind this place (b ∷ bs) ne =
     elim (cases_Bool (b.place == this)) [
@@ -140,7 +141,7 @@ words_at-behind this place (b ∷ bs) ne =
     ]
 
 ascending-block : (b : Block) (ys : List Block) → IsAscending (suc b.place) ys
-    → IsAscending b.place (block_of b ++ ys)
+    → IsAscending b.place (block_if_any b ++ ys)
 ascending-block b ys up =
     cond_both (same b.words no_words) [] (b ∷ []) (λ l. IsAscending b.place (l ++ ys))
     (λ _. ascending_from b.place (suc b.place) ys (omega arith) up) (λ _. (omega arith, up))
@@ -149,9 +150,9 @@ pub words_at-placed : (at : ℕ) (b : Block) (bs : List Block) (place : ℕ) →
     → StandsAt at b.place bs → words_at (placed at b bs) place
     ≡ (if b.place == place then b.words else words_at bs place)
 words_at-placed at b bs place long stands =
-    let back = behind b.place (drop at bs) in
+    let back = behind_place b.place (drop at bs) in
     let up = ascending_behind b.place (drop at bs) stands.ascending in
-    let new = block_of b ++ back in
+    let new = block_if_any b ++ back in
     let whole = words_or-append no_words (take at bs) new place in
     let front = words_at-block b back place long up in
     elim (cases_Bool (b.place == place)) [
@@ -174,13 +175,13 @@ pub row_blocks-placed : (n at : ℕ) (b : Block) (bs : List Block) → length b.
     → ((k : ℕ) → n ≤ 8 * b.place + k → get_or b.words k 0 ≡ 0)
     → StandsAt at b.place bs → AreRowBlocks n bs → AreRowBlocks n (placed at b bs)
 row_blocks-placed n at b bs long inside stands are =
-    let back = behind b.place (drop at bs) in
+    let back = behind_place b.place (drop at bs) in
     let up = ascending_behind b.place (drop at bs) stands.ascending in
     record {
-      ascending = ascending-append 0 b.place (take at bs) (block_of b ++ back) (omega arith)
+      ascending = ascending-append 0 b.place (take at bs) (block_if_any b ++ back) (omega arith)
           (ascending-take 0 at bs are.ascending) stands.below (ascending-block b back up);
-      each = blocks-append n (take at bs) (block_of b ++ back) (blocks-take n at bs are.each)
-          (blocks-append n (block_of b) back (blocks-block_of n b long inside)
+      each = blocks-append n (take at bs) (block_if_any b ++ back) (blocks-take n at bs are.each)
+          (blocks-append n (block_if_any b) back (blocks-block_of n b long inside)
           (blocks-behind n b.place (drop at bs) (blocks-drop n at bs are.each)));
     }
 

@@ -5,7 +5,7 @@
 --   word_at blocks name          the word of a name
 --   words_of n blocks            the n words that the blocks stand for
 --   AreRowBlocks n blocks        blocks as a row of n words keeps them: every row has one such list
---   placed, changed              the blocks after a write, and after a change by other blocks
+--   placed, changed_blocks       the blocks after a write, and after a change by other blocks
 use Rattle.std.specs.Prelude.{◌≡◌, ◌≢◌, ◌==◌, ◌<◌, ◌≤◌, ◌+◌, ◌*◌, ◌/◌, ◌%◌, ℕ, suc, Bool, List, [], ◌∷◌, ◌++◌, map, take, drop, length, replicate, slice_index, bit_or, if◌then◌else◌}
 use Rattle.std.specs.List.{range_with_len, list_any}
 use Rattle.std.specs.Simd.Lanes.{zip2}
@@ -62,24 +62,24 @@ pub record StandsAt (at place : ℕ) (blocks : List Block) : Type 0 where
   pub ascending : IsAscending place (drop at blocks)
 
 -- no block where the words are all 0
-abbrev pub block_of : Block → List Block
-block_of b = if same b.words no_words then [] else b ∷ []
+abbrev pub block_if_any : Block → List Block
+block_if_any b = if same b.words no_words then [] else b ∷ []
 
 -- the blocks behind a place
-abbrev pub behind : ℕ → List Block → List Block
-behind place [] = []
-behind place (b ∷ bs) = if b.place == place then bs else b ∷ bs
+abbrev pub behind_place : ℕ → List Block → List Block
+behind_place place [] = []
+behind_place place (b ∷ bs) = if b.place == place then bs else b ∷ bs
 
 -- the blocks with this one at its place, which stands at this index
 abbrev pub placed : ℕ → Block → List Block → List Block
-placed at b blocks = take at blocks ++ (block_of b ++ behind b.place (drop at blocks))
+placed at b blocks = take at blocks ++ (block_if_any b ++ behind_place b.place (drop at blocks))
 
 -- each block changed by the words of others at its place
-abbrev pub changed : (ℕ → ℕ → ℕ) → List Block → List Block → List Block
-changed f [] others = []
-changed f (b ∷ bs) others =
-    block_of (record { place = b.place; words = zip2 f b.words (words_at others b.place) })
-    ++ changed f bs others
+abbrev pub changed_blocks : (ℕ → ℕ → ℕ) → List Block → List Block → List Block
+changed_blocks f [] others = []
+changed_blocks f (b ∷ bs) others =
+    block_if_any (record { place = b.place; words = zip2 f b.words (words_at others b.place) })
+    ++ changed_blocks f bs others
 
 -- the words at a place of a list of words, eight of them or the last ones
 abbrev pub piece : List ℕ → ℕ → List ℕ

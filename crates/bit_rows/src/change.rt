@@ -4,7 +4,7 @@ ghost use Rattle.std.specs.Prelude.{◌≡◌, ℕ, OnOk, OnErr, length};
 ghost use Rattle.std.specs.Simd.Lanes.{zip2};
 ghost use Rattle.clause_kernel.specs.Kernels.{bits_left};
 ghost use Rattle.std.specs.Prelude.{bit_and};
-ghost use Rattle.bit_rows.specs.Blocks.{IsAscending, AreOfOneLength, AreJoined, changed, missing};
+ghost use Rattle.bit_rows.specs.Blocks.{IsAscending, AreOfOneLength, AreJoined, changed_blocks, missing};
 
 use crate::block::{Block, has_none, put, seek, words_there};
 use clause_kernel as kernel;
@@ -50,7 +50,7 @@ pub(crate) fn change_each<T: PlaceChange, A: Allocator>(
 )
     requires blocks { IsAscending 0 blocks.old.items }
     requires others { IsAscending 0 others.now }
-    ensures { blocks.new.items ≡ changed T.change blocks.old.items others.now }
+    ensures { blocks.new.items ≡ changed_blocks T.change blocks.old.items others.now }
 {
     let mut kept = 0;
     let mut there = 0;

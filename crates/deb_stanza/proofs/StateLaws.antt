@@ -9,7 +9,7 @@ use Rattle.deb_text.specs.Steps.{answer, judged, steps}
 use Rattle.deb_text.proofs.StepLaws.{steps-judged}
 use Rattle.deb_stanza.specs.Cut.{onto_last}
 use Rattle.deb_stanza.specs.Draft.{State, open_texts, open_names, longer, larger, with_line, step, raw_part, state_of}
-use Rattle.deb_stanza.specs.Stanza.{name_of, separates, continues, texts_of, parts, open_part, last_of, code_of, told_at, fault_of, paragraph_of, paragraphs_of}
+use Rattle.deb_stanza.specs.Stanza.{name_of, separates, continues, texts_of, parts, open_part, last_of, line_refusal, told_at, fault_of, paragraph_of, paragraphs_of}
 use Rattle.deb_stanza.specs.View.{Raw, finished}
 use Rattle.deb_stanza.proofs.CutLaws.{onto_last-push}
 use Rattle.deb_stanza.proofs.NameLaws.{last_texts-push}
@@ -90,7 +90,7 @@ some≢none e = absurd cc
 
 within : (init : List (List Line)) (q : List Line) (m : Line) (given : List (List ℕ))
     → separates m ≡ false
-    → code_of (some (last_of (init ++ q ∷ []))) given m ≡ None
+    → line_refusal (some (last_of (init ++ q ∷ []))) given m ≡ None
     → with_line (made_of (init ++ q ∷ [])) m ≡ made_of (init ++ (q ++ m ∷ []) ∷ [])
 within init [] m given solid fine =
     elim (cases_Bool (continues m)) [
@@ -116,7 +116,7 @@ open_texts-made init (l ∷ q) =
     ∙ ap texts_of (sym (last_of-push init (l ∷ q)))
 
 grows : (before : List Line) (l : Line) (given : List (List ℕ))
-    → code_of (some (open_part before)) given l ≡ None
+    → line_refusal (some (open_part before)) given l ≡ None
     → with_line (state_of before) l ≡ state_of (before ++ l ∷ [])
 grows before l given fine =
     let last = split-last separates before in
@@ -126,7 +126,7 @@ grows before l given fine =
       | inr solid ↦
           ap (λ (ps : List (List Line)). with_line (made_of ps) l) last.2
           ∙ within last.0 last.1 l given solid
-          (subst (λ (ps : List (List Line)). code_of (some (last_of ps)) given l ≡ None)
+          (subst (λ (ps : List (List Line)). line_refusal (some (last_of ps)) given l ≡ None)
           last.2 fine)
           ∙ sym (ap made_of
           (split-in separates before l solid ∙ ap (onto_last (λ q. q ++ l ∷ [])) last.2
@@ -149,7 +149,8 @@ answer-same line (Some code) s t same = refl
 keeps : (before : List Line) (l : Line)
     → step (state_of before) l ≡ answer (fault_of before l) (state_of (before ++ l ∷ []))
 keeps before l =
-    ap (λ (given : List (List ℕ)). answer (told_at l.0 (code_of (some (open_part before)) given l))
+    ap (λ (given : List (List ℕ)). answer
+    (told_at l.0 (line_refusal (some (open_part before)) given l))
     (with_line (state_of before) l)) (names-open before)
     ∙ answer-same l.0 _ _ _ (grows before l (map name_of (texts_of (open_part before))))
 

@@ -11,7 +11,7 @@ use Rattle.std.specs.BTreeSet.{BTreeSet}
 use Rattle.deb_stanza.specs.declared.draft.Draft.{Draft}
 use Rattle.deb_stanza.specs.declared.table.Table.{Table}
 use Rattle.deb_stanza.specs.Cut.{onto_last}
-use Rattle.deb_stanza.specs.Stanza.{is_colon, name_of, separates, continues, code_of, told_at, first_number, texts_of, parts, open_part}
+use Rattle.deb_stanza.specs.Stanza.{is_colon, name_of, separates, continues, line_refusal, told_at, first_number, texts_of, parts, open_part}
 use Rattle.deb_stanza.specs.View.{Raw, table_raws, table_texts, IsSoundTable}
 
 -- the paragraphs so far, and whether the last one is open
@@ -54,7 +54,7 @@ with_line s l =
     else (if continues l then record s { raws = onto_last (longer l.1) s.raws } else with_head s l)
 
 abbrev pub step : State → Line → Result State Fault
-step s l = answer (told_at l.0 (code_of s.is_open (open_names s) l)) (with_line s l)
+step s l = answer (told_at l.0 (line_refusal s.is_open (open_names s) l)) (with_line s l)
 
 abbrev pub draft_state : Draft → State
 draft_state d = record { raws = table_raws d.table; is_open = d.is_open }

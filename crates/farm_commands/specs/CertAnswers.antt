@@ -84,10 +84,10 @@ MayTellLength before after =
     × IsWritten before after (long_line count))
 
 -- what ends the command where a certificate is not written whole
-abbrev pub fault_of : CertStop → OutsideFault
-fault_of NoMemory = OutOfMemory
-fault_of Cut = CutShort
-fault_of NotWritten = WriteFailed
+abbrev pub outside_fault_of : CertStop → OutsideFault
+outside_fault_of NoMemory = OutOfMemory
+outside_fault_of Cut = CutShort
+outside_fault_of NotWritten = WriteFailed
 
 -- the verdict on the certificate that a text is, or the fault of a text that is none, unless memory
 -- ran out

@@ -7,7 +7,7 @@ use Rattle.plan_model.specs.Branches.{Side, Outside, InFirst, InSecond, second_o
 use Rattle.plan_model.specs.Known.{row_before, teaches}
 use Rattle.plan_model.specs.Plan.{Plan, lane, instruction_at}
 use Rattle.plan_cert.specs.Opens.{open_of, open_at, open_behind, or_here, place_before}
-use Rattle.plan_cert.specs.Stated.{rows_before, Held, ended, held_behind, held_behind_some, held_at}
+use Rattle.plan_cert.specs.Stated.{rows_before, Held, branch_ended, held_behind, held_behind_some, held_at}
 
 module _ (p : Plan) (l : ℕ) where
   abbrev xs : List Instruction
@@ -25,7 +25,8 @@ module _ (p : Plan) (l : ℕ) where
   ahead-same (InFirst w) held next same ahead = same ∙ ahead
   ahead-same (InSecond w) held next same ahead = same ∙ ahead
 
-  ahead-second : (s : Side) (held : Held) → IsAhead s held → IsAhead (second_of s) (ended s held)
+  ahead-second : (s : Side) (held : Held) → IsAhead s held
+      → IsAhead (second_of s) (branch_ended s held)
   ahead-second Outside held ahead = tt
   ahead-second (InFirst w) held ahead = ahead
   ahead-second (InSecond w) held ahead = ahead
@@ -52,7 +53,7 @@ module _ (p : Plan) (l : ℕ) where
           ahead-behind (side_at xs k) k (rows_before p l (suc k)) x (held_at p l k) refl ahead
 
   ended-here : (s : Side) (k : ℕ) (held : Held) → held.here ≡ (held_at p l k).here
-      → IsAhead s held → (ended s held).here ≡ (held_at p l (home s k)).here
+      → IsAhead s held → (branch_ended s held).here ≡ (held_at p l (home s k)).here
   ended-here Outside k held here ahead = here
   ended-here (InFirst w) k held here ahead = ahead
   ended-here (InSecond w) k held here ahead = ahead

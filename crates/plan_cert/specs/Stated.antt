@@ -28,10 +28,10 @@ pub record Held : Type 0 where
   pub ahead : ℕ
 
 -- a branch ends with what held ahead of its `when`
-abbrev pub ended : Side → Held → Held
-ended Outside held = held
-ended (InFirst w) held = record { here = held.ahead; ahead = held.ahead }
-ended (InSecond w) held = record { here = held.ahead; ahead = held.ahead }
+abbrev pub branch_ended : Side → Held → Held
+branch_ended Outside held = held
+branch_ended (InFirst w) held = record { here = held.ahead; ahead = held.ahead }
+branch_ended (InSecond w) held = record { here = held.ahead; ahead = held.ahead }
 
 -- behind an instruction, up to which so many rows are listed: that of a `when` holds in its first
 -- branch alone
@@ -39,8 +39,8 @@ abbrev pub held_behind : Side → ℕ → Held → Instruction → Held
 held_behind s listed held (Publish r) = record { here = listed; ahead = held.ahead }
 held_behind s listed held (Wait e) = record { here = listed; ahead = held.ahead }
 held_behind s listed held (When name wanted) = record { here = listed; ahead = held.here }
-held_behind s listed held Otherwise = ended s held
-held_behind s listed held EndWhen = ended s held
+held_behind s listed held Otherwise = branch_ended s held
+held_behind s listed held EndWhen = branch_ended s held
 held_behind s listed held _ = held
 
 -- behind the instruction that is there, if any

@@ -24,8 +24,8 @@ abbrev pub lines_in : List (List ℕ) → Whole → List ℕ
 lines_in bs whole = lines_of_part bs whole.part
 
 -- a block that has ended
-abbrev pub block_of : List (List ℕ) → Vec ℕ × Whole → Block
-block_of bs (name, whole) = record { name = name.items; lines = lines_in bs whole }
+abbrev pub block_lines_of : List (List ℕ) → Vec ℕ × Whole → Block
+block_lines_of bs (name, whole) = record { name = name.items; lines = lines_in bs whole }
 
 -- a part that speaks of the first n joins, where there is one
 abbrev pub IsSomePart : ℕ → Option Part → Type 0

@@ -35,12 +35,12 @@ pub struct Blocks {
 
 impl Model for Blocks {
     ghost use Rattle.std.specs.Prelude.{map};
-    ghost use Rattle.plan_lines.specs.BlockLines.{BlockLines, block_of, lines_in, AreWhole};
+    ghost use Rattle.plan_lines.specs.BlockLines.{BlockLines, block_lines_of, lines_in, AreWhole};
 
     ghost Value = { BlockLines };
 
     ghost view = { λ it. record {
-      ended = map (block_of it.joins) it.ended.entries;
+      ended = map (block_lines_of it.joins) it.ended.entries;
       begun = lines_in it.joins it.begun;
     } };
 

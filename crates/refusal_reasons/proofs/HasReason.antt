@@ -24,7 +24,7 @@ use Rattle.plan_model.specs.Turn.{was_built, newest}
 use Rattle.plan_model.specs.May.{Bits, MaySlot, May, some_of, some_name, may_hold, may_hold_configured, surely_met, surely_met_with, surely_pre_met, greatest_size, may_use, is_surely_unpacked, is_surely_configured, is_surely_present}
 use Rattle.plan_model.specs.Risk as risks
 use Rattle.plan_model.specs.Risk.{candidates, greatest_cost, may_exceed, some_may_member, may_be_needed, may_be_unsettled, risk}
-use Rattle.sat_rows.specs.Rows.{entry_at}
+use Rattle.sat_rows.specs.Rows.{nth_entry}
 use Rattle.may_rows.proofs.ByNumber.{any-numbers}
 use Rattle.refusal_reasons.specs.declared.types.Field.{Field}
 use Rattle.refusal_reasons.specs.declared.types.Reason.{Reason}
@@ -61,8 +61,8 @@ map-some f (Some x) = refl
 
 first_place-some : (p : Entry → Bool) (es : Relations) → is_some (first_place p es) ≡ list_any p es
 first_place-some p es =
-    first_below-some (length es) (λ i. if p (entry_at es i) then Some i else None)
-    ∙ (λ j. some_below (length es) (λ i. then-is (p (entry_at es i)) i j))
+    first_below-some (length es) (λ i. if p (nth_entry es i) then Some i else None)
+    ∙ (λ j. some_below (length es) (λ i. then-is (p (nth_entry es i)) i j))
     ∙ any-numbers p [] es
 
 module _ (u : Universe) (test : Entry → Bool) (v : Variant) where

@@ -4,7 +4,7 @@ ghost use Rattle.std.specs.Prelude.{◌≡◌, ◌<◌, not, length};
 ghost use Rattle.farm_model.specs.Packages.{satisfies_entry};
 ghost use Rattle.farm_model.specs.Sound.{IsKnown};
 ghost use Rattle.plan_model.specs.May.{surely_met};
-ghost use Rattle.sat_rows.specs.Rows.{IsRowOf, entry_at};
+ghost use Rattle.sat_rows.specs.Rows.{IsRowOf, nth_entry};
 ghost use Rattle.may_rows.specs.Words.{AreWords, may_of};
 ghost use Rattle.refusal_reasons.specs.Reasons as reasons;
 ghost use Rattle.refusal_reasons.specs.Reasons.{field_of};
@@ -32,7 +32,7 @@ pub fn entry_row(tables: &Tables, variant: Variant, field: Field, number: usize)
     requires known { IsKnown tables.now variant }
     requires there { number < length (field_of tables.now variant field) }
     ensures { IsRowOf tables.now
-        (satisfies_entry tables.now (entry_at (field_of tables.now variant field) number))
+        (satisfies_entry tables.now (nth_entry (field_of tables.now variant field) number))
         result.now }
 {
     match field {

@@ -6,7 +6,7 @@ ghost use Rattle.farm_model.specs.Packages as packages;
 ghost use Rattle.farm_model.specs.Packages.{variant, variants};
 ghost use Rattle.farm_model.specs.Sound.{IsKnown};
 ghost use Rattle.plan_model.specs.Sound.{IsNameSet};
-ghost use Rattle.sat_rows.specs.Rows.{entry_at};
+ghost use Rattle.sat_rows.specs.Rows.{nth_entry};
 ghost use Rattle.may_rows.specs.Words.{AreWords, may_of};
 ghost use Rattle.refusal_reasons.specs.First as first;
 ghost use Rattle.refusal_reasons.specs.Reasons.{field_of, needed_field, needed_entry};
@@ -28,7 +28,7 @@ fn loses_entry(of: &Search, variant: Variant, field: Field, number: usize) -> bo
     requires known { IsKnown of.now.universe.now variant }
     requires there { number < length (field_of of.now.universe.now variant field) }
     ensures { result ≡ spec.loses of.now.universe.now of.now.members.now (may_of of.now.state.now)
-        (entry_at (field_of of.now.universe.now variant field) number) }
+        (nth_entry (field_of of.now.universe.now variant field) number) }
 {
     let row = entry_row(of.tables, variant, field, number);
     loses(of, row)

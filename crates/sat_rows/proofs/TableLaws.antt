@@ -11,7 +11,7 @@ use Rattle.farm_model.specs.Sound.{IsKnown}
 use Rattle.farm_universe.proofs.PlaceLaws.{named}
 use Rattle.sat_rows.specs.ByVariant.{AreOfName, AreOfEach}
 use Rattle.sat_rows.specs.Entries.{Numbers, PreNumbers, IsNumberOf, IsPreNumbers, AreNumbers, no_numbers, no_pre_numbers}
-use Rattle.sat_rows.specs.Rows.{IsRowOf, entry_at}
+use Rattle.sat_rows.specs.Rows.{IsRowOf, nth_entry}
 use Rattle.sat_rows.specs.Tables.{AreEntryRows}
 use Rattle.sat_rows.proofs.FoundLaws.{or_false}
 use Rattle.sat_rows.proofs.Pairs.{paired_within, paired_at, paired_with}
@@ -89,9 +89,9 @@ module _ (u : Universe) (by_name : List (List Numbers)) (by_recipe rows : List (
 
         pub depends_number : (i n : ℕ) → i < length (depends u v)
             → n ≡ get_or numbers.depends i 0
-            → IsNumberOf kept.entries (entry_at (depends u v) i) n
+            → IsNumberOf kept.entries (nth_entry (depends u v) i) n
         depends_number i n lt e =
-            subst (IsNumberOf kept.entries (entry_at (depends u v) i)) (sym e)
+            subst (IsNumberOf kept.entries (nth_entry (depends u v) i)) (sym e)
             (paired_at (IsNumberOf kept.entries) (depends u v) numbers.depends i [] 0 are.depends
             lt)
 
@@ -102,9 +102,9 @@ module _ (u : Universe) (by_name : List (List Numbers)) (by_recipe rows : List (
 
         pub pre_numbers : (i : ℕ) (pre : PreNumbers) → i < length (pre_depends u v)
             → pre ≡ get_or numbers.pre_depends i no_pre_numbers
-            → IsPreNumbers kept.entries (entry_at (pre_depends u v) i) pre
+            → IsPreNumbers kept.entries (nth_entry (pre_depends u v) i) pre
         pre_numbers i pre lt e =
-            subst (IsPreNumbers kept.entries (entry_at (pre_depends u v) i)) (sym e)
+            subst (IsPreNumbers kept.entries (nth_entry (pre_depends u v) i)) (sym e)
             (paired_at (IsPreNumbers kept.entries) (pre_depends u v) numbers.pre_depends i []
             no_pre_numbers are.pre_depends lt)
 
@@ -138,7 +138,7 @@ module _ (u : Universe) (by_name : List (List Numbers)) (by_recipe rows : List (
           paired_within (IsNumberOf kept.entries) (recipe u r).needs here i all there
 
       pub need_number : (i n : ℕ) → i < length (recipe u r).needs → n ≡ get_or here i 0
-          → IsNumberOf kept.entries (entry_at (recipe u r).needs i) n
+          → IsNumberOf kept.entries (nth_entry (recipe u r).needs i) n
       need_number i n there e =
-          subst (IsNumberOf kept.entries (entry_at (recipe u r).needs i)) (sym e)
+          subst (IsNumberOf kept.entries (nth_entry (recipe u r).needs i)) (sym e)
           (paired_at (IsNumberOf kept.entries) (recipe u r).needs here i [] 0 all there)

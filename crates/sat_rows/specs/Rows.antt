@@ -3,7 +3,7 @@
 --   passes                        the universe has the variant, and it passes
 --   IsWordFor, IsRowOf            the word of one name, and the row of all names
 --   IsSharedRow                   a row, or none where no variant passes
---   entry_at, IsAlternativeRow    the entry of a number, and the row of an alternative
+--   nth_entry, IsAlternativeRow   the entry of a number, and the row of an alternative
 --   of_another_name               a test of variants of other names alone
 --   conflicts_with, broken_by, breakers_of
 --                                 the tests of Conflicts and Breaks (Debian Policy 7.3, 7.4)
@@ -34,8 +34,8 @@ IsSharedRow u p None = (n b : ℕ) → passes u p n b ≡ false
 IsSharedRow u p (Some row) = IsRowOf u p row
 
 -- the entry of a number; past the last one an entry without alternatives
-abbrev pub entry_at : Relations → ℕ → Entry
-entry_at es i = slice_index_or es i []
+abbrev pub nth_entry : Relations → ℕ → Entry
+nth_entry es i = slice_index_or es i []
 
 -- the row of the alternative of a number
 abbrev pub IsAlternativeRow : Universe → Entry → ℕ → List ℕ → Type 0

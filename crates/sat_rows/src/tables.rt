@@ -6,7 +6,7 @@ ghost use Rattle.farm_model.specs.declared.types.Variant.{Variant};
 ghost use Rattle.farm_model.specs.Packages.{names, pre_depends, depends, satisfies_entry, satisfies_any};
 ghost use Rattle.farm_model.specs.Packages as packages;
 ghost use Rattle.farm_model.specs.Sound.{IsKnown};
-ghost use Rattle.sat_rows.specs.Rows.{passes, IsRowOf, IsSharedRow, IsAlternativeRow, entry_at, conflicts_with, broken_by, breakers_of};
+ghost use Rattle.sat_rows.specs.Rows.{passes, IsRowOf, IsSharedRow, IsAlternativeRow, nth_entry, conflicts_with, broken_by, breakers_of};
 ghost use Rattle.sat_rows.specs.Index.{IsProviding};
 ghost use Rattle.deb_relation.specs.Relations as spec;
 ghost use Rattle.sat_rows.specs.Entries.{AreNumbered, AreRowsOf};
@@ -311,7 +311,8 @@ impl Tables {
         requires known { IsKnown self.now variant }
         requires there { number < length (pre_depends self.now variant) }
         ensures { IsRowOf self.now
-            (satisfies_entry self.now (entry_at (pre_depends self.now variant) number)) result.now }
+            (satisfies_entry self.now (nth_entry (pre_depends self.now variant) number))
+            result.now }
     {
         let numbers = self.names[variant.name as usize].variant(variant.bit);
         &self.rows[numbers.pre_depends(number).entry()]
@@ -321,8 +322,8 @@ impl Tables {
     pub fn pre_alternative(&self, variant: Variant, number: usize, alternative: usize) -> &Row
         requires known { IsKnown self.now variant }
         requires there { number < length (pre_depends self.now variant) }
-        requires among { alternative < length (entry_at (pre_depends self.now variant) number) }
-        ensures { IsAlternativeRow self.now (entry_at (pre_depends self.now variant) number)
+        requires among { alternative < length (nth_entry (pre_depends self.now variant) number) }
+        ensures { IsAlternativeRow self.now (nth_entry (pre_depends self.now variant) number)
             alternative result.now }
     {
         let numbers = self.names[variant.name as usize].variant(variant.bit);
@@ -334,7 +335,7 @@ impl Tables {
         requires known { IsKnown self.now variant }
         requires there { number < length (depends self.now variant) }
         ensures { IsRowOf self.now
-            (satisfies_entry self.now (entry_at (depends self.now variant) number)) result.now }
+            (satisfies_entry self.now (nth_entry (depends self.now variant) number)) result.now }
     {
         let numbers = self.names[variant.name as usize].variant(variant.bit);
         &self.rows[numbers.depends(number)]
@@ -383,7 +384,7 @@ impl Tables {
         requires known { recipe < length self.now.recipes }
         requires there { number < length (packages.recipe self.now recipe).needs }
         ensures { IsRowOf self.now (satisfies_entry self.now
-            (entry_at (packages.recipe self.now recipe).needs number)) result.now }
+            (nth_entry (packages.recipe self.now recipe).needs number)) result.now }
     {
         &self.rows[self.needs[recipe as usize].need(number)]
     }

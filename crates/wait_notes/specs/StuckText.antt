@@ -118,12 +118,12 @@ name_text p None = []
 name_text p (Some l) = (lane p l).name
 
 -- `a waits for b`
-abbrev pub between : Plan → Option ℕ → Option ℕ → List ℕ
-between p from to = concat (name_text p from ∷ word_text Word.WaitsFor ∷ name_text p to ∷ [])
+abbrev pub waits_for_text : Plan → Option ℕ → Option ℕ → List ℕ
+waits_for_text p from to = concat (name_text p from ∷ word_text Word.WaitsFor ∷ name_text p to ∷ [])
 
 -- the lane k lanes on from l, and the next
 abbrev pub link_text : Plan → (ℕ → Option ℕ) → (l k : ℕ) → List ℕ
-link_text p next l k = between p (follow next k l) (follow next (suc k) l)
+link_text p next l k = waits_for_text p (follow next k l) (follow next (suc k) l)
 
 -- so many links, and the one that leads back
 abbrev pub circle_line : Plan → (ℕ → Option ℕ) → (l k : ℕ) → List ℕ

@@ -68,15 +68,15 @@ wait_text u p l i vs None = coming_line u p l (i + 1) (sources u p l i vs)
 wait_text u p l i vs (Some v) = nothing_text u p l (i + 1) v
 
 -- of the variants that satisfy its entry
-abbrev pub entry_text : Universe → Plan → (l i : ℕ) → Entry → List ℕ
-entry_text u p l i e =
+abbrev pub entry_wait_text : Universe → Plan → (l i : ℕ) → Entry → List ℕ
+entry_wait_text u p l i e =
     wait_text u p l i (satisfying u e) (find (initial u) (satisfying u e))
 
 -- the wait at a place, if there is one; none where nothing is said of it
 abbrev pub wait_notes : Universe → Plan → List LaneLines → (l i : ℕ) → Option Entry → List NoteFacts
 wait_notes u p ls l i None = []
 wait_notes u p ls l i (Some e) =
-    note_of Kind.Wait (Some (place_at p ls l i None)) (entry_text u p l i e)
+    note_of Kind.Wait (Some (place_at p ls l i None)) (entry_wait_text u p l i e)
 
 abbrev pub lane_waits : Universe → Plan → List LaneLines → ℕ → List NoteFacts
 lane_waits u p ls l =

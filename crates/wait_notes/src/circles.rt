@@ -32,7 +32,7 @@ fn push_link(
     to: Option<usize>,
 ) -> Result<(), AllocError>
     ensures { OnOk result
-        (text.new.items ≡ text.old.items ++ spec.between plan.now.lanes from to) }
+        (text.new.items ≡ text.old.items ++ spec.waits_for_text plan.now.lanes from to) }
 {
     push_name(text, plan, from)?;
     push_pieces(text, &[Word::WaitsFor.text()])?;

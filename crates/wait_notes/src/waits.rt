@@ -217,7 +217,7 @@ fn entry_text(
     requires tables { tables.now ≡ of.universe.now }
     requires lane { of.number < length of.plan.now.lanes }
     requires place { place < length (lane of.plan.now.lanes of.number).instructions }
-    ensures { IfOk result (λ text. text.items ≡ spec.entry_text of.entry.universe.now
+    ensures { IfOk result (λ text. text.items ≡ spec.entry_wait_text of.entry.universe.now
         of.entry.plan.now.lanes of.entry.number place entry.now) }
 {
     let found = satisfying(alloc, of.universe, tables, entry)?;

@@ -27,11 +27,11 @@ kept =
     ∷ (record plain { depends = entry (any (codes "aa")) ∷ [] } ∷ [])
     ∷ [])
 
-abbrev pub removed : Plan
-removed = lone (Unpack aa None ∷ Remove (aa ∷ []) ∷ [])
+abbrev pub removed_essential : Plan
+removed_essential = lone (Unpack aa None ∷ Remove (aa ∷ []) ∷ [])
 
-abbrev pub deconfigured : Plan
-deconfigured = lone (Unpack aa None ∷ Configure (aa ∷ []) ∷ Deconfigure (aa ∷ []) ∷ [])
+abbrev pub deconfigured_essential : Plan
+deconfigured_essential = lone (Unpack aa None ∷ Configure (aa ∷ []) ∷ Deconfigure (aa ∷ []) ∷ [])
 
 abbrev pub removed_while_needed : Plan
 removed_while_needed =

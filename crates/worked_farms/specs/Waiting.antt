@@ -72,8 +72,8 @@ handed = record {
 }
 
 -- a run that meets no trap and ends in this state
-abbrev pub ended : State → Ending
-ended s = record { state = s; stop = None }
+abbrev pub ended_in : State → Ending
+ended_in s = record { state = s; stop = None }
 
 -- ---- the unpack may give a newer one
 

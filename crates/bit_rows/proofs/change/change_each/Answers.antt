@@ -3,7 +3,7 @@ use Rattle.std.specs.Simd.Lanes.{zip2}
 use Rattle.std.proofs.lemmas.List.{get_or-drop, get_or_default, drop-drop, drop-set-lt, length-set}
 use Rattle.clause_kernel.specs.Kernels.{same}
 use Rattle.bit_rows.specs.declared.block.Block.{Block}
-use Rattle.bit_rows.specs.Blocks.{words_at, changed, no_words, IsAscending, StandsAt}
+use Rattle.bit_rows.specs.Blocks.{words_at, changed_blocks, no_words, IsAscending, StandsAt}
 use Rattle.bit_rows.proofs.Places.{blank, below_to}
 use Rattle.bit_rows.proofs.Walks.{place_next}
 use Rattle.bit_rows.proofs.Changes.{changed_kept, changed_dropped}
@@ -33,8 +33,8 @@ turn : (f : ℕ → ℕ → ℕ) (at kept kept_new there there_new : ℕ) (item 
     (blocks new others start : List Block) → IsChangedTo f at kept there blocks others start
     → Reads f at there_new item words blocks others start → kept_new ≤ at + 1
     → length new ≡ length blocks → drop (at + 1) new ≡ drop (at + 1) blocks
-    → take kept_new new ++ changed f (drop (at + 1) new) others
-    ≡ take kept blocks ++ changed f (drop at blocks) others
+    → take kept_new new ++ changed_blocks f (drop (at + 1) new) others
+    ≡ take kept blocks ++ changed_blocks f (drop at blocks) others
     → IsChangedTo f (at + 1) kept_new there_new new others start
 turn f at kept kept_new there there_new item words blocks new others start is reads order long tail
     done =
@@ -77,7 +77,7 @@ turn_kept f at kept kept_new there there_new item words blocks new others start 
     turn f at kept kept_new there there_new item words blocks new others start is reads
     (omega arith)
     long_new (ap (drop (at + 1)) made ∙ drop-set-lt (at + 1) blocks kept b (omega arith))
-    (ap₂ (λ k l. take k l ++ changed f (drop (at + 1) l) others) counted made
+    (ap₂ (λ k l. take k l ++ changed_blocks f (drop (at + 1) l) others) counted made
     ∙ changed_kept f blocks others kept at b item le inside one read)
 
 turn_dropped : (f : ℕ → ℕ → ℕ) (at kept kept_new there there_new : ℕ) (item : Block)
@@ -103,7 +103,7 @@ turn_dropped f at kept kept_new there there_new item words blocks new others sta
     turn f at kept kept_new there there_new item words blocks new others start is reads
     (omega arith)
     (ap length made) (ap (drop (at + 1)) made)
-    (ap₂ (λ k l. take k l ++ changed f (drop (at + 1) l) others) counted made
+    (ap₂ (λ k l. take k l ++ changed_blocks f (drop (at + 1) l) others) counted made
     ∙ changed_dropped f blocks others kept at b item inside none read)
 
 pub loop-at-preserved : goal.loop-at-preserved

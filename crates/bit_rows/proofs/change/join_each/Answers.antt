@@ -3,7 +3,7 @@ use Rattle.std.specs.Simd.Lanes.{zip2}
 use Rattle.std.proofs.lemmas.List.{drop_all, take_at, length-take-le, length-append}
 use Rattle.std.proofs.lemmas.Simd.{length-zip2}
 use Rattle.bit_rows.specs.declared.block.Block.{Block}
-use Rattle.bit_rows.specs.Blocks.{words_at, IsAscending, AreBelow, AreRowBlocks, AreOfOneLength, StandsAt, placed, block_of, behind, missing}
+use Rattle.bit_rows.specs.Blocks.{words_at, IsAscending, AreBelow, AreRowBlocks, AreOfOneLength, StandsAt, placed, block_if_any, behind_place, missing}
 use Rattle.bit_rows.proofs.Places.{blank, below_to}
 use Rattle.bit_rows.proofs.RowWords.{eight_at, zero_past, row_blocks-placed}
 use Rattle.bit_rows.proofs.Walks.{place_next, block_at}
@@ -32,12 +32,12 @@ turn i at_old at capacity capacity_new cur others start new ws is of lt stands j
     ∙ (block_at n others i blank are_o.each lt).eight) in
     let front : length (take at cur) ≡ at = length-take-le at cur stands.bound in
     let kept : take at new ≡ take at cur = ap (take at) made
-    ∙ take_at (take at cur) (block_of b ++ behind y.place (drop at cur)) at front in
+    ∙ take_at (take at cur) (block_if_any b ++ behind_place y.place (drop at cur)) at front in
     record {
       bound = omega (
         arith,
         ap length made,
-        length-append (take at cur) (block_of b ++ behind y.place (drop at cur)),
+        length-append (take at cur) (block_if_any b ++ behind_place y.place (drop at cur)),
         front,
       );
       below = λ later.

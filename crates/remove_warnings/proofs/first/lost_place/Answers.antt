@@ -1,5 +1,5 @@
 use Rattle.std.proofs.Common.{length, Some, None, if◌then◌else◌, sym, ap, ◌∙◌, arith}
-use Rattle.sat_rows.specs.Rows.{entry_at}
+use Rattle.sat_rows.specs.Rows.{nth_entry}
 use Rattle.may_rows.specs.Words.{may_of}
 use Rattle.refusal_reasons.specs.Reasons.{field_of}
 use Rattle.refusal_reasons.proofs.FirstLaws.{first_below-at}
@@ -14,6 +14,6 @@ returns-then-loses_entry c =
     let es = field_of u c.args.variant c.args.field in
     let n = c.loop-number.number in
     sym (first_below-at (length es) n
-    (λ i. if loses u ms m (entry_at es i) then Some i else None) n
+    (λ i. if loses u ms m (nth_entry es i) then Some i else None) n
     (omega arith) c.loop-number.invariant
     (ap (λ t. if t then Some n else None) (sym c.loses_entry.ensures ∙ c.if-loses_entry.true)))

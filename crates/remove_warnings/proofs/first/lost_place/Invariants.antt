@@ -1,5 +1,5 @@
 use Rattle.std.proofs.Common.{◌≡◌, Some, None, if◌then◌else◌}
-use Rattle.sat_rows.specs.Rows.{entry_at}
+use Rattle.sat_rows.specs.Rows.{nth_entry}
 use Rattle.may_rows.specs.Words.{may_of}
 use Rattle.refusal_reasons.specs.First.{first_below}
 use Rattle.refusal_reasons.specs.Reasons.{field_of}
@@ -10,6 +10,6 @@ abbrev pub invariant-loop-number : goal.invariant-loop-number
 invariant-loop-number l =
     first_below l.number
     (λ i. if loses l.of.universe.now l.of.members.now (may_of l.of.state.now)
-    (entry_at (field_of l.of.universe.now l.variant l.field) i)
+    (nth_entry (field_of l.of.universe.now l.variant l.field) i)
     then Some i else None)
     ≡ None
