@@ -9,7 +9,7 @@ use Rattle.deb_text.specs.Steps.{answer, judged, steps}
 use Rattle.deb_text.proofs.StepLaws.{steps-judged}
 use Rattle.deb_stanza.specs.Cut.{onto_last}
 use Rattle.deb_stanza.specs.Draft.{State, open_texts, open_names, longer, larger, with_line, step, raw_part, state_of}
-use Rattle.deb_stanza.specs.Stanza.{name_of, separates, continues, texts_of, parts, open_part, last_of, line_refusal, told_at, fault_of, paragraph_of, paragraphs_of}
+use Rattle.deb_stanza.specs.Stanza.{name_of, separates, continues, texts_of, parts, open_part, last_part_of, line_refusal, told_at, fault_of, paragraph_of, paragraphs_of}
 use Rattle.deb_stanza.specs.View.{Raw, finished}
 use Rattle.deb_stanza.proofs.CutLaws.{onto_last-push}
 use Rattle.deb_stanza.proofs.NameLaws.{last_texts-push}
@@ -23,7 +23,7 @@ the_state raws is_open = record { raws = raws; is_open = is_open }
 
 -- the state that these parts make
 abbrev made_of : List (List Line) → State
-made_of ps = the_state (map raw_part (filter some ps)) (some (last_of ps))
+made_of ps = the_state (map raw_part (filter some ps)) (some (last_part_of ps))
 
 raws-append : (init : List (List Line)) (q : List Line)
     → map raw_part (filter some (init ++ q ∷ []))
@@ -90,7 +90,7 @@ some≢none e = absurd cc
 
 within : (init : List (List Line)) (q : List Line) (m : Line) (given : List (List ℕ))
     → separates m ≡ false
-    → line_refusal (some (last_of (init ++ q ∷ []))) given m ≡ None
+    → line_refusal (some (last_part_of (init ++ q ∷ []))) given m ≡ None
     → with_line (made_of (init ++ q ∷ [])) m ≡ made_of (init ++ (q ++ m ∷ []) ∷ [])
 within init [] m given solid fine =
     elim (cases_Bool (continues m)) [
@@ -107,7 +107,7 @@ within init (l ∷ q) m given solid fine =
 
 -- the texts of the open part
 open_texts-made : (init : List (List Line)) (q : List Line)
-    → open_texts (made_of (init ++ q ∷ [])) ≡ texts_of (last_of (init ++ q ∷ []))
+    → open_texts (made_of (init ++ q ∷ [])) ≡ texts_of (last_part_of (init ++ q ∷ []))
 open_texts-made init [] =
     ap open_texts (made-closed init) ∙ ap texts_of (sym (last_of-push init []))
 open_texts-made init (l ∷ q) =
@@ -126,7 +126,7 @@ grows before l given fine =
       | inr solid ↦
           ap (λ (ps : List (List Line)). with_line (made_of ps) l) last.2
           ∙ within last.0 last.1 l given solid
-          (subst (λ (ps : List (List Line)). line_refusal (some (last_of ps)) given l ≡ None)
+          (subst (λ (ps : List (List Line)). line_refusal (some (last_part_of ps)) given l ≡ None)
           last.2 fine)
           ∙ sym (ap made_of
           (split-in separates before l solid ∙ ap (onto_last (λ q. q ++ l ∷ [])) last.2
@@ -138,7 +138,8 @@ names-open : (before : List Line)
 names-open before =
     let last = split-last separates before in
     ap (map name_of)
-    (subst (λ (ps : List (List Line)). open_texts (made_of ps) ≡ texts_of (last_of ps)) (sym last.2)
+    (subst (λ (ps : List (List Line)). open_texts (made_of ps) ≡ texts_of (last_part_of ps))
+    (sym last.2)
     (open_texts-made last.0 last.1))
 
 answer-same : (line : ℕ) (code : Option ℕ) (s t : State) → (code ≡ None → s ≡ t)

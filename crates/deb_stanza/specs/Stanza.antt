@@ -87,13 +87,13 @@ field_of text = record { name = name_of text; value = trimmed (after is_colon te
 abbrev pub parts : List Line → List (List Line)
 parts ls = slice_split separates ls
 
-abbrev pub last_of : {X : Type 0} → List (List X) → List X
-last_of [] = []
-last_of (q ∷ []) = q
-last_of (q ∷ r ∷ qs) = last_of (r ∷ qs)
+abbrev pub last_part_of : {X : Type 0} → List (List X) → List X
+last_part_of [] = []
+last_part_of (q ∷ []) = q
+last_part_of (q ∷ r ∷ qs) = last_part_of (r ∷ qs)
 
 abbrev pub open_part : List Line → List Line
-open_part ls = last_of (parts ls)
+open_part ls = last_part_of (parts ls)
 
 abbrev pub first_number : List Line → ℕ
 first_number [] = 0

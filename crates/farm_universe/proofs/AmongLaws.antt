@@ -11,7 +11,7 @@ use Rattle.deb_relation.specs.Satisfaction.{is_its_own, is_provided, provides_it
 use Rattle.item_index.specs.declared.item.Item.{Item}
 use Rattle.item_index.specs.Items.{item, item_of, listed, IsIn}
 use Rattle.item_index.proofs.ItemLaws.{any-at, any-found, any_atom-at, any_atom-found}
-use Rattle.farm_universe.specs.Among.{holds, provides_at, is_other, at_owner, AreFound}
+use Rattle.farm_universe.specs.Among.{there_and_passes, provides_at, is_other, at_owner, AreFound}
 use Rattle.farm_universe.specs.BaseText.{Member, member_facts}
 
 -- ---- tests of lists
@@ -83,7 +83,7 @@ any-owner : (ms : List Member) (items : List (Item ℕ)) (test : Item ℕ → Me
     → list_any (λ at. at_owner (test at) ms at) items ≡ list_any passes ms
 any-owner ms items test passes sound complete = both_ways _ _ on back where
   at_member : (at : Item ℕ) (o : Option Member) → slice_get ms at.owner ≡ o
-      → holds (test at) o ≡ true → list_any passes ms ≡ true
+      → there_and_passes (test at) o ≡ true → list_any passes ms ≡ true
   at_member at None e is = absurd cc
   at_member at (Some m) e is = any-at passes ms at.owner m e (sound at m is)
 
@@ -97,7 +97,7 @@ any-owner ms items test passes sound complete = both_ways _ _ on back where
       let found = any-found passes ms some in
       let told = complete found.0 found.1 found.2 found.3 in
       any-at (λ at. at_owner (test at) ms at) items told.1.0 told.0 told.1.1
-      (ap (holds (test told.0)) (ap (slice_get ms) told.2 ∙ found.2) ∙ told.3)
+      (ap (there_and_passes (test told.0)) (ap (slice_get ms) told.2 ∙ found.2) ∙ told.3)
 
 module _ (ms : List Member) (named provided : List (List (Item ℕ)))
     (are : AreFound ms named provided)
@@ -135,7 +135,7 @@ module _ (ms : List Member) (named provided : List (List (Item ℕ)))
       (λ m. is_other besides m && is_provided m.binary.provides a) sound complete
     where
       told : (at : Item ℕ) (m : Member) (o : Option Atom) → item_of at m.binary.provides ≡ o
-          → holds (provides_it a) o ≡ true → is_provided m.binary.provides a ≡ true
+          → there_and_passes (provides_it a) o ≡ true → is_provided m.binary.provides a ≡ true
       told at m None e is = absurd cc
       told at m (Some p) e is =
           any_atom-at (provides_it a) m.binary.provides at.entry at.alternative p e is
@@ -162,5 +162,5 @@ module _ (ms : List Member) (named provided : List (List (Item ℕ)))
             subst (λ text. IsIn (listed provided text) at) same
                 (are.by_item k m there found.0 found.1 found.4 found.2 p found.5),
             refl,
-            and_from _ _ parts.0 (ap (holds (provides_it a)) found.6 ∙ found.7),
+            and_from _ _ parts.0 (ap (there_and_passes (provides_it a)) found.6 ∙ found.7),
           )

@@ -24,7 +24,7 @@ use Rattle.farm_universe.specs.declared.error.TheConstants.{TAKEN}
 use Rattle.farm_universe.specs.FarmSteps.{word_set, taken_with}
 use Rattle.item_index.specs.Items.{item, listed, IsKept, IsListed as IsListedUnder}
 use Rattle.item_index.specs.declared.item.Item.{Item}
-use Rattle.farm_universe.specs.Among.{holds}
+use Rattle.farm_universe.specs.Among.{there_and_passes}
 use Rattle.farm_universe.specs.FarmView.{AreNamed, IsPlace, AreNew, IsNew, IsRecipe, outputs_of, GivesOnce, AreTaken, AreRecipes}
 use Rattle.farm_universe.specs.Land.{Land}
 use Rattle.farm_universe.specs.ListText.{with_bit}
@@ -55,7 +55,8 @@ AreNamed-push lists more rs new r are kept there is k q at =
 
 -- the recipe of the number that an item has goes by the name
 abbrev pub has_name : List Recipe → List ℕ → Item ℕ → Bool
-has_name rs name at = holds (λ (r : Recipe). bytes_eq name r.name) (slice_get rs at.owner)
+has_name rs name at = there_and_passes (λ (r : Recipe). bytes_eq name r.name)
+    (slice_get rs at.owner)
 
 pub named_is : (lists : List (List (Item ℕ))) (rs : List Recipe) (name : List ℕ)
     → AreNamed lists rs
@@ -71,10 +72,11 @@ named_is lists rs name are = same_tests _ _ to from where
       by : (at : Item ℕ) (o : Option Recipe) → slice_get rs at.owner ≡ o
           → has_name rs name at ≡ true → list_any (λ (r : Recipe). bytes_eq name r.name) rs ≡ true
       by at None e is =
-          absurd (true≢false (sym is ∙ ap (holds (λ (r : Recipe). bytes_eq name r.name)) e))
+          absurd (true≢false (sym is ∙ ap (there_and_passes (λ (r : Recipe). bytes_eq name r.name))
+          e))
       by at (Some r) e is =
           any-at (λ (q : Recipe). bytes_eq name q.name) rs at.owner r e
-          (sym (ap (holds (λ (q : Recipe). bytes_eq name q.name)) e) ∙ is)
+          (sym (ap (there_and_passes (λ (q : Recipe). bytes_eq name q.name)) e) ∙ is)
 
   from : list_any (λ (r : Recipe). bytes_eq name r.name) rs ≡ true
       → list_any (has_name rs name) (listed lists name) ≡ true

@@ -25,7 +25,7 @@ use Rattle.plan_cert.proofs.OrderLaws.{order-in-plan}
 use Rattle.plan_cert.proofs.StatedLaws.{next-learns, stated-quiet}
 use Rattle.plan_cert.specs.Certified.{Certifies}
 use Rattle.plan_cert.specs.Made.{IsCertificateOf, AreNewLanes}
-use Rattle.plan_cert.specs.Stated.{rows_before, held_at, lists, stated_rows}
+use Rattle.plan_cert.specs.Stated.{rows_before, held_at, last_row_lists, stated_rows}
 
 -- the initial archive, and what is known besides
 joined : (k s : Bool) → (s ≡ true → k ≡ true) → k ≡ (s || (k && not s))
@@ -97,7 +97,7 @@ module _ (u : Universe) (p : Plan) (known : Rows) (order : List ℕ) (lanes : Li
             joined (known l (suc i) v) (initial u v)
             ((greatest_is_carried u p known greatest).initial_known l (suc i) v lt le)
             ∙ ap (λ b. initial u v || b) (sym (made-exact.rows l i x lt at learnt v))
-            ∙ ap (λ k. initial u v || lists (lane_rows made l) k v) count
+            ∙ ap (λ k. initial u v || last_row_lists (lane_rows made l) k v) count
         | inr quiet ↦
             quiet-same l i v x lt at quiet
             ∙ same v lt (let b = row_before-le p l i x in omega (arith, b, le))

@@ -3,7 +3,7 @@
 --
 --   rows_before        how many rows are listed for a lane before a place
 --   Held, held_at      the rows that hold at a place, and ahead of the `when` that is open there
---   lists              a variant is in the last of so many rows
+--   last_row_lists     a variant is in the last of so many rows
 --   stated_rows        what each lane knows at each place, as the certificate has it
 use Rattle.std.specs.Prelude.{ℕ, zero, suc, Bool, false, ◌||◌, List, [], take, count_by, Option, Some, None, slice_index_or}
 use Rattle.bit_rows.specs.Sets.{variants_of}
@@ -58,11 +58,11 @@ abbrev pub in_row : List ℕ → Variant → Bool
 in_row row v = variants_of row v.name v.bit
 
 -- the last of the first so many rows has the variant
-abbrev pub lists : List (List ℕ) → ℕ → Variant → Bool
-lists rows zero v = false
-lists rows (suc k) v = in_row (slice_index_or rows k []) v
+abbrev pub last_row_lists : List (List ℕ) → ℕ → Variant → Bool
+last_row_lists rows zero v = false
+last_row_lists rows (suc k) v = in_row (slice_index_or rows k []) v
 
 -- at each place the initial archive and the row that holds there: that behind the last wait,
 -- publish or `when`; behind an `else` and an `end` the one ahead of their `when`
 abbrev pub stated_rows : Universe → Plan → Certificate → Rows
-stated_rows u p c l i v = initial u v || lists (lane_rows c l) (held_at p l i).here v
+stated_rows u p c l i v = initial u v || last_row_lists (lane_rows c l) (held_at p l i).here v

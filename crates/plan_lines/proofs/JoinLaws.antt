@@ -4,7 +4,7 @@ use Rattle.std.proofs.lemmas.List.{append-nil}
 use Rattle.plan_lines.specs.declared.joins.Pair.{Pair}
 use Rattle.plan_lines.specs.declared.joins.Part.{Part}
 use Rattle.plan_lines.specs.declared.joins.Part.TheVariants.{Line, Join}
-use Rattle.plan_lines.specs.Joins.{body, joined, bodies_from, bodies, IsPart, ArePairs}
+use Rattle.plan_lines.specs.Joins.{body, joined_lines, bodies_from, bodies, IsPart, ArePairs}
 
 pub part-more : (m n : ℕ) (p : Part) → m ≤ n → IsPart m p → IsPart n p
 part-more m n (Line number) more is = tt
@@ -55,7 +55,7 @@ body-early xs ys (Line number) is = refl
 body-early xs ys (Join place) is = get-early xs ys place is
 
 joined-early : (xs ys : List (List ℕ)) (q : Pair) → IsPart (length xs) q.first
-    → IsPart (length xs) q.second → joined (xs ++ ys) q ≡ joined xs q
+    → IsPart (length xs) q.second → joined_lines (xs ++ ys) q ≡ joined_lines xs q
 joined-early xs ys q first second =
     rw (body-early xs ys q.first first, body-early xs ys q.second second) refl
 
@@ -64,7 +64,7 @@ front-stays : (qs : List Pair) (done : List (List ℕ))
     → (ys : List (List ℕ)) × (bodies_from done qs ≡ done ++ ys) × (length ys ≡ length qs)
 front-stays [] done = ([], sym (append-nil done), refl)
 front-stays (q ∷ qs) done =
-    let x = joined done q in
+    let x = joined_lines done q in
     let later = front-stays qs (done ++ x ∷ []) in
     (x ∷ later.0, later.1 ∙ append_assoc done (x ∷ []) later.0, ap suc later.2)
 
@@ -76,23 +76,23 @@ bodies-long qs =
 
 from-push : (qs : List Pair) (q : Pair) (done : List (List ℕ))
     → bodies_from done (qs ++ q ∷ [])
-    ≡ bodies_from done qs ++ joined (bodies_from done qs) q ∷ []
+    ≡ bodies_from done qs ++ joined_lines (bodies_from done qs) q ∷ []
 from-push [] q done = refl
-from-push (r ∷ qs) q done = from-push qs q (done ++ joined done r ∷ [])
+from-push (r ∷ qs) q done = from-push qs q (done ++ joined_lines done r ∷ [])
 
 -- one more join
 pub bodies-push : (qs : List Pair) (q : Pair)
-    → bodies (qs ++ q ∷ []) ≡ bodies qs ++ joined (bodies qs) q ∷ []
+    → bodies (qs ++ q ∷ []) ≡ bodies qs ++ joined_lines (bodies qs) q ∷ []
 unfolding bodies
 bodies-push qs q = from-push qs q []
 
 join-from : (d : Pair) (qs : List Pair) (done : List (List ℕ)) (j : ℕ) → j < length qs
     → ArePairs (length done) qs
     → get_or (bodies_from done qs) (length done + j) []
-    ≡ joined (bodies_from done qs) (get_or qs j d)
+    ≡ joined_lines (bodies_from done qs) (get_or qs j d)
 join-from d [] done j lt are = absurd (omega (arith, lt))
 join-from d (q ∷ qs) done zero lt are =
-    let x = joined done q in
+    let x = joined_lines done q in
     let front = front-stays qs (done ++ x ∷ []) in
     let long = length-append done (x ∷ []) in
     let whole = front-stays (q ∷ qs) done in
@@ -101,9 +101,9 @@ join-from d (q ∷ qs) done zero lt are =
     ∙ get-early (done ++ x ∷ []) front.0 (length done) (omega (arith, long))
     ∙ last-is done x
     ∙ sym (joined-early done whole.0 q are.0 are.1)
-    ∙ ap (λ zs. joined zs q) (sym whole.1)
+    ∙ ap (λ zs. joined_lines zs q) (sym whole.1)
 join-from d (q ∷ qs) done (suc j) lt are =
-    let x = joined done q in
+    let x = joined_lines done q in
     let long : length (done ++ x ∷ []) ≡ length done + 1 = length-append done (x ∷ []) in
     let place : length (done ++ x ∷ []) + j ≡ length done + suc j = omega (arith, long) in
     ap (λ k. get_or (bodies_from (done ++ x ∷ []) qs) k []) (sym place)
@@ -111,7 +111,7 @@ join-from d (q ∷ qs) done (suc j) lt are =
 
 -- a join stands for its parts
 pub join-at : (d : Pair) (qs : List Pair) (b : ℕ) → b < length qs → ArePairs 0 qs
-    → get_or (bodies qs) b [] ≡ joined (bodies qs) (get_or qs b d)
+    → get_or (bodies qs) b [] ≡ joined_lines (bodies qs) (get_or qs b d)
 unfolding bodies
 join-at d qs b lt are =
     let e : 0 + b ≡ b = omega arith in rw e at (join-from d qs [] b lt are)
@@ -138,7 +138,7 @@ have-from : (qs : List Pair) (done : List (List ℕ)) → HasLines done → AreP
     → HasLines (bodies_from done qs)
 have-from [] done have are = have
 have-from (q ∷ qs) done have are =
-    let x = joined done q in
+    let x = joined_lines done q in
     let long : length (done ++ x ∷ []) ≡ length done + 1 = length-append done (x ∷ []) in
     let first = body-some done q.first have are.0 in
     let both = length-append (body done q.first) (body done q.second) in

@@ -155,10 +155,10 @@ module _ (u : Universe) where
       (λ _. tt)
 
 pub lines-say : LinesSay
-unfolding text.plan_of lines.lines_of
+unfolding text.plan_of lines.plan_lines_of
 lines-say u bytes p is = go (nat_lt MOST_BYTES (length bytes)) refl where
   go : (b : Bool) → nat_lt MOST_BYTES (length bytes) ≡ b
-      → (read : lines.TextLines) × (lines.lines_of bytes ≡ Ok read)
+      → (read : lines.TextLines) × (lines.plan_lines_of bytes ≡ Ok read)
       × AllZip (IsLane u (plain_lines 1 bytes)) read.lanes p
   go true long = let no = rw long at is in absurd cc
   go false short =

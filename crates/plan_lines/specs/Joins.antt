@@ -14,13 +14,13 @@ body bs (Line number) = number ∷ []
 body bs (Join place) = get_or bs place []
 
 -- the lines of a join
-abbrev pub joined : List (List ℕ) → Pair → List ℕ
-joined bs q = body bs q.first ++ body bs q.second
+abbrev pub joined_lines : List (List ℕ) → Pair → List ℕ
+joined_lines bs q = body bs q.first ++ body bs q.second
 
 -- the joins one after the other, each over those before it
 abbrev pub bodies_from : List (List ℕ) → List Pair → List (List ℕ)
 bodies_from done [] = done
-bodies_from done (q ∷ qs) = bodies_from (done ++ joined done q ∷ []) qs
+bodies_from done (q ∷ qs) = bodies_from (done ++ joined_lines done q ∷ []) qs
 
 -- what each join stands for
 unfoldable pub bodies : List Pair → List (List ℕ)

@@ -16,7 +16,7 @@ use Rattle.plan_model.specs.declared.instructions.Instruction.TheVariants.{EndWh
 use Rattle.plan_model.specs.Plan.{Lane, Plan}
 use Rattle.plan_lines.specs.declared.origin.Origin.{Origin}
 use Rattle.plan_lines.specs.Origins.{LaneLines}
-use Rattle.plan_lines.specs.Readings.{TextLines, lines_of}
+use Rattle.plan_lines.specs.Readings.{TextLines, plan_lines_of}
 
 -- a line of this form says an instruction: its own, or that of the `end` of a branch
 abbrev pub IsSaid : Universe → Result Form ℕ → Instruction → Type 0
@@ -39,5 +39,5 @@ IsLane u ls lane l = AllZip (λ (o : Origin) x. Says u ls o.line x) lane.origins
 abbrev pub LinesSay : Type 0
 LinesSay =
     (u : Universe) (text : List ℕ) (p : Plan) → plan_of u text ≡ Ok p
-    → (lines : TextLines) × (lines_of text ≡ Ok lines)
+    → (lines : TextLines) × (plan_lines_of text ≡ Ok lines)
     × AllZip (IsLane u (plain_lines 1 text)) lines.lanes p

@@ -6,7 +6,7 @@
 --   take_line r line     what they say with one more
 --   TextLines            the lines of a text
 --   origin_at ls l i      where an instruction comes from
---   lines_of text        those of a plan's text, or the fault of a text that is too long
+--   plan_lines_of text   those of a plan's text, or the fault of a text that is too long
 use Rattle.std.specs.Prelude.{ℕ, Bool, true, false, List, [], ◌∷◌, ◌++◌, map, slice_get, fold, Option, None, Some, Result, Ok, Err, if◌then◌else◌}
 use Rattle.std.specs.Option.{option_and_then}
 use Rattle.deb_stanza.specs.Plain.{plain_lines_at}
@@ -131,5 +131,5 @@ lines_in [] = record { first = None; lanes = [] }
 lines_in ((number, line) ∷ ls) = record { first = Some number; lanes = (reading_of ls).lanes }
 
 -- what the lines of a text say that are neither blank nor comments
-unfoldable pub lines_of : List ℕ → Result TextLines Fault
-lines_of text = in_file FILE (plain_lines_at text) >>= λ ls. Ok (lines_in ls)
+unfoldable pub plan_lines_of : List ℕ → Result TextLines Fault
+plan_lines_of text = in_file FILE (plain_lines_at text) >>= λ ls. Ok (lines_in ls)

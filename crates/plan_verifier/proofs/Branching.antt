@@ -10,7 +10,7 @@ use Rattle.may_rows.specs.Words.{Words, may_of}
 use Rattle.plan_model.specs.declared.instructions.Instruction.{Instruction}
 use Rattle.plan_model.specs.declared.instructions.Instruction.TheVariants.{When, Otherwise, EndWhen}
 use Rattle.plan_model.specs.Branches.{Side, Outside, InFirst, InSecond, side_behind_some, side_at, home, may_stand, IsBranched}
-use Rattle.plan_model.specs.Join.{phases_differ, joined}
+use Rattle.plan_model.specs.Join.{phases_differ, joined_may}
 use Rattle.plan_model.specs.Known.{Rows, possible}
 use Rattle.plan_model.specs.May.{May}
 use Rattle.plan_model.specs.MayAt.{may_after, Maps, maps_behind, maps_at}
@@ -116,8 +116,8 @@ module _ (u : Universe) (p : Plan) (rows : Rows) (l i : ℕ)
                 ∙ ap (hazard_of None) (ap (phases_differ u maps.first) at.here
                 ∙ ap (λ m. phases_differ u m (may_of w.here)) e.1 ∙ j.0),
             record {
-              here = ap (λ (m : Maps). m.here) after ∙ ap (joined u maps.first) at.here
-                  ∙ ap (λ m. joined u m (may_of w.here)) e.1 ∙ sym j.1;
+              here = ap (λ (m : Maps). m.here) after ∙ ap (joined_may u maps.first) at.here
+                  ∙ ap (λ m. joined_may u m (may_of w.here)) e.1 ∙ sym j.1;
               of_lane = j.2;
               doubts = subst (AreDoubts u (may_of next.here)) (sym j.3)
                   (nothing_known u (may_of next.here));

@@ -12,7 +12,7 @@ use Rattle.may_rows.specs.Met.{Doubt, AreDoubts}
 use Rattle.may_rows.specs.Walk.{IsOfLane}
 use Rattle.may_rows.specs.Words.{Words, may_of}
 use Rattle.plan_model.specs.Branches.{Side, Outside, InFirst, InSecond, side_at}
-use Rattle.plan_model.specs.Join.{phases_differ, joined}
+use Rattle.plan_model.specs.Join.{phases_differ, joined_may}
 use Rattle.plan_model.specs.Known.{Rows}
 use Rattle.plan_model.specs.MayAt.{Maps, maps_at}
 use Rattle.plan_model.specs.Plan.{Lane, Plan, lane}
@@ -40,7 +40,7 @@ JoinedBy u of w next (Branch.Second at first) (Some told) =
     (told ≡ at) × (phases_differ u (may_of first) (may_of w.here) ≡ true)
 JoinedBy u of w next (Branch.Second at first) None =
     (phases_differ u (may_of first) (may_of w.here) ≡ false)
-    × (may_of next.here ≡ joined u (may_of first) (may_of w.here)) × IsOfLane u of next.here
+    × (may_of next.here ≡ joined_may u (may_of first) (may_of w.here)) × IsOfLane u of next.here
     × (next.doubts ≡ forgotten) × (next.branch ≡ Branch.Outside)
 JoinedBy u of w next _ told = Unit {0}
 

@@ -9,7 +9,7 @@ ghost use Rattle.farm_model.specs.Packages as packages;
 ghost use Rattle.farm_model.specs.Universe.{Universe};
 ghost use Rattle.sat_rows.specs.Rows.{passes};
 ghost use Rattle.may_rows.specs.Words.{AreWords};
-ghost use Rattle.refusal_reasons.specs.Hits.{hits, IsFirstHit};
+ghost use Rattle.refusal_reasons.specs.Hits.{name_has_hit, IsFirstHit};
 
 use farm_universe::Universe;
 use may_rows::MayHold;
@@ -33,7 +33,7 @@ fn some_ahead<T: WordsTest>(universe: &Universe, words: &[u64], end: usize, test
     requires fits { T.fits universe.now test.now }
     requires within { end ≤ length words.now }
     ensures { result
-        ≡ some_below end (hits universe.now words.now (T.test universe.now test.now)) }
+        ≡ some_below end (name_has_hit universe.now words.now (T.test universe.now test.now)) }
 {
     test.some_in(universe, &words[..end])
 }
@@ -45,7 +45,7 @@ pub fn first_hit<T: WordsTest>(universe: &Universe, words: &[u64], test: &T) -> 
     ensures some { IfSome result
         (IsFirstHit universe.now words.now (T.test universe.now test.now)) }
     ensures none { IfNone result (some_below (packages.names universe.now)
-        (hits universe.now words.now (T.test universe.now test.now)) ≡ false) }
+        (name_has_hit universe.now words.now (T.test universe.now test.now)) ≡ false) }
 {
     let _names = universe.names();
     let mut end = words.len();

@@ -21,7 +21,7 @@ use Rattle.sat_rows.proofs.RowLaws.{row_from_names}
 use Rattle.sat_rows.specs.declared.found.NumberWord.{NumberWord}
 use Rattle.sat_rows.specs.Index.{IsNaming}
 use Rattle.sat_rows.specs.Rows.{passes, IsRowOf}
-use Rattle.sat_rows.specs.Found.{among, Puts, IsFound, Finds, GrowsBy, holds, some_atom, passes_there, HasItems}
+use Rattle.sat_rows.specs.Found.{among, Puts, IsFound, Finds, GrowsBy, alternative_passes, some_atom, passes_there, HasItems}
 
 -- tests
 and_false : (x : Bool) → (x && false) ≡ false
@@ -116,7 +116,8 @@ module _ (u : Universe) (field : Package → Relations) (test : Atom → Bool) w
   -- the bit of the owner of an item
   module _ (at : Item Variant) (word : ℕ)
       (is : (b : ℕ) → word_has word b ≡ (passes_there u field test at && (b == at.owner.bit))) where
-    told : (o : Option Atom) → item_of at (field (package_of u at.owner)) ≡ o → holds test o ≡ true
+    told : (o : Option Atom) → item_of at (field (package_of u at.owner)) ≡ o
+    → alternative_passes test o ≡ true
         → some at.owner ≡ true
     told None e is = absurd cc
     told (Some a) e is =
@@ -154,7 +155,7 @@ module _ (u : Universe) (field : Package → Relations) (test : Atom → Bool) w
           found.3
           found.5 in
           has at (subst (λ text. IsIn (listed lists text) at) (same found.3 found.7) there)
-          (and_from _ _ both.0 (ap (holds test) found.6 ∙ found.7))
+          (and_from _ _ both.0 (ap (alternative_passes test) found.6 ∙ found.7))
 
 -- an alternative is satisfied by a variant's own name, or by an item that it provides
 module _ (u : Universe) (v : Variant) where

@@ -7,7 +7,7 @@
 --   IsFound           those found are the variants of a universe that pass a test
 --   Finds             the variants that pass are put to those found
 --   GrowsBy           some that pass are put to them
---   holds             a test of what may be there
+--   alternative_passes  a test of what may be there
 --   some_atom         some alternative of a field of a variant passes
 --   passes_there      the universe has the owner of an item, and the alternative there passes
 --   HasItems          the owners of items whose alternative passes were found
@@ -55,9 +55,9 @@ pub record GrowsBy (u : Universe) (p : Variant → Bool) (old new : List NumberW
   pub passing : (n b : ℕ) → among new n b ≡ true → (among old n b || passes u p n b) ≡ true
 
 -- what is there passes; what is not there does not
-abbrev pub holds : (Atom → Bool) → Option Atom → Bool
-holds test None = false
-holds test (Some a) = test a
+abbrev pub alternative_passes : (Atom → Bool) → Option Atom → Bool
+alternative_passes test None = false
+alternative_passes test (Some a) = test a
 
 -- some alternative of the field of the variant passes
 abbrev pub some_atom : Universe → (Package → Relations) → (Atom → Bool) → Variant → Bool
@@ -67,7 +67,7 @@ some_atom u field test v = any_atom test (field (package_of u v))
 abbrev pub passes_there : Universe → (Package → Relations) → (Atom → Bool) → Item Variant → Bool
 passes_there u field test at =
     nat_lt at.owner.bit (variants u at.owner.name)
-    && holds test (item_of at (field (package_of u at.owner)))
+    && alternative_passes test (item_of at (field (package_of u at.owner)))
 
 -- the owners of the items whose alternative passes were found
 abbrev pub HasItems : Universe → (Package → Relations) → (Atom → Bool) → List (Item Variant)

@@ -99,9 +99,9 @@ impl Split<View> for NextLane {
 pub struct BackAgain;
 
 impl Join<View> for BackAgain {
-    ghost use Rattle.word_archive.specs.Views.{joined, spent};
+    ghost use Rattle.word_archive.specs.Views.{joined_view, spent};
 
-    ghost both = { joined };
+    ghost both = { joined_view };
 
     ghost spent = { spent };
 }
