@@ -6,7 +6,7 @@ use Rattle.std.proofs.lemmas.List.{get_or_past, get_or-take, get_or-drop, length
 use Rattle.clause_kernel.specs.Kernels.{some_pair}
 use Rattle.clause_kernel.proofs.Pairs.{some_pair-at, some_pair-from}
 use Rattle.bit_rows.specs.declared.block.Block.{Block}
-use Rattle.bit_rows.specs.Blocks.{words_at, words_of, IsAscending, IsBlock, AreBlocks, AreRowBlocks, piece}
+use Rattle.bit_rows.specs.Blocks.{block_words_at, words_of, IsAscending, IsBlock, AreBlocks, AreRowBlocks, piece}
 use Rattle.bit_rows.proofs.RowWords.{zero_words, eight_at, word_at_place, length-words_of, words_of_at}
 
 pub same_tests : (p q : Bool) → (p ≡ true → q ≡ true) → (q ≡ true → p ≡ true) → p ≡ q
@@ -36,7 +36,7 @@ record Passes (f : Block → Bool) (n from : ℕ) (bs : List Block) : Type 0 whe
   test : f block ≡ true
   is : IsBlock n block
   le : from ≤ block.place
-  stands : words_at bs block.place ≡ block.words
+  stands : block_words_at bs block.place ≡ block.words
 
 passing : (f : Block → Bool) (n from : ℕ) (bs : List Block) → IsAscending from bs → AreBlocks n bs
     → list_any f bs ≡ true → Passes f n from bs
@@ -52,7 +52,7 @@ passing f n from (x ∷ xs) up each e =
       test = here;
       is = each.0;
       le = up.0;
-      stands = cond-true (x.place == x.place) x.words (words_at xs x.place)
+      stands = cond-true (x.place == x.place) x.words (block_words_at xs x.place)
           (eq-eqb x.place x.place refl);
     }
     by (inr later) rest =
@@ -62,28 +62,29 @@ passing f n from (x ∷ xs) up each e =
           test = r.test;
           is = r.is;
           le = (let low = up.0 in let high = r.le in omega arith);
-          stands = cond-false (x.place == r.block.place) x.words (words_at xs r.block.place)
+          stands = cond-false (x.place == r.block.place) x.words (block_words_at xs r.block.place)
               (ne_eqb x.place r.block.place (λ h. let high = r.le in omega arith)) ∙ r.stands;
         }
 
 -- a place with a word that is not 0 has a block
-passes_at : (f : Block → Bool) (bs : List Block) (place k : ℕ) → get_or (words_at bs place) k 0 ≢ 0
-    → ((b : Block) → b.place ≡ place → b.words ≡ words_at bs place → f b ≡ true)
+passes_at : (f : Block → Bool) (bs : List Block) (place k : ℕ)
+    → get_or (block_words_at bs place) k 0 ≢ 0
+    → ((b : Block) → b.place ≡ place → b.words ≡ block_words_at bs place → f b ≡ true)
     → list_any f bs ≡ true
 passes_at f [] place k some each = absurd (some (zero_words k))
 passes_at f (x ∷ xs) place k some each =
     by (cases_Bool (x.place == place)) (passes_at f xs place k)
   where
     by : (x.place == place ≡ true) ⊎ (x.place == place ≡ false)
-        → (get_or (words_at xs place) k 0 ≢ 0
-        → ((b : Block) → b.place ≡ place → b.words ≡ words_at xs place → f b ≡ true)
+        → (get_or (block_words_at xs place) k 0 ≢ 0
+        → ((b : Block) → b.place ≡ place → b.words ≡ block_words_at xs place → f b ≡ true)
         → list_any f xs ≡ true)
         → list_any f (x ∷ xs) ≡ true
     by (inl here) rest =
         or_left _ _ (each x (eqb-true x.place place here)
-        (sym (cond-true (x.place == place) x.words (words_at xs place) here)))
+        (sym (cond-true (x.place == place) x.words (block_words_at xs place) here)))
     by (inr other) rest =
-        let past = cond-false (x.place == place) x.words (words_at xs place) other in
+        let past = cond-false (x.place == place) x.words (block_words_at xs place) other in
         or_right _ _ (rest (λ z. some (ap (λ l. get_or l k 0) past ∙ z))
         (λ b at words. each b at (words ∙ sym past)))
 
@@ -160,7 +161,7 @@ some_by_blocks t none n row at bs long are is = same_tests _ _ there back
 
 -- the words of a row at each place, by its blocks
 pub words_at-row : (n : ℕ) (bs : List Block) → AreBlocks n bs
-    → AreWordsAt n (words_of n bs) (words_at bs)
+    → AreWordsAt n (words_of n bs) (block_words_at bs)
 words_at-row n bs each = record {
   long = λ place k lt inside. let e = eight_at n bs place each in omega arith;
   word = λ place k lt inside.

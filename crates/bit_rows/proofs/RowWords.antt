@@ -4,10 +4,10 @@ use Rattle.std.proofs.lemmas.Bool.{cases_Bool, cases_eq, cases_lt, eqb-true, ne_
 use Rattle.std.proofs.lemmas.List.{length-set, length-replicate, get_or-replicate, get_or_past, get_or-set_other, ext_get_or}
 use Rattle.std.proofs.lemmas.Grind.{get_or-set_at}
 use Rattle.std.proofs.lemmas.List.FromFn.{length-map-range_with_len, get_or-map-range_with_len}
-use Rattle.clause_kernel.specs.Kernels.{same}
+use Rattle.clause_kernel.specs.Kernels.{same_rows}
 use Rattle.clause_kernel.proofs.Meanings.{same-equal}
 use Rattle.bit_rows.specs.declared.block.Block.{Block}
-use Rattle.bit_rows.specs.Blocks.{no_words, words_or, words_at, word_at, words_of, IsAscending, AreBlocks, AreRowBlocks, StandsAt, block_if_any, behind_place, placed}
+use Rattle.bit_rows.specs.Blocks.{no_words, words_or, block_words_at, word_at, words_of, IsAscending, AreBlocks, AreRowBlocks, StandsAt, block_if_any, behind_place, placed}
 use Rattle.bit_rows.proofs.Places.{ascending_from, ascending-take, ascending-append, words_or_behind, words_or-append, words_at-split}
 use Rattle.bit_rows.proofs.Placed.{words_at-block}
 
@@ -19,26 +19,26 @@ zero_words k =
     ]
 
 pub eight_at : (n : ℕ) (bs : List Block) (place : ℕ) → AreBlocks n bs
-    → length (words_at bs place) ≡ 8
+    → length (block_words_at bs place) ≡ 8
 eight_at n [] place each = refl
 eight_at n (b ∷ bs) place each =
-    cond_both (b.place == place) b.words (words_at bs place) (λ ws. length ws ≡ 8)
+    cond_both (b.place == place) b.words (block_words_at bs place) (λ ws. length ws ≡ 8)
     (λ _. each.0.eight) (λ _. eight_at n bs place each.1)
 
 pub zero_past : (n : ℕ) (bs : List Block) (place k : ℕ) → AreBlocks n bs → n ≤ 8 * place + k
-    → get_or (words_at bs place) k 0 ≡ 0
+    → get_or (block_words_at bs place) k 0 ≡ 0
 zero_past n [] place k each past = zero_words k
 zero_past n (b ∷ bs) place k each past =
-    cond_both (b.place == place) b.words (words_at bs place) (λ ws. get_or ws k 0 ≡ 0)
+    cond_both (b.place == place) b.words (block_words_at bs place) (λ ws. get_or ws k 0 ≡ 0)
     (λ e. each.0.inside k (let here = eqb-true b.place place e in omega arith))
     (λ _. zero_past n bs place k each.1 past)
 
 pub word_at_place : (bs : List Block) (i place k : ℕ) → i ≡ 8 * place + k → k < 8
-    → word_at bs i ≡ get_or (words_at bs place) k 0
+    → word_at bs i ≡ get_or (block_words_at bs place) k 0
 word_at_place bs i place k e lt =
     let q : i / 8 ≡ place = omega arith in
     let r : i % 8 ≡ k = omega arith in
-    ap₂ (λ p j. get_or (words_at bs p) j 0) q r
+    ap₂ (λ p j. get_or (block_words_at bs p) j 0) q r
 
 pub word_past : (n : ℕ) (bs : List Block) (i : ℕ) → AreBlocks n bs → n ≤ i → word_at bs i ≡ 0
 word_past n bs i each past = zero_past n bs (i / 8) (i % 8) each (omega arith)
@@ -103,11 +103,12 @@ blocks-behind n place (b ∷ bs) each =
 pub blocks-block_of : (n : ℕ) (b : Block) → length b.words ≡ 8
     → ((k : ℕ) → n ≤ 8 * b.place + k → get_or b.words k 0 ≡ 0) → AreBlocks n (block_if_any b)
 blocks-block_of n b long inside =
-    cond_both (same b.words no_words) [] (b ∷ []) (AreBlocks n) (λ _. tt)
+    cond_both (same_rows b.words no_words) [] (b ∷ []) (AreBlocks n) (λ _. tt)
     (λ one. (
       record {
         eight = long;
-        some = λ e. both_ways (same b.words no_words) one ((same-equal b.words no_words long).1 e);
+        some = λ e. both_ways (same_rows b.words no_words) one
+        ((same-equal b.words no_words long).1 e);
         inside = inside;
       },
       tt,
@@ -129,26 +130,27 @@ ascending_behind place (b ∷ bs) up =
     ))
 
 words_at-behind : (this place : ℕ) (bs : List Block) → this ≢ place
-    → words_at (behind_place this bs) place ≡ words_at bs place
+    → block_words_at (behind_place this bs) place ≡ block_words_at bs place
 words_at-behind this place [] ne = refl
 words_at-behind this place (b ∷ bs) ne =
     elim (cases_Bool (b.place == this)) [
       | inl here ↦
-          ap (λ l. words_at l place) (cond-true (b.place == this) bs (b ∷ bs) here)
-          ∙ sym (cond-false (b.place == place) b.words (words_at bs place)
+          ap (λ l. block_words_at l place) (cond-true (b.place == this) bs (b ∷ bs) here)
+          ∙ sym (cond-false (b.place == place) b.words (block_words_at bs place)
           (ne_eqb b.place place (λ e. ne (sym (eqb-true b.place this here) ∙ e))))
-      | inr other ↦ ap (λ l. words_at l place) (cond-false (b.place == this) bs (b ∷ bs) other)
+      | inr other ↦ ap (λ l. block_words_at l place)
+      (cond-false (b.place == this) bs (b ∷ bs) other)
     ]
 
 ascending-block : (b : Block) (ys : List Block) → IsAscending (suc b.place) ys
     → IsAscending b.place (block_if_any b ++ ys)
 ascending-block b ys up =
-    cond_both (same b.words no_words) [] (b ∷ []) (λ l. IsAscending b.place (l ++ ys))
+    cond_both (same_rows b.words no_words) [] (b ∷ []) (λ l. IsAscending b.place (l ++ ys))
     (λ _. ascending_from b.place (suc b.place) ys (omega arith) up) (λ _. (omega arith, up))
 
 pub words_at-placed : (at : ℕ) (b : Block) (bs : List Block) (place : ℕ) → length b.words ≡ 8
-    → StandsAt at b.place bs → words_at (placed at b bs) place
-    ≡ (if b.place == place then b.words else words_at bs place)
+    → StandsAt at b.place bs → block_words_at (placed at b bs) place
+    ≡ (if b.place == place then b.words else block_words_at bs place)
 words_at-placed at b bs place long stands =
     let back = behind_place b.place (drop at bs) in
     let up = ascending_behind b.place (drop at bs) stands.ascending in
@@ -159,16 +161,16 @@ words_at-placed at b bs place long stands =
       | inl here ↦
           let le : b.place ≤ place = (let e = eqb-true b.place place here in omega arith) in
           whole
-          ∙ (words_or_behind (words_at new place) (take at bs) b.place place le stands.below
-          ∙ (front ∙ (cond-true (b.place == place) b.words (words_at back place) here
-          ∙ sym (cond-true (b.place == place) b.words (words_at bs place) here))))
+          ∙ (words_or_behind (block_words_at new place) (take at bs) b.place place le stands.below
+          ∙ (front ∙ (cond-true (b.place == place) b.words (block_words_at back place) here
+          ∙ sym (cond-true (b.place == place) b.words (block_words_at bs place) here))))
       | inr other ↦
           whole
           ∙ (ap (λ w. words_or w (take at bs) place)
-          (front ∙ (cond-false (b.place == place) b.words (words_at back place) other
+          (front ∙ (cond-false (b.place == place) b.words (block_words_at back place) other
           ∙ words_at-behind b.place place (drop at bs) (eqb-false b.place place other)))
           ∙ (sym (words_at-split bs at place)
-          ∙ sym (cond-false (b.place == place) b.words (words_at bs place) other)))
+          ∙ sym (cond-false (b.place == place) b.words (block_words_at bs place) other)))
     ]
 
 pub row_blocks-placed : (n at : ℕ) (b : Block) (bs : List Block) → length b.words ≡ 8
@@ -188,20 +190,20 @@ row_blocks-placed n at b bs long inside stands are =
 -- one word that is written
 
 pub written_inside : (n name word : ℕ) (bs : List Block) → name < n → AreBlocks n bs → (k : ℕ)
-    → n ≤ 8 * (name / 8) + k → get_or (set (words_at bs (name / 8)) (name % 8) word) k 0 ≡ 0
+    → n ≤ 8 * (name / 8) + k → get_or (set (block_words_at bs (name / 8)) (name % 8) word) k 0 ≡ 0
 written_inside n name word bs lt each k past =
     let ne : k ≢ name % 8 = omega arith in
-    get_or-set_other (words_at bs (name / 8)) (name % 8) k word 0 ne
+    get_or-set_other (block_words_at bs (name / 8)) (name % 8) k word 0 ne
     ∙ zero_past n bs (name / 8) k each past
 
 pub words_of-placed : (n at name word : ℕ) (bs : List Block) → name < n → AreRowBlocks n bs
     → StandsAt at (name / 8) bs
     → words_of n (placed at
-    (record { place = name / 8; words = set (words_at bs (name / 8)) (name % 8) word }) bs)
+    (record { place = name / 8; words = set (block_words_at bs (name / 8)) (name % 8) word }) bs)
     ≡ set (words_of n bs) name word
 words_of-placed n at name word bs inside are stands =
     let q = name / 8 in
-    let ws = words_at bs q in
+    let ws = block_words_at bs q in
     let row = words_of n bs in
     let long : length ws ≡ 8 = eight_at n bs q are.each in
     let b : Block = record { place = q; words = set ws (name % 8) word } in
@@ -214,7 +216,7 @@ words_of-placed n at name word bs inside are stands =
       | inl here ↦
           let e = eqb-true q (i / 8) here in
           ap (λ l. get_or l (i % 8) 0)
-          (cond-true (q == i / 8) (set ws (name % 8) word) (words_at bs (i / 8)) here)
+          (cond-true (q == i / 8) (set ws (name % 8) word) (block_words_at bs (i / 8)) here)
           ∙ elim (cases_eq i name) [
             | inl same_name ↦
                 let r : i % 8 ≡ name % 8 = omega arith in
@@ -224,13 +226,13 @@ words_of-placed n at name word bs inside are stands =
             | inr other_name ↦
                 let r : i % 8 ≢ name % 8 = (λ h. other_name (omega arith)) in
                 get_or-set_other ws (name % 8) (i % 8) word 0 r
-                ∙ (ap (λ p. get_or (words_at bs p) (i % 8) 0) e
+                ∙ (ap (λ p. get_or (block_words_at bs p) (i % 8) 0) e
                 ∙ (sym (words_of_at n bs i lt)
                 ∙ sym (get_or-set_other row name i word 0 other_name)))
           ]
       | inr other ↦
           let ne : i ≢ name = (λ h. eqb-false q (i / 8) other (omega arith)) in
           ap (λ l. get_or l (i % 8) 0)
-          (cond-false (q == i / 8) (set ws (name % 8) word) (words_at bs (i / 8)) other)
+          (cond-false (q == i / 8) (set ws (name % 8) word) (block_words_at bs (i / 8)) other)
           ∙ (sym (words_of_at n bs i lt) ∙ sym (get_or-set_other row name i word 0 ne))
     ])

@@ -1,7 +1,7 @@
 -- How a row keeps its words: in blocks of eight, of which only those that are not all 0 are kept,
 -- in the order of their places. The block at place p has the words from 8 * p on.
 --
---   words_at blocks place        the eight words at a place
+--   block_words_at blocks place  the eight words at a place
 --   word_at blocks name          the word of a name
 --   words_of n blocks            the n words that the blocks stand for
 --   AreRowBlocks n blocks        blocks as a row of n words keeps them: every row has one such list
@@ -9,7 +9,7 @@
 use Rattle.std.specs.Prelude.{◌≡◌, ◌≢◌, ◌==◌, ◌<◌, ◌≤◌, ◌+◌, ◌*◌, ◌/◌, ◌%◌, ℕ, suc, Bool, List, [], ◌∷◌, ◌++◌, map, take, drop, length, replicate, slice_index, bit_or, if◌then◌else◌}
 use Rattle.std.specs.List.{range_with_len, list_any}
 use Rattle.std.specs.Simd.Lanes.{zip2}
-use Rattle.clause_kernel.specs.Kernels.{same, some_pair}
+use Rattle.clause_kernel.specs.Kernels.{same_rows, some_pair}
 use Rattle.bit_rows.specs.declared.block.Block.{Block}
 
 -- eight words 0
@@ -21,11 +21,11 @@ abbrev pub words_or : List ℕ → List Block → ℕ → List ℕ
 words_or others [] place = others
 words_or others (b ∷ bs) place = if b.place == place then b.words else words_or others bs place
 
-abbrev pub words_at : List Block → ℕ → List ℕ
-words_at = words_or no_words
+abbrev pub block_words_at : List Block → ℕ → List ℕ
+block_words_at = words_or no_words
 
 abbrev pub word_at : List Block → ℕ → ℕ
-word_at blocks name = slice_index (words_at blocks (name / 8)) (name % 8)
+word_at blocks name = slice_index (block_words_at blocks (name / 8)) (name % 8)
 
 unfoldable pub words_of : ℕ → List Block → List ℕ
 words_of n blocks = map (word_at blocks) (range_with_len 0 n)
@@ -63,7 +63,7 @@ pub record StandsAt (at place : ℕ) (blocks : List Block) : Type 0 where
 
 -- no block where the words are all 0
 abbrev pub block_if_any : Block → List Block
-block_if_any b = if same b.words no_words then [] else b ∷ []
+block_if_any b = if same_rows b.words no_words then [] else b ∷ []
 
 -- the blocks behind a place
 abbrev pub behind_place : ℕ → List Block → List Block
@@ -78,7 +78,8 @@ placed at b blocks = take at blocks ++ (block_if_any b ++ behind_place b.place (
 abbrev pub changed_blocks : (ℕ → ℕ → ℕ) → List Block → List Block → List Block
 changed_blocks f [] others = []
 changed_blocks f (b ∷ bs) others =
-    block_if_any (record { place = b.place; words = zip2 f b.words (words_at others b.place) })
+    block_if_any (record { place = b.place; words = zip2 f b.words
+    (block_words_at others b.place) })
     ++ changed_blocks f bs others
 
 -- the words at a place of a list of words, eight of them or the last ones
@@ -87,7 +88,7 @@ piece words place = take 8 (drop (8 * place) words)
 
 -- some words of the blocks pass beside those of others, or beside words, at their place
 abbrev pub some_met : (ℕ → ℕ → Bool) → List Block → List Block → Bool
-some_met test others blocks = list_any (λ b. some_pair test (words_at others b.place) b.words)
+some_met test others blocks = list_any (λ b. some_pair test (block_words_at others b.place) b.words)
     blocks
 
 abbrev pub some_piece_met : (ℕ → ℕ → Bool) → List ℕ → List Block → Bool
@@ -98,7 +99,7 @@ some_piece_met test words blocks =
 abbrev pub missing : List Block → List Block → ℕ
 missing blocks [] = 0
 missing blocks (b ∷ bs) =
-    (if same (words_at blocks b.place) no_words then 1 else 0) + missing blocks bs
+    (if same_rows (block_words_at blocks b.place) no_words then 1 else 0) + missing blocks bs
 
 -- two lists of blocks that rows of one length keep
 abbrev pub AreOfOneLength : List Block → List Block → Type 0
@@ -108,4 +109,5 @@ AreOfOneLength blocks others = (n : ℕ) × AreRowBlocks n blocks × AreRowBlock
 pub record AreJoined (blocks others new : List Block) : Type 0 where
   pub are : (n : ℕ) → AreRowBlocks n blocks → AreRowBlocks n others → AreRowBlocks n new
   pub words : (place : ℕ)
-      → words_at new place ≡ zip2 bit_or (words_at blocks place) (words_at others place)
+      → block_words_at new place ≡ zip2 bit_or (block_words_at blocks place)
+      (block_words_at others place)

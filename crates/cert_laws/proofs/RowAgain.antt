@@ -8,7 +8,7 @@ use Rattle.deb_text.specs.Words.{is_name}
 use Rattle.farm_model.specs.declared.types.Variant.{Variant}
 use Rattle.farm_model.specs.Packages.{names}
 use Rattle.farm_model.specs.Universe.{Universe}
-use Rattle.farm_universe.specs.ListText.{words_of}
+use Rattle.farm_universe.specs.ListText.{variant_words}
 use Rattle.cert_text.proofs.RowLists.{row_variants-in}
 use Rattle.cert_text.specs.Rows.{IsIn, row_of_items, row_at, row_variants}
 use Rattle.cert_laws.specs.Laws.{IsSpelled, RowIsReadAgain}
@@ -37,5 +37,6 @@ row_is_read_again u row spelled new =
     ap (row_of_items u)
     (list-again u vs (All-weaker (IsIn u) (IsSpelledVariant u) (variant-spelled u spelled) vs
     (row_variants-in u row)))
-    ∙ ap (option_map (words_of (names u))) (behind-again u spelled vs None (row-ordered u row new))
+    ∙ ap (option_map (variant_words (names u)))
+    (behind-again u spelled vs None (row-ordered u row new))
     ∙ ap Some (row-words u row new)

@@ -12,7 +12,7 @@ use Rattle.farm_model.specs.declared.types.Variant.{Variant}
 use Rattle.farm_model.specs.Packages.{names, variant, variants, same, contains}
 use Rattle.farm_model.specs.Universe.{Universe}
 use Rattle.farm_model.proofs.VariantLaws.{same-refl, same-true}
-use Rattle.farm_universe.specs.ListText.{words_of}
+use Rattle.farm_universe.specs.ListText.{variant_words}
 use Rattle.cert_text.specs.Certificates.{IsNewRow}
 use Rattle.cert_text.specs.Rows.{in_row, named_variants, named_in_row, row_variants}
 use Rattle.cert_text.proofs.RowsSoFar.{so_far-words}
@@ -125,7 +125,7 @@ module _ (u : Universe) (row : List ℕ) (new : IsNewRow u row) where
           (omega (arith, name-there n b e)))
       by false e = rw e refl
 
-  pub row-words : words_of (names u) (row_variants u row) ≡ row
+  pub row-words : variant_words (names u) (row_variants u row) ≡ row
   row-words =
       sym (so_far-words (names u) row (row_variants u row)
       (record { long = new.long; bits = row-bits }))

@@ -18,7 +18,7 @@ use Rattle.farm_model.specs.declared.types.Variant.{Variant}
 use Rattle.farm_model.specs.Universe.{Universe}
 use Rattle.farm_model.specs.Packages.{names, variant, variants, initial}
 use Rattle.farm_model.specs.Sound.{IsKnown}
-use Rattle.farm_universe.specs.ListText.{has_version, pinned, words_of}
+use Rattle.farm_universe.specs.ListText.{has_version, pinned, variant_words}
 
 -- a variant of one of the universe's names
 pub record IsIn (u : Universe) (v : Variant) : Type 0 where
@@ -80,7 +80,7 @@ variants_behind u last (item ∷ items) =
     (item_variant u item)
 
 abbrev pub row_of_items : Universe → Result Relations ℕ → Option (List ℕ)
-row_of_items u (Ok items) = option_map (words_of (names u)) (variants_behind u None items)
+row_of_items u (Ok items) = option_map (variant_words (names u)) (variants_behind u None items)
 row_of_items u (Err code) = None
 
 -- the row of a list of variants, written as a Provides field is (Debian Policy 7.5)

@@ -6,7 +6,7 @@ ghost use Rattle.cert_text.specs.Items.{EachIsSaid};
 ghost use Rattle.cert_text.specs.Rows.{IsIn, find_variant, item_variant, is_behind, variants_behind, row_at};
 ghost use Rattle.farm_model.specs.Packages.{names, initial};
 ghost use Rattle.farm_universe.specs.Kept.{IsKept};
-ghost use Rattle.farm_universe.specs.ListText.{words_of};
+ghost use Rattle.farm_universe.specs.ListText.{variant_words};
 
 use crate::repeats::{Repeats, variant_repeated};
 use crate::spelled::Spelled;

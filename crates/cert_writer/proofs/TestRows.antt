@@ -15,7 +15,7 @@ use Rattle.farm_model.specs.Packages.{names, variant, variants}
 use Rattle.farm_model.specs.Universe.{Universe}
 use Rattle.farm_universe.proofs.ArchiveLaws.{bit_at-word_of}
 use Rattle.farm_universe.proofs.PlaceLaws.{named}
-use Rattle.sat_rows.specs.Rows.{passes, IsRowOf}
+use Rattle.sat_rows.specs.Rows.{variant_passes, IsRowOf}
 use Rattle.cert_writer.specs.NewRows.{word_of_test, row_of_test}
 
 -- one of them has this name and this bit
@@ -78,18 +78,20 @@ module _ (u : Universe) (test : Variant → Bool) where
   unfolding row_of_test
   word-at n lt = get_or-map-range_with_len (word_of_test u test) 0 (names u) n n 0 lt (omega arith)
 
-  bits-at : (n b : ℕ) → n < names u → variants_of (row_of_test u test) n b ≡ passes u test n b
+  bits-at : (n b : ℕ) → n < names u → variants_of (row_of_test u test) n b
+      ≡ variant_passes u test n b
   bits-at n b lt =
       ap (λ word. word_has word b) (word-at n lt)
       ∙ bit_at-word_of (passing test n (variants u n)) n b
       ∙ has-passing test n b (variants u n)
 
-  bits-past : (n b : ℕ) → names u ≤ n → variants_of (row_of_test u test) n b ≡ passes u test n b
+  bits-past : (n b : ℕ) → names u ≤ n → variants_of (row_of_test u test) n b
+      ≡ variant_passes u test n b
   bits-past n b past =
       ap (λ word. word_has word b)
       (get_or_past (row_of_test u test) n 0 (omega (arith, past, length-row)))
       ∙ word_has_zero b
-      ∙ same_tests false (passes u test n b) (λ e. absurd cc)
+      ∙ same_tests false (variant_passes u test n b) (λ e. absurd cc)
       (λ e. let few = ltb-true b (variants u n)
       (and_parts (nat_lt b (variants u n)) (test (variant n b)) e).0 in
       absurd (omega (arith, past, named u n b few)))

@@ -8,7 +8,7 @@ use Rattle.deb_text.specs.Lines.{Line}
 use Rattle.deb_text.specs.Steps.{answer, judged, steps}
 use Rattle.deb_text.proofs.StepLaws.{steps-judged}
 use Rattle.deb_stanza.specs.Cut.{onto_last}
-use Rattle.deb_stanza.specs.Draft.{State, open_texts, open_names, longer, larger, with_line, step, raw_part, state_of}
+use Rattle.deb_stanza.specs.Draft.{State, open_texts, open_names, longer, larger, with_line, draft_step, raw_part, state_of}
 use Rattle.deb_stanza.specs.Stanza.{name_of, separates, continues, texts_of, parts, open_part, last_part_of, line_refusal, told_at, fault_of, paragraph_of, paragraphs_of}
 use Rattle.deb_stanza.specs.View.{Raw, finished}
 use Rattle.deb_stanza.proofs.CutLaws.{onto_last-push}
@@ -148,7 +148,7 @@ answer-same line None s t same = ap Ok (same refl)
 answer-same line (Some code) s t same = refl
 
 keeps : (before : List Line) (l : Line)
-    → step (state_of before) l ≡ answer (fault_of before l) (state_of (before ++ l ∷ []))
+    → draft_step (state_of before) l ≡ answer (fault_of before l) (state_of (before ++ l ∷ []))
 keeps before l =
     ap (λ (given : List (List ℕ)). answer
     (told_at l.0 (line_refusal (some (open_part before)) given l))
@@ -157,8 +157,8 @@ keeps before l =
 
 -- going from line to line gives what the lines say, or their first fault
 pub steps-lines : (ls : List Line)
-    → steps step (the_state [] false) ls ≡ judged fault_of state_of ls
-steps-lines ls = steps-judged step fault_of state_of keeps ls
+    → steps draft_step (the_state [] false) ls ≡ judged fault_of state_of ls
+steps-lines ls = steps-judged draft_step fault_of state_of keeps ls
 
 fuse : (qs : List (List Line)) → map finished (map raw_part qs) ≡ map paragraph_of qs
 fuse [] = refl

@@ -53,8 +53,8 @@ with_line s l =
     if separates l then record s { is_open = false }
     else (if continues l then record s { raws = onto_last (longer l.1) s.raws } else with_head s l)
 
-abbrev pub step : State → Line → Result State Fault
-step s l = answer (told_at l.0 (line_refusal s.is_open (open_names s) l)) (with_line s l)
+abbrev pub draft_step : State → Line → Result State Fault
+draft_step s l = answer (told_at l.0 (line_refusal s.is_open (open_names s) l)) (with_line s l)
 
 abbrev pub draft_state : Draft → State
 draft_state d = record { raws = table_raws d.table; is_open = d.is_open }

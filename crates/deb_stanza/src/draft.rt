@@ -7,7 +7,7 @@ ghost use Rattle.deb_text.specs.Cuts.{is_nil};
 ghost use Rattle.deb_text.specs.Lines.{control_lines};
 ghost use Rattle.deb_text.specs.Steps.{answer, judged};
 ghost use Rattle.deb_stanza.specs.Cut.{onto_last};
-ghost use Rattle.deb_stanza.specs.Draft.{draft_state, HasNames, IsFit, HasRoom, longer, names_from, open_names, step, with_head};
+ghost use Rattle.deb_stanza.specs.Draft.{draft_state, HasNames, IsFit, HasRoom, longer, names_from, open_names, draft_step, with_head};
 ghost use Rattle.deb_stanza.specs.Stanza.{fault_of, head_fault, paragraphs_of, same_name, told_at};
 ghost use Rattle.deb_stanza.specs.View.{IsSoundTable, line_of, table_paragraphs};
 
@@ -177,7 +177,7 @@ impl Draft {
         requires fit { IsFit self.old }
         requires room { HasRoom self.old line.bytes.now }
         ensures state { Gives refusal_of (λ _. draft_state self.new) result
-            (step (draft_state self.old) (line_of line.entry)) }
+            (draft_step (draft_state self.old) (line_of line.entry)) }
         ensures fit { OnOk result (IsFit self.new) }
         ensures grown { OnOk result (length self.new.table.bytes.items
             ≤ length self.old.table.bytes.items + length line.entry.bytes.now + 1) }

@@ -6,7 +6,7 @@
 --   IsRequestAnswered what is written of the answer
 use Rattle.std.specs.Prelude.{◌≡◌, ◌≤◌, ℕ, false, List, length, take, codes, Option, IfSome, Result, if◌then◌else◌}
 use Rattle.std.specs.Str.{bytes_eq}
-use Rattle.farm_input.specs.Input.{Texts, texts_in}
+use Rattle.farm_input.specs.Input.{Texts, input_texts}
 use Rattle.command_line.specs.declared.request.Paths.{Paths}
 use Rattle.command_line.specs.declared.request.Request.{Request}
 use Rattle.command_line.specs.declared.request.Request.TheVariants.{CheckInput, Check, Explain, List as ListPlan, Cert, VerifyCert, Step, StepBy}
@@ -39,7 +39,7 @@ IsInput known input = IfSome known (λ bytes. input ≡ bytes) × (length input 
 -- the verdict on the texts that standard input is cut into
 abbrev pub OnInput : Option (List ℕ) → List ℕ → ℕ → Type 0
 OnInput given text status =
-    (input : List ℕ) × IsInput given input × AnswersCheck false (texts_in input) text status
+    (input : List ℕ) × IsInput given input × AnswersCheck false (input_texts input) text status
 
 -- what is answered to the texts of these files
 abbrev pub OnFiles : (List ℕ → Option (List ℕ)) → Paths → (Texts → List ℕ → ℕ → Type 0) → List ℕ → ℕ

@@ -61,23 +61,23 @@ where_text u p ls l i =
 -- ---- X1
 
 -- the instruction, if there is one, publishes the variant
-abbrev pub publishes : Universe → Variant → Option Instruction → Bool
-publishes u v None = false
-publishes u v (Some x) = gives u v x
+abbrev pub publishes_variant : Universe → Variant → Option Instruction → Bool
+publishes_variant u v None = false
+publishes_variant u v (Some x) = gives u v x
 
 -- the lane's number and the instruction's
-abbrev pub place_of : Publishing → ℕ × ℕ
-place_of found = (found.lane, found.instruction)
+abbrev pub publishing_place_of : Publishing → ℕ × ℕ
+publishing_place_of found = (found.lane, found.instruction)
 
 -- the number of a lane's instruction that publishes it
 abbrev pub publishing_place : Universe → Plan → Variant → ℕ → Option (ℕ × ℕ)
 publishing_place u p v j =
     first_below {A = ℕ × ℕ} (length (lane p j).instructions)
-    (λ k. if publishes u v (instruction_at p j k) then Some (j, k + 1) else None)
+    (λ k. if publishes_variant u v (instruction_at p j k) then Some (j, k + 1) else None)
 
 -- the lane that publishes it, and the instruction's number
-abbrev pub publication : Universe → Plan → Variant → Option (ℕ × ℕ)
-publication u p v = first_below (length p) (publishing_place u p v)
+abbrev pub first_publication : Universe → Plan → Variant → Option (ℕ × ℕ)
+first_publication u p v = first_below (length p) (publishing_place u p v)
 
 -- `(instruction N, plan line N)`
 abbrev pub line_text : Option Origin → List ℕ
@@ -111,7 +111,7 @@ source_text u p ls l v (Some (j, number)) =
 abbrev pub standing_words : Universe → Plan → List LaneLines → ℕ → Bool → Variant → List ℕ
 standing_words u p ls l is_known v =
     if is_known then word_text Word.Surely ++ variant_text u v
-    else source_text u p ls l v (publication u p v)
+    else source_text u p ls l v (first_publication u p v)
 
 abbrev pub standing_text : Universe → Plan → List LaneLines → ℕ → (Variant → Bool) → Variant
     → List ℕ

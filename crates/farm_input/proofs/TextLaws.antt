@@ -1,7 +1,7 @@
 -- The four texts, cut one after the other.
 use Rattle.std.proofs.Common.{◌≡◌, ℕ, List, ap, sym, ◌∙◌}
 use Rattle.deb_text.specs.Cuts.{before, after}
-use Rattle.farm_input.specs.Input.{Texts, whole_lines, text_of_lines, is_divider, texts_in}
+use Rattle.farm_input.specs.Input.{Texts, whole_lines, text_of_lines, is_divider, input_texts}
 use Rattle.farm_input.proofs.InputLaws.{joined-whole_lines}
 
 abbrev four : List ℕ → List ℕ → List ℕ → List ℕ → Texts
@@ -20,7 +20,7 @@ pub cut_thrice : (input packages first sources second farm plan : List ℕ)
     → whole_lines second ≡ after is_divider (whole_lines first)
     → farm ≡ text_of_lines (before is_divider (whole_lines second))
     → whole_lines plan ≡ after is_divider (whole_lines second)
-    → four packages sources farm plan ≡ texts_in input
+    → four packages sources farm plan ≡ input_texts input
 cut_thrice input packages first sources second farm plan p r1 s r2 f r3 =
     let two : whole_lines second ≡ after is_divider (after is_divider (whole_lines input)) =
     r2 ∙ ap (after is_divider) r1 in

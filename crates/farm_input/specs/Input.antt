@@ -2,7 +2,7 @@
 -- `%%` divide it, and a text that is missing is empty.
 --
 --   whole_lines text      the lines of a text, each with its newline
---   texts_in input        the four texts
+--   input_texts input     the four texts
 use Rattle.std.specs.Prelude.{ℕ, Bool, ◌||◌, List, [], ◌∷◌, codes, if◌then◌else◌}
 use Rattle.std.specs.List.{flat_map, onto_first}
 use Rattle.std.specs.Str.{bytes_eq}
@@ -39,5 +39,5 @@ texts_of_lines lines = record {
   plan = text_of_lines (after is_divider (after is_divider (after is_divider lines)));
 }
 
-abbrev pub texts_in : List ℕ → Texts
-texts_in input = texts_of_lines (whole_lines input)
+abbrev pub input_texts : List ℕ → Texts
+input_texts input = texts_of_lines (whole_lines input)

@@ -38,14 +38,14 @@ phase_word IsUnpacked = codes "unpacked"
 phase_word IsConfigured = codes "configured"
 
 -- a present variant, in this phase
-abbrev pub variant_text : Universe → Variant → Phase → List ℕ
-variant_text u v phase = variant_line (name_of u v.name) (version_of u v) (phase_word phase)
+abbrev pub present_variant_text : Universe → Variant → Phase → List ℕ
+present_variant_text u v phase = variant_line (name_of u v.name) (version_of u v) (phase_word phase)
 
 -- what a chroot holds of a name; nothing of one that is absent
 abbrev pub held_text : Universe → ℕ → Slot → List ℕ
 held_text u n Absent = []
-held_text u n (Unpacked b last) = variant_text u (variant n b) IsUnpacked
-held_text u n (Configured b) = variant_text u (variant n b) IsConfigured
+held_text u n (Unpacked b last) = present_variant_text u (variant n b) IsUnpacked
+held_text u n (Configured b) = present_variant_text u (variant n b) IsConfigured
 
 -- how many instructions of a lane of this name are done, what they have cost, and the disk space
 -- that its chroot takes, in KiB; then what the chroot holds, by the number of the name

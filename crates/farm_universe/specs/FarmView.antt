@@ -21,7 +21,7 @@ use Rattle.item_index.specs.declared.item.Item.{Item}
 use Rattle.farm_universe.specs.BaseText.{is_settled_base}
 use Rattle.farm_universe.specs.FarmText as text
 use Rattle.farm_universe.specs.Land as land
-use Rattle.farm_universe.specs.ListText.{words_of}
+use Rattle.farm_universe.specs.ListText.{variant_words}
 use Rattle.farm_universe.specs.PackagesText.{PackageTable}
 use Rattle.farm_universe.specs.RecipeSteps.{first_build_at}
 use Rattle.farm_universe.specs.RecipeText.{is_taken, build_entries, outputs_at}
@@ -76,7 +76,7 @@ pub record AreDifferent (table : PackageTable) (vs : List Variant) : Type 0 wher
 
 -- different variants of the table, and the words that have their bits
 pub record AreListed (table : PackageTable) (list : VariantList) : Type 0 where
-  pub words : list.words.items ≡ words_of (length table.names) list.variants.items
+  pub words : list.words.items ≡ variant_words (length table.names) list.variants.items
   pub known : All (IsPlace table) list.variants.items
   pub once : IsOnce list.variants.items
 

@@ -25,7 +25,7 @@ use Rattle.farm_universe.specs.declared.error.TheConstants.{BAD_VALUE, TWICE, UN
 use Rattle.farm_universe.specs.declared.limits.TheConstants.{MOST_RECIPES, MOST_ENTRIES, MOST_SIZE}
 use Rattle.farm_universe.specs.declared.sources.BuildFields.{BuildFields}
 use Rattle.farm_universe.specs.declared.sources.Source.{Source}
-use Rattle.farm_universe.specs.Fields.{needed_at, name_at, number_up_to, size_at, refused_if}
+use Rattle.farm_universe.specs.Fields.{needed_at, package_name_at, number_up_to, size_at, refused_if}
 use Rattle.farm_universe.specs.Land.{Land}
 use Rattle.farm_universe.specs.ListText.{pinned, variants_in}
 use Rattle.farm_universe.specs.PackagesText.{PackageTable}
@@ -88,13 +88,13 @@ build_at land p = do
 -- ---- what it gives
 
 -- a list of variants with an item
-abbrev pub outputs_in : PackageTable → Relations → Result (List Variant) ℕ
-outputs_in table [] = Err NO_OUTPUT
-outputs_in table (entry ∷ entries) = variants_in table (entry ∷ entries)
+abbrev pub recipe_outputs_in : PackageTable → Relations → Result (List Variant) ℕ
+recipe_outputs_in table [] = Err NO_OUTPUT
+recipe_outputs_in table (entry ∷ entries) = variants_in table (entry ∷ entries)
 
 unfoldable pub outputs_at : PackageTable → Option (List ℕ) → Result (List Variant) ℕ
 outputs_at table None = Err NO_OUTPUT
-outputs_at table (Some text) = relations_at Provide text >>= outputs_in table
+outputs_at table (Some text) = relations_at Provide text >>= recipe_outputs_in table
 
 -- the variant is in the initial archive, or a recipe gives it
 abbrev pub is_taken : List ℕ → List Recipe → Variant → Bool
@@ -116,7 +116,7 @@ is_build_over count entries build =
 -- a name that no recipe before has
 abbrev pub recipe_name : List Recipe → List ℕ → Result (List ℕ) ℕ
 recipe_name before given = do
-  name ← name_at given
+  name ← package_name_at given
   free ← refused_if (list_any (λ r. bytes_eq name r.name) before) TWICE
   Ok name
 

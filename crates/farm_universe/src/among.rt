@@ -3,7 +3,7 @@
 ghost use Rattle.std.specs.Prelude.{◌≡◌, ◌&&◌, IfOk, All, map};
 ghost use Rattle.std.specs.List.{list_any};
 ghost use Rattle.std.specs.Option.{is_none};
-ghost use Rattle.deb_relation.specs.Satisfaction.{is_its_own, is_provided, satisfies};
+ghost use Rattle.deb_relation.specs.Satisfaction.{is_its_own, is_provided, package_satisfies};
 ghost use Rattle.farm_universe.specs.Among.{provides_at, is_other, at_owner, AreFound};
 ghost use Rattle.farm_universe.specs.BaseText as base;
 ghost use Rattle.farm_universe.specs.FarmView.{IsPlace};
@@ -163,14 +163,14 @@ impl<'a> Among<'a> {
     /// Tells whether one of them, of another name than this, satisfies an alternative.
     fn some_satisfies(&self, besides: Option<u32>, atom: &Atom) -> bool
         ensures { result ≡ list_any (λ m. is_other besides m
-            && satisfies (base.member_facts m) atom.now) self.now }
+            && package_satisfies (base.member_facts m) atom.now) self.now }
     {
         is_bare(atom) && (self.some_named(besides, atom) || self.some_provides(besides, atom))
     }
 
     fn any_satisfied(&self, besides: Option<u32>, entry: &Entry) -> bool
         ensures { result ≡ list_any (λ a. list_any (λ m. is_other besides m
-            && satisfies (base.member_facts m) a) self.now) entry.now }
+            && package_satisfies (base.member_facts m) a) self.now) entry.now }
     {
         entry
             .alternatives()
@@ -181,14 +181,15 @@ impl<'a> Among<'a> {
     /// Tells whether one of them, of another name than this if one is given, satisfies some
     /// alternative of an entry.
     pub fn some_meets(&self, besides: Option<u32>, entry: &Entry) -> bool
-        ensures { result ≡ list_any (λ m. is_other besides m && base.meets m entry.now) self.now }
+        ensures { result ≡ list_any (λ m. is_other besides m && base.member_meets m entry.now)
+            self.now }
     {
         self.any_satisfied(besides, entry)
     }
 
     fn any_met(&self, besides: Option<u32>, field: &Relations) -> bool
         ensures { result ≡ list_any (λ e. list_any (λ m. is_other besides m
-            && base.meets m e) self.now) field.now }
+            && base.member_meets m e) self.now) field.now }
     {
         field
             .entries()

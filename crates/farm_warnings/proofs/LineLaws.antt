@@ -7,7 +7,7 @@ use Rattle.deb_text.proofs.PartLaws.{split-none, split-some}
 use Rattle.deb_text.specs.Cuts.{before, after}
 use Rattle.deb_text.specs.Lines.{Line}
 use Rattle.deb_stanza.specs.Stanza.{separates}
-use Rattle.farm_warnings.specs.Lines.{paragraphs_of}
+use Rattle.farm_warnings.specs.Lines.{paragraph_lines}
 
 -- nothing stands behind what is not there
 after_cons : {X : Type 0} (p : X → Bool) (x : X) (xs : List X) (first : Bool) → p x ≡ first
@@ -31,12 +31,12 @@ length_after p (x ∷ xs) =
 
 -- a line that separates begins no paragraph
 pub paragraphs_skip : (l : Line) (ls : List Line) → separates l ≡ true
-    → paragraphs_of (l ∷ ls) ≡ paragraphs_of ls
+    → paragraph_lines (l ∷ ls) ≡ paragraph_lines ls
 paragraphs_skip l ls is = rw is refl
 
 -- any other does
 pub paragraphs_take : (l : Line) (ls : List Line) → separates l ≡ false
-    → paragraphs_of (l ∷ ls) ≡ before separates (l ∷ ls) ∷ paragraphs_of (after separates ls)
+    → paragraph_lines (l ∷ ls) ≡ before separates (l ∷ ls) ∷ paragraph_lines (after separates ls)
 paragraphs_take l ls is =
     elim (cases_Bool (list_any separates (l ∷ ls))) [
       | inl some ↦ rw (split-some separates (l ∷ ls) some, is) refl

@@ -13,11 +13,11 @@ use Rattle.farm_warnings.specs.declared.field_name.FieldName.{FieldName}
 use Rattle.farm_warnings.specs.Words.{field_name}
 
 -- the parts between the lines that separate, less those without a line
-abbrev pub paragraphs_of : List Line → List (List Line)
-paragraphs_of ls = filter (λ part. not (is_nil part)) (parts ls)
+abbrev pub paragraph_lines : List Line → List (List Line)
+paragraph_lines ls = filter (λ part. not (is_nil part)) (parts ls)
 
 abbrev pub paragraphs_in : List ℕ → List (List Line)
-paragraphs_in text = paragraphs_of (control_lines 1 text)
+paragraphs_in text = paragraph_lines (control_lines 1 text)
 
 -- the line begins a field of this name, but for the case of ASCII letters
 abbrev pub begins : FieldName → Line → Bool

@@ -12,7 +12,7 @@ use Rattle.plan_asm.specs.declared.error.TheConstants.{MOST_INSTRUCTIONS}
 use Rattle.plan_lines.specs.declared.blocks.Whole.{Whole}
 use Rattle.plan_lines.specs.declared.origin.Origin.{Origin}
 use Rattle.plan_lines.specs.declared.joins.Part.{Part}
-use Rattle.plan_lines.specs.BlockLines.{lines_of_part, lines_in, block_lines_of, IsSomePart, IsWhole, AreWhole, Grows, empty_whole, whole_named, write, end_block}
+use Rattle.plan_lines.specs.BlockLines.{lines_of_part, lines_in, block_lines_of, IsSomePart, IsWhole, AreWhole, Grows, empty_whole, whole_named, lines_written, end_block}
 use Rattle.plan_lines.specs.Origins.{Block, from_line, with_room, lines_named}
 use Rattle.plan_lines.proofs.JoinLaws.{part-more, body-early}
 
@@ -112,7 +112,7 @@ module _ (bs new : List (List ℕ)) (es : List (Vec ℕ × Whole)) (begun more w
   }
 
   pub grown-blocks : record { ended = map (block_lines_of new) es; begun = lines_in new whole }
-      ≡ write (record { ended = map (block_lines_of bs) es; begun = lines_in bs begun })
+      ≡ lines_written (record { ended = map (block_lines_of bs) es; begun = lines_in bs begun })
       (lines_in bs more)
   grown-blocks =
       ap (λ ns. record { ended = map (block_lines_of new) es; begun = ns }) grows.lines

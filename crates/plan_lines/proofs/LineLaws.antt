@@ -50,12 +50,12 @@ module _ (u : Universe) (ls : List Line) where
   IsOpen bs (plan.InLane line l) ns os (lines.InLane head) = Origins os l.instructions
   IsOpen bs _ ns os _ = ⊥
 
-  abbrev pub IsDraft : plan.Draft → lines.Reading → Type 0
+  abbrev pub IsDraft : plan.Draft → lines.LineReading → Type 0
   IsDraft d s =
       AllZip IsBlock s.blocks d.blocks × AllZip (IsLane u ls) s.lanes d.lanes
       × IsOpen d.blocks d.current s.lines s.origins s.current
 
-  abbrev pub IsReading : plan.Reading → lines.Reading → Type 0
+  abbrev pub IsReading : plan.Reading → lines.LineReading → Type 0
   IsReading r s = IsDraft r.draft s × (s.inside ≡ not (is_outside r.side))
 
   -- ---- what comes into a block or a lane

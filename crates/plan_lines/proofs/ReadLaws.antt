@@ -61,7 +61,7 @@ module _ (u : Universe) where
   wording-sides ElseForm = λ number t. second-side t
 
   module _ (ls : List Line) where
-    instruction-goes : (number : ℕ) (w : Wording) (r : plan.Reading) (s : lines.Reading)
+    instruction-goes : (number : ℕ) (w : Wording) (r : plan.Reading) (s : lines.LineReading)
         → IsReading u ls r s
         → ((x : Instruction) → instruction_of u w ≡ Ok x → Says u ls number x)
         → IfOk (plan.take_instruction u number r w)
@@ -86,7 +86,7 @@ module _ (u : Universe) where
             (add-goes u ls r.draft s None (number ∷ []) (x ∷ []) is.0 (says x at, tt))
             (λ d good. (good, ap (λ b. lines.side_behind b w) is.1 ∙ sides number r.side))
 
-    form-goes : (number : ℕ) (form : Form) (r : plan.Reading) (s : lines.Reading)
+    form-goes : (number : ℕ) (form : Form) (r : plan.Reading) (s : lines.LineReading)
         → IsReading u ls r s
         → ((x : Instruction) → IsSaid u (Ok form) x → Says u ls number x)
         → IfOk (plan.take_form u number r form)
@@ -99,12 +99,12 @@ module _ (u : Universe) where
     form-goes number (UseForm name) r s is says = use-goes u ls number name r s is
     form-goes number (InstructionForm w) r s is says = instruction-goes number w r s is says
 
-    line-goes : (line : Line) (r : plan.Reading) (s : lines.Reading) → IsReading u ls r s
+    line-goes : (line : Line) (r : plan.Reading) (s : lines.LineReading) → IsReading u ls r s
         → Contains ls line
-        → IfOk (text.take_line u r line) (λ e. IsReading u ls e (lines.take_line s line))
+        → IfOk (text.take_line u r line) (λ e. IsReading u ls e (lines.reading_with s line))
     unfolding text.take_text
     line-goes (number, line) r s is there =
-        placed-has (λ e. IsReading u ls e (lines.take_line s (number, line))) FILE number
+        placed-has (λ e. IsReading u ls e (lines.reading_with s (number, line))) FILE number
         (form_at line >>= plan.take_form u number r)
         (go (form_at line) refl)
       where
@@ -116,21 +116,22 @@ module _ (u : Universe) where
             form-goes number form r s is
             (λ x said. record { line = line; stands = there; said = rw at said })
 
-    steps-go : (front xs : List Line) (r : plan.Reading) (s : lines.Reading) → ls ≡ front ++ xs
+    steps-go : (front xs : List Line) (r : plan.Reading) (s : lines.LineReading) → ls ≡ front ++ xs
         → IsReading u ls r s
-        → IfOk (steps (text.take_line u) r xs) (λ e. IsReading u ls e (fold lines.take_line s xs))
+        → IfOk (steps (text.take_line u) r xs)
+        (λ e. IsReading u ls e (fold lines.reading_with s xs))
     unfolding steps
     steps-go front [] r s cut is = is
     steps-go front (x ∷ xs) r s cut is =
-        then-has (λ e. IsReading u ls e (lines.take_line s x))
-        (λ e. IsReading u ls e (fold lines.take_line (lines.take_line s x) xs))
+        then-has (λ e. IsReading u ls e (lines.reading_with s x))
+        (λ e. IsReading u ls e (fold lines.reading_with (lines.reading_with s x) xs))
         (text.take_line u r x) _
         (line-goes x r s is
         (rw cut (Contains-append_right front (x ∷ xs) x (0, omega arith, refl))))
-        (λ t good. steps-go (front ++ x ∷ []) xs t (lines.take_line s x)
+        (λ t good. steps-go (front ++ x ∷ []) xs t (lines.reading_with s x)
         (cut ∙ sym (append_assoc front (x ∷ []) xs)) good)
 
-    end-says : (r : plan.Reading) (s : lines.Reading) → IsReading u ls r s
+    end-says : (r : plan.Reading) (s : lines.LineReading) → IsReading u ls r s
         → IfOk (text.end_of r) (λ p. AllZip (IsLane u ls) s.lanes p)
     end-says r s is = go r.draft.current where
       go : (o : plan.Open)

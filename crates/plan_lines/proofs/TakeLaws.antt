@@ -27,7 +27,7 @@ abbrev draft : List plan.Block → List Lane → plan.Open → plan.Draft
 draft bs ls o = record { blocks = bs; lanes = ls; current = o }
 
 abbrev reading : List Block → List ℕ → List LaneLines → List Origin → lines.Open → Bool
-    → lines.Reading
+    → lines.LineReading
 reading cs ns ms os o inside = record {
   blocks = cs;
   lines = ns;
@@ -115,7 +115,7 @@ module _ (u : Universe) (ls : List Line) where
     added (plan.InLane line l) ns os (lines.InBlock name) is = absurd is.2
     added (plan.InLane line l) ns os (lines.InLane head) is = to-lane line l ns os head is
 
-  pub add-goes : (d : plan.Draft) (s : lines.Reading) (used : Option ℕ) (new : List ℕ)
+  pub add-goes : (d : plan.Draft) (s : lines.LineReading) (used : Option ℕ) (new : List ℕ)
       (xs : List Instruction) → IsDraft u ls d s → Lines u ls new xs
       → IfOk (plan.add d.blocks d.lanes d.current xs) (λ e. IsDraft u ls e (lines.add used new s))
   add-goes d s used new xs is said =
@@ -123,7 +123,7 @@ module _ (u : Universe) (ls : List Line) where
       s.current is
 
   -- behind a line that comes into no branch
-  side-goes : (b : Bool) (t : Side) (s : lines.Reading) (r : Result plan.Draft ℕ)
+  side-goes : (b : Bool) (t : Side) (s : lines.LineReading) (r : Result plan.Draft ℕ)
       → b ≡ not (is_outside t) → IfOk r (λ d. IsDraft u ls d s)
       → IfOk (r >>= on_side t) (λ e. IsReading u ls e (lines.on_side b s))
   side-goes b t s r inside has =
@@ -132,7 +132,7 @@ module _ (u : Universe) (ls : List Line) where
 
   -- ---- what is open ends
 
-  ends : (bs : List plan.Block) (p : List Lane) (o : plan.Open) (s : lines.Reading) (number : ℕ)
+  ends : (bs : List plan.Block) (p : List Lane) (o : plan.Open) (s : lines.LineReading) (number : ℕ)
       (q : lines.Open) → s.current ≡ q → IsDraft u ls (draft bs p o) s
       → IfOk (plan.end_open bs p o) (λ d. IsDraft u ls d (lines.end_of q number s))
   ends bs p plan.Nothing s number q at is = tt
@@ -153,7 +153,7 @@ module _ (u : Universe) (ls : List Line) where
       rw at at is.2 in
       (is.0, zip-append (IsLane u ls) s.lanes _ p _ is.1 (opened, tt), tt)
 
-  pub end-goes : (number : ℕ) (r : plan.Reading) (s : lines.Reading) → IsReading u ls r s
+  pub end-goes : (number : ℕ) (r : plan.Reading) (s : lines.LineReading) → IsReading u ls r s
       → ((x : Instruction) → x ≡ EndWhen → Says u ls number x)
       → IfOk (plan.take_end r.draft r.side) (λ e. IsReading u ls e (lines.take_end number s))
   end-goes number r s is says = go r.side is.1 where
@@ -184,28 +184,29 @@ module _ (u : Universe) (ls : List Line) where
 
   -- ---- what is not in a branch
 
-  pub block-goes : (number : ℕ) (name : List ℕ) (r : plan.Reading) (s : lines.Reading)
+  pub block-goes : (number : ℕ) (name : List ℕ) (r : plan.Reading) (s : lines.LineReading)
       → IsReading u ls r s
       → IfOk (plan.take_block number r.draft name >>= on_side Outside)
-      (λ e. IsReading u ls e (lines.opened (lines.InBlock name) s))
+      (λ e. IsReading u ls e (lines.with_open (lines.InBlock name) s))
   block-goes number name r s is =
-      then-has (λ d. IsDraft u ls d (lines.opened (lines.InBlock name) s))
-      (λ e. IsReading u ls e (lines.opened (lines.InBlock name) s))
+      then-has (λ d. IsDraft u ls d (lines.with_open (lines.InBlock name) s))
+      (λ e. IsReading u ls e (lines.with_open (lines.InBlock name) s))
       (plan.take_block number r.draft name) (on_side Outside)
-      (if-has (λ d. IsDraft u ls d (lines.opened (lines.InBlock name) s))
+      (if-has (λ d. IsDraft u ls d (lines.with_open (lines.InBlock name) s))
       (is_open r.draft.current) _ _ (λ _. tt)
-      (λ _. if-has (λ d. IsDraft u ls d (lines.opened (lines.InBlock name) s))
+      (λ _. if-has (λ d. IsDraft u ls d (lines.with_open (lines.InBlock name) s))
       (list_any (λ (b : plan.Block). bytes_eq name b.name) r.draft.blocks) _ _ (λ _. tt)
       (λ new. (is.0.0, is.0.1, (refl, tt, new)))))
       (λ d good. (good, refl))
 
   pub lane-goes : (number : ℕ) (name chroot : List ℕ) (budget : ℕ) (r : plan.Reading)
-      (s : lines.Reading) → IsReading u ls r s
+      (s : lines.LineReading) → IsReading u ls r s
       → IfOk (plan.take_lane u number r.draft name chroot budget >>= on_side Outside)
-      (λ e. IsReading u ls e (lines.opened (lines.InLane number) s))
+      (λ e. IsReading u ls e (lines.with_open (lines.InLane number) s))
   lane-goes number name chroot budget r s is =
-      let Goal : plan.Draft → Type 0 = λ d. IsDraft u ls d (lines.opened (lines.InLane number) s) in
-      then-has Goal (λ e. IsReading u ls e (lines.opened (lines.InLane number) s))
+      let Goal : plan.Draft → Type 0 = λ d. IsDraft u ls d
+      (lines.with_open (lines.InLane number) s) in
+      then-has Goal (λ e. IsReading u ls e (lines.with_open (lines.InLane number) s))
       (plan.take_lane u number r.draft name chroot budget) (on_side Outside)
       (if-has Goal (is_open r.draft.current) _ _ (λ _. tt)
       (λ _. then-has (λ _. Unit {0}) Goal (known_base u chroot) _ (always (known_base u chroot))
@@ -215,7 +216,7 @@ module _ (u : Universe) (ls : List Line) where
       (λ _. (is.0.0, is.0.1, tt))))))
       (λ d good. (good, refl))
 
-  pub use-goes : (number : ℕ) (name : List ℕ) (r : plan.Reading) (s : lines.Reading)
+  pub use-goes : (number : ℕ) (name : List ℕ) (r : plan.Reading) (s : lines.LineReading)
       → IsReading u ls r s
       → IfOk (plan.take_use r name)
       (λ e. IsReading u ls e (lines.add (Some number) (lines_named s.blocks name) s))

@@ -58,8 +58,8 @@ abbrev pub whole_named : List (Vec ℕ × Whole) → List ℕ → Whole
 whole_named es name = unwrap_or (lookup (λ k. bytes_eq name k.items) es) empty_whole
 
 -- lines come into the open block
-abbrev pub write : BlockLines → List ℕ → BlockLines
-write blocks ns = record { ended = blocks.ended; begun = with_room 0 blocks.begun ns }
+abbrev pub lines_written : BlockLines → List ℕ → BlockLines
+lines_written blocks ns = record { ended = blocks.ended; begun = with_room 0 blocks.begun ns }
 
 -- the open block ends
 abbrev pub end_block : BlockLines → List ℕ → BlockLines

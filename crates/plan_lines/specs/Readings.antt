@@ -2,8 +2,8 @@
 -- is none of a plan's says nothing, nor does an instruction, a `use` or an `end` where nothing is
 -- open. What the lines of a text say that is no plan is of no use.
 --
---   Reading              what the lines so far say
---   take_line r line     what they say with one more
+--   LineReading          what the lines so far say
+--   reading_with r line  what they say with one more
 --   TextLines            the lines of a text
 --   origin_at ls l i      where an instruction comes from
 --   plan_lines_of text   those of a plan's text, or the fault of a text that is too long
@@ -28,7 +28,7 @@ pub data Open : Type 0 where
 -- the blocks that have ended, and the lines of the open one; the lanes that have ended, and where
 -- the instructions of the open one come from; what is open, and whether the next line stands inside
 -- a branch
-pub record Reading : Type 0 where
+pub record LineReading : Type 0 where
   pub blocks : List Block
   pub lines : List ℕ
   pub lanes : List LaneLines
@@ -37,7 +37,7 @@ pub record Reading : Type 0 where
   pub inside : Bool
 
 -- before the first line
-abbrev pub unread : Reading
+abbrev pub unread : LineReading
 unread = record {
   blocks = [];
   lines = [];
@@ -48,8 +48,8 @@ unread = record {
 }
 
 -- a block or a lane opens, and what was open is left out
-abbrev pub opened : Open → Reading → Reading
-opened o r = record {
+abbrev pub with_open : Open → LineReading → LineReading
+with_open o r = record {
   blocks = r.blocks;
   lines = [];
   lanes = r.lanes;
@@ -60,27 +60,27 @@ opened o r = record {
 
 -- these lines come into what is open, in a lane as those that the `use` of a line brings in where
 -- there is one
-abbrev pub add_to : Open → Option ℕ → List ℕ → Reading → Reading
+abbrev pub add_to : Open → Option ℕ → List ℕ → LineReading → LineReading
 add_to Nothing used ns r = r
 add_to (InBlock name) used ns r = record r { lines = with_room 0 r.lines ns }
 add_to (InLane head) used ns r =
     record r { origins = with_room (count_of r.lanes) r.origins (map (from_line used) ns) }
 
-abbrev pub add : Option ℕ → List ℕ → Reading → Reading
+abbrev pub add : Option ℕ → List ℕ → LineReading → LineReading
 add used ns r = add_to r.current used ns r
 
 -- what is open ends at a line
-abbrev pub end_of : Open → ℕ → Reading → Reading
+abbrev pub end_of : Open → ℕ → LineReading → LineReading
 end_of Nothing number r = r
 end_of (InBlock name) number r =
-    opened Nothing (record r { blocks = with_block r.blocks name r.lines })
+    with_open Nothing (record r { blocks = with_block r.blocks name r.lines })
 end_of (InLane head) number r =
-    opened Nothing (record r {
+    with_open Nothing (record r {
       lanes = r.lanes ++ record { head = head; origins = r.origins; end = number } ∷ [];
     })
 
 -- inside a branch or not
-abbrev pub on_side : Bool → Reading → Reading
+abbrev pub on_side : Bool → LineReading → LineReading
 on_side inside r = record r { inside = inside }
 
 -- whether the line behind an instruction stands inside a branch
@@ -89,31 +89,31 @@ side_behind inside (WhenForm name relation) = true
 side_behind inside wording = inside
 
 -- an `end` is that of the branch, or else of the block or lane
-abbrev pub take_end : ℕ → Reading → Reading
+abbrev pub take_end : ℕ → LineReading → LineReading
 take_end number r =
     if r.inside then on_side false (add None (number ∷ []) r) else end_of r.current number r
 
 -- with one more line, of this number and form
-unfoldable pub take_form : ℕ → Form → Reading → Reading
-take_form number (BlockForm name) r = opened (InBlock name) r
-take_form number (LaneForm name chroot budget) r = opened (InLane number) r
+unfoldable pub take_form : ℕ → Form → LineReading → LineReading
+take_form number (BlockForm name) r = with_open (InBlock name) r
+take_form number (LaneForm name chroot budget) r = with_open (InLane number) r
 take_form number EndForm r = take_end number r
 take_form number (UseForm name) r = add (Some number) (lines_named r.blocks name) r
 take_form number (InstructionForm wording) r =
     on_side (side_behind r.inside wording) (add None (number ∷ []) r)
 
 -- the same, where the line has a form
-abbrev pub take_read : ℕ → Result Form ℕ → Reading → Reading
+abbrev pub take_read : ℕ → Result Form ℕ → LineReading → LineReading
 take_read number (Ok form) r = take_form number form r
 take_read number (Err code) r = r
 
 -- with one more line
-abbrev pub take_line : Reading → Line → Reading
-take_line r (number, line) = take_read number (form_at line) r
+abbrev pub reading_with : LineReading → Line → LineReading
+reading_with r (number, line) = take_read number (form_at line) r
 
 -- what the lines behind the first one say
-abbrev pub reading_of : List Line → Reading
-reading_of ls = fold take_line unread ls
+abbrev pub reading_of : List Line → LineReading
+reading_of ls = fold reading_with unread ls
 
 -- the first line, and the lanes in file order
 pub record TextLines : Type 0 where

@@ -4,8 +4,8 @@ ghost use Rattle.std.specs.Prelude.{◌≡◌, ◌∷◌, [], None, Some, IfOk, 
 ghost use Rattle.deb_text.specs.Answers.{Gives, refusal_of};
 ghost use Rattle.plan_asm.specs.View.{form_of, wording_of};
 ghost use Rattle.plan_lines.specs.Origins.{lines_named};
-ghost use Rattle.plan_lines.specs.Readings.{unread, opened, add, end_of, on_side, side_behind};
-ghost use Rattle.plan_lines.specs.Readings.{take_end, take_form, take_line};
+ghost use Rattle.plan_lines.specs.Readings.{unread, with_open, add, end_of, on_side, side_behind};
+ghost use Rattle.plan_lines.specs.Readings.{take_end, take_form, reading_with};
 ghost use Rattle.plan_lines.specs.View.{open_of};
 
 use crate::blocks::Blocks;
@@ -37,7 +37,7 @@ impl Model for Reading {
     ghost use Rattle.plan_lines.specs.Readings as spec;
     ghost use Rattle.plan_lines.specs.View.{open_of};
 
-    ghost Value = { spec.Reading };
+    ghost Value = { spec.LineReading };
 
     ghost view = { λ it. record {
       blocks = it.blocks.ended;
@@ -94,7 +94,7 @@ impl Reading {
 
     /// Opens a block or a lane.
     fn open(self, alloc: Global, current: Section) -> Reading
-        ensures { result ≡ opened (open_of current) self }
+        ensures { result ≡ with_open (open_of current) self }
     {
         let Reading { blocks, lanes, .. } = self;
         Reading {
@@ -240,7 +240,8 @@ impl Reading {
     ///
     /// [`Fault::MEMORY`] where memory ran out.
     pub fn take_line(self, alloc: Global, number: u32, line: &[u8]) -> Result<Reading, Fault>
-        ensures { Gives refusal_of (λ next. next) result (Ok (take_line self (number, line.now))) }
+        ensures { Gives refusal_of (λ next. next) result
+            (Ok (reading_with self (number, line.now))) }
     {
         match read_form(alloc, line) {
             Ok(form) => Ok(self.take_form(alloc, number, form)?),

@@ -184,7 +184,7 @@ explained f (x ∷ xs) each t is =
     first_or f x.0 x.1 t (first_trap xs) is each.0 (explained f xs each.1 t)
 
 module _ (u : Universe) (of : Lane) (m : May) where
-  over : (cost : ℕ) → is_some (reasons.over_budget of m cost) ≡ may_exceed of m cost
+  over : (cost : ℕ) → is_some (reasons.over_budget_reason of m cost) ≡ may_exceed of m cost
   over cost = then-is (may_exceed of m cost) (Reason.OverBudget m.cost cost of.budget)
 
   full : (added : ℕ)

@@ -11,7 +11,7 @@ use Rattle.farm_model.specs.Universe.{Universe}
 use Rattle.farm_model.specs.Packages.{variant, variants}
 use Rattle.farm_model.proofs.BelowLaws.{some_below-at, some_below-found}
 use Rattle.farm_model.proofs.TestLaws.{same_tests}
-use Rattle.sat_rows.specs.Rows.{passes}
+use Rattle.sat_rows.specs.Rows.{variant_passes}
 use Rattle.refusal_reasons.specs.Hits.{name_has_hit}
 
 -- ---- words cut short
@@ -29,7 +29,7 @@ take-past (w ∷ words) (suc k) zero le = absurd (omega arith)
 take-past (w ∷ words) (suc k) (suc n) le = take-past words k n (omega arith)
 
 module _ (u : Universe) (words : List ℕ) (p : Variant → Bool) (k : ℕ) where
-  hit-from : HaveCommon (variants_of (take k words)) (passes u p)
+  hit-from : HaveCommon (variants_of (take k words)) (variant_passes u p)
       → some_below k (name_has_hit u words p) ≡ true
   hit-from common =
       let n = common.0 in
@@ -48,7 +48,7 @@ module _ (u : Universe) (words : List ℕ) (p : Variant → Bool) (k : ℕ) wher
       ]
 
   hit-to : some_below k (name_has_hit u words p) ≡ true
-      → HaveCommon (variants_of (take k words)) (passes u p)
+      → HaveCommon (variants_of (take k words)) (variant_passes u p)
   hit-to some =
       let f = some_below-found k (name_has_hit u words p) some in
       let g =
@@ -62,7 +62,7 @@ module _ (u : Universe) (words : List ℕ) (p : Variant → Bool) (k : ℕ) wher
       )
 
   pub ahead-is : (t : Bool)
-      → (t ≡ true) ↔ HaveCommon (variants_of (take k words)) (passes u p)
+      → (t ≡ true) ↔ HaveCommon (variants_of (take k words)) (variant_passes u p)
       → t ≡ some_below k (name_has_hit u words p)
   ahead-is t told =
       same_tests t _ (λ holds. hit-from (told.0 holds)) (λ holds. told.1 (hit-to holds))

@@ -61,8 +61,8 @@ needed_entry u needs v =
 
 -- ---- tests of several instructions
 
-abbrev pub over_budget : Lane → May → ℕ → Option Reason
-over_budget of m cost =
+abbrev pub over_budget_reason : Lane → May → ℕ → Option Reason
+over_budget_reason of m cost =
     if may_exceed of m cost then Some (Reason.OverBudget m.cost cost of.budget) else None
 
 abbrev pub too_full : Universe → Lane → May → ℕ → Option Reason
@@ -90,7 +90,7 @@ abbrev pub breaking : Universe → Variant → Variant → Option Reason
 breaking u v w = if breaks u v w then Some (Reason.Breaks v w) else None
 
 abbrev pub unpack_reason : Universe → Lane → May → ℕ → Bits → Trap → Option Reason
-unpack_reason u of m name set Trap.OverBudget = over_budget of m (greatest_cost u name set)
+unpack_reason u of m name set Trap.OverBudget = over_budget_reason of m (greatest_cost u name set)
 unpack_reason u of m name set Trap.PreDepends =
     first_of u name set (unmet_field u (surely_pre_met u name m) Field.PreDepends)
 unpack_reason u of m name set Trap.Conflict =
@@ -115,7 +115,7 @@ pick_reason u there of m name wanted (Some highest) trap =
 -- ---- the other instructions
 
 abbrev pub configure_reason : Universe → Lane → May → List ℕ → Trap → Option Reason
-configure_reason u of m members Trap.OverBudget = over_budget of m (set_cost members)
+configure_reason u of m members Trap.OverBudget = over_budget_reason of m (set_cost members)
 configure_reason u of m members Trap.WrongState = wrong_state is_surely_unpacked m members
 configure_reason u of m members Trap.PreDepends =
     first_member u members m (unmet_field u (surely_met u m) Field.PreDepends)
@@ -127,13 +127,13 @@ configure_reason u of m members Trap.Broken =
 configure_reason u of m members _ = None
 
 abbrev pub deconfigure_reason : Universe → Lane → May → List ℕ → Trap → Option Reason
-deconfigure_reason u of m members Trap.OverBudget = over_budget of m (set_cost members)
+deconfigure_reason u of m members Trap.OverBudget = over_budget_reason of m (set_cost members)
 deconfigure_reason u of m members Trap.WrongState = wrong_state is_surely_configured m members
 deconfigure_reason u of m members Trap.StillNeeded = still_needed u members m
 deconfigure_reason u of m members _ = None
 
 abbrev pub remove_reason : Universe → Lane → May → List ℕ → Trap → Option Reason
-remove_reason u of m members Trap.OverBudget = over_budget of m (set_cost members)
+remove_reason u of m members Trap.OverBudget = over_budget_reason of m (set_cost members)
 remove_reason u of m members Trap.WrongState = wrong_state is_surely_present m members
 remove_reason u of m members Trap.Essential =
     first_member u members m
@@ -148,7 +148,7 @@ unsettled u m = first_name u m
     else first_held u (unmet_entry u (surely_met u m)) n s)
 
 abbrev pub build_reason : Universe → Lane → May → ℕ → Trap → Option Reason
-build_reason u of m r Trap.OverBudget = over_budget of m (build_cost (recipe u r))
+build_reason u of m r Trap.OverBudget = over_budget_reason of m (build_cost (recipe u r))
 build_reason u of m r Trap.Unsettled = unsettled u m
 build_reason u of m r Trap.BuildDepends =
     option_map (λ i. Reason.BuildNeed r i)
@@ -160,7 +160,7 @@ build_reason u of m r Trap.Full = too_full u of m (recipe u r).scratch
 build_reason u of m r _ = None
 
 abbrev pub publish_reason : Universe → Lane → May → ℕ → Trap → Option Reason
-publish_reason u of m r Trap.OverBudget = over_budget of m (publish_cost u r)
+publish_reason u of m r Trap.OverBudget = over_budget_reason of m (publish_cost u r)
 publish_reason u of m r Trap.NotBuilt =
     if was_built m.built r then None else Some (Reason.NotBuilt r)
 publish_reason u of m r _ = None

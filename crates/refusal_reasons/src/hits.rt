@@ -7,7 +7,7 @@ ghost use Rattle.farm_model.specs.declared.types.Variant.{Variant};
 ghost use Rattle.farm_model.specs.Below.{some_below};
 ghost use Rattle.farm_model.specs.Packages as packages;
 ghost use Rattle.farm_model.specs.Universe.{Universe};
-ghost use Rattle.sat_rows.specs.Rows.{passes};
+ghost use Rattle.sat_rows.specs.Rows.{variant_passes};
 ghost use Rattle.may_rows.specs.Words.{AreWords};
 ghost use Rattle.refusal_reasons.specs.Hits.{name_has_hit, IsFirstHit};
 
@@ -25,7 +25,7 @@ pub trait WordsTest {
     fn some_in(&self, universe: &Universe, words: &[u64]) -> bool
         requires { fits universe.now self.now }
         ensures { IsTrue result ↔ HaveCommon (variants_of words.now)
-            (passes universe.now (test universe.now self.now)) };
+            (variant_passes universe.now (test universe.now self.now)) };
 }
 
 /// Tells whether the words have a variant that passes of a name ahead of this one.

@@ -20,7 +20,7 @@ use Rattle.item_index.proofs.ItemLaws.{any_atom-at, any_atom-found}
 use Rattle.sat_rows.proofs.RowLaws.{row_from_names}
 use Rattle.sat_rows.specs.declared.found.NumberWord.{NumberWord}
 use Rattle.sat_rows.specs.Index.{IsNaming}
-use Rattle.sat_rows.specs.Rows.{passes, IsRowOf}
+use Rattle.sat_rows.specs.Rows.{variant_passes, IsRowOf}
 use Rattle.sat_rows.specs.Found.{among, Puts, IsFound, Finds, GrowsBy, alternative_passes, some_atom, passes_there, HasItems}
 
 -- tests
@@ -41,7 +41,7 @@ module _ (u : Universe) (p : Variant → Bool) where
   -- variants of a name that are put to those found
   module _ (name word : ℕ) (old new : List NumberWord)
       (put : (n b : ℕ) → among new n b ≡ (among old n b || ((n == name) && word_has word b))) where
-    pub put_grows : ((b : ℕ) → word_has word b ≡ true → passes u p name b ≡ true)
+    pub put_grows : ((b : ℕ) → word_has word b ≡ true → variant_passes u p name b ≡ true)
         → GrowsBy u p old new
     put_grows only =
         record {
@@ -50,14 +50,14 @@ module _ (u : Universe) (p : Variant → Bool) where
         }
       where
         back : (n b : ℕ) → (among old n b || ((n == name) && word_has word b)) ≡ true
-            → (among old n b || passes u p n b) ≡ true
+            → (among old n b || variant_passes u p n b) ≡ true
         back n b is =
             elim (or_cases (among old n b) _ is) [
               | inl before ↦ or_left (among old n b) _ before
               | inr both ↦
                   let parts = and_parts (n == name) _ both in
                   or_right (among old n b) _
-                  (ap (λ k. passes u p k b) (eqb-true n name parts.0) ∙ only b parts.1)
+                  (ap (λ k. variant_passes u p k b) (eqb-true n name parts.0) ∙ only b parts.1)
             ]
 
     pub put_has : (b : ℕ) → word_has word b ≡ true → among new name b ≡ true
@@ -71,8 +71,8 @@ module _ (u : Universe) (p : Variant → Bool) where
         passing = λ n k is. back n k (next.passing n k is);
       }
     where
-      back : (n k : ℕ) → (among b n k || passes u p n k) ≡ true
-          → (among a n k || passes u p n k) ≡ true
+      back : (n k : ℕ) → (among b n k || variant_passes u p n k) ≡ true
+          → (among a n k || variant_passes u p n k) ≡ true
       back n k is =
           elim (or_cases (among b n k) _ is) [
             | inl old ↦ first.passing n k old
@@ -81,7 +81,7 @@ module _ (u : Universe) (p : Variant → Bool) where
 
   -- all that pass were found
   pub finds_from_grows : (old new : List NumberWord) → GrowsBy u p old new
-      → ((n b : ℕ) → passes u p n b ≡ true → among new n b ≡ true) → Finds u p old new
+      → ((n b : ℕ) → variant_passes u p n b ≡ true → among new n b ≡ true) → Finds u p old new
   finds_from_grows old new grows all n b =
       both_tests (among new n b) _ (grows.passing n b)
       (λ is. elim (or_cases (among old n b) _ is) [
@@ -92,7 +92,7 @@ module _ (u : Universe) (p : Variant → Bool) where
   pub finds_next : (q r : Variant → Bool) (a b c : List NumberWord)
       → ((v : Variant) → r v ≡ (p v || q v)) → Finds u p a b → Finds u q b c → Finds u r a c
   finds_next q r a b c either first next n k =
-      next n k ∙ ap (λ x. x || passes u q n k) (first n k)
+      next n k ∙ ap (λ x. x || variant_passes u q n k) (first n k)
       ∙ or_spread (among a n k) (nat_lt k (variants u n)) (p (variant n k)) (q (variant n k))
       ∙ ap (λ x. among a n k || (nat_lt k (variants u n) && x)) (sym (either (variant n k)))
 
@@ -123,11 +123,11 @@ module _ (u : Universe) (field : Package → Relations) (test : Atom → Bool) w
     told (Some a) e is =
         any_atom-at test (field (package_of u at.owner)) at.entry at.alternative a e is
 
-    pub item_only : (b : ℕ) → word_has word b ≡ true → passes u some at.owner.name b ≡ true
+    pub item_only : (b : ℕ) → word_has word b ≡ true → variant_passes u some at.owner.name b ≡ true
     item_only b has =
         let parts = and_parts (passes_there u field test at) _ (sym (is b) ∙ has) in
         let there = and_parts (nat_lt at.owner.bit (variants u at.owner.name)) _ parts.0 in
-        ap (passes u some at.owner.name) (eqb-true b at.owner.bit parts.1)
+        ap (variant_passes u some at.owner.name) (eqb-true b at.owner.bit parts.1)
         ∙ and_from _ _ there.0
         (told (item_of at (field (package_of u at.owner))) refl there.1)
 
@@ -144,7 +144,7 @@ module _ (u : Universe) (field : Package → Relations) (test : Atom → Bool) w
   finds_listed lists name old new naming same grows has = finds_from_grows u some old new grows
       every
     where
-      every : (n b : ℕ) → passes u some n b ≡ true → among new n b ≡ true
+      every : (n b : ℕ) → variant_passes u some n b ≡ true → among new n b ≡ true
       every n b pass =
           let v = variant n b in
           let both = and_parts (nat_lt b (variants u n)) _ pass in

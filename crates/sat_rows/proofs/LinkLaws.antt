@@ -14,7 +14,7 @@ use Rattle.farm_universe.proofs.PlaceLaws.{named}
 use Rattle.item_index.proofs.ItemLaws.{any-at, any-found}
 use Rattle.sat_rows.specs.declared.found.NumberWord.{NumberWord}
 use Rattle.sat_rows.specs.Found.{among, shares_other, hits_other}
-use Rattle.sat_rows.specs.Rows.{passes, of_another_name}
+use Rattle.sat_rows.specs.Rows.{variant_passes, of_another_name}
 use Rattle.sat_rows.specs.Links.{Links, nth_list, Leads, reaches, IsLinks, AreNumbered, AreSets, AreTurned, declares, Exclusion, AreBoth, IsExclusion}
 
 -- what a list has stands within the lists
@@ -104,7 +104,7 @@ module _ (u : Universe) (test : Variant → Variant → Bool) (x : Links) (links
 module _ (u : Universe) (test : Variant → Variant → Bool) (x : Links) (links : IsLinks u test x)
     (v : Variant) (known : IsKnown u v) (words : List ℕ) where
   abbrev Common : Type 0
-  Common = HaveCommon (variants_of words) (passes u (of_another_name v (test v)))
+  Common = HaveCommon (variants_of words) (variant_passes u (of_another_name v (test v)))
 
   abbrev way : NumberWord → Bool
   way e = word_has e.word v.bit && hits_other v.name words (nth_list x.by_entry e.number)
@@ -166,7 +166,7 @@ module _ (u : Universe) (test : Variant → Variant → Bool) (x : Links) (links
 -- variants that pass one of two tests
 module _ (u : Universe) (v : Variant) (p q : Variant → Bool) (words : List ℕ) where
   abbrev Has : (Variant → Bool) → Type 0
-  Has r = HaveCommon (variants_of words) (passes u (of_another_name v r))
+  Has r = HaveCommon (variants_of words) (variant_passes u (of_another_name v r))
 
   wider : (r s : Variant → Bool) → ((w : Variant) → r w ≡ true → s w ≡ true) → Has r → Has s
   wider r s on has =

@@ -18,7 +18,7 @@ use Rattle.std.specs.Ordering.{is_lt, is_le, ordering_reverse}
 use Rattle.deb_relation.specs.declared.operator.Op.{Op}
 use Rattle.deb_relation.specs.declared.operator.Op.TheVariants.{Earlier, EarlierOrEqual, Equal as SameVersion, LaterOrEqual, Later}
 use Rattle.deb_relation.specs.Satisfaction.{admits}
-use Rattle.sat_rows.specs.Rows.{passes}
+use Rattle.sat_rows.specs.Rows.{variant_passes}
 use Rattle.sat_rows.specs.Ranges.{is_before, IsCountBefore, IsRange}
 
 -- numbers that are not below
@@ -244,7 +244,7 @@ less_or_equal Greater is = is
 -- the ranges of relations
 pub none_wanted : (u : Universe) (n b count word : ℕ) → count ≡ variants u n
     → word_has word b ≡ (not (nat_lt b 0) && nat_lt b count)
-    → word_has word b ≡ passes u (is_wanted u None) n b
+    → word_has word b ≡ variant_passes u (is_wanted u None) n b
 unfolding is_wanted
 none_wanted u n b count word is bits =
     bits

@@ -17,7 +17,7 @@ use Rattle.item_index.proofs.ItemLaws.{any-at, any-found}
 use Rattle.sat_rows.specs.declared.found.NumberWord.{NumberWord}
 use Rattle.sat_rows.specs.Found.{among}
 use Rattle.sat_rows.specs.Links.{Links, nth_list}
-use Rattle.sat_rows.specs.Rows.{passes, IsRowOf}
+use Rattle.sat_rows.specs.Rows.{variant_passes, IsRowOf}
 use Rattle.sat_rows.specs.Served.{AreServed, shares, hits_some, is_unmet, is_missed_by, misses, IsMissed}
 use Rattle.sat_rows.proofs.LinkLaws.{within}
 use Rattle.sat_rows.proofs.WantedLaws.{wanted_is}
@@ -48,12 +48,12 @@ hit_from words vs n b held has =
 -- the row of variants that pass, and these
 inside_row : (u : Universe) (p : Variant → Bool) (row words : List ℕ) → IsRowOf u p row
     → HasNameInside (variants_of words) (variants_of row)
-    → HasNameInside (variants_of words) (passes u p)
+    → HasNameInside (variants_of words) (variant_passes u p)
 inside_row u p row words is inside =
     (inside.0, inside.1, λ b has. sym (is.set inside.0 b) ∙ inside.2 b has)
 
 inside_passing : (u : Universe) (p : Variant → Bool) (row words : List ℕ) → IsRowOf u p row
-    → HasNameInside (variants_of words) (passes u p)
+    → HasNameInside (variants_of words) (variant_passes u p)
     → HasNameInside (variants_of words) (variants_of row)
 inside_passing u p row words is inside =
     (inside.0, inside.1, λ b has. is.set inside.0 b ∙ inside.2 b has)
@@ -79,14 +79,14 @@ module _ (u : Universe) (rows : List (List ℕ)) (x : Links) (are : AreServed u 
     row_is = are.rows_of.each k e at
 
     unmet_is : is_unmet words (slice_get rows k) ≡ true
-        → HasNameInside (variants_of words) (passes u p) → ⊥
+        → HasNameInside (variants_of words) (variant_passes u p) → ⊥
     unmet_is told inside =
         let not_met = not-true _ (sym (ap (is_unmet words) row_there) ∙ told) in
         both_ways _ not_met
         ((met-bits words (get_or rows k []) (long ∙ sym row_is.long)).1
         (inside_passing u p (get_or rows k []) words row_is inside))
 
-    unmet_from : (HasNameInside (variants_of words) (passes u p) → ⊥)
+    unmet_from : (HasNameInside (variants_of words) (variant_passes u p) → ⊥)
         → is_unmet words (slice_get rows k) ≡ true
     unmet_from none =
         ap (is_unmet words) row_there
@@ -145,7 +145,7 @@ module _ (u : Universe) (rows : List (List ℕ)) (x : Links) (are : AreServed u 
     met_by_own : (at : NumberWord) (e : Entry) → slice_get are.entries at.number ≡ Some e
         → (i : ℕ) → slice_get (nth_list x.by_name name) i ≡ Some at
         → meets (slice_index words name) at.word ≡ true
-        → HasNameInside (variants_of words) (passes u (satisfies_entry u e))
+        → HasNameInside (variants_of words) (variant_passes u (satisfies_entry u e))
     met_by_own at e is i listed meets_it =
         let parts = (meets-bits (slice_index words name) at.word).0 meets_it in (
           name,

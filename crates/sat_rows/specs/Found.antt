@@ -21,7 +21,7 @@ use Rattle.farm_model.specs.Universe.{Package, Universe}
 use Rattle.farm_model.specs.Packages.{variants, package_of}
 use Rattle.item_index.specs.declared.item.Item.{Item}
 use Rattle.item_index.specs.Items.{any_atom, item_of, IsIn}
-use Rattle.sat_rows.specs.Rows.{passes}
+use Rattle.sat_rows.specs.Rows.{variant_passes}
 use Rattle.sat_rows.specs.declared.found.NumberWord.{NumberWord}
 
 -- the bit is set in a word under this number
@@ -43,16 +43,16 @@ hits_other but words vs = list_any (shares_other but words) vs
 
 -- the variants of the universe that pass, and no others
 abbrev pub IsFound : Universe → (Variant → Bool) → List NumberWord → Type 0
-IsFound u p vs = (n b : ℕ) → among vs n b ≡ passes u p n b
+IsFound u p vs = (n b : ℕ) → among vs n b ≡ variant_passes u p n b
 
 -- those that pass are put to the old ones
 abbrev pub Finds : Universe → (Variant → Bool) → List NumberWord → List NumberWord → Type 0
-Finds u p old new = (n b : ℕ) → among new n b ≡ (among old n b || passes u p n b)
+Finds u p old new = (n b : ℕ) → among new n b ≡ (among old n b || variant_passes u p n b)
 
 -- some that pass are put to the old ones
 pub record GrowsBy (u : Universe) (p : Variant → Bool) (old new : List NumberWord) : Type 0 where
   pub kept : (n b : ℕ) → among old n b ≡ true → among new n b ≡ true
-  pub passing : (n b : ℕ) → among new n b ≡ true → (among old n b || passes u p n b) ≡ true
+  pub passing : (n b : ℕ) → among new n b ≡ true → (among old n b || variant_passes u p n b) ≡ true
 
 -- what is there passes; what is not there does not
 abbrev pub alternative_passes : (Atom → Bool) → Option Atom → Bool

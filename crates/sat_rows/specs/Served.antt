@@ -25,7 +25,7 @@ use Rattle.farm_model.specs.Sound.{IsKnown}
 use Rattle.sat_rows.specs.declared.found.NumberWord.{NumberWord}
 use Rattle.sat_rows.specs.Entries.{AreRowsOf}
 use Rattle.sat_rows.specs.Links.{Links, nth_list, AreNumbered, AreSets, AreTurned}
-use Rattle.sat_rows.specs.Rows.{passes}
+use Rattle.sat_rows.specs.Rows.{variant_passes}
 
 -- Depends and Pre-Depends (Debian Policy 7.2)
 abbrev pub wanted : Package → Relations
@@ -83,6 +83,6 @@ pub record IsMissed (u : Universe) (name word : ℕ) (words : List ℕ) : Type 0
   -- that a variant of the name satisfies, one that the word has,
   pub bit : ℕ
   pub taken : word_has word bit ≡ true
-  pub satisfied : passes u (satisfies_entry u entry) name bit ≡ true
+  pub satisfied : variant_passes u (satisfies_entry u entry) name bit ≡ true
   -- and of no name the words have variants that all satisfy it
-  pub unmet : ¬ HasNameInside (variants_of words) (passes u (satisfies_entry u entry))
+  pub unmet : ¬ HasNameInside (variants_of words) (variant_passes u (satisfies_entry u entry))

@@ -6,7 +6,7 @@ ghost use Rattle.farm_model.specs.declared.types.Variant.{Variant};
 ghost use Rattle.farm_model.specs.Packages.{names, pre_depends, depends, satisfies_entry, satisfies_any};
 ghost use Rattle.farm_model.specs.Packages as packages;
 ghost use Rattle.farm_model.specs.Sound.{IsKnown};
-ghost use Rattle.sat_rows.specs.Rows.{passes, IsRowOf, IsSharedRow, IsAlternativeRow, nth_entry, conflicts_with, broken_by, breakers_of};
+ghost use Rattle.sat_rows.specs.Rows.{variant_passes, IsRowOf, IsSharedRow, IsAlternativeRow, nth_entry, conflicts_with, broken_by, breakers_of};
 ghost use Rattle.sat_rows.specs.Index.{IsProviding};
 ghost use Rattle.deb_relation.specs.Relations as spec;
 ghost use Rattle.sat_rows.specs.Entries.{AreNumbered, AreRowsOf};
@@ -346,7 +346,7 @@ impl Tables {
     pub fn conflicts_with_some(&self, variant: Variant, words: &[u64]) -> bool
         requires { IsKnown self.now variant }
         ensures { IsTrue result ↔ HaveCommon (variants_of words.now)
-            (passes self.now (conflicts_with self.now variant)) }
+            (variant_passes self.now (conflicts_with self.now variant)) }
     {
         self.conflicts.has_some(variant, words)
     }
@@ -355,7 +355,7 @@ impl Tables {
     pub fn breaks_some(&self, variant: Variant, words: &[u64]) -> bool
         requires { IsKnown self.now variant }
         ensures { IsTrue result ↔ HaveCommon (variants_of words.now)
-            (passes self.now (broken_by self.now variant)) }
+            (variant_passes self.now (broken_by self.now variant)) }
     {
         self.breaks.names_some(variant, words)
     }
@@ -364,7 +364,7 @@ impl Tables {
     pub fn is_broken_by_some(&self, variant: Variant, words: &[u64]) -> bool
         requires { IsKnown self.now variant }
         ensures { IsTrue result ↔ HaveCommon (variants_of words.now)
-            (passes self.now (breakers_of self.now variant)) }
+            (variant_passes self.now (breakers_of self.now variant)) }
     {
         self.breaks.is_named(variant, words)
     }

@@ -7,7 +7,7 @@
 --   IsTableOf              all that a plan publishes
 use Rattle.std.specs.Prelude.{◌≡◌, ℕ, List, [], length, Option, None, slice_index_or, slice_set, Some}
 use Rattle.std.specs.Option.{option_map, option_or}
-use Rattle.farm_explain.specs.ReasonText.{publication}
+use Rattle.farm_explain.specs.ReasonText.{first_publication}
 use Rattle.farm_model.specs.declared.types.Variant.{Variant}
 use Rattle.farm_model.specs.Packages.{names, variants}
 use Rattle.farm_model.specs.Universe.{Universe}
@@ -17,14 +17,14 @@ use Rattle.wait_notes.specs.declared.publications.Publication.{Publication}
 abbrev pub Table : Type 0
 Table = List (List (Option Publication))
 
-abbrev pub place_of : Publication → ℕ × ℕ
-place_of found = (found.lane, found.instruction)
+abbrev pub publication_place : Publication → ℕ × ℕ
+publication_place found = (found.lane, found.instruction)
 
-abbrev pub slot : Table → Variant → Option Publication
-slot t v = slice_index_or (slice_index_or t v.name []) v.bit None
+abbrev pub table_slot : Table → Variant → Option Publication
+table_slot t v = slice_index_or (slice_index_or t v.name []) v.bit None
 
 abbrev pub found : Table → Variant → Option (ℕ × ℕ)
-found t v = option_map place_of (slot t v)
+found t v = option_map publication_place (table_slot t v)
 
 -- the table with one publication more
 abbrev pub with_place : Table → Variant → Publication → Table
@@ -39,4 +39,4 @@ abbrev pub Adds : Table → Table → (Variant → Option (ℕ × ℕ)) → Type
 Adds old new more = (v : Variant) → found new v ≡ option_or (found old v) (more v)
 
 abbrev pub IsTableOf : Universe → Plan → Table → Type 0
-IsTableOf u p t = (v : Variant) → found t v ≡ publication u p v
+IsTableOf u p t = (v : Variant) → found t v ≡ first_publication u p v

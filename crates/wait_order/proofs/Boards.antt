@@ -12,7 +12,7 @@ use Rattle.farm_laws.proofs.Archive.{same-true, same-refl}
 use Rattle.plan_model.specs.Plan.{Plan}
 use Rattle.plan_model.specs.Turn as turn
 use Rattle.plan_model.specs.Order.{Item, Pass, Give, Board, on_board, rest_of, board_after, Reaches}
-use Rattle.sat_rows.specs.Rows.{passes, IsRowOf}
+use Rattle.sat_rows.specs.Rows.{variant_passes, IsRowOf}
 use Rattle.wait_order.specs.Standing.{IsReached, with_left}
 
 reaches_more : (u : Universe) (ls : List ℕ) (b m t : Board) (l : ℕ) → Reaches u b ls m
@@ -93,13 +93,13 @@ module _ (u : Universe) (p : Plan) (order there : List ℕ) (left : ℕ → List
       }
     where
       at : ℕ → ℕ → Bool
-      at n b = passes u (on_board u r.board) n b
+      at n b = variant_passes u (on_board u r.board) n b
 
       now : Variant → Bool
       now w = initial u w || contains (v ∷ r.board.published) w
 
       there_to : (n b : ℕ) → (at n b || ((n == v.name) && (b == v.bit))) ≡ true
-          → passes u now n b ≡ true
+          → variant_passes u now n b ≡ true
       there_to n b h =
           elim (or_cases (at n b) _ h) [
             | inl old ↦
@@ -122,7 +122,7 @@ module _ (u : Universe) (p : Plan) (order there : List ℕ) (left : ℕ → List
                 (ap (same v) is ∙ same-refl v)))
           ]
 
-      back : (n b : ℕ) → passes u now n b ≡ true
+      back : (n b : ℕ) → variant_passes u now n b ≡ true
           → (at n b || ((n == v.name) && (b == v.bit))) ≡ true
       back n b h =
           let parts = and_parts (nat_lt b (variants u n)) _ h in

@@ -13,7 +13,7 @@ use Rattle.farm_model.specs.Universe.{Universe}
 use Rattle.farm_model.specs.Packages.{variant, variants, same, contains, initial}
 use Rattle.farm_model.specs.Sound.{IsKnown, IsUniverse}
 use Rattle.plan_model.specs.Plan.{Plan, lane, lane_outputs}
-use Rattle.sat_rows.specs.Rows.{passes, IsWordFor}
+use Rattle.sat_rows.specs.Rows.{variant_passes, IsWordFor}
 use Rattle.wait_order.specs.declared.by_name.OutputPlace.{OutputPlace}
 use Rattle.wait_order.specs.declared.marks.LaneOutputs.{LaneOutputs}
 use Rattle.wait_order.specs.declared.marks.Output.{Output}
@@ -88,7 +88,7 @@ module _ (u : Universe) (p : Plan) (lanes : List LaneOutputs) (sound : IsUnivers
     (are : AreLanes u p lanes) (x : ℕ → ℕ) where
   -- an output that counts is in the row
   counted_in : (at : OutputPlace) (n b : ℕ) → IsCounted lanes x at n b
-      → passes u (row_of u p x) n b ≡ true
+      → variant_passes u (row_of u p x) n b ≡ true
   counted_in at n b is =
       let of = is.is.of in
       let outs = of.outputs.items in

@@ -60,12 +60,12 @@ excludes_beside = beside 0 0 100 (Unpack lib None ∷ Unpack cc None ∷ [])
 abbrev pub breaks_beside : Plan
 breaks_beside = beside 0 0 100 (Unpack lib None ∷ Configure (lib ∷ []) ∷ Unpack dd None ∷ [])
 
-abbrev pub only_first : Option (Op × List ℕ)
-only_first = Some (Equal, codes "1")
+abbrev pub version_one : Option (Op × List ℕ)
+version_one = Some (Equal, codes "1")
 
 -- the lib that goes may be lib 1, which ee needs, or lib 2
 abbrev pub removes_beside : Plan
 removes_beside =
     beside 0 0 100
-    (Unpack lib only_first ∷ Configure (lib ∷ []) ∷ Unpack ee None ∷ Configure (ee ∷ [])
+    (Unpack lib version_one ∷ Configure (lib ∷ []) ∷ Unpack ee None ∷ Configure (ee ∷ [])
     ∷ Unpack lib None ∷ Configure (lib ∷ []) ∷ Remove (lib ∷ []) ∷ [])

@@ -1,9 +1,9 @@
 use Rattle.std.proofs.Common.{◌≡◌, ◌+◌, ◌<◌, ◌≤◌, ◌++◌, ℕ, true, false, List, refl, sym, ap, ap₂, ◌∙◌, arith, length, take, drop, get_or, set}
 use Rattle.std.specs.Simd.Lanes.{zip2}
 use Rattle.std.proofs.lemmas.List.{get_or-drop, get_or_default, drop-drop, drop-set-lt, length-set}
-use Rattle.clause_kernel.specs.Kernels.{same}
+use Rattle.clause_kernel.specs.Kernels.{same_rows}
 use Rattle.bit_rows.specs.declared.block.Block.{Block}
-use Rattle.bit_rows.specs.Blocks.{words_at, changed_blocks, no_words, IsAscending, StandsAt}
+use Rattle.bit_rows.specs.Blocks.{block_words_at, changed_blocks, no_words, IsAscending, StandsAt}
 use Rattle.bit_rows.proofs.Places.{blank, below_to}
 use Rattle.bit_rows.proofs.Walks.{place_next}
 use Rattle.bit_rows.proofs.Changes.{changed_kept, changed_dropped}
@@ -26,7 +26,7 @@ record Reads (f : ℕ → ℕ → ℕ) (at there : ℕ) (item : Block) (words : 
   ascending : IsAscending 0 start
   lt : at < length start
   item_is : item ≡ get_or blocks at item
-  words_are : words ≡ zip2 f item.words (words_at others item.place)
+  words_are : words ≡ zip2 f item.words (block_words_at others item.place)
   stands : StandsAt there item.place others
 
 turn : (f : ℕ → ℕ → ℕ) (at kept kept_new there there_new : ℕ) (item : Block) (words : List ℕ)
@@ -55,7 +55,7 @@ turn f at kept kept_new there there_new item words blocks new others start is re
 
 turn_kept : (f : ℕ → ℕ → ℕ) (at kept kept_new there there_new : ℕ) (item : Block) (words : List ℕ)
     (blocks new others start : List Block) → IsChangedTo f at kept there blocks others start
-    → Reads f at there_new item words blocks others start → same words no_words ≡ false
+    → Reads f at there_new item words blocks others start → same_rows words no_words ≡ false
     → new ≡ set blocks kept (record { place = item.place; words = words }) → kept_new ≡ kept + 1
     → IsChangedTo f (at + 1) kept_new there_new new others start
 turn_kept f at kept kept_new there there_new item words blocks new others start is reads one made
@@ -69,11 +69,11 @@ turn_kept f at kept kept_new there there_new item words blocks new others start 
     let read : b ≡ record {
       place = (get_or blocks at item).place;
       words = zip2 f (get_or blocks at item).words
-          (words_at others (get_or blocks at item).place);
+          (block_words_at others (get_or blocks at item).place);
     } =
     ap (λ w. record { place = item.place; words = w }) reads.words_are
     ∙ ap (λ (x : Block). record
-    { place = x.place; words = zip2 f x.words (words_at others x.place) }) reads.item_is in
+    { place = x.place; words = zip2 f x.words (block_words_at others x.place) }) reads.item_is in
     turn f at kept kept_new there there_new item words blocks new others start is reads
     (omega arith)
     long_new (ap (drop (at + 1)) made ∙ drop-set-lt (at + 1) blocks kept b (omega arith))
@@ -83,7 +83,7 @@ turn_kept f at kept kept_new there there_new item words blocks new others start 
 turn_dropped : (f : ℕ → ℕ → ℕ) (at kept kept_new there there_new : ℕ) (item : Block)
     (words : List ℕ) (blocks new others start : List Block)
     → IsChangedTo f at kept there blocks others start
-    → Reads f at there_new item words blocks others start → same words no_words ≡ true
+    → Reads f at there_new item words blocks others start → same_rows words no_words ≡ true
     → new ≡ blocks → kept_new ≡ kept → IsChangedTo f (at + 1) kept_new there_new new others start
 turn_dropped f at kept kept_new there there_new item words blocks new others start is reads none
     made counted =
@@ -95,11 +95,11 @@ turn_dropped f at kept kept_new there there_new item words blocks new others sta
     let read : b ≡ record {
       place = (get_or blocks at item).place;
       words = zip2 f (get_or blocks at item).words
-          (words_at others (get_or blocks at item).place);
+          (block_words_at others (get_or blocks at item).place);
     } =
     ap (λ w. record { place = item.place; words = w }) reads.words_are
     ∙ ap (λ (x : Block). record
-    { place = x.place; words = zip2 f x.words (words_at others x.place) }) reads.item_is in
+    { place = x.place; words = zip2 f x.words (block_words_at others x.place) }) reads.item_is in
     turn f at kept kept_new there there_new item words blocks new others start is reads
     (omega arith)
     (ap length made) (ap (drop (at + 1)) made)
