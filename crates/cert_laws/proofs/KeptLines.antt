@@ -17,7 +17,7 @@ use Rattle.farm_model.specs.Universe.{Universe}
 use Rattle.plan_model.specs.Plan.{Plan, lane}
 use Rattle.cert_text.proofs.RowLists.{row_variants-in}
 use Rattle.cert_text.specs.Printed.{name_of, variant_text, more_text, list_text}
-use Rattle.cert_text.specs.Rows.{IsIn, row_variants}
+use Rattle.cert_text.specs.Rows.{IsOfUniverse, row_variants}
 use Rattle.cert_laws.specs.Laws.{IsSpelled, known_text, order_text}
 use Rattle.cert_laws.proofs.Items.{item-none}
 use Rattle.cert_laws.proofs.Lists.{IsSpelledVariant}
@@ -67,7 +67,7 @@ module _ (u : Universe) where
     row-line row =
         let vs = row_variants u row in
         list-line vs
-        (All-weaker (IsIn u) (IsSpelledVariant u) (variant-spelled u spelled) vs
+        (All-weaker (IsOfUniverse u) (IsSpelledVariant u) (variant-spelled u spelled) vs
         (row_variants-in u row))
 
     pub known-kept : (name : List ℕ) (number : ℕ) (row : List ℕ) → is_run name ≡ true

@@ -7,7 +7,7 @@ use Rattle.farm_model.specs.declared.types.Variant.{Variant}
 use Rattle.farm_model.specs.Packages.{names, variant, variants}
 use Rattle.farm_model.specs.Universe.{Universe}
 use Rattle.cert_text.specs.Certificates.{IsNewRow}
-use Rattle.cert_text.specs.Rows.{IsIn, in_row, named_in_row, is_behind, comes_behind, row_variants, variants_behind}
+use Rattle.cert_text.specs.Rows.{IsOfUniverse, in_row, named_in_row, is_behind, comes_behind, row_variants, variants_behind}
 use Rattle.cert_laws.specs.Laws.{IsSpelled}
 use Rattle.cert_laws.proofs.Lists.{entry_of}
 use Rattle.cert_laws.proofs.Variants.{item-variant}
@@ -15,7 +15,8 @@ use Rattle.cert_laws.proofs.Variants.{item-variant}
 -- each may come behind the one before it
 abbrev pub AreOrdered : Universe → Option Variant → List Variant → Type 0
 AreOrdered u last [] = Unit {0}
-AreOrdered u last (v ∷ vs) = (comes_behind u last v ≡ true) × IsIn u v × AreOrdered u (Some v) vs
+AreOrdered u last (v ∷ vs) = (comes_behind u last v ≡ true) × IsOfUniverse u v
+    × AreOrdered u (Some v) vs
 
 -- the last one stands ahead of a name's bits from this one on; of names from this one on
 abbrev IsAheadOf : Option Variant → ℕ → ℕ → Type 0

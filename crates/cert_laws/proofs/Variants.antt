@@ -16,7 +16,7 @@ use Rattle.farm_model.specs.Universe.{Universe}
 use Rattle.farm_universe.specs.ListText.{pinned}
 use Rattle.plan_asm.proofs.Places.{place-first}
 use Rattle.cert_text.specs.Printed.{name_of}
-use Rattle.cert_text.specs.Rows.{IsIn, find_variant, item_variant, variant_of}
+use Rattle.cert_text.specs.Rows.{IsOfUniverse, find_variant, item_variant, variant_of}
 use Rattle.cert_text.proofs.Searches.{variant-first}
 use Rattle.cert_laws.specs.Laws.{IsSpelled}
 use Rattle.cert_laws.proofs.Lists.{entry_of}
@@ -84,7 +84,7 @@ module _ (u : Universe) (spelled : IsSpelled u) where
       (lower (b - suc j) n j b (omega (arith, before)) lt))
       (itself (version n b))
 
-  pub item-variant : (v : Variant) → IsIn u v → item_variant u (entry_of u v) ≡ Some v
+  pub item-variant : (v : Variant) → IsOfUniverse u v → item_variant u (entry_of u v) ≡ Some v
   unfolding item_variant find_variant pinned
   item-variant v is =
       rw (name-place v.name is.name, version-place (name_of u v.name) v.name v.bit is.known) refl

@@ -10,7 +10,7 @@ use Rattle.clause_kernel.proofs.Words.{word_has_zero}
 use Rattle.farm_model.specs.declared.types.Variant.{Variant}
 use Rattle.farm_model.specs.Packages.{names, variant, variants}
 use Rattle.farm_model.specs.Universe.{Universe}
-use Rattle.cert_text.specs.Rows.{IsIn, in_row, named_variants, named_in_row, row_variants}
+use Rattle.cert_text.specs.Rows.{IsOfUniverse, in_row, named_variants, named_in_row, row_variants}
 
 -- the variants of a name below this bit
 abbrev pub named_below : ℕ → ℕ → List Variant
@@ -71,14 +71,14 @@ All-flat_map P f (x ∷ xs) all =
     (All-flat_map P f xs (All-tail (λ x. All P (f x)) x xs all))
 
 module _ (u : Universe) (row : List ℕ) where
-  named-in : (n : ℕ) → n < names u → All (IsIn u) (named_in_row u row n)
+  named-in : (n : ℕ) → n < names u → All (IsOfUniverse u) (named_in_row u row n)
   named-in n lt =
-      All-filter (λ v. variants_of row v.name v.bit) (IsIn u) (named_variants u n)
-      (All-map (IsIn u) (variant n) (range_with_len 0 (variants u n))
-      (All-range (λ b. IsIn u (variant n b)) (variants u n)
+      All-filter (λ v. variants_of row v.name v.bit) (IsOfUniverse u) (named_variants u n)
+      (All-map (IsOfUniverse u) (variant n) (range_with_len 0 (variants u n))
+      (All-range (λ b. IsOfUniverse u (variant n b)) (variants u n)
       (λ b few. record { name = lt; known = few })))
 
-  pub row_variants-in : All (IsIn u) (row_variants u row)
+  pub row_variants-in : All (IsOfUniverse u) (row_variants u row)
   row_variants-in =
-      All-flat_map (IsIn u) (named_in_row u row) (range_with_len 0 (names u))
-      (All-range (λ n. All (IsIn u) (named_in_row u row n)) (names u) named-in)
+      All-flat_map (IsOfUniverse u) (named_in_row u row) (range_with_len 0 (names u))
+      (All-range (λ n. All (IsOfUniverse u) (named_in_row u row n)) (names u) named-in)

@@ -13,7 +13,7 @@ use Rattle.deb_relation.specs.Field.{entry_at}
 use Rattle.deb_relation.specs.Relations.{Entry}
 use Rattle.farm_model.specs.declared.types.Variant.{Variant}
 use Rattle.farm_model.specs.Universe.{Universe}
-use Rattle.cert_text.specs.Rows.{IsIn, item_variant}
+use Rattle.cert_text.specs.Rows.{IsOfUniverse, item_variant}
 
 abbrev pub said_by : Universe → Result Entry ℕ → Option Variant
 said_by u (Ok item) = item_variant u item
@@ -26,7 +26,7 @@ said u text = said_by u (entry_at Provide text)
 -- the text says this variant, one of the universe
 pub record IsSaid (u : Universe) (text : List ℕ) (v : Variant) : Type 0 where
   pub is : said u text ≡ Some v
-  pub known : IsIn u v
+  pub known : IsOfUniverse u v
 
 abbrev pub AreSaid : Universe → List (Vec ℕ × Variant) → Type 0
 AreSaid u es =

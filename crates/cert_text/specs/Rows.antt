@@ -1,7 +1,7 @@
 -- Rows as lists of variants: by name number and then by bit. The project's own words. Parameters:
 -- u the universe.
 --
---   IsIn                    a variant of the universe
+--   IsOfUniverse            a variant of the universe
 --   row_variants u row      the variants of a row, in order
 --   variants_at u text      the variants that a list says, in order and none of the initial archive
 --   row_at u text           the row of such a list
@@ -21,7 +21,7 @@ use Rattle.farm_model.specs.Sound.{IsKnown}
 use Rattle.farm_universe.specs.ListText.{has_version, pinned, variant_words}
 
 -- a variant of one of the universe's names
-pub record IsIn (u : Universe) (v : Variant) : Type 0 where
+pub record IsOfUniverse (u : Universe) (v : Variant) : Type 0 where
   pub name : v.name < names u
   pub known : IsKnown u v
 

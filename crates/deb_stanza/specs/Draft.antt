@@ -86,13 +86,13 @@ pub record HasNames (names : BTreeSet (Vec ℕ)) (given : List (List ℕ)) : Typ
   pub keys : (key : List ℕ) → has_key names key ≡ list_any (bytes_eq key) (map lowered given)
 
 -- the set, where there is one, has the names of these texts, and each text has a colon
-pub record IsKnown (set : Option (BTreeSet (Vec ℕ))) (texts : List (List ℕ)) : Type 0 where
+pub record HasFieldNames (set : Option (BTreeSet (Vec ℕ))) (texts : List (List ℕ)) : Type 0 where
   pub names : IfSome set (λ names. HasNames names (map name_of texts))
   pub colons : list_all (λ text. list_any is_colon text) texts ≡ true
 
-pub record IsFit (d : Draft) : Type 0 where
+pub record IsFitDraft (d : Draft) : Type 0 where
   pub table : IsSoundTable d.table
-  pub known : IsKnown d.names (open_texts (draft_state d))
+  pub known : HasFieldNames d.names (open_texts (draft_state d))
   pub some : d.is_open ≡ true → is_nil d.table.paragraphs.items ≡ false
 
 -- where the file's bytes end, 2 ^ 32 at most

@@ -20,16 +20,16 @@ turn_told Ends next = turn.Ends
 turn_told (Fails trap) next = turn.Fails trap
 
 -- a lane that does not go on is as it was
-abbrev pub IsKept : Turn → LaneState → LaneState → Type 0
-IsKept Goes st next = Unit {0}
-IsKept (Gives v) st next = Unit {0}
-IsKept Waits st next = next ≡ st
-IsKept Ends st next = next ≡ st
-IsKept (Fails trap) st next = next ≡ st
+abbrev pub IsUnmoved : Turn → LaneState → LaneState → Type 0
+IsUnmoved Goes st next = Unit {0}
+IsUnmoved (Gives v) st next = Unit {0}
+IsUnmoved Waits st next = next ≡ st
+IsUnmoved Ends st next = next ≡ st
+IsUnmoved (Fails trap) st next = next ≡ st
 
 pub record IsTurn (u : Universe) (of : Lane) (old new : LaneRun) (answer : Turn) (is : turn.Turn)
     : Type 0 where
   pub told : is ≡ turn_told answer (shown new)
   pub run : IsRun u of new
-  pub kept : IsKept answer (shown old) (shown new)
+  pub kept : IsUnmoved answer (shown old) (shown new)
   pub waited : new.waited ≡ old.waited

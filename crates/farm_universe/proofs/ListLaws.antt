@@ -16,7 +16,7 @@ use Rattle.item_index.proofs.ItemLaws.{any-at}
 use Rattle.farm_universe.specs.declared.error.TheConstants.{TWICE}
 use Rattle.farm_universe.specs.declared.list.VariantList.{VariantList}
 use Rattle.farm_universe.specs.FarmSteps.{add_variant, add_item, word_set}
-use Rattle.farm_universe.specs.FarmView.{IsListed, IsPlace, AreTableWords, IsOnce, AreDifferent, AreListed}
+use Rattle.farm_universe.specs.FarmView.{IsTableVariant, IsPlace, AreTableWords, IsOnce, AreDifferent, AreListed}
 use Rattle.farm_universe.specs.ListText.{variant_at, twice, variants_in, variant_words}
 use Rattle.farm_universe.specs.PackagesText.{PackageTable}
 use Rattle.farm_universe.proofs.ArchiveLaws.{length-words_of, words_of-push, get_or-words_of, bit_at-word_of}
@@ -51,9 +51,9 @@ module _ (table : PackageTable) (list : VariantList) (is : AreListed table list)
   -- the words have bits of the table's variants alone
   pub AreWords-listed : AreTableWords table list.words.items
   AreWords-listed = record { paired = long; known = known } where
-    known : (v : Variant) → has_bit list.words.items v ≡ true → IsListed table v
+    known : (v : Variant) → has_bit list.words.items v ≡ true → IsTableVariant table v
     known v set = by (nat_lt v.name (length table.names)) refl where
-      by : (b : Bool) → nat_lt v.name (length table.names) ≡ b → IsListed table v
+      by : (b : Bool) → nat_lt v.name (length table.names) ≡ b → IsTableVariant table v
       by true e =
           (contained (IsPlace table) list.variants.items v is.known
           (sym (has_bit-listed v (ltb-true _ _ e)) ∙ set)).listed

@@ -51,19 +51,19 @@ farm_view farm = text.universe_with (land_view farm.land) (yard_view farm.yard)
 -- ---- variants of a table
 
 -- a variant of the table
-abbrev pub IsListed : PackageTable → Variant → Type 0
-IsListed table v = v.bit < length (get_or table.packages v.name [])
+abbrev pub IsTableVariant : PackageTable → Variant → Type 0
+IsTableVariant table v = v.bit < length (get_or table.packages v.name [])
 
 -- a name of the table, and a bit of a word
 pub record IsPlace (table : PackageTable) (v : Variant) : Type 0 where
   pub name : v.name < length table.names
   pub bit : v.bit < 64
-  pub listed : IsListed table v
+  pub listed : IsTableVariant table v
 
 -- a word for each name of the table, with bits of its variants alone
 pub record AreTableWords (table : PackageTable) (words : List ℕ) : Type 0 where
   pub paired : length words ≡ length table.names
-  pub known : (v : Variant) → has_bit words v ≡ true → IsListed table v
+  pub known : (v : Variant) → has_bit words v ≡ true → IsTableVariant table v
 
 -- no variant stands twice
 abbrev pub IsOnce : List Variant → Type 0

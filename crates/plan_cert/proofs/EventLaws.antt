@@ -15,7 +15,7 @@ use Rattle.farm_model.specs.Packages.{names, outputs}
 use Rattle.farm_model.specs.Sound.{IsUniverse, IsKnown}
 use Rattle.plan_model.specs.declared.instructions.Instruction.{Instruction}
 use Rattle.plan_model.specs.declared.instructions.Instruction.TheVariants.{Wait}
-use Rattle.plan_model.specs.Order.{Item, Pass, Give, items_of, items, start_board, on_board, rest_of, board_after, Reaches, IsOrder}
+use Rattle.plan_model.specs.Order.{OrderItem, Pass, Give, items_of, items, start_board, on_board, rest_of, board_after, Reaches, IsOrder}
 use Rattle.plan_model.specs.Plan.{Plan, lane, instruction_at}
 use Rattle.plan_model.specs.Turn as turn
 use Rattle.sat_rows.specs.Rows.{IsRowOf}
@@ -129,8 +129,9 @@ stops-ended u p l made there lt long past =
           (r.rest l lt ∙ drop_of_length-le (lane_items u p l) past);
     }
 
-pub stops-waits : (u : Universe) (p : Plan) (l : ℕ) (made there next_there : List ℕ) (item : Item)
-    (more : List Item) → l < length p → left_by u p made l ≡ item ∷ more
+pub stops-waits : (u : Universe) (p : Plan) (l : ℕ) (made there next_there : List ℕ)
+    (item : OrderItem)
+    (more : List OrderItem) → l < length p → left_by u p made l ≡ item ∷ more
     → IsMade u l item there next_there false → IsStep u p l made made there next_there false
 stops-waits u p l made there next_there item more lt ahead is =
     record {
@@ -142,7 +143,7 @@ stops-waits u p l made there next_there item more lt ahead is =
     }
 
 -- and one that does
-pub steps : (u : Universe) (p : Plan) (l : ℕ) (made there next_there : List ℕ) (item : Item)
+pub steps : (u : Universe) (p : Plan) (l : ℕ) (made there next_there : List ℕ) (item : OrderItem)
     → l < length p
     → l < length made
     → left_by u p made l ≡ item ∷ drop (suc (slice_index made l)) (lane_items u p l)

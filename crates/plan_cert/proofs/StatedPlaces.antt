@@ -6,7 +6,7 @@ use Rattle.std.proofs.Math.Seq.{get_or-append_seam}
 use Rattle.farm_model.specs.Universe.{Universe}
 use Rattle.plan_model.specs.Known.{Rows}
 use Rattle.plan_model.specs.Plan.{Plan, lane}
-use Rattle.plan_cert.specs.PlaceRows.{IsRowIn, AreKept, IsExtended, AreRowNumbers}
+use Rattle.plan_cert.specs.PlaceRows.{IsRowIn, ArePlaceRows, IsExtended, AreRowNumbers}
 use Rattle.plan_cert.proofs.PlaceLaws.{numbers_kept}
 use Rattle.plan_cert.specs.Places.{AreRowsOf}
 
@@ -38,7 +38,8 @@ rows_next u p known n places more_places rows more new items so_far ext is =
     })
 
 pub rows_kept : (u : Universe) (p : Plan) (known : Rows) (places rows : List (List ℕ))
-    → AreRowsOf u p known (length p) places rows → All (IsRowIn u) rows → AreKept u p places rows
+    → AreRowsOf u p known (length p) places rows → All (IsRowIn u) rows
+    → ArePlaceRows u p places rows
 rows_kept u p known places rows are all_in =
     record {
       lanes = are.long;

@@ -14,7 +14,7 @@ use Rattle.farm_model.specs.Packages.{names}
 use Rattle.farm_model.specs.Sound.{IsKnown}
 use Rattle.plan_model.specs.declared.instructions.Instruction.{Instruction}
 use Rattle.plan_model.specs.declared.instructions.Instruction.TheVariants.{Wait}
-use Rattle.plan_model.specs.Order.{Item, Pass, Give, items, Board, on_board, rest_of, board_after}
+use Rattle.plan_model.specs.Order.{OrderItem, Pass, Give, items, Board, on_board, rest_of, board_after}
 use Rattle.plan_model.specs.Plan.{Plan, lane, instruction_at}
 use Rattle.sat_rows.specs.Rows.{IsRowOf}
 use Rattle.wait_order.specs.Standing.{IsReached, Makes}
@@ -28,7 +28,7 @@ entry_of (Some (Wait e)) = e
 entry_of (Some x) = []
 
 -- a wait is kept by its place
-abbrev pub item_of : Plan → ℕ → Event → Item
+abbrev pub item_of : Plan → ℕ → Event → OrderItem
 item_of p l (Event.Pass place) = Pass (entry_of (instruction_at p l place))
 item_of p l (Event.Give v) = Give v
 
@@ -50,20 +50,21 @@ pub record AreLaneEvents (u : Universe) (p : Plan) (n : ℕ) (lanes : List LaneE
       → AreEvents u p l (length (lane p l).instructions) of.events.items
 
 -- the items of a lane
-abbrev pub lane_items : Universe → Plan → ℕ → List Item
+abbrev pub lane_items : Universe → Plan → ℕ → List OrderItem
 lane_items u p l = items u (lane p l).instructions
 
 -- the items that each lane has left
-abbrev pub left_by : Universe → Plan → List ℕ → ℕ → List Item
+abbrev pub left_by : Universe → Plan → List ℕ → ℕ → List OrderItem
 left_by u p made l = drop (slice_index made l) (lane_items u p l)
 
 -- the item is made, or it is a wait that does not pass
-pub record IsMade (u : Universe) (l : ℕ) (item : Item) (there next_there : List ℕ) (made : Bool)
+pub record IsMade (u : Universe) (l : ℕ) (item : OrderItem) (there next_there : List ℕ)
+    (made : Bool)
     : Type 0 where
   pub long : length next_there ≡ names u
   pub makes : made ≡ true → (order : List ℕ)
       → Makes u l (item ∷ []) order there (order ++ l ∷ []) next_there
-  pub stops : made ≡ false → (b : Board) (more : List Item) → IsRowOf u (on_board u b) there
+  pub stops : made ≡ false → (b : Board) (more : List OrderItem) → IsRowOf u (on_board u b) there
       → board_after u b l (item ∷ more) ≡ None
 
 -- lane l makes its next item; or it cannot, on any board that is reached

@@ -4,7 +4,7 @@
 --
 --   PlaceRows                 the universe and the plan, the rows, and the places
 --   row_words_at, place_rows_of  the words at a place, and the sets that they stand for
---   IsRowIn, AreKept          a row of known variants; what such rows keep
+--   IsRowIn, ArePlaceRows     a row of known variants; what such rows keep
 --   IsRowAt                   the row of this number is this one
 --   IsExtended                more rows behind the same
 --   AreRowNumbers             the numbers of the rows of a lane's places
@@ -42,7 +42,7 @@ pub record IsRowIn (u : Universe) (row : List ℕ) : Type 0 where
   pub few : (n b : ℕ) → variants_of row n b ≡ true → b < variants u n
 
 -- each place of the plan has a row of known variants
-pub record AreKept (u : Universe) (p : Plan) (places words : List (List ℕ)) : Type 0 where
+pub record ArePlaceRows (u : Universe) (p : Plan) (places words : List (List ℕ)) : Type 0 where
   pub lanes : length places ≡ length p
   pub each : (l : ℕ) → l < length p
       → length (slice_index_or places l []) ≡ suc (length (lane p l).instructions)

@@ -2,7 +2,7 @@
 -- plan, c a certificate, l a lane, i a place.
 --
 --   rows_before        how many rows are listed for a lane before a place
---   Held, held_at      the rows that hold at a place, and ahead of the `when` that is open there
+--   HeldRows, held_at  the rows that hold at a place, and ahead of the `when` that is open there
 --   last_row_lists     a variant is in the last of so many rows
 --   stated_rows        what each lane knows at each place, as the certificate has it
 use Rattle.std.specs.Prelude.{ℕ, zero, suc, Bool, false, ◌||◌, List, [], take, count_by, Option, Some, None, slice_index_or}
@@ -23,19 +23,19 @@ rows_before p l i = count_by teaches (take i (lane p l).instructions)
 
 -- of the rows up to the one that holds their number, 0 where none does: at a place, and ahead of
 -- the `when` that is open there
-pub record Held : Type 0 where
+pub record HeldRows : Type 0 where
   pub here : ℕ
   pub ahead : ℕ
 
 -- a branch ends with what held ahead of its `when`
-abbrev pub branch_ended : Side → Held → Held
+abbrev pub branch_ended : Side → HeldRows → HeldRows
 branch_ended Outside held = held
 branch_ended (InFirst w) held = record { here = held.ahead; ahead = held.ahead }
 branch_ended (InSecond w) held = record { here = held.ahead; ahead = held.ahead }
 
 -- behind an instruction, up to which so many rows are listed: that of a `when` holds in its first
 -- branch alone
-abbrev pub held_behind : Side → ℕ → Held → Instruction → Held
+abbrev pub held_behind : Side → ℕ → HeldRows → Instruction → HeldRows
 held_behind s listed held (Publish r) = record { here = listed; ahead = held.ahead }
 held_behind s listed held (Wait e) = record { here = listed; ahead = held.ahead }
 held_behind s listed held (When name wanted) = record { here = listed; ahead = held.here }
@@ -44,11 +44,11 @@ held_behind s listed held EndWhen = branch_ended s held
 held_behind s listed held _ = held
 
 -- behind the instruction that is there, if any
-abbrev pub held_behind_some : Side → ℕ → Held → Option Instruction → Held
+abbrev pub held_behind_some : Side → ℕ → HeldRows → Option Instruction → HeldRows
 held_behind_some s listed held None = held
 held_behind_some s listed held (Some x) = held_behind s listed held x
 
-abbrev pub held_at : Plan → ℕ → ℕ → Held
+abbrev pub held_at : Plan → ℕ → ℕ → HeldRows
 held_at p l zero = record { here = 0; ahead = 0 }
 held_at p l (suc i) = held_behind_some (side_at (lane p l).instructions i)
     (rows_before p l (suc i)) (held_at p l i) (instruction_at p l i)

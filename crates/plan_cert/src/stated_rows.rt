@@ -4,7 +4,7 @@ ghost use Rattle.std.specs.Prelude.{◌≡◌, ◌<◌, ◌≤◌, ◌↔◌, tr
 ghost use Rattle.farm_model.specs.declared.types.Variant.{Variant};
 ghost use Rattle.plan_model.specs.Plan.{lane};
 ghost use Rattle.sat_rows.specs.Rows.{IsRowOf};
-ghost use Rattle.plan_cert.specs.PlaceRows.{place_rows_of, AreKept};
+ghost use Rattle.plan_cert.specs.PlaceRows.{place_rows_of, ArePlaceRows};
 
 use bit_rows::Row;
 use farm_universe::Universe;
@@ -56,7 +56,7 @@ pub struct StatedRows {
 
 impl Model for StatedRows {
     ghost use Rattle.plan_cert.specs.PlaceRows as spec;
-    ghost use Rattle.plan_cert.specs.PlaceRows.{AreKept};
+    ghost use Rattle.plan_cert.specs.PlaceRows.{ArePlaceRows};
 
     ghost Value = { spec.PlaceRows };
 
@@ -67,7 +67,7 @@ impl Model for StatedRows {
       words = stated.rows.items;
     } };
 
-    ghost invariant = { λ stated. AreKept stated.universe.value stated.plan.value.lanes
+    ghost invariant = { λ stated. ArePlaceRows stated.universe.value stated.plan.value.lanes
         stated.places.items stated.rows.items };
 }
 
@@ -79,7 +79,7 @@ impl StatedRows {
         places: Vec<LanePlaces>,
         rows: Vec<Row>,
     ) -> StatedRows
-        requires { AreKept universe.now plan.now.lanes places.items rows.items }
+        requires { ArePlaceRows universe.now plan.now.lanes places.items rows.items }
         ensures { result ≡ record {
           universe = universe.now;
           plan = plan.now.lanes;

@@ -7,7 +7,7 @@ ghost use Rattle.plan_model.specs.Sound.{IsNameSet};
 ghost use Rattle.may_rows.specs.Words.{AreWords, may_of, with_slot};
 ghost use Rattle.refusal_reasons.specs.Changed.{kept_slot, kept_below, needs_inside};
 ghost use Rattle.refusal_reasons.specs.First as first;
-ghost use Rattle.refusal_reasons.specs.Place.{IsPlace};
+ghost use Rattle.refusal_reasons.specs.Place.{IsPlaceOfLane};
 ghost use Rattle.refusal_reasons.specs.Reasons as reasons;
 ghost use Rattle.refusal_reasons.specs.Reasons.{field_of};
 
@@ -174,7 +174,7 @@ impl NameFinder for NeededOwner<'_> {
 ///
 /// [`AllocError`] where memory is refused.
 pub fn still_needed(at: &Place, members: &[u32]) -> Result<Option<Reason>, AllocError>
-    requires place { IsPlace at.now.universe.now at.now.tables.now at.now.lane.now
+    requires place { IsPlaceOfLane at.now.universe.now at.now.tables.now at.now.lane.now
         at.now.state.now }
     requires members { IsNameSet at.now.universe.now members.now }
     ensures { IfOk result (λ told. told ≡ reasons.still_needed at.now.universe.now members.now

@@ -4,7 +4,7 @@ ghost use Rattle.std.specs.Prelude.{◌≡◌, ◌<◌, ◌∷◌, [], IfOk, OnO
 ghost use Rattle.std.specs.List.{AllZip};
 ghost use Rattle.farm_model.specs.Packages.{names, recipe};
 ghost use Rattle.farm_model.specs.Sound.{IsKnown};
-ghost use Rattle.sat_rows.specs.Entries.{IsGrown, IsNumberOf, IsPreNumbers, AreNumbers, AreNumbered, AreNeeds, no_numbers, no_pre_numbers};
+ghost use Rattle.sat_rows.specs.Entries.{IsGrown, IsNumberOf, IsPreNumbers, AreNumbers, AreVariantNumbers, AreNeeds, no_numbers, no_pre_numbers};
 ghost use Rattle.sat_rows.specs.ByVariant.{AreOfName};
 
 use crate::entries::Entries;
@@ -254,7 +254,7 @@ impl<'a> Entries<'a> {
     ) -> Result<Vec<NameNumbers>, AllocError>
         ensures grown { OnOk result (IsGrown self.old self.new) }
         ensures numbers { IfOk result
-            (λ numbers. AreNumbered universe.now self.new numbers.items) }
+            (λ numbers. AreVariantNumbers universe.now self.new numbers.items) }
     {
         let mut names = Vec::new(alloc);
         for name in 0..universe.names() {

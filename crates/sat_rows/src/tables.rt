@@ -9,7 +9,7 @@ ghost use Rattle.farm_model.specs.Sound.{IsKnown};
 ghost use Rattle.sat_rows.specs.Rows.{variant_passes, IsRowOf, IsSharedRow, IsAlternativeRow, nth_entry, conflicts_with, broken_by, breakers_of};
 ghost use Rattle.sat_rows.specs.Index.{IsProviding};
 ghost use Rattle.deb_relation.specs.Relations as spec;
-ghost use Rattle.sat_rows.specs.Entries.{AreNumbered, AreRowsOf};
+ghost use Rattle.sat_rows.specs.Entries.{AreVariantNumbers, AreRowsOf};
 ghost use Rattle.sat_rows.specs.Served.{AreLong, AreServed, IsServing, IsMissed};
 ghost use Rattle.sat_rows.specs.Links.{AreSets, IsExclusion};
 ghost use Rattle.sat_rows.specs.Tables.{AreEntryRows, AreExclusions};
@@ -101,7 +101,7 @@ fn rows_beside_served(
     requires { AreLong universe.now names.now }
     ensures rows { (entries : List spec.Entry) → AreSets universe.now entries sets.now
         → IfOk result.0 (λ rows. AreRowsOf universe.now entries rows.items) }
-    ensures served { (entries : List spec.Entry) → AreNumbered universe.now entries names.now
+    ensures served { (entries : List spec.Entry) → AreVariantNumbers universe.now entries names.now
         → AreSets universe.now entries sets.now → IfOk result.1 (IsServing universe.now entries) }
 {
     join(
@@ -114,7 +114,7 @@ fn rows_beside_served(
         move || -> Result<Served, AllocError>
             requires { AreLong universe.now names.now }
             ensures { (entries : List spec.Entry)
-                → AreNumbered universe.entry.now entries names.entry.now
+                → AreVariantNumbers universe.entry.now entries names.entry.now
                 → AreSets universe.entry.now entries sets.entry.now
                 → IfOk result (IsServing universe.entry.now entries) }
         { Served::build(alloc, universe, names, sets) },

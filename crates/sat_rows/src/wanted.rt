@@ -88,7 +88,7 @@ pub fn all_wanted(
     numbers: &[NameNumbers],
 ) -> Result<Vec<Found>, AllocError>
     requires { AreLong universe.now numbers.now }
-    ensures { (entries : List Entry) → listed.AreNumbered universe.now entries numbers.now
+    ensures { (entries : List Entry) → listed.AreVariantNumbers universe.now entries numbers.now
         → IfOk result (λ lists. AreNumbered universe.now wanted entries (names universe.now)
         lists.items) }
 {

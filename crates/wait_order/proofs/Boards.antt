@@ -11,7 +11,7 @@ use Rattle.farm_model.proofs.TestLaws.{same_tests}
 use Rattle.farm_laws.proofs.Archive.{same-true, same-refl}
 use Rattle.plan_model.specs.Plan.{Plan}
 use Rattle.plan_model.specs.Turn as turn
-use Rattle.plan_model.specs.Order.{Item, Pass, Give, Board, on_board, rest_of, board_after, Reaches}
+use Rattle.plan_model.specs.Order.{OrderItem, Pass, Give, Board, on_board, rest_of, board_after, Reaches}
 use Rattle.sat_rows.specs.Rows.{variant_passes, IsRowOf}
 use Rattle.wait_order.specs.Standing.{IsReached, with_left}
 
@@ -26,7 +26,7 @@ reaches_more u [] b m t l r e = (
 reaches_more u (k ∷ ks) b m t l r e = (r.0, r.1, reaches_more u ks r.0 m t l r.2 e)
 
 -- the same lanes have the same left
-pub reached_same : (u : Universe) (p : Plan) (order there : List ℕ) (left next : ℕ → List Item)
+pub reached_same : (u : Universe) (p : Plan) (order there : List ℕ) (left next : ℕ → List OrderItem)
     → ((l : ℕ) → l < length p → left l ≡ next l) → IsReached u p order there left
     → IsReached u p order there next
 reached_same u p order there left next e r =
@@ -38,11 +38,12 @@ reached_same u p order there left next e r =
       archive = r.archive;
     }
 
-pub with_left-here : (left : ℕ → List Item) (l : ℕ) (is : List Item) → with_left left l is l ≡ is
+pub with_left-here : (left : ℕ → List OrderItem) (l : ℕ) (is : List OrderItem)
+    → with_left left l is l ≡ is
 with_left-here left l is = rw (eq-eqb l l refl) refl
 
-module _ (u : Universe) (p : Plan) (order there : List ℕ) (left : ℕ → List Item)
-    (r : IsReached u p order there left) (l : ℕ) (lt : l < length p) (more : List Item) where
+module _ (u : Universe) (p : Plan) (order there : List ℕ) (left : ℕ → List OrderItem)
+    (r : IsReached u p order there left) (l : ℕ) (lt : l < length p) (more : List OrderItem) where
   one_more : (t : Board) (next_there : List ℕ)
       → board_after u r.board l (rest_of r.board l) ≡ Some t
       → t.rest ≡ slice_set r.board.rest l more → IsRowOf u (on_board u t) next_there

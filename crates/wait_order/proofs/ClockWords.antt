@@ -17,7 +17,7 @@ use Rattle.sat_rows.specs.Rows.{variant_passes, IsWordFor}
 use Rattle.wait_order.specs.declared.by_name.OutputPlace.{OutputPlace}
 use Rattle.wait_order.specs.declared.marks.LaneOutputs.{LaneOutputs}
 use Rattle.wait_order.specs.declared.marks.Output.{Output}
-use Rattle.wait_order.specs.ByName.{place, AreKnownLanes, AreListed}
+use Rattle.wait_order.specs.ByName.{place, AreKnownLanes, AreListedByName}
 use Rattle.wait_order.specs.Clock.{row_of, IsCounted}
 use Rattle.wait_order.specs.Marks.{AreLanes}
 use Rattle.wait_order.proofs.ClockRows.{first-made}
@@ -113,7 +113,7 @@ module _ (u : Universe) (p : Plan) (lanes : List LaneOutputs) (sound : IsUnivers
       (omega (arith, lt, are.long)) made))
 
   -- what is in the row, and not from the start, is an output that counts and is listed
-  counted_back : (lists : List (List OutputPlace)) → AreListed lists lanes (length lanes)
+  counted_back : (lists : List (List OutputPlace)) → AreListedByName lists lanes (length lanes)
       → (n b : ℕ)
       → some_below (length p) (λ j. contains (take (x j) (lane_outputs u (lane p j))) (variant n b))
       ≡ true
@@ -145,7 +145,7 @@ module _ (u : Universe) (p : Plan) (lanes : List LaneOutputs) (sound : IsUnivers
         },
       )
 
-  pub word_is : (lists : List (List OutputPlace)) → AreListed lists lanes (length lanes)
+  pub word_is : (lists : List (List OutputPlace)) → AreListedByName lists lanes (length lanes)
       → (n first k word : ℕ) → first ≡ slice_index u.initial n
       → length (slice_index_or lists n []) ≤ k
       → IsWordSoFar lanes x (slice_index_or lists n []) n first k word

@@ -44,13 +44,13 @@ abbrev pub ArePointsIn : ℕ → List Point → Type 0
 ArePointsIn n ps = All (IsPlaced n) ps
 
 -- counts that know no more than they may
-pub record IsKnown (lane total : ℕ) (ps : List Point) (y : Counts) : Type 0 where
+pub record AreKnownCounts (lane total : ℕ) (ps : List Point) (y : Counts) : Type 0 where
   pub few : (w : ℕ) → y w ≤ total
   pub bounded : (w : ℕ) (p : Point) → slice_get ps w ≡ Some p → y w ≤ bound lane total y p
 
 -- all such counts lie within these
 abbrev pub IsAbove : ℕ → ℕ → List Point → List ℕ → Type 0
-IsAbove lane total ps xs = (y : Counts) → IsKnown lane total ps y → (w : ℕ) → w < length ps
+IsAbove lane total ps xs = (y : Counts) → AreKnownCounts lane total ps y → (w : ℕ) → w < length ps
     → y w ≤ slice_index xs w
 
 pub record IsGreatestColumn (lane total : ℕ) (ps : List Point) (xs : List ℕ) : Type 0 where

@@ -8,7 +8,7 @@ use Rattle.atomic_table.specs.Table.{Joins}
 use Rattle.plan_model.specs.Plan.{lane}
 use Rattle.lane_records.specs.Records.{Record, blank}
 use Rattle.plan_verifier.specs.Accepted.{AcceptedPlan}
-use Rattle.word_archive.specs.Rule.{AllBelow, Entries, Fits, Kept}
+use Rattle.word_archive.specs.Rule.{AllBelow, Entries, Fits, KeepsRule}
 use Rattle.word_archive.specs.Views.{SeatView, base_view, joined_view, spent}
 use Rattle.word_archive.proofs.Lists.{some_length}
 
@@ -69,7 +69,7 @@ all_split owner records n id other (e ∷ es) apart own h =
 -- the base seat takes another in
 pub joins : {S : Type 0} (p : AcceptedPlan) (id next : ℕ) (stopped : Bool)
     (mine : List (ℕ × Record)) (other : ℕ) (w : SeatView)
-    → Joins {S = S} {V = SeatView} (Kept p) id (base_view p next stopped mine) other w
+    → Joins {S = S} {V = SeatView} (KeepsRule p) id (base_view p next stopped mine) other w
     (joined_view (base_view p next stopped mine) w) spent
 joins p id next stopped mine other w s h at apart there =
     let v = base_view p next stopped mine in
@@ -139,7 +139,8 @@ joins p id next stopped mine other w s h at apart there =
 -- the same, where the base seat's view is known by an equation
 pub joins_as : {S : Type 0} (p : AcceptedPlan) (id next : ℕ) (stopped : Bool)
     (mine : List (ℕ × Record)) (other : ℕ) (v w : SeatView) → v ≡ base_view p next stopped mine
-    → Joins {S = S} {V = SeatView} (Kept p) id v other w (joined_view v w) spent
+    → Joins {S = S} {V = SeatView} (KeepsRule p) id v other w (joined_view v w) spent
 joins_as {S} p id next stopped mine other v w is =
-    subst (λ (u : SeatView). Joins {S = S} {V = SeatView} (Kept p) id u other w (joined_view u w)
+    subst (λ (u : SeatView). Joins {S = S} {V = SeatView} (KeepsRule p) id u other w
+    (joined_view u w)
     spent) (sym is) (joins p id next stopped mine other w)

@@ -18,7 +18,7 @@ use Rattle.archive_laws.specs.Shown.{IsReached, ready_lane, with_lane}
 use Rattle.lane_records.specs.Bounds.{IsLoaded, IsWithinBits}
 use Rattle.lane_records.specs.Records.{Record, after_load, ready_in}
 use Rattle.plan_verifier.specs.Accepted.{AcceptedPlan, IsAccepted}
-use Rattle.word_archive.specs.Rule.{AreWordsOf, Keeps, Kept, shown}
+use Rattle.word_archive.specs.Rule.{AreWordsOf, Keeps, KeepsRule, shown}
 use Rattle.word_archive.specs.Serials.{made_by}
 use Rattle.word_archive.specs.Steps.{Loaded}
 use Rattle.word_archive.specs.Views.{SeatView, lane_view}
@@ -119,7 +119,7 @@ module _ (a : AcceptedPlan) (accepted : IsAccepted a) (words : List ℕ) (record
 -- the step of a lane's seat
 pub loads : {S : Type 0} (a : AcceptedPlan) (slots id l n : ℕ) (r : Record) → IsAccepted a
     → n < names a.universe
-    → Allows {S = S} {V = SeatView} (Kept a) slots id (lane_view a l r, []) n (λ x. x)
+    → Allows {S = S} {V = SeatView} (KeepsRule a) slots id (lane_view a l r, []) n (λ x. x)
     (Loaded (step slots n 0 0 none) (lane_view a l r, []))
 loads a slots id l n r accepted lt s h homes at small =
     let found = get_or s.words n 0 in
@@ -149,8 +149,8 @@ loads a slots id l n r accepted lt s h homes at small =
 pub loads_as : {S : Type 0} (a : AcceptedPlan) (slots id l n : ℕ) (r : Record)
     (me : Me S SeatView)
     → IsAccepted a → n < names a.universe → me ≡ (lane_view a l r, [])
-    → Allows {S = S} {V = SeatView} (Kept a) slots id me n (λ x. x)
+    → Allows {S = S} {V = SeatView} (KeepsRule a) slots id me n (λ x. x)
     (Loaded (step slots n 0 0 none) me)
 loads_as {S} a slots id l n r me accepted lt is =
-    subst (λ (m : Me S SeatView). Allows {S = S} {V = SeatView} (Kept a) slots id m n (λ x. x)
+    subst (λ (m : Me S SeatView). Allows {S = S} {V = SeatView} (KeepsRule a) slots id m n (λ x. x)
     (Loaded (step slots n 0 0 none) m)) (sym is) (loads a slots id l n r accepted lt)

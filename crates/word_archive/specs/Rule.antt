@@ -4,7 +4,7 @@
 --   IsHalted                  the halt word is set exactly where some seat has halted
 --   AreWordsOf                the words are those of these records: they show a reachable state
 --   Entries, Fits             the records that stand in a view
---   Keeps, Kept               the rule
+--   Keeps, KeepsRule          the rule
 use Rattle.std.specs.Prelude.{◌≡◌, ◌≢◌, ◌↔◌, ◌⊎◌, ℕ, ◌+◌, ◌<◌, ◌≤◌, Bool, true, List, [], ◌∷◌, Some, map, take, length, slice_get, slice_index}
 use mathlib.Core.Option.{some}
 use lib.ListN.{get_elem?}
@@ -90,5 +90,5 @@ pub record Keeps (a : AcceptedPlan) (words : List ℕ) (views : List SeatView) :
   pub fits : (id : ℕ) (v : SeatView) → get_elem? views id ≡ some v
       → Fits a owner records stopped id v
 
-abbrev pub Kept : {S : Type 0} → AcceptedPlan → State S SeatView → Type 0
-Kept a s = Keeps a s.words s.views
+abbrev pub KeepsRule : {S : Type 0} → AcceptedPlan → State S SeatView → Type 0
+KeepsRule a s = Keeps a s.words s.views
