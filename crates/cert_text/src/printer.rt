@@ -3,11 +3,12 @@
 ghost use Rattle.std.specs.Prelude.{◌≡◌, ◌<◌, ◌≤◌, ◌++◌, codes, length, All, IfOk, OnOk};
 ghost use Rattle.std.specs.List.{flat_map, zip};
 ghost use Rattle.cert_text.specs.Certificates.{IsCertificate, IsNewRow, count_rows};
-ghost use Rattle.cert_text.specs.Printed.{name_of, variant_text, more_text, list_text, known_line, known_lines, order_line, certificate_text};
+ghost use Rattle.cert_text.specs.Printed.{variant_text, more_text, list_text, known_line, known_lines, order_line, certificate_text};
 ghost use Rattle.cert_text.specs.Rows.{IsOfUniverse, row_variants, named_in_row};
 ghost use Rattle.farm_model.specs.Packages.{names};
 ghost use Rattle.farm_universe.specs.Kept.{IsKept};
 ghost use Rattle.plan_asm.specs.Ends.{IsWithinLimits};
+ghost use Rattle.plan_asm.specs.Listing.{name_of_number};
 
 use crate::certificate::Certificate;
 use crate::places::row_places;

@@ -30,7 +30,7 @@ use Rattle.refusal_reasons.specs.declared.types.Field.{Field}
 use Rattle.refusal_reasons.specs.declared.types.Reason.{Reason}
 use Rattle.refusal_reasons.specs.First.{first_place, first_of, first_held, first_configured, first_other, first_member}
 use Rattle.refusal_reasons.specs.Reasons as reasons
-use Rattle.refusal_reasons.specs.Reasons.{field_of, unmet_field, unmet_entry, needs_member, needed_field, needed_entry, reason}
+use Rattle.refusal_reasons.specs.Reasons.{asked_in_field, unmet_field, unmet_entry, needs_member, needed_field, needed_entry, reason}
 use Rattle.refusal_reasons.proofs.FirstLaws.{or-is, first_below-some, first_in-some, first_of-some, first_held-some, first_configured-some, first_name-some, first_member-some}
 
 -- ---- one test
@@ -67,10 +67,11 @@ first_place-some p es =
 
 module _ (u : Universe) (test : Entry → Bool) (v : Variant) where
   unmet_field-some : (field : Field)
-      → is_some (unmet_field u test field v) ≡ unmet test (field_of u v field)
+      → is_some (unmet_field u test field v) ≡ unmet test (asked_in_field u v field)
   unmet_field-some field =
-      map-some (λ i. Reason.Unmet v field i) (first_place (λ e. not (test e)) (field_of u v field))
-      ∙ first_place-some (λ e. not (test e)) (field_of u v field)
+      map-some (λ i. Reason.Unmet v field i)
+      (first_place (λ e. not (test e)) (asked_in_field u v field))
+      ∙ first_place-some (λ e. not (test e)) (asked_in_field u v field)
 
   unmet_entry-some : is_some (unmet_entry u test v) ≡ unmet test (entries u v)
   unmet_entry-some =
@@ -78,10 +79,10 @@ module _ (u : Universe) (test : Entry → Bool) (v : Variant) where
       ∙ sym (list_any-append (λ e. not (test e)) (depends u v) (pre_depends u v))
 
   needed_field-some : (field : Field)
-      → is_some (needed_field u test field v) ≡ list_any test (field_of u v field)
+      → is_some (needed_field u test field v) ≡ list_any test (asked_in_field u v field)
   needed_field-some field =
-      map-some (λ i. Reason.StillNeeded v field i) (first_place test (field_of u v field))
-      ∙ first_place-some test (field_of u v field)
+      map-some (λ i. Reason.StillNeeded v field i) (first_place test (asked_in_field u v field))
+      ∙ first_place-some test (asked_in_field u v field)
 
   needed_entry-some : is_some (needed_entry u test v) ≡ list_any test (entries u v)
   needed_entry-some =

@@ -3,7 +3,7 @@
 -- own rules: each reason goes by the very tests of plan_model's Risk and May. Parameters: u a
 -- universe, of a lane, m a may map, v a variant.
 --
---   field_of                        what a field asks for
+--   asked_in_field                  what a field asks for
 --   unmet_field, unmet_entry        the first entry that is not met
 --   needed_field, needed_entry      the first entry for which a member may be needed
 --   unpack_reason, .., reason       the reason of a trap of each instruction; of any one
@@ -31,14 +31,15 @@ use Rattle.refusal_reasons.specs.First.{first_in, first_place, first_of, first_h
 -- ---- entries
 
 -- what a field of a variant asks for
-abbrev pub field_of : Universe → Variant → Field → Relations
-field_of u v Field.PreDepends = pre_depends u v
-field_of u v Field.Depends = depends u v
+abbrev pub asked_in_field : Universe → Variant → Field → Relations
+asked_in_field u v Field.PreDepends = pre_depends u v
+asked_in_field u v Field.Depends = depends u v
 
 -- the first entry of a field that is not met
 abbrev pub unmet_field : Universe → (Entry → Bool) → Field → Variant → Option Reason
 unmet_field u meets field v =
-    option_map (λ i. Reason.Unmet v field i) (first_place (λ e. not (meets e)) (field_of u v field))
+    option_map (λ i. Reason.Unmet v field i)
+    (first_place (λ e. not (meets e)) (asked_in_field u v field))
 
 -- the first entry of a variant that is not met, Depends before Pre-Depends
 abbrev pub unmet_entry : Universe → (Entry → Bool) → Variant → Option Reason
@@ -52,7 +53,7 @@ needs_member u members m e = may_meet u members m e && not (surely_met_outside u
 -- the first entry of a field that passes is the one for which a member may be needed
 abbrev pub needed_field : Universe → (Entry → Bool) → Field → Variant → Option Reason
 needed_field u needs field v =
-    option_map (λ i. Reason.StillNeeded v field i) (first_place needs (field_of u v field))
+    option_map (λ i. Reason.StillNeeded v field i) (first_place needs (asked_in_field u v field))
 
 -- the same of a variant, Depends before Pre-Depends
 abbrev pub needed_entry : Universe → (Entry → Bool) → Variant → Option Reason

@@ -9,7 +9,7 @@ ghost use Rattle.refusal_reasons.specs.Changed.{kept_slot, kept_below, needs_ins
 ghost use Rattle.refusal_reasons.specs.First as first;
 ghost use Rattle.refusal_reasons.specs.Place.{IsPlaceOfLane};
 ghost use Rattle.refusal_reasons.specs.Reasons as reasons;
-ghost use Rattle.refusal_reasons.specs.Reasons.{field_of};
+ghost use Rattle.refusal_reasons.specs.Reasons.{asked_in_field};
 
 use crate::changed::without;
 use crate::entries::{entry_count, entry_row};
@@ -81,7 +81,7 @@ impl EntryTest for NeededEntries<'_> {
     ghost fits = { λ u t. (t.tables.now ≡ u) × (AreWords u t.inside.now
         × (AreWords u t.outside.now × IsKnown u t.variant)) };
 
-    ghost entries = { λ u t. field_of u t.variant t.field };
+    ghost entries = { λ u t. asked_in_field u t.variant t.field };
 
     ghost test = { λ u t e. needs_inside u (may_of t.inside.now) (may_of t.outside.now) e };
 

@@ -12,7 +12,7 @@ use Rattle.farm_model.specs.declared.types.Variant.{Variant}
 use Rattle.farm_model.specs.Universe.{Universe}
 use Rattle.farm_spelling.specs.Variants.{variant_text}
 use Rattle.farm_explain.specs.LaneNotes.{first_hazard}
-use Rattle.farm_explain.specs.ReasonText.{place_text, field_of, field_word}
+use Rattle.farm_explain.specs.ReasonText.{place_text, field_word}
 use Rattle.farm_explain.specs.Texts.{text_below}
 use Rattle.plan_lines.specs.declared.origin.Origin.{Origin}
 use Rattle.plan_lines.specs.Origins.{LaneLines}
@@ -28,6 +28,7 @@ use Rattle.plan_verifier.specs.Walk.{told_at}
 use Rattle.refusal_reasons.specs.declared.types.Field.{Field}
 use Rattle.refusal_reasons.specs.declared.types.Reason.{Reason}
 use Rattle.refusal_reasons.specs.declared.types.Reason.TheVariants.{StillNeeded}
+use Rattle.refusal_reasons.specs.Reasons.{asked_in_field}
 use Rattle.remove_warnings.specs.Left.{left_unmet}
 
 -- what a line begins with
@@ -52,7 +53,7 @@ entry_said u origin v field (Some e) = line_text u origin v field e
 -- of the variant that is left, if there is one
 abbrev pub reason_said : Universe → Option Origin → Option Reason → List ℕ
 reason_said u origin (Some (StillNeeded v field i)) =
-    entry_said u origin v field (slice_get (field_of u v field) i)
+    entry_said u origin v field (slice_get (asked_in_field u v field) i)
 reason_said u origin x = []
 
 -- what an instruction may leave unmet, where this may be held
