@@ -31,15 +31,15 @@ words_at-block b ys place long up =
     ]
   where
     left : (b.place == place ≡ true) ⊎ (b.place == place ≡ false)
-    → same_rows b.words no_words ≡ true
+        → same_rows b.words no_words ≡ true
         → block_words_at ys place ≡ (if b.place == place then b.words else block_words_at ys place)
     left (inl here) none =
         words_or_before no_words ys (suc b.place) place
         (let e = eqb-true b.place place here in omega arith) up
         ∙ (sym (no_words_same b.words long none)
         ∙ sym (cond-true (b.place == place) b.words (block_words_at ys place) here))
-    left (inr other) none = sym (cond-false (b.place == place) b.words (block_words_at ys place)
-    other)
+    left (inr other) none =
+        sym (cond-false (b.place == place) b.words (block_words_at ys place) other)
 
 -- a block in the place of the one that stands there
 pub placed-set : (at : ℕ) (b : Block) (bs : List Block) (d : Block) → at < length bs

@@ -78,8 +78,10 @@ placed at b blocks = take at blocks ++ (block_if_any b ++ behind_place b.place (
 abbrev pub changed_blocks : (ℕ → ℕ → ℕ) → List Block → List Block → List Block
 changed_blocks f [] others = []
 changed_blocks f (b ∷ bs) others =
-    block_if_any (record { place = b.place; words = zip2 f b.words
-    (block_words_at others b.place) })
+    block_if_any (record {
+      place = b.place;
+      words = zip2 f b.words (block_words_at others b.place);
+    })
     ++ changed_blocks f bs others
 
 -- the words at a place of a list of words, eight of them or the last ones

@@ -117,7 +117,7 @@ module _ (u : Universe) (field : Package → Relations) (test : Atom → Bool) w
   module _ (at : Item Variant) (word : ℕ)
       (is : (b : ℕ) → word_has word b ≡ (passes_there u field test at && (b == at.owner.bit))) where
     told : (o : Option Atom) → item_of at (field (package_of u at.owner)) ≡ o
-    → alternative_passes test o ≡ true
+        → alternative_passes test o ≡ true
         → some at.owner ≡ true
     told None e is = absurd cc
     told (Some a) e is =
