@@ -22,7 +22,7 @@ use Rattle.farm_universe.specs.declared.recipes.RecipeList.{RecipeList}
 use Rattle.farm_universe.specs.Fields.{refused_if}
 use Rattle.farm_universe.specs.declared.error.TheConstants.{TAKEN}
 use Rattle.farm_universe.specs.FarmSteps.{word_set, taken_with}
-use Rattle.item_index.specs.Items.{item, listed, IsKept, IsListed as IsListedUnder}
+use Rattle.item_index.specs.Items.{item, listed, KeepsItems, IsListed}
 use Rattle.item_index.specs.declared.item.Item.{Item}
 use Rattle.farm_universe.specs.Among.{there_and_passes}
 use Rattle.farm_universe.specs.FarmView.{AreNamed, IsPlace, AreNew, IsNew, IsRecipe, outputs_of, GivesOnce, AreTaken, AreRecipes}
@@ -43,14 +43,14 @@ AreNamed-none lists rs none k r at =
     absurd (none-some r (sym (ap (λ xs. slice_get xs k) none) ∙ at))
 
 pub AreNamed-push : (lists more : List (List (Item ℕ))) (rs new : List Recipe) (r : Recipe)
-    → AreNamed lists rs → IsKept lists more → IsListedUnder more r.name (item (length rs) 0 0)
+    → AreNamed lists rs → KeepsItems lists more → IsListed more r.name (item (length rs) 0 0)
     → new ≡ rs ++ r ∷ [] → AreNamed more new
 AreNamed-push lists more rs new r are kept there is k q at =
     elim (slice_get-push rs r k q (sym (ap (λ xs. slice_get xs k) is) ∙ at)) [
       | inl before ↦ kept q.name (item k 0 0) (are k q before)
       | inr last ↦
-          subst (λ n. IsListedUnder more q.name (item n 0 0)) (sym last.0)
-          (subst (λ (x : Recipe). IsListedUnder more x.name (item (length rs) 0 0)) last.1 there)
+          subst (λ n. IsListed more q.name (item n 0 0)) (sym last.0)
+          (subst (λ (x : Recipe). IsListed more x.name (item (length rs) 0 0)) last.1 there)
     ]
 
 -- the recipe of the number that an item has goes by the name
@@ -84,7 +84,7 @@ named_is lists rs name are = same_tests _ _ to from where
       let found = any-found (λ (r : Recipe). bytes_eq name r.name) rs some in
       let there = are found.0 found.1 found.2 in
       let same : name ≡ found.1.name = bytes-same name found.1.name found.3 in
-      let at = subst (λ n. IsListedUnder lists n (item found.0 0 0)) (sym same) there in
+      let at = subst (λ n. IsListed lists n (item found.0 0 0)) (sym same) there in
       any-at (has_name rs name) (listed lists name) at.0 (item found.0 0 0) at.1
       (rw (found.2, found.3) refl)
 

@@ -16,7 +16,7 @@ use Rattle.farm_universe.specs.declared.recipe_parts.RecipeParts.{RecipeParts}
 use Rattle.farm_universe.specs.declared.recipes.RecipeList.{RecipeList}
 use Rattle.farm_universe.specs.declared.farm.Farm.{Farm}
 use Rattle.farm_universe.specs.declared.farm.Yard.{Yard}
-use Rattle.item_index.specs.Items.{item, IsListed as IsListedUnder}
+use Rattle.item_index.specs.Items.{item, IsListed}
 use Rattle.item_index.specs.declared.item.Item.{Item}
 use Rattle.farm_universe.specs.BaseText.{is_settled_base}
 use Rattle.farm_universe.specs.FarmText as text
@@ -147,7 +147,7 @@ pub record AreTaken (l : land.Land) (rs : List Recipe) (words : List ℕ) : Type
 -- each recipe is listed under its name, by its number
 abbrev pub AreNamed : List (List (Item ℕ)) → List Recipe → Type 0
 AreNamed lists rs =
-    (k : ℕ) (r : Recipe) → slice_get rs k ≡ Some r → IsListedUnder lists r.name (item k 0 0)
+    (k : ℕ) (r : Recipe) → slice_get rs k ≡ Some r → IsListed lists r.name (item k 0 0)
 
 -- what is true of the recipes so far
 pub record AreRecipes (l : land.Land) (list : RecipeList) : Type 0 where

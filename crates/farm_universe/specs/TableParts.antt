@@ -10,7 +10,7 @@ use Rattle.farm_universe.specs.declared.package_table.ReadPart.{ReadPart}
 use Rattle.farm_universe.specs.PackagesText.{packages_of}
 use Rattle.farm_universe.specs.Parts.{AreReads}
 use Rattle.farm_universe.specs.TableSteps.{tell_paragraph}
-use Rattle.farm_universe.specs.TableView.{table_view, IsFit, IsListed}
+use Rattle.farm_universe.specs.TableView.{table_view, IsFit, IsListedPackage}
 
 -- going on by the other paragraphs gives what the text says
 pub record IsReadTo (ps : List Paragraph) (number : ℕ) (table : PackageTable) : Type 0 where
@@ -20,4 +20,4 @@ pub record IsReadTo (ps : List Paragraph) (number : ℕ) (table : PackageTable) 
 pub record IsPart (ps : List Paragraph) (part : ReadPart) : Type 0 where
   pub some : part.first < part.end
   pub within : part.end ≤ length ps
-  pub reads : AreReads IsListed ps part.first part.end part.read.items
+  pub reads : AreReads IsListedPackage ps part.first part.end part.read.items

@@ -20,7 +20,7 @@ abbrev pub listed_view : Listed → text.Listed
 listed_view listed = record { name = listed.name.items; binary = listed.binary }
 
 -- what was read of a paragraph of the packages text
-pub record IsListed (p : Paragraph) (read : Result Listed FieldFault) : Type 0 where
+pub record IsListedPackage (p : Paragraph) (read : Result Listed FieldFault) : Type 0 where
   pub said : Gives refusal_of listed_view read (first_package_at p)
   pub small : IfOk read (λ listed. listed.binary.size ≤ MOST_SIZE)
 

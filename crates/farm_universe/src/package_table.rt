@@ -11,7 +11,7 @@ ghost use Rattle.farm_universe.specs.Keyed.{group_at};
 ghost use Rattle.farm_universe.specs.PackagesText.{entry_count, is_below, is_over, packages_of, table_of};
 ghost use Rattle.farm_universe.specs.TableParts.{IsPart, IsReadTo};
 ghost use Rattle.farm_universe.specs.TableSteps.{put_at, code_at, add, add_paragraph, tell_paragraph};
-ghost use Rattle.farm_universe.specs.TableView.{listed_view, table_view, IsFit, IsListed, IsWithin, Rises};
+ghost use Rattle.farm_universe.specs.TableView.{listed_view, table_view, IsFit, IsListedPackage, IsWithin, Rises};
 ghost use Rattle.farm_universe.specs.View.{code_of, refusal_of};
 
 use crate::binary::{Package, insert_in_order, is_given};
@@ -152,7 +152,7 @@ fn add_paragraph(
     read: Result<Listed, FieldFault>,
 ) -> Result<(), FieldFault>
     requires fit { IsFit (table_view table.old) }
-    requires read { IsListed paragraph.now read }
+    requires read { IsListedPackage paragraph.now read }
     ensures read { Gives refusal_of (λ _. table_view table.new) result
         (add_paragraph (table_view table.old) paragraph.now) }
     ensures fit { OnOk result (IsFit (table_view table.new)) }
@@ -175,7 +175,7 @@ impl ParagraphStep for PackageStep {
 
     ghost said = { table_view };
 
-    ghost is_part = { λ _ p read. IsListed p read };
+    ghost is_part = { λ _ p read. IsListedPackage p read };
 
     ghost fits = { λ _ table. IsFit (table_view table) };
 

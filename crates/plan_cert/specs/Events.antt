@@ -1,7 +1,7 @@
 -- The waits and outputs of a lane as the program keeps them. The project's own words. Parameters: u
 -- a universe, p a plan, l a lane, i a place.
 --
---   item_of, IsEvent        an event as an item of the lane
+--   order_item_of, IsEvent  an event as an item of the lane
 --   AreEvents               those of the first i instructions
 --   AreLaneEvents           those of the lanes below n
 --   left_by                 what each lane has left where so many of its events are made
@@ -28,9 +28,9 @@ entry_of (Some (Wait e)) = e
 entry_of (Some x) = []
 
 -- a wait is kept by its place
-abbrev pub item_of : Plan → ℕ → Event → OrderItem
-item_of p l (Event.Pass place) = Pass (entry_of (instruction_at p l place))
-item_of p l (Event.Give v) = Give v
+abbrev pub order_item_of : Plan → ℕ → Event → OrderItem
+order_item_of p l (Event.Pass place) = Pass (entry_of (instruction_at p l place))
+order_item_of p l (Event.Give v) = Give v
 
 -- a wait stands at the place; an output is known
 abbrev pub IsEvent : Universe → Plan → ℕ → Event → Type 0
@@ -40,7 +40,7 @@ IsEvent u p l (Event.Give v) = IsKnown u v
 -- the items of the first i instructions
 pub record AreEvents (u : Universe) (p : Plan) (l i : ℕ) (events : List Event) : Type 0 where
   pub each : All (IsEvent u p l) events
-  pub items : map (item_of p l) events ≡ items u (take i (lane p l).instructions)
+  pub items : map (order_item_of p l) events ≡ items u (take i (lane p l).instructions)
 
 -- those of each lane below n
 pub record AreLaneEvents (u : Universe) (p : Plan) (n : ℕ) (lanes : List LaneEvents)

@@ -7,7 +7,7 @@ use Rattle.std.proofs.lemmas.Option.{slice_get_within, slice_get-get_or, get_or_
 use Rattle.wait_order.specs.declared.by_name.OutputPlace.{OutputPlace}
 use Rattle.wait_order.specs.declared.marks.LaneOutputs.{LaneOutputs}
 use Rattle.wait_order.specs.declared.marks.Output.{Output}
-use Rattle.wait_order.specs.ByName.{place, IsAmongPlaces, IsListedByName, with_listed, KeepsListed, AreLaneListed, AreListedByName}
+use Rattle.wait_order.specs.ByName.{place, IsAmongPlaces, IsListedByName, with_place_listed, KeepsListed, AreLaneListed, AreListedByName}
 
 -- a list keeps its places as one more comes
 in_more : (list : List OutputPlace) (a b : OutputPlace) → IsAmongPlaces list b
@@ -32,15 +32,15 @@ in_last list a =
 -- one more place under a name: what was listed still is, and it is listed
 module _ (lists : List (List OutputPlace)) (name : ℕ) (at : OutputPlace)
     (lt : name < length lists) where
-  there : get_or (with_listed lists name at) name [] ≡ get_or lists name [] ++ at ∷ []
+  there : get_or (with_place_listed lists name at) name [] ≡ get_or lists name [] ++ at ∷ []
   there = get_or-set_same lists name _ [] lt
 
   kept_at : (other : ℕ) (b : OutputPlace) → IsListedByName lists other b
-      → IsListedByName (with_listed lists name at) other b
+      → IsListedByName (with_place_listed lists name at) other b
   kept_at other b is =
       elim (cases_eq other name) [
         | inl same ↦
-            subst (λ n. IsListedByName (with_listed lists name at) n b) (sym same)
+            subst (λ n. IsListedByName (with_place_listed lists name at) n b) (sym same)
             (subst (λ list. IsAmongPlaces list b) (sym there)
             (in_more (get_or lists name []) at b
             (subst (λ n. IsListedByName lists n b) same is)))
@@ -49,10 +49,10 @@ module _ (lists : List (List OutputPlace)) (name : ℕ) (at : OutputPlace)
             (sym (get_or-set_other lists name other _ [] differs)) is
       ]
 
-  pub IsKept-with_listed : KeepsListed lists (with_listed lists name at)
+  pub IsKept-with_listed : KeepsListed lists (with_place_listed lists name at)
   IsKept-with_listed = record { long = length-set lists name _; kept = kept_at }
 
-  pub IsListed-with_listed : IsListedByName (with_listed lists name at) name at
+  pub IsListed-with_listed : IsListedByName (with_place_listed lists name at) name at
   IsListed-with_listed = subst (λ list. IsAmongPlaces list at) (sym there)
       (in_last (get_or lists name []) at)
 

@@ -38,8 +38,8 @@ abbrev pub IsListedByName : List (List OutputPlace) → ℕ → OutputPlace → 
 IsListedByName lists name at = IsAmongPlaces (slice_index_or lists name []) at
 
 -- one more place under a name
-abbrev pub with_listed : List (List OutputPlace) → ℕ → OutputPlace → List (List OutputPlace)
-with_listed lists name at = slice_set lists name (slice_index_or lists name [] ++ at ∷ [])
+abbrev pub with_place_listed : List (List OutputPlace) → ℕ → OutputPlace → List (List OutputPlace)
+with_place_listed lists name at = slice_set lists name (slice_index_or lists name [] ++ at ∷ [])
 
 -- what was listed still is
 pub record KeepsListed (old new : List (List OutputPlace)) : Type 0 where

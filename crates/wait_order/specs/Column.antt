@@ -29,15 +29,15 @@ unfoldable pub bound : ℕ → ℕ → Counts → Point → ℕ
 bound lane total x p = if p.lane == lane then p.own else max (count_at x p.before)
     (least lane x total p.sources.items)
 
-abbrev pub IsIn : ℕ → Option ℕ → Type 0
-IsIn n None = Unit {0}
-IsIn n (Some w) = w < n
+abbrev pub IsPointBelow : ℕ → Option ℕ → Type 0
+IsPointBelow n None = Unit {0}
+IsPointBelow n (Some w) = w < n
 
 abbrev pub ArePlaced : ℕ → List Source → Type 0
-ArePlaced n ss = All (λ (s : Source). IsIn n s.point) ss
+ArePlaced n ss = All (λ (s : Source). IsPointBelow n s.point) ss
 
 pub record IsPlaced (n : ℕ) (p : Point) : Type 0 where
-  pub before : IsIn n p.before
+  pub before : IsPointBelow n p.before
   pub sources : ArePlaced n p.sources.items
 
 abbrev pub ArePointsIn : ℕ → List Point → Type 0

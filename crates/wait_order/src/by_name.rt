@@ -3,7 +3,7 @@
 ghost use Rattle.std.specs.Prelude.{◌≡◌, ◌<◌, ◌++◌, ◌∷◌, [], Some, IfOk, OnOk, length, slice_get, slice_index_or};
 ghost use Rattle.farm_model.specs.Packages.{names};
 ghost use Rattle.wait_order.specs.declared.marks.LaneOutputs.{LaneOutputs};
-ghost use Rattle.wait_order.specs.ByName.{with_listed, IsListedByName, KeepsListed, AreLaneListed, AreListedByName};
+ghost use Rattle.wait_order.specs.ByName.{with_place_listed, IsListedByName, KeepsListed, AreLaneListed, AreListedByName};
 
 use crate::known_outputs::KnownOutputs;
 use std::alloc::{AllocError, Global};
@@ -91,7 +91,7 @@ impl ByName {
 
     fn put(&mut self, name: usize, place: OutputPlace) -> Result<(), AllocError>
         requires { name < length self.old }
-        ensures { OnOk result (self.new ≡ with_listed self.old name place) }
+        ensures { OnOk result (self.new ≡ with_place_listed self.old name place) }
     {
         self.lists[name].push(place)
     }

@@ -11,7 +11,7 @@ ghost use Rattle.sat_rows.specs.Rows.{IsWordFor, IsRowOf};
 ghost use Rattle.wait_order.specs.declared.marks.LaneOutputs.{LaneOutputs};
 ghost use Rattle.wait_order.specs.ByName.{AreListedByName};
 ghost use Rattle.wait_order.specs.Clock.{count_of, IsClockFor, row_of, IsCounted};
-ghost use Rattle.wait_order.specs.Column.{IsIn};
+ghost use Rattle.wait_order.specs.Column.{IsPointBelow};
 ghost use Rattle.wait_order.specs.Columns.{column_of};
 ghost use Rattle.wait_order.specs.Marks.{AreLanes};
 
@@ -50,7 +50,7 @@ impl<'k> Clock<'k> {
 /// How many outputs of a lane count.
 pub fn counted(clock: &Clock, other: usize) -> u64
     requires other { other < length clock.now.columns.now }
-    requires there { IsIn (length (column_of clock.now.columns.now other)) clock.now.last }
+    requires there { IsPointBelow (length (column_of clock.now.columns.now other)) clock.now.last }
     ensures { result ≡ count_of clock.now other }
 {
     if other == clock.lane {
