@@ -34,7 +34,7 @@ use Rattle.plan_asm.proofs.Places.{place-within}
 use Rattle.plan_model.specs.Plan.{Lane, Plan, lane}
 use Rattle.cert_text.specs.declared.fault.CertFault.{CertFault}
 use Rattle.cert_text.specs.CertLines.{first_word, behind_word, is_colon, is_number_of, numbered_row, known_row, lane_names, order_words, order_lane}
-use Rattle.cert_text.specs.CertText.{told_at, first_row, rows_in, lanes_in, order_at, rest_in, certificate_in, in_text, certificate_of}
+use Rattle.cert_text.specs.CertText.{told_on_line, first_row, rows_in, lanes_in, order_at, rest_in, certificate_in, in_text, certificate_of}
 use Rattle.cert_text.specs.Certificates.{Certificate, IsNewRow, IsCertificate, row_places, count_rows}
 use Rattle.cert_text.specs.Faults.{refusal_of}
 use Rattle.cert_text.specs.Rows.{variant_of, find_variant, item_variant, comes_behind, is_behind, variants_behind, row_of_items, row_at}
@@ -157,7 +157,7 @@ module _ (u : Universe) where
   -- ---- the rows of lanes
 
   told-has : {X : Type 0} (P : X → Type 0) (number : ℕ) (o : Option X) → IfSome o P
-      → IfOk (told_at number o) P
+      → IfOk (told_on_line number o) P
   told-has P number None has = tt
   told-has P number (Some x) has = has
 

@@ -10,35 +10,36 @@ use Rattle.clause_kernel.proofs.Words.{word_has_zero}
 use Rattle.farm_model.specs.declared.types.Variant.{Variant}
 use Rattle.farm_model.specs.Packages.{names, variant, variants}
 use Rattle.farm_model.specs.Universe.{Universe}
-use Rattle.cert_text.specs.Rows.{IsOfUniverse, in_row, named_variants, named_in_row, row_variants}
+use Rattle.cert_text.specs.Rows.{IsOfUniverse, those_in_row, named_variants, named_in_row, row_variants}
 
 -- the variants of a name below this bit
 abbrev pub named_below : ℕ → ℕ → List Variant
 named_below n b = map (variant n) (range_with_len 0 b)
 
 module _ (row : List ℕ) (n b : ℕ) where
-  more : in_row row (named_below n (b + 1))
-      ≡ in_row row (named_below n b) ++ cond (variants_of row n b) (variant n b ∷ []) []
+  more : those_in_row row (named_below n (b + 1))
+      ≡ those_in_row row (named_below n b) ++ cond (variants_of row n b) (variant n b ∷ []) []
   more =
       filter_of_map_range_with_len_more (λ v. variants_of row v.name v.bit) (variant n) 0 b b
       (omega arith)
 
   pub in_row-has : variants_of row n b ≡ true
-      → in_row row (named_below n (b + 1)) ≡ in_row row (named_below n b) ++ variant n b ∷ []
+      → those_in_row row (named_below n (b + 1))
+      ≡ those_in_row row (named_below n b) ++ variant n b ∷ []
   in_row-has is = more ∙ rw is refl
 
   pub in_row-lacks : variants_of row n b ≡ false
-      → in_row row (named_below n (b + 1)) ≡ in_row row (named_below n b)
-  in_row-lacks is = more ∙ rw is (append-nil (in_row row (named_below n b)))
+      → those_in_row row (named_below n (b + 1)) ≡ those_in_row row (named_below n b)
+  in_row-lacks is = more ∙ rw is (append-nil (those_in_row row (named_below n b)))
 
 -- a name whose word is 0 has no variants
 none-in : (row ks : List ℕ) (n : ℕ) → ((b : ℕ) → variants_of row n b ≡ false)
-    → in_row row (map (variant n) ks) ≡ []
+    → those_in_row row (map (variant n) ks) ≡ []
 none-in row [] n none = refl
 none-in row (k ∷ ks) n none = rw (none k) (none-in row ks n none)
 
 pub in_row-none : (row : List ℕ) (n count : ℕ) → IsWordOf (variants_of row) n 0
-    → in_row row (named_below n count) ≡ []
+    → those_in_row row (named_below n count) ≡ []
 in_row-none row n count is =
     none-in row (range_with_len 0 count) n (λ b. is b ∙ word_has_zero b)
 

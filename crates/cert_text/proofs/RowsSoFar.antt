@@ -20,7 +20,7 @@ use Rattle.farm_model.proofs.TestLaws.{eqb-turned}
 use Rattle.farm_universe.proofs.ArchiveLaws.{length-words_of}
 use Rattle.farm_universe.proofs.ListLaws.{has_bit-words_of}
 use Rattle.farm_universe.specs.ListText.{variant_words}
-use Rattle.cert_text.specs.Items.{said_by, said}
+use Rattle.cert_text.specs.Items.{said_by, said_variant}
 use Rattle.cert_text.specs.Rows.{item_variant, ahead_of, comes_behind, variants_behind, row_of_items, row_at}
 
 -- a row of so many names that has these variants
@@ -88,7 +88,7 @@ module _ (u : Universe) where
   variants_said last (text ∷ texts) =
       option_and_then
       (λ v. ahead_of (comes_behind u last v) v (variants_said (Some v) texts))
-      (said u text)
+      (said_variant u text)
 
   -- what is left, behind the variants so far
   abbrev pub left_of : List Variant → Option Variant → List (List ℕ) → Option (List Variant)
@@ -101,10 +101,10 @@ module _ (u : Universe) where
       (total : Option (List Variant)) (cut : all ≡ text ∷ texts)
       (so_far : left_of vs last all ≡ total) where
     -- an item that names no variant
-    pub left-none : said u text ≡ None → total ≡ None
+    pub left-none : said_variant u text ≡ None → total ≡ None
     left-none is = sym so_far ∙ rw (cut, is) refl
 
-    module _ (v : Variant) (is : said u text ≡ Some v) where
+    module _ (v : Variant) (is : said_variant u text ≡ Some v) where
       -- one whose variant may not stand there
       pub left-stops : comes_behind u last v ≡ false → total ≡ None
       left-stops not = sym so_far ∙ rw (cut, is, not) refl
@@ -136,7 +136,7 @@ module _ (u : Universe) where
 
   pub read-said : (last : Option Variant) (texts : List (List ℕ))
       → behind_read last (traverse (entry_at Provide) texts) ≡ variants_said last texts
-  unfolding traverse said
+  unfolding traverse said_variant
   read-said last [] = refl
   read-said last (text ∷ texts) =
       by (entry_at Provide text) (traverse (entry_at Provide) texts)

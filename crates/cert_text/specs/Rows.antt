@@ -32,12 +32,12 @@ abbrev pub named_variants : Universe → ℕ → List Variant
 named_variants u n = map (variant n) (range_with_len 0 (variants u n))
 
 -- the variants of a list whose bit is set
-abbrev pub in_row : List ℕ → List Variant → List Variant
-in_row row vs = filter (λ v. variants_of row v.name v.bit) vs
+abbrev pub those_in_row : List ℕ → List Variant → List Variant
+those_in_row row vs = filter (λ v. variants_of row v.name v.bit) vs
 
 -- those of a name whose bit is set
 abbrev pub named_in_row : Universe → List ℕ → ℕ → List Variant
-named_in_row u row n = in_row row (named_variants u n)
+named_in_row u row n = those_in_row row (named_variants u n)
 
 -- by name number, and then by bit
 abbrev pub row_variants : Universe → List ℕ → List Variant

@@ -2,7 +2,7 @@
 
 ghost use Rattle.std.specs.Prelude.{◌≡◌, ◌++◌, ◌∷◌, ◌≤◌, [], length, not, Some, IfOk, IfSome, OnOk};
 ghost use Rattle.std.specs.List.{Contains, prefix_len};
-ghost use Rattle.cert_text.specs.Items.{said, EachIsSaid};
+ghost use Rattle.cert_text.specs.Items.{said_variant, EachIsSaid};
 ghost use Rattle.cert_text.specs.Rows.{IsOfUniverse, is_behind};
 ghost use Rattle.farm_model.specs.Universe.{Universe as Farm};
 
@@ -113,7 +113,8 @@ fn variant_here(
     text: &[u8],
 ) -> Result<Option<Variant>, AllocError>
     requires { EachIsSaid spelled.universe.now repeats.now }
-    ensures said { IfOk result (λ variant. variant ≡ said spelled.entry.universe.now text.now) }
+    ensures said { IfOk result (λ variant. variant
+        ≡ said_variant spelled.entry.universe.now text.now) }
     ensures known { IfOk result (λ variant. IfSome variant
         (IsOfUniverse spelled.entry.universe.now)) }
 {
@@ -135,7 +136,8 @@ pub fn variant_repeated<'t>(
     text: &'t [u8],
 ) -> Result<Option<Variant>, AllocError>
     requires { EachIsSaid spelled.universe.now repeats.old }
-    ensures said { IfOk result (λ variant. variant ≡ said spelled.entry.universe.now text.now) }
+    ensures said { IfOk result (λ variant. variant
+        ≡ said_variant spelled.entry.universe.now text.now) }
     ensures known { IfOk result (λ variant. IfSome variant
         (IsOfUniverse spelled.entry.universe.now)) }
     ensures kept { OnOk result (EachIsSaid spelled.entry.universe.now repeats.new) }

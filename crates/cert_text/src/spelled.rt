@@ -3,7 +3,7 @@
 ghost use Rattle.std.specs.Prelude.{◌≡◌, ◌<◌, IfOk, IfSome, OnOk};
 ghost use Rattle.std.specs.Map.{lookup};
 ghost use Rattle.std.specs.Str.{bytes_eq};
-ghost use Rattle.cert_text.specs.Items.{said, AreSaid, IsSaid};
+ghost use Rattle.cert_text.specs.Items.{said_variant, AreSaid, IsSaid};
 ghost use Rattle.cert_text.specs.Rows.{IsOfUniverse};
 ghost use Rattle.farm_model.specs.Packages.{names};
 ghost use Rattle.farm_model.specs.Universe.{Universe as Farm};
@@ -25,9 +25,9 @@ pub struct Spelled<'a> {
 }
 
 /// The variant that an item says.
-#[tactic(auto, unfolding(crate::specs::Items::said))]
+#[tactic(auto, unfolding(crate::specs::Items::said_variant))]
 fn read_item(alloc: Global, universe: &Universe, text: &[u8]) -> Result<Option<Variant>, AllocError>
-    ensures said { IfOk result (λ variant. variant ≡ said universe.now text.now) }
+    ensures said { IfOk result (λ variant. variant ≡ said_variant universe.now text.now) }
     ensures known { IfOk result (λ variant. IfSome variant (IsOfUniverse universe.now)) }
 {
     match Entry::parse(alloc, text, Kind::Provide) {
@@ -58,7 +58,8 @@ pub fn variant_said(
     spelled: Spelled<'_>,
     text: &[u8],
 ) -> Result<Option<Variant>, AllocError>
-    ensures said { IfOk result (λ variant. variant ≡ said spelled.entry.universe.now text.now) }
+    ensures said { IfOk result (λ variant. variant
+        ≡ said_variant spelled.entry.universe.now text.now) }
     ensures known { IfOk result (λ variant. IfSome variant
         (IsOfUniverse spelled.entry.universe.now)) }
 {

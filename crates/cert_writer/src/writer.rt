@@ -6,7 +6,7 @@ ghost use Rattle.cert_text.specs.Printed.{known_line, order_line};
 ghost use Rattle.plan_model.specs.Plan.{lane};
 ghost use Rattle.plan_verifier.specs.Accepted.{known_rows};
 ghost use Rattle.cert_writer.specs.Carried.{IsReadyForRow, CarriesKnown};
-ghost use Rattle.cert_writer.specs.Lines.{all_lines, lane_text, place_text};
+ghost use Rattle.cert_writer.specs.Lines.{all_lines, lane_text, place_row_text};
 ghost use Rattle.cert_writer.specs.NewRows.{new_row};
 ghost use Rattle.cert_writer.specs.Sending.{IsSentOn};
 ghost use Rattle.cert_writer.specs.Written.{IsCertificateWritten};
@@ -66,7 +66,8 @@ fn write_place<S: Sink>(
     requires place { place < length (lane accepted.now.plan number).instructions }
     requires carried { CarriesKnown accepted.now number carried.old }
     ensures sent { IsSentOn (S.state out.old) (S.state out.new) pending.old pending.new
-        (place_text accepted.now.universe accepted.now.plan (known_rows accepted.now) number place)
+        (place_row_text accepted.now.universe accepted.now.plan (known_rows accepted.now) number
+        place)
         result }
     ensures carried { OnOk result (CarriesKnown accepted.now number carried.new) }
 {

@@ -10,7 +10,7 @@ use Rattle.deb_text.proofs.StepLaws.{steps-judged}
 use Rattle.deb_stanza.specs.Cut.{onto_last}
 use Rattle.deb_stanza.specs.Draft.{State, open_texts, open_names, longer, larger, with_line, draft_step, raw_part, state_of}
 use Rattle.deb_stanza.specs.Stanza.{name_of, separates, continues, texts_of, parts, open_part, last_part_of, line_refusal, told_at, fault_of, paragraph_of, paragraphs_of}
-use Rattle.deb_stanza.specs.View.{Raw, finished}
+use Rattle.deb_stanza.specs.View.{Raw, paragraph_of_raw}
 use Rattle.deb_stanza.proofs.CutLaws.{onto_last-push}
 use Rattle.deb_stanza.proofs.NameLaws.{last_texts-push}
 use Rattle.deb_stanza.proofs.PartsLaws.{split-last, split-at, split-in, last_of-push, texts_of-head, texts_of-more}
@@ -160,11 +160,12 @@ pub steps-lines : (ls : List Line)
     → steps draft_step (the_state [] false) ls ≡ judged fault_of state_of ls
 steps-lines ls = steps-judged draft_step fault_of state_of keeps ls
 
-fuse : (qs : List (List Line)) → map finished (map raw_part qs) ≡ map paragraph_of qs
+fuse : (qs : List (List Line)) → map paragraph_of_raw (map raw_part qs) ≡ map paragraph_of qs
 fuse [] = refl
 fuse (q ∷ qs) = ap (λ ps. paragraph_of q ∷ ps) (fuse qs)
 
 -- the paragraphs are what the state comes to
 pub judged-paragraphs : (ls : List Line)
-    → judged fault_of (λ ys. map finished (state_of ys).raws) ls ≡ judged fault_of paragraphs_of ls
+    → judged fault_of (λ ys. map paragraph_of_raw (state_of ys).raws) ls
+    ≡ judged fault_of paragraphs_of ls
 judged-paragraphs ls = λ j. judged fault_of (λ ys. fuse (filter some (parts ys)) j) ls

@@ -6,7 +6,7 @@ ghost use Rattle.std.specs.Option.{option_map};
 ghost use Rattle.deb_stanza.specs.Cut.{end_at, onto_last};
 ghost use Rattle.deb_stanza.specs.Draft.{HasNames, last_texts, longer, larger, names_from};
 ghost use Rattle.deb_stanza.specs.Stanza.{name_of, paragraph_at, same_name, value_of};
-ghost use Rattle.deb_stanza.specs.View.{IsSoundTable, first_of, own, table_paragraphs, table_raws, table_texts, value_among, value_named};
+ghost use Rattle.deb_stanza.specs.View.{IsSoundTable, first_of_start, own, table_paragraphs, table_raws, table_texts, value_among, value_named};
 
 use crate::fields::{behind_name, insert_name, name_part};
 use deb_text::trim;
@@ -59,7 +59,7 @@ fn field_end(fields: &[u32], field: usize, end: usize) -> usize
 /// Where a paragraph ends: where the next one begins, or at the end.
 fn start_end(starts: &[Start], place: usize, end: usize) -> usize
     requires { place < length starts.now }
-    ensures { result ≡ end_at first_of end starts.now place }
+    ensures { result ≡ end_at first_of_start end starts.now place }
 {
     match starts.get(place + 1) {
         Some(next) => next.first as usize,

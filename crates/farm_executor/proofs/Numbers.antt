@@ -13,7 +13,7 @@ use Rattle.lane_runner.specs.declared.run.LaneStop.{LaneStop}
 use Rattle.lane_runner.specs.OnWay.{IsEnded}
 use Rattle.plan_model.specs.Plan.{Plan, lane, no_lane, lane_outputs}
 use Rattle.plan_verifier.specs.Accepted.{AcceptedPlan, IsAccepted, known_rows}
-use Rattle.word_archive.specs.History.{HasOne, HasOutput, IsOutput, entry}
+use Rattle.word_archive.specs.History.{HasOne, HasOutput, IsMadeOutput, entry}
 use Rattle.word_archive.specs.Rule.{serial_word}
 use Rattle.farm_executor.specs.Played.{IsPlayed}
 use Rattle.farm_executor.specs.Publications.{IsNumbered, IsOutputNumber}
@@ -161,7 +161,7 @@ module _ (a : AcceptedPlan) (accepted : IsAccepted a) (gives_up : Type 0) (stops
       let less = within_list _ i v out in
       let all = all_made a accepted gives_up stops chroots spent history played ended l
       (output_in_plan a l i v out) e.of in
-      let o : IsOutput a played.records h = record {
+      let o : IsMadeOutput a played.records h = record {
         told = e.of.told;
         place = i;
         there = e.of.told_at;

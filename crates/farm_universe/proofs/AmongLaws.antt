@@ -11,7 +11,7 @@ use Rattle.deb_relation.specs.Satisfaction.{is_its_own, is_provided, provides_it
 use Rattle.item_index.specs.declared.item.Item.{Item}
 use Rattle.item_index.specs.Items.{item, item_of, listed, IsIn}
 use Rattle.item_index.proofs.ItemLaws.{any-at, any-found, any_atom-at, any_atom-found}
-use Rattle.farm_universe.specs.Among.{there_and_passes, provides_at, is_other, at_owner, AreFound}
+use Rattle.farm_universe.specs.Among.{there_and_passes, provides_at, is_another_member, at_owner, AreFound}
 use Rattle.farm_universe.specs.BaseText.{Member, member_facts}
 
 -- ---- tests of lists
@@ -104,19 +104,20 @@ module _ (ms : List Member) (named provided : List (List (Item ℕ)))
     (besides : Option ℕ) (a : Atom) where
   -- by their own names
   pub any-named : list_any
-      (at_owner (λ m. is_other besides m && is_its_own (member_facts m) a) ms) (listed named a.name)
-      ≡ list_any (λ m. is_other besides m && is_its_own (member_facts m) a) ms
+      (at_owner (λ m. is_another_member besides m && is_its_own (member_facts m) a) ms)
+      (listed named a.name)
+      ≡ list_any (λ m. is_another_member besides m && is_its_own (member_facts m) a) ms
   any-named =
       any-owner ms (listed named a.name)
-      (λ at m. is_other besides m && is_its_own (member_facts m) a)
-      (λ m. is_other besides m && is_its_own (member_facts m) a) (λ at m is. is) complete
+      (λ at m. is_another_member besides m && is_its_own (member_facts m) a)
+      (λ m. is_another_member besides m && is_its_own (member_facts m) a) (λ at m is. is) complete
     where
       complete : (k : ℕ) (m : Member) → slice_get ms k ≡ Some m
-          → (is_other besides m && is_its_own (member_facts m) a) ≡ true
+          → (is_another_member besides m && is_its_own (member_facts m) a) ≡ true
           → (at : Item ℕ) × IsIn (listed named a.name) at × (at.owner ≡ k)
-          × ((is_other besides m && is_its_own (member_facts m) a) ≡ true)
+          × ((is_another_member besides m && is_its_own (member_facts m) a) ≡ true)
       complete k m there is =
-          let own = (and_parts (is_other besides m) _ is).1 in
+          let own = (and_parts (is_another_member besides m) _ is).1 in
           let same = (bytes_eq-Decides m.name a.name).0
           (and_parts (bytes_eq m.name a.name) _ own).0 in (
             item k 0 0,
@@ -127,12 +128,13 @@ module _ (ms : List Member) (named provided : List (List (Item ℕ)))
 
   -- by what they provide
   pub any-provided : list_any
-      (λ at. at_owner (λ m. is_other besides m && provides_at at m a) ms at)
+      (λ at. at_owner (λ m. is_another_member besides m && provides_at at m a) ms at)
       (listed provided a.name)
-      ≡ list_any (λ m. is_other besides m && is_provided m.binary.provides a) ms
+      ≡ list_any (λ m. is_another_member besides m && is_provided m.binary.provides a) ms
   any-provided =
-      any-owner ms (listed provided a.name) (λ at m. is_other besides m && provides_at at m a)
-      (λ m. is_other besides m && is_provided m.binary.provides a) sound complete
+      any-owner ms (listed provided a.name)
+      (λ at m. is_another_member besides m && provides_at at m a)
+      (λ m. is_another_member besides m && is_provided m.binary.provides a) sound complete
     where
       told : (at : Item ℕ) (m : Member) (o : Option Atom) → item_of at m.binary.provides ≡ o
           → there_and_passes (provides_it a) o ≡ true → is_provided m.binary.provides a ≡ true
@@ -140,18 +142,19 @@ module _ (ms : List Member) (named provided : List (List (Item ℕ)))
       told at m (Some p) e is =
           any_atom-at (provides_it a) m.binary.provides at.entry at.alternative p e is
 
-      sound : (at : Item ℕ) (m : Member) → (is_other besides m && provides_at at m a) ≡ true
-          → (is_other besides m && is_provided m.binary.provides a) ≡ true
+      sound : (at : Item ℕ) (m : Member) → (is_another_member besides m && provides_at at m a)
+          ≡ true
+          → (is_another_member besides m && is_provided m.binary.provides a) ≡ true
       sound at m is =
-          let parts = and_parts (is_other besides m) _ is in
+          let parts = and_parts (is_another_member besides m) _ is in
           and_from _ _ parts.0 (told at m (item_of at m.binary.provides) refl parts.1)
 
       complete : (k : ℕ) (m : Member) → slice_get ms k ≡ Some m
-          → (is_other besides m && is_provided m.binary.provides a) ≡ true
+          → (is_another_member besides m && is_provided m.binary.provides a) ≡ true
           → (at : Item ℕ) × IsIn (listed provided a.name) at × (at.owner ≡ k)
-          × ((is_other besides m && provides_at at m a) ≡ true)
+          × ((is_another_member besides m && provides_at at m a) ≡ true)
       complete k m there is =
-          let parts = and_parts (is_other besides m) _ is in
+          let parts = and_parts (is_another_member besides m) _ is in
           let found = any_atom-found (provides_it a) m.binary.provides parts.1 in
           let p = found.3 in
           let both = and_parts (is_none p.qualifier && bytes_eq p.name a.name) _ found.7 in

@@ -25,7 +25,7 @@ use Rattle.farm_universe.specs.FarmSteps.{word_set, taken_with}
 use Rattle.item_index.specs.Items.{item, listed, KeepsItems, IsListed}
 use Rattle.item_index.specs.declared.item.Item.{Item}
 use Rattle.farm_universe.specs.Among.{there_and_passes}
-use Rattle.farm_universe.specs.FarmView.{AreNamed, IsPlace, AreNew, IsNew, IsRecipe, outputs_of, GivesOnce, AreTaken, AreRecipes}
+use Rattle.farm_universe.specs.FarmView.{AreNamed, IsPlace, AreNew, IsNew, IsRecipe, recipe_outputs, GivesOnce, AreTaken, AreRecipes}
 use Rattle.farm_universe.specs.Land.{Land}
 use Rattle.farm_universe.specs.ListText.{with_bit}
 use Rattle.farm_universe.specs.RecipeText.{outputs_at, is_taken, new_outputs, build_entries}
@@ -143,12 +143,12 @@ has_bit-taken_with (v ∷ vs) words w all =
 -- ---- no output twice
 
 outputs_of-push : (rs : List Recipe) (r : Recipe) (q i : ℕ) (v : Variant)
-    → slice_get (outputs_of (rs ++ r ∷ []) q) i ≡ Some v
-    → (slice_get (outputs_of rs q) i ≡ Some v)
+    → slice_get (recipe_outputs (rs ++ r ∷ []) q) i ≡ Some v
+    → (slice_get (recipe_outputs rs q) i ≡ Some v)
     ⊎ ((q ≡ length rs) × (slice_get r.outputs i ≡ Some v))
 outputs_of-push [] r zero i v at = inr (refl, at)
 outputs_of-push [] r (suc q) i v at = absurd (nothing i at) where
-  nothing : (i : ℕ) → slice_get (outputs_of [] q) i ≡ Some v → ⊥
+  nothing : (i : ℕ) → slice_get (recipe_outputs [] q) i ≡ Some v → ⊥
   nothing zero e = cc
   nothing (suc i) e = cc
 outputs_of-push (x ∷ xs) r zero i v at = inl at
@@ -159,7 +159,7 @@ outputs_of-push (x ∷ xs) r (suc q) i v at =
     ]
 
 -- an output of a recipe is given by one of them
-given : (rs : List Recipe) (q i : ℕ) (v : Variant) → slice_get (outputs_of rs q) i ≡ Some v
+given : (rs : List Recipe) (q i : ℕ) (v : Variant) → slice_get (recipe_outputs rs q) i ≡ Some v
     → list_any (λ r. contains r.outputs v) rs ≡ true
 given [] zero zero v at = absurd cc
 given [] zero (suc i) v at = absurd cc
@@ -182,7 +182,7 @@ none-at p (y ∷ ys) (suc i) x none at =
 
 module _ (l : Land) (rs : List Recipe) (r : Recipe) (new : AreNew l rs r.outputs) where
   -- an output of the new recipe is none of an earlier one
-  apart : (q i j : ℕ) (v : Variant) → slice_get (outputs_of rs q) i ≡ Some v
+  apart : (q i j : ℕ) (v : Variant) → slice_get (recipe_outputs rs q) i ≡ Some v
       → slice_get r.outputs j ≡ Some v → ⊥
   apart q i j v before here =
       let free = none-at (is_taken l.initial rs) r.outputs j v new.free here in

@@ -2,7 +2,7 @@
 --
 --   there_and_passes      a test of what may be there
 --   provides_at           what a member provides at a place provides an alternative
---   is_other              a member is of another name than this one, if there is one
+--   is_another_member     a member is of another name than this one, if there is one
 --   at_owner              a test of the member that an item is of
 --   AreFound              each member is listed under its name, and what it provides under the
 --   names
@@ -24,9 +24,9 @@ abbrev pub provides_at : Item ℕ → Member → Atom → Bool
 provides_at at m a = there_and_passes (provides_it a) (item_of at m.binary.provides)
 
 -- the member has another name than that of the number, if there is one
-abbrev pub is_other : Option ℕ → Member → Bool
-is_other None m = true
-is_other (Some number) m = not (m.number == number)
+abbrev pub is_another_member : Option ℕ → Member → Bool
+is_another_member None m = true
+is_another_member (Some number) m = not (m.number == number)
 
 -- the member that an item is of passes
 abbrev pub at_owner : (Member → Bool) → List Member → Item ℕ → Bool

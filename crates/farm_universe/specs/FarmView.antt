@@ -130,13 +130,13 @@ pub record IsRecipe (l : land.Land) (r : Recipe) : Type 0 where
   pub small : r.scratch ≤ MOST_SIZE
 
 -- the outputs of the recipe with this number
-abbrev pub outputs_of : List Recipe → ℕ → List Variant
-outputs_of rs r = (get_or rs r no_recipe).outputs
+abbrev pub recipe_outputs : List Recipe → ℕ → List Variant
+recipe_outputs rs r = (get_or rs r no_recipe).outputs
 
 -- no variant is given twice
 abbrev pub GivesOnce : List Recipe → Type 0
-GivesOnce rs = (q r i j : ℕ) (v : Variant) → slice_get (outputs_of rs q) i ≡ Some v
-    → slice_get (outputs_of rs r) j ≡ Some v → (q ≡ r) × (i ≡ j)
+GivesOnce rs = (q r i j : ℕ) (v : Variant) → slice_get (recipe_outputs rs q) i ≡ Some v
+    → slice_get (recipe_outputs rs r) j ≡ Some v → (q ≡ r) × (i ≡ j)
 
 -- the words have the bits of the initial archive and of the outputs
 pub record AreTaken (l : land.Land) (rs : List Recipe) (words : List ℕ) : Type 0 where

@@ -2,7 +2,7 @@
 -- format; Debian Policy 7.7 for what a build needs).
 --
 --   source_in sources text      the source that a value `name (= version)` names
---   mode_at, profiles_at        the mode of a build; its active profiles
+--   mode_at, active_profiles_at  the mode of a build; its active profiles
 --   recipe_at land before p     what a paragraph says, behind the recipes before it
 use Rattle.std.specs.Prelude.{ℕ, ◌+◌, Bool, ◌||◌, nat_lt, nat_le, List, [], ◌∷◌, ◌++◌, map, sum, length, Option, Some, None, Result, Ok, Err, ok_or, if◌then◌else◌, codes}
 use Rattle.std.specs.List.{list_any}
@@ -58,9 +58,9 @@ mode_at None = Ok Full
 mode_at (Some text) = mode_of text
 
 -- the active profiles (BuildProfileSpec); absent: none
-abbrev pub profiles_at : Option (List ℕ) → Result (List (List ℕ)) ℕ
-profiles_at None = Ok []
-profiles_at (Some text) = words_at text
+abbrev pub active_profiles_at : Option (List ℕ) → Result (List (List ℕ)) ℕ
+active_profiles_at None = Ok []
+active_profiles_at (Some text) = words_at text
 
 -- the fields of the mode, each reduced by the names of the architecture and by the profiles
 -- (Policy 7.1, 7.7)
@@ -79,7 +79,7 @@ build_at land p = do
   named ← needed_at p (codes "Source")
   source ← source_in land.sources named
   mode ← mode_at (value_of p (codes "Mode"))
-  profiles ← profiles_at (value_of p (codes "Profiles"))
+  profiles ← active_profiles_at (value_of p (codes "Profiles"))
   Ok (record {
     needs = in_mode land.architectures profiles mode source.needs;
     clashes = in_mode land.architectures profiles mode source.clashes;

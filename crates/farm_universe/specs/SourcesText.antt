@@ -49,8 +49,8 @@ build_fields_at kind p always arch indep = do
   for_indep ← relations_in kind (value_of p indep)
   Ok (record { always = for_all; arch = for_arch; indep = for_indep })
 
-abbrev pub needs_at : Paragraph → Result BuildFields ℕ
-needs_at p = build_fields_at BuildNeed p (codes "Build-Depends") (codes "Build-Depends-Arch")
+abbrev pub build_needs_at : Paragraph → Result BuildFields ℕ
+build_needs_at p = build_fields_at BuildNeed p (codes "Build-Depends") (codes "Build-Depends-Arch")
     (codes "Build-Depends-Indep")
 
 abbrev pub clashes_at : Paragraph → Result BuildFields ℕ
@@ -64,7 +64,7 @@ source_at p = do
   name ← package_name_at given
   spelled ← needed_at p (codes "Version")
   version ← version_text_at spelled
-  needs ← needs_at p
+  needs ← build_needs_at p
   clashes ← clashes_at p
   Ok (record {
     name = name;

@@ -52,5 +52,5 @@ pub record IsFit (table : text.PackageTable) : Type 0 where
   pub orderly : All IsOrderly table.packages
 
 -- a number of a name of the table, if there is one
-abbrev pub IsWithin : text.PackageTable → Option ℕ → Type 0
-IsWithin table at = MatchOption at (Unit {0}) (λ i. i < length table.packages)
+abbrev pub IsWithinTable : text.PackageTable → Option ℕ → Type 0
+IsWithinTable table at = MatchOption at (Unit {0}) (λ i. i < length table.packages)

@@ -9,7 +9,7 @@ use Rattle.deb_stanza.specs.Stanza.{continues, name_of, same_name}
 use Rattle.farm_warnings.specs.declared.field_name.FieldName.{FieldName}
 use Rattle.farm_warnings.specs.declared.kind.Kind.{Kind}
 use Rattle.farm_warnings.specs.declared.words.Word.{Word}
-use Rattle.farm_warnings.specs.Lines.{is_recipe, paragraphs_in}
+use Rattle.farm_warnings.specs.Lines.{is_recipe, paragraph_lines_in}
 use Rattle.farm_warnings.specs.Words.{counted, field_name, word_text}
 
 -- the fields of the first paragraph, of a recipe, and of a base chroot
@@ -52,4 +52,4 @@ all_said [] = []
 all_said (first ∷ later) = fields_said Kind.Farm first ++ flat_map later_said later
 
 unfoldable pub fields_text : List ℕ → List ℕ
-fields_text text = all_said (paragraphs_in text)
+fields_text text = all_said (paragraph_lines_in text)

@@ -169,7 +169,7 @@ impl<'a> Lines<'a> {
 
     /// The lines behind the first paragraph of a text.
     pub fn behind_first(text: &'a [u8]) -> Lines<'a>
-        ensures { spec.paragraph_lines result ≡ drop 1 (spec.paragraphs_in text.now) }
+        ensures { spec.paragraph_lines result ≡ drop 1 (spec.paragraph_lines_in text.now) }
     {
         let mut lines = Lines::of(text);
         lines.next_paragraph();

@@ -4,14 +4,15 @@ use Rattle.std.proofs.lemmas.List.{append-nil}
 use Rattle.plan_lines.specs.declared.joins.Pair.{Pair}
 use Rattle.plan_lines.specs.declared.joins.Part.{Part}
 use Rattle.plan_lines.specs.declared.joins.Part.TheVariants.{Line, Join}
-use Rattle.plan_lines.specs.Joins.{body, joined_lines, bodies_from, bodies, IsPart, ArePairs}
+use Rattle.plan_lines.specs.Joins.{body, joined_lines, bodies_from, bodies, IsPartOfJoins, ArePairs}
 
-pub part-more : (m n : ℕ) (p : Part) → m ≤ n → IsPart m p → IsPart n p
+pub part-more : (m n : ℕ) (p : Part) → m ≤ n → IsPartOfJoins m p → IsPartOfJoins n p
 part-more m n (Line number) more is = tt
 part-more m n (Join place) more is = omega (arith, more, is)
 
 pairs-push : (n : ℕ) (qs : List Pair) (q : Pair) → ArePairs n qs
-    → IsPart (n + length qs) q.first → IsPart (n + length qs) q.second → ArePairs n (qs ++ q ∷ [])
+    → IsPartOfJoins (n + length qs) q.first → IsPartOfJoins (n + length qs) q.second
+    → ArePairs n (qs ++ q ∷ [])
 pairs-push n [] q are first second =
     let e : n + 0 ≡ n = omega arith in (rw e at first, rw e at second, tt)
 pairs-push n (r ∷ qs) q are first second =
@@ -19,14 +20,15 @@ pairs-push n (r ∷ qs) q are first second =
     (are.0, are.1, pairs-push (n + 1) qs q are.2 (rw e at first) (rw e at second))
 
 -- one more join of parts that are there
-pub pairs-more : (qs : List Pair) (q : Pair) → ArePairs 0 qs → IsPart (length qs) q.first
-    → IsPart (length qs) q.second → ArePairs 0 (qs ++ q ∷ [])
+pub pairs-more : (qs : List Pair) (q : Pair) → ArePairs 0 qs → IsPartOfJoins (length qs) q.first
+    → IsPartOfJoins (length qs) q.second → ArePairs 0 (qs ++ q ∷ [])
 pairs-more qs q are first second =
     let e : length qs ≡ 0 + length qs = omega arith in
     pairs-push 0 qs q are (rw e at first) (rw e at second)
 
 pub pair-at : (n : ℕ) (qs : List Pair) (d : Pair) (b : ℕ) → b < length qs → ArePairs n qs
-    → IsPart (n + length qs) (get_or qs b d).first × IsPart (n + length qs) (get_or qs b d).second
+    → IsPartOfJoins (n + length qs) (get_or qs b d).first
+    × IsPartOfJoins (n + length qs) (get_or qs b d).second
 pair-at n [] d b lt are = absurd (omega (arith, lt))
 pair-at n (q ∷ qs) d zero lt are = (
   part-more n (n + length (q ∷ qs)) q.first (omega arith) are.0,
@@ -49,13 +51,13 @@ last-is [] x = refl
 last-is (y ∷ done) x = last-is done x
 
 -- parts see no more than the joins that they use
-pub body-early : (xs ys : List (List ℕ)) (p : Part) → IsPart (length xs) p
+pub body-early : (xs ys : List (List ℕ)) (p : Part) → IsPartOfJoins (length xs) p
     → body (xs ++ ys) p ≡ body xs p
 body-early xs ys (Line number) is = refl
 body-early xs ys (Join place) is = get-early xs ys place is
 
-joined-early : (xs ys : List (List ℕ)) (q : Pair) → IsPart (length xs) q.first
-    → IsPart (length xs) q.second → joined_lines (xs ++ ys) q ≡ joined_lines xs q
+joined-early : (xs ys : List (List ℕ)) (q : Pair) → IsPartOfJoins (length xs) q.first
+    → IsPartOfJoins (length xs) q.second → joined_lines (xs ++ ys) q ≡ joined_lines xs q
 joined-early xs ys q first second =
     rw (body-early xs ys q.first first, body-early xs ys q.second second) refl
 
@@ -121,7 +123,7 @@ join-at d qs b lt are =
 abbrev pub HasLines : List (List ℕ) → Type 0
 HasLines bs = (i : ℕ) → i < length bs → 0 < length (get_or bs i [])
 
-body-some : (bs : List (List ℕ)) (p : Part) → HasLines bs → IsPart (length bs) p
+body-some : (bs : List (List ℕ)) (p : Part) → HasLines bs → IsPartOfJoins (length bs) p
     → 0 < length (body bs p)
 body-some bs (Line number) have is = omega arith
 body-some bs (Join place) have is = have place is
@@ -145,7 +147,7 @@ have-from (q ∷ qs) done have are =
     have-from qs (done ++ x ∷ []) (have-push done x have (omega (arith, first, both)))
     (rw (sym long) at are.2)
 
-pub part-some : (qs : List Pair) (p : Part) → ArePairs 0 qs → IsPart (length qs) p
+pub part-some : (qs : List Pair) (p : Part) → ArePairs 0 qs → IsPartOfJoins (length qs) p
     → 0 < length (body (bodies qs) p)
 unfolding bodies
 part-some qs p are is =

@@ -10,7 +10,7 @@ use Rattle.plan_model.specs.declared.instructions.Instruction.{Instruction}
 use Rattle.plan_model.specs.Plan.{Lane}
 use Rattle.plan_lines.specs.declared.origin.Origin.{Origin}
 use Rattle.plan_lines.specs.LinesSay.{Says, IsLane}
-use Rattle.plan_lines.specs.Origins.{Block, LaneLines, from_line, lines_named, count_of}
+use Rattle.plan_lines.specs.Origins.{Block, LaneLines, from_line, lines_named, listed_count}
 use Rattle.plan_lines.specs.Readings as lines
 
 -- ---- lists side by side
@@ -68,7 +68,7 @@ module _ (u : Universe) (ls : List Line) where
   with-origins used (n ∷ ns) (x ∷ xs) zip = (zip.0, with-origins used ns xs zip.1)
 
   pub counts : (lanes : List LaneLines) (p : List Lane) → AllZip (IsLane u ls) lanes p
-      → count_of lanes ≡ length (instructions_of p)
+      → listed_count lanes ≡ length (instructions_of p)
   counts [] [] zip = refl
   counts [] (l ∷ p) zip = absurd zip
   counts (lane ∷ lanes) [] zip = absurd zip

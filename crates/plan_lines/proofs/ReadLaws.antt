@@ -17,7 +17,7 @@ use Rattle.plan_asm.specs.Forms.{Wording, UnpackForm, ConfigureForm, Deconfigure
 use Rattle.plan_asm.specs.PlanText as text
 use Rattle.plan_model.specs.Branches.{Side, Outside, InFirst, InSecond, side_behind, second_of}
 use Rattle.plan_model.specs.declared.instructions.Instruction.{Instruction}
-use Rattle.plan_lines.specs.LinesSay.{IsSaid, Says, IsLane, LinesSay}
+use Rattle.plan_lines.specs.LinesSay.{IsSaidByForm, Says, IsLane, LinesSay}
 use Rattle.plan_lines.specs.Readings as lines
 use Rattle.plan_lines.proofs.LineLaws.{IsReading}
 use Rattle.plan_lines.proofs.TakeLaws.{add-goes, end-goes, block-goes, lane-goes, use-goes}
@@ -26,7 +26,7 @@ use Rattle.plan_lines.proofs.TakeLaws.{add-goes, end-goes, block-goes, lane-goes
 abbrev Sides : Wording → Instruction → Type 0
 Sides w x =
     (number : ℕ) (t : Side)
-    → lines.side_behind (not (is_outside t)) w ≡ not (is_outside (side_behind number t x))
+    → lines.inside_behind_line (not (is_outside t)) w ≡ not (is_outside (side_behind number t x))
 
 second-side : (t : Side) → not (is_outside t) ≡ not (is_outside (second_of t))
 second-side Outside = refl
@@ -66,29 +66,33 @@ module _ (u : Universe) where
         → ((x : Instruction) → instruction_of u w ≡ Ok x → Says u ls number x)
         → IfOk (plan.take_instruction u number r w)
         (λ e. IsReading u ls e
-        (lines.on_side (lines.side_behind s.inside w) (lines.add None (number ∷ []) s)))
+        (lines.on_side (lines.inside_behind_line s.inside w)
+        (lines.add_lines None (number ∷ []) s)))
     instruction-goes number w r s is says =
-        let next = lines.on_side (lines.side_behind s.inside w) (lines.add None (number ∷ []) s) in
+        let next = lines.on_side (lines.inside_behind_line s.inside w)
+        (lines.add_lines None (number ∷ []) s) in
         if-has (λ e. IsReading u ls e next) (is_open r.draft.current && may_say r.side w) _ _
         (λ _. go (instruction_of u w) refl (wording-sides w)) (λ _. tt)
       where
         go : (x : Result Instruction ℕ) → instruction_of u w ≡ x → IfOk x (Sides w)
             → IfOk (x >>= put number r)
             (λ e. IsReading u ls e
-            (lines.on_side (lines.side_behind s.inside w) (lines.add None (number ∷ []) s)))
+            (lines.on_side (lines.inside_behind_line s.inside w)
+            (lines.add_lines None (number ∷ []) s)))
         go (Err code) at sides = tt
         go (Ok x) at sides =
             then-has (λ d. _)
             (λ e. IsReading u ls e
-            (lines.on_side (lines.side_behind s.inside w) (lines.add None (number ∷ []) s)))
-            (plan.add r.draft.blocks r.draft.lanes r.draft.current (x ∷ []))
+            (lines.on_side (lines.inside_behind_line s.inside w)
+            (lines.add_lines None (number ∷ []) s)))
+            (plan.add_to_open r.draft.blocks r.draft.lanes r.draft.current (x ∷ []))
             (on_side (side_behind number r.side x))
             (add-goes u ls r.draft s None (number ∷ []) (x ∷ []) is.0 (says x at, tt))
-            (λ d good. (good, ap (λ b. lines.side_behind b w) is.1 ∙ sides number r.side))
+            (λ d good. (good, ap (λ b. lines.inside_behind_line b w) is.1 ∙ sides number r.side))
 
     form-goes : (number : ℕ) (form : Form) (r : plan.Reading) (s : lines.LineReading)
         → IsReading u ls r s
-        → ((x : Instruction) → IsSaid u (Ok form) x → Says u ls number x)
+        → ((x : Instruction) → IsSaidByForm u (Ok form) x → Says u ls number x)
         → IfOk (plan.take_form u number r form)
         (λ e. IsReading u ls e (lines.take_form number form s))
     unfolding plan.take_form lines.take_form
@@ -151,7 +155,8 @@ module _ (u : Universe) where
       (λ _. then-has (λ e. IsReading u all e (lines.reading_of ls))
       (λ p. AllZip (IsLane u all) (lines.reading_of ls).lanes p)
       (steps (text.take_line u) plan.unread ls) text.end_of
-      (steps-go all ((number, line) ∷ []) ls plan.unread lines.unread refl ((tt, tt, tt), refl))
+      (steps-go all ((number, line) ∷ []) ls plan.unread lines.no_lines_read refl
+      ((tt, tt, tt), refl))
       (λ e is. end-says all e (lines.reading_of ls) is))
       (λ _. tt)
 

@@ -6,7 +6,7 @@ use Rattle.std.specs.Global.{Vec}
 use Rattle.plan_asm.specs.declared.error.TheConstants.{MOST_INSTRUCTIONS}
 use Rattle.plan_lines.specs.declared.blocks.Whole.{Whole}
 use Rattle.plan_lines.specs.declared.joins.Part.{Part}
-use Rattle.plan_lines.specs.Joins.{body, IsPart}
+use Rattle.plan_lines.specs.Joins.{body, IsPartOfJoins}
 use Rattle.plan_lines.specs.Origins.{Block, with_block, with_room}
 
 -- the blocks that have ended, and the lines of the open one so far
@@ -30,7 +30,7 @@ block_lines_of bs (name, whole) = record { name = name.items; lines = lines_in b
 -- a part that speaks of the first n joins, where there is one
 abbrev pub IsSomePart : ℕ → Option Part → Type 0
 IsSomePart n None = Unit {0}
-IsSomePart n (Some p) = IsPart n p
+IsSomePart n (Some p) = IsPartOfJoins n p
 
 -- it speaks of what there is, and its lines are counted
 pub record IsWhole (bs : List (List ℕ)) (whole : Whole) : Type 0 where

@@ -32,18 +32,18 @@ stacked bs [] = []
 stacked bs (p ∷ ps) = stacked bs ps ++ body bs p
 
 -- a part that speaks of the first n joins
-abbrev pub IsPart : ℕ → Part → Type 0
-IsPart n (Line number) = Unit {0}
-IsPart n (Join place) = place < n
+abbrev pub IsPartOfJoins : ℕ → Part → Type 0
+IsPartOfJoins n (Line number) = Unit {0}
+IsPartOfJoins n (Join place) = place < n
 
-abbrev pub AreParts : ℕ → List Part → Type 0
-AreParts n [] = Unit {0}
-AreParts n (p ∷ ps) = IsPart n p × AreParts n ps
+abbrev pub ArePartsOfJoins : ℕ → List Part → Type 0
+ArePartsOfJoins n [] = Unit {0}
+ArePartsOfJoins n (p ∷ ps) = IsPartOfJoins n p × ArePartsOfJoins n ps
 
 -- joins behind n others, each of them of parts before it
 abbrev pub ArePairs : ℕ → List Pair → Type 0
 ArePairs n [] = Unit {0}
-ArePairs n (q ∷ qs) = IsPart n q.first × IsPart n q.second × ArePairs (n + 1) qs
+ArePairs n (q ∷ qs) = IsPartOfJoins n q.first × IsPartOfJoins n q.second × ArePairs (n + 1) qs
 
 -- one less than twice its lines: more than its two parts together
 abbrev pub weight : List (List ℕ) → Part → ℕ

@@ -17,7 +17,7 @@ use Rattle.farm_universe.specs.Told.{in_file}
 use Rattle.plan_asm.specs.declared.error.TheConstants.{FILE}
 use Rattle.plan_asm.specs.Forms.{Wording, WhenForm, Form, BlockForm, LaneForm, EndForm, UseForm, InstructionForm, form_at}
 use Rattle.plan_lines.specs.declared.origin.Origin.{Origin}
-use Rattle.plan_lines.specs.Origins.{Block, LaneLines, from_line, with_room, lines_named, with_block, count_of}
+use Rattle.plan_lines.specs.Origins.{Block, LaneLines, from_line, with_room, lines_named, with_block, listed_count}
 
 -- what is left open: a block of this name, or a lane that opens at this line
 pub data Open : Type 0 where
@@ -37,8 +37,8 @@ pub record LineReading : Type 0 where
   pub inside : Bool
 
 -- before the first line
-abbrev pub unread : LineReading
-unread = record {
+abbrev pub no_lines_read : LineReading
+no_lines_read = record {
   blocks = [];
   lines = [];
   lanes = [];
@@ -64,10 +64,10 @@ abbrev pub add_to : Open → Option ℕ → List ℕ → LineReading → LineRea
 add_to Nothing used ns r = r
 add_to (InBlock name) used ns r = record r { lines = with_room 0 r.lines ns }
 add_to (InLane head) used ns r =
-    record r { origins = with_room (count_of r.lanes) r.origins (map (from_line used) ns) }
+    record r { origins = with_room (listed_count r.lanes) r.origins (map (from_line used) ns) }
 
-abbrev pub add : Option ℕ → List ℕ → LineReading → LineReading
-add used ns r = add_to r.current used ns r
+abbrev pub add_lines : Option ℕ → List ℕ → LineReading → LineReading
+add_lines used ns r = add_to r.current used ns r
 
 -- what is open ends at a line
 abbrev pub end_of : Open → ℕ → LineReading → LineReading
@@ -84,23 +84,23 @@ abbrev pub on_side : Bool → LineReading → LineReading
 on_side inside r = record r { inside = inside }
 
 -- whether the line behind an instruction stands inside a branch
-abbrev pub side_behind : Bool → Wording → Bool
-side_behind inside (WhenForm name relation) = true
-side_behind inside wording = inside
+abbrev pub inside_behind_line : Bool → Wording → Bool
+inside_behind_line inside (WhenForm name relation) = true
+inside_behind_line inside wording = inside
 
 -- an `end` is that of the branch, or else of the block or lane
 abbrev pub take_end : ℕ → LineReading → LineReading
 take_end number r =
-    if r.inside then on_side false (add None (number ∷ []) r) else end_of r.current number r
+    if r.inside then on_side false (add_lines None (number ∷ []) r) else end_of r.current number r
 
 -- with one more line, of this number and form
 unfoldable pub take_form : ℕ → Form → LineReading → LineReading
 take_form number (BlockForm name) r = with_open (InBlock name) r
 take_form number (LaneForm name chroot budget) r = with_open (InLane number) r
 take_form number EndForm r = take_end number r
-take_form number (UseForm name) r = add (Some number) (lines_named r.blocks name) r
+take_form number (UseForm name) r = add_lines (Some number) (lines_named r.blocks name) r
 take_form number (InstructionForm wording) r =
-    on_side (side_behind r.inside wording) (add None (number ∷ []) r)
+    on_side (inside_behind_line r.inside wording) (add_lines None (number ∷ []) r)
 
 -- the same, where the line has a form
 abbrev pub take_read : ℕ → Result Form ℕ → LineReading → LineReading
@@ -113,7 +113,7 @@ reading_with r (number, line) = take_read number (form_at line) r
 
 -- what the lines behind the first one say
 abbrev pub reading_of : List Line → LineReading
-reading_of ls = fold reading_with unread ls
+reading_of ls = fold reading_with no_lines_read ls
 
 -- the first line, and the lanes in file order
 pub record TextLines : Type 0 where

@@ -4,7 +4,7 @@ ghost use Rattle.std.specs.Prelude.{◌≡◌, ◌∷◌, [], None, Some, IfOk, 
 ghost use Rattle.deb_text.specs.Answers.{Gives, refusal_of};
 ghost use Rattle.plan_asm.specs.View.{form_of, wording_of};
 ghost use Rattle.plan_lines.specs.Origins.{lines_named};
-ghost use Rattle.plan_lines.specs.Readings.{unread, with_open, add, end_of, on_side, side_behind};
+ghost use Rattle.plan_lines.specs.Readings.{no_lines_read, with_open, add_lines, end_of, on_side, inside_behind_line};
 ghost use Rattle.plan_lines.specs.Readings.{take_end, take_form, reading_with};
 ghost use Rattle.plan_lines.specs.View.{open_of};
 
@@ -51,7 +51,7 @@ impl Model for Reading {
 
 /// Tells whether the line behind an instruction stands inside a branch.
 fn side_behind(inside: bool, wording: &Wording<'_>) -> bool
-    ensures { result ≡ side_behind inside (wording_of wording.now) }
+    ensures { result ≡ inside_behind_line inside (wording_of wording.now) }
 {
     match wording {
         Wording::When { .. } => true,
@@ -69,7 +69,7 @@ fn side_behind(inside: bool, wording: &Wording<'_>) -> bool
 impl Reading {
     /// Nothing said so far.
     pub fn new(alloc: Global) -> Reading
-        ensures { result ≡ unread }
+        ensures { result ≡ no_lines_read }
     {
         Reading {
             blocks: Blocks::new(alloc),
@@ -107,7 +107,7 @@ impl Reading {
 
     /// Puts a line into what is open.
     fn add_line(self, line: u32) -> Result<Reading, AllocError>
-        ensures { IfOk result (λ next. next ≡ add None (line ∷ []) self) }
+        ensures { IfOk result (λ next. next ≡ add_lines None (line ∷ []) self) }
     {
         let Reading {
             blocks,
@@ -140,7 +140,7 @@ impl Reading {
     /// Puts the lines of a block into what is open, brought in by the `use` of this line.
     fn add_use(self, alloc: Global, line: u32, name: &[u8]) -> Result<Reading, AllocError>
         ensures { IfOk result (λ next. next
-            ≡ add (Some line) (lines_named self.blocks name.now) self) }
+            ≡ add_lines (Some line) (lines_named self.blocks name.now) self) }
     {
         let Reading {
             blocks,

@@ -20,7 +20,7 @@ use Rattle.plan_model.specs.Safety.{Meets, Parts, parts_of, hazard_of, hazard_at
 use Rattle.plan_verifier.specs.declared.branch.Branch.{Branch}
 use Rattle.plan_verifier.specs.declared.branch.LaneMay.{LaneMay}
 use Rattle.plan_verifier.specs.Branch.{forgotten, turned, JoinedBy, IsBranchEnd, IsBehindEnd, IsBranch, IsAt}
-use Rattle.plan_verifier.specs.Walk.{told_at, is_plain}
+use Rattle.plan_verifier.specs.Walk.{place_told, is_plain}
 use Rattle.verdict_laws.proofs.RowBefore.{home-before}
 use Rattle.plan_verifier.proofs.Steps.{maps-next, hazard-is}
 
@@ -129,12 +129,12 @@ module _ (u : Universe) (p : Plan) (rows : Rows) (l i : ℕ)
   -- an `end` whose branches part
   pub parts-at : instruction_at p l i ≡ Some EndWhen → (w next : LaneMay) → IsAt u p rows l i w
       → (told : ℕ) → IsBehindEnd u (lane p l) w next (Some told)
-      → (hazard_at u p rows l i ≡ Some Parts) × (told ≡ told_at p l i Parts)
+      → (hazard_at u p rows l i ≡ Some Parts) × (told ≡ place_told p l i Parts)
   parts-at is w next at told done = by w.branch at.branch done
     where
       by : (b : Branch) → IsBranch u (lane p l) side maps b
           → JoinedBy u (lane p l) w next b (Some told)
-          → (hazard_at u p rows l i ≡ Some Parts) × (told ≡ told_at p l i Parts)
+          → (hazard_at u p rows l i ≡ Some Parts) × (told ≡ place_told p l i Parts)
       by Branch.Outside e j = absurd (both_ways _ refl (stands EndWhen Outside is e))
       by (Branch.First k ahead) e j =
           absurd (both_ways _ refl (stands EndWhen (InFirst k) is e.0))
@@ -220,5 +220,5 @@ module _ (u : Universe) (p : Plan) (rows : Rows) (l i : ℕ)
       ∙ ap (λ r. hazard_of r (parts_of u maps (Some x))) risky
 
   -- where branches part is told ahead of the place
-  pub told-before : told_at p l i Parts ≤ i
+  pub told-before : place_told p l i Parts ≤ i
   told-before = home-before (lane p l).instructions i

@@ -142,7 +142,7 @@ module _ (u : Universe) (m : May) where
       ∙ (λ i. list_any (λ k. else-is (right (m.slots k)) (Reason.WrongState k) i) members)
 
   still_needed-some : (members : List ℕ)
-      → is_some (reasons.still_needed u members m) ≡ may_be_needed u members m
+      → is_some (reasons.still_needed_reason u members m) ≡ may_be_needed u members m
   unfolding may_be_needed
   still_needed-some members =
       let f = needed_entry u (needs_member u members m) in

@@ -77,8 +77,8 @@ wrong_state right m members =
     first_in (λ k. if right (m.slots k) then None else Some (Reason.WrongState k)) members
 
 -- the first configured variant outside the set with an entry for which a member may be needed
-abbrev pub still_needed : Universe → List ℕ → May → Option Reason
-still_needed u members m = first_name u m
+abbrev pub still_needed_reason : Universe → List ℕ → May → Option Reason
+still_needed_reason u members m = first_name u m
     (λ n s. if member members n then None
     else first_configured u (needed_entry u (needs_member u members m)) n s)
 
@@ -130,7 +130,7 @@ configure_reason u of m members _ = None
 abbrev pub deconfigure_reason : Universe → Lane → May → List ℕ → Trap → Option Reason
 deconfigure_reason u of m members Trap.OverBudget = over_budget_reason of m (set_cost members)
 deconfigure_reason u of m members Trap.WrongState = wrong_state is_surely_configured m members
-deconfigure_reason u of m members Trap.StillNeeded = still_needed u members m
+deconfigure_reason u of m members Trap.StillNeeded = still_needed_reason u members m
 deconfigure_reason u of m members _ = None
 
 abbrev pub remove_reason : Universe → Lane → May → List ℕ → Trap → Option Reason
@@ -139,7 +139,7 @@ remove_reason u of m members Trap.WrongState = wrong_state is_surely_present m m
 remove_reason u of m members Trap.Essential =
     first_member u members m
     (λ v. if essential u v then Some (Reason.Essential v) else None)
-remove_reason u of m members Trap.StillNeeded = still_needed u members m
+remove_reason u of m members Trap.StillNeeded = still_needed_reason u members m
 remove_reason u of m members _ = None
 
 -- the first name that is unpacked alone, or holds a variant with an entry that is not surely met

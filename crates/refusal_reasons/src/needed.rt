@@ -177,7 +177,8 @@ pub fn still_needed(at: &Place, members: &[u32]) -> Result<Option<Reason>, Alloc
     requires place { IsPlaceOfLane at.now.universe.now at.now.tables.now at.now.lane.now
         at.now.state.now }
     requires members { IsNameSet at.now.universe.now members.now }
-    ensures { IfOk result (λ told. told ≡ reasons.still_needed at.now.universe.now members.now
+    ensures { IfOk result (λ told. told ≡ reasons.still_needed_reason at.now.universe.now
+        members.now
         (may_of at.now.state.now)) }
 {
     let outside = without(at.universe, at.state, members)?;

@@ -24,7 +24,7 @@ use Rattle.plan_model.specs.May.{May}
 use Rattle.plan_model.specs.MayAt.{may_at}
 use Rattle.plan_model.specs.Plan.{Plan, lane, instruction_at}
 use Rattle.plan_model.specs.Safety.{Hazard}
-use Rattle.plan_verifier.specs.Walk.{told_at}
+use Rattle.plan_verifier.specs.Walk.{place_told}
 use Rattle.refusal_reasons.specs.declared.types.Field.{Field}
 use Rattle.refusal_reasons.specs.declared.types.Reason.{Reason}
 use Rattle.refusal_reasons.specs.declared.types.Reason.TheVariants.{StillNeeded}
@@ -74,7 +74,7 @@ place_said u p rows ls l i =
 -- so many instructions of a lane: all, or up to the one by whose number it is refused
 abbrev pub looked_at : Plan → ℕ → Option (ℕ × Hazard) → ℕ
 looked_at p l None = length (lane p l).instructions
-looked_at p l (Some (i, hazard)) = told_at p l i hazard + 1
+looked_at p l (Some (i, hazard)) = place_told p l i hazard + 1
 
 abbrev pub lane_said : Universe → Plan → Rows → List LaneLines → ℕ → List ℕ
 lane_said u p rows ls l =

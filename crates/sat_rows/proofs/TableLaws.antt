@@ -9,7 +9,7 @@ use Rattle.farm_model.specs.Universe.{Universe}
 use Rattle.farm_model.specs.Packages.{variant, variants, pre_depends, depends, recipe, satisfies, satisfies_entry}
 use Rattle.farm_model.specs.Sound.{IsKnown}
 use Rattle.farm_universe.proofs.PlaceLaws.{named}
-use Rattle.sat_rows.specs.ByVariant.{AreOfName, AreOfEach}
+use Rattle.sat_rows.specs.ByVariant.{AreValuesOfName, AreOfEach}
 use Rattle.sat_rows.specs.Entries.{Numbers, PreNumbers, IsNumberOf, IsPreNumbers, AreNumbers, no_numbers, no_pre_numbers}
 use Rattle.sat_rows.specs.Rows.{IsRowOf, nth_entry}
 use Rattle.sat_rows.specs.Tables.{AreEntryRows}
@@ -23,9 +23,9 @@ module _ {T : Type 0} (u : Universe) (Is : Variant → T → Type 0) (none : T) 
   name_within = let there = named u v.name v.bit known in omega (arith, all.long)
 
   module _ (here : List T) (is : here ≡ get_or lists v.name here) where
-    pub name_at : AreOfName u Is none v.name here
+    pub name_at : AreValuesOfName u Is none v.name here
     name_at =
-        subst (AreOfName u Is none v.name)
+        subst (AreValuesOfName u Is none v.name)
         (get_or_from_slice_get lists v.name here []
         (slice_get_read lists (length lists) v.name here refl name_within is))
         (all.each v.name (named u v.name v.bit known))

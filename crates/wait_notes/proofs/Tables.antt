@@ -10,7 +10,7 @@ use Rattle.farm_model.specs.Packages.{names, variants, same}
 use Rattle.farm_model.specs.Universe.{Universe}
 use Rattle.farm_universe.proofs.PlaceLaws.{no_variants}
 use Rattle.wait_notes.specs.declared.publications.Publication.{Publication}
-use Rattle.wait_notes.specs.Places.{Table, publication_place, table_slot, found, with_place, HasSlots, Adds}
+use Rattle.wait_notes.specs.Places.{Table, publication_place, table_slot, found, with_place, HasSlots, AddsFound}
 
 module _ {A : Type 0} where
   or_nothing : (a : Option A) → option_or a None ≡ a
@@ -25,7 +25,7 @@ module _ (t : Table) (v : Variant) (place : Publication) where
   -- nothing is added where the variant is found
   pub adds_none : (r : Option Publication) → option_map publication_place r ≡ found t v
       → is_some r ≡ true
-      → Adds t t (only v place)
+      → AddsFound t t (only v place)
   adds_none None is some w = absurd (false≢true some)
   adds_none (Some x) is some w = by (cases_Bool (same v w))
     where
@@ -71,7 +71,7 @@ module _ (t : Table) (v : Variant) (place : Publication) where
         ]
 
     -- its place is added where it is not found
-    pub adds_one : found t v ≡ None → Adds t next (only v place)
+    pub adds_one : found t v ≡ None → AddsFound t next (only v place)
     adds_one none w = by (cases_Bool (same v w))
       where
         by : (same v w ≡ true) ⊎ (same v w ≡ false)

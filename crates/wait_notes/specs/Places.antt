@@ -3,7 +3,7 @@
 --
 --   found t v              the lane that publishes a variant, and the instruction's number
 --   HasSlots               the table has a place for each variant
---   Adds                   a table has more than another: what was not found there
+--   AddsFound              a table has more than another: what was not found there
 --   IsTableOf              all that a plan publishes
 use Rattle.std.specs.Prelude.{◌≡◌, ℕ, List, [], length, Option, None, slice_index_or, slice_set, Some}
 use Rattle.std.specs.Option.{option_map, option_or}
@@ -35,8 +35,8 @@ pub record HasSlots (u : Universe) (t : Table) : Type 0 where
   pub long : length t ≡ names u
   pub each : (n : ℕ) → length (slice_index_or t n []) ≡ variants u n
 
-abbrev pub Adds : Table → Table → (Variant → Option (ℕ × ℕ)) → Type 0
-Adds old new more = (v : Variant) → found new v ≡ option_or (found old v) (more v)
+abbrev pub AddsFound : Table → Table → (Variant → Option (ℕ × ℕ)) → Type 0
+AddsFound old new more = (v : Variant) → found new v ≡ option_or (found old v) (more v)
 
 abbrev pub IsTableOf : Universe → Plan → Table → Type 0
 IsTableOf u p t = (v : Variant) → found t v ≡ first_publication u p v

@@ -8,7 +8,7 @@ ghost use Rattle.farm_model.specs.Packages.{contains, outputs, same};
 ghost use Rattle.farm_model.specs.Sound.{IsUniverse};
 ghost use Rattle.farm_model.specs.Universe as farm;
 ghost use Rattle.wait_notes.specs.Places as spec;
-ghost use Rattle.wait_notes.specs.Places.{Adds, HasSlots, IsTableOf};
+ghost use Rattle.wait_notes.specs.Places.{AddsFound, HasSlots, IsTableOf};
 
 use farm_universe::{Universe, Variant};
 use may_rows::variant_count;
@@ -122,7 +122,7 @@ impl Publications {
         requires named { variant.name < length self.old }
         requires there { variant.bit < length (slice_index_or self.old variant.name []) }
         ensures slots { (u : farm.Universe) → HasSlots u self.old → HasSlots u self.new }
-        ensures put { Adds self.old self.new
+        ensures put { AddsFound self.old self.new
             (λ v. if same variant v then Some (spec.publication_place place) else None) }
     {
         if self.of(variant).is_none() {
@@ -135,7 +135,7 @@ impl Publications {
         requires sound { IsUniverse universe.now }
         requires slots { HasSlots universe.now self.old }
         ensures slots { HasSlots universe.now self.new }
-        ensures put { Adds self.old self.new (λ v.
+        ensures put { AddsFound self.old self.new (λ v.
             if contains (outputs universe.now recipe) v then Some (spec.publication_place place)
             else None) }
     {
@@ -155,7 +155,7 @@ impl Publications {
         requires sound { IsUniverse universe.now }
         requires slots { HasSlots universe.now self.old }
         ensures slots { HasSlots universe.now self.new }
-        ensures put { Adds self.old self.new (λ v.
+        ensures put { AddsFound self.old self.new (λ v.
             if publishes_variant universe.now v (Some instruction.now)
             then Some (spec.publication_place place) else None) }
     {
@@ -179,7 +179,7 @@ impl Publications {
         requires slots { HasSlots universe.now self.old }
         requires lane { number < length plan.now.lanes }
         ensures slots { HasSlots universe.now self.new }
-        ensures put { Adds self.old self.new
+        ensures put { AddsFound self.old self.new
             (λ v. publishing_place universe.now plan.now.lanes v number) }
     {
         let instructions = plan.lane(number).instructions();

@@ -15,7 +15,7 @@ use Rattle.archive_laws.specs.Shown.{IsReached}
 use Rattle.lane_records.specs.Bounds.{IsWithinBits}
 use Rattle.lane_records.specs.Records.{Record, after_draw, next_of, next_output, ready_in}
 use Rattle.plan_verifier.specs.Accepted.{AcceptedPlan, IsAccepted, known_rows}
-use Rattle.word_archive.specs.Rule.{AreWordsOf, IsHalted, halt_word, serial_word, shown}
+use Rattle.word_archive.specs.Rule.{AreWordsOf, IsHalted, halt_word, serial_word, shown_world}
 use Rattle.word_archive.specs.Serials.{AreFew, IsPublishedBelow, IsSerials, SerialsFit, made_by}
 use Rattle.word_archive.proofs.HaltWord.{halts_stay, same_world}
 use Rattle.word_archive.proofs.KnownPublished.{known_published, one_place}
@@ -32,7 +32,7 @@ module _ (a : AcceptedPlan) (accepted : IsAccepted a) (words : List ℕ) (record
     (next : next_output a.universe a.plan l r.at ≡ Some v) (small : SerialsFit a)
     (room : length r.serials ≡ made_by a l r.at) where
   abbrev w : World
-  w = shown a words records
+  w = shown_world a words records
 
   -- where the lane is at its next archive step
   abbrev place : ℕ

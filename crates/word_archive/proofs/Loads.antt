@@ -18,7 +18,7 @@ use Rattle.archive_laws.specs.Shown.{IsReached, ready_lane, with_lane}
 use Rattle.lane_records.specs.Bounds.{IsLoaded, IsWithinBits}
 use Rattle.lane_records.specs.Records.{Record, after_load, ready_in}
 use Rattle.plan_verifier.specs.Accepted.{AcceptedPlan, IsAccepted}
-use Rattle.word_archive.specs.Rule.{AreWordsOf, Keeps, KeepsRule, shown}
+use Rattle.word_archive.specs.Rule.{AreWordsOf, Keeps, KeepsRule, shown_world}
 use Rattle.word_archive.specs.Serials.{made_by}
 use Rattle.word_archive.specs.Steps.{Loaded}
 use Rattle.word_archive.specs.Views.{SeatView, lane_view}
@@ -33,7 +33,7 @@ module _ (a : AcceptedPlan) (accepted : IsAccepted a) (words : List ℕ) (record
     (stopped : Bool) (st : AreWordsOf a words records stopped) (l : ℕ) (r : Record)
     (here : slice_get records l ≡ Some r) where
   abbrev w : World
-  w = shown a words records
+  w = shown_world a words records
 
   -- the lane is one of the plan
   pub in_plan : l < length a.plan

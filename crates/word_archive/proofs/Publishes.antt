@@ -19,7 +19,7 @@ use Rattle.archive_laws.specs.Shown.{IsReached}
 use Rattle.lane_records.specs.Bounds.{IsWithinBits}
 use Rattle.lane_records.specs.Records.{Record, after_output, after_publish, next_output}
 use Rattle.plan_verifier.specs.Accepted.{AcceptedPlan, IsAccepted, known_rows}
-use Rattle.word_archive.specs.Rule.{AreWordsOf, IsHalted, Keeps, KeepsRule, halt_word, serial_word, shown}
+use Rattle.word_archive.specs.Rule.{AreWordsOf, IsHalted, Keeps, KeepsRule, halt_word, serial_word, shown_world}
 use Rattle.word_archive.specs.Serials.{IsSerials, drawn, made_by}
 use Rattle.word_archive.specs.Steps.{Published}
 use Rattle.word_archive.specs.Views.{SeatView, lane_view}
@@ -37,7 +37,7 @@ module _ (a : AcceptedPlan) (accepted : IsAccepted a) (words : List ℕ) (record
     (here : slice_get records l ≡ Some r) (v : Variant)
     (next : next_output a.universe a.plan l r.at ≡ Some v) where
   abbrev w : World
-  w = shown a words records
+  w = shown_world a words records
 
   -- the lane is one of the plan
   abbrev inside : l < length a.plan

@@ -7,7 +7,7 @@ use Rattle.archive_laws.proofs.Counted.{in_place}
 use Rattle.lane_records.specs.Bounds.{IsRecord}
 use Rattle.lane_records.specs.Records.{Record}
 use Rattle.plan_verifier.specs.Accepted.{AcceptedPlan, IsAccepted}
-use Rattle.word_archive.specs.Rule.{AreWordsOf, shown}
+use Rattle.word_archive.specs.Rule.{AreWordsOf, shown_world}
 use Rattle.word_archive.proofs.Lists.{some_length}
 use Rattle.word_archive.proofs.Moves.{lane_shown}
 use Rattle.word_archive.proofs.SerialsKept.{few_at}
@@ -24,7 +24,8 @@ record_holds a accepted words records stopped st l r here =
       place = subst (λ (x : LaneState). InPlace a.universe (lane a.plan l).instructions x.done
           x.made)
           (lane_shown a words records l r here)
-          (in_place a.universe a.plan accepted.sound (shown a words records) st.reached l inside);
+          (in_place a.universe a.plan accepted.sound (shown_world a words records) st.reached l
+          inside);
       made = owed.0;
       one = owed.1;
       few = few_at a.universe records a.plan l r here st.serials.few;

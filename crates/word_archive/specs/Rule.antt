@@ -30,8 +30,8 @@ pub record IsHalted (word : ℕ) (records : List Record) (stopped : Bool) : Type
   pub sights : (l : ℕ) (r : Record) → slice_get records l ≡ Some r → r.saw ≡ true → word ≢ 0
 
 -- what the words and the records show
-abbrev pub shown : AcceptedPlan → List ℕ → List Record → World
-shown a words records =
+abbrev pub shown_world : AcceptedPlan → List ℕ → List Record → World
+shown_world a words records =
     record { words = take (names a.universe) words; lanes = map (λ r. r.at) records }
 
 -- behind the words of the names stand the serial word and the halt word
@@ -54,7 +54,7 @@ pub record AreWordsOf (a : AcceptedPlan) (words : List ℕ) (records : List Reco
   pub serials : IsSerials a (serial_word a words) records
   pub halts : IsHalted (halt_word a words) records stopped
   -- and the words show, with the records, a reachable state.
-  pub reached : IsReached a.universe a.plan (shown a words records)
+  pub reached : IsReached a.universe a.plan (shown_world a words records)
 
 -- the records that stand in a view belong to its seat, and are those of the lanes
 abbrev pub Entries : (ℕ → ℕ) → List Record → ℕ → List (ℕ × Record) → Type 0

@@ -3,7 +3,7 @@ use Rattle.std.specs.Simd.Lanes.{zip2}
 use Rattle.std.proofs.lemmas.List.{drop_all, take_at, length-take-le, length-append}
 use Rattle.std.proofs.lemmas.Simd.{length-zip2}
 use Rattle.bit_rows.specs.declared.block.Block.{Block}
-use Rattle.bit_rows.specs.Blocks.{block_words_at, IsAscending, AreBelow, AreRowBlocks, AreOfOneLength, StandsAt, placed, block_if_any, behind_place, missing}
+use Rattle.bit_rows.specs.Blocks.{block_words_at, IsAscending, AreBelow, AreRowBlocks, AreOfOneLength, StandsAt, placed, block_if_any, behind_place, missing_places}
 use Rattle.bit_rows.proofs.Places.{blank, below_to}
 use Rattle.bit_rows.proofs.RowWords.{eight_at, zero_past, row_blocks-placed}
 use Rattle.bit_rows.proofs.Walks.{place_next, block_at}
@@ -63,9 +63,9 @@ turn i at_old at capacity capacity_new cur others start new ws is of lt stands j
           let grown = room_more cur others at i blank ws are_o.ascending lt stands long in
           let had = is.room in
           let same_length : length new ≡ length (placed at b cur) = ap length made in
-          let same_missing : missing new (drop (i + 1) others)
-          ≡ missing (placed at b cur) (drop (i + 1) others) =
-          ap (λ l. missing l (drop (i + 1) others)) made in
+          let same_missing : missing_places new (drop (i + 1) others)
+          ≡ missing_places (placed at b cur) (drop (i + 1) others) =
+          ap (λ l. missing_places l (drop (i + 1) others)) made in
           omega arith);
     }
 

@@ -6,7 +6,7 @@ use Rattle.deb_text.proofs.LineLaws.{lines_kept-keeps, lines_kept-ends}
 use Rattle.deb_text.proofs.StepLaws.{steps-goes, steps-stops, steps-ends, judged-made, judged-fails}
 use Rattle.deb_stanza.specs.Draft.{state_of, draft_step}
 use Rattle.deb_stanza.specs.Stanza.{fault_of}
-use Rattle.deb_stanza.specs.View.{finished}
+use Rattle.deb_stanza.specs.View.{paragraph_of_raw}
 use Rattle.deb_stanza.proofs.StateLaws.{steps-lines, judged-paragraphs}
 use Rattle.deb_stanza.proofs.draft.read_lines.Goals as goal
 
@@ -45,7 +45,7 @@ returns-in_err-take_line-clause-read c =
     steps-stops draft_step refusal_of e _ _ _ _ _ kept c.in_err-take_line.ensures.state
     c.loop-bytes.invariant.so_far in
     rw (p.1, p.2, ← judged-paragraphs (control_lines 1 c.args.text.now))
-    (judged-fails fault_of state_of (λ s. map finished s.raws) refusal_of e
+    (judged-fails fault_of state_of (λ s. map paragraph_of_raw s.raws) refusal_of e
     (control_lines 1 c.args.text.now) stops)
 
 pub returns-clause-read : goal.returns-clause-read
@@ -56,4 +56,4 @@ returns-clause-read c =
     (c.loop-bytes.number + 1) c.loop-bytes.rest.now c.in_default.ensures.none in
     let total = steps-ends draft_step _ _ _ ends c.loop-bytes.invariant.so_far in
     sym (judged-paragraphs lines)
-    ∙ judged-made fault_of state_of (λ s. map finished s.raws) lines _ total
+    ∙ judged-made fault_of state_of (λ s. map paragraph_of_raw s.raws) lines _ total

@@ -3,13 +3,13 @@ use Rattle.std.specs.Option.{option_and_then}
 use Rattle.farm_explain.specs.Texts.{text_below}
 use Rattle.std.proofs.lemmas.Result.{on_ok_weaker}
 use Rattle.wait_notes.specs.StuckText.{waits_for_text, link_text}
-use Rattle.wait_notes.specs.Waiting.{follow, next_of}
+use Rattle.wait_notes.specs.Waiting.{follow, next_lane_of}
 use Rattle.wait_notes.proofs.circles.push_line.Goals as goal
 
 pub returns : goal.returns
 returns c =
     let p = c.args.plan.now.lanes in
-    let next = next_of c.args.nexts.now in
+    let next = next_lane_of c.args.nexts.now in
     let l = c.args.first in
     let k = c.args.others in
     let start = c.args.text.now.items in
