@@ -103,10 +103,6 @@ push_or true true c = refl
 push_or true false c = refl
 push_or false b c = refl
 
-pub or_none : (a : Bool) → (a || false) ≡ a
-or_none true = refl
-or_none false = refl
-
 twice_or : (a b : Bool) → (a || b) ≡ (a || (a || b))
 twice_or true b = refl
 twice_or false b = refl

@@ -3,6 +3,7 @@ use Rattle.std.proofs.Common.{◌≡◌, ℕ, ◌+◌, ◌<◌, ◌≤◌, get_o
 use Rattle.std.specs.Cmp.{both_ways as both_tests}
 use Rattle.std.specs.List.{list_any}
 use Rattle.std.specs.Option.{is_none}
+use Rattle.std.proofs.Math.Bool.{and-false, or-false}
 use Rattle.std.proofs.lemmas.Bool.{or_cases, or_left, or_right, and_parts, and_from, ltb-true, eqb-true, eq-eqb}
 use Rattle.std.proofs.lemmas.List.Folds.{list_any_more}
 use Rattle.std.proofs.lemmas.List.{take_all}
@@ -22,15 +23,6 @@ use Rattle.sat_rows.specs.declared.found.NumberWord.{NumberWord}
 use Rattle.sat_rows.specs.Index.{IsNaming}
 use Rattle.sat_rows.specs.Rows.{variant_passes, IsRowOf}
 use Rattle.sat_rows.specs.Found.{among, Puts, IsFound, Finds, GrowsBy, alternative_passes, some_atom, passes_there, HasItems}
-
--- tests
-and_false : (x : Bool) → (x && false) ≡ false
-and_false true = refl
-and_false false = refl
-
-pub or_false : (x : Bool) → (x || false) ≡ x
-or_false true = refl
-or_false false = refl
 
 or_spread : (a k p q : Bool) → ((a || (k && p)) || (k && q)) ≡ (a || (k && (p || q)))
 or_spread true k p q = refl
@@ -98,15 +90,15 @@ module _ (u : Universe) (p : Variant → Bool) where
 
 pub finds_none : (u : Universe) (vs : List NumberWord) → Finds u (λ v. false) vs vs
 finds_none u vs n b =
-    sym (ap (λ x. among vs n b || x) (and_false (nat_lt b (variants u n)))
-    ∙ or_false (among vs n b))
+    sym (ap (λ x. among vs n b || x) (and-false (nat_lt b (variants u n)))
+    ∙ or-false (among vs n b))
 
 -- where none passes, nothing is found
 pub finds_never : (u : Universe) (p : Variant → Bool) (vs : List NumberWord)
     → ((v : Variant) → p v ≡ false) → Finds u p vs vs
 finds_never u p vs never n b =
     sym (ap (λ x. among vs n b || (nat_lt b (variants u n) && x)) (never (variant n b))
-    ∙ ap (λ x. among vs n b || x) (and_false (nat_lt b (variants u n))) ∙ or_false (among vs n b))
+    ∙ ap (λ x. among vs n b || x) (and-false (nat_lt b (variants u n))) ∙ or-false (among vs n b))
 
 -- what an index lists
 module _ (u : Universe) (field : Package → Relations) (test : Atom → Bool) where
@@ -215,7 +207,7 @@ joined_word s new name before word is replaced n b = replaced n b ∙ one (n == 
     one true same =
         word_has-or before word b
         ∙ ap (λ x. x || word_has word b) (sym (is b) ∙ ap (λ k. s k b) (sym (eqb-true n name same)))
-    one false other = sym (or_false (s n b))
+    one false other = sym (or-false (s n b))
 
 -- a word joined to one of its number
 join_spread : (s x y r : Bool) → ((s && (x || y)) || r) ≡ (((s && x) || r) || (s && y))

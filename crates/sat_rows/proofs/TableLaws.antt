@@ -1,6 +1,7 @@
 -- What is read of the tables.
 use Rattle.std.proofs.Common.{◌≡◌, ℕ, zero, suc, ◌<◌, ◌&&◌, nat_lt, List, [], ◌∷◌, Some, length, get_or, refl, sym, ap, ◌∙◌, subst, arith}
 use Rattle.std.specs.List.{AllZip, slice_get}
+use Rattle.std.proofs.Math.Bool.{or-false}
 use Rattle.std.proofs.lemmas.List.{get_or_default}
 use Rattle.std.proofs.lemmas.Option.{slice_get_read, slice_get_within, get_or_from_slice_get}
 use Rattle.deb_relation.specs.Relations.{Atom, Entry}
@@ -13,7 +14,6 @@ use Rattle.sat_rows.specs.ByVariant.{AreValuesOfName, AreOfEach}
 use Rattle.sat_rows.specs.Entries.{Numbers, PreNumbers, IsNumberOf, IsPreNumbers, AreNumbers, no_numbers, no_pre_numbers}
 use Rattle.sat_rows.specs.Rows.{IsRowOf, nth_entry}
 use Rattle.sat_rows.specs.Tables.{AreEntryRows}
-use Rattle.sat_rows.proofs.FoundLaws.{or_false}
 use Rattle.sat_rows.proofs.Pairs.{paired_within, paired_at, paired_with}
 
 module _ {T : Type 0} (u : Universe) (Is : Variant → T → Type 0) (none : T) (lists : List (List T))
@@ -50,7 +50,7 @@ one_alternative u a row is =
       long = is.long;
       set = λ n b.
           is.set n b ∙ ap (λ x. nat_lt b (variants u n) && x)
-          (or_false (satisfies u a (variant n b)));
+          (or-false (satisfies u a (variant n b)));
     }
 
 module _ (u : Universe) (by_name : List (List Numbers)) (by_recipe rows : List (List ℕ))

@@ -1,12 +1,13 @@
 -- Lists of words by number, the other way round.
 use Rattle.std.proofs.Common.{◌≡◌, ℕ, ◌+◌, ◌<◌, ◌≤◌, Bool, true, false, ◌&&◌, ◌||◌, ◌==◌, nat_lt, List, [], length, get_or, take, refl, sym, ap, ◌∙◌, inl, inr, arith}
+use Rattle.std.proofs.Math.Bool.{or-false}
 use Rattle.std.proofs.lemmas.Bool.{cases_lt, cases_eq, lt-ltb, eq-eqb, ne_eqb}
 use Rattle.std.proofs.lemmas.List.{get_or_past}
 use Rattle.clause_kernel.specs.Rows.{word_has}
 use Rattle.sat_rows.specs.declared.found.NumberWord.{NumberWord}
 use Rattle.sat_rows.specs.Found.{among}
 use Rattle.sat_rows.specs.Links.{nth_list, AreTurned}
-use Rattle.sat_rows.proofs.FoundLaws.{any_next, or_false}
+use Rattle.sat_rows.proofs.FoundLaws.{any_next}
 use Rattle.sat_rows.proofs.RangeLaws.{not_lt}
 
 none_more : (x k : Bool) → x ≡ (x || (k && false))
@@ -69,7 +70,7 @@ first_next lists old new count number long so_far put j i b lt =
           || ((i == number) && among (nth_list lists number) j b))
           (lt-ltb i number below)
           ∙ ap (λ x. among (nth_list lists i) j b || (x && among (nth_list lists number) j b)) other
-          ∙ or_false (among (nth_list lists i) j b)
+          ∙ or-false (among (nth_list lists i) j b)
           ∙ ap (λ x. x && among (nth_list lists i) j b) (sym (lt-ltb i (number + 1) (omega arith)))
       | inr ge ↦
           ap (λ x. (x && among (nth_list lists i) j b)
