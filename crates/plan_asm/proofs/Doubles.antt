@@ -19,8 +19,7 @@ double-push (x ∷ ns) n =
       list_any-append (λ y. y == x) ns (n ∷ []),
       double-push ns n,
       eqb-turned n x,
-      or-false
-          (x == n),
+      or-false (x == n),
     )
     (or-four (member ns x) (x == n) (has_double ns) (member ns n))
 
