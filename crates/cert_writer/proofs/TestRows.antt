@@ -1,5 +1,6 @@
 -- The row of a test has the variants that pass it.
 use Rattle.std.proofs.Common.{◌≡◌, inl, inr, ℕ, zero, suc, ◌+◌, ◌<◌, ◌≤◌, Bool, true, false, ◌&&◌, ◌||◌, ◌==◌, nat_lt, List, [], ◌∷◌, map, filter, cond, get_or, length, refl, sym, ap, ◌∙◌, eq-eqb, arith}
+use Rattle.std.specs.Cmp.{both_ways as same_tests}
 use Rattle.std.specs.List.{list_any, range_with_len}
 use Rattle.std.proofs.Math.Bool.{or-false}
 use Rattle.std.proofs.lemmas.Bool.{cases_eq, cases_lt, and_parts, lt-ltb, le-ltb, ltb-true, ne_eqb}
@@ -9,7 +10,6 @@ use Rattle.std.proofs.lemmas.List.FromFn.{length-map-range_with_len, get_or-map-
 use Rattle.bit_rows.specs.Sets.{variants_of}
 use Rattle.clause_kernel.proofs.Words.{word_has_zero}
 use Rattle.clause_kernel.specs.Rows.{word_has}
-use Rattle.farm_model.proofs.TestLaws.{same_tests}
 use Rattle.farm_model.specs.declared.types.Variant.{Variant}
 use Rattle.farm_model.specs.Packages.{names, variant, variants}
 use Rattle.farm_model.specs.Universe.{Universe}

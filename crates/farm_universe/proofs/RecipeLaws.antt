@@ -1,5 +1,6 @@
 -- One recipe more: what is true of the recipes so far stays true.
 use Rattle.std.proofs.Common.{◌≡◌, ℕ, zero, suc, ◌+◌, ◌<◌, ◌≤◌, Bool, true, false, List, [], ◌∷◌, ◌++◌, map, sum, drop, Option, None, length, length-append, length-set, get_or, refl, sym, ap, subst, ◌∙◌, true≢false, eqb, arith, All, Some, Ok, codes, inl, inr, ◌⊎◌, ◌||◌, ◌&&◌}
+use Rattle.std.specs.Cmp.{both_ways as same_tests}
 use Rattle.std.specs.Int.{bit_at}
 use Rattle.std.specs.Prelude.{slice_get}
 use Rattle.std.specs.List.{list_any}
@@ -32,7 +33,6 @@ use Rattle.farm_universe.specs.RecipeText.{outputs_at, is_taken, new_outputs, bu
 use Rattle.farm_universe.proofs.ArchiveLaws.{bit-with_bit}
 use Rattle.farm_universe.proofs.ListFacts.{slice_get-push}
 use Rattle.item_index.proofs.ItemLaws.{any-at, any-found}
-use Rattle.farm_model.proofs.TestLaws.{same_tests}
 use Rattle.farm_model.proofs.VariantLaws.{same-refl}
 
 -- ---- names

@@ -1,25 +1,13 @@
 -- The lines of a text, paragraph by paragraph.
-use Rattle.std.proofs.Common.{◌≡◌, ◌≤◌, true, false, Bool, ◌||◌, List, [], ◌∷◌, length, refl, inl, inr, arith}
-use Rattle.std.proofs.lemmas.Bool.{cases_Bool, true≢false}
+use Rattle.std.proofs.Common.{◌≡◌, ◌≤◌, true, false, Bool, List, [], ◌∷◌, length, refl, inl, inr, arith}
+use Rattle.std.proofs.lemmas.Bool.{cases_Bool}
 use Rattle.std.specs.List.{list_any}
-use Rattle.deb_text.proofs.CutLaws.{before-none}
+use Rattle.deb_text.proofs.CutLaws.{before-none, after-none}
 use Rattle.deb_text.proofs.PartLaws.{split-none, split-some}
 use Rattle.deb_text.specs.Cuts.{before, after}
 use Rattle.deb_text.specs.Lines.{Line}
 use Rattle.deb_stanza.specs.Stanza.{separates}
 use Rattle.farm_warnings.specs.Lines.{paragraph_lines}
-
--- nothing stands behind what is not there
-after_cons : {X : Type 0} (p : X → Bool) (x : X) (xs : List X) (first : Bool) → p x ≡ first
-    → (first || list_any p xs) ≡ false → (list_any p xs ≡ false → after p xs ≡ [])
-    → after p (x ∷ xs) ≡ []
-after_cons p x xs true is none rest = absurd (true≢false none)
-after_cons p x xs false is none rest = rw is (rest none)
-
-pub after_none : {X : Type 0} (p : X → Bool) (xs : List X) → list_any p xs ≡ false
-    → after p xs ≡ []
-after_none p [] none = refl
-after_none p (x ∷ xs) none = after_cons p x xs (p x) refl none (after_none p xs)
 
 pub length_after : {X : Type 0} (p : X → Bool) (xs : List X) → length (after p xs) ≤ length xs
 length_after p [] = omega arith
@@ -43,6 +31,6 @@ paragraphs_take l ls is =
       | inr none ↦ rw (
         split-none separates (l ∷ ls) none,
         before-none separates (l ∷ ls) none,
-        after_none separates ls (rw is at none),
+        after-none separates ls (rw is at none),
       ) refl
     ]

@@ -1,6 +1,7 @@
 -- What surely meets an entry ahead of an unpack: the configured words lie within those that satisfy
 -- it, or the present and the last configured ones together within those of one alternative.
 use Rattle.std.proofs.Common.{subst, ◌≡◌, ◌⊎◌, inl, inr, ℕ, zero, suc, ◌<◌, Bool, true, false, not, ◌&&◌, ◌||◌, ◌==◌, List, [], ◌∷◌, refl, sym, ap, ◌∙◌, if◌then◌else◌}
+use Rattle.std.specs.Cmp.{both_ways as same_tests}
 use Rattle.std.specs.Prelude.{slice_index, bit_or}
 use Rattle.std.specs.List.{list_any}
 use Rattle.std.proofs.lemmas.Bool.{cases_Bool, and_parts, and_left, and_right, or_cases, or_left, or_right, both_ways, eq-eqb, eqb-true, ne_eqb}
@@ -12,7 +13,6 @@ use Rattle.farm_model.specs.Universe.{Universe}
 use Rattle.farm_model.specs.declared.types.Variant.{Variant}
 use Rattle.farm_model.specs.Packages.{variant, names, variants, pre_depends, satisfies, satisfies_entry}
 use Rattle.farm_model.proofs.BelowLaws.{some_below-or, some_below-at, some_below-found, some_below-same, every_below-at, every_below-all}
-use Rattle.farm_model.proofs.TestLaws.{same_tests}
 use Rattle.plan_model.specs.May.{Bits, MayAbsent, May, all_of, is_some_of, surely_pre_meets, surely_pre_met}
 use Rattle.sat_rows.specs.Rows.{IsRowOf, IsAlternativeRow, nth_entry}
 use Rattle.may_rows.specs.Words.{Words, slot_of, may_of, AreOfName, AreWords, with_slot, some_name_inside, surely_met_ahead}

@@ -1,12 +1,12 @@
 -- The rows that a certificate states, instruction by instruction.
 use Rattle.std.proofs.Common.{◌≡◌, ℕ, zero, suc, ◌+◌, ◌<◌, Bool, true, false, cond, ◌||◌, nat_lt, List, [], ◌∷◌, length, take, drop, get_or, Some, slice_index_or, count_by, inl, inr, refl, sym, ap, subst, ◌∙◌, arith, take-append-drop}
+use Rattle.std.specs.Cmp.{both_ways as same_tests}
 use Rattle.std.proofs.lemmas.Bool.{or_cases, and_parts, and_from, cases_lt, lt-ltb, false≢true}
 use Rattle.std.proofs.lemmas.List.{get_or_past}
 use Rattle.std.proofs.lemmas.List.Sums.{sum_by-append}
 use Rattle.cert_text.specs.Certificates.{Certificate, lane_rows, count_rows, IsNewRow, IsCertificate}
 use Rattle.clause_kernel.proofs.Words.{word_has_zero}
 use Rattle.farm_laws.proofs.Archive.{take_some}
-use Rattle.farm_model.proofs.TestLaws.{same_tests}
 use Rattle.farm_model.specs.declared.types.Variant.{Variant}
 use Rattle.farm_model.specs.Universe.{Universe}
 use Rattle.farm_model.specs.Packages.{variants, initial}

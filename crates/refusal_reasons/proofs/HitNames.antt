@@ -1,5 +1,6 @@
 -- Names of which words have a variant that passes, and what they answer.
 use Rattle.std.proofs.Common.{◌≡◌, ◌↔◌, inl, inr, ℕ, zero, suc, ◌<◌, ◌≤◌, Bool, true, ◌&&◌, List, [], ◌∷◌, take, refl, sym, ap, ◌∙◌, arith}
+use Rattle.std.specs.Cmp.{both_ways as same_tests}
 use Rattle.std.specs.Prelude.{slice_index}
 use Rattle.std.proofs.lemmas.Bool.{cases_lt, both_ways, and_parts, and_from, ltb-true, lt-ltb}
 use Rattle.clause_kernel.specs.Rows.{word_has}
@@ -10,7 +11,6 @@ use Rattle.farm_model.specs.Below.{some_below}
 use Rattle.farm_model.specs.Universe.{Universe}
 use Rattle.farm_model.specs.Packages.{variant, variants}
 use Rattle.farm_model.proofs.BelowLaws.{some_below-at, some_below-found}
-use Rattle.farm_model.proofs.TestLaws.{same_tests}
 use Rattle.sat_rows.specs.Rows.{variant_passes}
 use Rattle.refusal_reasons.specs.Hits.{name_has_hit}
 

@@ -1,5 +1,6 @@
 -- Rows of the archive: one more variant, one more list of variants.
 use Rattle.std.proofs.Common.{◌≡◌, inl, inr, ℕ, suc, ◌+◌, ◌<◌, Bool, true, false, ◌&&◌, ◌||◌, ◌==◌, nat_lt, List, [], ◌∷◌, length, take, get_or, refl, sym, ap, subst, ◌∙◌, arith}
+use Rattle.std.specs.Cmp.{both_ways as same_tests}
 use Rattle.std.specs.List.{list_any}
 use Rattle.std.proofs.Math.Seq.{take-suc}
 use Rattle.std.proofs.Math.Bool.{or-false}
@@ -10,7 +11,6 @@ use Rattle.farm_model.specs.declared.types.Variant.{Variant}
 use Rattle.farm_model.specs.Universe.{Universe}
 use Rattle.farm_model.specs.Packages.{variant, names, variants, same}
 use Rattle.farm_model.specs.Sound.{IsKnown}
-use Rattle.farm_model.proofs.TestLaws.{same_tests}
 use Rattle.farm_laws.proofs.Archive.{same-true, same-refl}
 use Rattle.sat_rows.specs.Rows.{variant_passes, IsRowOf}
 

@@ -1,5 +1,6 @@
 -- Boards that are reached: one more wait passes, or one more output is made.
 use Rattle.std.proofs.Common.{◌≡◌, inl, inr, ℕ, ◌<◌, Bool, true, ◌&&◌, ◌||◌, ◌==◌, nat_lt, List, [], ◌∷◌, ◌++◌, length, get_or, Some, slice_set, refl, sym, ap, subst, ◌∙◌, arith, length-set, get_or-set_same, get_or-set_other}
+use Rattle.std.specs.Cmp.{both_ways as same_tests}
 use Rattle.std.proofs.lemmas.Bool.{cases_eq, eq-eqb, ne_eqb, eqb-true, or_cases, or_left, or_right, and_parts, and_from, lt-ltb}
 use Rattle.bit_rows.specs.Sets.{variants_of, AddsVariant}
 use Rattle.deb_relation.specs.Relations.{Entry}
@@ -7,7 +8,6 @@ use Rattle.farm_model.specs.declared.types.Variant.{Variant}
 use Rattle.farm_model.specs.Universe.{Universe}
 use Rattle.farm_model.specs.Packages.{variant, names, variants, same, contains, initial}
 use Rattle.farm_model.specs.Sound.{IsKnown}
-use Rattle.farm_model.proofs.TestLaws.{same_tests}
 use Rattle.farm_laws.proofs.Archive.{same-true, same-refl}
 use Rattle.plan_model.specs.Plan.{Plan}
 use Rattle.plan_model.specs.Turn as turn

@@ -1,12 +1,12 @@
 -- The words of clocks: the outputs of one name that count.
 use Rattle.std.proofs.Common.{◌≡◌, ◌⊎◌, inl, inr, ℕ, ◌+◌, ◌<◌, ◌≤◌, true, List, [], length, take, get_or, Some, slice_get, sym, ap, subst, ◌∙◌, arith}
+use Rattle.std.specs.Cmp.{both_ways as same_tests}
 use Rattle.std.specs.Prelude.{slice_index, slice_index_or}
 use Rattle.std.proofs.lemmas.Bool.{cases_eq, or_cases, or_left, or_right, and_parts, and_from, lt-ltb}
 use Rattle.std.proofs.lemmas.Option.{same_Some, slice_get_within, get_or_from_slice_get}
 use Rattle.clause_kernel.specs.Rows.{word_has}
 use Rattle.farm_laws.proofs.Archive.{element, list_any-some, same-true, same-refl}
 use Rattle.farm_model.proofs.BelowLaws.{some_below-at, some_below-found}
-use Rattle.farm_model.proofs.TestLaws.{same_tests}
 use Rattle.farm_model.specs.declared.types.Variant.{Variant}
 use Rattle.farm_model.specs.Below.{some_below}
 use Rattle.farm_model.specs.Universe.{Universe}

@@ -2,7 +2,7 @@
 use Rattle.std.proofs.Common.{Bool, List, Some, [], ap, arith, cond, eqb, inl, inr, length, refl, slice_get, subst, suc, sym, take, true, zero, ℕ, ⊎_elim, ◌+◌, ◌<◌, ◌∙◌, ◌∷◌, ◌≡◌, ◌≤◌, ◌⊎◌}
 use Rattle.std.proofs.lemmas.Bool.{cases_Bool, cases_lt, eqb-true, or_left, or_right}
 use Rattle.std.proofs.lemmas.Bool.Decides.{nat_tests}
-use Rattle.std.proofs.lemmas.Option.{same_Some}
+use Rattle.std.proofs.lemmas.Option.{same_Some, slice_get_within}
 use Rattle.farm_model.proofs.BelowLaws.{some_below-at}
 use Rattle.farm_model.specs.Packages.{contains, has_bit, initial, same}
 use Rattle.farm_model.specs.declared.types.Variant.{Variant}
@@ -20,7 +20,6 @@ use Rattle.word_archive.specs.History.{HasOne, IsClosed, IsHistory, IsUnused, en
 use Rattle.word_archive.specs.Rule.{AreWordsOf, serial_word, shown_world}
 use Rattle.word_archive.specs.Serials.{IsPublishedBelow, drawn, made_by, once_below, times}
 use Rattle.word_archive.proofs.KnownPublished.{all_below, words_published}
-use Rattle.word_archive.proofs.Lists.{some_length}
 use Rattle.word_archive.proofs.Moves.{lane_shown}
 use Rattle.word_archive.proofs.SerialsDrawn.{less_at}
 
@@ -100,7 +99,7 @@ module _ (a : AcceptedPlan) (accepted : IsAccepted a) (words : List ℕ) (record
       ∙ or_right (initial u v) _ (some_below-at (length a.plan)
       (λ m. contains (recorded u (lane a.plan m) (world_lane (shown_world a words records) m)) v)
       h.lane
-      (omega (arith, some_length records h.lane o.told o.there, st.lanes)) mine)
+      (omega (arith, slice_get_within records h.lane o.told o.there, st.lanes)) mine)
 
   -- what the words have is initial or stands in the history
   has_words : (v : Variant) → has_bit (shown_world a words records).words v ≡ true
@@ -128,7 +127,7 @@ module _ (a : AcceptedPlan) (accepted : IsAccepted a) (words : List ℕ) (record
       let r = f.1 in
       let owed = st.serials.owed l r f.2 in
       let most = owed.1 in
-      let within = some_length r.serials f.3 x f.4 in
+      let within = slice_get_within r.serials f.3 x f.4 in
       elim (cases_lt f.3 (made_by a l r.at)) [
         | inl made ↦
             let h = told.all l f.3 r f.2 made in

@@ -14,7 +14,7 @@ use Rattle.plan_verifier.specs.Accepted.{AcceptedPlan, IsAccepted}
 use Rattle.word_archive.specs.History.{IsHistory, IsMadeOutput, lanes_published}
 use Rattle.word_archive.specs.Rule.{AreWordsOf, serial_word}
 use Rattle.word_archive.specs.Serials.{made_by}
-use Rattle.word_archive.proofs.Lists.{get_some, some_length}
+use Rattle.word_archive.proofs.Lists.{get_some}
 use Rattle.word_archive.proofs.Published.{in_all, in_has, in_sum}
 use Rattle.word_archive.proofs.Records.{record_holds}
 use Rattle.word_archive.proofs.SerialSums.{at_most_one, drawn_front, is_under, one_if, output_at, same_under, two_in}
@@ -63,7 +63,7 @@ history_is a accepted words records stopped st all is history permutation up =
       all = λ l i r e made.
           let x = output_at l (lane_outputs a.universe (lane a.plan l)) r.serials i in
           let c = Contains-permutation (lanes_published a shown n) history x same
-          (in_has a records fits n l i r (let b = some_length records l r e in
+          (in_has a records fits n l i r (let b = slice_get_within records l r e in
           omega (arith, long)) e made) in
           record {
             serial = x.serial;

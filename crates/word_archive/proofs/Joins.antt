@@ -1,5 +1,6 @@
 -- The base seat takes another in.
 use Rattle.std.proofs.Common.{Bool, List, Some, [], ap, cond, eqb, inl, inr, length, refl, set, slice_get, subst, sym, ℕ, ⊎_elim, ◌++◌, ◌<◌, ◌∙◌, ◌∷◌, ◌≡◌, ◌≢◌, ◌≤◌, ◌⊎◌}
+use Rattle.std.proofs.lemmas.Option.{slice_get_within}
 use Rattle.std.proofs.lemmas.Bool.{cases_lt, eq-eqb, ne_eqb, false≢true}
 use mathlib.Core.Option.{some}
 use lib.ListN.{get_elem?}
@@ -10,7 +11,6 @@ use Rattle.lane_records.specs.Records.{Record, blank}
 use Rattle.plan_verifier.specs.Accepted.{AcceptedPlan}
 use Rattle.word_archive.specs.Rule.{AllBelow, Entries, Fits, KeepsRule}
 use Rattle.word_archive.specs.Views.{SeatView, base_view, joined_view, spent}
-use Rattle.word_archive.proofs.Lists.{some_length}
 
 -- who has the lanes of a seat once they went to another
 abbrev taken_over : (ℕ → ℕ) → ℕ → ℕ → ℕ → ℕ
@@ -64,7 +64,8 @@ all_split owner records n id other (e ∷ es) apart own h =
   where
     below : (e.0 < n) ⊎ (n ≤ e.0) → e.0 < n
     below (inl lt) = lt
-    below (inr ge) = absurd (apart (sym h.0.0 ∙ own e.0 ge (some_length records e.0 e.1 h.0.1)))
+    below (inr ge) =
+        absurd (apart (sym h.0.0 ∙ own e.0 ge (slice_get_within records e.0 e.1 h.0.1)))
 
 -- the base seat takes another in
 pub joins : {S : Type 0} (p : AcceptedPlan) (id next : ℕ) (stopped : Bool)

@@ -1,5 +1,6 @@
 -- A load of a name's word.
 use Rattle.std.proofs.Common.{Bool, List, Some, [], ap, arith, get_or, get_or-set_same, inl, inr, length, length-set, refl, set, slice_get, subst, sym, take, ℕ, ◌<◌, ◌∙◌, ◌≡◌, ◌≢◌, ◌⊎◌}
+use Rattle.std.proofs.lemmas.Option.{slice_get_within}
 use Rattle.std.proofs.lemmas.Bool.{cases_eq}
 use Rattle.std.specs.Int.{bit_at}
 use Rattle.std.specs.Prelude.{slice_index}
@@ -23,7 +24,7 @@ use Rattle.word_archive.specs.Serials.{made_by}
 use Rattle.word_archive.specs.Steps.{Loaded}
 use Rattle.word_archive.specs.Views.{SeatView, lane_view}
 use Rattle.word_archive.proofs.HaltWord.{halts_stay}
-use Rattle.word_archive.proofs.Lists.{get_set, index_set_other, index_take, map_set, set_index, some_length}
+use Rattle.word_archive.proofs.Lists.{get_set, index_set_other, index_take, map_set, set_index}
 use Rattle.word_archive.proofs.Moves.{changed, lane_moves, lane_shown}
 use Rattle.word_archive.proofs.Records.{record_holds}
 use Rattle.word_archive.proofs.SerialsKept.{serials_stay}
@@ -37,7 +38,7 @@ module _ (a : AcceptedPlan) (accepted : IsAccepted a) (words : List ℕ) (record
 
   -- the lane is one of the plan
   pub in_plan : l < length a.plan
-  in_plan = omega (arith, some_length records l r here, st.lanes)
+  in_plan = omega (arith, slice_get_within records l r here, st.lanes)
 
   -- the world has the lane where its record says
   pub stands_at : world_lane w l ≡ r.at

@@ -1,8 +1,8 @@
 use Rattle.std.proofs.Common.{◌≡◌, sym, ◌∙◌}
+use Rattle.std.specs.Cmp.{both_ways as same_tests}
 use Rattle.clause_kernel.specs.Kernels.{same_rows}
 use Rattle.clause_kernel.proofs.Meanings.{same-equal}
 use Rattle.bit_rows.proofs.SetLaws.{same-variants}
-use Rattle.bit_rows.proofs.Merges.{same_tests}
 use Rattle.bit_rows.proofs.OneForm.{same_blocks}
 use Rattle.bit_rows.proofs.row.Row.same.Goals as goal
 
