@@ -3,7 +3,7 @@ use Rattle.std.proofs.Common.{◌≡◌, ◌≢◌, ℕ, zero, suc, ◌+◌, ◌
 use Rattle.std.proofs.lemmas.Bool.{eq-eqb, ne_eqb, cond-true, cond-false}
 use Rattle.std.proofs.lemmas.List.{take-append-drop}
 use Rattle.bit_rows.specs.declared.block.Block.{Block}
-use Rattle.bit_rows.specs.Blocks.{no_words, words_or, words_at, IsAscending, AreBelow}
+use Rattle.bit_rows.specs.Blocks.{no_words, words_or, block_words_at, IsAscending, AreBelow}
 
 -- what a read past the end gives
 abbrev pub blank : Block
@@ -103,38 +103,39 @@ words_or-append others (x ∷ xs) ys place =
     ap (λ w. if x.place == place then x.words else w) (words_or-append others xs ys place)
 
 pub words_at-split : (bs : List Block) (at place : ℕ)
-    → words_at bs place ≡ words_or (words_at (drop at bs) place) (take at bs) place
+    → block_words_at bs place ≡ words_or (block_words_at (drop at bs) place) (take at bs) place
 words_at-split bs at place =
-    ap (λ l. words_at l place) (sym (take-append-drop at bs))
+    ap (λ l. block_words_at l place) (sym (take-append-drop at bs))
     ∙ words_or-append no_words (take at bs) (drop at bs) place
 
 pub words_at-drop : (bs : List Block) (at bound place : ℕ) → bound ≤ place
-    → AreBelow bound (take at bs) → words_at bs place ≡ words_at (drop at bs) place
+    → AreBelow bound (take at bs) → block_words_at bs place ≡ block_words_at (drop at bs) place
 words_at-drop bs at bound place le below =
     words_at-split bs at place
-    ∙ words_or_behind (words_at (drop at bs) place) (take at bs) bound place le below
+    ∙ words_or_behind (block_words_at (drop at bs) place) (take at bs) bound place le below
 
 -- the words of the place that stands, or is to stand, at an index
 pub words_at_stood : (bs : List Block) (at place : ℕ) (d : Block) → AreBelow place (take at bs)
-    → at < length bs → (get_or bs at d).place ≡ place → words_at bs place ≡ (get_or bs at d).words
+    → at < length bs → (get_or bs at d).place ≡ place
+    → block_words_at bs place ≡ (get_or bs at d).words
 words_at_stood [] at place d below lt e = absurd (omega arith)
 words_at_stood (b ∷ bs) zero place d below lt e =
-    cond-true (b.place == place) b.words (words_at bs place) (eq-eqb b.place place e)
+    cond-true (b.place == place) b.words (block_words_at bs place) (eq-eqb b.place place e)
 words_at_stood (b ∷ bs) (suc at) place d below lt e =
-    cond-false (b.place == place) b.words (words_at bs place)
+    cond-false (b.place == place) b.words (block_words_at bs place)
     (ne_eqb b.place place (λ h. omega (arith, below.0)))
     ∙ words_at_stood bs at place d below.1 (omega arith) e
 
 pub words_at_none : (bs : List Block) (at place : ℕ) (d : Block) → AreBelow place (take at bs)
     → IsAscending place (drop at bs) → (at < length bs → (get_or bs at d).place ≢ place)
-    → words_at bs place ≡ no_words
+    → block_words_at bs place ≡ no_words
 words_at_none [] at place d below up other = refl
 words_at_none (b ∷ bs) zero place d below up other =
     let ne : b.place ≢ place = other (omega arith) in
-    cond-false (b.place == place) b.words (words_at bs place) (ne_eqb b.place place ne)
+    cond-false (b.place == place) b.words (block_words_at bs place) (ne_eqb b.place place ne)
     ∙ words_or_before no_words bs (suc b.place) place (omega (arith, up.0, ne)) up.1
 words_at_none (b ∷ bs) (suc at) place d below up other =
-    cond-false (b.place == place) b.words (words_at bs place)
+    cond-false (b.place == place) b.words (block_words_at bs place)
     (ne_eqb b.place place (λ h. omega (arith, below.0)))
     ∙ words_at_none bs at place d below.1 up (λ lt. other (omega arith))
 

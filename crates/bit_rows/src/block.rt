@@ -1,8 +1,8 @@
 //! Blocks of eight words, and where they stand in a row.
 
 ghost use Rattle.std.specs.Prelude.{◌≡◌, ◌<◌, ◌≤◌, ◌↔◌, ℕ, length, take, IsTrue, OnOk, OnErr, vec_len, vec_capacity};
-ghost use Rattle.bit_rows.specs.Blocks.{IsAscending, AreBelow, AreRowBlocks, StandsAt, words_at, word_at, no_words, placed};
-ghost use Rattle.clause_kernel.specs.Kernels.{same};
+ghost use Rattle.bit_rows.specs.Blocks.{IsAscending, AreBelow, AreRowBlocks, StandsAt, block_words_at, word_at, no_words, placed};
+ghost use Rattle.clause_kernel.specs.Kernels.{same_rows};
 
 use std::alloc::{AllocError, Allocator};
 
@@ -82,7 +82,7 @@ pub(crate) fn skip_to(blocks: &[Block], from: usize, count: usize) -> usize
 /// Gives the words at a place that stands, or is to stand, at this index.
 pub(crate) fn words_there(blocks: &[Block], at: usize, place: usize) -> &[u64; 8]
     requires { StandsAt at place blocks.now }
-    ensures { result.now ≡ words_at blocks.now place }
+    ensures { result.now ≡ block_words_at blocks.now place }
 {
     if at == blocks.len() || blocks[at].place != place {
         return &NO_WORDS;
@@ -92,7 +92,7 @@ pub(crate) fn words_there(blocks: &[Block], at: usize, place: usize) -> &[u64; 8
 
 /// Tells whether words of a block are all 0.
 pub(crate) fn has_none(words: &[u64; 8]) -> bool
-    ensures { result ≡ same words.now no_words }
+    ensures { result ≡ same_rows words.now no_words }
 {
     clause_kernel::same(words, &NO_WORDS)
 }
@@ -114,7 +114,7 @@ pub(crate) fn put<A: Allocator>(
 
     // It fails only where there was no room for a block that did not stand there.
     ensures full { OnErr result (vec_capacity blocks.old ≤ vec_len blocks.old) }
-    ensures absent { OnErr result (words_at blocks.old.items block.place ≡ no_words) }
+    ensures absent { OnErr result (block_words_at blocks.old.items block.place ≡ no_words) }
     ensures capacity { vec_capacity blocks.old ≤ vec_capacity blocks.new }
 {
     let is_there = at < blocks.len() && blocks[at].place == block.place;

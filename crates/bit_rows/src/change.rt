@@ -4,7 +4,7 @@ ghost use Rattle.std.specs.Prelude.{◌≡◌, ℕ, OnOk, OnErr, length};
 ghost use Rattle.std.specs.Simd.Lanes.{zip2};
 ghost use Rattle.clause_kernel.specs.Kernels.{bits_left};
 ghost use Rattle.std.specs.Prelude.{bit_and};
-ghost use Rattle.bit_rows.specs.Blocks.{IsAscending, AreOfOneLength, AreJoined, changed, missing};
+ghost use Rattle.bit_rows.specs.Blocks.{IsAscending, AreOfOneLength, AreJoinedBlocks, changed_blocks, missing_places};
 
 use crate::block::{Block, has_none, put, seek, words_there};
 use clause_kernel as kernel;
@@ -50,7 +50,7 @@ pub(crate) fn change_each<T: PlaceChange, A: Allocator>(
 )
     requires blocks { IsAscending 0 blocks.old.items }
     requires others { IsAscending 0 others.now }
-    ensures { blocks.new.items ≡ changed T.change blocks.old.items others.now }
+    ensures { blocks.new.items ≡ changed_blocks T.change blocks.old.items others.now }
 {
     let mut kept = 0;
     let mut there = 0;
@@ -77,7 +77,7 @@ pub(crate) fn join_each<A: Allocator>(
     others: &[Block],
 ) -> Result<(), AllocError>
     requires { AreOfOneLength blocks.old.items others.now }
-    ensures joined { OnOk result (AreJoined blocks.old.items others.now blocks.new.items) }
+    ensures joined { OnOk result (AreJoinedBlocks blocks.old.items others.now blocks.new.items) }
     ensures unchanged { OnErr result (blocks.new.items ≡ blocks.old.items) }
 {
     blocks.reserve(count_missing(blocks, others))?;
@@ -96,7 +96,7 @@ pub(crate) fn join_each<A: Allocator>(
 fn count_missing(blocks: &[Block], others: &[Block]) -> usize
     requires blocks { IsAscending 0 blocks.now }
     requires others { IsAscending 0 others.now }
-    ensures { result ≡ missing blocks.now others.now }
+    ensures { result ≡ missing_places blocks.now others.now }
 {
     let mut at = 0;
     let mut count = 0;

@@ -1,7 +1,7 @@
 //! A row of words, and what it does with other rows.
 
 ghost use Rattle.std.specs.Prelude.{◌≡◌, ◌<◌, ◌≤◌, ◌↔◌, IsTrue, IfOk, OnOk, OnErr, length, replicate, slice_index, slice_set};
-ghost use Rattle.clause_kernel.specs.Kernels.{shares_bit, meets, lies_in, hits, met, within, same, joined, common, remaining};
+ghost use Rattle.clause_kernel.specs.Kernels.{shares_bit, meets, lies_in, hits, met, within, same_rows, joined, common, remaining};
 ghost use Rattle.bit_rows.specs.Sets.{variants_of, HasNone, HasSomeAt, HasAllAt, IsMetAt, IsWordOf, IsSubset, HaveSame, HaveCommon, HasNameInside, IsUnion, IsIntersection, IsDifference, ReplacesName, AddsVariant, HasNoneFrom};
 
 use crate::block::{BLOCK, Block, are_same, find, put, skip_to, words_there};
@@ -195,7 +195,7 @@ impl<A: Allocator> Row<A> {
     /// Tells whether both rows have the same words, and so the same variants.
     pub fn same(&self, other: &Row<A>) -> bool
         requires { length self.now ≡ length other.now }
-        ensures test { result ≡ same self.now other.now }
+        ensures test { result ≡ same_rows self.now other.now }
         ensures equal { IsTrue result ↔ (self.now ≡ other.now) }
         ensures set { IsTrue result ↔ HaveSame (variants_of self.now) (variants_of other.now) }
     {

@@ -15,9 +15,10 @@ use Rattle.farm_model.specs.declared.types.Variant.{Variant}
 use Rattle.farm_model.specs.Packages.{package_of}
 use Rattle.farm_model.specs.Universe.{Universe}
 use Rattle.plan_model.specs.Plan.{Plan, lane}
+use Rattle.plan_asm.specs.Listing.{name_of_number}
 use Rattle.cert_text.proofs.RowLists.{row_variants-in}
-use Rattle.cert_text.specs.Printed.{name_of, variant_text, more_text, list_text}
-use Rattle.cert_text.specs.Rows.{IsIn, row_variants}
+use Rattle.cert_text.specs.Printed.{variant_text, more_text, list_text}
+use Rattle.cert_text.specs.Rows.{IsOfUniverse, row_variants}
 use Rattle.cert_laws.specs.Laws.{IsSpelled, known_text, order_text}
 use Rattle.cert_laws.proofs.Items.{item-none}
 use Rattle.cert_laws.proofs.Lists.{IsSpelledVariant}
@@ -45,7 +46,8 @@ module _ (u : Universe) where
   variant-line : (v : Variant) → IsSpelledVariant u v → IsLine (variant_text u v)
   unfolding variant_text
   variant-line v is =
-      item-none (name_of u v.name) (package_of u v).version is.name is.version 10 refl refl refl
+      item-none (name_of_number u v.name) (package_of u v).version is.name is.version 10
+      refl refl refl
       refl
 
   more-line : (vs : List Variant) → All (IsSpelledVariant u) vs → IsLine (more_text u vs)
@@ -67,7 +69,7 @@ module _ (u : Universe) where
     row-line row =
         let vs = row_variants u row in
         list-line vs
-        (All-weaker (IsIn u) (IsSpelledVariant u) (variant-spelled u spelled) vs
+        (All-weaker (IsOfUniverse u) (IsSpelledVariant u) (variant-spelled u spelled) vs
         (row_variants-in u row))
 
     pub known-kept : (name : List ℕ) (number : ℕ) (row : List ℕ) → is_run name ≡ true

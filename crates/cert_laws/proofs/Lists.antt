@@ -15,25 +15,27 @@ use Rattle.deb_relation.specs.Relations.{Entry}
 use Rattle.farm_model.specs.declared.types.Variant.{Variant}
 use Rattle.farm_model.specs.Packages.{package_of}
 use Rattle.farm_model.specs.Universe.{Universe}
-use Rattle.cert_text.specs.Printed.{name_of, variant_text, more_text, list_text}
+use Rattle.plan_asm.specs.Listing.{name_of_number}
+use Rattle.cert_text.specs.Printed.{variant_text, more_text, list_text}
 use Rattle.cert_laws.proofs.Items.{item_text, item_atom, item-none, item-solid, item-again}
 
 -- a variant whose name and version are spelled as they have to be
 pub record IsSpelledVariant (u : Universe) (v : Variant) : Type 0 where
-  pub name : is_name (name_of u v.name) ≡ true
+  pub name : is_name (name_of_number u v.name) ≡ true
   pub version : is_ok (version_at (package_of u v).version) ≡ true
 
 module _ (u : Universe) where
   -- the item of a variant, and what is read of it
   abbrev part : Variant → List ℕ
-  part v = 32 ∷ item_text (name_of u v.name) (package_of u v).version
+  part v = 32 ∷ item_text (name_of_number u v.name) (package_of u v).version
 
   abbrev pub entry_of : Variant → Entry
-  entry_of v = item_atom (name_of u v.name) (package_of u v).version ∷ []
+  entry_of v = item_atom (name_of_number u v.name) (package_of u v).version ∷ []
 
   part-plain : (v : Variant) → IsSpelledVariant u v → list_any (is_byte comma) (part v) ≡ false
   part-plain v is =
-      item-none (name_of u v.name) (package_of u v).version is.name is.version comma refl refl refl
+      item-none (name_of_number u v.name) (package_of u v).version is.name is.version comma
+      refl refl refl
       refl
 
   parts-plain : (vs : List Variant) → All (IsSpelledVariant u) vs
@@ -51,7 +53,7 @@ module _ (u : Universe) where
   parts-kept (v ∷ vs) are =
       let is = All-head (IsSpelledVariant u) v vs are in
       rw (
-        item-solid (name_of u v.name) (package_of u v).version is.name is.version,
+        item-solid (name_of_number u v.name) (package_of u v).version is.name is.version,
         parts-kept vs (All-tail (IsSpelledVariant u) v vs are),
       ) refl
 
@@ -62,7 +64,7 @@ module _ (u : Universe) where
   parts-read (v ∷ vs) are =
       let is = All-head (IsSpelledVariant u) v vs are in
       rw (
-        item-again (name_of u v.name) (package_of u v).version is.name is.version,
+        item-again (name_of_number u v.name) (package_of u v).version is.name is.version,
         parts-read vs (All-tail (IsSpelledVariant u) v vs are),
       ) refl
 

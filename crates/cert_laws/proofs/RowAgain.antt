@@ -8,9 +8,9 @@ use Rattle.deb_text.specs.Words.{is_name}
 use Rattle.farm_model.specs.declared.types.Variant.{Variant}
 use Rattle.farm_model.specs.Packages.{names}
 use Rattle.farm_model.specs.Universe.{Universe}
-use Rattle.farm_universe.specs.ListText.{words_of}
+use Rattle.farm_universe.specs.ListText.{variant_words}
 use Rattle.cert_text.proofs.RowLists.{row_variants-in}
-use Rattle.cert_text.specs.Rows.{IsIn, row_of_items, row_at, row_variants}
+use Rattle.cert_text.specs.Rows.{IsOfUniverse, row_of_items, row_at, row_variants}
 use Rattle.cert_laws.specs.Laws.{IsSpelled, RowIsReadAgain}
 use Rattle.cert_laws.proofs.Lists.{IsSpelledVariant, list-again}
 use Rattle.cert_laws.proofs.RowVariants.{row-ordered, behind-again}
@@ -23,7 +23,8 @@ name-at (k ∷ ks) zero are lt = (and_parts (is_name k) (list_all is_name ks) ar
 name-at (k ∷ ks) (suc n) are lt =
     name-at ks n (and_parts (is_name k) (list_all is_name ks) are).1 (omega (arith, lt))
 
-pub variant-spelled : (u : Universe) → IsSpelled u → (v : Variant) → IsIn u v → IsSpelledVariant u v
+pub variant-spelled : (u : Universe) → IsSpelled u → (v : Variant) → IsOfUniverse u v
+    → IsSpelledVariant u v
 unfolding names
 variant-spelled u spelled v is = record {
   name = name-at u.names v.name spelled.names (omega (arith, is.name, spelled.listed));
@@ -35,7 +36,9 @@ unfolding row_at
 row_is_read_again u row spelled new =
     let vs = row_variants u row in
     ap (row_of_items u)
-    (list-again u vs (All-weaker (IsIn u) (IsSpelledVariant u) (variant-spelled u spelled) vs
+    (list-again u vs (All-weaker (IsOfUniverse u) (IsSpelledVariant u) (variant-spelled u spelled)
+    vs
     (row_variants-in u row)))
-    ∙ ap (option_map (words_of (names u))) (behind-again u spelled vs None (row-ordered u row new))
+    ∙ ap (option_map (variant_words (names u)))
+    (behind-again u spelled vs None (row-ordered u row new))
     ∙ ap Some (row-words u row new)

@@ -7,7 +7,7 @@ use Rattle.farm_model.specs.declared.types.Variant.{Variant}
 use Rattle.farm_model.specs.Packages.{names, variant, variants}
 use Rattle.farm_model.specs.Universe.{Universe}
 use Rattle.cert_text.specs.Certificates.{IsNewRow}
-use Rattle.cert_text.specs.Rows.{IsIn, in_row, named_in_row, is_behind, comes_behind, row_variants, variants_behind}
+use Rattle.cert_text.specs.Rows.{IsOfUniverse, those_in_row, named_in_row, is_behind, comes_behind, row_variants, variants_behind}
 use Rattle.cert_laws.specs.Laws.{IsSpelled}
 use Rattle.cert_laws.proofs.Lists.{entry_of}
 use Rattle.cert_laws.proofs.Variants.{item-variant}
@@ -15,7 +15,8 @@ use Rattle.cert_laws.proofs.Variants.{item-variant}
 -- each may come behind the one before it
 abbrev pub AreOrdered : Universe → Option Variant → List Variant → Type 0
 AreOrdered u last [] = Unit {0}
-AreOrdered u last (v ∷ vs) = (comes_behind u last v ≡ true) × IsIn u v × AreOrdered u (Some v) vs
+AreOrdered u last (v ∷ vs) = (comes_behind u last v ≡ true) × IsOfUniverse u v
+    × AreOrdered u (Some v) vs
 
 -- the last one stands ahead of a name's bits from this one on; of names from this one on
 abbrev IsAheadOf : Option Variant → ℕ → ℕ → Type 0
@@ -38,7 +39,7 @@ module _ (u : Universe) (row : List ℕ) (new : IsNewRow u row) where
       (next : (last : Option Variant) → IsAheadOfNames last (n + 1) → AreOrdered u last rest) where
     bits-ordered : (m b : ℕ) (last : Option Variant) → b + m ≤ variants u n → IsAheadOf last n b
         → IsAheadOfNames last (n + 1)
-        → AreOrdered u last (in_row row (map (variant n) (range_with_len b m)) ++ rest)
+        → AreOrdered u last (those_in_row row (map (variant n) (range_with_len b m)) ++ rest)
     bits-ordered zero b last few ahead names = next last names
     bits-ordered (suc m) b last few ahead names =
         by (variants_of row n b) refl
@@ -48,10 +49,12 @@ module _ (u : Universe) (row : List ℕ) (new : IsNewRow u row) where
         (ahead-names n b))
       where
         by : (t : Bool) → variants_of row n b ≡ t
-            → AreOrdered u last (in_row row (map (variant n) (range_with_len (b + 1) m)) ++ rest)
+            → AreOrdered u last (those_in_row row (map (variant n) (range_with_len (b + 1) m))
+            ++ rest)
             → AreOrdered u (Some (variant n b))
-            (in_row row (map (variant n) (range_with_len (b + 1) m)) ++ rest)
-            → AreOrdered u last (in_row row (map (variant n) (range_with_len b (suc m))) ++ rest)
+            (those_in_row row (map (variant n) (range_with_len (b + 1) m)) ++ rest)
+            → AreOrdered u last (those_in_row row (map (variant n) (range_with_len b (suc m)))
+            ++ rest)
         by true is without behind =
             rw is (
               rw (ahead b (omega arith), new.new n b is) refl,

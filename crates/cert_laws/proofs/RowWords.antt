@@ -12,9 +12,9 @@ use Rattle.farm_model.specs.declared.types.Variant.{Variant}
 use Rattle.farm_model.specs.Packages.{names, variant, variants, same, contains}
 use Rattle.farm_model.specs.Universe.{Universe}
 use Rattle.farm_model.proofs.VariantLaws.{same-refl, same-true}
-use Rattle.farm_universe.specs.ListText.{words_of}
+use Rattle.farm_universe.specs.ListText.{variant_words}
 use Rattle.cert_text.specs.Certificates.{IsNewRow}
-use Rattle.cert_text.specs.Rows.{in_row, named_variants, named_in_row, row_variants}
+use Rattle.cert_text.specs.Rows.{those_in_row, named_variants, named_in_row, row_variants}
 use Rattle.cert_text.proofs.RowsSoFar.{so_far-words}
 
 -- the bit of a variant in a row
@@ -23,7 +23,7 @@ bit_of row v = variants_of row v.name v.bit
 
 -- of the variants of a row, one is there where it is among them and its bit is set
 contains-in_row : (row : List ℕ) (x : Variant) (vs : List Variant)
-    → contains (in_row row vs) x ≡ (bit_of row x && contains vs x)
+    → contains (those_in_row row vs) x ≡ (bit_of row x && contains vs x)
 contains-in_row row x [] = by (bit_of row x) where
   by : (b : Bool) → false ≡ (b && false)
   by true = refl
@@ -32,8 +32,8 @@ contains-in_row row x (v ∷ vs) =
     by (same v x) (bit_of row v) (bit_of row x) refl refl refl (contains-in_row row x vs)
   where
     by : (s q r : Bool) → same v x ≡ s → bit_of row v ≡ q → bit_of row x ≡ r
-        → contains (in_row row vs) x ≡ (bit_of row x && contains vs x)
-        → contains (in_row row (v ∷ vs)) x ≡ (bit_of row x && contains (v ∷ vs) x)
+        → contains (those_in_row row vs) x ≡ (bit_of row x && contains vs x)
+        → contains (those_in_row row (v ∷ vs)) x ≡ (bit_of row x && contains (v ∷ vs) x)
     by true true true es eq er later = rw (eq, es, er) refl
     by true true false es eq er later =
         absurd (true≢false (sym eq ∙ ap (bit_of row) (same-true v x es) ∙ er))
@@ -47,7 +47,7 @@ contains-in_row row x (v ∷ vs) =
 
 module _ (u : Universe) (row : List ℕ) where
   row-filtered : (ks : List ℕ)
-      → flat_map (named_in_row u row) ks ≡ in_row row (flat_map (named_variants u) ks)
+      → flat_map (named_in_row u row) ks ≡ those_in_row row (flat_map (named_variants u) ks)
   row-filtered [] = refl
   row-filtered (k ∷ ks) =
       ap (λ (vs : List Variant). named_in_row u row k ++ vs) (row-filtered ks)
@@ -125,7 +125,7 @@ module _ (u : Universe) (row : List ℕ) (new : IsNewRow u row) where
           (omega (arith, name-there n b e)))
       by false e = rw e refl
 
-  pub row-words : words_of (names u) (row_variants u row) ≡ row
+  pub row-words : variant_words (names u) (row_variants u row) ≡ row
   row-words =
       sym (so_far-words (names u) row (row_variants u row)
       (record { long = new.long; bits = row-bits }))

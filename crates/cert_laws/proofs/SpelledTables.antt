@@ -19,7 +19,7 @@ use Rattle.deb_version.specs.Grammar.{version_at}
 use Rattle.deb_version.specs.Order.{Parts}
 use Rattle.farm_model.specs.Universe.{Package}
 use Rattle.farm_universe.specs.declared.limits.TheConstants.{MOST_SIZE}
-use Rattle.farm_universe.specs.Fields.{needed_at, name_at, version_text_at, up_to, size_at, flag_at}
+use Rattle.farm_universe.specs.Fields.{needed_at, package_name_at, version_text_at, up_to, size_at, flag_at}
 use Rattle.farm_universe.specs.Keyed.{keys_with, groups_with}
 use Rattle.farm_universe.specs.PackagesText.{Listed, PackageTable, is_below, table_of, packages_of}
 use Rattle.farm_universe.specs.TableSteps.{first_package_at, first_package_relations_at, put_at, code_at, add, add_paragraph, tell_paragraph}
@@ -55,7 +55,7 @@ list-any P xss n none are =
 
 -- ---- a paragraph
 
-name-has : (text : List ℕ) → IfOk (name_at text) (λ name. is_name name ≡ true)
+name-has : (text : List ℕ) → IfOk (package_name_at text) (λ name. is_name name ≡ true)
 name-has text = if-has (λ name. is_name name ≡ true) (is_name text) _ _ (λ is. is) (λ _. tt)
 
 version-has : (text : List ℕ) → IfOk (version_text_at text) IsVersion
@@ -81,7 +81,7 @@ package-has p =
     λ name. always (needed_at p name) in
     then-has (λ _. Unit {0}) IsSpelledListed (needed_at p (codes "Package")) _
     (field (codes "Package"))
-    (λ given _. then-has (λ name. is_name name ≡ true) IsSpelledListed (name_at given) _
+    (λ given _. then-has (λ name. is_name name ≡ true) IsSpelledListed (package_name_at given) _
     (name-has given)
     (λ name named. then-has (λ _. Unit {0}) IsSpelledListed (needed_at p (codes "Version")) _
     (field (codes "Version"))

@@ -1,11 +1,10 @@
 -- A vector of bytes beside another, and whether some lane differs.
-use Rattle.std.proofs.Common.{◌≡◌, ℕ, zero, suc, ◌+◌, ◌*◌, ◌%◌, ◌^◌, ◌-◌, ◌<◌, ◌≤◌, ◌==◌, eqb, Bool, true, false, not, cond, ◌||◌, List, [], ◌∷◌, map, length, refl, sym, ap, ◌∙◌, arith}
+use Rattle.std.proofs.Common.{◌≡◌, ℕ, ◌%◌, ◌^◌, ◌-◌, ◌≤◌, ◌==◌, eqb, Bool, true, false, not, cond, List, [], ◌∷◌, map, length, refl, arith}
 use Rattle.std.specs.Prelude.{◌↔◌, IsTrue}
 use Rattle.std.specs.Simd.Lanes.{zip2}
 use Rattle.std.proofs.lemmas.Simd.{mask_l-mod}
-use Rattle.std.proofs.lemmas.Bool.{ne_eqb}
 use lib.Lanes.{mask_l, top}
-use Rattle.clause_kernel.specs.Kernels.{some_pair}
+use Rattle.clause_kernel.proofs.Lanes.{any-mask, length-tests}
 use Rattle.clause_kernel.proofs.Meanings.{same-equal}
 use Rattle.clause_kernel.proofs.Pairs.{not-some_pair}
 
@@ -20,30 +19,6 @@ tests f each [] ys = refl
 tests f each (x ∷ xs) [] = refl
 tests f each (x ∷ xs) (y ∷ ys) =
     rw (each x y, top-mask (not (x == y)), tests f each xs ys) refl
-
-any-mask : (t : ℕ → ℕ → Bool) (xs ys : List ℕ)
-    → not (eqb (mask_l (zip2 t xs ys)) 0) ≡ some_pair t xs ys
-any-mask t [] ys = refl
-any-mask t (x ∷ xs) [] = refl
-any-mask t (x ∷ xs) (y ∷ ys) =
-    one (t x y) (mask_l (zip2 t xs ys)) (some_pair t xs ys) (any-mask t xs ys)
-  where
-    nonzero : (n : ℕ) → 0 < n → not (eqb n 0) ≡ true
-    nonzero n some = ap not (ne_eqb n 0 (λ e. omega arith))
-
-    twice : (m : ℕ) → not (eqb (0 + 2 * m) 0) ≡ not (eqb m 0)
-    twice zero = refl
-    twice (suc m) = nonzero (0 + 2 * suc m) (omega arith) ∙ sym (nonzero (suc m) (omega arith))
-
-    one : (b : Bool) (m : ℕ) (c : Bool) → not (eqb m 0) ≡ c
-        → not (eqb (cond b 1 zero + 2 * m) 0) ≡ (b || c)
-    one true m c e = nonzero (1 + 2 * m) (omega arith)
-    one false m c e = twice m ∙ e
-
-length-tests : (t : ℕ → ℕ → Bool) (xs ys : List ℕ) → length (zip2 t xs ys) ≤ length xs
-length-tests t [] ys = omega arith
-length-tests t (x ∷ xs) [] = omega arith
-length-tests t (x ∷ xs) (y ∷ ys) = omega (arith, length-tests t xs ys)
 
 -- no lane of at most 64 differs where the bytes are the same
 pub same-lanes : (f : ℕ → ℕ → ℕ) → ((x y : ℕ) → f x y ≡ cond (not (x == y)) (2 ^ 8 - 1) 0)

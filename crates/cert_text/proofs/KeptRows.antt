@@ -29,12 +29,12 @@ use Rattle.farm_model.specs.Universe.{Universe}
 use Rattle.farm_universe.proofs.ArchiveLaws.{length-words_of}
 use Rattle.farm_model.proofs.VariantLaws.{contained}
 use Rattle.farm_universe.proofs.ListLaws.{has_bit-words_of, has_bit-past}
-use Rattle.farm_universe.specs.ListText.{has_version, pinned, words_of}
+use Rattle.farm_universe.specs.ListText.{has_version, pinned, variant_words}
 use Rattle.plan_asm.proofs.Places.{place-within}
 use Rattle.plan_model.specs.Plan.{Lane, Plan, lane}
 use Rattle.cert_text.specs.declared.fault.CertFault.{CertFault}
 use Rattle.cert_text.specs.CertLines.{first_word, behind_word, is_colon, is_number_of, numbered_row, known_row, lane_names, order_words, order_lane}
-use Rattle.cert_text.specs.CertText.{told_at, first_row, rows_in, lanes_in, order_at, rest_in, certificate_in, in_text, certificate_of}
+use Rattle.cert_text.specs.CertText.{told_on_line, first_row, rows_in, lanes_in, order_at, rest_in, certificate_in, in_text, certificate_of}
 use Rattle.cert_text.specs.Certificates.{Certificate, IsNewRow, IsCertificate, row_places, count_rows}
 use Rattle.cert_text.specs.Faults.{refusal_of}
 use Rattle.cert_text.specs.Rows.{variant_of, find_variant, item_variant, comes_behind, is_behind, variants_behind, row_of_items, row_at}
@@ -109,7 +109,7 @@ module _ (u : Universe) where
   -- ---- the row of a list
 
   bit-new : (vs : List Variant) → All (IsNew u) vs → (n b : ℕ)
-      → variants_of (words_of (names u) vs) n b ≡ true → IsNew u (variant n b)
+      → variants_of (variant_words (names u) vs) n b ≡ true → IsNew u (variant n b)
   unfolding has_bit
   bit-new vs new n b is = by (nat_lt n (names u)) refl where
     by : (t : Bool) → nat_lt n (names u) ≡ t → IsNew u (variant n b)
@@ -117,11 +117,11 @@ module _ (u : Universe) where
         contained (IsNew u) vs (variant n b) new
         (sym (has_bit-words_of (names u) vs (variant n b) (ltb-true n (names u) e)) ∙ is)
     by false e =
-        let past : length (words_of (names u) vs) ≤ n =
+        let past : length (variant_words (names u) vs) ≤ n =
         omega (arith, length-words_of (names u) vs, ltb-false n (names u) e) in
-        absurd (true≢false (sym is ∙ has_bit-past (words_of (names u) vs) (variant n b) past))
+        absurd (true≢false (sym is ∙ has_bit-past (variant_words (names u) vs) (variant n b) past))
 
-  words-new : (vs : List Variant) → All (IsNew u) vs → IsNewRow u (words_of (names u) vs)
+  words-new : (vs : List Variant) → All (IsNew u) vs → IsNewRow u (variant_words (names u) vs)
   words-new vs new = record {
     long = length-words_of (names u) vs;
     known = λ n b is. (bit-new vs new n b is).known;
@@ -133,7 +133,8 @@ module _ (u : Universe) where
   row-new text = by (relations_at Provide text) where
     by : (r : Result Relations ℕ) → IfSome (row_of_items u r) (IsNewRow u)
     by (Ok items) =
-        map-some (All (IsNew u)) (IsNewRow u) (words_of (names u)) (variants_behind u None items)
+        map-some (All (IsNew u)) (IsNewRow u) (variant_words (names u))
+        (variants_behind u None items)
         (variants-new items None) words-new
     by (Err code) = tt
 
@@ -156,7 +157,7 @@ module _ (u : Universe) where
   -- ---- the rows of lanes
 
   told-has : {X : Type 0} (P : X → Type 0) (number : ℕ) (o : Option X) → IfSome o P
-      → IfOk (told_at number o) P
+      → IfOk (told_on_line number o) P
   told-has P number None has = tt
   told-has P number (Some x) has = has
 

@@ -10,35 +10,36 @@ use Rattle.clause_kernel.proofs.Words.{word_has_zero}
 use Rattle.farm_model.specs.declared.types.Variant.{Variant}
 use Rattle.farm_model.specs.Packages.{names, variant, variants}
 use Rattle.farm_model.specs.Universe.{Universe}
-use Rattle.cert_text.specs.Rows.{IsIn, in_row, named_variants, named_in_row, row_variants}
+use Rattle.cert_text.specs.Rows.{IsOfUniverse, those_in_row, named_variants, named_in_row, row_variants}
 
 -- the variants of a name below this bit
 abbrev pub named_below : ℕ → ℕ → List Variant
 named_below n b = map (variant n) (range_with_len 0 b)
 
 module _ (row : List ℕ) (n b : ℕ) where
-  more : in_row row (named_below n (b + 1))
-      ≡ in_row row (named_below n b) ++ cond (variants_of row n b) (variant n b ∷ []) []
+  more : those_in_row row (named_below n (b + 1))
+      ≡ those_in_row row (named_below n b) ++ cond (variants_of row n b) (variant n b ∷ []) []
   more =
       filter_of_map_range_with_len_more (λ v. variants_of row v.name v.bit) (variant n) 0 b b
       (omega arith)
 
   pub in_row-has : variants_of row n b ≡ true
-      → in_row row (named_below n (b + 1)) ≡ in_row row (named_below n b) ++ variant n b ∷ []
+      → those_in_row row (named_below n (b + 1))
+      ≡ those_in_row row (named_below n b) ++ variant n b ∷ []
   in_row-has is = more ∙ rw is refl
 
   pub in_row-lacks : variants_of row n b ≡ false
-      → in_row row (named_below n (b + 1)) ≡ in_row row (named_below n b)
-  in_row-lacks is = more ∙ rw is (append-nil (in_row row (named_below n b)))
+      → those_in_row row (named_below n (b + 1)) ≡ those_in_row row (named_below n b)
+  in_row-lacks is = more ∙ rw is (append-nil (those_in_row row (named_below n b)))
 
 -- a name whose word is 0 has no variants
 none-in : (row ks : List ℕ) (n : ℕ) → ((b : ℕ) → variants_of row n b ≡ false)
-    → in_row row (map (variant n) ks) ≡ []
+    → those_in_row row (map (variant n) ks) ≡ []
 none-in row [] n none = refl
 none-in row (k ∷ ks) n none = rw (none k) (none-in row ks n none)
 
 pub in_row-none : (row : List ℕ) (n count : ℕ) → IsWordOf (variants_of row) n 0
-    → in_row row (named_below n count) ≡ []
+    → those_in_row row (named_below n count) ≡ []
 in_row-none row n count is =
     none-in row (range_with_len 0 count) n (λ b. is b ∙ word_has_zero b)
 
@@ -71,14 +72,14 @@ All-flat_map P f (x ∷ xs) all =
     (All-flat_map P f xs (All-tail (λ x. All P (f x)) x xs all))
 
 module _ (u : Universe) (row : List ℕ) where
-  named-in : (n : ℕ) → n < names u → All (IsIn u) (named_in_row u row n)
+  named-in : (n : ℕ) → n < names u → All (IsOfUniverse u) (named_in_row u row n)
   named-in n lt =
-      All-filter (λ v. variants_of row v.name v.bit) (IsIn u) (named_variants u n)
-      (All-map (IsIn u) (variant n) (range_with_len 0 (variants u n))
-      (All-range (λ b. IsIn u (variant n b)) (variants u n)
+      All-filter (λ v. variants_of row v.name v.bit) (IsOfUniverse u) (named_variants u n)
+      (All-map (IsOfUniverse u) (variant n) (range_with_len 0 (variants u n))
+      (All-range (λ b. IsOfUniverse u (variant n b)) (variants u n)
       (λ b few. record { name = lt; known = few })))
 
-  pub row_variants-in : All (IsIn u) (row_variants u row)
+  pub row_variants-in : All (IsOfUniverse u) (row_variants u row)
   row_variants-in =
-      All-flat_map (IsIn u) (named_in_row u row) (range_with_len 0 (names u))
-      (All-range (λ n. All (IsIn u) (named_in_row u row n)) (names u) named-in)
+      All-flat_map (IsOfUniverse u) (named_in_row u row) (range_with_len 0 (names u))
+      (All-range (λ n. All (IsOfUniverse u) (named_in_row u row n)) (names u) named-in)

@@ -19,8 +19,8 @@ use Rattle.farm_model.specs.Universe.{Universe}
 use Rattle.farm_model.proofs.TestLaws.{eqb-turned}
 use Rattle.farm_universe.proofs.ArchiveLaws.{length-words_of}
 use Rattle.farm_universe.proofs.ListLaws.{has_bit-words_of}
-use Rattle.farm_universe.specs.ListText.{words_of}
-use Rattle.cert_text.specs.Items.{said_by, said}
+use Rattle.farm_universe.specs.ListText.{variant_words}
+use Rattle.cert_text.specs.Items.{said_by, said_variant}
 use Rattle.cert_text.specs.Rows.{item_variant, ahead_of, comes_behind, variants_behind, row_of_items, row_at}
 
 -- a row of so many names that has these variants
@@ -54,19 +54,20 @@ past-none row name bit past =
 
 -- it is the row of their words
 pub so_far-words : (n : ℕ) (row : List ℕ) (vs : List Variant) → IsSoFar n row vs
-    → row ≡ words_of n vs
+    → row ≡ variant_words n vs
 unfolding has_bit
 so_far-words n row vs is =
-    same_from_bits row (words_of n vs) (is.long ∙ sym (length-words_of n vs))
+    same_from_bits row (variant_words n vs) (is.long ∙ sym (length-words_of n vs))
     (λ name bit. by name bit (nat_lt name n) refl) where
       by : (name bit : ℕ) (b : Bool) → nat_lt name n ≡ b
-          → variants_of row name bit ≡ variants_of (words_of n vs) name bit
+          → variants_of row name bit ≡ variants_of (variant_words n vs) name bit
       by name bit true e =
           is.bits name bit ∙ sym (has_bit-words_of n vs (variant name bit) (ltb-true name n e))
       by name bit false e =
           let past : n ≤ name = ltb-false name n e in
           past-none row name bit (omega (arith, past, is.long))
-          ∙ sym (past-none (words_of n vs) name bit (omega (arith, past, length-words_of n vs)))
+          ∙ sym (past-none (variant_words n vs) name bit
+          (omega (arith, past, length-words_of n vs)))
 
 -- ---- the items of a list
 
@@ -87,7 +88,7 @@ module _ (u : Universe) where
   variants_said last (text ∷ texts) =
       option_and_then
       (λ v. ahead_of (comes_behind u last v) v (variants_said (Some v) texts))
-      (said u text)
+      (said_variant u text)
 
   -- what is left, behind the variants so far
   abbrev pub left_of : List Variant → Option Variant → List (List ℕ) → Option (List Variant)
@@ -100,10 +101,10 @@ module _ (u : Universe) where
       (total : Option (List Variant)) (cut : all ≡ text ∷ texts)
       (so_far : left_of vs last all ≡ total) where
     -- an item that names no variant
-    pub left-none : said u text ≡ None → total ≡ None
+    pub left-none : said_variant u text ≡ None → total ≡ None
     left-none is = sym so_far ∙ rw (cut, is) refl
 
-    module _ (v : Variant) (is : said u text ≡ Some v) where
+    module _ (v : Variant) (is : said_variant u text ≡ Some v) where
       -- one whose variant may not stand there
       pub left-stops : comes_behind u last v ≡ false → total ≡ None
       left-stops not = sym so_far ∙ rw (cut, is, not) refl
@@ -135,7 +136,7 @@ module _ (u : Universe) where
 
   pub read-said : (last : Option Variant) (texts : List (List ℕ))
       → behind_read last (traverse (entry_at Provide) texts) ≡ variants_said last texts
-  unfolding traverse said
+  unfolding traverse said_variant
   read-said last [] = refl
   read-said last (text ∷ texts) =
       by (entry_at Provide text) (traverse (entry_at Provide) texts)
@@ -162,12 +163,12 @@ module _ (u : Universe) where
               ∙ ap (ahead_of (comes_behind u last v) v) (later v)
 
   pub row-said : (text : List ℕ) → row_at u text
-      ≡ option_map (words_of (names u)) (variants_said None (entries_left (Some text)))
+      ≡ option_map (variant_words (names u)) (variants_said None (entries_left (Some text)))
   unfolding row_at relations_at
   row-said text =
       by (traverse (entry_at Provide) (entries_left (Some text)))
-      ∙ ap (option_map (words_of (names u))) (read-said None (entries_left (Some text))) where
+      ∙ ap (option_map (variant_words (names u))) (read-said None (entries_left (Some text))) where
         by : (r : Result Relations ℕ)
-            → row_of_items u r ≡ option_map (words_of (names u)) (behind_read None r)
+            → row_of_items u r ≡ option_map (variant_words (names u)) (behind_read None r)
         by (Ok items) = refl
         by (Err code) = refl

@@ -21,13 +21,13 @@ use Rattle.cert_text.specs.CertLines.{known_row, order_lane}
 use Rattle.cert_text.specs.Certificates.{Certificate, row_places, count_rows}
 
 -- what a line says, or that it may not stand there
-abbrev pub told_at : {X : Type 0} → ℕ → Option X → Result X CertFault
-told_at number says = ok_or says (Text number)
+abbrev pub told_on_line : {X : Type 0} → ℕ → Option X → Result X CertFault
+told_on_line number says = ok_or says (Text number)
 
 -- the row that the first line says
 abbrev pub first_row : Universe → ℕ → List ℕ → ℕ → List Line → Result (List ℕ) CertFault
 first_row u end name place [] = Err (Text end)
-first_row u end name place ((number, line) ∷ ls) = told_at number (known_row u name place line)
+first_row u end name place ((number, line) ∷ ls) = told_on_line number (known_row u name place line)
 
 -- the rows of a lane, by the first lines
 abbrev pub rows_in : Universe → ℕ → List ℕ → List ℕ → List Line
@@ -44,7 +44,7 @@ lanes_in u end (of ∷ p) ls =
 
 -- the lane of a line of the order
 abbrev pub order_at : Plan → Line → Result ℕ CertFault
-order_at p (number, line) = told_at number (order_lane p line)
+order_at p (number, line) = told_on_line number (order_lane p line)
 
 -- behind the first line: the rows, and then the order
 unfoldable pub rest_in : Universe → Plan → ℕ → List Line → Result Certificate CertFault

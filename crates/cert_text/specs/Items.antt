@@ -1,7 +1,7 @@
 -- Items of lists by their texts, as the reader keeps them. Only the contracts of private functions
 -- cite this file. Parameters: u the universe.
 --
---   said u text      the variant that an item says, if it says one
+--   said_variant u text  the variant that an item says, if it says one
 --   AreSaid u es     each text says the variant that is noted beside it
 --   EachIsSaid u xs  each of these texts says its variant
 use Rattle.std.specs.Prelude.{◌≡◌, ℕ, List, All, Option, Some, None, Result, Ok, Err}
@@ -13,20 +13,20 @@ use Rattle.deb_relation.specs.Field.{entry_at}
 use Rattle.deb_relation.specs.Relations.{Entry}
 use Rattle.farm_model.specs.declared.types.Variant.{Variant}
 use Rattle.farm_model.specs.Universe.{Universe}
-use Rattle.cert_text.specs.Rows.{IsIn, item_variant}
+use Rattle.cert_text.specs.Rows.{IsOfUniverse, item_variant}
 
 abbrev pub said_by : Universe → Result Entry ℕ → Option Variant
 said_by u (Ok item) = item_variant u item
 said_by u (Err code) = None
 
 -- the variant of an item of a list, which is written as a Provides field is
-unfoldable pub said : Universe → List ℕ → Option Variant
-said u text = said_by u (entry_at Provide text)
+unfoldable pub said_variant : Universe → List ℕ → Option Variant
+said_variant u text = said_by u (entry_at Provide text)
 
 -- the text says this variant, one of the universe
 pub record IsSaid (u : Universe) (text : List ℕ) (v : Variant) : Type 0 where
-  pub is : said u text ≡ Some v
-  pub known : IsIn u v
+  pub is : said_variant u text ≡ Some v
+  pub known : IsOfUniverse u v
 
 abbrev pub AreSaid : Universe → List (Vec ℕ × Variant) → Type 0
 AreSaid u es =

@@ -5,23 +5,21 @@
 --
 --   list_text u vs                variants as the end of a line
 --   certificate_text u p c        the text of a certificate
-use Rattle.std.specs.Prelude.{ℕ, List, [], ◌∷◌, ◌++◌, codes, slice_index_or}
+use Rattle.std.specs.Prelude.{ℕ, List, [], ◌∷◌, ◌++◌, codes}
 use Rattle.std.specs.List.{flat_map, zip}
 use Rattle.std.specs.Fmt.{decimal}
 use Rattle.farm_model.specs.declared.types.Variant.{Variant}
 use Rattle.farm_model.specs.Universe.{Universe}
 use Rattle.farm_model.specs.Packages.{package_of}
 use Rattle.plan_model.specs.Plan.{Plan, Lane, lane}
+use Rattle.plan_asm.specs.Listing.{name_of_number}
 use Rattle.cert_text.specs.Certificates.{Certificate, row_places}
 use Rattle.cert_text.specs.Rows.{row_variants}
 
--- the name of this number
-abbrev pub name_of : Universe → ℕ → List ℕ
-name_of u n = slice_index_or u.names n []
-
 -- `NAME (= VERSION)`
 unfoldable pub variant_text : Universe → Variant → List ℕ
-variant_text u v = name_of u v.name ++ codes " (= " ++ (package_of u v).version ++ codes ")"
+variant_text u v =
+    name_of_number u v.name ++ codes " (= " ++ (package_of u v).version ++ codes ")"
 
 -- a comma and a space ahead of each
 abbrev pub more_text : Universe → List Variant → List ℕ

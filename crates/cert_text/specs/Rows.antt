@@ -1,7 +1,7 @@
 -- Rows as lists of variants: by name number and then by bit. The project's own words. Parameters:
 -- u the universe.
 --
---   IsIn                    a variant of the universe
+--   IsOfUniverse            a variant of the universe
 --   row_variants u row      the variants of a row, in order
 --   variants_at u text      the variants that a list says, in order and none of the initial archive
 --   row_at u text           the row of such a list
@@ -18,10 +18,10 @@ use Rattle.farm_model.specs.declared.types.Variant.{Variant}
 use Rattle.farm_model.specs.Universe.{Universe}
 use Rattle.farm_model.specs.Packages.{names, variant, variants, initial}
 use Rattle.farm_model.specs.Sound.{IsKnown}
-use Rattle.farm_universe.specs.ListText.{has_version, pinned, words_of}
+use Rattle.farm_universe.specs.ListText.{has_version, pinned, variant_words}
 
 -- a variant of one of the universe's names
-pub record IsIn (u : Universe) (v : Variant) : Type 0 where
+pub record IsOfUniverse (u : Universe) (v : Variant) : Type 0 where
   pub name : v.name < names u
   pub known : IsKnown u v
 
@@ -32,12 +32,12 @@ abbrev pub named_variants : Universe → ℕ → List Variant
 named_variants u n = map (variant n) (range_with_len 0 (variants u n))
 
 -- the variants of a list whose bit is set
-abbrev pub in_row : List ℕ → List Variant → List Variant
-in_row row vs = filter (λ v. variants_of row v.name v.bit) vs
+abbrev pub those_in_row : List ℕ → List Variant → List Variant
+those_in_row row vs = filter (λ v. variants_of row v.name v.bit) vs
 
 -- those of a name whose bit is set
 abbrev pub named_in_row : Universe → List ℕ → ℕ → List Variant
-named_in_row u row n = in_row row (named_variants u n)
+named_in_row u row n = those_in_row row (named_variants u n)
 
 -- by name number, and then by bit
 abbrev pub row_variants : Universe → List ℕ → List Variant
@@ -80,7 +80,7 @@ variants_behind u last (item ∷ items) =
     (item_variant u item)
 
 abbrev pub row_of_items : Universe → Result Relations ℕ → Option (List ℕ)
-row_of_items u (Ok items) = option_map (words_of (names u)) (variants_behind u None items)
+row_of_items u (Ok items) = option_map (variant_words (names u)) (variants_behind u None items)
 row_of_items u (Err code) = None
 
 -- the row of a list of variants, written as a Provides field is (Debian Policy 7.5)

@@ -1,7 +1,7 @@
 //! Why a certificate is refused.
 
 ghost use Rattle.std.specs.Prelude.{◌≡◌};
-ghost use Rattle.cert_text.specs.Faults.{code_of};
+ghost use Rattle.cert_text.specs.Faults.{cert_code_of};
 
 use deb_text::MEMORY;
 use farm_model::Trap;
@@ -63,7 +63,7 @@ pub enum CertFault {
 impl CertFault {
     /// The number of the fault among those that the program prints.
     pub const fn code(self) -> u16
-        ensures { result ≡ code_of self }
+        ensures { result ≡ cert_code_of self }
     {
         match self {
             CertFault::Text { .. } => BAD_TEXT,

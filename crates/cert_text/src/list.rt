@@ -3,10 +3,10 @@
 ghost use Rattle.std.specs.Prelude.{◌≡◌, ◌<◌, None, All, length, IfOk, IfSome, OnOk};
 ghost use Rattle.std.specs.Option.{option_map};
 ghost use Rattle.cert_text.specs.Items.{EachIsSaid};
-ghost use Rattle.cert_text.specs.Rows.{IsIn, find_variant, item_variant, is_behind, variants_behind, row_at};
+ghost use Rattle.cert_text.specs.Rows.{IsOfUniverse, find_variant, item_variant, is_behind, variants_behind, row_at};
 ghost use Rattle.farm_model.specs.Packages.{names, initial};
 ghost use Rattle.farm_universe.specs.Kept.{IsKept};
-ghost use Rattle.farm_universe.specs.ListText.{words_of};
+ghost use Rattle.farm_universe.specs.ListText.{variant_words};
 
 use crate::repeats::{Repeats, variant_repeated};
 use crate::spelled::Spelled;
@@ -21,7 +21,7 @@ use std::alloc::{AllocError, Global};
 #[tactic(auto, unfolding(crate::specs::Rows::find_variant))]
 fn find_variant(universe: &Universe, name: &[u8], version: &Version) -> Option<Variant>
     ensures found { result ≡ find_variant universe.now name.now version.now }
-    ensures known { IfSome result (IsIn universe.now) }
+    ensures known { IfSome result (IsOfUniverse universe.now) }
 {
     let number = universe.find(name)?;
     for bit in 0..universe.variants(number) {
@@ -37,7 +37,7 @@ fn find_variant(universe: &Universe, name: &[u8], version: &Version) -> Option<V
 #[tactic(auto, unfolding(crate::specs::Rows::item_variant))]
 pub fn item_variant(universe: &Universe, item: &Entry) -> Option<Variant>
     ensures found { result ≡ item_variant universe.now item.now }
-    ensures known { IfSome result (IsIn universe.now) }
+    ensures known { IfSome result (IsOfUniverse universe.now) }
 {
     let (name, version) = farm_universe::pinned(item)?;
     find_variant(universe, name, version)

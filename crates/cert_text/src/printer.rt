@@ -3,11 +3,12 @@
 ghost use Rattle.std.specs.Prelude.{◌≡◌, ◌<◌, ◌≤◌, ◌++◌, codes, length, All, IfOk, OnOk};
 ghost use Rattle.std.specs.List.{flat_map, zip};
 ghost use Rattle.cert_text.specs.Certificates.{IsCertificate, IsNewRow, count_rows};
-ghost use Rattle.cert_text.specs.Printed.{name_of, variant_text, more_text, list_text, known_line, known_lines, order_line, certificate_text};
-ghost use Rattle.cert_text.specs.Rows.{IsIn, row_variants, named_in_row};
+ghost use Rattle.cert_text.specs.Printed.{variant_text, more_text, list_text, known_line, known_lines, order_line, certificate_text};
+ghost use Rattle.cert_text.specs.Rows.{IsOfUniverse, row_variants, named_in_row};
 ghost use Rattle.farm_model.specs.Packages.{names};
 ghost use Rattle.farm_universe.specs.Kept.{IsKept};
 ghost use Rattle.plan_asm.specs.Ends.{IsWithinLimits};
+ghost use Rattle.plan_asm.specs.Listing.{name_of_number};
 
 use crate::certificate::Certificate;
 use crate::places::row_places;
@@ -43,7 +44,7 @@ fn push_named(
 fn row_variants(alloc: Global, universe: &Universe, row: &Row) -> Result<Vec<Variant>, AllocError>
     requires { length row.now ≡ names universe.now }
     ensures row { IfOk result (λ found. found.items ≡ row_variants universe.now row.now) }
-    ensures known { IfOk result (λ found. All (IsIn universe.now) found.items) }
+    ensures known { IfOk result (λ found. All (IsOfUniverse universe.now) found.items) }
 {
     let mut found = Vec::new(alloc);
     for name in 0..universe.names() {
@@ -56,7 +57,7 @@ fn row_variants(alloc: Global, universe: &Universe, row: &Row) -> Result<Vec<Var
 
 #[tactic(auto, unfolding(crate::specs::Printed::variant_text))]
 fn push_variant(text: &mut Vec<u8>, universe: &Universe, variant: Variant) -> Result<(), AllocError>
-    requires { IsIn universe.now variant }
+    requires { IsOfUniverse universe.now variant }
     ensures { OnOk result (text.new.items ≡ text.old.items ++ variant_text universe.now variant) }
 {
     let name = universe.name_text(variant.name);
@@ -72,7 +73,7 @@ fn push_more(
     universe: &Universe,
     variants: &[Variant],
 ) -> Result<(), AllocError>
-    requires { All (IsIn universe.now) variants.now }
+    requires { All (IsOfUniverse universe.now) variants.now }
     ensures { OnOk result (text.new.items ≡ text.old.items ++ more_text universe.now variants.now) }
 {
     for i in 0..variants.len() {
@@ -87,7 +88,7 @@ fn push_list(
     universe: &Universe,
     variants: &[Variant],
 ) -> Result<(), AllocError>
-    requires { All (IsIn universe.now) variants.now }
+    requires { All (IsOfUniverse universe.now) variants.now }
     ensures { OnOk result (text.new.items ≡ text.old.items ++ list_text universe.now variants.now) }
 {
     match variants {

@@ -2,8 +2,8 @@
 
 ghost use Rattle.std.specs.Prelude.{◌≡◌, ◌++◌, ◌∷◌, ◌≤◌, [], length, not, Some, IfOk, IfSome, OnOk};
 ghost use Rattle.std.specs.List.{Contains, prefix_len};
-ghost use Rattle.cert_text.specs.Items.{said, EachIsSaid};
-ghost use Rattle.cert_text.specs.Rows.{IsIn, is_behind};
+ghost use Rattle.cert_text.specs.Items.{said_variant, EachIsSaid};
+ghost use Rattle.cert_text.specs.Rows.{IsOfUniverse, is_behind};
 ghost use Rattle.farm_model.specs.Universe.{Universe as Farm};
 
 use crate::list::is_behind;
@@ -113,8 +113,10 @@ fn variant_here(
     text: &[u8],
 ) -> Result<Option<Variant>, AllocError>
     requires { EachIsSaid spelled.universe.now repeats.now }
-    ensures said { IfOk result (λ variant. variant ≡ said spelled.entry.universe.now text.now) }
-    ensures known { IfOk result (λ variant. IfSome variant (IsIn spelled.entry.universe.now)) }
+    ensures said { IfOk result (λ variant. variant
+        ≡ said_variant spelled.entry.universe.now text.now) }
+    ensures known { IfOk result (λ variant. IfSome variant
+        (IsOfUniverse spelled.entry.universe.now)) }
 {
     match repeats.find(text) {
         Some(variant) => Ok(Some(variant)),
@@ -134,8 +136,10 @@ pub fn variant_repeated<'t>(
     text: &'t [u8],
 ) -> Result<Option<Variant>, AllocError>
     requires { EachIsSaid spelled.universe.now repeats.old }
-    ensures said { IfOk result (λ variant. variant ≡ said spelled.entry.universe.now text.now) }
-    ensures known { IfOk result (λ variant. IfSome variant (IsIn spelled.entry.universe.now)) }
+    ensures said { IfOk result (λ variant. variant
+        ≡ said_variant spelled.entry.universe.now text.now) }
+    ensures known { IfOk result (λ variant. IfSome variant
+        (IsOfUniverse spelled.entry.universe.now)) }
     ensures kept { OnOk result (EachIsSaid spelled.entry.universe.now repeats.new) }
 {
     let Some(variant) = variant_here(alloc, spelled, repeats, text)? else {

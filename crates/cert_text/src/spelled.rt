@@ -3,8 +3,8 @@
 ghost use Rattle.std.specs.Prelude.{◌≡◌, ◌<◌, IfOk, IfSome, OnOk};
 ghost use Rattle.std.specs.Map.{lookup};
 ghost use Rattle.std.specs.Str.{bytes_eq};
-ghost use Rattle.cert_text.specs.Items.{said, AreSaid, IsSaid};
-ghost use Rattle.cert_text.specs.Rows.{IsIn};
+ghost use Rattle.cert_text.specs.Items.{said_variant, AreSaid, IsSaid};
+ghost use Rattle.cert_text.specs.Rows.{IsOfUniverse};
 ghost use Rattle.farm_model.specs.Packages.{names};
 ghost use Rattle.farm_model.specs.Universe.{Universe as Farm};
 
@@ -25,10 +25,10 @@ pub struct Spelled<'a> {
 }
 
 /// The variant that an item says.
-#[tactic(auto, unfolding(crate::specs::Items::said))]
+#[tactic(auto, unfolding(crate::specs::Items::said_variant))]
 fn read_item(alloc: Global, universe: &Universe, text: &[u8]) -> Result<Option<Variant>, AllocError>
-    ensures said { IfOk result (λ variant. variant ≡ said universe.now text.now) }
-    ensures known { IfOk result (λ variant. IfSome variant (IsIn universe.now)) }
+    ensures said { IfOk result (λ variant. variant ≡ said_variant universe.now text.now) }
+    ensures known { IfOk result (λ variant. IfSome variant (IsOfUniverse universe.now)) }
 {
     match Entry::parse(alloc, text, Kind::Provide) {
         Ok(item) => Ok(item_variant(universe, &item)),
@@ -58,8 +58,10 @@ pub fn variant_said(
     spelled: Spelled<'_>,
     text: &[u8],
 ) -> Result<Option<Variant>, AllocError>
-    ensures said { IfOk result (λ variant. variant ≡ said spelled.entry.universe.now text.now) }
-    ensures known { IfOk result (λ variant. IfSome variant (IsIn spelled.entry.universe.now)) }
+    ensures said { IfOk result (λ variant. variant
+        ≡ said_variant spelled.entry.universe.now text.now) }
+    ensures known { IfOk result (λ variant. IfSome variant
+        (IsOfUniverse spelled.entry.universe.now)) }
 {
     match noted(spelled.variants, text) {
         Some(variant) => Ok(Some(variant)),
@@ -69,7 +71,7 @@ pub fn variant_said(
 
 /// The item of a variant behind a comma, as it is printed.
 fn item_text(alloc: Global, universe: &Universe, variant: Variant) -> Result<Vec<u8>, AllocError>
-    requires { IsIn universe.now variant }
+    requires { IsOfUniverse universe.now variant }
 {
     let mut text = Vec::new(alloc);
     text.push(b' ')?;
@@ -103,7 +105,7 @@ fn note(
     variants: &mut IndexMap<Vec<u8>, Variant>,
     variant: Variant,
 ) -> Result<(), AllocError>
-    requires known { IsIn universe.now variant }
+    requires known { IsOfUniverse universe.now variant }
     requires said { AreSaid universe.now variants.old.entries }
     ensures { OnOk result (AreSaid universe.now variants.new.entries) }
 {

@@ -11,7 +11,7 @@ use Rattle.farm_model.specs.Packages.{variant, variants}
 use Rattle.farm_model.specs.Universe.{Universe}
 use Rattle.cert_text.proofs.RowLists.{named_below, names-more, in_row-none}
 use Rattle.cert_text.specs.Printed.{variant_text, more_text, list_text}
-use Rattle.cert_text.specs.Rows.{in_row, named_in_row}
+use Rattle.cert_text.specs.Rows.{those_in_row, named_in_row}
 use Rattle.cert_writer.specs.Lines.{item_text, part_text, is_none, in_word}
 
 -- ---- texts
@@ -106,12 +106,12 @@ module _ (u : Universe) (is_first : Bool) (word n b : ℕ) where
 
 -- the bits of a row's word are those of the row
 same-bits : (row ks : List ℕ) (n word : ℕ) → IsWordOf (variants_of row) n word
-    → in_row row (map (variant n) ks) ≡ in_word word (map (variant n) ks)
+    → those_in_row row (map (variant n) ks) ≡ in_word word (map (variant n) ks)
 same-bits row [] n word is = refl
 same-bits row (k ∷ ks) n word is = by (word_has word k) (is k) (same-bits row ks n word is) where
   by : (t : Bool) → variants_of row n k ≡ word_has word k
-      → in_row row (map (variant n) ks) ≡ in_word word (map (variant n) ks)
-      → in_row row (map (variant n) (k ∷ ks)) ≡ in_word word (map (variant n) (k ∷ ks))
+      → those_in_row row (map (variant n) ks) ≡ in_word word (map (variant n) ks)
+      → those_in_row row (map (variant n) (k ∷ ks)) ≡ in_word word (map (variant n) (k ∷ ks))
   by t same later = rw (same, later) refl
 
 -- ---- one name more

@@ -1,7 +1,7 @@
 -- The certificate that is written is that of the plan.
-use Rattle.std.proofs.Common.{◌≡◌, inl, inr, ℕ, zero, suc, ◌+◌, ◌<◌, ◌≤◌, Bool, true, false, not, nat_lt, List, ◌++◌, length, map, take, Some, refl, sym, ap, subst, ◌∙◌, arith}
+use Rattle.std.proofs.Common.{◌≡◌, inl, inr, ℕ, zero, suc, ◌+◌, ◌<◌, ◌≤◌, true, false, not, nat_lt, List, ◌++◌, length, map, take, Some, refl, sym, ap, subst, ◌∙◌, arith}
 use Rattle.std.specs.List.{range_with_len}
-use Rattle.std.proofs.lemmas.Bool.{cases_Bool, and_parts, ltb-true}
+use Rattle.std.proofs.lemmas.Bool.{cases_Bool, and_parts, ltb-true, not-true}
 use Rattle.std.proofs.lemmas.List.{append-nil, take_all, map-append}
 use Rattle.std.proofs.lemmas.List.FromFn.{map-range_with_len_more}
 use Rattle.std.proofs.lemmas.Option.{slice_get_cases}
@@ -23,10 +23,6 @@ use Rattle.cert_writer.proofs.Places.{places-next}
 use Rattle.cert_writer.proofs.TestRows.{test-row}
 use Rattle.cert_writer.specs.Lines.{places_at}
 use Rattle.cert_writer.specs.NewRows.{new_at, new_row, new_rows, certificate_by}
-
-not-true : (b : Bool) → not b ≡ true → b ≡ false
-not-true true e = absurd cc
-not-true false e = refl
 
 -- ---- one row
 

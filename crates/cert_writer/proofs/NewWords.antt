@@ -10,7 +10,7 @@ use Rattle.farm_model.specs.Packages.{variant, variants, initial}
 use Rattle.farm_model.specs.Sound.{IsUniverse}
 use Rattle.farm_model.specs.Universe.{Universe}
 use Rattle.plan_model.specs.Known.{Rows}
-use Rattle.sat_rows.specs.Rows.{passes, IsWordFor}
+use Rattle.sat_rows.specs.Rows.{variant_passes, IsWordFor}
 use Rattle.wait_order.proofs.Initial.{initial_word}
 use Rattle.cert_writer.proofs.TestRows.{test-row}
 use Rattle.cert_writer.specs.NewRows.{new_at, new_row}
@@ -28,7 +28,7 @@ pub new-word : (u : Universe) (known : Rows) (l i n word start new : ℕ) → Is
 new-word u known l i n word start new sound is from small_word small_start rest b =
     (test-row u (new_at u known l i)).set n b
     ∙ both (nat_lt b (variants u n)) (known l i (variant n b)) (initial u (variant n b))
-    ∙ ap (λ t. t && not (passes u (initial u) n b)) (sym (is b))
+    ∙ ap (λ t. t && not (variant_passes u (initial u) n b)) (sym (is b))
     ∙ ap (λ t. word_has word b && not t)
     (sym (initial_word u n b sound) ∙ ap (λ w. word_has w b) (sym from))
     ∙ sym (word_has-left word start b)

@@ -10,7 +10,7 @@ use Rattle.farm_model.specs.Universe.{Universe}
 use Rattle.plan_model.specs.declared.instructions.Instruction.{Instruction}
 use Rattle.plan_model.specs.Known.{Rows}
 use Rattle.plan_model.specs.Plan.{Plan, lane, instruction_at}
-use Rattle.cert_writer.specs.Lines.{row_text, places_at, place_text, lane_text}
+use Rattle.cert_writer.specs.Lines.{row_text, places_at, place_row_text, lane_text}
 
 -- of instructions, one behind the other
 places-append : (number : ℕ) (xs ys : List Instruction)
@@ -64,7 +64,7 @@ module _ (u : Universe) (p : Plan) (known : Rows) (l : ℕ) where
       (places_from (1 + length (take i (lane p l).instructions)) (drop i (lane p l).instructions))
 
   pub text-next : (i : ℕ) (x : Instruction) → instruction_at p l i ≡ Some x
-      → text_to (i + 1) ≡ text_to i ++ place_text u p known l i
+      → text_to (i + 1) ≡ text_to i ++ place_row_text u p known l i
   text-next i x at =
       ap (flat_map (row_text u p known l)) (places-next (lane p l).instructions i x at)
       ∙ flat_map-append (row_text u p known l) (places_from 1 (take i (lane p l).instructions))
@@ -88,18 +88,18 @@ module _ (u : Universe) (p : Plan) (known : Rows) (l : ℕ) where
 
 module _ (u : Universe) (p : Plan) (known : Rows) (l i : ℕ) (x : Instruction)
     (at : instruction_at p l i ≡ Some x) where
-  pub place-quiet : learns x ≡ false → place_text u p known l i ≡ []
+  pub place-quiet : learns x ≡ false → place_row_text u p known l i ≡ []
   place-quiet quiet =
       ap (λ o. flat_map (row_text u p known l) (places_at (i + 1) o)) at ∙ rw quiet refl
 
-  pub place-learnt : learns x ≡ true → place_text u p known l i ≡ row_text u p known l (i + 1)
+  pub place-learnt : learns x ≡ true → place_row_text u p known l i ≡ row_text u p known l (i + 1)
   place-learnt learnt =
       ap (λ o. flat_map (row_text u p known l) (places_at (i + 1) o)) at
       ∙ rw learnt (append-nil (row_text u p known l (i + 1)))
 
   -- what is left behind it
   pub text-around : lane_text u p known l
-      ≡ (text_to u p known l i ++ place_text u p known l i) ++ text_behind u p known l (i + 1)
+      ≡ (text_to u p known l i ++ place_row_text u p known l i) ++ text_behind u p known l (i + 1)
   text-around =
       text-split u p known l (i + 1)
       ∙ ap (λ t. t ++ text_behind u p known l (i + 1)) (text-next u p known l i x at)

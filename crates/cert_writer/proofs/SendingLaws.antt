@@ -10,7 +10,7 @@ use Rattle.report_sink.proofs.WriteLaws.{written_twice, cut_short, nothing_writt
 use Rattle.cert_writer.specs.declared.pending.Pending.{Pending}
 use Rattle.cert_writer.specs.declared.stop.CertStop.{CertStop}
 use Rattle.cert_writer.specs.declared.stop.CertStop.TheVariants.{OutOfMemory, CutShort, WriteFailed}
-use Rattle.cert_writer.specs.Sending.{IsSent, IsOutOfMemory, IsStopped, IsSentOn, capped}
+use Rattle.cert_writer.specs.Sending.{IsSent, IsOutOfMemory, IsStoppedSending, IsSentOn, capped}
 
 -- ---- counts
 
@@ -54,8 +54,8 @@ module _ (a b : SinkState) (p q : Pending) (x y : List ℕ) (first : IsSent a b 
   }
 
   -- stopped in the second
-  pub stopped_behind : (c : SinkState) (stop : CertStop) → IsStopped b c q y stop
-      → IsStopped a c p (x ++ y) stop
+  pub stopped_behind : (c : SinkState) (stop : CertStop) → IsStoppedSending b c q y stop
+      → IsStoppedSending a c p (x ++ y) stop
   stopped_behind c OutOfMemory is = (
     omega (arith, first.counted, is.0),
     is.1 ∙ first.untouched is.0,
@@ -84,7 +84,7 @@ module _ (a b : SinkState) (p q : Pending) (x y : List ℕ) (first : IsSent a b 
 
 -- stopped, ahead of more
 pub stopped_more : (a b : SinkState) (p : Pending) (x y : List ℕ) (stop : CertStop)
-    → IsStopped a b p x stop → IsStopped a b p (x ++ y) stop
+    → IsStoppedSending a b p x stop → IsStoppedSending a b p (x ++ y) stop
 stopped_more a b p x y OutOfMemory is = is
 stopped_more a b p x y CutShort is = record {
   part = is.part;
@@ -102,9 +102,10 @@ stopped_more a b p x y WriteFailed is = (
 
 -- stopped in the second, ahead of more
 pub stopped_within : (a b c : SinkState) (p q : Pending) (x y z whole : List ℕ) (stop : CertStop)
-    → whole ≡ (x ++ y) ++ z → IsSent a b p q x → IsStopped b c q y stop → IsStopped a c p whole stop
+    → whole ≡ (x ++ y) ++ z → IsSent a b p q x → IsStoppedSending b c q y stop
+    → IsStoppedSending a c p whole stop
 stopped_within a b c p q x y z whole stop is first second =
-    subst (λ t. IsStopped a c p t stop) (sym is)
+    subst (λ t. IsStoppedSending a c p t stop) (sym is)
     (stopped_more a c p (x ++ y) z stop (stopped_behind a b p q x y first c stop second))
 
 -- ---- item by item
@@ -142,8 +143,8 @@ module _ (f : ℕ → List ℕ) (i : ℕ) where
     next_number r more =
         subst (IsSent a c p r) (sym numbers_next) (sent_twice a b p q _ (f i) so_far c r more)
 
-    pub stopped_number : (n : ℕ) (stop : CertStop) → i < n → IsStopped b c q (f i) stop
-        → IsStopped a c p (flat_map f (range_with_len 0 n)) stop
+    pub stopped_number : (n : ℕ) (stop : CertStop) → i < n → IsStoppedSending b c q (f i) stop
+        → IsStoppedSending a c p (flat_map f (range_with_len 0 n)) stop
     stopped_number n stop lt is =
         stopped_within a b c p q _ (f i) _ _ stop (numbers_split n lt) so_far is
 
@@ -170,8 +171,8 @@ module _ {X : Type 0} (f : X → List ℕ) (xs : List X) (i : ℕ) (d : X) (lt :
           subst (IsSent a c p r) (sym items_next)
           (sent_twice a b p q _ (f (get_or xs i d)) so_far c r more)
 
-      pub stopped_item : (stop : CertStop) → IsStopped b c q (f (get_or xs i d)) stop
-          → IsStopped a c p (flat_map f xs) stop
+      pub stopped_item : (stop : CertStop) → IsStoppedSending b c q (f (get_or xs i d)) stop
+          → IsStoppedSending a c p (flat_map f xs) stop
       stopped_item stop is =
           stopped_within a b c p q _ (f (get_or xs i d)) _ _ stop items_split so_far is
 
@@ -206,7 +207,8 @@ put_on a b before mid after x (Err WriteFailed) put same is = (
 
 -- memory was refused for it
 pub refused : (s : SinkState) (before : Pending) (sent : ℕ) (x : List ℕ) (stop : CertStop)
-    → s.failed ≡ false → sent ≡ before.sent → IsOutOfMemory sent stop → IsStopped s s before x stop
+    → s.failed ≡ false → sent ≡ before.sent → IsOutOfMemory sent stop
+    → IsStoppedSending s s before x stop
 refused s before sent x OutOfMemory going same is = (sym same ∙ is, refl)
 refused s before sent x CutShort going same is = record {
   part = [];

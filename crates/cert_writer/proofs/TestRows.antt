@@ -1,5 +1,6 @@
 -- The row of a test has the variants that pass it.
 use Rattle.std.proofs.Common.{◌≡◌, inl, inr, ℕ, zero, suc, ◌+◌, ◌<◌, ◌≤◌, Bool, true, false, ◌&&◌, ◌||◌, ◌==◌, nat_lt, List, [], ◌∷◌, map, filter, cond, get_or, length, refl, sym, ap, ◌∙◌, eq-eqb, arith}
+use Rattle.std.specs.Cmp.{both_ways as same_tests}
 use Rattle.std.specs.List.{list_any, range_with_len}
 use Rattle.std.proofs.Math.Bool.{or-false}
 use Rattle.std.proofs.lemmas.Bool.{cases_eq, cases_lt, and_parts, lt-ltb, le-ltb, ltb-true, ne_eqb}
@@ -9,13 +10,12 @@ use Rattle.std.proofs.lemmas.List.FromFn.{length-map-range_with_len, get_or-map-
 use Rattle.bit_rows.specs.Sets.{variants_of}
 use Rattle.clause_kernel.proofs.Words.{word_has_zero}
 use Rattle.clause_kernel.specs.Rows.{word_has}
-use Rattle.farm_model.proofs.TestLaws.{same_tests}
 use Rattle.farm_model.specs.declared.types.Variant.{Variant}
 use Rattle.farm_model.specs.Packages.{names, variant, variants}
 use Rattle.farm_model.specs.Universe.{Universe}
 use Rattle.farm_universe.proofs.ArchiveLaws.{bit_at-word_of}
 use Rattle.farm_universe.proofs.PlaceLaws.{named}
-use Rattle.sat_rows.specs.Rows.{passes, IsRowOf}
+use Rattle.sat_rows.specs.Rows.{variant_passes, IsRowOf}
 use Rattle.cert_writer.specs.NewRows.{word_of_test, row_of_test}
 
 -- one of them has this name and this bit
@@ -78,18 +78,20 @@ module _ (u : Universe) (test : Variant → Bool) where
   unfolding row_of_test
   word-at n lt = get_or-map-range_with_len (word_of_test u test) 0 (names u) n n 0 lt (omega arith)
 
-  bits-at : (n b : ℕ) → n < names u → variants_of (row_of_test u test) n b ≡ passes u test n b
+  bits-at : (n b : ℕ) → n < names u → variants_of (row_of_test u test) n b
+      ≡ variant_passes u test n b
   bits-at n b lt =
       ap (λ word. word_has word b) (word-at n lt)
       ∙ bit_at-word_of (passing test n (variants u n)) n b
       ∙ has-passing test n b (variants u n)
 
-  bits-past : (n b : ℕ) → names u ≤ n → variants_of (row_of_test u test) n b ≡ passes u test n b
+  bits-past : (n b : ℕ) → names u ≤ n → variants_of (row_of_test u test) n b
+      ≡ variant_passes u test n b
   bits-past n b past =
       ap (λ word. word_has word b)
       (get_or_past (row_of_test u test) n 0 (omega (arith, past, length-row)))
       ∙ word_has_zero b
-      ∙ same_tests false (passes u test n b) (λ e. absurd cc)
+      ∙ same_tests false (variant_passes u test n b) (λ e. absurd cc)
       (λ e. let few = ltb-true b (variants u n)
       (and_parts (nat_lt b (variants u n)) (test (variant n b)) e).0 in
       absurd (omega (arith, past, named u n b few)))

@@ -12,7 +12,7 @@ use Rattle.cert_writer.specs.declared.stop.CertStop.{CertStop}
 use Rattle.cert_writer.specs.declared.stop.CertStop.TheVariants.{OutOfMemory, CutShort, WriteFailed}
 use Rattle.cert_writer.specs.Lines.{all_lines}
 use Rattle.cert_writer.specs.NewRows.{certificate_by}
-use Rattle.cert_writer.specs.Sending.{IsFirstPart, IsSent, IsStopped, capped}
+use Rattle.cert_writer.specs.Sending.{IsFirstPart, IsSent, IsStoppedSending, capped}
 use Rattle.cert_writer.specs.Written.{WritesText, IsCertificateWritten}
 
 module _ (a : AcceptedPlan) (is : IsAccepted a) where
@@ -67,7 +67,7 @@ module _ (a : AcceptedPlan) (is : IsAccepted a) where
         counted : count ≡ capped (length whole)
         counted = omega (arith, sent.counted, none, same, small, ap length part)
 
-    pub stopped_written : (stop : CertStop) → IsStopped old new before lines stop
+    pub stopped_written : (stop : CertStop) → IsStoppedSending old new before lines stop
         → IsCertificateWritten a old new (Err stop)
     stopped_written OutOfMemory stopped = written old new (Err OutOfMemory) stopped.1
     stopped_written CutShort stopped =

@@ -2,8 +2,8 @@
 -- Parameters: u a universe, a an accepted plan, l a lane.
 --
 --   IsSpelled, AreSpelled    the variants of a name that a word has, as a text; those of each name
---   IsReady                  there is a word for each name, whatever it has
---   IsCarried                the words are those of what the lane knows at the place
+--   IsReadyForRow            there is a word for each name, whatever it has
+--   CarriesKnown             the words are those of what the lane knows at the place
 use Rattle.std.specs.Prelude.{◌≡◌, ℕ, ◌≤◌, List, length, Some, slice_get}
 use Rattle.cert_text.specs.Printed.{more_text}
 use Rattle.cert_text.specs.Rows.{named_variants}
@@ -24,11 +24,11 @@ pub record AreSpelled (u : Universe) (all : List Spelled) : Type 0 where
   pub long : length all ≡ names u
   pub each : (n : ℕ) (s : Spelled) → slice_get all n ≡ Some s → IsSpelled u n s
 
-pub record IsReady (u : Universe) (kept : Carried) : Type 0 where
+pub record IsReadyForRow (u : Universe) (kept : Carried) : Type 0 where
   pub long : length kept.words.items ≡ names u
   pub spelled : AreSpelled u kept.spelled.items
 
-pub record IsCarried (a : AcceptedPlan) (l : ℕ) (kept : Carried) : Type 0 where
+pub record CarriesKnown (a : AcceptedPlan) (l : ℕ) (kept : Carried) : Type 0 where
   pub there : kept.place ≤ length (lane a.plan l).instructions
   pub words : IsRowOf a.universe (known_rows a l kept.place) kept.words.items
   pub spelled : AreSpelled a.universe kept.spelled.items

@@ -2,7 +2,7 @@
 -- Parameters: u a universe, p a plan, known what its lanes know, l a lane, i a place.
 --
 --   item_text, part_text     variants behind others of a list, or the first of it
---   place_text, lane_text    the line behind an instruction, if any, and the lines of a lane
+--   place_row_text, lane_text  the line behind an instruction, if any, and the lines of a lane
 --   all_lines                all lines behind the first
 use Rattle.std.specs.Prelude.{ℕ, ◌+◌, Bool, true, false, List, [], ◌∷◌, ◌++◌, codes, filter, length, Option, Some, None, if◌then◌else◌}
 use Rattle.std.specs.List.{flat_map, range_with_len}
@@ -19,11 +19,11 @@ use Rattle.cert_writer.specs.NewRows.{new_row}
 -- ---- a list
 
 -- what stands ahead of a variant
-abbrev pub ahead_text : Bool → List ℕ
-ahead_text is_first = if is_first then codes " " else codes ", "
+abbrev pub ahead_of_variant : Bool → List ℕ
+ahead_of_variant is_first = if is_first then codes " " else codes ", "
 
 abbrev pub item_text : Universe → Bool → Variant → List ℕ
-item_text u is_first v = ahead_text is_first ++ variant_text u v
+item_text u is_first v = ahead_of_variant is_first ++ variant_text u v
 
 -- variants behind others, or at the start of a list
 abbrev pub part_text : Universe → Bool → List Variant → List ℕ
@@ -50,8 +50,8 @@ places_at number None = []
 places_at number (Some x) = if learns x then number ∷ [] else []
 
 -- the line behind the instruction at a place, where it has a row
-abbrev pub place_text : Universe → Plan → Rows → ℕ → ℕ → List ℕ
-place_text u p known l i =
+abbrev pub place_row_text : Universe → Plan → Rows → ℕ → ℕ → List ℕ
+place_row_text u p known l i =
     flat_map (row_text u p known l) (places_at (i + 1) (instruction_at p l i))
 
 abbrev pub lane_text : Universe → Plan → Rows → ℕ → List ℕ

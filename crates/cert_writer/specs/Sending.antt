@@ -4,7 +4,7 @@
 --   IsFirstPart       a first part of a text is written, and the sink has not failed
 --   capped            a number, or the greatest of 64 bits
 --   IsSent            more of a text is put behind what is not written, and some of it is written
---   IsStopped         memory or the sink have failed in the middle
+--   IsStoppedSending  memory or the sink have failed in the middle
 use Rattle.std.specs.Prelude.{◌≡◌, ℕ, ◌+◌, ◌-◌, ◌^◌, min, false, true, List, ◌++◌, length, Result, Ok, Err}
 use Rattle.report_sink.specs.Sinks.{SinkState, IsWritten}
 use Rattle.cert_writer.specs.declared.pending.Pending.{Pending}
@@ -42,14 +42,14 @@ IsOutOfMemory sent CutShort = Unit {0}
 IsOutOfMemory sent WriteFailed = ⊥
 
 -- what is written where more of a text could not be made, or not be written
-abbrev pub IsStopped : SinkState → SinkState → Pending → List ℕ → CertStop → Type 0
-IsStopped old new before more OutOfMemory = (before.sent ≡ 0) × (new ≡ old)
-IsStopped old new before more CutShort = IsFirstPart old new (before.text.items ++ more)
-IsStopped old new before more WriteFailed =
+abbrev pub IsStoppedSending : SinkState → SinkState → Pending → List ℕ → CertStop → Type 0
+IsStoppedSending old new before more OutOfMemory = (before.sent ≡ 0) × (new ≡ old)
+IsStoppedSending old new before more CutShort = IsFirstPart old new (before.text.items ++ more)
+IsStoppedSending old new before more WriteFailed =
     IsWritten old new (before.text.items ++ more) × (new.failed ≡ true)
 
 -- more is sent on, or not all of it
 abbrev pub IsSentOn : SinkState → SinkState → Pending → Pending → List ℕ → Result Unit CertStop
     → Type 0
 IsSentOn old new before after more (Ok done) = IsSent old new before after more
-IsSentOn old new before after more (Err stop) = IsStopped old new before more stop
+IsSentOn old new before after more (Err stop) = IsStoppedSending old new before more stop

@@ -5,7 +5,7 @@ ghost use Rattle.bit_rows.specs.Sets.{variants_of, IsWordOf};
 ghost use Rattle.farm_model.specs.Packages.{names};
 ghost use Rattle.plan_model.specs.Plan.{lane};
 ghost use Rattle.plan_verifier.specs.Accepted.{known_rows};
-ghost use Rattle.cert_writer.specs.Carried.{IsSpelled, IsReady, IsCarried};
+ghost use Rattle.cert_writer.specs.Carried.{IsSpelled, IsReadyForRow, CarriesKnown};
 ghost use Rattle.cert_writer.specs.NewRows.{new_row};
 
 use farm_universe::Universe;
@@ -35,7 +35,7 @@ impl Carried {
     ///
     /// [`AllocError`] where memory is refused.
     pub fn new(alloc: Global, universe: &Universe) -> Result<Carried, AllocError>
-        ensures { IfOk result (IsReady universe.now) }
+        ensures { IfOk result (IsReadyForRow universe.now) }
     {
         let names = universe.names() as usize;
         let words = vec![in alloc; 0; names]?;
@@ -56,8 +56,8 @@ impl Carried {
     /// Goes to the beginning of a lane.
     pub fn begin(&mut self, accepted: &Accepted, number: usize)
         requires lane { number < length accepted.now.plan }
-        requires ready { IsReady accepted.now.universe self.old }
-        ensures { IsCarried accepted.now number self.new }
+        requires ready { IsReadyForRow accepted.now.universe self.old }
+        ensures { CarriesKnown accepted.now number self.new }
     {
         accepted.keeps();
         accepted
@@ -70,8 +70,8 @@ impl Carried {
     pub fn go_on(&mut self, accepted: &Accepted, number: usize, place: usize)
         requires lane { number < length accepted.now.plan }
         requires place { place ≤ length (lane accepted.now.plan number).instructions }
-        requires carried { IsCarried accepted.now number self.old }
-        ensures carried { IsCarried accepted.now number self.new }
+        requires carried { CarriesKnown accepted.now number self.old }
+        ensures carried { CarriesKnown accepted.now number self.new }
         ensures place { self.new.place ≡ place }
     {
         accepted.keeps();

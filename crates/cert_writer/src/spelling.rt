@@ -3,7 +3,7 @@
 ghost use Rattle.std.specs.Prelude.{◌≡◌, ℕ, ◌<◌, ◌≤◌, ◌++◌, ◌&&◌, false, drop, length, IfOk, OnOk, if◌then◌else◌};
 ghost use Rattle.bit_rows.specs.Sets.{variants_of, IsWordOf};
 ghost use Rattle.cert_text.specs.Printed.{known_line, list_text, more_text, order_line};
-ghost use Rattle.cert_text.specs.Rows.{IsIn, row_variants, named_variants};
+ghost use Rattle.cert_text.specs.Rows.{IsOfUniverse, row_variants, named_variants};
 ghost use Rattle.farm_model.specs.Packages.{names};
 ghost use Rattle.farm_model.specs.Sound.{IsUniverse};
 ghost use Rattle.farm_universe.specs.Kept.{IsKept};
@@ -37,7 +37,7 @@ fn new_word(universe: &Universe, words: &[u64], name: u32) -> u64
 /// Puts a variant behind others of a list.
 #[tactic(auto, unfolding(cert_text::specs::Printed::variant_text))]
 fn push_item(text: &mut Vec<u8>, universe: &Universe, variant: Variant) -> Result<(), AllocError>
-    requires { IsIn universe.now variant }
+    requires { IsOfUniverse universe.now variant }
     ensures { OnOk result (text.new.items ≡ text.old.items
         ++ item_text universe.now false variant) }
 {

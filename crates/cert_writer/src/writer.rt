@@ -5,8 +5,8 @@ ghost use Rattle.std.specs.List.{flat_map, range_with_len};
 ghost use Rattle.cert_text.specs.Printed.{known_line, order_line};
 ghost use Rattle.plan_model.specs.Plan.{lane};
 ghost use Rattle.plan_verifier.specs.Accepted.{known_rows};
-ghost use Rattle.cert_writer.specs.Carried.{IsReady, IsCarried};
-ghost use Rattle.cert_writer.specs.Lines.{all_lines, lane_text, place_text};
+ghost use Rattle.cert_writer.specs.Carried.{IsReadyForRow, CarriesKnown};
+ghost use Rattle.cert_writer.specs.Lines.{all_lines, lane_text, place_row_text};
 ghost use Rattle.cert_writer.specs.NewRows.{new_row};
 ghost use Rattle.cert_writer.specs.Sending.{IsSentOn};
 ghost use Rattle.cert_writer.specs.Written.{IsCertificateWritten};
@@ -29,13 +29,13 @@ fn write_known<S: Sink>(
 ) -> Result<(), CertStop>
     requires going { (S.state out.old).failed ≡ false }
     requires lane { number < length accepted.now.plan }
-    requires carried { IsCarried accepted.now number carried.old }
+    requires carried { CarriesKnown accepted.now number carried.old }
     ensures sent { IsSentOn (S.state out.old) (S.state out.new) pending.old pending.new
         (known_line accepted.now.universe (lane accepted.now.plan number).name (
           carried.old.place,
           new_row accepted.now.universe (known_rows accepted.now) number carried.old.place,
         )) result }
-    ensures carried { OnOk result (IsCarried accepted.now number carried.new) }
+    ensures carried { OnOk result (CarriesKnown accepted.now number carried.new) }
 {
     let place = carried.place;
     let words = carried.words.as_slice();
@@ -64,11 +64,12 @@ fn write_place<S: Sink>(
     requires going { (S.state out.old).failed ≡ false }
     requires lane { number < length accepted.now.plan }
     requires place { place < length (lane accepted.now.plan number).instructions }
-    requires carried { IsCarried accepted.now number carried.old }
+    requires carried { CarriesKnown accepted.now number carried.old }
     ensures sent { IsSentOn (S.state out.old) (S.state out.new) pending.old pending.new
-        (place_text accepted.now.universe accepted.now.plan (known_rows accepted.now) number place)
+        (place_row_text accepted.now.universe accepted.now.plan (known_rows accepted.now) number
+        place)
         result }
-    ensures carried { OnOk result (IsCarried accepted.now number carried.new) }
+    ensures carried { OnOk result (CarriesKnown accepted.now number carried.new) }
 {
     let instructions = accepted.plan().lane(number).instructions();
     if !instructions[place].teaches() {
@@ -88,11 +89,11 @@ fn write_lane<S: Sink>(
 ) -> Result<(), CertStop>
     requires going { (S.state out.old).failed ≡ false }
     requires lane { number < length accepted.now.plan }
-    requires ready { IsReady accepted.now.universe carried.old }
+    requires ready { IsReadyForRow accepted.now.universe carried.old }
     ensures sent { IsSentOn (S.state out.old) (S.state out.new) pending.old pending.new
         (lane_text accepted.now.universe accepted.now.plan (known_rows accepted.now) number)
         result }
-    ensures ready { OnOk result (IsReady accepted.now.universe carried.new) }
+    ensures ready { OnOk result (IsReadyForRow accepted.now.universe carried.new) }
 {
     carried.begin(accepted, number);
     for place in 0..accepted.plan().lane(number).instructions().len() {
@@ -109,7 +110,7 @@ fn write_lanes<S: Sink>(
     out: &mut S,
 ) -> Result<(), CertStop>
     requires going { (S.state out.old).failed ≡ false }
-    requires ready { IsReady accepted.now.universe carried.old }
+    requires ready { IsReadyForRow accepted.now.universe carried.old }
     ensures { IsSentOn (S.state out.old) (S.state out.new) pending.old pending.new
         (flat_map (lane_text accepted.now.universe accepted.now.plan (known_rows accepted.now))
         (range_with_len 0 (length accepted.now.plan))) result }
@@ -174,7 +175,7 @@ fn write_lines<S: Sink>(
     out: &mut S,
 ) -> Result<(), CertStop>
     requires going { (S.state out.old).failed ≡ false }
-    requires ready { IsReady accepted.now.universe carried.old }
+    requires ready { IsReadyForRow accepted.now.universe carried.old }
     ensures sent { IsSentOn (S.state out.old) (S.state out.new) pending.old pending.new
         (all_lines accepted.now.universe accepted.now.plan (known_rows accepted.now)
         accepted.now.order) result }

@@ -1,6 +1,7 @@
 -- The chroot after a slot is put, and after the slots of members are changed.
 use Rattle.std.proofs.Common.{◌≡◌, ℕ, ◌+◌, ◌-◌, ◌<◌, ◌≤◌, ◌^◌, Bool, true, false, refl, sym, ap, ◌∙◌, subst, inl, inr, List, [], ◌∷◌, ◌++◌, length, take, length-set, get_or-set_same, get_or-set_other, get_or, ext_get_or, arith, if◌then◌else◌}
 use Rattle.std.specs.Prelude.{◌||◌, ◌==◌, slice_set}
+use Rattle.std.proofs.Math.Bool.{or-false, or-true}
 use Rattle.std.proofs.lemmas.Bool.{cases_eq, eq-eqb, ne_eqb}
 use Rattle.std.proofs.lemmas.List.{take_more}
 use Rattle.std.proofs.lemmas.List.Folds.{list_any-append}
@@ -91,14 +92,6 @@ absent-changed : (change : Change) → changed_slot change Absent ≡ Absent
 absent-changed Configure = refl
 absent-changed Deconfigure = refl
 absent-changed Remove = refl
-
-or-false : (b : Bool) → (b || false) ≡ b
-or-false true = refl
-or-false false = refl
-
-or-true : (b : Bool) → (b || true) ≡ true
-or-true true = refl
-or-true false = refl
 
 module _ (change : Change) (c : Chroot) where
   abbrev after : List ℕ → Chroot

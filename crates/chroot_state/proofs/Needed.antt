@@ -12,7 +12,7 @@ use Rattle.farm_model.specs.declared.types.Slot.TheVariants.{Absent, Unpacked, C
 use Rattle.farm_model.specs.Below.{some_below}
 use Rattle.farm_model.specs.Universe.{Universe}
 use Rattle.farm_model.specs.Packages.{variant, satisfies_entry}
-use Rattle.farm_model.specs.Chroot.{Chroot, slot, holds_configured, member, met, entries}
+use Rattle.farm_model.specs.Chroot.{Chroot, slot, holds_configured, member, meets_entry, entries}
 use Rattle.farm_model.specs.Traps.{changed, still_needed, deconfigured_slot, deconfigured, removed}
 use Rattle.farm_model.proofs.BelowLaws.{some_below-at, some_below-found, some_below-same}
 use Rattle.farm_model.proofs.ChangedLaws.{slot-changed, length-changed}
@@ -49,8 +49,8 @@ module _ (u : Universe) (c : Chroot) where
       ]
 
   inside-met : (members : List ℕ) (e : Entry) → met_inside u members c e ≡ true
-      → met u c e ≡ true
-  unfolding met
+      → meets_entry u c e ≡ true
+  unfolding meets_entry
   inside-met [] e h = absurd (false≢true h)
   inside-met (m ∷ ms) e h =
       elim (or_cases (meets_at e m (slot c m)) (met_inside u ms c e) h) [
@@ -60,17 +60,17 @@ module _ (u : Universe) (c : Chroot) where
       ]
 
   outside-met : (members : List ℕ) (e : Entry) → met_outside u members c e ≡ true
-      → met u c e ≡ true
-  unfolding met met_outside
+      → meets_entry u c e ≡ true
+  unfolding meets_entry met_outside
   outside-met members e h =
       let r = some_below-found (length c)
       (λ n. not (member members n) && meets_at e n (slot c n)) h in
       some_below-at (length c) (λ n. meets_at e n (slot c n)) r.0 r.1
       (and_parts (not (member members r.0)) _ r.2).1
 
-  met-parted : (members : List ℕ) (e : Entry) → met u c e ≡ true
+  met-parted : (members : List ℕ) (e : Entry) → meets_entry u c e ≡ true
       → (met_inside u members c e || met_outside u members c e) ≡ true
-  unfolding met met_outside
+  unfolding meets_entry met_outside
   met-parted members e h =
       let r = some_below-found (length c) (λ n. meets_at e n (slot c n)) h in
       elim (cases_Bool (member members r.0)) [
@@ -82,7 +82,7 @@ module _ (u : Universe) (c : Chroot) where
       ]
 
   met-inside-outside : (members : List ℕ) (e : Entry)
-      → met u c e ≡ (met_inside u members c e || met_outside u members c e)
+      → meets_entry u c e ≡ (met_inside u members c e || met_outside u members c e)
   met-inside-outside members e =
       same_tests _ _ (met-parted members e)
       (λ h. elim (or_cases (met_inside u members c e) _ h) [
@@ -99,8 +99,8 @@ module _ (u : Universe) (c : Chroot) where
 
     -- after the change only what is outside of the set meets an entry
     met-changed : (members : List ℕ) (e : Entry)
-        → met u (changed f c members) e ≡ met_outside u members c e
-    unfolding met met_outside
+        → meets_entry u (changed f c members) e ≡ met_outside u members c e
+    unfolding meets_entry met_outside
     met-changed members e =
         ap (λ k. some_below k (λ n. meets_at e n (slot (changed f c members) n)))
         (length-changed f c members)
@@ -110,11 +110,12 @@ module _ (u : Universe) (c : Chroot) where
         ∙ at-changed (member members n) (λ b. satisfies_entry u e (variant n b)) (slot c n))
 
     needs-changed : (members : List ℕ) (e : Entry)
-        → (met u c e && not (met u (changed f c members) e)) ≡ needs_members u members c e
+        → (meets_entry u c e && not (meets_entry u (changed f c members) e))
+        ≡ needs_members u members c e
     needs-changed members e =
         let before = met-inside-outside members e in
         let after = met-changed members e in
-        ap (λ b. b && not (met u (changed f c members) e)) before
+        ap (λ b. b && not (meets_entry u (changed f c members) e)) before
         ∙ (ap (λ b. (met_inside u members c e || met_outside u members c e) && not b) after
         ∙ left_alone (met_inside u members c e) (met_outside u members c e))
 

@@ -1,5 +1,6 @@
 -- The names that are present, and tests of them.
 use Rattle.std.proofs.Common.{◌≡◌, ℕ, zero, suc, ◌+◌, ◌≤◌, Bool, true, false, List, [], ◌∷◌, ◌++◌, ◌<◌, refl, arith, inl, inr, length-set, get_or-set_same, get_or-set_other, sym, ap, ◌∙◌, add-one, length, append-nil, if◌then◌else◌}
+use Rattle.std.specs.Cmp.{both_ways as same_tests}
 use Rattle.std.specs.Prelude.{◌||◌, ◌==◌, None, Some, position, slice_set}
 use Rattle.std.specs.List.{list_any, position_or_len, sum_by}
 use Rattle.std.proofs.lemmas.Bool.{cases_Bool, cases_eq, cases_lt, eq-eqb, or_left, or_right, both_ways, false≢true, lt-ltb}
@@ -11,7 +12,6 @@ use Rattle.farm_model.specs.declared.types.Slot.TheVariants.{Absent, Unpacked, C
 use Rattle.farm_model.specs.Below.{some_below, sum_below}
 use Rattle.farm_model.specs.Chroot.{Chroot, slot, is_present}
 use Rattle.farm_model.proofs.BelowLaws.{some_below-at, some_below-found, sum_below-change}
-use Rattle.farm_model.proofs.TestLaws.{same_tests}
 use Rattle.chroot_state.specs.Present.{if_present, sum_present, ListsPresent}
 
 -- ---- sums

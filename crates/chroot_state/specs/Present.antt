@@ -2,7 +2,7 @@
 --
 --   sum_present       a sum over them
 --   ListsPresent      a list has each of them once, and no other
---   IsListed          what the list of them keeps
+--   IsPresentList     what the list of them keeps
 use Rattle.std.specs.Prelude.{◌≡◌, ℕ, ◌<◌, ◌≤◌, ◌^◌, List, length, if◌then◌else◌}
 use Rattle.std.specs.List.{sum_by}
 use Rattle.farm_model.specs.declared.types.Slot.{Slot}
@@ -21,7 +21,7 @@ abbrev pub ListsPresent : Chroot → List ℕ → Type 0
 ListsPresent c listed = (f : ℕ → ℕ) → sum_by f listed ≡ sum_present c f
 
 -- there is room for all names, and each has a number of 32 bits
-pub record IsListed (c : Chroot) (present : List ℕ) (room : ℕ) : Type 0 where
+pub record IsPresentList (c : Chroot) (present : List ℕ) (room : ℕ) : Type 0 where
   pub listed : ListsPresent c present
   pub fits : length c ≤ room
   pub small : length c < 2 ^ 32

@@ -24,7 +24,7 @@ impl VariantTest for MissesEntries<'_> {
     ghost fits = { λ u t. AreSlots u t.slots.now };
 
     ghost test = { λ u t v.
-        chroots.unmet (chroots.met u t.slots.now) (chroots.entries u v) };
+        chroots.unmet (chroots.meets_entry u t.slots.now) (chroots.entries u v) };
 
     fn passes(&self, universe: &Universe, variant: Variant) -> bool {
         let relations = universe.relations(variant);
@@ -43,7 +43,7 @@ impl SlotTest for IsUnsettled<'_> {
     ghost fits = { λ u t. AreSlots u t.slots.now };
 
     ghost test = { λ u t n s. chroots.is_unpacked s
-        || chroots.holds (λ b. chroots.unmet (chroots.met u t.slots.now)
+        || chroots.holds (λ b. chroots.unmet (chroots.meets_entry u t.slots.now)
         (chroots.entries u (variant n b))) s };
 
     fn passes(&self, universe: &Universe, name: u32, slot: Slot) -> bool {

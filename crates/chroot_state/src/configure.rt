@@ -28,7 +28,7 @@ impl VariantTest for MissesPreDepends<'_> {
     ghost fits = { λ u t. AreSlots u t.slots.now };
 
     ghost test = { λ u t v.
-        chroots.unmet (chroots.met u t.slots.now) (packages.pre_depends u v) };
+        chroots.unmet (chroots.meets_entry u t.slots.now) (packages.pre_depends u v) };
 
     fn passes(&self, universe: &Universe, variant: Variant) -> bool {
         let pre_depends = &universe.relations(variant).pre_depends;

@@ -20,14 +20,14 @@ pub struct Slots {
 
 impl Model for Slots {
     ghost use Rattle.std.specs.Vec.{vec_capacity};
-    ghost use Rattle.chroot_state.specs.Present.{IsListed};
+    ghost use Rattle.chroot_state.specs.Present.{IsPresentList};
     ghost use Rattle.farm_model.specs.Chroot.{Chroot};
 
     ghost Value = { Chroot };
 
     ghost view = { λ s. s.slots.items };
 
-    ghost invariant = { λ s. IsListed s.slots.items s.present.items (vec_capacity s.present) };
+    ghost invariant = { λ s. IsPresentList s.slots.items s.present.items (vec_capacity s.present) };
 }
 
 /// Tells whether a variant is there, unpacked or configured.

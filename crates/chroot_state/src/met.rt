@@ -32,10 +32,10 @@ impl SlotTest for Meets<'_> {
 }
 
 /// Tells whether an entry is met (Debian Policy 7.2).
-#[tactic(auto, unfolding(farm_model::specs::Chroot::met))]
+#[tactic(auto, unfolding(farm_model::specs::Chroot::meets_entry))]
 pub fn met(universe: &Universe, slots: &Slots, entry: &Entry) -> bool
     requires { AreSlots universe.now slots.now }
-    ensures { result ≡ chroots.met universe.now slots.now entry.now }
+    ensures { result ≡ chroots.meets_entry universe.now slots.now entry.now }
 {
     some_slot_for(universe, slots, entry, &Meets { entry })
 }
@@ -135,7 +135,7 @@ pub fn pre_met(universe: &Universe, name: u32, slots: &Slots, entry: &Entry) -> 
 /// Tells whether some entry is not met.
 pub fn misses(universe: &Universe, slots: &Slots, entries: &Relations) -> bool
     requires { AreSlots universe.now slots.now }
-    ensures { result ≡ chroots.unmet (chroots.met universe.now slots.now) entries.now }
+    ensures { result ≡ chroots.unmet (chroots.meets_entry universe.now slots.now) entries.now }
 {
     entries
         .entries()

@@ -1,5 +1,5 @@
 pub mod Words
 pub mod Pairs
 pub mod Meanings
-mod Lanes
+pub mod Lanes
 mod Blocks

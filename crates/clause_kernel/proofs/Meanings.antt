@@ -6,7 +6,7 @@ use Rattle.std.proofs.lemmas.Bool.{both_ways, cases_lt, and_parts, eqb-true, eq-
 use Rattle.std.proofs.lemmas.List.{get_or_past}
 use mir.Syntax.{w64}
 use Rattle.clause_kernel.specs.Rows.{word_has, row_has, Has, Hits, Met, Within, HasEither, HasBoth, HasRest}
-use Rattle.clause_kernel.specs.Kernels.{shares_bit, lies_in, meets, bits_left, hits, met, within, same, joined, common, remaining}
+use Rattle.clause_kernel.specs.Kernels.{shares_bit, lies_in, meets, bits_left, hits, met, within, same_rows, joined, common, remaining}
 use Rattle.clause_kernel.proofs.Words.{word_has_zero, word_has-and, word_has-or, word_has-left, same_from_word_has, shares_bit-bits, lies_in-bits, meets-bits, and_not}
 use Rattle.clause_kernel.proofs.Pairs.{some_pair-at, some_pair-from, every_pair-at, every_pair-from}
 
@@ -41,18 +41,18 @@ within-bits a b long = (
   (λ all. every_pair-from lies_in a b (λ i. (lies_in-bits _ _).1 (all i))),
 )
 
-pub same-equal : (a b : List ℕ) → length a ≡ length b → (same a b ≡ true) ↔ (a ≡ b)
+pub same-equal : (a b : List ℕ) → length a ≡ length b → (same_rows a b ≡ true) ↔ (a ≡ b)
 same-equal a b long = (
   (λ e. equal a b long e),
   (λ e. every_pair-from ◌==◌ a b (λ i. eq-eqb _ _ (ap (λ l. get_or l i 0) e))),
 )
   where
-    equal : (a b : List ℕ) → length a ≡ length b → same a b ≡ true → a ≡ b
+    equal : (a b : List ℕ) → length a ≡ length b → same_rows a b ≡ true → a ≡ b
     equal [] [] long e = refl
     equal [] (y ∷ ys) long e = absurd (omega arith)
     equal (x ∷ xs) [] long e = absurd (omega arith)
     equal (x ∷ xs) (y ∷ ys) long e =
-        ap₂ (λ w l. w ∷ l) (eqb-true x y (and_parts (x == y) (same xs ys) e).0)
+        ap₂ (λ w l. w ∷ l) (eqb-true x y (and_parts (x == y) (same_rows xs ys) e).0)
         (equal xs ys (omega arith) (and_parts (x == y) _ e).1)
 
 -- rows of one length with the same bits are equal

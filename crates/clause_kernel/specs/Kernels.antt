@@ -1,7 +1,7 @@
 -- The tests and changes of two rows as functions that compute, word by word. `Rows` says what they
 -- mean.
 --
---   hits, met, within, same        tests
+--   hits, met, within, same_rows   tests
 --   joined, common, remaining      rows
 use Rattle.std.specs.Prelude.{◌==◌, not, ◌&&◌, ℕ, Bool, List, bit_and, bit_or, bit_xor}
 use Rattle.std.specs.List.{list_all, list_any}
@@ -44,8 +44,8 @@ abbrev pub within : List ℕ → List ℕ → Bool
 within = every_pair lies_in
 
 -- the rows are equal
-abbrev pub same : List ℕ → List ℕ → Bool
-same = every_pair ◌==◌
+abbrev pub same_rows : List ℕ → List ℕ → Bool
+same_rows = every_pair ◌==◌
 
 -- the bits of a or b
 abbrev pub joined : List ℕ → List ℕ → List ℕ

@@ -1,7 +1,7 @@
 //! Tests of two rows of one length.
 
 ghost use Rattle.std.specs.Prelude.{◌≡◌, ◌↔◌, ◌==◌, not, ℕ, Bool, IsTrue, length};
-ghost use Rattle.clause_kernel.specs.Kernels.{some_pair, shares_bit, meets, lies_in, hits, met, within, same};
+ghost use Rattle.clause_kernel.specs.Kernels.{some_pair, shares_bit, meets, lies_in, hits, met, within, same_rows};
 ghost use Rattle.clause_kernel.specs.Rows.{Hits, Met, Within};
 
 use super::BLOCK;
@@ -37,7 +37,7 @@ pub fn within(a: &[u64], b: &[u64]) -> bool
 /// Tells whether the rows are equal.
 pub fn same(a: &[u64], b: &[u64]) -> bool
     requires { length a.now ≡ length b.now }
-    ensures test { result ≡ same a.now b.now }
+    ensures test { result ≡ same_rows a.now b.now }
     ensures equal { IsTrue result ↔ (a.now ≡ b.now) }
 {
     !some_pair::<Differs>(a, b)

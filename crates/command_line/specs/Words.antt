@@ -3,7 +3,7 @@
 --
 --   IsWord words text          a word is this text
 --   EndsWord words text        a word ends with this text, as `--schedule=0,1` with `0,1`
---   AreWords words paths       the names of the four files are words
+--   ArePathWords words paths   the names of the four files are words
 --   IsAskedBy words asked      what is asked for has its names and its schedule from the words
 --   IsRefusedFor words fault   a bad schedule comes from the words, and is none
 use Rattle.std.specs.Prelude.{◌≡◌, ℕ, true, ◌==◌, List, [], Ok, Err}
@@ -25,7 +25,7 @@ IsWord words text = list_any (λ word. bytes_eq word text) words ≡ true
 abbrev pub EndsWord : List (List ℕ) → List ℕ → Type 0
 EndsWord words text = list_any (λ word. ends_with (λ a b. a == b) word text) words ≡ true
 
-pub record AreWords (words : List (List ℕ)) (paths : Paths) : Type 0 where
+pub record ArePathWords (words : List (List ℕ)) (paths : Paths) : Type 0 where
   pub packages : IsWord words paths.packages.now
   pub sources : IsWord words paths.sources.now
   pub farm : IsWord words paths.farm.now
@@ -38,17 +38,18 @@ HasSchedule words schedule = (text : List ℕ) × EndsWord words text
 
 abbrev pub IsRequestedBy : List (List ℕ) → Request → Type 0
 IsRequestedBy words CheckInput = words ≡ []
-IsRequestedBy words (Check paths json) = AreWords words paths
-IsRequestedBy words (Explain paths json) = AreWords words paths
-IsRequestedBy words (ListPlan paths number) = AreWords words paths
-IsRequestedBy words (Cert paths) = AreWords words paths
-IsRequestedBy words (VerifyCert cert paths) = IsWord words cert.now × AreWords words paths
-IsRequestedBy words (Step schedule paths) = HasSchedule words schedule.items × AreWords words paths
-IsRequestedBy words (StepBy list paths) = EndsWord words list.now × AreWords words paths
+IsRequestedBy words (Check paths json) = ArePathWords words paths
+IsRequestedBy words (Explain paths json) = ArePathWords words paths
+IsRequestedBy words (ListPlan paths number) = ArePathWords words paths
+IsRequestedBy words (Cert paths) = ArePathWords words paths
+IsRequestedBy words (VerifyCert cert paths) = IsWord words cert.now × ArePathWords words paths
+IsRequestedBy words (Step schedule paths) =
+    HasSchedule words schedule.items × ArePathWords words paths
+IsRequestedBy words (StepBy list paths) = EndsWord words list.now × ArePathWords words paths
 
 abbrev pub IsAskedBy : List (List ℕ) → Asked → Type 0
 IsAskedBy words (Answer request) = IsRequestedBy words request
-IsAskedBy words (Run paths progress) = AreWords words paths
+IsAskedBy words (Run paths progress) = ArePathWords words paths
 
 -- a word ends with a text that is no schedule
 abbrev pub HasBadSchedule : List (List ℕ) → Type 0

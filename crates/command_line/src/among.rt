@@ -3,7 +3,7 @@
 ghost use Rattle.std.specs.Prelude.{◌≡◌, ◌==◌, map, true};
 ghost use Rattle.std.specs.List.{ends_with, list_any};
 ghost use Rattle.std.specs.Str.{bytes_eq};
-ghost use Rattle.command_line.specs.Words.{AreWords, EndsWord, IsWord};
+ghost use Rattle.command_line.specs.Words.{ArePathWords, EndsWord, IsWord};
 
 use crate::request::Paths;
 use std::convert::AsStr;
@@ -27,7 +27,7 @@ pub fn ends_word<S: AsStr>(words: &[S], text: &str) -> bool
 
 /// Tells whether the names of the four files are words.
 pub fn are_words<S: AsStr>(words: &[S], paths: Paths<'_>) -> bool
-    ensures { result ≡ true → AreWords (map S.text words.now) paths.entry }
+    ensures { result ≡ true → ArePathWords (map S.text words.now) paths.entry }
 {
     if !is_word(words, paths.packages) {
         return false;

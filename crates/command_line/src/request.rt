@@ -1,7 +1,7 @@
 //! What the words ask for.
 
 ghost use Rattle.std.specs.Prelude.{◌≡◌, ℕ, List, IfErr, IfOk, IsOkAnd, length, map};
-ghost use Rattle.command_line.specs.Words.{AreWords, IsAskedBy, IsRefusedFor, IsRequestedBy};
+ghost use Rattle.command_line.specs.Words.{ArePathWords, IsAskedBy, IsRefusedFor, IsRequestedBy};
 
 use crate::among::{are_words, ends_word, is_word};
 use crate::command::{
@@ -146,7 +146,7 @@ fn step_of<'a, S: AsStr>(
     list: &'a str,
     paths: Paths<'a>,
 ) -> Result<Request<'a>, WordsFault>
-    requires paths { AreWords (map S.text words.now) paths }
+    requires paths { ArePathWords (map S.text words.now) paths }
     ensures asked { IfOk result (IsRequestedBy (map S.text words.entry.now)) }
     ensures refused { IfErr result (IsRefusedFor (map S.text words.entry.now)) }
 {
@@ -171,7 +171,7 @@ fn verify_of<'a, S: AsStr>(
     cert: &'a str,
     paths: Paths<'a>,
 ) -> Result<Request<'a>, WordsFault>
-    requires paths { AreWords (map S.text words.now) paths }
+    requires paths { ArePathWords (map S.text words.now) paths }
     ensures asked { IfOk result (IsRequestedBy (map S.text words.entry.now)) }
     ensures refused { IfErr result (IsRefusedFor (map S.text words.entry.now)) }
 {
@@ -188,7 +188,7 @@ fn request_of<'a, S: AsStr>(
     matches: &ArgMatches<'a>,
     paths: Paths<'a>,
 ) -> Result<Request<'a>, WordsFault>
-    requires paths { AreWords (map S.text words.now) paths }
+    requires paths { ArePathWords (map S.text words.now) paths }
     ensures asked { IfOk result (IsRequestedBy (map S.text words.entry.now)) }
     ensures refused { IfErr result (IsRefusedFor (map S.text words.entry.now)) }
 {

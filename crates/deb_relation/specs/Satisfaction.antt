@@ -1,7 +1,7 @@
 -- When a package satisfies an alternative (Debian Policy 7.1, and 7.5 for virtual packages).
 --
 --   in_relation r v     the version v stands in the relation r
---   satisfies facts a   the package satisfies the alternative a
+--   package_satisfies facts a  the package satisfies the alternative a
 use Rattle.std.specs.Prelude.{ℕ, Bool, true, ◌&&◌, ◌||◌, List, Option, Some, None}
 use Rattle.std.specs.List.{list_any}
 use Rattle.std.specs.Option.{is_none}
@@ -54,6 +54,6 @@ is_provided provides atom = list_any (λ entry. list_any (provides_it atom) entr
 
 -- by this project's own rule no package satisfies an alternative with a qualifier (those that mean
 -- nothing are taken off before)
-abbrev pub satisfies : Facts → Atom → Bool
-satisfies facts atom =
+abbrev pub package_satisfies : Facts → Atom → Bool
+package_satisfies facts atom =
     is_none atom.qualifier && (is_its_own facts atom || is_provided facts.provides atom)

@@ -3,7 +3,7 @@
 ghost use Rattle.std.specs.Prelude.{◌≡◌};
 ghost use Rattle.std.specs.List.{list_any};
 ghost use Rattle.std.specs.Option.{option_copied};
-ghost use Rattle.deb_relation.specs.Satisfaction.{admits, in_relation, is_its_own, provides_in, provides_it, is_provided, satisfies};
+ghost use Rattle.deb_relation.specs.Satisfaction.{admits, in_relation, is_its_own, provides_in, provides_it, is_provided, package_satisfies};
 ghost use Rattle.deb_relation.specs.View.{facts_of};
 
 use crate::atom::Atom;
@@ -26,7 +26,7 @@ pub struct Facts<'a> {
 /// nothing, and one without a version satisfies no relation. The call
 /// takes no memory.
 pub fn satisfies(facts: &Facts, atom: &Atom) -> bool
-    ensures { result ≡ satisfies (facts_of facts.now) atom.now }
+    ensures { result ≡ package_satisfies (facts_of facts.now) atom.now }
 {
     atom.qualifier().is_none() && (is_its_own(facts, atom) || is_provided(facts.provides, atom))
 }

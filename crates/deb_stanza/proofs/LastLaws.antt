@@ -8,7 +8,7 @@ use Rattle.deb_stanza.specs.declared.table.Start.{Start}
 use Rattle.deb_stanza.specs.Cut.{IsCut, cut}
 use Rattle.deb_stanza.specs.Draft.{last_texts}
 use Rattle.deb_stanza.specs.Stanza.{name_of, same_name}
-use Rattle.deb_stanza.specs.View.{first_of, raw_of, texts_in, value_among}
+use Rattle.deb_stanza.specs.View.{first_of_start, raw_of, texts_in, value_among}
 use Rattle.deb_stanza.proofs.CutLaws.{IsCut-below, range-to_end}
 use Rattle.deb_stanza.proofs.TableLaws.{length-texts}
 
@@ -16,7 +16,7 @@ use Rattle.deb_stanza.proofs.TableLaws.{length-texts}
 
 pub last-start : (texts : List (List ℕ)) (ps : List Start) (s : Start)
     → Some s ≡ slice_get ps (length ps - 1)
-    → drop s.first texts ≡ last_texts (cut first_of raw_of texts ps)
+    → drop s.first texts ≡ last_texts (cut first_of_start raw_of texts ps)
 last-start texts [] s is = absurd cc
 last-start texts (p ∷ []) s is =
     let same : s ≡ p = cc in
@@ -25,17 +25,17 @@ last-start texts (p ∷ q ∷ ps) s is =
     let more : length (p ∷ q ∷ ps) - 1 ≡ suc (length (q ∷ ps) - 1) = omega arith in
     last-start texts (q ∷ ps) s (rw more at is)
 
-pub last-within : (n : ℕ) (ps : List Start) (s : Start) → IsCut first_of n ps
+pub last-within : (n : ℕ) (ps : List Start) (s : Start) → IsCut first_of_start n ps
     → Some s ≡ slice_get ps (length ps - 1) → s.first ≤ n
 last-within n [] s cut is = absurd cc
 last-within n (p ∷ []) s cut is =
-    let same : s ≡ p = cc in rw same (omega (arith, IsCut-below first_of n p [] cut))
+    let same : s ≡ p = cc in rw same (omega (arith, IsCut-below first_of_start n p [] cut))
 last-within n (p ∷ q ∷ ps) s cut is =
     let more : length (p ∷ q ∷ ps) - 1 ≡ suc (length (q ∷ ps) - 1) = omega arith in
     last-within n (q ∷ ps) s cut.1 (rw more at is)
 
 pub last-none : (texts : List (List ℕ)) (ps : List Start) → None ≡ slice_get ps (length ps - 1)
-    → [] ≡ last_texts (cut first_of raw_of texts ps)
+    → [] ≡ last_texts (cut first_of_start raw_of texts ps)
 last-none texts [] is = refl
 last-none texts (p ∷ []) is = absurd cc
 last-none texts (p ∷ q ∷ ps) is =

@@ -15,7 +15,7 @@ use Rattle.std.proofs.lemmas.Map.Text.{is_eq-slice_cmp}
 use Rattle.deb_text.proofs.ListLaws.{bytes-same}
 use Rattle.deb_text.specs.Cuts.{is_nil}
 use Rattle.deb_stanza.specs.Cut.{onto_last}
-use Rattle.deb_stanza.specs.Draft.{State, last_texts, open_texts, open_names, longer, larger, with_head, lowered, has_key, HasNames, IsKnown, IsFit, draft_state}
+use Rattle.deb_stanza.specs.Draft.{State, last_texts, open_texts, open_names, longer, larger, with_head, lowered, has_key, HasNames, HasFieldNames, IsFitDraft, draft_state}
 use Rattle.deb_stanza.specs.declared.draft.Draft.{Draft}
 use Rattle.deb_stanza.specs.declared.table.Start.{Start}
 use Rattle.deb_text.specs.Lines.{Line}
@@ -83,7 +83,7 @@ colons-longer more (t ∷ u ∷ us) have =
     (colons-longer more (u ∷ us) parts.1)
 
 pub known-longer : (names : Option (BTreeSet (Vec ℕ))) (more : List ℕ) (ts : List (List ℕ))
-    → IsKnown names ts → IsKnown names (onto_last (λ t. t ++ more) ts)
+    → HasFieldNames names ts → HasFieldNames names (onto_last (λ t. t ++ more) ts)
 known-longer names more ts known = record {
   names =
       subst (λ given. IfSome names (λ set. HasNames set given))
@@ -102,10 +102,6 @@ pub push_or : (a b c : Bool) → ((a || b) || c) ≡ (b || (a || c))
 push_or true true c = refl
 push_or true false c = refl
 push_or false b c = refl
-
-pub or_none : (a : Bool) → (a || false) ≡ a
-or_none true = refl
-or_none false = refl
 
 twice_or : (a b : Bool) → (a || b) ≡ (a || (a || b))
 twice_or true b = refl
@@ -181,15 +177,15 @@ nil-raws bytes fields (p ∷ ps) some = refl
 
 -- the names after such a line
 pub known-head : (d : Draft) (more : Option (BTreeSet (Vec ℕ))) (s : State) (l : Line)
-    (name : List ℕ) → IsFit d → s ≡ with_head (draft_state d) l
+    (name : List ℕ) → IsFitDraft d → s ≡ with_head (draft_state d) l
     → name ≡ name_of l.1 → has_colon l.1 ≡ true
     → IfSome more (λ set. HasNames set (open_names (draft_state d) ++ name ∷ []))
-    → IsKnown more (open_texts s)
+    → HasFieldNames more (open_texts s)
 known-head d more s l name fit is name_is colon has =
     let some = λ (o : d.is_open ≡ true).
     nil-raws d.table.bytes.items d.table.fields.items d.table.paragraphs.items (fit.some o) in
     let ts = open_texts (draft_state d) in
-    subst (IsKnown more)
+    subst (HasFieldNames more)
     (sym (ap open_texts is ∙ open_texts-head (table_raws d.table) d.is_open l some))
     (record {
       names =

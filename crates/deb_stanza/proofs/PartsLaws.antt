@@ -7,7 +7,7 @@ use Rattle.std.specs.List.{slice_split, onto_first, flat_map}
 use Rattle.deb_text.specs.Lines.{Line}
 use Rattle.deb_text.proofs.PartLaws.{split-cons}
 use Rattle.deb_stanza.specs.Cut.{onto_last}
-use Rattle.deb_stanza.specs.Stanza.{continues, continuation, field_text, texts_of, last_of}
+use Rattle.deb_stanza.specs.Stanza.{continues, continuation, field_text, texts_of, last_part_of}
 
 module _ {X : Type 0} (p : X → Bool) where
   -- the last part
@@ -53,7 +53,7 @@ module _ {X : Type 0} (p : X → Bool) where
         onto q [] = refl
         onto q (r ∷ rs) = refl
 
-pub last_of-push : {X : Type 0} (qs : List (List X)) (q : List X) → last_of (qs ++ q ∷ []) ≡ q
+pub last_of-push : {X : Type 0} (qs : List (List X)) (q : List X) → last_part_of (qs ++ q ∷ []) ≡ q
 last_of-push [] q = refl
 last_of-push (r ∷ []) q = refl
 last_of-push (r ∷ s ∷ ss) q = last_of-push (s ∷ ss) q

@@ -6,7 +6,7 @@ use Rattle.std.proofs.lemmas.List.{get_or-map, length-map}
 use Rattle.deb_stanza.specs.declared.table.Start.{Start}
 use Rattle.deb_stanza.specs.Cut.{end_at}
 use Rattle.deb_stanza.specs.Stanza.{name_of, same_name, value_of, paragraph_at}
-use Rattle.deb_stanza.specs.View.{finished, first_of, raw_of, texts_in, raws_in, value_named, value_among}
+use Rattle.deb_stanza.specs.View.{paragraph_of_raw, first_of_start, raw_of, texts_in, raws_in, value_named, value_among}
 use Rattle.deb_stanza.proofs.CutLaws.{get_or-cut, range-cons}
 use Rattle.deb_stanza.proofs.TableLaws.{length-cut, length-texts}
 
@@ -35,40 +35,40 @@ found-later name texts i j lt le is =
 -- the fields of a paragraph
 pub value_of-among : (bytes fields : List ℕ) (paragraphs : List Start) (i : ℕ) (d : Start)
     (name : List ℕ) → i < length paragraphs
-    → value_of (paragraph_at (map finished (raws_in bytes fields paragraphs)) i) name
+    → value_of (paragraph_at (map paragraph_of_raw (raws_in bytes fields paragraphs)) i) name
     ≡ value_among name
     (slice_range (texts_in bytes fields) (get_or paragraphs i d).first
-    (end_at first_of (length fields) paragraphs i))
+    (end_at first_of_start (length fields) paragraphs i))
 value_of-among bytes fields paragraphs i d name lt =
     let raws = raws_in bytes fields paragraphs in
     let within : i < length raws =
-    omega (arith, length-cut first_of raw_of (texts_in bytes fields) paragraphs) in
+    omega (arith, length-cut first_of_start raw_of (texts_in bytes fields) paragraphs) in
     ap (λ p. value_of p name)
-    (get_or-map finished raws i (record { line = 0; texts = [] })
+    (get_or-map paragraph_of_raw raws i (record { line = 0; texts = [] })
     (record { line = 0; fields = [] }) within)
-    ∙ ap (λ raw. value_of (finished raw) name)
-    (get_or-cut first_of raw_of (texts_in bytes fields) paragraphs i d
+    ∙ ap (λ raw. value_of (paragraph_of_raw raw) name)
+    (get_or-cut first_of_start raw_of (texts_in bytes fields) paragraphs i d
     (record { line = 0; texts = [] }) lt)
     ∙ ap (λ n. value_among name (slice_range (texts_in bytes fields) (get_or paragraphs i d).first
-    (end_at first_of n paragraphs i))) (length-texts bytes fields)
+    (end_at first_of_start n paragraphs i))) (length-texts bytes fields)
 
 pub line_of-paragraph : (bytes fields : List ℕ) (paragraphs : List Start) (i : ℕ) (d : Start)
     → i < length paragraphs
-    → (paragraph_at (map finished (raws_in bytes fields paragraphs)) i).line
+    → (paragraph_at (map paragraph_of_raw (raws_in bytes fields paragraphs)) i).line
     ≡ (get_or paragraphs i d).line
 line_of-paragraph bytes fields paragraphs i d lt =
     let raws = raws_in bytes fields paragraphs in
     let within : i < length raws =
-    omega (arith, length-cut first_of raw_of (texts_in bytes fields) paragraphs) in
+    omega (arith, length-cut first_of_start raw_of (texts_in bytes fields) paragraphs) in
     ap (λ p. p.line)
-    (get_or-map finished raws i (record { line = 0; texts = [] })
+    (get_or-map paragraph_of_raw raws i (record { line = 0; texts = [] })
     (record { line = 0; fields = [] }) within)
     ∙ ap (λ raw. raw.line)
-    (get_or-cut first_of raw_of (texts_in bytes fields) paragraphs i d
+    (get_or-cut first_of_start raw_of (texts_in bytes fields) paragraphs i d
     (record { line = 0; texts = [] }) lt)
 
 pub length-paragraphs : (bytes fields : List ℕ) (paragraphs : List Start)
-    → length (map finished (raws_in bytes fields paragraphs)) ≡ length paragraphs
+    → length (map paragraph_of_raw (raws_in bytes fields paragraphs)) ≡ length paragraphs
 length-paragraphs bytes fields paragraphs =
-    length-map (raws_in bytes fields paragraphs) finished
-    ∙ length-cut first_of raw_of (texts_in bytes fields) paragraphs
+    length-map (raws_in bytes fields paragraphs) paragraph_of_raw
+    ∙ length-cut first_of_start raw_of (texts_in bytes fields) paragraphs

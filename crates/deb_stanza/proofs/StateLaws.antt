@@ -8,9 +8,9 @@ use Rattle.deb_text.specs.Lines.{Line}
 use Rattle.deb_text.specs.Steps.{answer, judged, steps}
 use Rattle.deb_text.proofs.StepLaws.{steps-judged}
 use Rattle.deb_stanza.specs.Cut.{onto_last}
-use Rattle.deb_stanza.specs.Draft.{State, open_texts, open_names, longer, larger, with_line, step, raw_part, state_of}
-use Rattle.deb_stanza.specs.Stanza.{name_of, separates, continues, texts_of, parts, open_part, last_of, code_of, told_at, fault_of, paragraph_of, paragraphs_of}
-use Rattle.deb_stanza.specs.View.{Raw, finished}
+use Rattle.deb_stanza.specs.Draft.{State, open_texts, open_names, longer, larger, with_line, draft_step, raw_part, state_of}
+use Rattle.deb_stanza.specs.Stanza.{name_of, separates, continues, texts_of, parts, open_part, last_part_of, line_refusal, told_at, fault_of, paragraph_of, paragraphs_of}
+use Rattle.deb_stanza.specs.View.{Raw, paragraph_of_raw}
 use Rattle.deb_stanza.proofs.CutLaws.{onto_last-push}
 use Rattle.deb_stanza.proofs.NameLaws.{last_texts-push}
 use Rattle.deb_stanza.proofs.PartsLaws.{split-last, split-at, split-in, last_of-push, texts_of-head, texts_of-more}
@@ -23,7 +23,7 @@ the_state raws is_open = record { raws = raws; is_open = is_open }
 
 -- the state that these parts make
 abbrev made_of : List (List Line) → State
-made_of ps = the_state (map raw_part (filter some ps)) (some (last_of ps))
+made_of ps = the_state (map raw_part (filter some ps)) (some (last_part_of ps))
 
 raws-append : (init : List (List Line)) (q : List Line)
     → map raw_part (filter some (init ++ q ∷ []))
@@ -90,7 +90,7 @@ some≢none e = absurd cc
 
 within : (init : List (List Line)) (q : List Line) (m : Line) (given : List (List ℕ))
     → separates m ≡ false
-    → code_of (some (last_of (init ++ q ∷ []))) given m ≡ None
+    → line_refusal (some (last_part_of (init ++ q ∷ []))) given m ≡ None
     → with_line (made_of (init ++ q ∷ [])) m ≡ made_of (init ++ (q ++ m ∷ []) ∷ [])
 within init [] m given solid fine =
     elim (cases_Bool (continues m)) [
@@ -107,7 +107,7 @@ within init (l ∷ q) m given solid fine =
 
 -- the texts of the open part
 open_texts-made : (init : List (List Line)) (q : List Line)
-    → open_texts (made_of (init ++ q ∷ [])) ≡ texts_of (last_of (init ++ q ∷ []))
+    → open_texts (made_of (init ++ q ∷ [])) ≡ texts_of (last_part_of (init ++ q ∷ []))
 open_texts-made init [] =
     ap open_texts (made-closed init) ∙ ap texts_of (sym (last_of-push init []))
 open_texts-made init (l ∷ q) =
@@ -116,7 +116,7 @@ open_texts-made init (l ∷ q) =
     ∙ ap texts_of (sym (last_of-push init (l ∷ q)))
 
 grows : (before : List Line) (l : Line) (given : List (List ℕ))
-    → code_of (some (open_part before)) given l ≡ None
+    → line_refusal (some (open_part before)) given l ≡ None
     → with_line (state_of before) l ≡ state_of (before ++ l ∷ [])
 grows before l given fine =
     let last = split-last separates before in
@@ -126,7 +126,7 @@ grows before l given fine =
       | inr solid ↦
           ap (λ (ps : List (List Line)). with_line (made_of ps) l) last.2
           ∙ within last.0 last.1 l given solid
-          (subst (λ (ps : List (List Line)). code_of (some (last_of ps)) given l ≡ None)
+          (subst (λ (ps : List (List Line)). line_refusal (some (last_part_of ps)) given l ≡ None)
           last.2 fine)
           ∙ sym (ap made_of
           (split-in separates before l solid ∙ ap (onto_last (λ q. q ++ l ∷ [])) last.2
@@ -138,7 +138,8 @@ names-open : (before : List Line)
 names-open before =
     let last = split-last separates before in
     ap (map name_of)
-    (subst (λ (ps : List (List Line)). open_texts (made_of ps) ≡ texts_of (last_of ps)) (sym last.2)
+    (subst (λ (ps : List (List Line)). open_texts (made_of ps) ≡ texts_of (last_part_of ps))
+    (sym last.2)
     (open_texts-made last.0 last.1))
 
 answer-same : (line : ℕ) (code : Option ℕ) (s t : State) → (code ≡ None → s ≡ t)
@@ -147,22 +148,24 @@ answer-same line None s t same = ap Ok (same refl)
 answer-same line (Some code) s t same = refl
 
 keeps : (before : List Line) (l : Line)
-    → step (state_of before) l ≡ answer (fault_of before l) (state_of (before ++ l ∷ []))
+    → draft_step (state_of before) l ≡ answer (fault_of before l) (state_of (before ++ l ∷ []))
 keeps before l =
-    ap (λ (given : List (List ℕ)). answer (told_at l.0 (code_of (some (open_part before)) given l))
+    ap (λ (given : List (List ℕ)). answer
+    (told_at l.0 (line_refusal (some (open_part before)) given l))
     (with_line (state_of before) l)) (names-open before)
     ∙ answer-same l.0 _ _ _ (grows before l (map name_of (texts_of (open_part before))))
 
 -- going from line to line gives what the lines say, or their first fault
 pub steps-lines : (ls : List Line)
-    → steps step (the_state [] false) ls ≡ judged fault_of state_of ls
-steps-lines ls = steps-judged step fault_of state_of keeps ls
+    → steps draft_step (the_state [] false) ls ≡ judged fault_of state_of ls
+steps-lines ls = steps-judged draft_step fault_of state_of keeps ls
 
-fuse : (qs : List (List Line)) → map finished (map raw_part qs) ≡ map paragraph_of qs
+fuse : (qs : List (List Line)) → map paragraph_of_raw (map raw_part qs) ≡ map paragraph_of qs
 fuse [] = refl
 fuse (q ∷ qs) = ap (λ ps. paragraph_of q ∷ ps) (fuse qs)
 
 -- the paragraphs are what the state comes to
 pub judged-paragraphs : (ls : List Line)
-    → judged fault_of (λ ys. map finished (state_of ys).raws) ls ≡ judged fault_of paragraphs_of ls
+    → judged fault_of (λ ys. map paragraph_of_raw (state_of ys).raws) ls
+    ≡ judged fault_of paragraphs_of ls
 judged-paragraphs ls = λ j. judged fault_of (λ ys. fuse (filter some (parts ys)) j) ls

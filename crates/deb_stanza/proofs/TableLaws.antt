@@ -3,7 +3,7 @@ use Rattle.std.proofs.Common.{◌≡◌, ℕ, suc, ◌<◌, List, [], ◌∷◌,
 use Rattle.deb_stanza.specs.declared.table.Start.{Start}
 use Rattle.deb_stanza.specs.Cut.{onto_last, IsCut, cut}
 use Rattle.deb_stanza.specs.Draft.{longer, larger}
-use Rattle.deb_stanza.specs.View.{first_of, own, raw_of, texts_in, raws_in}
+use Rattle.deb_stanza.specs.View.{first_of_start, own, raw_of, texts_in, raws_in}
 use Rattle.deb_stanza.proofs.CutLaws.{IsCut-more, IsCut-push, cut-append, cut-onto_last, cut-push}
 
 pub length-cut : {C X P : Type 0} (start : C → ℕ) (make : C → List X → P) (xs : List X)
@@ -16,19 +16,20 @@ length-texts bytes fields = length-cut own (λ start text. text) bytes fields
 
 module _ (bytes fields : List ℕ) (paragraphs : List Start) (text : List ℕ)
     (fields_are : IsCut own (length bytes) fields)
-    (paragraphs_are : IsCut first_of (length fields) paragraphs) where
-  among_texts : IsCut first_of (length (texts_in bytes fields)) paragraphs
+    (paragraphs_are : IsCut first_of_start (length fields) paragraphs) where
+  among_texts : IsCut first_of_start (length (texts_in bytes fields)) paragraphs
   among_texts =
-      subst (λ n. IsCut first_of n paragraphs) (sym (length-texts bytes fields)) paragraphs_are
+      subst (λ n. IsCut first_of_start n paragraphs) (sym (length-texts bytes fields))
+      paragraphs_are
 
   -- the last field goes on
   pub raws-longer : raws_in (bytes ++ 10 ∷ text) fields paragraphs
       ≡ onto_last (longer text) (raws_in bytes fields paragraphs)
   raws-longer =
-      ap (λ ts. cut first_of raw_of ts paragraphs)
+      ap (λ ts. cut first_of_start raw_of ts paragraphs)
       (cut-append own (λ start part. part) (λ t. t ++ 10 ∷ text) (10 ∷ text)
       (λ c part. refl) bytes fields fields_are)
-      ∙ cut-onto_last first_of raw_of (λ t. t ++ 10 ∷ text) (longer text) (λ c part. refl)
+      ∙ cut-onto_last first_of_start raw_of (λ t. t ++ 10 ∷ text) (longer text) (λ c part. refl)
       (texts_in bytes fields) paragraphs among_texts
 
   pub fields-longer : IsCut own (length (bytes ++ 10 ∷ text)) fields
@@ -44,8 +45,8 @@ module _ (bytes fields : List ℕ) (paragraphs : List Start) (text : List ℕ)
   pub raws-larger : raws_in (bytes ++ text) (fields ++ length bytes ∷ []) paragraphs
       ≡ onto_last (larger text) (raws_in bytes fields paragraphs)
   raws-larger =
-      ap (λ ts. cut first_of raw_of ts paragraphs) texts-push
-      ∙ cut-append first_of raw_of (larger text) (text ∷ []) (λ c part. refl)
+      ap (λ ts. cut first_of_start raw_of ts paragraphs) texts-push
+      ∙ cut-append first_of_start raw_of (larger text) (text ∷ []) (λ c part. refl)
       (texts_in bytes fields) paragraphs among_texts
 
   -- a paragraph begins with its first field
@@ -54,9 +55,9 @@ module _ (bytes fields : List ℕ) (paragraphs : List Start) (text : List ℕ)
       (paragraphs ++ record { first = length fields; line = line } ∷ [])
       ≡ raws_in bytes fields paragraphs ++ record { line = line; texts = text ∷ [] } ∷ []
   raws-push line =
-      ap (λ ts. cut first_of raw_of ts
+      ap (λ ts. cut first_of_start raw_of ts
       (paragraphs ++ record { first = length fields; line = line } ∷ [])) texts-push
-      ∙ cut-push first_of raw_of (text ∷ []) (texts_in bytes fields) paragraphs
+      ∙ cut-push first_of_start raw_of (text ∷ []) (texts_in bytes fields) paragraphs
       (record { first = length fields; line = line }) among_texts (sym (length-texts bytes fields))
 
   pub fields-push : 0 < length text
@@ -65,15 +66,15 @@ module _ (bytes fields : List ℕ) (paragraphs : List Start) (text : List ℕ)
       IsCut-push own (length bytes) (length (bytes ++ text)) fields (length bytes) fields_are refl
       (omega (arith, length-append bytes text, some))
 
-  pub paragraphs-more : IsCut first_of (length (fields ++ length bytes ∷ [])) paragraphs
+  pub paragraphs-more : IsCut first_of_start (length (fields ++ length bytes ∷ [])) paragraphs
   paragraphs-more =
-      IsCut-more first_of (length fields) (length (fields ++ length bytes ∷ [])) paragraphs
+      IsCut-more first_of_start (length fields) (length (fields ++ length bytes ∷ [])) paragraphs
       (omega (arith, length-append fields (length bytes ∷ []))) paragraphs_are
 
   pub paragraphs-push : (line : ℕ)
-      → IsCut first_of (length (fields ++ length bytes ∷ []))
+      → IsCut first_of_start (length (fields ++ length bytes ∷ []))
       (paragraphs ++ record { first = length fields; line = line } ∷ [])
   paragraphs-push line =
-      IsCut-push first_of (length fields) (length (fields ++ length bytes ∷ [])) paragraphs
+      IsCut-push first_of_start (length fields) (length (fields ++ length bytes ∷ [])) paragraphs
       (record { first = length fields; line = line }) paragraphs_are refl
       (omega (arith, length-append fields (length bytes ∷ [])))

@@ -11,8 +11,8 @@ use Rattle.std.specs.BTreeSet.{BTreeSet}
 use Rattle.deb_stanza.specs.declared.draft.Draft.{Draft}
 use Rattle.deb_stanza.specs.declared.table.Table.{Table}
 use Rattle.deb_stanza.specs.Cut.{onto_last}
-use Rattle.deb_stanza.specs.Stanza.{is_colon, name_of, separates, continues, code_of, told_at, first_number, texts_of, parts, open_part}
-use Rattle.deb_stanza.specs.View.{Raw, table_raws, table_texts, IsSound}
+use Rattle.deb_stanza.specs.Stanza.{is_colon, name_of, separates, continues, line_refusal, told_at, first_number, texts_of, parts, open_part}
+use Rattle.deb_stanza.specs.View.{Raw, table_raws, table_texts, IsSoundTable}
 
 -- the paragraphs so far, and whether the last one is open
 pub record State : Type 0 where
@@ -53,8 +53,8 @@ with_line s l =
     if separates l then record s { is_open = false }
     else (if continues l then record s { raws = onto_last (longer l.1) s.raws } else with_head s l)
 
-abbrev pub step : State → Line → Result State Fault
-step s l = answer (told_at l.0 (code_of s.is_open (open_names s) l)) (with_line s l)
+abbrev pub draft_step : State → Line → Result State Fault
+draft_step s l = answer (told_at l.0 (line_refusal s.is_open (open_names s) l)) (with_line s l)
 
 abbrev pub draft_state : Draft → State
 draft_state d = record { raws = table_raws d.table; is_open = d.is_open }
@@ -86,13 +86,13 @@ pub record HasNames (names : BTreeSet (Vec ℕ)) (given : List (List ℕ)) : Typ
   pub keys : (key : List ℕ) → has_key names key ≡ list_any (bytes_eq key) (map lowered given)
 
 -- the set, where there is one, has the names of these texts, and each text has a colon
-pub record IsKnown (set : Option (BTreeSet (Vec ℕ))) (texts : List (List ℕ)) : Type 0 where
+pub record HasFieldNames (set : Option (BTreeSet (Vec ℕ))) (texts : List (List ℕ)) : Type 0 where
   pub names : IfSome set (λ names. HasNames names (map name_of texts))
   pub colons : list_all (λ text. list_any is_colon text) texts ≡ true
 
-pub record IsFit (d : Draft) : Type 0 where
-  pub table : IsSound d.table
-  pub known : IsKnown d.names (open_texts (draft_state d))
+pub record IsFitDraft (d : Draft) : Type 0 where
+  pub table : IsSoundTable d.table
+  pub known : HasFieldNames d.names (open_texts (draft_state d))
   pub some : d.is_open ≡ true → is_nil d.table.paragraphs.items ≡ false
 
 -- where the file's bytes end, 2 ^ 32 at most

@@ -87,13 +87,13 @@ field_of text = record { name = name_of text; value = trimmed (after is_colon te
 abbrev pub parts : List Line → List (List Line)
 parts ls = slice_split separates ls
 
-abbrev pub last_of : {X : Type 0} → List (List X) → List X
-last_of [] = []
-last_of (q ∷ []) = q
-last_of (q ∷ r ∷ qs) = last_of (r ∷ qs)
+abbrev pub last_part_of : {X : Type 0} → List (List X) → List X
+last_part_of [] = []
+last_part_of (q ∷ []) = q
+last_part_of (q ∷ r ∷ qs) = last_part_of (r ∷ qs)
 
 abbrev pub open_part : List Line → List Line
-open_part ls = last_of (parts ls)
+open_part ls = last_part_of (parts ls)
 
 abbrev pub first_number : List Line → ℕ
 first_number [] = 0
@@ -123,8 +123,8 @@ head_fault given line =
 
 -- why a line is refused, where the fields of its paragraph have these names: it continues no field,
 -- or begins none
-abbrev pub code_of : Bool → List (List ℕ) → Line → Option ℕ
-code_of is_open given l =
+abbrev pub line_refusal : Bool → List (List ℕ) → Line → Option ℕ
+line_refusal is_open given l =
     if separates l then None
     else (if continues l then (if is_open then None else Some CONTINUES_NO_FIELD)
     else head_fault given l.1)
@@ -137,7 +137,7 @@ told_at line code = option_map (fault_at 0 line) code
 abbrev pub fault_of : List Line → Line → Option Fault
 fault_of before l =
     told_at l.0
-    (code_of (not (is_nil (open_part before))) (map name_of (texts_of (open_part before))) l)
+    (line_refusal (not (is_nil (open_part before))) (map name_of (texts_of (open_part before))) l)
 
 -- the paragraphs of a text, or its first fault; that it is too long is told at line 0
 unfoldable pub paragraphs_at : List ℕ → Result (List Paragraph) Fault

@@ -17,11 +17,11 @@ pub record Raw : Type 0 where
   pub line : ℕ
   pub texts : List (List ℕ)
 
-abbrev pub finished : Raw → Paragraph
-finished raw = record { line = raw.line; fields = map field_of raw.texts }
+abbrev pub paragraph_of_raw : Raw → Paragraph
+paragraph_of_raw raw = record { line = raw.line; fields = map field_of raw.texts }
 
-abbrev pub first_of : Start → ℕ
-first_of s = s.first
+abbrev pub first_of_start : Start → ℕ
+first_of_start s = s.first
 
 abbrev pub raw_of : Start → List (List ℕ) → Raw
 raw_of s texts = record { line = s.line; texts = texts }
@@ -34,7 +34,7 @@ abbrev pub texts_in : List ℕ → List ℕ → List (List ℕ)
 texts_in bytes fields = cut own (λ start text. text) bytes fields
 
 abbrev pub raws_in : List ℕ → List ℕ → List Start → List Raw
-raws_in bytes fields paragraphs = cut first_of raw_of (texts_in bytes fields) paragraphs
+raws_in bytes fields paragraphs = cut first_of_start raw_of (texts_in bytes fields) paragraphs
 
 abbrev pub table_texts : Table → List (List ℕ)
 table_texts t = texts_in t.bytes.items t.fields.items
@@ -43,12 +43,12 @@ abbrev pub table_raws : Table → List Raw
 table_raws t = raws_in t.bytes.items t.fields.items t.paragraphs.items
 
 -- no field is without a byte, and no paragraph without a field
-pub record IsSound (t : Table) : Type 0 where
+pub record IsSoundTable (t : Table) : Type 0 where
   pub fields : IsCut own (length t.bytes.items) t.fields.items
-  pub paragraphs : IsCut first_of (length t.fields.items) t.paragraphs.items
+  pub paragraphs : IsCut first_of_start (length t.fields.items) t.paragraphs.items
 
 abbrev pub table_paragraphs : Table → List Paragraph
-table_paragraphs t = map finished (table_raws t)
+table_paragraphs t = map paragraph_of_raw (table_raws t)
 
 -- ---- look-ups
 

@@ -7,9 +7,9 @@ ghost use Rattle.deb_text.specs.Cuts.{is_nil};
 ghost use Rattle.deb_text.specs.Lines.{control_lines};
 ghost use Rattle.deb_text.specs.Steps.{answer, judged};
 ghost use Rattle.deb_stanza.specs.Cut.{onto_last};
-ghost use Rattle.deb_stanza.specs.Draft.{draft_state, HasNames, IsFit, HasRoom, longer, names_from, open_names, step, with_head};
+ghost use Rattle.deb_stanza.specs.Draft.{draft_state, HasNames, IsFitDraft, HasRoom, longer, names_from, open_names, draft_step, with_head};
 ghost use Rattle.deb_stanza.specs.Stanza.{fault_of, head_fault, paragraphs_of, same_name, told_at};
-ghost use Rattle.deb_stanza.specs.View.{IsSound, line_of, table_paragraphs};
+ghost use Rattle.deb_stanza.specs.View.{IsSoundTable, line_of, table_paragraphs};
 
 use crate::error::{CONTINUES_NO_FIELD, FIELD_TWICE, MOST_BYTES};
 use crate::fields::{fault, head_name, insert_name};
@@ -34,7 +34,7 @@ pub struct Draft {
 /// A draft without paragraphs.
 pub fn empty_draft(alloc: Global) -> Draft
     ensures state { draft_state result ≡ record { raws = []; is_open = false } }
-    ensures fit { IsFit result }
+    ensures fit { IsFitDraft result }
     ensures bytes { result.table.bytes.items ≡ [] }
 {
     Draft {
@@ -47,9 +47,9 @@ pub fn empty_draft(alloc: Global) -> Draft
 impl Draft {
     /// Takes a line that separates.
     fn close(&mut self)
-        requires fit { IsFit self.old }
+        requires fit { IsFitDraft self.old }
         ensures state { draft_state self.new ≡ record (draft_state self.old) { is_open = false } }
-        ensures fit { IsFit self.new }
+        ensures fit { IsFitDraft self.new }
         ensures bytes { self.new.table.bytes.items ≡ self.old.table.bytes.items }
     {
         // Of the lines that separate, the first one alone changes something.
@@ -61,14 +61,14 @@ impl Draft {
 
     /// Takes a line that continues.
     fn go_on(&mut self, line: Line) -> Result<(), Fault>
-        requires fit { IsFit self.old }
+        requires fit { IsFitDraft self.old }
         ensures state { Gives refusal_of (λ _. draft_state self.new) result
             (if self.old.is_open
             then Ok (record (draft_state self.old) {
               raws = onto_last (longer line.entry.bytes.now) (draft_state self.old).raws;
             })
             else Err (fault_at 0 line.entry.number CONTINUES_NO_FIELD)) }
-        ensures fit { OnOk result (IsFit self.new) }
+        ensures fit { OnOk result (IsFitDraft self.new) }
         ensures grown { OnOk result (length self.new.table.bytes.items
             ≤ length self.old.table.bytes.items + length line.entry.bytes.now + 1) }
     {
@@ -81,13 +81,13 @@ impl Draft {
 
     /// Puts a field of this line into the open paragraph, or into a new one.
     fn add_head(&mut self, line: Line) -> Result<(), Fault>
-        requires sound { IsSound self.old.table }
+        requires sound { IsSoundTable self.old.table }
         requires some { self.old.is_open ≡ true → is_nil self.old.table.paragraphs.items ≡ false }
         requires text { 0 < length line.bytes.now }
         requires room { HasRoom self.old line.bytes.now }
         ensures state { OnOk result (draft_state self.new
             ≡ with_head (draft_state self.old) (line_of line.entry)) }
-        ensures sound { OnOk result (IsSound self.new.table) }
+        ensures sound { OnOk result (IsSoundTable self.new.table) }
         ensures some { OnOk result (is_nil self.new.table.paragraphs.items ≡ false) }
         ensures names { self.new.names ≡ self.old.names }
         ensures bytes { OnOk result (self.new.table.bytes.items
@@ -105,7 +105,7 @@ impl Draft {
 
     /// Where the fields of the open paragraph begin.
     fn open_start(&self) -> usize
-        requires { IsSound self.now.table }
+        requires { IsSoundTable self.now.table }
         ensures within { result ≤ length self.now.table.fields.items }
         ensures names { names_from self.now.table result ≡ open_names (draft_state self.now) }
     {
@@ -118,8 +118,8 @@ impl Draft {
 
     /// Puts the names of the open paragraph into a set, once it has many.
     fn keep_names(&mut self, alloc: Global) -> Result<(), AllocError>
-        requires fit { IsFit self.old }
-        ensures fit { OnOk result (IsFit self.new) }
+        requires fit { IsFitDraft self.old }
+        ensures fit { OnOk result (IsFitDraft self.new) }
         ensures state { draft_state self.new ≡ draft_state self.old }
         ensures table { self.new.table ≡ self.old.table }
     {
@@ -132,7 +132,7 @@ impl Draft {
 
     /// Tells whether no field of the open paragraph has this name. A set of names has it then.
     fn takes_name(&mut self, alloc: Global, name: &[u8]) -> Result<bool, AllocError>
-        requires fit { IsFit self.old }
+        requires fit { IsFitDraft self.old }
         ensures new { IfOk result (λ is_new. is_new
             ≡ not (list_any (same_name name.now) (open_names (draft_state self.old)))) }
         ensures names { OnOk result (IfSome self.new.names
@@ -148,13 +148,13 @@ impl Draft {
 
     /// Takes a line that begins a field.
     fn begin_field(&mut self, alloc: Global, line: Line) -> Result<(), Fault>
-        requires fit { IsFit self.old }
+        requires fit { IsFitDraft self.old }
         requires room { HasRoom self.old line.bytes.now }
         ensures state { Gives refusal_of (λ _. draft_state self.new) result
             (answer (told_at line.entry.number
             (head_fault (open_names (draft_state self.old)) line.entry.bytes.now))
             (with_head (draft_state self.old) (line_of line.entry))) }
-        ensures fit { OnOk result (IsFit self.new) }
+        ensures fit { OnOk result (IsFitDraft self.new) }
         ensures grown { OnOk result (length self.new.table.bytes.items
             ≤ length self.old.table.bytes.items + length line.entry.bytes.now + 1) }
     {
@@ -174,11 +174,11 @@ impl Draft {
     /// [`CONTINUES_NO_FIELD`], and those of [`head_name`](crate::fields::head_name), then
     /// [`FIELD_TWICE`], at the line. [`Fault::MEMORY`] where memory ran out.
     pub fn take_line(&mut self, alloc: Global, line: Line) -> Result<(), Fault>
-        requires fit { IsFit self.old }
+        requires fit { IsFitDraft self.old }
         requires room { HasRoom self.old line.bytes.now }
         ensures state { Gives refusal_of (λ _. draft_state self.new) result
-            (step (draft_state self.old) (line_of line.entry)) }
-        ensures fit { OnOk result (IsFit self.new) }
+            (draft_step (draft_state self.old) (line_of line.entry)) }
+        ensures fit { OnOk result (IsFitDraft self.new) }
         ensures grown { OnOk result (length self.new.table.bytes.items
             ≤ length self.old.table.bytes.items + length line.entry.bytes.now + 1) }
     {
@@ -202,7 +202,7 @@ pub fn read_lines(alloc: Global, text: &[u8]) -> Result<Table, Fault>
     requires { length text.now ≤ MOST_BYTES }
     ensures read { Gives refusal_of table_paragraphs result
         (judged fault_of paragraphs_of (control_lines 1 text.now)) }
-    ensures sound { IfOk result IsSound }
+    ensures sound { IfOk result IsSoundTable }
 {
     let mut draft = empty_draft(alloc);
     let mut rest = text;

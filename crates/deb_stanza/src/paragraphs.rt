@@ -22,13 +22,13 @@ pub struct Paragraphs {
 impl Model for Paragraphs {
     ghost use Rattle.std.specs.Prelude.{List};
     ghost use Rattle.deb_stanza.specs.Stanza.{Paragraph};
-    ghost use Rattle.deb_stanza.specs.View.{IsSound, table_paragraphs};
+    ghost use Rattle.deb_stanza.specs.View.{IsSoundTable, table_paragraphs};
 
     ghost Value = { List Paragraph };
 
     ghost view = { λ p. table_paragraphs p.table };
 
-    ghost invariant = { λ p. IsSound p.table };
+    ghost invariant = { λ p. IsSoundTable p.table };
 }
 
 impl Paragraphs {

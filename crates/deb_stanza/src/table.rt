@@ -6,7 +6,7 @@ ghost use Rattle.std.specs.Option.{option_map};
 ghost use Rattle.deb_stanza.specs.Cut.{end_at, onto_last};
 ghost use Rattle.deb_stanza.specs.Draft.{HasNames, last_texts, longer, larger, names_from};
 ghost use Rattle.deb_stanza.specs.Stanza.{name_of, paragraph_at, same_name, value_of};
-ghost use Rattle.deb_stanza.specs.View.{IsSound, first_of, own, table_paragraphs, table_raws, table_texts, value_among, value_named};
+ghost use Rattle.deb_stanza.specs.View.{IsSoundTable, first_of_start, own, table_paragraphs, table_raws, table_texts, value_among, value_named};
 
 use crate::fields::{behind_name, insert_name, name_part};
 use deb_text::trim;
@@ -59,7 +59,7 @@ fn field_end(fields: &[u32], field: usize, end: usize) -> usize
 /// Where a paragraph ends: where the next one begins, or at the end.
 fn start_end(starts: &[Start], place: usize, end: usize) -> usize
     requires { place < length starts.now }
-    ensures { result ≡ end_at first_of end starts.now place }
+    ensures { result ≡ end_at first_of_start end starts.now place }
 {
     match starts.get(place + 1) {
         Some(next) => next.first as usize,
@@ -70,7 +70,7 @@ fn start_end(starts: &[Start], place: usize, end: usize) -> usize
 /// A table without paragraphs.
 pub fn empty_table(alloc: Global) -> Table
     ensures raws { table_raws result ≡ [] }
-    ensures sound { IsSound result }
+    ensures sound { IsSoundTable result }
     ensures bytes { result.bytes.items ≡ [] }
 {
     Table {
@@ -99,12 +99,12 @@ impl Table {
     ///
     /// [`AllocError`] where memory is refused. What the table has then is not said.
     pub fn add_field(&mut self, text: &[u8]) -> Result<(), AllocError>
-        requires sound { IsSound self.old }
+        requires sound { IsSoundTable self.old }
         requires some { 0 < length text.now }
         requires room { length self.old.bytes.items + length text.now + 1 < 2 ^ 32 }
         ensures raws { OnOk result (table_raws self.new
             ≡ onto_last (larger text.now) (table_raws self.old)) }
-        ensures sound { OnOk result (IsSound self.new) }
+        ensures sound { OnOk result (IsSoundTable self.new) }
         ensures bytes { OnOk result (self.new.bytes.items ≡ self.old.bytes.items ++ text.now) }
         ensures paragraphs { self.new.paragraphs.items ≡ self.old.paragraphs.items }
     {
@@ -118,12 +118,12 @@ impl Table {
     ///
     /// [`AllocError`] where memory is refused. What the table has then is not said.
     pub fn add_paragraph(&mut self, line: u32, text: &[u8]) -> Result<(), AllocError>
-        requires sound { IsSound self.old }
+        requires sound { IsSoundTable self.old }
         requires some { 0 < length text.now }
         requires room { length self.old.bytes.items + length text.now + 1 < 2 ^ 32 }
         ensures raws { OnOk result (table_raws self.new
             ≡ table_raws self.old ++ record { line = line; texts = text.now ∷ [] } ∷ []) }
-        ensures sound { OnOk result (IsSound self.new) }
+        ensures sound { OnOk result (IsSoundTable self.new) }
         ensures bytes { OnOk result (self.new.bytes.items ≡ self.old.bytes.items ++ text.now) }
     {
         let first = self.fields.len() as u32;
@@ -138,10 +138,10 @@ impl Table {
     ///
     /// [`AllocError`] where memory is refused. What the last field has then is not said.
     pub fn go_on(&mut self, line: &[u8]) -> Result<(), AllocError>
-        requires sound { IsSound self.old }
+        requires sound { IsSoundTable self.old }
         ensures raws { OnOk result (table_raws self.new
             ≡ onto_last (longer line.now) (table_raws self.old)) }
-        ensures sound { OnOk result (IsSound self.new) }
+        ensures sound { OnOk result (IsSoundTable self.new) }
         ensures bytes { OnOk result (self.new.bytes.items ≡ self.old.bytes.items ++ 10 ∷ line.now) }
         ensures paragraphs { self.new.paragraphs.items ≡ self.old.paragraphs.items }
     {
@@ -151,7 +151,7 @@ impl Table {
 
     /// The text of a field.
     fn text(&self, field: usize) -> &[u8]
-        requires sound { IsSound self.now }
+        requires sound { IsSoundTable self.now }
         requires within { field < length self.now.fields.items }
         ensures { result.now ≡ slice_index_or (table_texts self.now) field [] }
     {
@@ -165,7 +165,7 @@ impl Table {
 
     /// The value of a field, if this is its name.
     fn value_named(&self, field: usize, name: &[u8]) -> Option<&[u8]>
-        requires sound { IsSound self.now }
+        requires sound { IsSoundTable self.now }
         requires within { field < length self.now.fields.items }
         ensures { option_map (λ value. value.now) result
             ≡ value_named name.now (slice_index_or (table_texts self.now) field []) }
@@ -175,7 +175,7 @@ impl Table {
 
     /// The value of the first of some fields that has this name.
     fn value_among(&self, from: usize, to: usize, name: &[u8]) -> Option<&[u8]>
-        requires sound { IsSound self.now }
+        requires sound { IsSoundTable self.now }
         requires within { to ≤ length self.now.fields.items }
         ensures { option_map (λ value. value.now) result
             ≡ value_among name.now (slice_range (table_texts self.now) from to) }
@@ -190,7 +190,7 @@ impl Table {
 
     /// Where the fields of the last paragraph begin, or the end where there is none.
     pub fn last_start(&self) -> usize
-        requires { IsSound self.now }
+        requires { IsSoundTable self.now }
         ensures within { result ≤ length self.now.fields.items }
         ensures texts { drop result (table_texts self.now) ≡ last_texts (table_raws self.now) }
     {
@@ -202,7 +202,7 @@ impl Table {
 
     /// Tells whether a field from this one on has that name.
     pub fn has_name(&self, start: usize, name: &[u8]) -> bool
-        requires { IsSound self.now }
+        requires { IsSoundTable self.now }
         ensures { result ≡ list_any (same_name name.now) (names_from self.now start) }
     {
         self.value_among(start, self.fields.len(), name).is_some()
@@ -210,7 +210,7 @@ impl Table {
 
     /// The name of a field.
     fn name(&self, field: usize) -> &[u8]
-        requires sound { IsSound self.now }
+        requires sound { IsSoundTable self.now }
         requires within { field < length self.now.fields.items }
         ensures { result.now ≡ name_of (slice_index_or (table_texts self.now) field []) }
     {
@@ -223,7 +223,7 @@ impl Table {
     ///
     /// [`AllocError`] where memory is refused.
     pub fn name_set(&self, alloc: Global, start: usize) -> Result<BTreeSet<Vec<u8>>, AllocError>
-        requires { IsSound self.now }
+        requires { IsSoundTable self.now }
         ensures { IfOk result (λ set. HasNames set (names_from self.now start)) }
     {
         let mut names = BTreeSet::new(alloc);
@@ -247,7 +247,7 @@ impl Table {
 
     /// The value of the field of that name in a paragraph.
     pub fn value(&self, paragraph: usize, name: &[u8]) -> Option<&[u8]>
-        requires sound { IsSound self.now }
+        requires sound { IsSoundTable self.now }
         requires within { paragraph < length self.now.paragraphs.items }
         ensures { option_map (λ value. value.now) result
             ≡ value_of (paragraph_at (table_paragraphs self.now) paragraph) name.now }

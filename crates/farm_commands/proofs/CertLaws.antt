@@ -15,7 +15,7 @@ use Rattle.cert_writer.specs.declared.stop.CertStop.TheVariants.{OutOfMemory, Cu
 use Rattle.plan_verifier.specs.Accepted.{AcceptedPlan}
 use Rattle.report_sink.specs.Sinks.{SinkState}
 use Rattle.farm_commands.proofs.AnswerLaws.{answered-by}
-use Rattle.farm_commands.specs.CertAnswers.{IsCertAnswered, IsTextVerdict, ShowsCert, fault_of}
+use Rattle.farm_commands.specs.CertAnswers.{IsCertAnswered, IsTextVerdict, ShowsCert, outside_fault_of}
 use Rattle.farm_commands.specs.declared.fault.OutsideFault.{OutsideFault}
 use Rattle.farm_commands.specs.declared.status.TheConstants.{FINE}
 
@@ -51,7 +51,7 @@ module _ (a : AcceptedPlan) (old new : SinkState) where
       )
 
   pub stopped-shown : (stop : CertStop) → IsCertificateWritten a old new (Err stop)
-      → IsCertAnswered (ShowsCert a) old new (Err (fault_of stop))
+      → IsCertAnswered (ShowsCert a) old new (Err (outside_fault_of stop))
   stopped-shown OutOfMemory w = inl w.written
   stopped-shown CutShort w =
       inr (

@@ -15,7 +15,7 @@ use Rattle.plan_verifier.specs.Accepted.{AcceptedPlan}
 use Rattle.report_sink.specs.Sinks.{SinkState, IsWritten}
 use Rattle.farm_commands.proofs.AnswerLaws.{answered-by}
 use Rattle.farm_commands.specs.FarmAnswers.{ComesToEnd}
-use Rattle.farm_commands.specs.Runs.{MayComeTo, TellsFault, fault_line}
+use Rattle.farm_commands.specs.Runs.{MayComeTo, TellsFault, outside_fault_line}
 use Rattle.farm_commands.specs.declared.fault.OutsideFault.{OutsideFault}
 
 -- an end in one meaning is one in another
@@ -82,4 +82,4 @@ pub told-of : (first before after : SinkState) (told : Result ℕ OutsideFault)
     → OnErr told (before ≡ first) → TellsFault before after told → TellsFault first after told
 told-of first before after (Ok status) same tells = tells
 told-of first before after (Err fault) same tells =
-    subst (λ w. IsWritten w after (fault_line fault)) same tells
+    subst (λ w. IsWritten w after (outside_fault_line fault)) same tells

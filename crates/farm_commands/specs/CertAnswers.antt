@@ -62,14 +62,16 @@ AnswersCert texts text status =
 
 -- where no memory is left to go on with a certificate, a first part of the text is written that
 -- would have been answered, and nothing else
-abbrev pub IsCut : (List ℕ → ℕ → Type 0) → SinkState → SinkState → Result ℕ OutsideFault → Type 0
-IsCut Answers old new told =
+abbrev pub IsCutShort : (List ℕ → ℕ → Type 0) → SinkState → SinkState → Result ℕ OutsideFault
+    → Type 0
+IsCutShort Answers old new told =
     (told ≡ Err CutShort) × (text : List ℕ) × Answers text FINE × IsFirstPart old new text
 
 -- `cert` is answered as other commands are, or its answer is cut
 abbrev pub IsCertAnswered : (List ℕ → ℕ → Type 0) → SinkState → SinkState → Result ℕ OutsideFault
     → Type 0
-IsCertAnswered Answers old new told = IsAnswered Answers old new told ⊎ IsCut Answers old new told
+IsCertAnswered Answers old new told = IsAnswered Answers old new told
+    ⊎ IsCutShort Answers old new told
 
 -- what is said of a certificate of so many bytes that is longer than a text may be
 abbrev pub long_line : ℕ → List ℕ
@@ -84,10 +86,10 @@ MayTellLength before after =
     × IsWritten before after (long_line count))
 
 -- what ends the command where a certificate is not written whole
-abbrev pub fault_of : CertStop → OutsideFault
-fault_of NoMemory = OutOfMemory
-fault_of Cut = CutShort
-fault_of NotWritten = WriteFailed
+abbrev pub outside_fault_of : CertStop → OutsideFault
+outside_fault_of NoMemory = OutOfMemory
+outside_fault_of Cut = CutShort
+outside_fault_of NotWritten = WriteFailed
 
 -- the verdict on the certificate that a text is, or the fault of a text that is none, unless memory
 -- ran out

@@ -23,7 +23,7 @@ use Rattle.farm_notes.specs.Notes.{farm_note}
 use Rattle.farm_report.specs.VerdictText.{verdict_text}
 use Rattle.farm_warnings.specs.Warnings.{warnings_text}
 use Rattle.fault_notes.specs.Notes.{note_text}
-use Rattle.plan_lines.specs.Readings.{TextLines, lines_of}
+use Rattle.plan_lines.specs.Readings.{TextLines, plan_lines_of}
 use Rattle.plan_model.specs.Known.{Rows, IsGreatest}
 use Rattle.plan_verifier.specs.Accepted.{AcceptedPlan}
 use Rattle.plan_verifier.specs.Examined.{ExaminedPlan}
@@ -141,7 +141,7 @@ IsExplained texts of lines e =
 -- by the lines of the plan's text
 abbrev pub IsExplainedPlan : Texts → FarmPlan → Explanation → Type 0
 IsExplainedPlan texts of e =
-    (lines : TextLines) × (lines_of texts.plan ≡ Ok lines) × IsExplained texts of lines e
+    (lines : TextLines) × (plan_lines_of texts.plan ≡ Ok lines) × IsExplained texts of lines e
 
 -- the first fault of the texts and the notes on it, unless memory was refused behind it
 abbrev pub IsExplainedFault : Texts → Fault → Explanation → Type 0

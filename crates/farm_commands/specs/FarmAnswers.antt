@@ -20,7 +20,7 @@ use Rattle.plan_verifier.specs.Verdict.{IsVerdict}
 use Rattle.plan_verifier.specs.declared.refusal.Refusal.{Refusal}
 use Rattle.report_sink.specs.Sinks.{SinkState, IsWritten}
 use Rattle.farm_commands.specs.Answers.{AnswersVerdict, IsAnswered, planned_in}
-use Rattle.farm_commands.specs.Requests.{AreRead, OnFiles}
+use Rattle.farm_commands.specs.Requests.{AreFilesRead, OnFiles}
 use Rattle.farm_commands.specs.declared.fault.OutsideFault.{OutsideFault}
 use Rattle.farm_commands.specs.declared.status.TheConstants.{FINE, OUTSIDE}
 
@@ -74,5 +74,5 @@ abbrev pub RunsTo : (List ℕ → Option (List ℕ)) → Paths → SinkState →
     → SinkState → Result ℕ OutsideFault → Type 0
 RunsTo held paths old new before after told =
     ComesToEnd (OnFiles held paths AnswersRun)
-    (λ line. (texts : Texts) × AreRead held paths texts × StopsRun texts line)
+    (λ line. (texts : Texts) × AreFilesRead held paths texts × StopsRun texts line)
     old new before after told

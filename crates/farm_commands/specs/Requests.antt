@@ -1,12 +1,12 @@
 -- What requests read, and what is answered to them. The project's own rules.
 --
 --   named             the bytes that a name stands for
---   AreRead           the texts of files, each up to the limit
+--   AreFilesRead      the texts of files, each up to the limit
 --   AnswersRequest    that this text and this status are what is answered to a request
 --   IsRequestAnswered what is written of the answer
 use Rattle.std.specs.Prelude.{◌≡◌, ◌≤◌, ℕ, false, List, length, take, codes, Option, IfSome, Result, if◌then◌else◌}
 use Rattle.std.specs.Str.{bytes_eq}
-use Rattle.farm_input.specs.Input.{Texts, texts_in}
+use Rattle.farm_input.specs.Input.{Texts, input_texts}
 use Rattle.command_line.specs.declared.request.Paths.{Paths}
 use Rattle.command_line.specs.declared.request.Request.{Request}
 use Rattle.command_line.specs.declared.request.Request.TheVariants.{CheckInput, Check, Explain, List as ListPlan, Cert, VerifyCert, Step, StepBy}
@@ -22,15 +22,16 @@ abbrev pub named : (List ℕ → Option (List ℕ)) → Option (List ℕ) → Li
 named held given name = if bytes_eq name (codes "-") then given else held name
 
 -- a text is the first bytes of a file, where these are known
-abbrev pub IsRead : Option (List ℕ) → List ℕ → Type 0
-IsRead known text = IfSome known (λ bytes. text ≡ take MOST_FILE bytes)
+abbrev pub IsFileRead : Option (List ℕ) → List ℕ → Type 0
+IsFileRead known text = IfSome known (λ bytes. text ≡ take MOST_FILE bytes)
 
 -- each text is that of its file
-pub record AreRead (held : List ℕ → Option (List ℕ)) (paths : Paths) (texts : Texts) : Type 0 where
-  pub packages : IsRead (held paths.packages.now) texts.packages
-  pub sources : IsRead (held paths.sources.now) texts.sources
-  pub farm : IsRead (held paths.farm.now) texts.farm
-  pub plan : IsRead (held paths.plan.now) texts.plan
+pub record AreFilesRead (held : List ℕ → Option (List ℕ)) (paths : Paths) (texts : Texts)
+    : Type 0 where
+  pub packages : IsFileRead (held paths.packages.now) texts.packages
+  pub sources : IsFileRead (held paths.sources.now) texts.sources
+  pub farm : IsFileRead (held paths.farm.now) texts.farm
+  pub plan : IsFileRead (held paths.plan.now) texts.plan
 
 -- the whole of standard input, where it is known, and not over the limit
 abbrev pub IsInput : Option (List ℕ) → List ℕ → Type 0
@@ -39,19 +40,19 @@ IsInput known input = IfSome known (λ bytes. input ≡ bytes) × (length input 
 -- the verdict on the texts that standard input is cut into
 abbrev pub OnInput : Option (List ℕ) → List ℕ → ℕ → Type 0
 OnInput given text status =
-    (input : List ℕ) × IsInput given input × AnswersCheck false (texts_in input) text status
+    (input : List ℕ) × IsInput given input × AnswersCheck false (input_texts input) text status
 
 -- what is answered to the texts of these files
 abbrev pub OnFiles : (List ℕ → Option (List ℕ)) → Paths → (Texts → List ℕ → ℕ → Type 0) → List ℕ → ℕ
     → Type 0
 OnFiles held paths Answers text status =
-    (texts : Texts) × AreRead held paths texts × Answers texts text status
+    (texts : Texts) × AreFilesRead held paths texts × Answers texts text status
 
 -- what is answered to the texts of these files, and to that of one more
 abbrev pub OnFilesAndOne : (List ℕ → Option (List ℕ)) → Paths → List ℕ
     → (List ℕ → Texts → List ℕ → ℕ → Type 0) → List ℕ → ℕ → Type 0
 OnFilesAndOne held paths name Answers text status =
-    (more : List ℕ) × IsRead (held name) more × OnFiles held paths (Answers more) text status
+    (more : List ℕ) × IsFileRead (held name) more × OnFiles held paths (Answers more) text status
 
 -- what is answered, by the bytes that files and standard input are known to have
 abbrev pub AnswersRequest : (List ℕ → Option (List ℕ)) → Option (List ℕ) → Request → List ℕ → ℕ

@@ -1,7 +1,7 @@
 -- What words come to. The project's own rules.
 --
 --   status_told      the status of the program
---   fault_line, TellsFault
+--   outside_fault_line, TellsFault
 --                    the line of a fault outside of the texts, written to the error output
 --   TellsWords       what is told of words that ask for no answer
 --   ComesTo          what is written to the output, and what is told
@@ -9,7 +9,7 @@
 use Rattle.std.specs.Prelude.{◌≡◌, ◌⊎◌, ℕ, List, ◌++◌, length, codes, Option, Result, Ok, Err}
 use Rattle.command_line.specs.declared.request.Paths.{Paths}
 use Rattle.command_line.specs.declared.request.Request.{Request}
-use Rattle.command_line.specs.Words.{AreWords, IsRequestedBy}
+use Rattle.command_line.specs.Words.{ArePathWords, IsRequestedBy}
 use Rattle.report_sink.specs.Sinks.{SinkState, IsWritten}
 use Rattle.fault_notes.specs.Escapes.{escaped}
 use Rattle.farm_commands.specs.Answers.{IsAnswered}
@@ -44,17 +44,17 @@ abbrev pub cannot_read_line : List ℕ → List ℕ
 cannot_read_line name = codes "portfarm: cannot read " ++ escaped_line name
 
 -- the line that is said of a fault outside of the texts
-abbrev pub fault_line : OutsideFault → List ℕ
-fault_line (CannotRead name) = cannot_read_line name.now
-fault_line OutOfMemory = codes "portfarm: out of memory\n"
-fault_line CutShort = codes "portfarm: out of memory\n"
-fault_line BadSchedule = codes "portfarm: bad schedule\n"
-fault_line WriteFailed = codes "portfarm: write failed\n"
+abbrev pub outside_fault_line : OutsideFault → List ℕ
+outside_fault_line (CannotRead name) = cannot_read_line name.now
+outside_fault_line OutOfMemory = codes "portfarm: out of memory\n"
+outside_fault_line CutShort = codes "portfarm: out of memory\n"
+outside_fault_line BadSchedule = codes "portfarm: bad schedule\n"
+outside_fault_line WriteFailed = codes "portfarm: write failed\n"
 
 -- a fault outside of the texts is said on the error output
 abbrev pub TellsFault : SinkState → SinkState → Result ℕ OutsideFault → Type 0
 TellsFault old new (Ok status) = Unit {0}
-TellsFault old new (Err fault) = IsWritten old new (fault_line fault)
+TellsFault old new (Err fault) = IsWritten old new (outside_fault_line fault)
 
 -- help is shown, or the words are wrong and nothing is written to the output
 abbrev pub TellsWords : SinkState → SinkState → Result ℕ OutsideFault → Type 0
@@ -77,5 +77,5 @@ abbrev pub MayComeTo : List (List ℕ) → (List ℕ → Option (List ℕ)) → 
     → SinkState → SinkState → SinkState → Result ℕ OutsideFault → Type 0
 MayComeTo words held given old new before after told =
     ComesTo words held given old new told
-    ⊎ ((paths : Paths) × AreWords words paths
+    ⊎ ((paths : Paths) × ArePathWords words paths
     × RunsTo (named held given) paths old new before after told)

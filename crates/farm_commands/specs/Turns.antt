@@ -1,7 +1,7 @@
 -- Schedules that stand in a file. The project's own rules: a word of digits alone is the number of
 -- a lane of the plan, and any other word the name of one.
 --
---   turn_of p word       the lane that a word names
+--   lane_of_word p word  the lane that a word names
 --   turns_of p text      the lanes that a file names, if each word names one
 --   is_turns_fault       a fault of such a text as one of the command
 use Rattle.std.specs.Prelude.{◌≡◌, ℕ, ◌+◌, nat_lt, List, [], ◌∷◌, length, Result, Ok, Err, if◌then◌else◌}
@@ -26,12 +26,12 @@ abbrev pub named_from : List ℕ → ℕ → List Lane → Result ℕ ScheduleFa
 named_from name n [] = Err BadSchedule
 named_from name n (l ∷ ls) = if bytes_eq l.name name then Ok n else named_from name (n + 1) ls
 
-abbrev pub turn_of : Plan → List ℕ → Result ℕ ScheduleFault
-turn_of p word =
+abbrev pub lane_of_word : Plan → List ℕ → Result ℕ ScheduleFault
+lane_of_word p word =
     if list_all is_digit word then in_plan p (lane_at word) else named_from word 0 p
 
 unfoldable pub turns_of : Plan → List ℕ → Result (List ℕ) ScheduleFault
-turns_of p text = traverse (turn_of p) (lane_words text)
+turns_of p text = traverse (lane_of_word p) (lane_words text)
 
 abbrev pub is_turns_fault : ScheduleFault → OutsideFault → Type 0
 is_turns_fault BadSchedule fault = fault ≡ NoSchedule

@@ -1,7 +1,7 @@
 //! What is said on the error output.
 
 ghost use Rattle.std.specs.Prelude.{◌≡◌, is_err};
-ghost use Rattle.farm_commands.specs.Runs.{cannot_read_line, escaped_line, fault_line, fault_status};
+ghost use Rattle.farm_commands.specs.Runs.{cannot_read_line, escaped_line, outside_fault_line, fault_status};
 ghost use Rattle.report_sink.specs.Sinks.{IsWritten};
 
 use crate::fault::OutsideFault;
@@ -47,7 +47,8 @@ fn tell_unread<E: Sink>(errors: &mut E, name: &[u8]) -> u8
 /// Ends with a fault outside of the texts: says it on the error output, without memory of its own.
 pub fn tell<E: Sink>(fault: OutsideFault<'_>, errors: &mut E) -> u8
     ensures status { result ≡ fault_status fault.entry }
-    ensures line { IsWritten (E.state errors.old) (E.state errors.new) (fault_line fault.entry) }
+    ensures line { IsWritten (E.state errors.old) (E.state errors.new)
+        (outside_fault_line fault.entry) }
 {
     match fault {
         OutsideFault::CannotRead(name) => tell_unread(errors, name.as_bytes()),

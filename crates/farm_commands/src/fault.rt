@@ -47,9 +47,9 @@ impl From<ScheduleFault> for OutsideFault<'_> {
 }
 
 impl From<CertStop> for OutsideFault<'_> {
-    ghost use Rattle.farm_commands.specs.CertAnswers.{fault_of};
+    ghost use Rattle.farm_commands.specs.CertAnswers.{outside_fault_of};
 
-    ghost from_gives = { λ stop fault. fault ≡ fault_of stop };
+    ghost from_gives = { λ stop fault. fault ≡ outside_fault_of stop };
 
     fn from(stop: CertStop) -> Self {
         match stop {

@@ -5,7 +5,7 @@ ghost use Rattle.farm_commands.specs.Answers.{AnswersCheck, AnswersListing, Answ
 ghost use Rattle.farm_commands.specs.CertAnswers.{AnswersCert, AnswersVerifyCert, IsCertAnswered};
 ghost use Rattle.farm_commands.specs.Explanations.{AnswersExplain};
 ghost use Rattle.farm_input.specs.View.{texts_view};
-ghost use Rattle.farm_commands.specs.Requests.{AreRead, IsRequestAnswered, OnFiles, OnFilesAndOne, OnInput, named};
+ghost use Rattle.farm_commands.specs.Requests.{AreFilesRead, IsRequestAnswered, OnFiles, OnFilesAndOne, OnInput, named};
 ghost use Rattle.farm_commands.specs.View.{texts_in_files};
 
 use crate::answers::{answer_check, answer_list, answer_numbered, answer_step, answer_step_by};
@@ -54,7 +54,8 @@ pub fn read_files<'a, F: Source>(
     paths: Paths<'a>,
 ) -> Result<FileTexts, OutsideFault<'a>>
     ensures read { IfOk result (λ files.
-        AreRead (named (F.held source.now) (F.given source.now)) paths.entry (texts_in_files files)) }
+        AreFilesRead (named (F.held source.now) (F.given source.now)) paths.entry
+        (texts_in_files files)) }
     ensures fault { IfErr result IsReadFault }
 {
     Ok(FileTexts {

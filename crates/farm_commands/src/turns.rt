@@ -5,7 +5,7 @@ ghost use Rattle.command_line.specs.Schedule.{lane_at, refusal_of};
 ghost use Rattle.deb_text.specs.Answers.{Gives};
 ghost use Rattle.deb_text.specs.Steps.{traverse};
 ghost use Rattle.deb_text.specs.Words.{words};
-ghost use Rattle.farm_commands.specs.Turns.{in_plan, named_from, turn_of, turns_of};
+ghost use Rattle.farm_commands.specs.Turns.{in_plan, named_from, lane_of_word, turns_of};
 
 use command_line::{ScheduleFault, read_lane, space_lanes};
 use deb_text::{Class, all_in, next_word};
@@ -37,7 +37,7 @@ fn named_lane(plan: &Plan, name: &[u8]) -> Result<u32, ScheduleFault>
 }
 
 fn read_turn(plan: &Plan, word: &[u8]) -> Result<u32, ScheduleFault>
-    ensures { Gives refusal_of (λ lane. lane) result (turn_of plan.now.lanes word.now) }
+    ensures { Gives refusal_of (λ lane. lane) result (lane_of_word plan.now.lanes word.now) }
 {
     if all_in(Class::Digit, word) {
         numbered_lane(plan, word)
@@ -49,7 +49,7 @@ fn read_turn(plan: &Plan, word: &[u8]) -> Result<u32, ScheduleFault>
 /// Reads the lanes that words between blanks name.
 fn read_words(alloc: Global, plan: &Plan, text: &[u8]) -> Result<Vec<u32>, ScheduleFault>
     ensures { Gives refusal_of (λ turns. turns.items) result
-        (traverse (turn_of plan.now.lanes) (words text.now)) }
+        (traverse (lane_of_word plan.now.lanes) (words text.now)) }
 {
     let mut turns = Vec::new(alloc);
     let mut rest = text;

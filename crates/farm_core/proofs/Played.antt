@@ -5,13 +5,13 @@ use Rattle.farm_model.specs.declared.types.Trap.{Trap}
 use Rattle.plan_model.specs.Run as run
 use Rattle.plan_model.specs.Run.{State, Ending, lane_state, step, play_on, play}
 use Rattle.farm_core.specs.Endings.{ended}
-use Rattle.farm_core.specs.Farm.{Farm, with_state, told, after}
+use Rattle.farm_core.specs.Farm.{Farm, with_state, step_told, state_after}
 use Rattle.farm_core.specs.declared.answer.Step.{Step}
 use Rattle.farm_core.specs.declared.answer.Step.TheVariants.{Trapped}
 
 -- an event that meets no trap
 goes_on : (k : ℕ) (s : State) (l : ℕ) (o : run.Outcome) (rest : State → Ending)
-    → ((t : Trap) → told o ≡ Trapped t → ⊥) → play_on k s l o rest ≡ rest (after s o)
+    → ((t : Trap) → step_told o ≡ Trapped t → ⊥) → play_on k s l o rest ≡ rest (state_after s o)
 goes_on k s l (run.Moved m) rest free = refl
 goes_on k s l run.Blocked rest free = refl
 goes_on k s l run.Finished rest free = refl
@@ -27,7 +27,7 @@ stopped k s l t = record {
 
 -- an event that meets a trap
 stops : (k : ℕ) (s : State) (l : ℕ) (o : run.Outcome) (rest : State → Ending) (t : Trap)
-    → told o ≡ Trapped t → play_on k s l o rest ≡ stopped k (after s o) l t
+    → step_told o ≡ Trapped t → play_on k s l o rest ≡ stopped k (state_after s o) l t
 stops k s l (run.Moved m) rest t e = cc
 stops k s l run.Blocked rest t e = cc
 stops k s l run.Finished rest t e = cc
@@ -49,20 +49,22 @@ module _ (start : Farm) (schedule : List ℕ) (i : ℕ) (f next : Farm) (answer 
   abbrev comes_to : run.Outcome
   comes_to = step start.universe start.plan.lanes f.state (get_or schedule i 0)
 
-  module _ (is_told : answer ≡ told (step f.universe f.plan.lanes f.state (get_or schedule i 0)))
+  module _ (is_told : answer ≡ step_told (step f.universe f.plan.lanes f.state
+      (get_or schedule i 0)))
       (is_after : next ≡ with_state f
-      (after f.state (step f.universe f.plan.lanes f.state (get_or schedule i 0)))) where
-    told_here : answer ≡ told comes_to
+      (state_after f.state (step f.universe f.plan.lanes f.state (get_or schedule i 0)))) where
+    told_here : answer ≡ step_told comes_to
     told_here = is_told
-        ∙ ap (λ (g : Farm). told (step g.universe g.plan.lanes f.state (get_or schedule i 0)))
+        ∙ ap (λ (g : Farm). step_told (step g.universe g.plan.lanes f.state (get_or schedule i 0)))
         so_far.same
 
-    next_is : next ≡ with_state start (after f.state comes_to)
+    next_is : next ≡ with_state start (state_after f.state comes_to)
     next_is = is_after
         ∙ ap (λ (g : Farm). with_state g
-        (after f.state (step g.universe g.plan.lanes f.state (get_or schedule i 0)))) so_far.same
+        (state_after f.state (step g.universe g.plan.lanes f.state (get_or schedule i 0))))
+        so_far.same
 
-    state_is : next.state ≡ after f.state comes_to
+    state_is : next.state ≡ state_after f.state comes_to
     state_is = ap (λ (g : Farm). g.state) next_is
 
     pub kept : next ≡ with_state start next.state

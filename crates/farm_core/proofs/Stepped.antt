@@ -24,7 +24,7 @@ use Rattle.farm_archive.specs.Kept.{Kept, with_publication, IsArchive}
 use Rattle.farm_archive.proofs.Published.{archive-published}
 use Rattle.farm_core.specs.Lanes.{shown, IsRun}
 use Rattle.farm_core.specs.Turns.{IsTurn}
-use Rattle.farm_core.specs.Farm.{state_of, published_in, told, after, IsAsleep, IsCore}
+use Rattle.farm_core.specs.Farm.{state_of, published_in, step_told, state_after, IsAsleep, IsCore}
 use Rattle.farm_core.specs.Steps.{IsStepped}
 use Rattle.farm_core.specs.declared.answer.Step.TheVariants.{Moved, Blocked, Finished, Trapped}
 use Rattle.farm_core.specs.declared.lane.LaneRun.{LaneRun}
@@ -147,8 +147,8 @@ module _ (u : Universe) (p : Plan) (lanes : List LaneRun) (kept : Kept)
             (state_of (slice_set lanes l new) next) l core.places moved).0;
         room = omega (arith, core.room, less, room, more);
       };
-      is_told = ap told (sym moved);
-      is_after = ap (after (state_of lanes kept)) (sym moved);
+      is_told = ap step_told (sym moved);
+      is_after = ap (state_after (state_of lanes kept)) (sym moved);
     }
 
   -- the lane goes on
@@ -221,8 +221,9 @@ module _ (u : Universe) (p : Plan) (lanes : List LaneRun) (kept : Kept)
 
   stays : (new : LaneRun) → IsRun u (lane p l) new → shown new ≡ shown r
       → IsAsleep u p kept l new → (o : run.Outcome)
-      → step u p (state_of lanes kept) l ≡ o → after (state_of lanes kept) o ≡ state_of lanes kept
-      → IsStepped u p l lanes kept (slice_set lanes l new) kept (told o)
+      → step u p (state_of lanes kept) l ≡ o
+      → state_after (state_of lanes kept) o ≡ state_of lanes kept
+      → IsStepped u p l lanes kept (slice_set lanes l new) kept (step_told o)
   stays new ok same rests o is_o unmoved =
       let lists : map shown (slice_set lanes l new) ≡ map shown lanes =
       map-set shown lanes l new
@@ -240,8 +241,8 @@ module _ (u : Universe) (p : Plan) (lanes : List LaneRun) (kept : Kept)
           room = subst (λ s. length kept.history + left_in u p s ≤ kept.room) (sym states)
               core.room;
         };
-        is_told = ap told (sym is_o);
-        is_after = states ∙ (sym unmoved ∙ ap (after (state_of lanes kept)) (sym is_o));
+        is_told = ap step_told (sym is_o);
+        is_after = states ∙ (sym unmoved ∙ ap (state_after (state_of lanes kept)) (sym is_o));
       }
 
   -- the lane is found waiting
@@ -285,7 +286,7 @@ module _ (u : Universe) (p : Plan) (lanes : List LaneRun) (kept : Kept)
       ap (slice_set lanes l) (sym (get_or_from_slice_get lanes l r r is)) ∙ set-get_or lanes l r in
       let stepped_on : IsStepped u p l lanes kept lanes kept Blocked = record {
         core = core;
-        is_told = ap told (sym blocked);
-        is_after = ap (after (state_of lanes kept)) (sym blocked);
+        is_told = ap step_told (sym blocked);
+        is_after = ap (state_after (state_of lanes kept)) (sym blocked);
       } in
       subst (λ ls. IsStepped u p l lanes kept ls kept Blocked) (sym same) stepped_on

@@ -5,7 +5,7 @@
 --   published_in          what a history tells, without serials
 --   state_of              the state that lanes and an archive show
 --   chroot_in             the chroot of a lane
---   told, after           what a step answers; the state after it
+--   step_told, state_after  what a step answers; the state after it
 --   IsAsleep              what is known of a lane that was found waiting
 --   IsCore                what each step keeps
 --   AreOpened             lanes at their beginning
@@ -56,17 +56,17 @@ chroot_in f l = record {
 }
 
 -- the answer without the state
-abbrev pub told : run.Outcome → Step
-told (run.Moved s) = Moved
-told run.Blocked = Blocked
-told run.Finished = Finished
-told run.Unknown = Unknown
-told (run.Trapped trap) = Trapped trap
+abbrev pub step_told : run.Outcome → Step
+step_told (run.Moved s) = Moved
+step_told run.Blocked = Blocked
+step_told run.Finished = Finished
+step_told run.Unknown = Unknown
+step_told (run.Trapped trap) = Trapped trap
 
 -- where a lane does not move, the state is as it was
-abbrev pub after : State → run.Outcome → State
-after s (run.Moved next) = next
-after s _ = s
+abbrev pub state_after : State → run.Outcome → State
+state_after s (run.Moved next) = next
+state_after s _ = s
 
 -- a lane that was found waiting with so many publications waits while there are no more
 pub record IsAsleep (u : Universe) (p : Plan) (kept : Kept) (l : ℕ) (r : LaneRun) : Type 0 where

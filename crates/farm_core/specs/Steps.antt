@@ -6,13 +6,13 @@ use Rattle.farm_archive.specs.Kept.{Kept}
 use Rattle.farm_model.specs.Universe.{Universe}
 use Rattle.plan_model.specs.Plan.{Plan}
 use Rattle.plan_model.specs.Run.{step}
-use Rattle.farm_core.specs.Farm.{state_of, told, after, IsCore}
+use Rattle.farm_core.specs.Farm.{state_of, step_told, state_after, IsCore}
 use Rattle.farm_core.specs.declared.answer.Step.{Step}
 use Rattle.farm_core.specs.declared.lane.LaneRun.{LaneRun}
 
 pub record IsStepped (u : Universe) (p : Plan) (l : ℕ) (lanes : List LaneRun) (kept : Kept)
     (new_lanes : List LaneRun) (new_kept : Kept) (answer : Step) : Type 0 where
   pub core : IsCore u p new_lanes new_kept
-  pub is_told : answer ≡ told (step u p (state_of lanes kept) l)
+  pub is_told : answer ≡ step_told (step u p (state_of lanes kept) l)
   pub is_after : state_of new_lanes new_kept
-      ≡ after (state_of lanes kept) (step u p (state_of lanes kept) l)
+      ≡ state_after (state_of lanes kept) (step u p (state_of lanes kept) l)

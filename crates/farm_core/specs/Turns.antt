@@ -1,6 +1,6 @@
 -- What a turn of a lane of the core says.
 --
---   turned       the turn that an answer tells, where the lane is then in this state
+--   turn_told    the turn that an answer tells, where the lane is then in this state
 --   IsTurn       the answer tells this turn, and the lane is then in its state
 use Rattle.std.specs.Prelude.{◌≡◌}
 use Rattle.farm_model.specs.Universe.{Universe}
@@ -12,24 +12,24 @@ use Rattle.farm_core.specs.declared.lane.LaneRun.{LaneRun}
 use Rattle.farm_core.specs.declared.turn.Turn.{Turn}
 use Rattle.farm_core.specs.declared.turn.Turn.TheVariants.{Goes, Gives, Waits, Ends, Fails}
 
-abbrev pub turned : Turn → LaneState → turn.Turn
-turned Goes next = turn.Goes next
-turned (Gives v) next = turn.Gives next v
-turned Waits next = turn.Waits
-turned Ends next = turn.Ends
-turned (Fails trap) next = turn.Fails trap
+abbrev pub turn_told : Turn → LaneState → turn.Turn
+turn_told Goes next = turn.Goes next
+turn_told (Gives v) next = turn.Gives next v
+turn_told Waits next = turn.Waits
+turn_told Ends next = turn.Ends
+turn_told (Fails trap) next = turn.Fails trap
 
 -- a lane that does not go on is as it was
-abbrev pub IsKept : Turn → LaneState → LaneState → Type 0
-IsKept Goes st next = Unit {0}
-IsKept (Gives v) st next = Unit {0}
-IsKept Waits st next = next ≡ st
-IsKept Ends st next = next ≡ st
-IsKept (Fails trap) st next = next ≡ st
+abbrev pub IsUnmoved : Turn → LaneState → LaneState → Type 0
+IsUnmoved Goes st next = Unit {0}
+IsUnmoved (Gives v) st next = Unit {0}
+IsUnmoved Waits st next = next ≡ st
+IsUnmoved Ends st next = next ≡ st
+IsUnmoved (Fails trap) st next = next ≡ st
 
 pub record IsTurn (u : Universe) (of : Lane) (old new : LaneRun) (answer : Turn) (is : turn.Turn)
     : Type 0 where
-  pub told : is ≡ turned answer (shown new)
+  pub told : is ≡ turn_told answer (shown new)
   pub run : IsRun u of new
-  pub kept : IsKept answer (shown old) (shown new)
+  pub kept : IsUnmoved answer (shown old) (shown new)
   pub waited : new.waited ≡ old.waited

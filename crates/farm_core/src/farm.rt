@@ -3,7 +3,7 @@
 ghost use Rattle.std.specs.Prelude.{◌≡◌, ◌<◌, IfOk, length};
 ghost use Rattle.chroot_state.specs.Held.{IsHeld};
 ghost use Rattle.farm_archive.specs.Kept.{numbered};
-ghost use Rattle.farm_core.specs.Farm.{AreOpened, with_state, chroot_in, told, after};
+ghost use Rattle.farm_core.specs.Farm.{AreOpened, with_state, chroot_in, step_told, state_after};
 ghost use Rattle.plan_model.specs.Plan.{count};
 ghost use Rattle.plan_model.specs.Run.{start, step, is_finished, lane_state};
 ghost use Rattle.plan_model.specs.Sound.{IsPlan};
@@ -88,9 +88,10 @@ impl<'a> Core<'a> {
     /// [`Step::Moved`] nothing has changed.
     pub fn step(&mut self, lane: u32) -> Step
         ensures told { result
-            ≡ told (step self.old.universe self.old.plan.lanes self.old.state lane) }
+            ≡ step_told (step self.old.universe self.old.plan.lanes self.old.state lane) }
         ensures after { self.new ≡ with_state self.old
-            (after self.old.state (step self.old.universe self.old.plan.lanes self.old.state lane)) }
+            (state_after self.old.state
+            (step self.old.universe self.old.plan.lanes self.old.state lane)) }
     {
         if lane as usize >= self.plan.lanes() {
             return Step::Unknown;

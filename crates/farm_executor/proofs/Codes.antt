@@ -1,7 +1,7 @@
 -- Where no lane is a cause, all lanes came to their ends.
 use Rattle.std.proofs.Common.{◌≡◌, inl, inr, ℕ, ◌<◌, true, List, length, Some, slice_get, sym, ap, ◌∙◌, arith}
 use Rattle.std.proofs.lemmas.Bool.{false≢true}
-use Rattle.std.proofs.lemmas.Option.{same_Some}
+use Rattle.std.proofs.lemmas.Option.{same_Some, slice_get_within}
 use Rattle.chroot_state.specs.Held.{Held}
 use Rattle.farm_laws.proofs.Archive.{element}
 use Rattle.farm_archive.specs.declared.publication.Publication.{Publication}
@@ -11,10 +11,9 @@ use Rattle.lane_runner.specs.declared.run.TheConstants.{GAVE_UP}
 use Rattle.lane_runner.specs.OnWay.{IsEnded}
 use Rattle.plan_verifier.specs.Accepted.{AcceptedPlan}
 use Rattle.farm_executor.specs.declared.causes.TheConstants.{NOT_STARTED}
-use Rattle.farm_executor.specs.Ends.{HasNone, IsCause}
+use Rattle.farm_executor.specs.Ends.{HasNoEndWith, IsCause}
 use Rattle.farm_executor.specs.FarmRuns.{IsEndCode, IsStoppedRun}
 use Rattle.farm_executor.specs.Played.{HasRun, IsPlayed}
-use Rattle.farm_executor.proofs.Within.{within_list}
 
 module _ (a : AcceptedPlan) (gives_up : Type 0) (stops : List LaneStop) (chroots : List Held)
     (spent : List ℕ) (history : List Publication)
@@ -53,7 +52,8 @@ module _ (a : AcceptedPlan) (gives_up : Type 0) (stops : List LaneStop) (chroots
   -- a record stands at the number of a lane of the plan, and is that lane's
   pub lane_in_plan : (l : ℕ) (r : Record) → slice_get played.records l ≡ Some r → l < length a.plan
   lane_in_plan l r at =
-      let lt = within_list played.records l r at in omega (arith, lt, played.closed.stands.lanes)
+      let lt = slice_get_within played.records l r at in
+      omega (arith, lt, played.closed.stands.lanes)
 
   pub told_is : (l : ℕ) (r : Record) (o : OfLane l) → slice_get played.records l ≡ Some r
       → o.told ≡ r
@@ -78,12 +78,13 @@ module _ (a : AcceptedPlan) (gives_up : Type 0) (stops : List LaneStop) (chroots
       ended_so : (k : ℕ) (e : LaneStop) → slice_get stops k ≡ Some e
           → IsEndCode e.code × (e.code ≡ GAVE_UP → gives_up)
       ended_so k e at =
-          let lt = within_list stops k e at in
+          let lt = slice_get_within stops k e at in
           lane_ended k e at (of_lane k (omega (arith, lt, played.lanes.long)))
 
-  module _ (unstarted : HasNone NOT_STARTED stops) (kept : HasNone GAVE_UP stops) where
-    not_code : (code l : ℕ) (o : OfLane l) → HasNone code stops → o.stop.code ≡ code → ⊥
-    not_code code l o none is = none l o.stop (within_list stops l o.stop o.stop_at) o.stop_at is
+  module _ (unstarted : HasNoEndWith NOT_STARTED stops) (kept : HasNoEndWith GAVE_UP stops) where
+    not_code : (code l : ℕ) (o : OfLane l) → HasNoEndWith code stops → o.stop.code ≡ code → ⊥
+    not_code code l o none is =
+        none l o.stop (slice_get_within stops l o.stop o.stop_at) o.stop_at is
 
     unhalted : (l : ℕ) (o : OfLane l) → o.told.halted ≡ true → ⊥
     unhalted l o halted =
@@ -103,7 +104,7 @@ module _ (a : AcceptedPlan) (gives_up : Type 0) (stops : List LaneStop) (chroots
         elim (played.closed.halts l o.told o.told_at saw) [
           | inl stopped ↦
               let e = played.lanes.halted stopped in
-              unstarted e.0 e.1 (within_list stops e.0 e.1 e.2) e.2 e.3
+              unstarted e.0 e.1 (slice_get_within stops e.0 e.1 e.2) e.2 e.3
           | inr halted ↦
               let other = of_lane halted.0 (lane_in_plan halted.0 halted.1 halted.2) in
               unhalted halted.0 other

@@ -20,7 +20,7 @@ use Rattle.plan_model.specs.Turn.{LaneState}
 use Rattle.plan_model.specs.World.{World, world_lane}
 use Rattle.plan_verifier.specs.Accepted.{AcceptedPlan, IsAccepted}
 use Rattle.word_archive.specs.History.{HasOne, entry}
-use Rattle.word_archive.specs.Rule.{shown}
+use Rattle.word_archive.specs.Rule.{shown_world}
 use Rattle.word_archive.specs.Serials.{made_by}
 use Rattle.farm_executor.specs.FarmRuns.{HasCome}
 use Rattle.farm_executor.specs.Played.{IsPlayed}
@@ -55,7 +55,7 @@ module _ (a : AcceptedPlan) (accepted : IsAccepted a) (gives_up : Type 0) (stops
 
   -- what words and records show
   abbrev world : World
-  world = shown a played.words played.records
+  world = shown_world a played.words played.records
 
   abbrev reached : IsReached a.universe a.plan world
   reached = played.closed.stands.reached

@@ -2,7 +2,7 @@
 use Rattle.std.proofs.Common.{◌≡◌, inl, inr, ℕ, zero, suc, ◌<◌, ◌≤◌, true, false, List, [], ◌∷◌, length, Option, None, Some, slice_get, refl, sym, ap, ◌∙◌, arith}
 use Rattle.std.specs.Prelude.{slice_index}
 use Rattle.std.proofs.lemmas.Bool.{cases_lt}
-use Rattle.std.proofs.lemmas.Option.{same_Some}
+use Rattle.std.proofs.lemmas.Option.{same_Some, slice_get_within}
 use Rattle.archive_laws.specs.LaneMoves.{outputs_made, IsOutputOf}
 use Rattle.chroot_state.specs.Held.{Held}
 use Rattle.farm_archive.specs.declared.publication.Publication.{Publication}
@@ -13,14 +13,13 @@ use Rattle.lane_runner.specs.declared.run.LaneStop.{LaneStop}
 use Rattle.lane_runner.specs.OnWay.{IsEnded}
 use Rattle.plan_model.specs.Plan.{Plan, lane, no_lane, lane_outputs}
 use Rattle.plan_verifier.specs.Accepted.{AcceptedPlan, IsAccepted, known_rows}
-use Rattle.word_archive.specs.History.{HasOne, HasOutput, IsOutput, entry}
+use Rattle.word_archive.specs.History.{HasOne, HasOutput, IsMadeOutput, entry}
 use Rattle.word_archive.specs.Rule.{serial_word}
 use Rattle.farm_executor.specs.Played.{IsPlayed}
 use Rattle.farm_executor.specs.Publications.{IsNumbered, IsOutputNumber}
 use Rattle.farm_executor.proofs.Codes.{OfLane, of_lane, lane_in_plan, told_is}
 use Rattle.farm_executor.proofs.Comes.{all_made}
 use Rattle.farm_executor.proofs.RisingNumbers.{number_is_place}
-use Rattle.farm_executor.proofs.Within.{within_list}
 
 -- an element by its place, where it is there and where it is not
 index_at : (xs : List ℕ) (i x : ℕ) → slice_get xs i ≡ Some x → slice_index xs i ≡ x
@@ -108,7 +107,7 @@ module _ (a : AcceptedPlan) (accepted : IsAccepted a) (gives_up : Type 0) (stops
   entered l i v out =
       let lt = output_in_plan a l i v out in
       let o = this_lane l lt in
-      let less = within_list _ i v out in
+      let less = slice_get_within _ i v out in
       let all = all_made a accepted gives_up stops chroots spent history played ended l lt o in
       let made = played.closed.told.all l i o.told o.told_at (omega (arith, less, all)) in
       record {
@@ -158,10 +157,10 @@ module _ (a : AcceptedPlan) (accepted : IsAccepted a) (gives_up : Type 0) (stops
   known_below l place i v known out of knows new =
       let e = entered l i v out in
       let h = entry e.made.serial l e.made.output in
-      let less = within_list _ i v out in
+      let less = slice_get_within _ i v out in
       let all = all_made a accepted gives_up stops chroots spent history played ended l
       (output_in_plan a l i v out) e.of in
-      let o : IsOutput a played.records h = record {
+      let o : IsMadeOutput a played.records h = record {
         told = e.of.told;
         place = i;
         there = e.of.told_at;

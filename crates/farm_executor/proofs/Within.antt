@@ -1,5 +1,6 @@
 -- No lane stands behind the end of its instructions.
 use Rattle.std.proofs.Common.{◌≡◌, inl, inr, ℕ, zero, suc, ◌<◌, ◌≤◌, List, [], ◌∷◌, length, Some, slice_get, ap, arith}
+use Rattle.std.proofs.lemmas.Option.{slice_get_within}
 use Rattle.farm_model.specs.declared.types.Variant.{Variant}
 use Rattle.farm_model.specs.Universe.{Universe}
 use Rattle.plan_model.specs.declared.instructions.Instruction.{Instruction}
@@ -13,13 +14,6 @@ use Rattle.farm_laws.proofs.EventsLeft.{places_at_start, state_at_start, step_pl
 use Rattle.farm_laws.proofs.Branches.{arrives}
 use Rattle.farm_laws.proofs.Places.{LeadsTo, GoesOn, GivesOne, PlaceMove, leads_to, turn_place}
 use Rattle.farm_laws.proofs.Steps.{put, turn_at, After, step_keeps, run_keeps}
-
--- a place at which something stands is ahead of the end
-pub within_list : {X : Type 0} (xs : List X) (i : ℕ) (x : X) → slice_get xs i ≡ Some x
-    → i < length xs
-within_list [] i x e = absurd (cc)
-within_list (y ∷ ys) zero x e = omega arith
-within_list (y ∷ ys) (suc i) x e = let h = within_list ys i x e in omega arith
 
 module _ (u : Universe) (p : Plan) (sound : IsSound u p) where
   abbrev IsWithin : ℕ → LaneState → Type 0
@@ -38,8 +32,8 @@ module _ (u : Universe) (p : Plan) (sound : IsSound u p) where
   leads_within l k next x lt at leads =
       let is = (lane p l).instructions in
       arrives (lane p l) (sound.plan.branched l lt) (λ j. j ≤ length is)
-      (λ j y there local le. omega (arith, within_list is j y there)) k x next at
-      (omega (arith, within_list is k x at)) leads
+      (λ j y there local le. omega (arith, slice_get_within is j y there)) k x next at
+      (omega (arith, slice_get_within is k x at)) leads
 
   module _ (s : State) (l : ℕ) (in_plan : l < length p) (h : Holds s) where
     goes_within : (next : LaneState)
@@ -53,7 +47,7 @@ module _ (u : Universe) (p : Plan) (sound : IsSound u p) where
         → GivesOne u (lane p l) (lane_state s l) (instruction_at p l (lane_state s l).done) next v
         → AllWithin (put s l next)
     gives_within next v g =
-        let at = within_list (lane p l).instructions (lane_state s l).done _ g.is in
+        let at = slice_get_within (lane p l).instructions (lane_state s l).done _ g.is in
         put_each p IsWithin s l next h.places.long in_plan h.within (elim g.place [
           | inl more ↦ omega (arith, at, more.1)
           | inr last ↦ leads_within l (lane_state s l).done next.done (Publish g.recipe) in_plan

@@ -1,6 +1,6 @@
 -- How the lanes of a run ended, in file order. Parameters: ends their ends, code a code, l a lane.
 --
---   HasNone, IsFirstWith     no lane, and the first lane, that ended with the code
+--   HasNoEndWith, IsFirstWith  no lane, and the first lane, that ended with the code
 --   HaveEnded                no lane is a cause
 --   IsCause                  why the run stopped
 use Rattle.std.specs.Prelude.{◌≡◌, ◌≢◌, ◌⊎◌, ℕ, ◌<◌, List, length, Some, slice_get}
@@ -13,12 +13,12 @@ abbrev pub HasNoneBelow : ℕ → List LaneStop → ℕ → Type 0
 HasNoneBelow code ends n =
     (k : ℕ) (e : LaneStop) → k < n → slice_get ends k ≡ Some e → e.code ≢ code
 
-abbrev pub HasNone : ℕ → List LaneStop → Type 0
-HasNone code ends = HasNoneBelow code ends (length ends)
+abbrev pub HasNoEndWith : ℕ → List LaneStop → Type 0
+HasNoEndWith code ends = HasNoneBelow code ends (length ends)
 
 -- no lane is a cause
 abbrev pub HaveEnded : List LaneStop → Type 0
-HaveEnded ends = HasNone NOT_STARTED ends × HasNone GAVE_UP ends
+HaveEnded ends = HasNoEndWith NOT_STARTED ends × HasNoEndWith GAVE_UP ends
 
 pub record IsFirstWith (code : ℕ) (ends : List LaneStop) (l : ℕ) : Type 0 where
   pub there : (e : LaneStop) × (slice_get ends l ≡ Some e) × (e.code ≡ code)
@@ -28,4 +28,4 @@ pub record IsFirstWith (code : ℕ) (ends : List LaneStop) (l : ℕ) : Type 0 wh
 abbrev pub IsCause : List LaneStop → ℕ → ℕ → Type 0
 IsCause ends code l =
     ((code ≡ NOT_STARTED) × IsFirstWith NOT_STARTED ends l)
-    ⊎ ((code ≡ GAVE_UP) × HasNone NOT_STARTED ends × IsFirstWith GAVE_UP ends l)
+    ⊎ ((code ≡ GAVE_UP) × HasNoEndWith NOT_STARTED ends × IsFirstWith GAVE_UP ends l)

@@ -1,13 +1,13 @@
 -- The lanes of a run before they start, and their seats when they come back. Parameters: a the
 -- accepted plan, t the number of the archive's table, l a lane, q its seat.
 --
---   AreBases             the base chroots of the first lanes
+--   AreLaneBases         the base chroots of the first lanes
 --   blank_log_of         the record of a lane that has not begun
 --   blank_seat           its seat then
 --   IsSeatedAt           a lane with its chroot and its seat
 --   IsJobOf              that one, in its base chroot
 --   IsSeatOf             a seat of that table, plan and lane
---   AreTaken             all seats, with other records
+--   AreSameSeats         all seats, with other records
 use Rattle.std.specs.Prelude.{◌≡◌, ℕ, List, Option, Some, length, slice_get}
 use Rattle.atomic_table.specs.Seated.{TableId}
 use Rattle.chroot_state.specs.Held.{Held, IsHeld, opened}
@@ -17,7 +17,7 @@ use Rattle.plan_verifier.specs.Accepted.{AcceptedPlan}
 use Rattle.word_archive.specs.Seats.{LaneSeatOf, LaneSeatsOf, seat_of}
 
 -- the base chroots of the first n lanes
-pub record AreBases (a : AcceptedPlan) (n : ℕ) (chroots : List Held) : Type 0 where
+pub record AreLaneBases (a : AcceptedPlan) (n : ℕ) (chroots : List Held) : Type 0 where
   pub long : length chroots ≡ n
   pub each : (l : ℕ) (c : Held) → slice_get chroots l ≡ Some c
       → (c ≡ opened a.universe (lane a.plan l).base) × IsHeld a.universe c
@@ -47,7 +47,7 @@ pub record IsJobOf (t : TableId) (a : AcceptedPlan) (l : ℕ) (number : ℕ) (c 
   pub held : IsHeld a.universe c
 
 -- the same seats, whichever are in
-pub record AreTaken (old new : LaneSeatsOf) : Type 0 where
+pub record AreSameSeats (old new : LaneSeatsOf) : Type 0 where
   pub table : new.table ≡ old.table
   pub about : new.about ≡ old.about
   pub stopped : new.stopped ≡ old.stopped

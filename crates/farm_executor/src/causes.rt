@@ -1,7 +1,7 @@
 //! Which lane stopped a run, and why.
 
 ghost use Rattle.std.specs.Prelude.{◌≡◌, ◌<◌, ◌^◌, IfSome, IsNone, length};
-ghost use Rattle.farm_executor.specs.Ends.{HasNone, IsCause, IsFirstWith};
+ghost use Rattle.farm_executor.specs.Ends.{HasNoEndWith, IsCause, IsFirstWith};
 ghost use Rattle.farm_executor.specs.declared.causes.TheConstants.{NOT_STARTED};
 ghost use Rattle.lane_runner.specs.declared.run.TheConstants.{GAVE_UP};
 
@@ -14,7 +14,7 @@ pub const NOT_STARTED: u16 = 503;
 fn first_with(ends: &[LaneStop], code: u16) -> Option<u32>
     requires few { length ends.now < 2 ^ 32 }
     ensures first { IfSome result (IsFirstWith code ends.now) }
-    ensures none { IsNone result → HasNone code ends.now }
+    ensures none { IsNone result → HasNoEndWith code ends.now }
 {
     for lane in 0..ends.len() {
         if ends[lane].code == code {
@@ -30,7 +30,8 @@ fn first_with(ends: &[LaneStop], code: u16) -> Option<u32>
 pub fn cause(ends: &[LaneStop]) -> Option<(u16, u32)>
     requires few { length ends.now < 2 ^ 32 }
     ensures cause { IfSome result (λ c. IsCause ends.now c.0 c.1) }
-    ensures none { IsNone result → HasNone NOT_STARTED ends.now × HasNone GAVE_UP ends.now }
+    ensures none { IsNone result → HasNoEndWith NOT_STARTED ends.now
+        × HasNoEndWith GAVE_UP ends.now }
 {
     if let Some(lane) = first_with(ends, NOT_STARTED) {
         return Some((NOT_STARTED, lane));

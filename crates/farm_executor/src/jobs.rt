@@ -2,7 +2,7 @@
 
 ghost use Rattle.std.specs.Prelude.{◌≡◌, ◌<◌, ◌≤◌, ◌^◌, [], ℕ, None, Some, IfOk, length, slice_get, slice_set};
 ghost use Rattle.std.specs.Vec.{vec_capacity};
-ghost use Rattle.farm_executor.specs.Seated.{AreBases, AreTaken, IsJobOf, IsSeatedAt, blank_log_of};
+ghost use Rattle.farm_executor.specs.Seated.{AreLaneBases, AreSameSeats, IsJobOf, IsSeatedAt, blank_log_of};
 ghost use Rattle.word_archive.specs.Seats.{opened_seats, seat_of};
 
 use crate::lanes::LaneJob;
@@ -19,7 +19,7 @@ use word_archive::{LaneSeats, SharedArchive};
 ///
 /// [`AllocError`] where memory is refused.
 pub fn base_chroots(alloc: Global, accepted: &Accepted) -> Result<Vec<Chroot>, AllocError>
-    ensures { IfOk result (λ v. AreBases accepted.now (length accepted.now.plan) v.items) }
+    ensures { IfOk result (λ v. AreLaneBases accepted.now (length accepted.now.plan) v.items) }
 {
     accepted.keeps();
     let universe = accepted.universe();
@@ -78,7 +78,7 @@ fn seated<'a, 'p>(
     ensures each { (k : ℕ) (c : _) (j : _) → slice_get chroots.items k ≡ Some c
         → slice_get result.0.items k ≡ Some j
         → IsSeatedAt seats.table seats.about k c j.lane j.chroot j.end.seat }
-    ensures seats { AreTaken seats result.1 }
+    ensures seats { AreSameSeats seats result.1 }
 {
     for chroot in chroots {
         let lane = jobs.len();
@@ -105,7 +105,7 @@ pub fn jobs<'a, 'p>(
     ensures long { IfOk result (λ r. length r.0.items ≡ length accepted.now.plan) }
     ensures each { IfOk result (λ r. (k : ℕ) (j : _) → slice_get r.0.items k ≡ Some j
         → IsJobOf archive.now.table.shared.table_id accepted.now k j.lane j.chroot j.end.seat) }
-    ensures seats { IfOk result (λ r. AreTaken seats r.1) }
+    ensures seats { IfOk result (λ r. AreSameSeats seats r.1) }
 {
     let _lanes = accepted.plan().lanes();
     let chroots = base_chroots(alloc, accepted)?;

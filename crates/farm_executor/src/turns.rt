@@ -2,7 +2,7 @@
 
 ghost use Rattle.std.specs.Prelude.{◌≡◌, ℕ, Some, IfOk, length, slice_get};
 ghost use Rattle.farm_executor.specs.LaneEnds.{IsReady};
-ghost use Rattle.farm_executor.specs.Seated.{AreTaken, blank_seat};
+ghost use Rattle.farm_executor.specs.Seated.{AreSameSeats, blank_seat};
 ghost use Rattle.lane_runner.specs.Calls.{IsRunning};
 ghost use Rattle.word_archive.specs.Seats.{opened_seats};
 
@@ -58,7 +58,7 @@ pub fn lanes_in_turns<'a, 'p>(
     ensures running { IfOk result (λ r. (k : ℕ) (t : _) → slice_get r.0.items k ≡ Some t
         → IsRunning t.accepted.now t.runner t.chroot t.end.seat.about t.end.seat.lane
         t.end.seat.log) }
-    ensures seats { IfOk result (λ r. AreTaken seats r.1) }
+    ensures seats { IfOk result (λ r. AreSameSeats seats r.1) }
 {
     let (jobs, seats) = jobs(alloc, accepted, archive, providers, seats)?;
     Ok((in_turns(alloc, accepted, jobs)?, seats))

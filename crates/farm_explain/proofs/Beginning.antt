@@ -11,7 +11,7 @@ use Rattle.plan_model.specs.Known.{Rows, IsGreatest}
 use Rattle.plan_model.specs.Plan.{Plan, lane}
 use Rattle.plan_model.specs.Safety.{Hazard, Meets, Parts, IsFirstUnsafe}
 use Rattle.plan_verifier.specs.Verdict.{IsRefused}
-use Rattle.plan_verifier.specs.Walk.{told_at}
+use Rattle.plan_verifier.specs.Walk.{place_told}
 use Rattle.plan_verifier.specs.declared.refusal.Refusal.TheVariants.{Text, Unsafe, Uneven, Stuck, Memory}
 use Rattle.plan_verifier.specs.declared.refusal.TheConstants.{UNSAFE, UNEVEN}
 use Rattle.refusal_reasons.specs.Reasons.{reason_at}
@@ -101,10 +101,10 @@ module _ (u : Universe) (p : Plan) (rows : Rows) (ls : List LaneLines)
       → BeginsWith (row_line UNEVEN name number) (unsafe_text u p rows ls)
   uneven_first name number is =
       let line = begins_through
-      (row_line UNEVEN (lane p is.l).name (told_at p is.l is.i Parts + 1))
+      (row_line UNEVEN (lane p is.l).name (place_told p is.l is.i Parts + 1))
       (hazard_text u p rows ls is.l is.i Parts) (unsafe_text u p rows ls) (
-        where_text u p ls is.l (told_at p is.l is.i Parts)
-            ++ parts_text u p rows is.l (end_behind p is.l (told_at p is.l is.i Parts)),
+        where_text u p ls is.l (place_told p is.l is.i Parts)
+            ++ parts_text u p rows is.l (end_behind p is.l (place_told p is.l is.i Parts)),
         refl,
       )
       (first_note is.l is.i Parts (first_one name number Parts is)) in

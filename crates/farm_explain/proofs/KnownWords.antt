@@ -5,7 +5,7 @@ use Rattle.farm_model.specs.declared.types.Variant.{Variant}
 use Rattle.farm_model.specs.Packages.{variant, variants}
 use Rattle.farm_model.specs.Universe.{Universe}
 use Rattle.farm_model.proofs.BelowLaws.{some_below-same}
-use Rattle.plan_asm.specs.Listing.{name_of}
+use Rattle.plan_asm.specs.Listing.{name_of_number}
 use Rattle.plan_lines.specs.Origins.{LaneLines}
 use Rattle.plan_model.specs.May.{May}
 use Rattle.plan_model.specs.Plan.{Plan}
@@ -32,7 +32,7 @@ module _ (u : Universe) (p : Plan) (ls : List LaneLines) (l word : ℕ) (known :
       → missing_text u p ls l by_word n ≡ missing_text u p ls l known n
   missing_same n same =
       let none : none_text u by_word n ≡ none_text u known n =
-      ap (λ (t : Bool). if t then [] else said (word_text Word.SurelyNone ++ name_of u n))
+      ap (λ (t : Bool). if t then [] else said (word_text Word.SurelyNone ++ name_of_number u n))
       (some_below-same (variants u n) (λ b. by_word (variant n b)) (λ b. known (variant n b)) same)
       in
       let each = text_below-same (variants u n)

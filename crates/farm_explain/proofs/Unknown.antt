@@ -6,7 +6,8 @@ use Rattle.farm_model.specs.declared.types.Variant.{Variant}
 use Rattle.farm_model.specs.Universe.{Universe, Package, Recipe}
 use Rattle.farm_model.specs.Packages.{names, variants, package_of, no_package, recipe, no_recipe, pre_depends, depends}
 use Rattle.refusal_reasons.specs.declared.types.Field.{Field}
-use Rattle.farm_explain.specs.ReasonText.{field_of, where_known, exclusion_lines, first_satisfied}
+use Rattle.refusal_reasons.specs.Reasons.{asked_in_field}
+use Rattle.farm_explain.specs.ReasonText.{where_known, exclusion_lines, first_satisfied}
 use Rattle.farm_explain.specs.declared.entries.Owner.{Owner}
 
 nothing : (u : Universe) (v : Variant) → variants u v.name ≤ v.bit → package_of u v ≡ no_package
@@ -20,7 +21,7 @@ no_variants u n past = rw (get_or_past u.packages n [] past) (omega arith)
 
 pub no_fields : (u : Universe) (v : Variant) (field : Field) → nat_lt v.bit (variants u v.name)
     ≡ false
-    → field_of u v field ≡ []
+    → asked_in_field u v field ≡ []
 unfolding pre_depends depends
 no_fields u v Field.PreDepends past =
     ap (λ (q : Package). q.pre_depends) (nothing u v (omega (arith, ltb-false _ _ past)))

@@ -21,7 +21,7 @@ use Rattle.plan_model.specs.MayAt.{may_at}
 use Rattle.plan_model.specs.Plan.{Plan, lane, instruction_at}
 use Rattle.plan_model.specs.Safety.{Hazard, Meets, Parts, hazard_at}
 use Rattle.plan_verifier.specs.declared.refusal.TheConstants.{UNSAFE, UNEVEN}
-use Rattle.plan_verifier.specs.Walk.{told_at}
+use Rattle.plan_verifier.specs.Walk.{place_told}
 use Rattle.refusal_reasons.specs.declared.types.Reason.{Reason}
 use Rattle.refusal_reasons.specs.First.{first_below}
 use Rattle.refusal_reasons.specs.Reasons.{reason_at}
@@ -73,7 +73,7 @@ hazard_text u p rows ls l i (Meets trap) =
     unsafe_line UNSAFE (lane p l).name (i + 1) (trap_text trap)
     ++ (where_text u p ls l i ++ reason_lines u p rows ls l i (reason_at u p rows l i trap))
 hazard_text u p rows ls l i Parts =
-    parting_text u p rows ls l (told_at p l i Parts + 1) (told_at p l i Parts)
+    parting_text u p rows ls l (place_told p l i Parts + 1) (place_told p l i Parts)
 
 abbrev pub text_of : Universe → Plan → Rows → List LaneLines → ℕ → Option (ℕ × Hazard) → List ℕ
 text_of u p rows ls l None = []
@@ -107,7 +107,7 @@ parting_note u p rows ls l number w = record {
 abbrev pub hazard_note : Universe → Plan → Rows → List LaneLines → (l i : ℕ) → Hazard → NoteFacts
 hazard_note u p rows ls l i (Meets trap) = trap_note u p rows ls l i trap
 hazard_note u p rows ls l i Parts =
-    parting_note u p rows ls l (told_at p l i Parts + 1) (told_at p l i Parts)
+    parting_note u p rows ls l (place_told p l i Parts + 1) (place_told p l i Parts)
 
 -- one, or none of a safe lane
 abbrev pub notes_of : Universe → Plan → Rows → List LaneLines → ℕ → Option (ℕ × Hazard)

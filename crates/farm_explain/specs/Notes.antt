@@ -4,7 +4,7 @@
 --   PlaceFacts           an instruction of a lane, as it is told
 --   NoteFacts            a note
 --   place_at             the facts of an instruction by its place
---   told                 one note, or none where there is no text
+--   note_of              one note, or none where there is no text
 --   text_of_all          the texts of notes one behind another
 use Rattle.std.specs.Prelude.{ℕ, zero, suc, ◌+◌, List, [], ◌∷◌, ◌++◌, map, Option, Some, None}
 use Rattle.std.specs.List.{flat_map}
@@ -68,9 +68,9 @@ place_at p ls l i trap = record {
   trap = trap;
 }
 
-abbrev pub told : Kind → Option PlaceFacts → List ℕ → List NoteFacts
-told kind place [] = []
-told kind place (b ∷ bs) = record { kind = kind; place = place; text = b ∷ bs } ∷ []
+abbrev pub note_of : Kind → Option PlaceFacts → List ℕ → List NoteFacts
+note_of kind place [] = []
+note_of kind place (b ∷ bs) = record { kind = kind; place = place; text = b ∷ bs } ∷ []
 
 -- those of the numbers below n, from 0 up
 abbrev pub notes_below : ℕ → (ℕ → List NoteFacts) → List NoteFacts

@@ -13,9 +13,9 @@ use Rattle.deb_relation.specs.Spelling.{entry_text}
 use Rattle.farm_model.specs.declared.types.Variant.{Variant}
 use Rattle.farm_model.specs.Below.{some_below}
 use Rattle.farm_model.specs.Universe.{Universe}
-use Rattle.farm_model.specs.Packages.{variant, variants, package_of, pre_depends, depends, recipe, satisfies_entry, satisfies_any}
+use Rattle.farm_model.specs.Packages.{variant, variants, package_of, recipe, satisfies_entry, satisfies_any}
 use Rattle.farm_spelling.specs.Variants.{variant_text}
-use Rattle.plan_asm.specs.Listing.{name_of, instruction_text}
+use Rattle.plan_asm.specs.Listing.{name_of_number, instruction_text}
 use Rattle.plan_lines.specs.declared.origin.Origin.{Origin}
 use Rattle.plan_lines.specs.Origins.{LaneLines}
 use Rattle.plan_lines.specs.Readings.{origin_at}
@@ -27,6 +27,7 @@ use Rattle.plan_model.specs.Plan.{Plan, lane, instruction_at}
 use Rattle.refusal_reasons.specs.declared.types.Field.{Field}
 use Rattle.refusal_reasons.specs.declared.types.Reason.{Reason}
 use Rattle.refusal_reasons.specs.First.{first_below}
+use Rattle.refusal_reasons.specs.Reasons.{asked_in_field}
 use Rattle.farm_explain.specs.declared.entries.Owner.{Owner}
 use Rattle.farm_explain.specs.declared.missing.Publishing.{Publishing}
 use Rattle.farm_explain.specs.declared.words.Word.{Word}
@@ -61,23 +62,23 @@ where_text u p ls l i =
 -- ---- X1
 
 -- the instruction, if there is one, publishes the variant
-abbrev pub publishes : Universe → Variant → Option Instruction → Bool
-publishes u v None = false
-publishes u v (Some x) = gives u v x
+abbrev pub publishes_variant : Universe → Variant → Option Instruction → Bool
+publishes_variant u v None = false
+publishes_variant u v (Some x) = gives u v x
 
 -- the lane's number and the instruction's
-abbrev pub place_of : Publishing → ℕ × ℕ
-place_of found = (found.lane, found.instruction)
+abbrev pub publishing_place_of : Publishing → ℕ × ℕ
+publishing_place_of found = (found.lane, found.instruction)
 
 -- the number of a lane's instruction that publishes it
 abbrev pub publishing_place : Universe → Plan → Variant → ℕ → Option (ℕ × ℕ)
 publishing_place u p v j =
     first_below {A = ℕ × ℕ} (length (lane p j).instructions)
-    (λ k. if publishes u v (instruction_at p j k) then Some (j, k + 1) else None)
+    (λ k. if publishes_variant u v (instruction_at p j k) then Some (j, k + 1) else None)
 
 -- the lane that publishes it, and the instruction's number
-abbrev pub publication : Universe → Plan → Variant → Option (ℕ × ℕ)
-publication u p v = first_below (length p) (publishing_place u p v)
+abbrev pub first_publication : Universe → Plan → Variant → Option (ℕ × ℕ)
+first_publication u p v = first_below (length p) (publishing_place u p v)
 
 -- `(instruction N, plan line N)`
 abbrev pub line_text : Option Origin → List ℕ
@@ -111,7 +112,7 @@ source_text u p ls l v (Some (j, number)) =
 abbrev pub standing_words : Universe → Plan → List LaneLines → ℕ → Bool → Variant → List ℕ
 standing_words u p ls l is_known v =
     if is_known then word_text Word.Surely ++ variant_text u v
-    else source_text u p ls l v (publication u p v)
+    else source_text u p ls l v (first_publication u p v)
 
 abbrev pub standing_text : Universe → Plan → List LaneLines → ℕ → (Variant → Bool) → Variant
     → List ℕ
@@ -122,7 +123,7 @@ standing_text u p ls l known v =
 abbrev pub none_text : Universe → (Variant → Bool) → ℕ → List ℕ
 none_text u known n =
     if some_below (variants u n) (λ b. known (variant n b)) then []
-    else said (word_text Word.SurelyNone ++ name_of u n)
+    else said (word_text Word.SurelyNone ++ name_of_number u n)
 
 abbrev pub missing_text : Universe → Plan → List LaneLines → ℕ → (Variant → Bool) → ℕ → List ℕ
 missing_text u p ls l known n =
@@ -135,10 +136,6 @@ missing_text u p ls l known n =
 abbrev pub owner_text : Universe → Owner → List ℕ
 owner_text u (Owner.Package v) = variant_text u v
 owner_text u (Owner.Recipe r) = word_text Word.Recipe ++ (recipe u r).name
-
-abbrev pub field_of : Universe → Variant → Field → Relations
-field_of u v Field.PreDepends = pre_depends u v
-field_of u v Field.Depends = depends u v
 
 abbrev pub field_word : Field → List ℕ
 field_word Field.PreDepends = word_text Word.PreDepends
@@ -213,7 +210,7 @@ reason_text u p ls l known m ahead (Reason.Full used added capacity) =
     full_line used added capacity
 reason_text u p ls l known m ahead (Reason.Unmet v field i) =
     unmet_lines u m ahead (Owner.Package v) (field_word field)
-    (slice_get (field_of u v field) i)
+    (slice_get (asked_in_field u v field) i)
 reason_text u p ls l known m ahead (Reason.Unsettled n) = said (slot_text u n (m.slots n))
 reason_text u p ls l known m ahead (Reason.BuildNeed r i) =
     unmet_lines u m false (Owner.Recipe r) (word_text Word.BuildDepends)
@@ -232,4 +229,4 @@ reason_text u p ls l known m ahead (Reason.Essential v) =
 reason_text u p ls l known m ahead (Reason.NotBuilt r) =
     said (owner_text u (Owner.Recipe r) ++ word_text Word.NotBuilt)
 reason_text u p ls l known m ahead (Reason.StillNeeded v field i) =
-    needed_line u (Owner.Package v) (field_word field) (slice_get (field_of u v field) i)
+    needed_line u (Owner.Package v) (field_word field) (slice_get (asked_in_field u v field) i)

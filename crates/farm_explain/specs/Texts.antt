@@ -18,7 +18,7 @@ use Rattle.farm_model.specs.declared.types.Variant.{Variant}
 use Rattle.farm_spelling.specs.Variants.{version_of}
 use Rattle.farm_explain.specs.declared.words.Word.{Word}
 use Rattle.farm_explain.specs.Words.{word_text}
-use Rattle.plan_asm.specs.Listing.{name_of}
+use Rattle.plan_asm.specs.Listing.{name_of_number}
 use Rattle.plan_model.specs.May.{Bits, MaySlot, MayAbsent, MayUnpacked, MayConfigured, May, is_some_of}
 
 -- the texts of the numbers below n, from 0 up
@@ -48,7 +48,7 @@ current_text u n (MayConfigured current) = versions_text u n current
 
 -- what may be held of a name
 abbrev pub slot_text : Universe → ℕ → MaySlot → List ℕ
-slot_text u n s = name_of u n ++ (phase_text s ++ current_text u n s)
+slot_text u n s = name_of_number u n ++ (phase_text s ++ current_text u n s)
 
 -- those of a set that do not satisfy the entry
 abbrev pub unsatisfying : Universe → Entry → ℕ → Bits → Bits
@@ -62,7 +62,7 @@ unmet_versions u e n (MayConfigured current) = versions_text u n (unsatisfying u
 
 -- what may be held of a name, where the entry is not met
 abbrev pub unmet_text : Universe → Entry → ℕ → MaySlot → List ℕ
-unmet_text u e n s = name_of u n ++ (phase_text s ++ unmet_versions u e n s)
+unmet_text u e n s = name_of_number u n ++ (phase_text s ++ unmet_versions u e n s)
 
 -- what was configured last
 abbrev pub last_text : Universe → ℕ → Bits → List ℕ
@@ -98,7 +98,7 @@ provides_name u v name = is_named (package_of u v).provides name
 
 -- the name is this, or some variant of it provides this
 abbrev pub goes_by : Universe → ℕ → List ℕ → Bool
-goes_by u n name = bytes_eq (name_of u n) name
+goes_by u n name = bytes_eq (name_of_number u n) name
     || some_below (variants u n) (λ b. provides_name u (variant n b) name)
 
 -- the name could meet the entry, in some version

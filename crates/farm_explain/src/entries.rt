@@ -3,6 +3,7 @@
 ghost use Rattle.std.specs.Prelude.{◌≡◌, ◌++◌, Some, OnOk};
 ghost use Rattle.farm_model.specs.Sound.{IsKnown};
 ghost use Rattle.may_rows.specs.Words.{may_of};
+ghost use Rattle.refusal_reasons.specs.Reasons.{asked_in_field};
 ghost use Rattle.farm_explain.specs.ReasonText as spec;
 
 use crate::could_meet::{ChrootText, push_could_meet};
@@ -64,7 +65,7 @@ pub fn push_entry_line(
 /// A field of a variant.
 pub fn field_of(universe: &Universe, variant: Variant, field: Field) -> &Relations
     requires { IsKnown universe.now variant }
-    ensures { result.now ≡ spec.field_of universe.now variant field }
+    ensures { result.now ≡ asked_in_field universe.now variant field }
 {
     let relations = universe.relations(variant);
     match field {

@@ -39,7 +39,7 @@ pub struct Publishing {
 /// Tells whether an instruction publishes a variant.
 #[tactic(auto, unfolding(farm_model::specs::Packages::same))]
 fn publishes(universe: &Universe, instruction: &Instruction, variant: Variant) -> bool
-    ensures { result ≡ spec.publishes universe.now variant (Some instruction.now) }
+    ensures { result ≡ spec.publishes_variant universe.now variant (Some instruction.now) }
 {
     match instruction {
         Instruction::Publish(recipe) => universe.outputs(*recipe).iter().any(|output| output.name
@@ -65,7 +65,7 @@ fn publishing_place(
     number: usize,
 ) -> Option<Publishing>
     requires { number < length plan.now.lanes }
-    ensures { option_map spec.place_of result
+    ensures { option_map spec.publishing_place_of result
         ≡ spec.publishing_place universe.now plan.now.lanes variant number }
 {
     let instructions = plan.lane(number).instructions();
@@ -82,8 +82,8 @@ fn publishing_place(
 
 /// The lane and the instruction that publish a variant.
 fn publication(universe: &Universe, plan: &Plan, variant: Variant) -> Option<Publishing>
-    ensures { option_map spec.place_of result
-        ≡ spec.publication universe.now plan.now.lanes variant }
+    ensures { option_map spec.publishing_place_of result
+        ≡ spec.first_publication universe.now plan.now.lanes variant }
 {
     for number in 0..plan.lanes() {
         if let Some(found) = publishing_place(universe, plan, variant, number) {
@@ -146,7 +146,7 @@ fn push_source(text: &mut Vec<u8>, of: LaneText<'_>, variant: Variant) -> Result
     ensures { OnOk result (text.new.items ≡ text.old.items
         ++ spec.source_text of.entry.universe.now of.entry.plan.now.lanes of.entry.lines.now.lanes
         of.entry.number variant
-        (spec.publication of.entry.universe.now of.entry.plan.now.lanes variant)) }
+        (spec.first_publication of.entry.universe.now of.entry.plan.now.lanes variant)) }
 {
     let Some(found) = publication(of.universe, of.plan, variant) else {
         push_pieces(text, &[Word::Nobody.text()])?;

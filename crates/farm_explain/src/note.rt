@@ -68,7 +68,7 @@ pub fn push_told(
     text: Vec<u8>,
 ) -> Result<(), AllocError>
     ensures { OnOk result (spec.all_facts notes.new.items ≡ spec.all_facts notes.old.items
-        ++ spec.told kind (option_map spec.place_facts place) text.items) }
+        ++ spec.note_of kind (option_map spec.place_facts place) text.items) }
 {
     if text.is_empty() {
         return Ok(());

@@ -6,6 +6,7 @@ ghost use Rattle.clause_kernel.specs.Rows.{word_has};
 ghost use Rattle.farm_model.specs.Packages as packages;
 ghost use Rattle.farm_model.specs.Packages.{variants};
 ghost use Rattle.may_rows.specs.Words.{may_of};
+ghost use Rattle.refusal_reasons.specs.Reasons.{asked_in_field};
 ghost use Rattle.farm_explain.specs.ReasonText as spec;
 ghost use Rattle.farm_explain.specs.Texts.{said, slot_text};
 ghost use Rattle.farm_explain.specs.Words.{word_text};
@@ -74,7 +75,7 @@ fn push_held(
 #[tactic(auto, using(crate::proofs::Unknown::no_fields))]
 fn entry_of(universe: &Universe, variant: Variant, field: Field, number: usize) -> Option<&Entry>
     ensures { option_map (λ entry. entry.now) result
-        ≡ slice_get (spec.field_of universe.now variant field) number }
+        ≡ slice_get (asked_in_field universe.now variant field) number }
 {
     if !is_known(universe, variant) {
         return None;
@@ -94,7 +95,7 @@ fn push_unmet(
         ++ spec.unmet_lines chroot.entry.universe.now (may_of chroot.entry.state.now)
         chroot.entry.is_unpack
         (Owner.Package variant) (spec.field_word field)
-        (slice_get (spec.field_of chroot.entry.universe.now variant field) number)) }
+        (slice_get (asked_in_field chroot.entry.universe.now variant field) number)) }
 {
     match entry_of(chroot.universe, variant, field, number) {
         Some(entry) => {
@@ -120,7 +121,7 @@ fn push_needed(
 ) -> Result<(), AllocError>
     ensures { OnOk result (text.new.items ≡ text.old.items
         ++ spec.needed_line universe.now (Owner.Package variant) (spec.field_word field)
-        (slice_get (spec.field_of universe.now variant field) number)) }
+        (slice_get (asked_in_field universe.now variant field) number)) }
 {
     match entry_of(universe, variant, field, number) {
         Some(entry) => {

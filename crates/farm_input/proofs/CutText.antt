@@ -2,7 +2,7 @@
 use Rattle.std.proofs.Common.{◌≡◌, ℕ, ◌-◌, ◌≤◌, true, false, List, [], ◌∷◌, ◌++◌, length, take, refl, ap, sym, ◌∙◌, arith, append_assoc}
 use Rattle.std.proofs.lemmas.List.{take_at, length-append, append-nil}
 use Rattle.deb_text.specs.Cuts.{before, after}
-use Rattle.farm_input.specs.Input.{whole_lines, joined, is_divider}
+use Rattle.farm_input.specs.Input.{whole_lines, text_of_lines, is_divider}
 use Rattle.farm_input.proofs.InputLaws.{whole_lines-nil}
 
 -- what of the input stands before the rest
@@ -13,8 +13,8 @@ front input rest = take (length input - length rest) input
 pub record IsCutSoFar (input rest : List ℕ) : Type 0 where
   pub within : length rest ≤ length input
   pub both : front input rest ++ rest ≡ input
-  pub text : front input rest ++ joined (before is_divider (whole_lines rest))
-      ≡ joined (before is_divider (whole_lines input))
+  pub text : front input rest ++ text_of_lines (before is_divider (whole_lines rest))
+      ≡ text_of_lines (before is_divider (whole_lines input))
   pub behind : after is_divider (whole_lines rest) ≡ after is_divider (whole_lines input)
 
 front-append : (xs ys : List ℕ) → front (xs ++ ys) ys ≡ xs
@@ -48,27 +48,28 @@ goes input rest line later e lines other so_far =
       both = rw (more, append_assoc start line later) split;
       text =
           rw more
-          (append_assoc start line (joined (before is_divider (whole_lines later)))
-          ∙ ap (λ (ls : List (List ℕ)). start ++ joined ls) (sym kept) ∙ so_far.text);
+          (append_assoc start line (text_of_lines (before is_divider (whole_lines later)))
+          ∙ ap (λ (ls : List (List ℕ)). start ++ text_of_lines ls) (sym kept) ∙ so_far.text);
       behind = sym rests ∙ so_far.behind;
     }
 
 -- at a line that divides
 pub found : (input rest line later : List ℕ) → whole_lines rest ≡ line ∷ whole_lines later
     → is_divider line ≡ true → IsCutSoFar input rest
-    → (front input rest ≡ joined (before is_divider (whole_lines input)))
+    → (front input rest ≡ text_of_lines (before is_divider (whole_lines input)))
     × (whole_lines later ≡ after is_divider (whole_lines input))
 found input rest line later lines is so_far =
     let none : before is_divider (whole_lines rest) ≡ [] = rw (lines, is) refl in
     let behind : after is_divider (whole_lines rest) ≡ whole_lines later = rw (lines, is) refl in (
       sym (append-nil (front input rest))
-          ∙ ap (λ (ls : List (List ℕ)). front input rest ++ joined ls) (sym none) ∙ so_far.text,
+          ∙ ap (λ (ls : List (List ℕ)). front input rest ++ text_of_lines ls) (sym none)
+          ∙ so_far.text,
       sym behind ∙ so_far.behind,
     )
 
 -- where no line divides
 pub ends : (input rest : List ℕ) → rest ≡ [] → IsCutSoFar input rest
-    → (input ≡ joined (before is_divider (whole_lines input)))
+    → (input ≡ text_of_lines (before is_divider (whole_lines input)))
     × (whole_lines rest ≡ after is_divider (whole_lines input))
 ends input rest e so_far =
     let lines : whole_lines rest ≡ [] = rw e whole_lines-nil in
@@ -76,7 +77,7 @@ ends input rest e so_far =
     sym (append-nil (front input rest))
     ∙ ap (λ (r : List ℕ). front input rest ++ r) (sym e) ∙ so_far.both in (
       sym all ∙ sym (append-nil (front input rest))
-          ∙ ap (λ (ls : List (List ℕ)). front input rest ++ joined (before is_divider ls))
+          ∙ ap (λ (ls : List (List ℕ)). front input rest ++ text_of_lines (before is_divider ls))
           (sym lines)
           ∙ so_far.text,
       lines ∙ ap (after is_divider) (sym lines) ∙ so_far.behind,

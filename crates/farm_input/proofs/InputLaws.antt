@@ -6,7 +6,7 @@ use Rattle.std.specs.List.{onto_first}
 use Rattle.std.specs.Prelude.{if◌then◌else◌}
 use Rattle.memchr.specs.Find.{IsFirstByte}
 use Rattle.deb_text.specs.Bytes.{is_newline}
-use Rattle.farm_input.specs.Input.{whole_lines, joined}
+use Rattle.farm_input.specs.Input.{whole_lines, text_of_lines}
 
 pub whole_lines-nil : whole_lines [] ≡ []
 unfolding whole_lines
@@ -52,15 +52,16 @@ line_last (b ∷ bs) none some =
     (uncut b bs (λ i lt. false_from_ne_true _ (none i (omega arith) lt)))
 
 -- the lines of a text, joined, are the text
-pub joined-whole_lines : (text : List ℕ) → joined (whole_lines text) ≡ text
+pub joined-whole_lines : (text : List ℕ) → text_of_lines (whole_lines text) ≡ text
 unfolding whole_lines
 joined-whole_lines [] = refl
 joined-whole_lines (b ∷ bs) = by (is_newline b) (joined-whole_lines bs) where
-  onto : (lines : List (List ℕ)) → joined (onto_first b lines) ≡ b ∷ joined lines
+  onto : (lines : List (List ℕ)) → text_of_lines (onto_first b lines) ≡ b ∷ text_of_lines lines
   onto [] = refl
   onto (l ∷ ls) = refl
 
-  by : (t : Bool) → joined (whole_lines bs) ≡ bs
-      → joined (if t then (b ∷ []) ∷ whole_lines bs else onto_first b (whole_lines bs)) ≡ b ∷ bs
+  by : (t : Bool) → text_of_lines (whole_lines bs) ≡ bs
+      → text_of_lines (if t then (b ∷ []) ∷ whole_lines bs else onto_first b (whole_lines bs))
+      ≡ b ∷ bs
   by true more = ap (λ (rest : List ℕ). b ∷ rest) more
   by false more = onto (whole_lines bs) ∙ ap (λ (rest : List ℕ). b ∷ rest) more

@@ -2,7 +2,7 @@
 -- `%%` divide it, and a text that is missing is empty.
 --
 --   whole_lines text      the lines of a text, each with its newline
---   texts_in input        the four texts
+--   input_texts input     the four texts
 use Rattle.std.specs.Prelude.{ℕ, Bool, ◌||◌, List, [], ◌∷◌, codes, if◌then◌else◌}
 use Rattle.std.specs.List.{flat_map, onto_first}
 use Rattle.std.specs.Str.{bytes_eq}
@@ -16,8 +16,8 @@ whole_lines (b ∷ bs) =
     if is_newline b then (b ∷ []) ∷ whole_lines bs else onto_first b (whole_lines bs)
 
 -- the text that has these lines
-abbrev pub joined : List (List ℕ) → List ℕ
-joined lines = flat_map (λ line. line) lines
+abbrev pub text_of_lines : List (List ℕ) → List ℕ
+text_of_lines lines = flat_map (λ line. line) lines
 
 -- a line that is exactly `%%`
 abbrev pub is_divider : List ℕ → Bool
@@ -33,11 +33,11 @@ pub record Texts : Type 0 where
 -- third, and the rest
 abbrev pub texts_of_lines : List (List ℕ) → Texts
 texts_of_lines lines = record {
-  packages = joined (before is_divider lines);
-  sources = joined (before is_divider (after is_divider lines));
-  farm = joined (before is_divider (after is_divider (after is_divider lines)));
-  plan = joined (after is_divider (after is_divider (after is_divider lines)));
+  packages = text_of_lines (before is_divider lines);
+  sources = text_of_lines (before is_divider (after is_divider lines));
+  farm = text_of_lines (before is_divider (after is_divider (after is_divider lines)));
+  plan = text_of_lines (after is_divider (after is_divider (after is_divider lines)));
 }
 
-abbrev pub texts_in : List ℕ → Texts
-texts_in input = texts_of_lines (whole_lines input)
+abbrev pub input_texts : List ℕ → Texts
+input_texts input = texts_of_lines (whole_lines input)

@@ -2,7 +2,7 @@
 
 ghost use Rattle.std.specs.Prelude.{◌≡◌, ◌++◌, ◌<◌, [], ◌∷◌, IfSome, IfNone, length};
 ghost use Rattle.deb_text.specs.Cuts.{before, after};
-ghost use Rattle.farm_input.specs.Input.{whole_lines, joined, is_divider, texts_in};
+ghost use Rattle.farm_input.specs.Input.{whole_lines, text_of_lines, is_divider, input_texts};
 ghost use Rattle.farm_input.specs.View.{texts_view};
 
 use memchr::memchr;
@@ -40,7 +40,7 @@ fn is_divider(line: &[u8]) -> bool
 
 /// The text before the first line that divides, and what stands behind that line.
 fn cut_text(input: &[u8]) -> (&[u8], &[u8])
-    ensures text { result.0.now ≡ joined (before is_divider (whole_lines input.now)) }
+    ensures text { result.0.now ≡ text_of_lines (before is_divider (whole_lines input.now)) }
     ensures rest { whole_lines result.1.now ≡ after is_divider (whole_lines input.now) }
 {
     let mut rest = input;
@@ -55,7 +55,7 @@ fn cut_text(input: &[u8]) -> (&[u8], &[u8])
 
 /// Cuts the input at the first three lines that are exactly `%%`. A text that is missing is empty.
 pub fn texts_of(input: &[u8]) -> Texts
-    ensures { texts_view result ≡ texts_in input.now }
+    ensures { texts_view result ≡ input_texts input.now }
 {
     let (packages, rest) = cut_text(input);
     let (sources, rest) = cut_text(rest);

@@ -12,9 +12,9 @@ use Rattle.farm_model.specs.Packages.{variant, same, contains, names, variants, 
 use Rattle.farm_model.proofs.BelowLaws.{some_below-mono}
 use Rattle.plan_model.specs.Turn.{passes}
 use Rattle.plan_model.specs.Run.{start}
-use Rattle.plan_model.specs.Order.{Item, Pass, Give, Board, on_board, rest_of, board_after, Reaches, IsAtRest}
+use Rattle.plan_model.specs.Order.{OrderItem, Pass, Give, Board, on_board, rest_of, board_after, Reaches, IsAtRest}
 
-unfoldable pub gives_item : Variant → Item → Bool
+unfoldable pub gives_item : Variant → OrderItem → Bool
 gives_item v (Pass e) = false
 gives_item v (Give w) = same w v
 
@@ -23,7 +23,7 @@ right-nil [] ys e = e
 right-nil (x ∷ xs) ys e = cc
 
 -- the first of these items can be made where so much is in the archive
-abbrev pub NextIs : Universe → (Variant → Bool) → List Item → Type 0
+abbrev pub NextIs : Universe → (Variant → Bool) → List OrderItem → Type 0
 NextIs u there [] = Unit {0}
 NextIs u there (Pass e ∷ is) = passes u there e ≡ true
 NextIs u there (Give v ∷ is) = Unit {0}
@@ -39,19 +39,19 @@ passes-mono u p q e h =
     (λ b lt' k. lift (variant n b) k))
 
 -- the target: what each lane has left there, and what is there
-module _ (u : Universe) (lanes : ℕ) (left : ℕ → List Item) (there : Variant → Bool) where
+module _ (u : Universe) (lanes : ℕ) (left : ℕ → List OrderItem) (there : Variant → Bool) where
   -- a board that is not past the target: each lane has left what the target has left and some more,
   -- whose outputs the target has
   pub record Behind (b : Board) : Type 0 where
     pub long : length b.rest ≡ lanes
     pub split : (l : ℕ) → l < lanes
-        → (pre : List Item) × (rest_of b l ≡ pre ++ left l)
+        → (pre : List OrderItem) × (rest_of b l ≡ pre ++ left l)
         × ((v : Variant) → list_any (gives_item v) pre ≡ true → there v ≡ true)
     pub below : (v : Variant) → on_board u b v ≡ true → there v ≡ true
 
-  split_set : (b : Board) (l : ℕ) (pre : List Item) → Behind b → l < lanes
+  split_set : (b : Board) (l : ℕ) (pre : List OrderItem) → Behind b → l < lanes
       → ((v : Variant) → list_any (gives_item v) pre ≡ true → there v ≡ true)
-      → (k : ℕ) → k < lanes → (pre' : List Item)
+      → (k : ℕ) → k < lanes → (pre' : List OrderItem)
       × (get_or (slice_set b.rest l (pre ++ left l)) k [] ≡ pre' ++ left k)
       × ((v : Variant) → list_any (gives_item v) pre' ≡ true → there v ≡ true)
   split_set b l pre h lt made k lt' =
@@ -67,7 +67,7 @@ module _ (u : Universe) (lanes : ℕ) (left : ℕ → List Item) (there : Varian
             (r.0, get_or-set_other b.rest l k (pre ++ left l) [] other ∙ r.1, r.2)
       ]
 
-  past_item : (b next : Board) (l : ℕ) (y : Item) (pre : List Item) → Behind b → l < lanes
+  past_item : (b next : Board) (l : ℕ) (y : OrderItem) (pre : List OrderItem) → Behind b → l < lanes
       → ((v : Variant) → list_any (gives_item v) (y ∷ pre) ≡ true → there v ≡ true)
       → board_after u b l (y ∷ (pre ++ left l)) ≡ Some next → Behind next
   unfolding gives_item
@@ -98,7 +98,7 @@ module _ (u : Universe) (lanes : ℕ) (left : ℕ → List Item) (there : Varian
         ];
       })
 
-  next_passes : (b next : Board) (l : ℕ) (is : List Item) → Behind b
+  next_passes : (b next : Board) (l : ℕ) (is : List OrderItem) → Behind b
       → board_after u b l is ≡ Some next → NextIs u there is × ((is ≡ []) → ⊥)
   next_passes b next l [] h q = absurd (none-some next q)
   next_passes b next l (Pass e ∷ is) h q =
@@ -109,7 +109,7 @@ module _ (u : Universe) (lanes : ℕ) (left : ℕ → List Item) (there : Varian
   abbrev pub Itself : Type 0
   Itself = (l : ℕ) × (l < lanes) × (NextIs u there (left l)) × ((left l ≡ []) → ⊥)
 
-  at_item : (b next : Board) (l : ℕ) → Behind b → l < lanes → (pre : List Item)
+  at_item : (b next : Board) (l : ℕ) → Behind b → l < lanes → (pre : List OrderItem)
       → rest_of b l ≡ pre ++ left l →
       ((v : Variant) → list_any (gives_item v) pre ≡ true → there v ≡ true)
       → board_after u b l (rest_of b l) ≡ Some next → Itself ⊎ Behind next
@@ -135,10 +135,10 @@ module _ (u : Universe) (lanes : ℕ) (left : ℕ → List Item) (there : Varian
       (board_step b r.0 l h r.1) [ inl it ↦ inl it | inr next ↦ walk order r.0 t r.2 next ]
 
   -- what one item leads behind the target is behind it
-  before_split : (b : Board) (l : ℕ) (y : Item) (is : List Item) → rest_of b l ≡ y ∷ is
+  before_split : (b : Board) (l : ℕ) (y : OrderItem) (is : List OrderItem) → rest_of b l ≡ y ∷ is
       → l < length b.rest → (m : Board) → m.rest ≡ slice_set b.rest l is → Behind m
       → ((v : Variant) → gives_item v y ≡ true → there v ≡ true)
-      → (k : ℕ) → k < lanes → (pre : List Item) × (rest_of b k ≡ pre ++ left k)
+      → (k : ℕ) → k < lanes → (pre : List OrderItem) × (rest_of b k ≡ pre ++ left k)
       × ((v : Variant) → list_any (gives_item v) pre ≡ true → there v ≡ true)
   before_split b l y is e lt m set h new k lt' =
       let r = h.split k lt' in
@@ -162,7 +162,7 @@ module _ (u : Universe) (lanes : ℕ) (left : ℕ → List Item) (there : Varian
         )
       ]
 
-  before_item : (b m : Board) (l : ℕ) (is : List Item) → rest_of b l ≡ is → l < length b.rest
+  before_item : (b m : Board) (l : ℕ) (is : List OrderItem) → rest_of b l ≡ is → l < length b.rest
       → board_after u b l is ≡ Some m → Behind m → Behind b
   unfolding gives_item
   before_item b m l [] e lt q h = absurd (none-some m q)
@@ -229,7 +229,7 @@ stuck_exact u start end other way order w stuck r l lt e =
       | inr behind ↦ let s = behind.split l lt in right-nil s.0 (rest_of end l) (sym s.1 ∙ e)
     ]
   where
-    goes : (k : ℕ) (is : List Item) → NextIs u (on_board u end) is → (is ≡ [] → ⊥)
+    goes : (k : ℕ) (is : List OrderItem) → NextIs u (on_board u end) is → (is ≡ [] → ⊥)
         → board_after u end k is ≡ None → ⊥
     goes k [] n ne q = ne refl
     goes k (Pass e ∷ is) n ne q = none-some _

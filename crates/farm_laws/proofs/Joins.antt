@@ -10,7 +10,7 @@ use Rattle.farm_model.proofs.BelowLaws.{some_below-at, some_below-found}
 use Rattle.plan_model.specs.Turn.{was_built}
 use Rattle.plan_model.specs.May.{Bits, MaySlot, MayAbsent, MayUnpacked, MayConfigured, May, is_some_of}
 use Rattle.plan_model.specs.Allowed.{AllowsLast, unknown, once, Allows, allows_absent, allows_unpacked, allows_configured, AllowsAll}
-use Rattle.plan_model.specs.Join.{is_same_phase, phases_differ, either_last, joined_slot, both_built, joined}
+use Rattle.plan_model.specs.Join.{is_same_phase, phases_differ, either_last, joined_slot, both_built, joined_may}
 
 -- a known variant has a known name
 pub variants_name : (u : Universe) (name b : ℕ) → b < variants u name → name < names u
@@ -119,7 +119,7 @@ same_phases u first second e n lt =
 
 pub allows_left : (u : Universe) (first second : May) (c : Chroot)
     → phases_differ u first second ≡ false → AllowsAll u first c
-    → AllowsAll u (joined u first second) c
+    → AllowsAll u (joined_may u first second) c
 allows_left u first second c e al =
     record {
       long = al.long;
@@ -131,7 +131,7 @@ allows_left u first second c e al =
 
 pub allows_right : (u : Universe) (first second : May) (c : Chroot)
     → phases_differ u first second ≡ false → AllowsAll u second c
-    → AllowsAll u (joined u first second) c
+    → AllowsAll u (joined_may u first second) c
 allows_right u first second c e al =
     record {
       long = al.long;

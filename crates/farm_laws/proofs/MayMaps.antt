@@ -17,7 +17,7 @@ use Rattle.farm_model.proofs.BelowLaws.{some_below-at, some_below-found, sum_bel
 use Rattle.plan_model.specs.Plan.{Lane, capacity, unpack_cost}
 use Rattle.farm_model.specs.declared.types.Slot.{Slot}
 use Rattle.farm_model.specs.declared.types.Slot.TheVariants.{Absent}
-use Rattle.farm_model.specs.Chroot.{holds_configured, size_in, used, member, met, met_with, pre_met, unmet, entries, unsettled}
+use Rattle.farm_model.specs.Chroot.{holds_configured, size_in, used, member, meets_entry, met_with, pre_met, unmet, entries, unsettled}
 use Rattle.farm_model.specs.Traps.{unpack_traps, changed, some_member, configure_traps, still_needed, deconfigured_slot, deconfigure_traps, remove_traps, build_traps}
 use Rattle.plan_model.specs.May.{Bits, May, may_hold_configured, surely_configured, surely_met, surely_met_with, surely_pre_met, may_size, may_use}
 use Rattle.plan_model.specs.Allowed.{Allows, AllowsAll}
@@ -59,8 +59,8 @@ unmet-may meets surely es h = list_any-mono _ _ es (λ e. not-mono (meets e) (su
 met-changed : (u : Universe) (f : Slot → Slot) → f Absent ≡ Absent
     → (c : Chroot) (members : List ℕ) (e : Entry) (n : ℕ) → n < length c → member members n ≡ false
     → holds_configured (λ b. satisfies_entry u e (variant n b)) (slot c n) ≡ true
-    → met u (changed f c members) e ≡ true
-unfolding met
+    → meets_entry u (changed f c members) e ≡ true
+unfolding meets_entry
 met-changed u f none c members e n lt out h =
     let same : slot (changed f c members) n ≡ slot c n = slot-changed f none c members n
     ∙ cond-false (member members n) (f (slot c n)) (slot c n) out in
@@ -85,8 +85,8 @@ module _ (u : Universe) (m : May) (c : Chroot) (al : AllowsAll u m c) where
       let r = some_below-found (names u) q e in
       some_below-at (length c) p r.0 (omega (arith, r.1, al.long)) (h r.0 (al.each r.0) r.2)
 
-  met_sound : (e : Entry) → surely_met u m e ≡ true → met u c e ≡ true
-  unfolding surely_met met
+  met_sound : (e : Entry) → surely_met u m e ≡ true → meets_entry u c e ≡ true
+  unfolding surely_met meets_entry
   met_sound e = slots-sure _ _ (λ n a. surely_configured-holds u n
       (λ b. satisfies_entry u e (variant n b)) a)
 
@@ -157,7 +157,7 @@ module _ (u : Universe) (m : May) (c : Chroot) (al : AllowsAll u m c) where
       cons (over-may of.budget _ _ _ _ le (le_refl _))
       (cons (list_any-mono _ _ members (λ k e. ap not (sym (is_unpacked-may (al.each k))) ∙ e))
       (cons (members-may members _ _
-      (λ v e. unmet-may (met u c) (surely_met u m) (pre_depends u v) met_sound e))
+      (λ v e. unmet-may (meets_entry u c) (surely_met u m) (pre_depends u v) met_sound e))
       (cons (members-may members _ _
       (λ v e. unmet-may (met_with u members c) (surely_met_with u members m) (depends u v)
       (met_with_sound members) e))
@@ -171,7 +171,7 @@ module _ (u : Universe) (m : May) (c : Chroot) (al : AllowsAll u m c) where
       slots-may _ _
       (λ n a. or-mono _ _ _ _ (λ e. sym (is_unpacked-may a) ∙ e)
       (λ e. holds-may u n _ a (holds-mono _ _ (slot c n)
-      (λ b. unmet-may (met u c) (surely_met u m) (entries u (variant n b)) met_sound) e)))
+      (λ b. unmet-may (meets_entry u c) (surely_met u m) (entries u (variant n b)) met_sound) e)))
 
   pub build_covers : (of : Lane) (spent : ℕ) (r : Recipe) → spent ≤ m.cost
       → Covers ((nat_lt of.budget (spent + r.steps), OverBudget) ∷ build_traps u
@@ -179,24 +179,24 @@ module _ (u : Universe) (m : May) (c : Chroot) (al : AllowsAll u m c) where
   build_covers of spent r le =
       cons (over-may of.budget _ _ _ _ le (le_refl _))
       (cons unsettled_sound
-      (cons (unmet-may (met u c) (surely_met u m) r.needs met_sound)
+      (cons (unmet-may (meets_entry u c) (surely_met u m) r.needs met_sound)
       (cons (slots-may _ _ (λ n a. holds-may u n (λ b. satisfies_any u r.clashes (variant n b)) a))
       (cons (over-may (capacity u of) _ _ _ _ use_sound (le_refl _)) nil))))
 
   -- an entry that is met before and not after is one that a member may meet, and no other surely
   -- does
   needed_entry : (g : Slot → Slot) → g Absent ≡ Absent → (members : List ℕ) (e : Entry)
-      → (met u c e && not (met u (changed g c members) e)) ≡ true
+      → (meets_entry u c e && not (meets_entry u (changed g c members) e)) ≡ true
       → (may_meet u members m e && not (surely_met_outside u members m e)) ≡ true
-  unfolding met may_meet surely_met_outside
+  unfolding meets_entry may_meet surely_met_outside
   needed_entry g none members e h =
-      let parts = and_parts (met u c e) _ h in
+      let parts = and_parts (meets_entry u c e) _ h in
       let found = some_below-found (length c)
       (λ n. holds_configured (λ b. satisfies_entry u e (variant n b)) (slot c n)) parts.0 in
-      let gone = not-true (met u (changed g c members) e) parts.1 in
+      let gone = not-true (meets_entry u (changed g c members) e) parts.1 in
       let inside : member members found.0 ≡ true = elim (cases_Bool (member members found.0)) [
         | inl it ↦ it
-        | inr out ↦ absurd (both_ways (met u (changed g c members) e) gone
+        | inr out ↦ absurd (both_ways (meets_entry u (changed g c members) e) gone
             (met-changed u g none c members e found.0 found.1 out found.2))
       ] in
       and_from _ _
@@ -205,11 +205,11 @@ module _ (u : Universe) (m : May) (c : Chroot) (al : AllowsAll u m c) where
       (omega (arith, found.1, al.long))
       (and_from _ _ inside (holds_configured-may u found.0
       (λ b. satisfies_entry u e (variant found.0 b)) (al.each found.0) found.2)))
-      (not-mono (met u (changed g c members) e) (surely_met_outside u members m e)
+      (not-mono (meets_entry u (changed g c members) e) (surely_met_outside u members m e)
       (outside g none members e) parts.1)
     where
       outside : (g : Slot → Slot) → g Absent ≡ Absent → (members : List ℕ) (e : Entry)
-          → surely_met_outside u members m e ≡ true → met u (changed g c members) e ≡ true
+          → surely_met_outside u members m e ≡ true → meets_entry u (changed g c members) e ≡ true
       outside g none members e h =
           let r = some_below-found (names u)
           (λ n. not (member members n) && surely_configured u n

@@ -17,7 +17,7 @@ use Rattle.plan_model.specs.Plan.{Lane, Plan, no_lane, lane, instruction_at, eve
 use Rattle.plan_model.specs.Turn.{LaneState, newest, passes, Turn, Goes, Gives, Waits, Ends, Fails, unless, unpacks, publishes, turn_of}
 use Rattle.plan_model.specs.Run.{archive, State, lane_state, Moved, Unknown, Trapped, outcome, step}
 use Rattle.plan_model.specs.Known.{gives, publishing}
-use Rattle.plan_model.specs.Order.{Item, Pass, Give, items_of, items, start_board, IsOrder}
+use Rattle.plan_model.specs.Order.{OrderItem, Pass, Give, items_of, items, start_board, IsOrder}
 use Rattle.farm_laws.proofs.Boards.{gives_item, right-nil, NextIs, Behind, Itself, walk}
 use Rattle.farm_laws.proofs.Steps.{turn_at}
 use Rattle.farm_laws.proofs.Branches.{drop_some, drop_none}
@@ -71,7 +71,7 @@ list_any-map p f [] = refl
 list_any-map p f (x ∷ xs) = ap (λ b. p (f x) || b) (list_any-map p f xs)
 
 -- what a lane has left to do in the archive
-unfoldable pub left_items : Universe → List Instruction → ℕ → ℕ → List Item
+unfoldable pub left_items : Universe → List Instruction → ℕ → ℕ → List OrderItem
 left_items u is done made = drop made (items u (drop done is))
 
 items-cons : (u : Universe) (x : Instruction) (xs : List Instruction)
@@ -100,7 +100,7 @@ gives_item-items u v (x ∷ xs) =
     ∙ ap (λ b. gives u v x || b) (gives_item-items u v xs)
 
 -- what a lane has done in the archive
-unfoldable items_before : Universe → List Instruction → ℕ → ℕ → List Item
+unfoldable items_before : Universe → List Instruction → ℕ → ℕ → List OrderItem
 items_before u is done made = items u (take done is) ++ take made (items u (drop done is))
 
 before_left : (u : Universe) (is : List Instruction) (done made : ℕ)
@@ -168,7 +168,7 @@ module _ (u : Universe) (p : Plan) (s : State) (places : InPlaces u p s)
   abbrev there : Variant → Bool
   there = archive u s.published
 
-  abbrev left_of : ℕ → List Item
+  abbrev left_of : ℕ → List OrderItem
   left_of l = left_items u (lane p l).instructions (lane_state s l).done (lane_state s l).made
 
   abbrev SomeMove : Type 0

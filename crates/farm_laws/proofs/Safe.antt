@@ -23,7 +23,7 @@ use Rattle.farm_model.specs.Traps.{configured, deconfigured, removed, unpacked, 
 use Rattle.plan_model.specs.May.{MayAbsent, May}
 use Rattle.plan_model.specs.Allowed.{allows_absent, AllowsAll}
 use Rattle.plan_model.specs.Risk.{candidates, unpack_risk, publish_risks, risk, greatest_cost, unpack_risks, configure_risks, deconfigure_risks, remove_risks, build_risks}
-use Rattle.plan_model.specs.Join.{phases_differ, joined}
+use Rattle.plan_model.specs.Join.{phases_differ, joined_may}
 use Rattle.plan_model.specs.Safety.{parts_of}
 use Rattle.plan_model.specs.MayAt.{may_unpack, may_after, Maps, maps_behind, maps_behind_some, maps_at, may_at, may_be_configured, may_be_deconfigured}
 use Rattle.farm_laws.proofs.Slots.{configured_allowed, deconfigured_allowed}
@@ -81,7 +81,7 @@ pub record Fits (u : Universe) (m : May) (st : LaneState) : Type 0 where
 
 -- at the end of a branch, to the map behind both
 fits_left : (u : Universe) (first second : May) (st : LaneState)
-    → phases_differ u first second ≡ false → Fits u first st → Fits u (joined u first second) st
+    → phases_differ u first second ≡ false → Fits u first st → Fits u (joined_may u first second) st
 fits_left u first second st e fits =
     let long = both_built-long first.built second.built in
     record {
@@ -92,7 +92,8 @@ fits_left u first second st e fits =
     }
 
 fits_right : (u : Universe) (first second : May) (st : LaneState)
-    → phases_differ u first second ≡ false → Fits u second st → Fits u (joined u first second) st
+    → phases_differ u first second ≡ false → Fits u second st
+    → Fits u (joined_may u first second) st
 fits_right u first second st e fits =
     let long = both_built-long first.built second.built in
     record {

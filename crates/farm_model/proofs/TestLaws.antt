@@ -2,12 +2,6 @@
 use Rattle.std.proofs.Common.{◌≡◌, ℕ, inl, inr, Bool, true, false, ◌||◌, ◌==◌, refl, sym, ◌∙◌}
 use Rattle.std.proofs.lemmas.Bool.{cases_Bool, eqb-true, eqb-false, eq-eqb, ne_eqb}
 
--- two tests that pass in the same cases
-pub same_tests : (a b : Bool) → (a ≡ true → b ≡ true) → (b ≡ true → a ≡ true) → a ≡ b
-same_tests true b to from = sym (to refl)
-same_tests false true to from = from refl
-same_tests false false to from = refl
-
 -- a test of equality turned round
 pub eqb-turned : (a b : ℕ) → (a == b) ≡ (b == a)
 eqb-turned a b =

@@ -3,7 +3,7 @@
 -- slot.
 --
 --   Chroot, slot, used          the slots by name; the disk space taken
---   met, met_with, pre_met      an entry is met; with the members of a set; ahead of an unpack
+--   meets_entry, met_with, pre_met  an entry is met; with the members of a set; ahead of an unpack
 --   unsettled                   something present is not configured, or misses an entry
 --   base_chroot                 what a base chroot holds
 use Rattle.std.specs.Prelude.{ℕ, Bool, true, false, not, ◌&&◌, ◌||◌, ◌==◌, List, ◌++◌, length, map, Option, Some, None, slice_index_or}
@@ -92,8 +92,8 @@ abbrev pub member : List ℕ → ℕ → Bool
 member members n = list_any (λ m. m == n) members
 
 -- a configured variant satisfies the entry (Policy 7.2, Depends)
-unfoldable pub met : Universe → Chroot → Entry → Bool
-met u c e = some_slot c (has_configured (satisfies_entry u e))
+unfoldable pub meets_entry : Universe → Chroot → Entry → Bool
+meets_entry u c e = some_slot c (has_configured (satisfies_entry u e))
 
 -- the same, where the present variants of the members count too, since they are configured together
 -- (the project's own rule; Policy 7.2 leaves open where a circle of dependencies is broken)
@@ -131,7 +131,7 @@ entries u v = depends u v ++ pre_depends u v
 -- a present variant is not configured, or an entry of one is not met (the project's own rule)
 unfoldable pub unsettled : Universe → Chroot → Bool
 unsettled u c = some_slot c (λ n s. is_unpacked s
-    || has_present (λ v. unmet (met u c) (entries u v)) n s)
+    || has_present (λ v. unmet (meets_entry u c) (entries u v)) n s)
 
 -- a slot of a base chroot: the package found is configured
 abbrev pub base_slot : Option Variant → Slot

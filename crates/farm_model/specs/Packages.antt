@@ -13,7 +13,7 @@ use Rattle.std.specs.List.{list_any}
 use Rattle.std.specs.Int.{bit_at}
 use Rattle.deb_relation.specs.declared.operator.Op.{Op}
 use Rattle.deb_relation.specs.Relations.{Atom, Entry, Relations}
-use Rattle.deb_relation.specs.Satisfaction.{Facts, in_relation, satisfies as package_satisfies}
+use Rattle.deb_relation.specs.Satisfaction.{Facts, in_relation, package_satisfies}
 use Rattle.farm_model.specs.declared.types.Variant.{Variant}
 use Rattle.farm_model.specs.Below.{some_below}
 use Rattle.farm_model.specs.Universe.{Package, Recipe, Base, Universe}

@@ -15,7 +15,7 @@ use Rattle.farm_model.specs.declared.types.Trap.{Trap}
 use Rattle.farm_model.specs.declared.types.Trap.TheVariants.{PreDepends, Conflict, BreaksOther, Full, WrongState, Depends, Broken, StillNeeded, Unsettled, BuildDepends, BuildConflict, Essential}
 use Rattle.farm_model.specs.Universe.{Universe, Recipe}
 use Rattle.farm_model.specs.Packages.{size, essential, pre_depends, depends, satisfies_any, conflict, breaks}
-use Rattle.farm_model.specs.Chroot.{Chroot, slot, some_slot, some_other, has_present, has_configured, is_present, is_unpacked, is_configured, last_of, used, member, met, met_with, pre_met, unmet, entries, unsettled}
+use Rattle.farm_model.specs.Chroot.{Chroot, slot, some_slot, some_other, has_present, has_configured, is_present, is_unpacked, is_configured, last_of, used, member, meets_entry, met_with, pre_met, unmet, entries, unsettled}
 
 -- the first trap whose test holds
 unfoldable pub first_trap : List (Bool × Trap) → Option Trap
@@ -52,7 +52,7 @@ some_member members c p = list_any (λ m. has_present p m (slot c m)) members
 abbrev pub configure_traps : Universe → Chroot → List ℕ → List (Bool × Trap)
 configure_traps u c members =
     (list_any (λ m. not (is_unpacked (slot c m))) members, WrongState)  -- X6
-    ∷ (some_member members c (λ v. unmet (met u c) (pre_depends u v)), PreDepends)  -- X2
+    ∷ (some_member members c (λ v. unmet (meets_entry u c) (pre_depends u v)), PreDepends)  -- X2
     ∷ (some_member members c (λ v. unmet (met_with u members c) (depends u v)), Depends)  -- X7
     ∷ (
       some_member members c (λ v. some_other c v.name (has_present (λ other. breaks u other v))),
@@ -76,7 +76,8 @@ unfoldable pub still_needed : Universe → List ℕ → Chroot → Chroot → Bo
 still_needed u members before after =
     some_slot before
     (λ n s. not (member members n)
-    && has_configured (λ v. list_any (λ e. met u before e && not (met u after e)) (entries u v))
+    && has_configured (λ v. list_any (λ e. meets_entry u before e && not (meets_entry u after e))
+    (entries u v))
     n s)
 
 -- a slot whose variant is unpacked again, and was configured last
@@ -114,7 +115,7 @@ remove_traps u c members =
 abbrev pub build_traps : Universe → ℕ → Chroot → Recipe → List (Bool × Trap)
 build_traps u capacity c r =
     (unsettled u c, Unsettled)  -- X10
-    ∷ (unmet (met u c) r.needs, BuildDepends)  -- X11
+    ∷ (unmet (meets_entry u c) r.needs, BuildDepends)  -- X11
     ∷ (some_slot c (has_present (satisfies_any u r.clashes)), BuildConflict)  -- X12
     ∷ (nat_lt capacity (used u c + r.scratch), Full)  -- X5
     ∷ []

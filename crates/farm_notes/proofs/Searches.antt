@@ -1,10 +1,11 @@
 -- The first place in a list that passes a test, and the places behind it.
-use Rattle.std.proofs.Common.{◌≡◌, ℕ, suc, ◌-◌, ◌<◌, true, false, List, [], length, get_or, drop, ◌∷◌, ◌||◌, ◌+◌, Bool, refl, ap, Some, None, position, arith, add-one, drop-cons}
+use Rattle.std.proofs.Common.{◌≡◌, ℕ, suc, ◌-◌, ◌<◌, true, false, List, [], length, get_or, drop, ◌∷◌, ◌+◌, Bool, refl, ap, Some, None, position, arith, add-one, drop-cons}
 use Rattle.std.specs.List.{list_any}
-use Rattle.std.proofs.lemmas.Bool.{lt-ltb, le-ltb, true≢false}
+use Rattle.std.proofs.lemmas.Bool.{lt-ltb, le-ltb}
 use Rattle.std.proofs.lemmas.List.Sums.{position_or_len_is}
 use Rattle.std.specs.Option.{option_map}
 use Rattle.std.specs.Ordering.{is_eq}
+use Rattle.deb_text.proofs.CutLaws.{after-none}
 use Rattle.deb_text.specs.Bytes.{is_newline}
 use Rattle.deb_text.specs.Cuts.{after}
 use Rattle.deb_version.specs.Grammar.{text_cmp}
@@ -62,17 +63,10 @@ module _ {X : Type 0} (p : X → Bool) (xs : List X) (i : ℕ) (d : X) (lt : i <
   pub any_later : p (get_or xs i d) ≡ false → list_any p (drop i xs) ≡ list_any p (drop (i + 1) xs)
   any_later is = rw (from_place, is) refl
 
--- nothing stands behind what is not there
-behind_first : {X : Type 0} (p : X → Bool) (x : X) (xs : List X) (first : Bool) → p x ≡ first
-    → (first || list_any p xs) ≡ false → (list_any p xs ≡ false → after p xs ≡ [])
-    → after p (x ∷ xs) ≡ []
-behind_first p x xs true is none rest = absurd (true≢false none)
-behind_first p x xs false is none rest = rw is (rest none)
-
+-- nothing stands behind what is not there; the name is one that a tactic's list can have
 pub after_none : {X : Type 0} (p : X → Bool) (xs : List X) → list_any p xs ≡ false
     → after p xs ≡ []
-after_none p [] none = refl
-after_none p (x ∷ xs) none = behind_first p x xs (p x) refl none (after_none p xs)
+after_none p xs none = after-none p xs none
 
 -- one more line stands before the rest
 pub behind_one : (line k : ℕ) (text : List ℕ) → k < line

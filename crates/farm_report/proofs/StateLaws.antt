@@ -11,7 +11,7 @@ use Rattle.farm_model.specs.Chroot.{slot}
 use Rattle.farm_model.specs.Packages.{names, variant}
 use Rattle.farm_model.specs.Universe.{Universe}
 use Rattle.plan_model.specs.Plan.{Plan}
-use Rattle.farm_report.specs.StateText.{published_text, variant_text, held_text, lane_lines}
+use Rattle.farm_report.specs.StateText.{published_text, present_variant_text, held_text, lane_lines}
 
 -- nothing is told of what is absent
 pub absent_is : (u : Universe) (n : ℕ) (s : Slot) → option_map (variant n) (bit_of s) ≡ None
@@ -22,7 +22,8 @@ absent_is u n (Configured b) is = cc
 
 -- and of what is present its variant and phase
 pub present_is : (u : Universe) (n : ℕ) (s : Slot) (v : Variant)
-    → option_map (variant n) (bit_of s) ≡ Some v → variant_text u v (phase_of s) ≡ held_text u n s
+    → option_map (variant n) (bit_of s) ≡ Some v
+    → present_variant_text u v (phase_of s) ≡ held_text u n s
 present_is u n Absent v is = cc
 present_is u n (Unpacked b last) v is =
     let same : v ≡ variant n b = cc in

@@ -10,8 +10,8 @@ abbrev pub counted_line : List ℕ → ℕ → List ℕ
 counted_line word number = concat (word ∷ codes " " ∷ decimal number ∷ codes "\n" ∷ [])
 
 -- `lane NAME cost N budget N`
-abbrev pub lane_line : List ℕ → ℕ → ℕ → List ℕ
-lane_line name cost budget =
+abbrev pub lane_cost_line : List ℕ → ℕ → ℕ → List ℕ
+lane_cost_line name cost budget =
     concat (codes "lane " ∷ name ∷ codes " cost " ∷ decimal cost
     ∷ codes " budget " ∷ decimal budget ∷ codes "\n" ∷ [])
 

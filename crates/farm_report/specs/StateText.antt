@@ -23,13 +23,14 @@ use Rattle.plan_model.specs.Plan.{Plan, Lane, lane}
 use Rattle.plan_model.specs.Run.{State, lane_state}
 use Rattle.plan_model.specs.Turn.{LaneState}
 use Rattle.farm_spelling.specs.Variants.{version_of}
-use Rattle.plan_asm.specs.Listing.{name_of}
+use Rattle.plan_asm.specs.Listing.{name_of_number}
 use Rattle.farm_report.specs.AnswerLines.{counted_line, trap_line, published_line, at_line, variant_line}
 
 -- a publication, with its serial
 abbrev pub published_text : Universe → Plan → Publication → List ℕ
 published_text u p q =
-    published_line q.serial (lane p q.lane).name (name_of u q.variant.name) (version_of u q.variant)
+    published_line q.serial (lane p q.lane).name (name_of_number u q.variant.name)
+    (version_of u q.variant)
 
 -- the phase of what is present; what is absent has none
 abbrev pub phase_word : Phase → List ℕ
@@ -38,14 +39,15 @@ phase_word IsUnpacked = codes "unpacked"
 phase_word IsConfigured = codes "configured"
 
 -- a present variant, in this phase
-abbrev pub variant_text : Universe → Variant → Phase → List ℕ
-variant_text u v phase = variant_line (name_of u v.name) (version_of u v) (phase_word phase)
+abbrev pub present_variant_text : Universe → Variant → Phase → List ℕ
+present_variant_text u v phase = variant_line (name_of_number u v.name) (version_of u v)
+    (phase_word phase)
 
 -- what a chroot holds of a name; nothing of one that is absent
 abbrev pub held_text : Universe → ℕ → Slot → List ℕ
 held_text u n Absent = []
-held_text u n (Unpacked b last) = variant_text u (variant n b) IsUnpacked
-held_text u n (Configured b) = variant_text u (variant n b) IsConfigured
+held_text u n (Unpacked b last) = present_variant_text u (variant n b) IsUnpacked
+held_text u n (Configured b) = present_variant_text u (variant n b) IsConfigured
 
 -- how many instructions of a lane of this name are done, what they have cost, and the disk space
 -- that its chroot takes, in KiB; then what the chroot holds, by the number of the name

@@ -13,7 +13,7 @@ use Rattle.plan_verifier.specs.Accepted.{AcceptedPlan, known_rows}
 use Rattle.plan_verifier.specs.declared.refusal.TheConstants.{UNSAFE, UNEVEN}
 use Rattle.plan_verifier.specs.declared.refusal.Refusal.{Refusal}
 use Rattle.plan_verifier.specs.declared.refusal.Refusal.TheVariants.{Text, Unsafe, Uneven, Stuck, Memory}
-use Rattle.farm_report.specs.AnswerLines.{counted_line, lane_line, fault_line, row_line, unsafe_line, stuck_line, memory_line}
+use Rattle.farm_report.specs.AnswerLines.{counted_line, lane_cost_line, fault_line, row_line, unsafe_line, stuck_line, memory_line}
 
 -- the names of the texts; no text has another number
 abbrev pub file_name : ℕ → List ℕ
@@ -23,7 +23,7 @@ file_name file =
 
 -- the line of a lane, with its cost and its budget
 abbrev pub cost_line : AcceptedPlan → ℕ → List ℕ
-cost_line a l = lane_line (lane a.plan l).name (lane_cost a.universe a.plan (known_rows a) l)
+cost_line a l = lane_cost_line (lane a.plan l).name (lane_cost a.universe a.plan (known_rows a) l)
     (lane a.plan l).budget
 
 -- an acceptance: how many lanes and events there are, and the lanes in file order

@@ -4,7 +4,7 @@
 ghost use Rattle.std.specs.Prelude.{◌≡◌, is_err};
 ghost use Rattle.deb_text.specs.Lists.{lists};
 ghost use Rattle.deb_text.specs.Words.{spaced};
-ghost use Rattle.farm_report.specs.AnswerLines.{counted_line, lane_line, fault_line, unsafe_line, row_line, refused_at_line, memory_line, stuck_line};
+ghost use Rattle.farm_report.specs.AnswerLines.{counted_line, lane_cost_line, fault_line, unsafe_line, row_line, refused_at_line, memory_line, stuck_line};
 ghost use Rattle.report_sink.specs.Sinks.{IsWritten};
 
 use itoa::Buffer;
@@ -37,7 +37,7 @@ pub fn write_lane<S: Sink>(
     budget: u64,
 ) -> Result<(), WriteFailed>
     ensures written { IsWritten (S.state out.old) (S.state out.new)
-        (lane_line name.now cost budget) }
+        (lane_cost_line name.now cost budget) }
     ensures told { is_err result ≡ (S.state out.new).failed }
 {
     let (mut cost_digits, mut budget_digits) = (Buffer::new(), Buffer::new());

@@ -1,7 +1,7 @@
 //! Names and variants. A number that is none's has no name, and no version.
 
 ghost use Rattle.std.specs.Prelude.{◌≡◌, ◌++◌, OnOk};
-ghost use Rattle.plan_asm.specs.Listing.{name_of};
+ghost use Rattle.plan_asm.specs.Listing.{name_of_number};
 ghost use Rattle.farm_spelling.specs.Variants.{version_of, variant_text};
 
 use deb_text::push_pieces;
@@ -11,7 +11,7 @@ use std::alloc::AllocError;
 /// A name of a package.
 #[tactic(auto, unfolding(farm_model::specs::Packages::names))]
 pub fn name_of(universe: &Universe, name: u32) -> &[u8]
-    ensures { result.now ≡ name_of universe.now name }
+    ensures { result.now ≡ name_of_number universe.now name }
 {
     if name < universe.names() {
         universe.name_text(name)

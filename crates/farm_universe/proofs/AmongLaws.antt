@@ -11,7 +11,7 @@ use Rattle.deb_relation.specs.Satisfaction.{is_its_own, is_provided, provides_it
 use Rattle.item_index.specs.declared.item.Item.{Item}
 use Rattle.item_index.specs.Items.{item, item_of, listed, IsIn}
 use Rattle.item_index.proofs.ItemLaws.{any-at, any-found, any_atom-at, any_atom-found}
-use Rattle.farm_universe.specs.Among.{holds, provides_at, is_other, at_owner, AreFound}
+use Rattle.farm_universe.specs.Among.{there_and_passes, provides_at, is_another_member, at_owner, AreFound}
 use Rattle.farm_universe.specs.BaseText.{Member, member_facts}
 
 -- ---- tests of lists
@@ -83,7 +83,7 @@ any-owner : (ms : List Member) (items : List (Item ℕ)) (test : Item ℕ → Me
     → list_any (λ at. at_owner (test at) ms at) items ≡ list_any passes ms
 any-owner ms items test passes sound complete = both_ways _ _ on back where
   at_member : (at : Item ℕ) (o : Option Member) → slice_get ms at.owner ≡ o
-      → holds (test at) o ≡ true → list_any passes ms ≡ true
+      → there_and_passes (test at) o ≡ true → list_any passes ms ≡ true
   at_member at None e is = absurd cc
   at_member at (Some m) e is = any-at passes ms at.owner m e (sound at m is)
 
@@ -97,26 +97,27 @@ any-owner ms items test passes sound complete = both_ways _ _ on back where
       let found = any-found passes ms some in
       let told = complete found.0 found.1 found.2 found.3 in
       any-at (λ at. at_owner (test at) ms at) items told.1.0 told.0 told.1.1
-      (ap (holds (test told.0)) (ap (slice_get ms) told.2 ∙ found.2) ∙ told.3)
+      (ap (there_and_passes (test told.0)) (ap (slice_get ms) told.2 ∙ found.2) ∙ told.3)
 
 module _ (ms : List Member) (named provided : List (List (Item ℕ)))
     (are : AreFound ms named provided)
     (besides : Option ℕ) (a : Atom) where
   -- by their own names
   pub any-named : list_any
-      (at_owner (λ m. is_other besides m && is_its_own (member_facts m) a) ms) (listed named a.name)
-      ≡ list_any (λ m. is_other besides m && is_its_own (member_facts m) a) ms
+      (at_owner (λ m. is_another_member besides m && is_its_own (member_facts m) a) ms)
+      (listed named a.name)
+      ≡ list_any (λ m. is_another_member besides m && is_its_own (member_facts m) a) ms
   any-named =
       any-owner ms (listed named a.name)
-      (λ at m. is_other besides m && is_its_own (member_facts m) a)
-      (λ m. is_other besides m && is_its_own (member_facts m) a) (λ at m is. is) complete
+      (λ at m. is_another_member besides m && is_its_own (member_facts m) a)
+      (λ m. is_another_member besides m && is_its_own (member_facts m) a) (λ at m is. is) complete
     where
       complete : (k : ℕ) (m : Member) → slice_get ms k ≡ Some m
-          → (is_other besides m && is_its_own (member_facts m) a) ≡ true
+          → (is_another_member besides m && is_its_own (member_facts m) a) ≡ true
           → (at : Item ℕ) × IsIn (listed named a.name) at × (at.owner ≡ k)
-          × ((is_other besides m && is_its_own (member_facts m) a) ≡ true)
+          × ((is_another_member besides m && is_its_own (member_facts m) a) ≡ true)
       complete k m there is =
-          let own = (and_parts (is_other besides m) _ is).1 in
+          let own = (and_parts (is_another_member besides m) _ is).1 in
           let same = (bytes_eq-Decides m.name a.name).0
           (and_parts (bytes_eq m.name a.name) _ own).0 in (
             item k 0 0,
@@ -127,31 +128,33 @@ module _ (ms : List Member) (named provided : List (List (Item ℕ)))
 
   -- by what they provide
   pub any-provided : list_any
-      (λ at. at_owner (λ m. is_other besides m && provides_at at m a) ms at)
+      (λ at. at_owner (λ m. is_another_member besides m && provides_at at m a) ms at)
       (listed provided a.name)
-      ≡ list_any (λ m. is_other besides m && is_provided m.binary.provides a) ms
+      ≡ list_any (λ m. is_another_member besides m && is_provided m.binary.provides a) ms
   any-provided =
-      any-owner ms (listed provided a.name) (λ at m. is_other besides m && provides_at at m a)
-      (λ m. is_other besides m && is_provided m.binary.provides a) sound complete
+      any-owner ms (listed provided a.name)
+      (λ at m. is_another_member besides m && provides_at at m a)
+      (λ m. is_another_member besides m && is_provided m.binary.provides a) sound complete
     where
       told : (at : Item ℕ) (m : Member) (o : Option Atom) → item_of at m.binary.provides ≡ o
-          → holds (provides_it a) o ≡ true → is_provided m.binary.provides a ≡ true
+          → there_and_passes (provides_it a) o ≡ true → is_provided m.binary.provides a ≡ true
       told at m None e is = absurd cc
       told at m (Some p) e is =
           any_atom-at (provides_it a) m.binary.provides at.entry at.alternative p e is
 
-      sound : (at : Item ℕ) (m : Member) → (is_other besides m && provides_at at m a) ≡ true
-          → (is_other besides m && is_provided m.binary.provides a) ≡ true
+      sound : (at : Item ℕ) (m : Member) → (is_another_member besides m && provides_at at m a)
+          ≡ true
+          → (is_another_member besides m && is_provided m.binary.provides a) ≡ true
       sound at m is =
-          let parts = and_parts (is_other besides m) _ is in
+          let parts = and_parts (is_another_member besides m) _ is in
           and_from _ _ parts.0 (told at m (item_of at m.binary.provides) refl parts.1)
 
       complete : (k : ℕ) (m : Member) → slice_get ms k ≡ Some m
-          → (is_other besides m && is_provided m.binary.provides a) ≡ true
+          → (is_another_member besides m && is_provided m.binary.provides a) ≡ true
           → (at : Item ℕ) × IsIn (listed provided a.name) at × (at.owner ≡ k)
-          × ((is_other besides m && provides_at at m a) ≡ true)
+          × ((is_another_member besides m && provides_at at m a) ≡ true)
       complete k m there is =
-          let parts = and_parts (is_other besides m) _ is in
+          let parts = and_parts (is_another_member besides m) _ is in
           let found = any_atom-found (provides_it a) m.binary.provides parts.1 in
           let p = found.3 in
           let both = and_parts (is_none p.qualifier && bytes_eq p.name a.name) _ found.7 in
@@ -162,5 +165,5 @@ module _ (ms : List Member) (named provided : List (List (Item ℕ)))
             subst (λ text. IsIn (listed provided text) at) same
                 (are.by_item k m there found.0 found.1 found.4 found.2 p found.5),
             refl,
-            and_from _ _ parts.0 (ap (holds (provides_it a)) found.6 ∙ found.7),
+            and_from _ _ parts.0 (ap (there_and_passes (provides_it a)) found.6 ∙ found.7),
           )

@@ -11,7 +11,7 @@ use Rattle.std.proofs.lemmas.List.Sums.{fold-append}
 use Rattle.std.proofs.lemmas.List.FromFn.{fill_by_all, length-map-range_with_len, get_or-map-range_with_len}
 use Rattle.std.proofs.lemmas.Nat.Bits.{bit_at_or, bit_at-pow_same, bit_at-pow_other, bit_at-lt, bit_at-zero}
 use Rattle.farm_model.specs.declared.types.Variant.{Variant}
-use Rattle.farm_universe.specs.ListText.{with_bit, word_of, words_of}
+use Rattle.farm_universe.specs.ListText.{with_bit, word_of, variant_words}
 
 word_of-push : (vs : List Variant) (v : Variant) (k : ℕ)
     → word_of (vs ++ v ∷ []) k
@@ -27,39 +27,40 @@ word_of-push vs v k =
     by true = fold-append (λ (word : ℕ) (v : Variant). with_bit word v.bit) 0 kept (v ∷ [])
     by false = ap (fold (λ (word : ℕ) (v : Variant). with_bit word v.bit) 0) (append-nil kept)
 
-pub length-words_of : (n : ℕ) (vs : List Variant) → length (words_of n vs) ≡ n
+pub length-words_of : (n : ℕ) (vs : List Variant) → length (variant_words n vs) ≡ n
 length-words_of n vs = length-map-range_with_len (word_of vs) 0 n
 
 -- the word of a name
 pub get_or-words_of : (n : ℕ) (vs : List Variant) (k : ℕ) → k < n
-    → get_or (words_of n vs) k 0 ≡ word_of vs k
+    → get_or (variant_words n vs) k 0 ≡ word_of vs k
 get_or-words_of n vs k lk = get_or-map-range_with_len (word_of vs) 0 n k k 0 lk (omega arith)
 
 -- a variant more sets its bit
 pub words_of-push : (n : ℕ) (vs : List Variant) (v : Variant) → v.name < n
-    → words_of n (vs ++ v ∷ [])
-    ≡ set (words_of n vs) v.name (with_bit (get_or (words_of n vs) v.name 0) v.bit)
+    → variant_words n (vs ++ v ∷ [])
+    ≡ set (variant_words n vs) v.name (with_bit (get_or (variant_words n vs) v.name 0) v.bit)
 words_of-push n vs v lt =
     sym (fill_by_all (word_of (vs ++ v ∷ []))
-    (set (words_of n vs) v.name (with_bit (get_or (words_of n vs) v.name 0) v.bit)) n 0
-    (length-set (words_of n vs) v.name (with_bit (get_or (words_of n vs) v.name 0) v.bit)
+    (set (variant_words n vs) v.name (with_bit (get_or (variant_words n vs) v.name 0) v.bit)) n 0
+    (length-set (variant_words n vs) v.name (with_bit (get_or (variant_words n vs) v.name 0) v.bit)
     ∙ length-words_of n vs)
     (λ k lk. by k lk (eqb v.name k) refl)) where
       by : (k : ℕ) → k < n → (b : Bool) → eqb v.name k ≡ b
-          → get_or (set (words_of n vs) v.name
-          (with_bit (get_or (words_of n vs) v.name 0) v.bit)) k 0
+          → get_or (set (variant_words n vs) v.name
+          (with_bit (get_or (variant_words n vs) v.name 0) v.bit)) k 0
           ≡ word_of (vs ++ v ∷ []) k
       by k lk true e =
           let is = eqb-true v.name k e in
-          let inside : v.name < length (words_of n vs) = rw (length-words_of n vs) lt in
-          get_or-set_at (words_of n vs) v.name k
-          (with_bit (get_or (words_of n vs) v.name 0) v.bit) 0 (sym is) inside
+          let inside : v.name < length (variant_words n vs) = rw (length-words_of n vs) lt in
+          get_or-set_at (variant_words n vs) v.name k
+          (with_bit (get_or (variant_words n vs) v.name 0) v.bit) 0 (sym is) inside
           ∙ ap (λ word. with_bit word v.bit) (get_or-words_of n vs v.name lt ∙ ap (word_of vs) is)
           ∙ sym (word_of-push vs v k
           ∙ ap (λ b. if b then with_bit (word_of vs k) v.bit else word_of vs k) e)
       by k lk false e =
-          get_or-set_other (words_of n vs) v.name k
-          (with_bit (get_or (words_of n vs) v.name 0) v.bit) 0 (λ q. eqb-false v.name k e (sym q))
+          get_or-set_other (variant_words n vs) v.name k
+          (with_bit (get_or (variant_words n vs) v.name 0) v.bit) 0
+          (λ q. eqb-false v.name k e (sym q))
           ∙ get_or-words_of n vs k lk
           ∙ sym (word_of-push vs v k
           ∙ ap (λ b. if b then with_bit (word_of vs k) v.bit else word_of vs k) e)
@@ -109,5 +110,5 @@ words-from zero a = refl
 words-from (suc n) a = ap (λ (words : List ℕ). 0 ∷ words) (words-from n (a + 1))
 
 -- without a variant each word is 0
-pub words_of-nil : (n : ℕ) → words_of n [] ≡ replicate n 0
+pub words_of-nil : (n : ℕ) → variant_words n [] ≡ replicate n 0
 words_of-nil n = words-from n 0

@@ -5,14 +5,14 @@ use Rattle.deb_profile.specs.Reduction.{reduced, reduced_at}
 use Rattle.deb_relation.specs.declared.kind.Kind.{Kind}
 use Rattle.deb_relation.specs.Field.{entries_left, only_judged, relations_at}
 use Rattle.deb_relation.specs.Relations.{Relations}
-use Rattle.farm_universe.specs.FieldView.{entries_in, entries_said}
+use Rattle.farm_universe.specs.FieldView.{entries_or_none, entries_said}
 
 -- what is judged well is read
 pub judged-said : (kind : Kind) (text : List ℕ) → only_judged (relations_at kind text) ≡ Ok tt
     → relations_at kind text ≡ Ok (entries_said kind text)
 unfolding entries_said
 judged-said kind text = by (relations_at kind text) where
-  by : (read : Result Relations ℕ) → only_judged read ≡ Ok tt → read ≡ Ok (entries_in read)
+  by : (read : Result Relations ℕ) → only_judged read ≡ Ok tt → read ≡ Ok (entries_or_none read)
   by (Ok entries) is = refl
   by (Err code) is = absurd cc
 
@@ -23,7 +23,7 @@ nothing-spelled kind = refl
 
 pub nothing-said : (kind : Kind) → entries_said kind [] ≡ []
 unfolding entries_said
-nothing-said kind = ap entries_in (nothing-spelled kind)
+nothing-said kind = ap entries_or_none (nothing-spelled kind)
 
 pub nothing-kept : (kind : Kind) → relations_at kind [] ≡ Ok (entries_said kind [])
 nothing-kept kind = nothing-spelled kind ∙ ap Ok (sym (nothing-said kind))

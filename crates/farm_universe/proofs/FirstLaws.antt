@@ -21,7 +21,7 @@ use Rattle.farm_universe.specs.declared.error.TheConstants.{TWICE, TOO_MANY_VARI
 use Rattle.farm_universe.specs.declared.limits.TheConstants.{MOST_ENTRIES, MOST_NAMES, MOST_RECIPES, MOST_SIZE, MOST_VARIANTS, KEPT_ENTRIES}
 use Rattle.farm_universe.specs.declared.sources.Source.{Source}
 use Rattle.farm_universe.specs.FieldView.{first_entries, first_relations_in}
-use Rattle.farm_universe.specs.Fields.{needed_at, name_at, version_text_at, number_up_to, size_at, flag_at, relations_in, refused_if}
+use Rattle.farm_universe.specs.Fields.{needed_at, package_name_at, version_text_at, number_up_to, size_at, flag_at, relations_in, refused_if}
 use Rattle.farm_universe.specs.Keyed.{group_at, keys_with}
 use Rattle.farm_universe.specs.Land.{Land}
 use Rattle.farm_universe.specs.PackagesText.{Listed, PackageTable, package_relations_at, package_at, entry_count, first_code, is_same}
@@ -151,7 +151,7 @@ package-first : (p : Paragraph)
 unfolding first_package_at package_at
 package-first p =
     goes-behind (needed_at p (codes "Package")) _ _ _ (λ given.
-    goes-behind (name_at given) _ _ _ (λ name.
+    goes-behind (package_name_at given) _ _ _ (λ name.
     goes-behind (needed_at p (codes "Version")) _ _ _ (λ spelled.
     goes-behind (version_text_at spelled) _ _ _ (λ version.
     goes-behind (size_at (value_of p (codes "Installed-Size"))) _ _ _ (λ size.

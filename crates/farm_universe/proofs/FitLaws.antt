@@ -18,7 +18,7 @@ use Rattle.farm_universe.specs.declared.limits.TheConstants.{MOST_NAMES, MOST_EN
 use Rattle.farm_universe.specs.Keyed.{group_at}
 use Rattle.farm_universe.specs.PackagesText.{Listed, PackageTable, is_below, is_same, is_over, entry_count, first_code}
 use Rattle.farm_universe.specs.TableSteps.{put_at, code_at}
-use Rattle.farm_universe.specs.TableView.{Rises, IsOrderly, IsFit, IsWithin}
+use Rattle.farm_universe.specs.TableView.{Rises, IsOrderly, IsFit, IsWithinTable}
 use Rattle.farm_model.specs.Universe.{Package}
 
 -- ---- the packages of a name rise
@@ -86,7 +86,7 @@ newest-last v (x ∷ xs) all =
     rw (not_below v x p.0, one-add) (ap suc (newest-last v xs p.1))
 
 -- the packages of a name rise
-pub rises-at : (table : PackageTable) (at : Option ℕ) → IsFit table → IsWithin table at
+pub rises-at : (table : PackageTable) (at : Option ℕ) → IsFit table → IsWithinTable table at
     → Rises (group_at table.packages at)
 rises-at table None fit within = tt
 rises-at table (Some i) fit within =
@@ -204,7 +204,7 @@ room table None p none = (rules_fail table None p none).3
 room table (Some i) p none = (rules_fail table (Some i) p none).3
 
 IsFit-put_at : (table : PackageTable) (at : Option ℕ) (p : Listed)
-    → at ≡ place_in bytes_eq table.names p.name → IsWithin table at → IsFit table
+    → at ≡ place_in bytes_eq table.names p.name → IsWithinTable table at → IsFit table
     → code_at table at p ≡ None → p.binary.size ≤ MOST_SIZE → IsFit (put_at table at p)
 IsFit-put_at table None p is within fit none small =
     let known = rules_fail table None p none in
@@ -250,10 +250,10 @@ position_or_len-within p (x ∷ xs) there =
 
 -- the place of a name is a number of the table
 pub within-place_in : (table : PackageTable) (name : List ℕ) → IsFit table
-    → IsWithin table (place_in bytes_eq table.names name)
+    → IsWithinTable table (place_in bytes_eq table.names name)
 within-place_in table name fit = by (list_any (bytes_eq name) table.names) refl where
   by : (b : Bool) → list_any (bytes_eq name) table.names ≡ b
-      → IsWithin table (if b then Some (position_or_len (bytes_eq name) table.names) else None)
+      → IsWithinTable table (if b then Some (position_or_len (bytes_eq name) table.names) else None)
   by true e = omega (arith, position_or_len-within (bytes_eq name) table.names e, fit.paired)
   by false e = tt
 
@@ -263,4 +263,4 @@ pub IsFit-put : (table : PackageTable) (at : Option ℕ) (p : Listed)
     → p.binary.size ≤ MOST_SIZE → IsFit (put_at table at p)
 IsFit-put table at p is fit none small =
     IsFit-put_at table at p is
-    (subst (IsWithin table) (sym is) (within-place_in table p.name fit)) fit none small
+    (subst (IsWithinTable table) (sym is) (within-place_in table p.name fit)) fit none small

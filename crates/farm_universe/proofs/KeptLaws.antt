@@ -15,7 +15,7 @@ use Rattle.farm_universe.specs.declared.farm.Yard.{Yard}
 use Rattle.farm_universe.specs.declared.limits.TheConstants.{MOST_SIZE, MOST_CAPACITY}
 use Rattle.farm_universe.specs.BaseText.{is_settled_base}
 use Rattle.farm_universe.specs.FarmText.{Head, land_of, universe_with}
-use Rattle.farm_universe.specs.FarmView.{AreWords, IsPlace, IsLand, IsRecipe, outputs_of, IsBase, IsYard, yard_view}
+use Rattle.farm_universe.specs.FarmView.{AreTableWords, IsPlace, IsLand, IsRecipe, recipe_outputs, IsBase, IsYard, yard_view}
 use Rattle.farm_universe.specs.Kept.{IsKept}
 use Rattle.farm_universe.specs.Land.{Land, reduced_package, reduced_table}
 use Rattle.farm_universe.specs.PackagesText.{PackageTable, is_below}
@@ -104,7 +104,7 @@ IsFit-reduced arch table fit = record {
 }
 
 pub IsLand-made : (table : PackageTable) (sources : SourceTable) (head : Head) → IsFit table
-    → IsSourceTable sources → AreWords table head.initial → IsLand (land_of table sources head)
+    → IsSourceTable sources → AreTableWords table head.initial → IsLand (land_of table sources head)
 IsLand-made table sources head fit are words = record {
   fit = IsFit-reduced head.architectures table fit;
   sources = are;
@@ -120,9 +120,9 @@ IsLand-made table sources head fit are words = record {
 
 -- the recipe with this number, known or not
 outputs-any : (P : Variant → Type 0) (rs : List Recipe) (r : ℕ)
-    → All (λ r. All P r.outputs) rs → All P (outputs_of rs r)
+    → All (λ r. All P r.outputs) rs → All P (recipe_outputs rs r)
 outputs-any P rs r all = by (nat_lt r (length rs)) refl where
-  by : (b : Bool) → nat_lt r (length rs) ≡ b → All P (outputs_of rs r)
+  by : (b : Bool) → nat_lt r (length rs) ≡ b → All P (recipe_outputs rs r)
   by true e = All-get_or (λ r. All P r.outputs) rs r no_recipe (ltb-true _ _ e) all
   by false e =
       subst (λ (x : Recipe). All P x.outputs)
@@ -175,7 +175,7 @@ module _ (l : Land) (is : IsLand l) (yard : Yard) (are : IsYard l yard) where
       → initial u v ≡ false
   unfolding recipe initial
   outputs_new r i v at =
-      All-slice_get (λ v. has_bit l.initial v ≡ false) (outputs_of u.recipes r) i v
+      All-slice_get (λ v. has_bit l.initial v ≡ false) (recipe_outputs u.recipes r) i v
       (outputs-any (λ v. has_bit l.initial v ≡ false) u.recipes r
       (All-weaker (IsRecipe l) (λ r. All (λ v. has_bit l.initial v ≡ false) r.outputs)
       (λ r of. of.new) u.recipes are.recipes.each)) at

@@ -16,8 +16,8 @@ use Rattle.item_index.proofs.ItemLaws.{any-at}
 use Rattle.farm_universe.specs.declared.error.TheConstants.{TWICE}
 use Rattle.farm_universe.specs.declared.list.VariantList.{VariantList}
 use Rattle.farm_universe.specs.FarmSteps.{add_variant, add_item, word_set}
-use Rattle.farm_universe.specs.FarmView.{IsListed, IsPlace, AreWords, IsOnce, AreDifferent, AreListed}
-use Rattle.farm_universe.specs.ListText.{variant_at, twice, variants_in, words_of}
+use Rattle.farm_universe.specs.FarmView.{IsTableVariant, IsPlace, AreTableWords, IsOnce, AreDifferent, AreListed}
+use Rattle.farm_universe.specs.ListText.{variant_at, twice, variants_in, variant_words}
 use Rattle.farm_universe.specs.PackagesText.{PackageTable}
 use Rattle.farm_universe.proofs.ArchiveLaws.{length-words_of, words_of-push, get_or-words_of, bit_at-word_of}
 use Rattle.farm_universe.proofs.ListFacts.{slice_get-push}
@@ -27,7 +27,7 @@ use Rattle.farm_universe.proofs.ToldLaws.{read_step-keeps}
 
 -- the bit of a variant says whether it is in the list
 pub has_bit-words_of : (n : ℕ) (vs : List Variant) (v : Variant) → v.name < n
-    → has_bit (words_of n vs) v ≡ contains vs v
+    → has_bit (variant_words n vs) v ≡ contains vs v
 unfolding has_bit same
 has_bit-words_of n vs v lt =
     ap (λ word. eqb (bit_at word v.bit) 1) (get_or-words_of n vs v.name lt)
@@ -49,11 +49,11 @@ module _ (table : PackageTable) (list : VariantList) (is : AreListed table list)
       ∙ has_bit-words_of (length table.names) list.variants.items v lt
 
   -- the words have bits of the table's variants alone
-  pub AreWords-listed : AreWords table list.words.items
+  pub AreWords-listed : AreTableWords table list.words.items
   AreWords-listed = record { paired = long; known = known } where
-    known : (v : Variant) → has_bit list.words.items v ≡ true → IsListed table v
+    known : (v : Variant) → has_bit list.words.items v ≡ true → IsTableVariant table v
     known v set = by (nat_lt v.name (length table.names)) refl where
-      by : (b : Bool) → nat_lt v.name (length table.names) ≡ b → IsListed table v
+      by : (b : Bool) → nat_lt v.name (length table.names) ≡ b → IsTableVariant table v
       by true e =
           (contained (IsPlace table) list.variants.items v is.known
           (sym (has_bit-listed v (ltb-true _ _ e)) ∙ set)).listed
@@ -90,7 +90,7 @@ AreListed-push table list new v is place none variants words = record {
   words =
       words ∙ ap (λ ws. word_set ws v) is.words
       ∙ sym (words_of-push (length table.names) list.variants.items v place.name)
-      ∙ ap (words_of (length table.names)) (sym variants);
+      ∙ ap (variant_words (length table.names)) (sym variants);
   known =
       subst (All (IsPlace table)) (sym variants)
       (All-push (IsPlace table) list.variants.items v is.known place);
@@ -103,9 +103,9 @@ IsOnce-none (suc i) j v vi vj = absurd cc
 
 -- a list without a variant
 pub AreListed-none : (table : PackageTable) (list : VariantList) → list.variants.items ≡ []
-    → list.words.items ≡ words_of (length table.names) [] → AreListed table list
+    → list.words.items ≡ variant_words (length table.names) [] → AreListed table list
 AreListed-none table list none words = record {
-  words = words ∙ ap (words_of (length table.names)) (sym none);
+  words = words ∙ ap (variant_words (length table.names)) (sym none);
   known = subst (All (IsPlace table)) (sym none) (All-nil (IsPlace table));
   once = subst IsOnce (sym none) IsOnce-none;
 }

@@ -1,16 +1,13 @@
 -- One variant of a name, as a list is gone through from its end.
 use Rattle.std.proofs.Common.{◌≡◌, ℕ, zero, suc, ◌<◌, Bool, true, false, not, ◌&&◌, ◌||◌, ◌==◌, List, [], ◌∷◌, map, length, drop, set, get_or, refl, sym, ap, ◌∙◌, inl, inr, arith}
 use Rattle.std.specs.List.{list_any}
+use Rattle.std.proofs.Math.Bool.{and-false}
 use Rattle.std.proofs.Math.Seq.{drop-cons}
 use Rattle.std.proofs.lemmas.Bool.{eqb-true, eq-eqb, cases_eq}
 use Rattle.std.proofs.lemmas.List.{get_or-set_same, get_or-set_other}
 use Rattle.farm_model.specs.declared.types.Variant.{Variant}
 use Rattle.farm_universe.specs.BaseText.{Member, member_of, one_of_each}
 use Rattle.farm_universe.specs.PackagesText.{PackageTable}
-
-and_false : (b : Bool) → (b && false) ≡ false
-and_false true = refl
-and_false false = refl
 
 neq-eqb : (a b : ℕ) → (a ≡ b → ⊥) → (a == b) ≡ false
 neq-eqb a b other = by (a == b) refl where
@@ -33,7 +30,7 @@ module _ (table : PackageTable) where
   once-seen (v ∷ vs) zero d lt seen = rw seen refl
   once-seen (v ∷ vs) (suc i) d lt seen =
       ap (λ b. not (is_seen vs v.name) && b) (once-seen vs i d (omega arith) seen)
-      ∙ and_false (not (is_seen vs v.name))
+      ∙ and-false (not (is_seen vs v.name))
 
   module _ (vs : List Variant) (i : ℕ) (v : Variant) (lt : i < length vs) (is : v ≡ get_or vs i v)
     where

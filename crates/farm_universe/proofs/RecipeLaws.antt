@@ -1,5 +1,6 @@
 -- One recipe more: what is true of the recipes so far stays true.
 use Rattle.std.proofs.Common.{◌≡◌, ℕ, zero, suc, ◌+◌, ◌<◌, ◌≤◌, Bool, true, false, List, [], ◌∷◌, ◌++◌, map, sum, drop, Option, None, length, length-append, length-set, get_or, refl, sym, ap, subst, ◌∙◌, true≢false, eqb, arith, All, Some, Ok, codes, inl, inr, ◌⊎◌, ◌||◌, ◌&&◌}
+use Rattle.std.specs.Cmp.{both_ways as same_tests}
 use Rattle.std.specs.Int.{bit_at}
 use Rattle.std.specs.Prelude.{slice_get}
 use Rattle.std.specs.List.{list_any}
@@ -22,17 +23,16 @@ use Rattle.farm_universe.specs.declared.recipes.RecipeList.{RecipeList}
 use Rattle.farm_universe.specs.Fields.{refused_if}
 use Rattle.farm_universe.specs.declared.error.TheConstants.{TAKEN}
 use Rattle.farm_universe.specs.FarmSteps.{word_set, taken_with}
-use Rattle.item_index.specs.Items.{item, listed, IsKept, IsListed as IsListedUnder}
+use Rattle.item_index.specs.Items.{item, listed, KeepsItems, IsListed}
 use Rattle.item_index.specs.declared.item.Item.{Item}
-use Rattle.farm_universe.specs.Among.{holds}
-use Rattle.farm_universe.specs.FarmView.{AreNamed, IsPlace, AreNew, IsNew, IsRecipe, outputs_of, GivesOnce, AreTaken, AreRecipes}
+use Rattle.farm_universe.specs.Among.{there_and_passes}
+use Rattle.farm_universe.specs.FarmView.{AreNamed, IsPlace, AreNew, IsNew, IsRecipe, recipe_outputs, GivesOnce, AreTaken, AreRecipes}
 use Rattle.farm_universe.specs.Land.{Land}
 use Rattle.farm_universe.specs.ListText.{with_bit}
 use Rattle.farm_universe.specs.RecipeText.{outputs_at, is_taken, new_outputs, build_entries}
 use Rattle.farm_universe.proofs.ArchiveLaws.{bit-with_bit}
 use Rattle.farm_universe.proofs.ListFacts.{slice_get-push}
 use Rattle.item_index.proofs.ItemLaws.{any-at, any-found}
-use Rattle.farm_model.proofs.TestLaws.{same_tests}
 use Rattle.farm_model.proofs.VariantLaws.{same-refl}
 
 -- ---- names
@@ -43,19 +43,20 @@ AreNamed-none lists rs none k r at =
     absurd (none-some r (sym (ap (λ xs. slice_get xs k) none) ∙ at))
 
 pub AreNamed-push : (lists more : List (List (Item ℕ))) (rs new : List Recipe) (r : Recipe)
-    → AreNamed lists rs → IsKept lists more → IsListedUnder more r.name (item (length rs) 0 0)
+    → AreNamed lists rs → KeepsItems lists more → IsListed more r.name (item (length rs) 0 0)
     → new ≡ rs ++ r ∷ [] → AreNamed more new
 AreNamed-push lists more rs new r are kept there is k q at =
     elim (slice_get-push rs r k q (sym (ap (λ xs. slice_get xs k) is) ∙ at)) [
       | inl before ↦ kept q.name (item k 0 0) (are k q before)
       | inr last ↦
-          subst (λ n. IsListedUnder more q.name (item n 0 0)) (sym last.0)
-          (subst (λ (x : Recipe). IsListedUnder more x.name (item (length rs) 0 0)) last.1 there)
+          subst (λ n. IsListed more q.name (item n 0 0)) (sym last.0)
+          (subst (λ (x : Recipe). IsListed more x.name (item (length rs) 0 0)) last.1 there)
     ]
 
 -- the recipe of the number that an item has goes by the name
 abbrev pub has_name : List Recipe → List ℕ → Item ℕ → Bool
-has_name rs name at = holds (λ (r : Recipe). bytes_eq name r.name) (slice_get rs at.owner)
+has_name rs name at = there_and_passes (λ (r : Recipe). bytes_eq name r.name)
+    (slice_get rs at.owner)
 
 pub named_is : (lists : List (List (Item ℕ))) (rs : List Recipe) (name : List ℕ)
     → AreNamed lists rs
@@ -71,10 +72,11 @@ named_is lists rs name are = same_tests _ _ to from where
       by : (at : Item ℕ) (o : Option Recipe) → slice_get rs at.owner ≡ o
           → has_name rs name at ≡ true → list_any (λ (r : Recipe). bytes_eq name r.name) rs ≡ true
       by at None e is =
-          absurd (true≢false (sym is ∙ ap (holds (λ (r : Recipe). bytes_eq name r.name)) e))
+          absurd (true≢false (sym is ∙ ap (there_and_passes (λ (r : Recipe). bytes_eq name r.name))
+          e))
       by at (Some r) e is =
           any-at (λ (q : Recipe). bytes_eq name q.name) rs at.owner r e
-          (sym (ap (holds (λ (q : Recipe). bytes_eq name q.name)) e) ∙ is)
+          (sym (ap (there_and_passes (λ (q : Recipe). bytes_eq name q.name)) e) ∙ is)
 
   from : list_any (λ (r : Recipe). bytes_eq name r.name) rs ≡ true
       → list_any (has_name rs name) (listed lists name) ≡ true
@@ -82,7 +84,7 @@ named_is lists rs name are = same_tests _ _ to from where
       let found = any-found (λ (r : Recipe). bytes_eq name r.name) rs some in
       let there = are found.0 found.1 found.2 in
       let same : name ≡ found.1.name = bytes-same name found.1.name found.3 in
-      let at = subst (λ n. IsListedUnder lists n (item found.0 0 0)) (sym same) there in
+      let at = subst (λ n. IsListed lists n (item found.0 0 0)) (sym same) there in
       any-at (has_name rs name) (listed lists name) at.0 (item found.0 0 0) at.1
       (rw (found.2, found.3) refl)
 
@@ -141,12 +143,12 @@ has_bit-taken_with (v ∷ vs) words w all =
 -- ---- no output twice
 
 outputs_of-push : (rs : List Recipe) (r : Recipe) (q i : ℕ) (v : Variant)
-    → slice_get (outputs_of (rs ++ r ∷ []) q) i ≡ Some v
-    → (slice_get (outputs_of rs q) i ≡ Some v)
+    → slice_get (recipe_outputs (rs ++ r ∷ []) q) i ≡ Some v
+    → (slice_get (recipe_outputs rs q) i ≡ Some v)
     ⊎ ((q ≡ length rs) × (slice_get r.outputs i ≡ Some v))
 outputs_of-push [] r zero i v at = inr (refl, at)
 outputs_of-push [] r (suc q) i v at = absurd (nothing i at) where
-  nothing : (i : ℕ) → slice_get (outputs_of [] q) i ≡ Some v → ⊥
+  nothing : (i : ℕ) → slice_get (recipe_outputs [] q) i ≡ Some v → ⊥
   nothing zero e = cc
   nothing (suc i) e = cc
 outputs_of-push (x ∷ xs) r zero i v at = inl at
@@ -157,7 +159,7 @@ outputs_of-push (x ∷ xs) r (suc q) i v at =
     ]
 
 -- an output of a recipe is given by one of them
-given : (rs : List Recipe) (q i : ℕ) (v : Variant) → slice_get (outputs_of rs q) i ≡ Some v
+given : (rs : List Recipe) (q i : ℕ) (v : Variant) → slice_get (recipe_outputs rs q) i ≡ Some v
     → list_any (λ r. contains r.outputs v) rs ≡ true
 given [] zero zero v at = absurd cc
 given [] zero (suc i) v at = absurd cc
@@ -180,7 +182,7 @@ none-at p (y ∷ ys) (suc i) x none at =
 
 module _ (l : Land) (rs : List Recipe) (r : Recipe) (new : AreNew l rs r.outputs) where
   -- an output of the new recipe is none of an earlier one
-  apart : (q i j : ℕ) (v : Variant) → slice_get (outputs_of rs q) i ≡ Some v
+  apart : (q i j : ℕ) (v : Variant) → slice_get (recipe_outputs rs q) i ≡ Some v
       → slice_get r.outputs j ≡ Some v → ⊥
   apart q i j v before here =
       let free = none-at (is_taken l.initial rs) r.outputs j v new.free here in

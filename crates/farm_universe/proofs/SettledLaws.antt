@@ -10,12 +10,12 @@ use Rattle.farm_model.specs.declared.types.Variant.{Variant}
 use Rattle.farm_model.specs.declared.types.Slot.{Slot}
 use Rattle.farm_model.specs.declared.types.Slot.TheVariants.{Absent, Configured}
 use Rattle.farm_model.specs.Below.{sum_below}
-use Rattle.farm_model.specs.Chroot.{slot, some_slot, holds, holds_configured, is_unpacked, size_in, used, base_slot, base_chroot, unsettled, met, unmet, entries}
+use Rattle.farm_model.specs.Chroot.{slot, some_slot, holds, holds_configured, is_unpacked, size_in, used, base_slot, base_chroot, unsettled, meets_entry, unmet, entries}
 use Rattle.farm_model.specs.Packages.{variant, names, package_of, size, facts, satisfies, satisfies_entry, depends, pre_depends, base, conflict, breaks}
 use Rattle.farm_model.specs.Sound.{some_two, IsSettledBase}
 use Rattle.farm_model.specs.Universe.{Universe}
 use Rattle.farm_model.proofs.BelowLaws.{some_below-at, some_below-found, sum_below-mono, sum_below-same}
-use Rattle.farm_universe.specs.BaseText.{Member, member_of, meets, meets_any, one_of_each, are_met, all_met, excludes, some_excluded, size_of_all, is_settled_base}
+use Rattle.farm_universe.specs.BaseText.{Member, member_of, member_meets, meets_any, one_of_each, are_met, all_met, excludes, some_excluded, size_of_all, is_settled_base}
 use Rattle.farm_universe.specs.PackagesText.{PackageTable}
 use Rattle.farm_universe.proofs.ListFacts.{All-slice_get, any-map-at, any-map-found, all-map-at, find-found}
 
@@ -132,16 +132,16 @@ module _ (u : Universe) (n : ℕ) (b : ℕ) (sound : All (λ v. v.name < names u
           slot-is v.name (All-slice_get (λ w. w.name < names u) vs i v sound at)
           ∙ ap base_slot (found_there m (λ v. refl) vs i v once at)
 
-      meets-is : (v : Variant) (e : Entry) → meets (m v) e ≡ satisfies_entry u e v
+      meets-is : (v : Variant) (e : Entry) → member_meets (m v) e ≡ satisfies_entry u e v
       unfolding satisfies facts package_of
       meets-is v e = refl
 
       -- an entry that a member satisfies is met
-      met-member : (e : Entry) → list_any (λ o. meets o e) (map m vs) ≡ true
-          → met u (base_chroot u b) e ≡ true
-      unfolding met
+      met-member : (e : Entry) → list_any (λ o. member_meets o e) (map m vs) ≡ true
+          → meets_entry u (base_chroot u b) e ≡ true
+      unfolding meets_entry
       met-member e some =
-          let r = any-map-found m (λ o. meets o e) vs some in
+          let r = any-map-found m (λ o. member_meets o e) vs some in
           let lt = All-slice_get (λ w. w.name < names u) vs r.0 r.1 sound r.2 in
           some_below-at (length (base_chroot u b))
           (λ k. holds_configured (λ d. satisfies_entry u e (variant k d))
@@ -150,19 +150,19 @@ module _ (u : Universe) (n : ℕ) (b : ℕ) (sound : All (λ v. v.name < names u
           (rw (slot-member r.0 r.1 r.2) (sym (meets-is r.1 e) ∙ r.3))
 
       none_unmet : (es : Relations) → are_met (map m vs) es ≡ true
-          → unmet (met u (base_chroot u b)) es ≡ false
+          → unmet (meets_entry u (base_chroot u b)) es ≡ false
       none_unmet [] all = refl
       none_unmet (e ∷ es) all =
           let parts =
-          and_parts (list_any (λ o. meets o e) (map m vs)) (are_met (map m vs) es) all in
+          and_parts (list_any (λ o. member_meets o e) (map m vs)) (are_met (map m vs) es) all in
           rw (met-member e parts.0, none_unmet es parts.1) refl
 
       member_settled : (v : Variant) → are_met (map m vs) (m v).binary.depends ≡ true
           → are_met (map m vs) (m v).binary.pre_depends ≡ true
-          → unmet (met u (base_chroot u b)) (entries u v) ≡ false
+          → unmet (meets_entry u (base_chroot u b)) (entries u v) ≡ false
       unfolding depends pre_depends package_of
       member_settled v needs pre =
-          list_any-append (λ e. not (met u (base_chroot u b) e)) (m v).binary.depends
+          list_any-append (λ e. not (meets_entry u (base_chroot u b) e)) (m v).binary.depends
           (m v).binary.pre_depends
           ∙ rw (none_unmet (m v).binary.depends needs, none_unmet (m v).binary.pre_depends pre) refl
 
@@ -192,7 +192,7 @@ module _ (u : Universe) (n : ℕ) (b : ℕ) (sound : All (λ v. v.name < names u
     settled once all = by (cases_Bool (unsettled u (base_chroot u b))) where
       test : ℕ → Slot → Bool
       test k s = is_unpacked s
-          || holds (λ d. unmet (met u (base_chroot u b)) (entries u (variant k d))) s
+          || holds (λ d. unmet (meets_entry u (base_chroot u b)) (entries u (variant k d))) s
 
       by : (unsettled u (base_chroot u b) ≡ true) ⊎ (unsettled u (base_chroot u b) ≡ false)
           → unsettled u (base_chroot u b) ≡ false

@@ -13,7 +13,7 @@ use Rattle.farm_universe.specs.declared.error.TheConstants.{NO_OUTPUT}
 use Rattle.farm_universe.specs.FarmSteps.{add_item}
 use Rattle.farm_universe.specs.ListText.{list_at, variants_in}
 use Rattle.farm_universe.specs.PackagesText.{PackageTable}
-use Rattle.farm_universe.specs.RecipeText.{outputs_at, outputs_in}
+use Rattle.farm_universe.specs.RecipeText.{outputs_at, recipe_outputs_in}
 use Rattle.farm_universe.proofs.ListLaws.{steps-variants_in, outputs-there}
 
 -- the variants behind these, of the items that a text has left
@@ -93,7 +93,7 @@ outputs-of table text vs = by (relations_at Provide text) where
       ap (λ (ws : List Variant). if eqb (length ws) 0 then Err NO_OUTPUT else Ok ws) h
 
   by : (read : Result Relations ℕ) → (read >>= variants_in table) ≡ Ok vs
-      → (read >>= outputs_in table) ≡ (if eqb (length vs) 0 then Err NO_OUTPUT else Ok vs)
+      → (read >>= recipe_outputs_in table) ≡ (if eqb (length vs) 0 then Err NO_OUTPUT else Ok vs)
   by (Err code) is = absurd cc
   by (Ok []) is = none (variants_in table []) (none-listed table) is
   by (Ok (e ∷ es)) is = is ∙ outputs-some vs
@@ -108,7 +108,7 @@ outputs-fail refusal e table text fails =
     (λ code. by code (relations_at Provide text)) fails
   where
     by : (code : ℕ) (read : Result Relations ℕ) → (read >>= variants_in table) ≡ Err code
-        → (read >>= outputs_in table) ≡ Err code
+        → (read >>= recipe_outputs_in table) ≡ Err code
     by code (Err c) is = let h : c ≡ code = cc in ap Err h
     by code (Ok []) is = absurd (let h = sym (none-listed table) ∙ is in cc)
     by code (Ok (e ∷ es)) is = is

@@ -1,8 +1,8 @@
 -- The members of a base chroot, found by the names that they go by. The project's own words.
 --
---   holds                 a test of what may be there
+--   there_and_passes      a test of what may be there
 --   provides_at           what a member provides at a place provides an alternative
---   is_other              a member is of another name than this one, if there is one
+--   is_another_member     a member is of another name than this one, if there is one
 --   at_owner              a test of the member that an item is of
 --   AreFound              each member is listed under its name, and what it provides under the
 --   names
@@ -15,22 +15,22 @@ use Rattle.item_index.specs.Items.{item, item_of, IsListed, IsListedField}
 use Rattle.farm_universe.specs.BaseText.{Member}
 
 -- what is there passes; what is not there does not
-abbrev pub holds : {X : Type 0} → (X → Bool) → Option X → Bool
-holds p None = false
-holds p (Some x) = p x
+abbrev pub there_and_passes : {X : Type 0} → (X → Bool) → Option X → Bool
+there_and_passes p None = false
+there_and_passes p (Some x) = p x
 
 -- what the member provides at the place provides the alternative
 abbrev pub provides_at : Item ℕ → Member → Atom → Bool
-provides_at at m a = holds (provides_it a) (item_of at m.binary.provides)
+provides_at at m a = there_and_passes (provides_it a) (item_of at m.binary.provides)
 
 -- the member has another name than that of the number, if there is one
-abbrev pub is_other : Option ℕ → Member → Bool
-is_other None m = true
-is_other (Some number) m = not (m.number == number)
+abbrev pub is_another_member : Option ℕ → Member → Bool
+is_another_member None m = true
+is_another_member (Some number) m = not (m.number == number)
 
 -- the member that an item is of passes
 abbrev pub at_owner : (Member → Bool) → List Member → Item ℕ → Bool
-at_owner p ms at = holds p (slice_get ms at.owner)
+at_owner p ms at = there_and_passes p (slice_get ms at.owner)
 
 pub record AreFound (ms : List Member) (named provided : List (List (Item ℕ))) : Type 0 where
   pub by_name : (k : ℕ) (m : Member) → slice_get ms k ≡ Some m → IsListed named m.name (item k 0 0)

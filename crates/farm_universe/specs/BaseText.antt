@@ -8,13 +8,13 @@ use Rattle.std.specs.Str.{bytes_eq}
 use Rattle.deb_text.specs.Steps.{◌>>=◌}
 use Rattle.deb_stanza.specs.Stanza.{Paragraph, value_of}
 use Rattle.deb_relation.specs.Relations.{Entry, Relations}
-use Rattle.deb_relation.specs.Satisfaction.{Facts, satisfies}
+use Rattle.deb_relation.specs.Satisfaction.{Facts, package_satisfies}
 use Rattle.farm_model.specs.declared.types.Variant.{Variant}
 use Rattle.farm_model.specs.Packages.{no_package}
 use Rattle.farm_model.specs.Universe.{Package, Base}
 use Rattle.farm_universe.specs.declared.error.TheConstants.{TWICE, UNSETTLED_BASE, OVER_LIMIT}
 use Rattle.farm_universe.specs.declared.limits.TheConstants.{MOST_BASES, MOST_CAPACITY}
-use Rattle.farm_universe.specs.Fields.{needed_at, name_at, number_up_to, refused_if}
+use Rattle.farm_universe.specs.Fields.{needed_at, package_name_at, number_up_to, refused_if}
 use Rattle.farm_universe.specs.ListText.{list_at}
 use Rattle.farm_universe.specs.PackagesText.{PackageTable}
 
@@ -43,11 +43,11 @@ member_facts m = record {
 }
 
 -- it satisfies some alternative of the entry; some entry of the field (Debian Policy 7.1)
-abbrev pub meets : Member → Entry → Bool
-meets m e = list_any (satisfies (member_facts m)) e
+abbrev pub member_meets : Member → Entry → Bool
+member_meets m e = list_any (package_satisfies (member_facts m)) e
 
 abbrev pub meets_any : Member → Relations → Bool
-meets_any m field = list_any (meets m) field
+meets_any m field = list_any (member_meets m) field
 
 -- no two of one name
 abbrev pub one_of_each : List Member → Bool
@@ -56,7 +56,7 @@ one_of_each (m ∷ ms) = not (list_any (λ other. other.number == m.number) ms) 
 
 -- each entry of the field is satisfied by one of them
 abbrev pub are_met : List Member → Relations → Bool
-are_met ms field = list_all (λ e. list_any (λ m. meets m e) ms) field
+are_met ms field = list_all (λ e. list_any (λ m. member_meets m e) ms) field
 
 -- Depends and Pre-Depends of each are met among them (Policy 7.2)
 unfoldable pub all_met : List Member → Bool
@@ -95,7 +95,7 @@ packages_at table (Some text) = list_at table text
 -- a name that no base chroot before has
 abbrev pub base_name : List Base → List ℕ → Result (List ℕ) ℕ
 base_name before given = do
-  name ← name_at given
+  name ← package_name_at given
   free ← refused_if (list_any (λ base. bytes_eq name base.name) before) TWICE
   Ok name
 

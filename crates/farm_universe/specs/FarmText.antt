@@ -17,7 +17,7 @@ use Rattle.farm_universe.specs.declared.error.TheConstants.{ABSENT}
 use Rattle.farm_universe.specs.BaseText.{base_at}
 use Rattle.farm_universe.specs.Fields.{needed_at}
 use Rattle.farm_universe.specs.Land.{Land, reduced_table}
-use Rattle.farm_universe.specs.ListText.{list_at, words_of}
+use Rattle.farm_universe.specs.ListText.{list_at, variant_words}
 use Rattle.farm_universe.specs.PackagesText.{PackageTable}
 use Rattle.farm_universe.specs.RecipeText.{recipe_at}
 use Rattle.farm_universe.specs.SourcesText.{SourceTable}
@@ -32,8 +32,9 @@ pub record Head : Type 0 where
 
 -- the initial archive; absent: an empty one
 abbrev pub archive_at : PackageTable → Option (List ℕ) → Result (List ℕ) ℕ
-archive_at table None = Ok (words_of (length table.names) [])
-archive_at table (Some text) = list_at table text >>= λ vs. Ok (words_of (length table.names) vs)
+archive_at table None = Ok (variant_words (length table.names) [])
+archive_at table (Some text) =
+    list_at table text >>= λ vs. Ok (variant_words (length table.names) vs)
 
 -- the fields in the order in which they are looked at
 unfoldable pub head_at : PackageTable → Paragraph → Result Head ℕ

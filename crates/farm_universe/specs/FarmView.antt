@@ -16,12 +16,12 @@ use Rattle.farm_universe.specs.declared.recipe_parts.RecipeParts.{RecipeParts}
 use Rattle.farm_universe.specs.declared.recipes.RecipeList.{RecipeList}
 use Rattle.farm_universe.specs.declared.farm.Farm.{Farm}
 use Rattle.farm_universe.specs.declared.farm.Yard.{Yard}
-use Rattle.item_index.specs.Items.{item, IsListed as IsListedUnder}
+use Rattle.item_index.specs.Items.{item, IsListed}
 use Rattle.item_index.specs.declared.item.Item.{Item}
 use Rattle.farm_universe.specs.BaseText.{is_settled_base}
 use Rattle.farm_universe.specs.FarmText as text
 use Rattle.farm_universe.specs.Land as land
-use Rattle.farm_universe.specs.ListText.{words_of}
+use Rattle.farm_universe.specs.ListText.{variant_words}
 use Rattle.farm_universe.specs.PackagesText.{PackageTable}
 use Rattle.farm_universe.specs.RecipeSteps.{first_build_at}
 use Rattle.farm_universe.specs.RecipeText.{is_taken, build_entries, outputs_at}
@@ -51,19 +51,19 @@ farm_view farm = text.universe_with (land_view farm.land) (yard_view farm.yard)
 -- ---- variants of a table
 
 -- a variant of the table
-abbrev pub IsListed : PackageTable → Variant → Type 0
-IsListed table v = v.bit < length (get_or table.packages v.name [])
+abbrev pub IsTableVariant : PackageTable → Variant → Type 0
+IsTableVariant table v = v.bit < length (get_or table.packages v.name [])
 
 -- a name of the table, and a bit of a word
 pub record IsPlace (table : PackageTable) (v : Variant) : Type 0 where
   pub name : v.name < length table.names
   pub bit : v.bit < 64
-  pub listed : IsListed table v
+  pub listed : IsTableVariant table v
 
 -- a word for each name of the table, with bits of its variants alone
-pub record AreWords (table : PackageTable) (words : List ℕ) : Type 0 where
+pub record AreTableWords (table : PackageTable) (words : List ℕ) : Type 0 where
   pub paired : length words ≡ length table.names
-  pub known : (v : Variant) → has_bit words v ≡ true → IsListed table v
+  pub known : (v : Variant) → has_bit words v ≡ true → IsTableVariant table v
 
 -- no variant stands twice
 abbrev pub IsOnce : List Variant → Type 0
@@ -76,7 +76,7 @@ pub record AreDifferent (table : PackageTable) (vs : List Variant) : Type 0 wher
 
 -- different variants of the table, and the words that have their bits
 pub record AreListed (table : PackageTable) (list : VariantList) : Type 0 where
-  pub words : list.words.items ≡ words_of (length table.names) list.variants.items
+  pub words : list.words.items ≡ variant_words (length table.names) list.variants.items
   pub known : All (IsPlace table) list.variants.items
   pub once : IsOnce list.variants.items
 
@@ -91,7 +91,7 @@ pub record AreOutputs (table : PackageTable) (vs : List Variant) : Type 0 where
 pub record IsLand (l : land.Land) : Type 0 where
   pub fit : IsFit l.table
   pub sources : IsSourceTable l.sources
-  pub words : AreWords l.table l.initial
+  pub words : AreTableWords l.table l.initial
 
 -- ---- recipes
 
@@ -130,13 +130,13 @@ pub record IsRecipe (l : land.Land) (r : Recipe) : Type 0 where
   pub small : r.scratch ≤ MOST_SIZE
 
 -- the outputs of the recipe with this number
-abbrev pub outputs_of : List Recipe → ℕ → List Variant
-outputs_of rs r = (get_or rs r no_recipe).outputs
+abbrev pub recipe_outputs : List Recipe → ℕ → List Variant
+recipe_outputs rs r = (get_or rs r no_recipe).outputs
 
 -- no variant is given twice
 abbrev pub GivesOnce : List Recipe → Type 0
-GivesOnce rs = (q r i j : ℕ) (v : Variant) → slice_get (outputs_of rs q) i ≡ Some v
-    → slice_get (outputs_of rs r) j ≡ Some v → (q ≡ r) × (i ≡ j)
+GivesOnce rs = (q r i j : ℕ) (v : Variant) → slice_get (recipe_outputs rs q) i ≡ Some v
+    → slice_get (recipe_outputs rs r) j ≡ Some v → (q ≡ r) × (i ≡ j)
 
 -- the words have the bits of the initial archive and of the outputs
 pub record AreTaken (l : land.Land) (rs : List Recipe) (words : List ℕ) : Type 0 where
@@ -147,7 +147,7 @@ pub record AreTaken (l : land.Land) (rs : List Recipe) (words : List ℕ) : Type
 -- each recipe is listed under its name, by its number
 abbrev pub AreNamed : List (List (Item ℕ)) → List Recipe → Type 0
 AreNamed lists rs =
-    (k : ℕ) (r : Recipe) → slice_get rs k ≡ Some r → IsListedUnder lists r.name (item k 0 0)
+    (k : ℕ) (r : Recipe) → slice_get rs k ≡ Some r → IsListed lists r.name (item k 0 0)
 
 -- what is true of the recipes so far
 pub record AreRecipes (l : land.Land) (list : RecipeList) : Type 0 where

@@ -11,12 +11,12 @@ use Rattle.deb_relation.specs.Relations.{Relations}
 use Rattle.farm_universe.specs.declared.limits.TheConstants.{KEPT_ENTRIES}
 
 -- none where the text spells no field
-abbrev pub entries_in : Result Relations ℕ → Relations
-entries_in (Ok entries) = entries
-entries_in (Err code) = []
+abbrev pub entries_or_none : Result Relations ℕ → Relations
+entries_or_none (Ok entries) = entries
+entries_or_none (Err code) = []
 
 unfoldable pub entries_said : Kind → List ℕ → Relations
-entries_said kind text = entries_in (relations_at kind text)
+entries_said kind text = entries_or_none (relations_at kind text)
 
 abbrev pub first_entries : Relations → Relations
 first_entries field = take KEPT_ENTRIES field

@@ -2,7 +2,7 @@
 -- of a fault.
 --
 --   needed_at p name             the value of a field that has to stand
---   name_at, version_text_at     a name; a version, as it is written
+--   package_name_at, version_text_at  a name; a version, as it is written
 --   number_up_to most text       a number
 --   size_at, flag_at,
 --   relations_in                 sizes, flags and relation fields, which may be absent
@@ -26,8 +26,8 @@ abbrev pub needed_at : Paragraph → List ℕ → Result (List ℕ) ℕ
 needed_at p name = ok_or (value_of p name) ABSENT
 
 -- the name of a package (Debian Policy 5.6.7)
-abbrev pub name_at : List ℕ → Result (List ℕ) ℕ
-name_at text = if is_name text then Ok text else Err BAD_NAME
+abbrev pub package_name_at : List ℕ → Result (List ℕ) ℕ
+package_name_at text = if is_name text then Ok text else Err BAD_NAME
 
 -- a version, as it is written (Policy 5.6.12)
 abbrev pub version_text_at : List ℕ → Result (List ℕ) ℕ

@@ -5,7 +5,7 @@
 --   variant_at table entry            the variant that an item of a list names
 --   variants_in table entries         the variants of these items, or the first fault
 --   list_at table text                the variants of a list, or the first fault
---   words_of n vs                     for each of n names a word, with a bit for each variant of
+--   variant_words n vs                for each of n names a word, with a bit for each variant of
 --                                     the list
 use Rattle.std.specs.Prelude.{ℕ, ◌^◌, Bool, ◌==◌, List, [], ◌∷◌, map, filter, fold, get_or, position, ok_or, if◌then◌else◌, Option, Some, None, Result, bit_or}
 use Rattle.std.specs.List.{range_with_len}
@@ -81,5 +81,5 @@ abbrev pub word_of : List Variant → ℕ → ℕ
 word_of vs n = fold (λ word v. with_bit word v.bit) 0 (filter (λ v. v.name == n) vs)
 
 -- the words of this many names
-abbrev pub words_of : ℕ → List Variant → List ℕ
-words_of n vs = map (word_of vs) (range_with_len 0 n)
+abbrev pub variant_words : ℕ → List Variant → List ℕ
+variant_words n vs = map (word_of vs) (range_with_len 0 n)

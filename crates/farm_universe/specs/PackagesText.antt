@@ -18,7 +18,7 @@ use Rattle.deb_version.specs.Grammar.{text_cmp}
 use Rattle.deb_relation.specs.declared.kind.Kind.TheVariants.{Need, Clash, Provide}
 use Rattle.farm_universe.specs.declared.error.TheConstants.{TWICE, TOO_MANY_VARIANTS, OVER_LIMIT}
 use Rattle.farm_universe.specs.declared.limits.TheConstants.{MOST_NAMES, MOST_ENTRIES, MOST_VARIANTS}
-use Rattle.farm_universe.specs.Fields.{needed_at, name_at, version_text_at, size_at, flag_at, relations_in}
+use Rattle.farm_universe.specs.Fields.{needed_at, package_name_at, version_text_at, size_at, flag_at, relations_in}
 use Rattle.farm_universe.specs.Told.{paragraphs_judged}
 use Rattle.farm_universe.specs.declared.binary.PackageRelations.{PackageRelations}
 use Rattle.farm_model.specs.Universe.{Package}
@@ -48,7 +48,7 @@ package_relations_at p = do
 unfoldable pub package_at : Paragraph → Result Listed ℕ
 package_at p = do
   given ← needed_at p (codes "Package")
-  name ← name_at given
+  name ← package_name_at given
   spelled ← needed_at p (codes "Version")
   version ← version_text_at spelled
   size ← size_at (value_of p (codes "Installed-Size"))

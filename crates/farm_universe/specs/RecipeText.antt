@@ -2,7 +2,7 @@
 -- format; Debian Policy 7.7 for what a build needs).
 --
 --   source_in sources text      the source that a value `name (= version)` names
---   mode_at, profiles_at        the mode of a build; its active profiles
+--   mode_at, active_profiles_at  the mode of a build; its active profiles
 --   recipe_at land before p     what a paragraph says, behind the recipes before it
 use Rattle.std.specs.Prelude.{ℕ, ◌+◌, Bool, ◌||◌, nat_lt, nat_le, List, [], ◌∷◌, ◌++◌, map, sum, length, Option, Some, None, Result, Ok, Err, ok_or, if◌then◌else◌, codes}
 use Rattle.std.specs.List.{list_any}
@@ -25,7 +25,7 @@ use Rattle.farm_universe.specs.declared.error.TheConstants.{BAD_VALUE, TWICE, UN
 use Rattle.farm_universe.specs.declared.limits.TheConstants.{MOST_RECIPES, MOST_ENTRIES, MOST_SIZE}
 use Rattle.farm_universe.specs.declared.sources.BuildFields.{BuildFields}
 use Rattle.farm_universe.specs.declared.sources.Source.{Source}
-use Rattle.farm_universe.specs.Fields.{needed_at, name_at, number_up_to, size_at, refused_if}
+use Rattle.farm_universe.specs.Fields.{needed_at, package_name_at, number_up_to, size_at, refused_if}
 use Rattle.farm_universe.specs.Land.{Land}
 use Rattle.farm_universe.specs.ListText.{pinned, variants_in}
 use Rattle.farm_universe.specs.PackagesText.{PackageTable}
@@ -58,9 +58,9 @@ mode_at None = Ok Full
 mode_at (Some text) = mode_of text
 
 -- the active profiles (BuildProfileSpec); absent: none
-abbrev pub profiles_at : Option (List ℕ) → Result (List (List ℕ)) ℕ
-profiles_at None = Ok []
-profiles_at (Some text) = words_at text
+abbrev pub active_profiles_at : Option (List ℕ) → Result (List (List ℕ)) ℕ
+active_profiles_at None = Ok []
+active_profiles_at (Some text) = words_at text
 
 -- the fields of the mode, each reduced by the names of the architecture and by the profiles
 -- (Policy 7.1, 7.7)
@@ -79,7 +79,7 @@ build_at land p = do
   named ← needed_at p (codes "Source")
   source ← source_in land.sources named
   mode ← mode_at (value_of p (codes "Mode"))
-  profiles ← profiles_at (value_of p (codes "Profiles"))
+  profiles ← active_profiles_at (value_of p (codes "Profiles"))
   Ok (record {
     needs = in_mode land.architectures profiles mode source.needs;
     clashes = in_mode land.architectures profiles mode source.clashes;
@@ -88,13 +88,13 @@ build_at land p = do
 -- ---- what it gives
 
 -- a list of variants with an item
-abbrev pub outputs_in : PackageTable → Relations → Result (List Variant) ℕ
-outputs_in table [] = Err NO_OUTPUT
-outputs_in table (entry ∷ entries) = variants_in table (entry ∷ entries)
+abbrev pub recipe_outputs_in : PackageTable → Relations → Result (List Variant) ℕ
+recipe_outputs_in table [] = Err NO_OUTPUT
+recipe_outputs_in table (entry ∷ entries) = variants_in table (entry ∷ entries)
 
 unfoldable pub outputs_at : PackageTable → Option (List ℕ) → Result (List Variant) ℕ
 outputs_at table None = Err NO_OUTPUT
-outputs_at table (Some text) = relations_at Provide text >>= outputs_in table
+outputs_at table (Some text) = relations_at Provide text >>= recipe_outputs_in table
 
 -- the variant is in the initial archive, or a recipe gives it
 abbrev pub is_taken : List ℕ → List Recipe → Variant → Bool
@@ -116,7 +116,7 @@ is_build_over count entries build =
 -- a name that no recipe before has
 abbrev pub recipe_name : List Recipe → List ℕ → Result (List ℕ) ℕ
 recipe_name before given = do
-  name ← name_at given
+  name ← package_name_at given
   free ← refused_if (list_any (λ r. bytes_eq name r.name) before) TWICE
   Ok name
 

@@ -22,7 +22,7 @@ use Rattle.farm_universe.specs.declared.error.TheConstants.{TWICE, OVER_LIMIT}
 use Rattle.farm_universe.specs.declared.limits.TheConstants.{MOST_SOURCES}
 use Rattle.farm_universe.specs.declared.sources.BuildFields.{BuildFields}
 use Rattle.farm_universe.specs.declared.sources.Source.{Source}
-use Rattle.farm_universe.specs.Fields.{needed_at, name_at, version_text_at, relations_in}
+use Rattle.farm_universe.specs.Fields.{needed_at, package_name_at, version_text_at, relations_in}
 use Rattle.farm_universe.specs.Keyed.{group_at}
 use Rattle.farm_universe.specs.PackagesText.{first_code}
 use Rattle.farm_universe.specs.Told.{paragraphs_judged}
@@ -49,8 +49,8 @@ build_fields_at kind p always arch indep = do
   for_indep ← relations_in kind (value_of p indep)
   Ok (record { always = for_all; arch = for_arch; indep = for_indep })
 
-abbrev pub needs_at : Paragraph → Result BuildFields ℕ
-needs_at p = build_fields_at BuildNeed p (codes "Build-Depends") (codes "Build-Depends-Arch")
+abbrev pub build_needs_at : Paragraph → Result BuildFields ℕ
+build_needs_at p = build_fields_at BuildNeed p (codes "Build-Depends") (codes "Build-Depends-Arch")
     (codes "Build-Depends-Indep")
 
 abbrev pub clashes_at : Paragraph → Result BuildFields ℕ
@@ -61,10 +61,10 @@ clashes_at p = build_fields_at BuildClash p (codes "Build-Conflicts") (codes "Bu
 unfoldable pub source_at : Paragraph → Result ListedSource ℕ
 source_at p = do
   given ← source_name_at p
-  name ← name_at given
+  name ← package_name_at given
   spelled ← needed_at p (codes "Version")
   version ← version_text_at spelled
-  needs ← needs_at p
+  needs ← build_needs_at p
   clashes ← clashes_at p
   Ok (record {
     name = name;

@@ -15,7 +15,7 @@ use Rattle.deb_stanza.specs.Stanza.{Paragraph, value_of}
 use Rattle.deb_relation.specs.declared.kind.Kind.TheVariants.{Need, Clash, Provide}
 use Rattle.farm_universe.specs.declared.binary.PackageRelations.{PackageRelations}
 use Rattle.farm_universe.specs.FieldView.{first_relations_in}
-use Rattle.farm_universe.specs.Fields.{needed_at, name_at, version_text_at, size_at, flag_at}
+use Rattle.farm_universe.specs.Fields.{needed_at, package_name_at, version_text_at, size_at, flag_at}
 use Rattle.farm_universe.specs.Keyed.{keys_with, group_at, groups_with}
 use Rattle.farm_universe.specs.PackagesText.{Listed, PackageTable, entry_count, is_below, first_code, rules_of}
 use Rattle.farm_universe.specs.Told.{told}
@@ -39,7 +39,7 @@ first_package_relations_at p = do
 unfoldable pub first_package_at : Paragraph → Result Listed ℕ
 first_package_at p = do
   given ← needed_at p (codes "Package")
-  name ← name_at given
+  name ← package_name_at given
   spelled ← needed_at p (codes "Version")
   version ← version_text_at spelled
   size ← size_at (value_of p (codes "Installed-Size"))

@@ -20,7 +20,7 @@ abbrev pub listed_view : Listed → text.Listed
 listed_view listed = record { name = listed.name.items; binary = listed.binary }
 
 -- what was read of a paragraph of the packages text
-pub record IsListed (p : Paragraph) (read : Result Listed FieldFault) : Type 0 where
+pub record IsListedPackage (p : Paragraph) (read : Result Listed FieldFault) : Type 0 where
   pub said : Gives refusal_of listed_view read (first_package_at p)
   pub small : IfOk read (λ listed. listed.binary.size ≤ MOST_SIZE)
 
@@ -52,5 +52,5 @@ pub record IsFit (table : text.PackageTable) : Type 0 where
   pub orderly : All IsOrderly table.packages
 
 -- a number of a name of the table, if there is one
-abbrev pub IsWithin : text.PackageTable → Option ℕ → Type 0
-IsWithin table at = MatchOption at (Unit {0}) (λ i. i < length table.packages)
+abbrev pub IsWithinTable : text.PackageTable → Option ℕ → Type 0
+IsWithinTable table at = MatchOption at (Unit {0}) (λ i. i < length table.packages)

@@ -3,8 +3,8 @@
 ghost use Rattle.std.specs.Prelude.{◌≡◌, ◌&&◌, IfOk, All, map};
 ghost use Rattle.std.specs.List.{list_any};
 ghost use Rattle.std.specs.Option.{is_none};
-ghost use Rattle.deb_relation.specs.Satisfaction.{is_its_own, is_provided, satisfies};
-ghost use Rattle.farm_universe.specs.Among.{provides_at, is_other, at_owner, AreFound};
+ghost use Rattle.deb_relation.specs.Satisfaction.{is_its_own, is_provided, package_satisfies};
+ghost use Rattle.farm_universe.specs.Among.{provides_at, is_another_member, at_owner, AreFound};
 ghost use Rattle.farm_universe.specs.BaseText as base;
 ghost use Rattle.farm_universe.specs.FarmView.{IsPlace};
 ghost use Rattle.farm_universe.specs.TableView.{table_view, IsFit};
@@ -106,7 +106,7 @@ impl<'a> Among<'a> {
     }
 
     fn is_named_at(&self, besides: Option<u32>, atom: &Atom, item: &Item<usize>) -> bool
-        ensures { result ≡ at_owner (λ m. is_other besides m
+        ensures { result ≡ at_owner (λ m. is_another_member besides m
             && is_its_own (base.member_facts m) atom.now) self.now item.now }
     {
         match self.members.get(item.owner) {
@@ -116,7 +116,7 @@ impl<'a> Among<'a> {
     }
 
     fn is_provided_at(&self, besides: Option<u32>, atom: &Atom, item: &Item<usize>) -> bool
-        ensures { result ≡ at_owner (λ m. is_other besides m
+        ensures { result ≡ at_owner (λ m. is_another_member besides m
             && provides_at item.now m atom.now) self.now item.now }
     {
         match self.members.get(item.owner) {
@@ -126,7 +126,7 @@ impl<'a> Among<'a> {
     }
 
     fn any_named_at(&self, besides: Option<u32>, atom: &Atom, items: &[Item<usize>]) -> bool
-        ensures { result ≡ list_any (at_owner (λ m. is_other besides m
+        ensures { result ≡ list_any (at_owner (λ m. is_another_member besides m
             && is_its_own (base.member_facts m) atom.now) self.now) items.now }
     {
         items
@@ -135,7 +135,7 @@ impl<'a> Among<'a> {
     }
 
     fn any_provided_at(&self, besides: Option<u32>, atom: &Atom, items: &[Item<usize>]) -> bool
-        ensures { result ≡ list_any (λ item. at_owner (λ m. is_other besides m
+        ensures { result ≡ list_any (λ item. at_owner (λ m. is_another_member besides m
             && provides_at item m atom.now) self.now item) items.now }
     {
         items
@@ -146,7 +146,7 @@ impl<'a> Among<'a> {
     /// Tells whether one of them, of another name than this, has the name of an alternative and a
     /// version in its relation.
     fn some_named(&self, besides: Option<u32>, atom: &Atom) -> bool
-        ensures { result ≡ list_any (λ m. is_other besides m
+        ensures { result ≡ list_any (λ m. is_another_member besides m
             && is_its_own (base.member_facts m) atom.now) self.now }
     {
         self.any_named_at(besides, atom, self.named.listed(&atom.name))
@@ -154,7 +154,7 @@ impl<'a> Among<'a> {
 
     /// Tells whether one of them, of another name than this, provides an alternative.
     fn some_provides(&self, besides: Option<u32>, atom: &Atom) -> bool
-        ensures { result ≡ list_any (λ m. is_other besides m
+        ensures { result ≡ list_any (λ m. is_another_member besides m
             && is_provided m.binary.provides atom.now) self.now }
     {
         self.any_provided_at(besides, atom, self.provided.listed(&atom.name))
@@ -162,15 +162,15 @@ impl<'a> Among<'a> {
 
     /// Tells whether one of them, of another name than this, satisfies an alternative.
     fn some_satisfies(&self, besides: Option<u32>, atom: &Atom) -> bool
-        ensures { result ≡ list_any (λ m. is_other besides m
-            && satisfies (base.member_facts m) atom.now) self.now }
+        ensures { result ≡ list_any (λ m. is_another_member besides m
+            && package_satisfies (base.member_facts m) atom.now) self.now }
     {
         is_bare(atom) && (self.some_named(besides, atom) || self.some_provides(besides, atom))
     }
 
     fn any_satisfied(&self, besides: Option<u32>, entry: &Entry) -> bool
-        ensures { result ≡ list_any (λ a. list_any (λ m. is_other besides m
-            && satisfies (base.member_facts m) a) self.now) entry.now }
+        ensures { result ≡ list_any (λ a. list_any (λ m. is_another_member besides m
+            && package_satisfies (base.member_facts m) a) self.now) entry.now }
     {
         entry
             .alternatives()
@@ -181,14 +181,16 @@ impl<'a> Among<'a> {
     /// Tells whether one of them, of another name than this if one is given, satisfies some
     /// alternative of an entry.
     pub fn some_meets(&self, besides: Option<u32>, entry: &Entry) -> bool
-        ensures { result ≡ list_any (λ m. is_other besides m && base.meets m entry.now) self.now }
+        ensures { result ≡ list_any (λ m. is_another_member besides m
+            && base.member_meets m entry.now)
+            self.now }
     {
         self.any_satisfied(besides, entry)
     }
 
     fn any_met(&self, besides: Option<u32>, field: &Relations) -> bool
-        ensures { result ≡ list_any (λ e. list_any (λ m. is_other besides m
-            && base.meets m e) self.now) field.now }
+        ensures { result ≡ list_any (λ e. list_any (λ m. is_another_member besides m
+            && base.member_meets m e) self.now) field.now }
     {
         field
             .entries()
@@ -200,7 +202,7 @@ impl<'a> Among<'a> {
     /// of a field.
     pub fn some_meets_any(&self, besides: Option<u32>, field: &Relations) -> bool
         ensures { result
-            ≡ list_any (λ m. is_other besides m && base.meets_any m field.now) self.now }
+            ≡ list_any (λ m. is_another_member besides m && base.meets_any m field.now) self.now }
     {
         self.any_met(besides, field)
     }
@@ -215,7 +217,7 @@ fn is_bare(atom: &Atom) -> bool
 
 /// Tells whether a member is of another name than this, if one is given.
 fn is_other(besides: Option<u32>, member: &Member) -> bool
-    ensures { result ≡ is_other besides member.now }
+    ensures { result ≡ is_another_member besides member.now }
 {
     match besides {
         Some(number) => member.number() != number,

@@ -7,7 +7,7 @@ ghost use Rattle.deb_profile.specs.Reduction.{reduced};
 ghost use Rattle.farm_universe.specs.FarmView.{IsLand, land_view};
 ghost use Rattle.farm_universe.specs.FieldView.{first_entries};
 ghost use Rattle.farm_universe.specs.RecipeSteps.{first_source_in, first_build_at};
-ghost use Rattle.farm_universe.specs.RecipeText.{source_in, mode_of, mode_at, profiles_at, in_mode};
+ghost use Rattle.farm_universe.specs.RecipeText.{source_in, mode_of, mode_at, active_profiles_at, in_mode};
 ghost use Rattle.farm_universe.specs.SourceView.{source_view, IsSourceTable};
 ghost use Rattle.farm_universe.specs.View.{refusal_of};
 
@@ -96,7 +96,7 @@ fn read_mode(value: Option<&[u8]>) -> Result<Mode, FieldFault>
 
 fn read_profiles(alloc: Global, value: Option<&[u8]>) -> Result<ProfileSet, FieldFault>
     ensures { Gives refusal_of (λ profiles. profiles) result
-        (profiles_at (option_map (λ v. v.now) value.entry)) }
+        (active_profiles_at (option_map (λ v. v.now) value.entry)) }
 {
     match value {
         Some(text) => Ok(ProfileSet::parse(alloc, text)?),

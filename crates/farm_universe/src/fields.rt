@@ -4,7 +4,7 @@ ghost use Rattle.std.specs.Prelude.{IfOk, ◌≤◌};
 ghost use Rattle.std.specs.Option.{option_map};
 ghost use Rattle.deb_text.specs.Answers.{Gives};
 ghost use Rattle.farm_universe.specs.FieldView.{first_relations_in};
-ghost use Rattle.farm_universe.specs.Fields.{name_at, version_text_at, number_up_to, size_at, flag_of, flag_at, relations_in};
+ghost use Rattle.farm_universe.specs.Fields.{package_name_at, version_text_at, number_up_to, size_at, flag_of, flag_at, relations_in};
 ghost use Rattle.farm_universe.specs.View.{refusal_of};
 
 use crate::error::FieldFault;
@@ -21,7 +21,7 @@ use std::alloc::Global;
 ///
 /// 121 where it is none. [`FieldFault::Memory`] where memory is refused.
 pub fn read_name(alloc: Global, text: &[u8]) -> Result<Vec<u8>, FieldFault>
-    ensures { Gives refusal_of (λ name. name.items) result (name_at text.now) }
+    ensures { Gives refusal_of (λ name. name.items) result (package_name_at text.now) }
 {
     if !is_name(text) {
         return Err(FieldFault::BadName);

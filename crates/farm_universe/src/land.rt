@@ -4,7 +4,7 @@ ghost use Rattle.std.specs.Prelude.{◌≡◌, IfOk};
 ghost use Rattle.std.specs.Option.{option_map};
 ghost use Rattle.deb_text.specs.Answers.{Gives, refusal_of as fault_of};
 ghost use Rattle.farm_universe.specs.FarmText.{archive_at, head_at, land_of};
-ghost use Rattle.farm_universe.specs.FarmView.{AreWords, IsLand, head_view, land_view};
+ghost use Rattle.farm_universe.specs.FarmView.{AreTableWords, IsLand, head_view, land_view};
 ghost use Rattle.farm_universe.specs.SourceView.{source_view, IsSourceTable};
 ghost use Rattle.farm_universe.specs.Told.{told};
 ghost use Rattle.farm_universe.specs.TableView.{table_view, IsFit};
@@ -47,7 +47,7 @@ fn read_archive(
     requires fit { IsFit (table_view table.now) }
     ensures read { Gives refusal_of (λ words. words.items) result
         (archive_at (table_view table.now) (option_map (λ v. v.now) value.entry)) }
-    ensures words { IfOk result (λ words. AreWords (table_view table.now) words.items) }
+    ensures words { IfOk result (λ words. AreTableWords (table_view table.now) words.items) }
 {
     match value {
         Some(text) => Ok(read_with_words(alloc, table, text)?.words),
@@ -61,7 +61,7 @@ fn read_head(alloc: Global, table: &PackageTable, paragraph: &Paragraph) -> Resu
     requires { IsFit (table_view table.now) }
     ensures read { Gives refusal_of head_view result
         (head_at (table_view table.now) paragraph.now) }
-    ensures words { IfOk result (λ head. AreWords (table_view table.now) head.initial.items) }
+    ensures words { IfOk result (λ head. AreTableWords (table_view table.now) head.initial.items) }
 {
     let architectures = ArchNames::parse(alloc, paragraph.needed(b"Architecture-Names")?)?;
     let initial = read_archive(alloc, table, paragraph.field(b"Archive"))?;
@@ -82,7 +82,7 @@ pub fn tell_head(alloc: Global, table: &PackageTable, paragraph: &Paragraph) -> 
     requires { IsFit (table_view table.now) }
     ensures read { Gives fault_of head_view result
         (told FARM paragraph.now (head_at (table_view table.now) paragraph.now)) }
-    ensures words { IfOk result (λ head. AreWords (table_view table.now) head.initial.items) }
+    ensures words { IfOk result (λ head. AreTableWords (table_view table.now) head.initial.items) }
 {
     told(FARM, paragraph, read_head(alloc, table, paragraph))
 }
@@ -100,7 +100,7 @@ pub fn make_land(
 ) -> Result<Land, AllocError>
     requires fit { IsFit (table_view table) }
     requires sources { IsSourceTable (source_view sources) }
-    requires words { AreWords (table_view table) head.initial.items }
+    requires words { AreTableWords (table_view table) head.initial.items }
     ensures land { IfOk result (λ land. land_view land
         ≡ land_of (table_view table) (source_view sources) (head_view head)) }
     ensures kept { IfOk result (λ land. IsLand (land_view land)) }

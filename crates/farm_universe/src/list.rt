@@ -8,7 +8,7 @@ ghost use Rattle.deb_relation.specs.declared.kind.Kind.TheVariants.{Provide};
 ghost use Rattle.deb_relation.specs.Field.{only_judged, relations_at};
 ghost use Rattle.farm_universe.specs.FarmSteps.{add_item, word_set, taken_with};
 ghost use Rattle.farm_universe.specs.ListText.{has_version, find_variant, pinned, variant_at, list_at};
-ghost use Rattle.farm_universe.specs.FarmView.{AreDifferent, AreListed, AreWords, IsPlace};
+ghost use Rattle.farm_universe.specs.FarmView.{AreDifferent, AreListed, AreTableWords, IsPlace};
 ghost use Rattle.farm_model.specs.Packages.{contains, has_bit, same};
 ghost use Rattle.farm_universe.specs.TableView.{table_view, IsFit};
 ghost use Rattle.farm_universe.specs.View.{refusal_of};
@@ -157,7 +157,7 @@ fn add_item(table: &PackageTable, list: &mut VariantList, entry: &Entry) -> Resu
 pub fn empty_list(alloc: Global, table: &PackageTable) -> Result<VariantList, FieldFault>
     ensures empty { IfOk result (λ list. list.variants.items ≡ []) }
     ensures listed { IfOk result (AreListed (table_view table.now)) }
-    ensures words { IfOk result (λ list. AreWords (table_view table.now) list.words.items) }
+    ensures words { IfOk result (λ list. AreTableWords (table_view table.now) list.words.items) }
     ensures memory { IfErr result (λ e. refusal_of e ≡ None) }
 {
     Ok(VariantList {
@@ -173,7 +173,7 @@ fn read_items(alloc: Global, table: &PackageTable, text: &[u8]) -> Result<Varian
     ensures read { Gives refusal_of (λ list. list.variants.items) result
         (list_at (table_view table.now) text.now) }
     ensures listed { IfOk result (AreListed (table_view table.now)) }
-    ensures words { IfOk result (λ list. AreWords (table_view table.now) list.words.items) }
+    ensures words { IfOk result (λ list. AreTableWords (table_view table.now) list.words.items) }
 {
     let mut list = empty_list(alloc, table)?;
     let mut left = Some(text);
@@ -202,7 +202,7 @@ pub fn read_with_words(
     ensures read { Gives refusal_of (λ list. list.variants.items) result
         (list_at (table_view table.now) text.now) }
     ensures listed { IfOk result (AreListed (table_view table.now)) }
-    ensures words { IfOk result (λ list. AreWords (table_view table.now) list.words.items) }
+    ensures words { IfOk result (λ list. AreTableWords (table_view table.now) list.words.items) }
 {
     Relations::judge(alloc, text, Kind::Provide)?;
     read_items(alloc, table, text)

@@ -9,9 +9,9 @@ ghost use Rattle.deb_text.specs.Groups.{in_order, place_in};
 ghost use Rattle.deb_text.specs.Lists.{lists};
 ghost use Rattle.farm_universe.specs.Keyed.{group_at};
 ghost use Rattle.farm_universe.specs.PackagesText.{entry_count, is_below, is_over, packages_of, table_of};
-ghost use Rattle.farm_universe.specs.TableParts.{IsPart, IsReadTo};
+ghost use Rattle.farm_universe.specs.TableParts.{IsTablePart, IsReadTo};
 ghost use Rattle.farm_universe.specs.TableSteps.{put_at, code_at, add, add_paragraph, tell_paragraph};
-ghost use Rattle.farm_universe.specs.TableView.{listed_view, table_view, IsFit, IsListed, IsWithin, Rises};
+ghost use Rattle.farm_universe.specs.TableView.{listed_view, table_view, IsFit, IsListedPackage, IsWithinTable, Rises};
 ghost use Rattle.farm_universe.specs.View.{code_of, refusal_of};
 
 use crate::binary::{Package, insert_in_order, is_given};
@@ -70,7 +70,7 @@ fn is_over(table: &PackageTable, at: Option<usize>, listed: &Listed) -> bool
 #[tactic(auto, unfolding(crate::specs::TableSteps::code_at))]
 fn fault_at(table: &PackageTable, at: Option<usize>, listed: &Listed) -> Option<FieldFault>
     requires fit { IsFit (table_view table.now) }
-    requires within { IsWithin (table_view table.now) at }
+    requires within { IsWithinTable (table_view table.now) at }
     ensures { option_map code_of result
         ≡ code_at (table_view table.now) at (listed_view listed.now) }
 {
@@ -111,7 +111,7 @@ fn put_at(
 ) -> Result<(), FieldFault>
     requires fit { IsFit (table_view table.old) }
     requires at { at ≡ place_in bytes_eq (lists table.old.names.keys) listed.name.items }
-    requires within { IsWithin (table_view table.old) at }
+    requires within { IsWithinTable (table_view table.old) at }
     requires fits { table.old.entries + entry_count listed.binary ≤ MOST_ENTRIES }
     ensures put { OnOk result
         (table_view table.new ≡ put_at (table_view table.old) at (listed_view listed)) }
@@ -152,7 +152,7 @@ fn add_paragraph(
     read: Result<Listed, FieldFault>,
 ) -> Result<(), FieldFault>
     requires fit { IsFit (table_view table.old) }
-    requires read { IsListed paragraph.now read }
+    requires read { IsListedPackage paragraph.now read }
     ensures read { Gives refusal_of (λ _. table_view table.new) result
         (add_paragraph (table_view table.old) paragraph.now) }
     ensures fit { OnOk result (IsFit (table_view table.new)) }
@@ -175,7 +175,7 @@ impl ParagraphStep for PackageStep {
 
     ghost said = { table_view };
 
-    ghost is_part = { λ _ p read. IsListed p read };
+    ghost is_part = { λ _ p read. IsListedPackage p read };
 
     ghost fits = { λ _ table. IsFit (table_view table) };
 
@@ -247,7 +247,7 @@ fn read_part(
 ) -> Result<ReadPart, AllocError>
     requires { first < length paragraphs.now }
     ensures first { IfOk result (λ part. part.first ≡ first) }
-    ensures part { IfOk result (IsPart paragraphs.now) }
+    ensures part { IfOk result (IsTablePart paragraphs.now) }
 {
     let end = paragraphs.part_end(first, PART_BYTES);
     let read = read_packages(rt, alloc, paragraphs, first, end)?;
@@ -266,7 +266,7 @@ fn take_read(
     part: ReadPart,
 ) -> Result<PackageTable, Fault>
     requires table { IsReadTo paragraphs.now part.first table }
-    requires part { IsPart paragraphs.now part }
+    requires part { IsTablePart paragraphs.now part }
     ensures read { IfOk result (IsReadTo paragraphs.now part.end) }
     ensures fault { IfErr result (λ e. Fails fault_of e (packages_of paragraphs.now)) }
 {
@@ -291,10 +291,10 @@ fn take_beside_next(
     part: ReadPart,
 ) -> (Result<ReadPart, AllocError>, Result<PackageTable, Fault>)
     requires table { IsReadTo paragraphs.now part.first table }
-    requires part { IsPart paragraphs.now part }
+    requires part { IsTablePart paragraphs.now part }
     requires more { part.end < length paragraphs.now }
     ensures first { IfOk result.0 (λ next. next.first ≡ part.end) }
-    ensures next { IfOk result.0 (IsPart paragraphs.now) }
+    ensures next { IfOk result.0 (IsTablePart paragraphs.now) }
     ensures read { IfOk result.1 (IsReadTo paragraphs.now part.end) }
     ensures fault { IfErr result.1 (λ e. Fails fault_of e (packages_of paragraphs.now)) }
 {
@@ -304,11 +304,11 @@ fn take_beside_next(
         || -> Result<ReadPart, AllocError>
             requires { end < length paragraphs.now }
             ensures first { IfOk result (λ next. next.first ≡ end) }
-            ensures next { IfOk result (IsPart paragraphs.entry.now) }
+            ensures next { IfOk result (IsTablePart paragraphs.entry.now) }
         { read_part(rt, alloc, paragraphs, end) },
         move || -> Result<PackageTable, Fault>
             requires table { IsReadTo paragraphs.now part.first table }
-            requires part { IsPart paragraphs.now part }
+            requires part { IsTablePart paragraphs.now part }
             ensures read { IfOk result (IsReadTo paragraphs.entry.now part.end) }
             ensures fault { IfErr result
                 (λ e. Fails fault_of e (packages_of paragraphs.entry.now)) }

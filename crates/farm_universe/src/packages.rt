@@ -6,7 +6,7 @@ ghost use Rattle.deb_text.specs.Answers.{Gives};
 ghost use Rattle.farm_universe.specs.TableSteps.{first_package_at, first_package_relations_at};
 ghost use Rattle.farm_universe.specs.View.{refusal_of};
 ghost use Rattle.farm_universe.specs.Parts.{AreReads};
-ghost use Rattle.farm_universe.specs.TableView.{listed_view, IsListed};
+ghost use Rattle.farm_universe.specs.TableView.{listed_view, IsListedPackage};
 
 use crate::binary::{Package, PackageRelations};
 use crate::error::FieldFault;
@@ -53,7 +53,7 @@ fn read_package_relations(
 /// is refused.
 #[tactic(auto, unfolding(crate::specs::TableSteps::first_package_at))]
 pub fn read_package(alloc: Global, paragraph: &Paragraph) -> Result<Listed, FieldFault>
-    ensures { IsListed paragraph.now result }
+    ensures { IsListedPackage paragraph.now result }
 {
     let name = read_name(alloc, paragraph.needed(b"Package")?)?;
     let version = read_version(alloc, paragraph.needed(b"Version")?)?;
@@ -81,7 +81,7 @@ pub fn read_packages(
 ) -> Result<Vec<Result<Listed, FieldFault>>, AllocError>
     requires ascends { from ≤ to }
     requires within { to ≤ length paragraphs.now }
-    ensures { IfOk result (λ read. AreReads IsListed paragraphs.now from to read.items) }
+    ensures { IfOk result (λ read. AreReads IsListedPackage paragraphs.now from to read.items) }
 {
     (from..to)
         .into_par_iter()
@@ -89,7 +89,7 @@ pub fn read_packages(
         .map(
             move |number: usize| -> Result<Listed, FieldFault>
                 requires { number < length paragraphs.now }
-                ensures { IsListed (paragraph_at paragraphs.entry.now number) result }
+                ensures { IsListedPackage (paragraph_at paragraphs.entry.now number) result }
             { read_package(alloc, &Paragraph::new(paragraphs, number)) },
         )
         .collect::<Vec<Result<Listed, FieldFault>>>(rt, alloc)

@@ -4,7 +4,7 @@ ghost use Rattle.std.specs.Prelude.{◌≡◌, ◌+◌, ◌<◌, ◌≤◌, ◌+
 ghost use Rattle.std.specs.List.{list_any};
 ghost use Rattle.std.specs.Str.{bytes_eq};
 ghost use Rattle.deb_text.specs.Answers.{Gives};
-ghost use Rattle.farm_universe.specs.Among.{holds};
+ghost use Rattle.farm_universe.specs.Among.{there_and_passes};
 ghost use Rattle.farm_universe.specs.FarmSteps.{taken_with};
 ghost use Rattle.farm_universe.specs.FarmText.{recipes_with};
 ghost use Rattle.farm_universe.specs.FarmView.{AreNamed, AreNew, AreOutputsOf, AreRecipeParts, AreRecipes, IsLand, IsNew, land_view};
@@ -37,7 +37,7 @@ pub struct RecipeList {
 
 /// Tells whether the recipe that an item is of has a name.
 fn has_name(recipes: &[Recipe], item: &Item<usize>, name: &[u8]) -> bool
-    ensures { result ≡ holds (λ r. bytes_eq name.now r.name)
+    ensures { result ≡ there_and_passes (λ r. bytes_eq name.now r.name)
         (slice_get recipes.now item.now.owner) }
 {
     match recipes.get(item.owner) {
@@ -48,7 +48,7 @@ fn has_name(recipes: &[Recipe], item: &Item<usize>, name: &[u8]) -> bool
 
 /// Tells whether the recipe of one of these items has a name.
 fn some_has_name(recipes: &[Recipe], items: &[Item<usize>], name: &[u8]) -> bool
-    ensures { result ≡ list_any (λ item. holds (λ r. bytes_eq name.now r.name)
+    ensures { result ≡ list_any (λ item. there_and_passes (λ r. bytes_eq name.now r.name)
         (slice_get recipes.now item.owner)) items.now }
 {
     items.iter().any(|item| has_name(recipes, item, name))

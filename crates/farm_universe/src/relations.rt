@@ -2,7 +2,7 @@
 
 ghost use Rattle.std.specs.Prelude.{◌≡◌, Bool};
 ghost use Rattle.std.specs.List.{list_any};
-ghost use Rattle.deb_relation.specs.Satisfaction.{satisfies as package_satisfies};
+ghost use Rattle.deb_relation.specs.Satisfaction.{package_satisfies};
 ghost use Rattle.deb_relation.specs.View.{facts_of};
 ghost use Rattle.farm_model.specs.Packages as packages;
 ghost use Rattle.farm_model.specs.declared.types.Variant.{Variant};

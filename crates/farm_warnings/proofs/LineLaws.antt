@@ -1,25 +1,13 @@
 -- The lines of a text, paragraph by paragraph.
-use Rattle.std.proofs.Common.{◌≡◌, ◌≤◌, true, false, Bool, ◌||◌, List, [], ◌∷◌, length, refl, inl, inr, arith}
-use Rattle.std.proofs.lemmas.Bool.{cases_Bool, true≢false}
+use Rattle.std.proofs.Common.{◌≡◌, ◌≤◌, true, false, Bool, List, [], ◌∷◌, length, refl, inl, inr, arith}
+use Rattle.std.proofs.lemmas.Bool.{cases_Bool}
 use Rattle.std.specs.List.{list_any}
-use Rattle.deb_text.proofs.CutLaws.{before-none}
+use Rattle.deb_text.proofs.CutLaws.{before-none, after-none}
 use Rattle.deb_text.proofs.PartLaws.{split-none, split-some}
 use Rattle.deb_text.specs.Cuts.{before, after}
 use Rattle.deb_text.specs.Lines.{Line}
 use Rattle.deb_stanza.specs.Stanza.{separates}
-use Rattle.farm_warnings.specs.Lines.{paragraphs_of}
-
--- nothing stands behind what is not there
-after_cons : {X : Type 0} (p : X → Bool) (x : X) (xs : List X) (first : Bool) → p x ≡ first
-    → (first || list_any p xs) ≡ false → (list_any p xs ≡ false → after p xs ≡ [])
-    → after p (x ∷ xs) ≡ []
-after_cons p x xs true is none rest = absurd (true≢false none)
-after_cons p x xs false is none rest = rw is (rest none)
-
-pub after_none : {X : Type 0} (p : X → Bool) (xs : List X) → list_any p xs ≡ false
-    → after p xs ≡ []
-after_none p [] none = refl
-after_none p (x ∷ xs) none = after_cons p x xs (p x) refl none (after_none p xs)
+use Rattle.farm_warnings.specs.Lines.{paragraph_lines}
 
 pub length_after : {X : Type 0} (p : X → Bool) (xs : List X) → length (after p xs) ≤ length xs
 length_after p [] = omega arith
@@ -31,18 +19,18 @@ length_after p (x ∷ xs) =
 
 -- a line that separates begins no paragraph
 pub paragraphs_skip : (l : Line) (ls : List Line) → separates l ≡ true
-    → paragraphs_of (l ∷ ls) ≡ paragraphs_of ls
+    → paragraph_lines (l ∷ ls) ≡ paragraph_lines ls
 paragraphs_skip l ls is = rw is refl
 
 -- any other does
 pub paragraphs_take : (l : Line) (ls : List Line) → separates l ≡ false
-    → paragraphs_of (l ∷ ls) ≡ before separates (l ∷ ls) ∷ paragraphs_of (after separates ls)
+    → paragraph_lines (l ∷ ls) ≡ before separates (l ∷ ls) ∷ paragraph_lines (after separates ls)
 paragraphs_take l ls is =
     elim (cases_Bool (list_any separates (l ∷ ls))) [
       | inl some ↦ rw (split-some separates (l ∷ ls) some, is) refl
       | inr none ↦ rw (
         split-none separates (l ∷ ls) none,
         before-none separates (l ∷ ls) none,
-        after_none separates ls (rw is at none),
+        after-none separates ls (rw is at none),
       ) refl
     ]

@@ -9,7 +9,7 @@ use Rattle.deb_stanza.specs.Stanza.{continues, name_of, same_name}
 use Rattle.farm_warnings.specs.declared.field_name.FieldName.{FieldName}
 use Rattle.farm_warnings.specs.declared.kind.Kind.{Kind}
 use Rattle.farm_warnings.specs.declared.words.Word.{Word}
-use Rattle.farm_warnings.specs.Lines.{is_recipe, paragraphs_in}
+use Rattle.farm_warnings.specs.Lines.{is_recipe, paragraph_lines_in}
 use Rattle.farm_warnings.specs.Words.{counted, field_name, word_text}
 
 -- the fields of the first paragraph, of a recipe, and of a base chroot
@@ -24,8 +24,8 @@ abbrev pub is_known : Kind → List ℕ → Bool
 is_known kind name = list_any (λ field. same_name (field_name field) name) (known_fields kind)
 
 -- a later paragraph describes a recipe or a base chroot
-abbrev pub kind_of : List Line → Kind
-kind_of ls = if is_recipe ls then Kind.Recipe else Kind.Base
+abbrev pub paragraph_kind : List Line → Kind
+paragraph_kind ls = if is_recipe ls then Kind.Recipe else Kind.Base
 
 -- of a field of this name, at its own line
 abbrev pub field_warning : ℕ → List ℕ → List ℕ
@@ -44,7 +44,7 @@ fields_said kind ls = flat_map (line_said kind) ls
 
 -- of a paragraph behind the first one
 abbrev pub later_said : List Line → List ℕ
-later_said ls = fields_said (kind_of ls) ls
+later_said ls = fields_said (paragraph_kind ls) ls
 
 -- of the paragraphs of the farm text
 abbrev pub all_said : List (List Line) → List ℕ
@@ -52,4 +52,4 @@ all_said [] = []
 all_said (first ∷ later) = fields_said Kind.Farm first ++ flat_map later_said later
 
 unfoldable pub fields_text : List ℕ → List ℕ
-fields_text text = all_said (paragraphs_in text)
+fields_text text = all_said (paragraph_lines_in text)

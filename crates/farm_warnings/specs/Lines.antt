@@ -1,6 +1,6 @@
 -- The lines of a text by paragraphs (Debian Policy 5.1); comments are left out.
 --
---   paragraphs_in text      the lines of each paragraph
+--   paragraph_lines_in text  the lines of each paragraph
 --   begins field line       the line begins a field of this name
 --   is_recipe lines         a paragraph of the farm text has the field Recipe
 --   recipes_in text         the paragraphs of its recipes, in their order
@@ -13,11 +13,11 @@ use Rattle.farm_warnings.specs.declared.field_name.FieldName.{FieldName}
 use Rattle.farm_warnings.specs.Words.{field_name}
 
 -- the parts between the lines that separate, less those without a line
-abbrev pub paragraphs_of : List Line → List (List Line)
-paragraphs_of ls = filter (λ part. not (is_nil part)) (parts ls)
+abbrev pub paragraph_lines : List Line → List (List Line)
+paragraph_lines ls = filter (λ part. not (is_nil part)) (parts ls)
 
-abbrev pub paragraphs_in : List ℕ → List (List Line)
-paragraphs_in text = paragraphs_of (control_lines 1 text)
+abbrev pub paragraph_lines_in : List ℕ → List (List Line)
+paragraph_lines_in text = paragraph_lines (control_lines 1 text)
 
 -- the line begins a field of this name, but for the case of ASCII letters
 abbrev pub begins : FieldName → Line → Bool
@@ -29,4 +29,4 @@ is_recipe ls = list_any (begins FieldName.Recipe) ls
 
 -- the paragraphs of recipes, behind the first paragraph
 abbrev pub recipes_in : List ℕ → List (List Line)
-recipes_in text = filter is_recipe (drop 1 (paragraphs_in text))
+recipes_in text = filter is_recipe (drop 1 (paragraph_lines_in text))

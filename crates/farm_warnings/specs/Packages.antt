@@ -44,15 +44,15 @@ count_said word count line =
     if count == 0 then []
     else concat (counted Word.PackagesLine line ∷ codes ": " ∷ decimal count ∷ word_text word ∷ [])
 
-abbrev pub first_of : List Paragraph → ℕ
-first_of [] = 0
-first_of (p ∷ ps) = p.line
+abbrev pub first_line_of : List Paragraph → ℕ
+first_line_of [] = 0
+first_line_of (p ∷ ps) = p.line
 
 -- of the paragraphs that lack this
 abbrev pub lack_said : List (List ℕ) → List Paragraph → Lack → List ℕ
 lack_said names ps lack =
     count_said (lack_word lack) (length (filter (lacks names lack) ps))
-    (first_of (filter (lacks names lack) ps))
+    (first_line_of (filter (lacks names lack) ps))
 
 unfoldable pub packages_text : Universe → List ℕ → List ℕ
 packages_text u text =

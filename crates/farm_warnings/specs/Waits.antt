@@ -2,7 +2,7 @@
 -- plan, ls the lines of its text, l a lane, i a place in it.
 --
 --   goes_by u name         some package is called this or provides it, in whatever version
---   could_meet u e         a package could meet the entry in some version
+--   could_be_met u e       a package could meet the entry in some version
 --   waits_text u p ls      what is said of each wait whose entry no package could meet
 use Rattle.std.specs.Prelude.{ℕ, Bool, ◌||◌, List, [], ◌++◌, map, length, Option, Some, None, if◌then◌else◌}
 use Rattle.std.specs.List.{list_any, flat_map}
@@ -40,8 +40,8 @@ provided u = flat_map provided_of u.packages
 abbrev pub goes_by : Universe → List ℕ → Bool
 goes_by u name = is_among u.names name || is_among (provided u) name
 
-abbrev pub could_meet : Universe → Entry → Bool
-could_meet u e = list_any (λ (a : Atom). goes_by u a.name) e
+abbrev pub could_be_met : Universe → Entry → Bool
+could_be_met u e = list_any (λ (a : Atom). goes_by u a.name) e
 
 -- ---- waits
 
@@ -54,7 +54,7 @@ wait_warning origin = wait_line origin ++ word_text Word.NoPackage
 
 -- of an instruction, if there is one, that comes from this line
 abbrev pub instruction_said : Universe → Option Origin → Option Instruction → List ℕ
-instruction_said u origin (Some (Wait e)) = if could_meet u e then [] else wait_warning origin
+instruction_said u origin (Some (Wait e)) = if could_be_met u e then [] else wait_warning origin
 instruction_said u origin x = []
 
 abbrev pub wait_said : Universe → Plan → List LaneLines → ℕ → ℕ → List ℕ

@@ -43,7 +43,7 @@ impl Kind {
 
     /// What a paragraph behind the first one describes.
     pub fn of_later(paragraph: &ParagraphLines) -> Kind
-        ensures { result ≡ spec.kind_of paragraph.now }
+        ensures { result ≡ spec.paragraph_kind paragraph.now }
     {
         if paragraph.is_recipe() {
             Kind::Recipe

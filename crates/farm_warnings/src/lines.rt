@@ -135,10 +135,10 @@ impl<'a> Lines<'a> {
 
     /// Takes the next paragraph.
     pub fn next_paragraph(&mut self) -> Option<ParagraphLines<'a>>
-        ensures none { IfNone result (spec.paragraphs_of self.old ≡ []) }
+        ensures none { IfNone result (spec.paragraph_lines self.old ≡ []) }
         ensures end { IfNone result (self.new ≡ []) }
         ensures some { IfSome result
-            (λ part. spec.paragraphs_of self.old ≡ part ∷ spec.paragraphs_of self.new) }
+            (λ part. spec.paragraph_lines self.old ≡ part ∷ spec.paragraph_lines self.new) }
         ensures shorter { IfSome result (λ _. length self.new < length self.old) }
     {
         let mut begun = self.copied();
@@ -154,9 +154,9 @@ impl<'a> Lines<'a> {
 
     /// Takes the next paragraph that has the field `Recipe`, and those before it.
     pub fn next_recipe(&mut self) -> Option<ParagraphLines<'a>>
-        ensures none { IfNone result (filter spec.is_recipe (spec.paragraphs_of self.old) ≡ []) }
-        ensures some { IfSome result (λ part. filter spec.is_recipe (spec.paragraphs_of self.old)
-            ≡ part ∷ filter spec.is_recipe (spec.paragraphs_of self.new)) }
+        ensures none { IfNone result (filter spec.is_recipe (spec.paragraph_lines self.old) ≡ []) }
+        ensures some { IfSome result (λ part. filter spec.is_recipe (spec.paragraph_lines self.old)
+            ≡ part ∷ filter spec.is_recipe (spec.paragraph_lines self.new)) }
         ensures shorter { IfSome result (λ _. length self.new < length self.old) }
     {
         while let Some(paragraph) = self.next_paragraph() {
@@ -169,7 +169,7 @@ impl<'a> Lines<'a> {
 
     /// The lines behind the first paragraph of a text.
     pub fn behind_first(text: &'a [u8]) -> Lines<'a>
-        ensures { spec.paragraphs_of result ≡ drop 1 (spec.paragraphs_in text.now) }
+        ensures { spec.paragraph_lines result ≡ drop 1 (spec.paragraph_lines_in text.now) }
     {
         let mut lines = Lines::of(text);
         lines.next_paragraph();

@@ -102,7 +102,7 @@ fn count_lacking(
     ensures count { result.0
         ≡ length (filter (spec.lacks universe.now.architectures lack) paragraphs.now) }
     ensures first { result.1
-        ≡ spec.first_of (filter (spec.lacks universe.now.architectures lack) paragraphs.now) }
+        ≡ spec.first_line_of (filter (spec.lacks universe.now.architectures lack) paragraphs.now) }
 {
     let mut count = 0;
     let mut first = 0;

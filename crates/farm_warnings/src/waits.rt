@@ -44,7 +44,7 @@ fn goes_by(universe: &Universe, provided: &WordSet, name: &[u8]) -> bool
 /// Tells whether a package could meet an entry in some version.
 fn could_meet(universe: &Universe, provided: &WordSet, entry: &Entry) -> bool
     requires { provided.now ≡ distinct bytes_eq (spec.provided universe.now) }
-    ensures { result ≡ spec.could_meet universe.now entry.now }
+    ensures { result ≡ spec.could_be_met universe.now entry.now }
 {
     let mut left = entry.alternatives();
     while let [atom, rest @ ..] = left {

@@ -16,38 +16,39 @@ is_looked_at code =
     code == 101 || code == 102 || code == 103 || code == 121 || code == 201 || code == 301
 
 -- the text begins with these bytes
-abbrev pub begins : List ℕ → List ℕ → Bool
-begins text bytes = starts_with eqb text bytes
+abbrev pub has_beginning : List ℕ → List ℕ → Bool
+has_beginning text bytes = starts_with eqb text bytes
 
 -- a byte order mark (The Unicode Standard, section 23.8)
 abbrev pub marked_look : List ℕ → Option Look
 marked_look text =
-    if begins text (239 ∷ 187 ∷ 191 ∷ []) then Some ByteOrderMark
-    else if begins text (255 ∷ 254 ∷ []) || begins text (254 ∷ 255 ∷ []) then Some Utf16
+    if has_beginning text (239 ∷ 187 ∷ 191 ∷ []) then Some ByteOrderMark
+    else if has_beginning text (255 ∷ 254 ∷ [])
+    || has_beginning text (254 ∷ 255 ∷ []) then Some Utf16
     else None
 
 -- the first bytes of compressed files: gzip (RFC 1952), xz, bzip2, zstd (RFC 8878) and lz4
 abbrev pub packed_look : List ℕ → Option Look
 packed_look text =
-    if begins text (31 ∷ 139 ∷ []) then Some Gzip
-    else if begins text (253 ∷ 55 ∷ 122 ∷ 88 ∷ 90 ∷ 0 ∷ []) then Some Xz
-    else if begins text (codes "BZh") then Some Bzip2
-    else if begins text (40 ∷ 181 ∷ 47 ∷ 253 ∷ []) then Some Zstd
-    else if begins text (4 ∷ 34 ∷ 77 ∷ 24 ∷ []) then Some Lz4
+    if has_beginning text (31 ∷ 139 ∷ []) then Some Gzip
+    else if has_beginning text (253 ∷ 55 ∷ 122 ∷ 88 ∷ 90 ∷ 0 ∷ []) then Some Xz
+    else if has_beginning text (codes "BZh") then Some Bzip2
+    else if has_beginning text (40 ∷ 181 ∷ 47 ∷ 253 ∷ []) then Some Zstd
+    else if has_beginning text (4 ∷ 34 ∷ 77 ∷ 24 ∷ []) then Some Lz4
     else None
 
 -- a text of another kind than this file's: a plan, packages or sources, the farm
 abbrev pub kind_look : ℕ → List ℕ → Option Look
 kind_look file text =
-    if begins text (codes "plan 1") && not (file == PLAN) then Some Plan
-    else if begins text (codes "Package:") && (file == FARM || file == PLAN) then Some Index
-    else if begins text (codes "Architecture-Names:") && not (file == FARM) then Some Farm
+    if has_beginning text (codes "plan 1") && not (file == PLAN) then Some Plan
+    else if has_beginning text (codes "Package:") && (file == FARM || file == PLAN) then Some Index
+    else if has_beginning text (codes "Architecture-Names:") && not (file == FARM) then Some Farm
     else None
 
 -- a signed text (RFC 9580, section 7), or else one of another kind
 abbrev pub signed_look : ℕ → List ℕ → Option Look
 signed_look file text =
-    if begins text (codes "-----BEGIN PGP") then Some Signed else kind_look file text
+    if has_beginning text (codes "-----BEGIN PGP") then Some Signed else kind_look file text
 
 -- the line ends in a carriage return
 abbrev pub carriage_look : List ℕ → Option Look

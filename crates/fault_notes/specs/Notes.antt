@@ -10,7 +10,7 @@ use Rattle.fault_notes.specs.declared.looks.Look.{Look}
 use Rattle.fault_notes.specs.declared.notes.TheConstants.{MOST_SHOWN}
 use Rattle.fault_notes.specs.Escapes.{escaped}
 use Rattle.fault_notes.specs.Looks.{is_looked_at, look_of, look_sentence}
-use Rattle.fault_notes.specs.Places.{file_name, line_at}
+use Rattle.fault_notes.specs.Places.{file_name, line_numbered}
 use Rattle.fault_notes.specs.Sentences.{sentence_of}
 
 -- `FILE line N: `
@@ -40,6 +40,6 @@ fault_look fault text line =
 -- the line, what was expected there, and what the text looks like
 unfoldable pub note_text : Fault → List ℕ → List ℕ
 note_text fault text =
-    concat (place_line (file_name fault.file) fault.line (line_at text fault.line)
+    concat (place_line (file_name fault.file) fault.line (line_numbered text fault.line)
     ∷ sentence_line (sentence_of fault.code)
-    ∷ look_line (fault_look fault text (line_at text fault.line)) ∷ [])
+    ∷ look_line (fault_look fault text (line_numbered text fault.line)) ∷ [])

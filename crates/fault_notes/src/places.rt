@@ -23,7 +23,7 @@ pub fn file_name(file: u8) -> &'static [u8]
 /// Gives the line of a text that has this number, without its newline. Lines count from 1: there
 /// is none of number 0, and none behind the last.
 pub fn line_at(text: &[u8], number: u32) -> Option<&[u8]>
-    ensures { option_map (λ line. line.now) result ≡ spec.line_at text.now number }
+    ensures { option_map (λ line. line.now) result ≡ spec.line_numbered text.now number }
 {
     if number == 0 {
         return None;

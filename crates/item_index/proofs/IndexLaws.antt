@@ -7,7 +7,7 @@ use Rattle.std.proofs.lemmas.List.{get_or_append_left}
 use Rattle.std.proofs.lemmas.Nat.{mod_below}
 use Rattle.std.proofs.lemmas.Option.{slice_get_within, slice_get-get_or, get_or_from_slice_get}
 use Rattle.item_index.specs.declared.item.Item.{Item}
-use Rattle.item_index.specs.Items.{number_behind, list_of, listed, with_listed, IsIn, IsListed, IsKept}
+use Rattle.item_index.specs.Items.{number_behind, list_of, listed, with_listed, IsIn, IsListed, KeepsItems}
 
 module _ {O : Type 0} where
   -- a list keeps its items as one more comes
@@ -54,7 +54,7 @@ module _ {O : Type 0} where
       there : listed more name ≡ listed lists name ++ new ∷ []
       there = at_more name ∙ get_or-set_same lists (place name) _ [] (within name)
 
-      pub IsKept-with_listed : IsKept lists more
+      pub IsKept-with_listed : KeepsItems lists more
       IsKept-with_listed text at is =
           elim (cases_eq (place text) (place name)) [
             | inl same ↦

@@ -4,7 +4,7 @@
 --   item, item_of          the place of an alternative, and the alternative of a field there
 --   listed, IsListed       the items under a name, among lists that a number of the text picks
 --   with_listed            one more item under a name
---   IsKept                 what was listed still is
+--   KeepsItems             what was listed still is
 --   IsListedEntry, IsListedField
 --                          each alternative of an entry, and of a field, is listed under its name
 use Rattle.std.specs.Prelude.{◌≡◌, ℕ, Bool, ◌+◌, ◌*◌, ◌%◌, List, [], ◌∷◌, ◌++◌, length, Option, Some, slice_get, slice_index_or, slice_set}
@@ -51,8 +51,8 @@ module _ {O : Type 0} where
       slice_set lists (list_of (length lists) text) (listed lists text ++ at ∷ [])
 
   -- what was listed still is
-  abbrev pub IsKept : List (List (Item O)) → List (List (Item O)) → Type 0
-  IsKept old new = (text : List ℕ) (at : Item O) → IsListed old text at → IsListed new text at
+  abbrev pub KeepsItems : List (List (Item O)) → List (List (Item O)) → Type 0
+  KeepsItems old new = (text : List ℕ) (at : Item O) → IsListed old text at → IsListed new text at
 
   -- each alternative of the entry of a number is listed under its name, and each of a field
   abbrev pub IsListedEntry : List (List (Item O)) → O → ℕ → Entry → Type 0

@@ -1,7 +1,7 @@
 //! Items, listed under names: a number of the name's text picks the list that they stand in.
 
 ghost use Rattle.std.specs.Prelude.{◌≡◌, ◌<◌, ◌++◌, ◌∷◌, [], IfOk, OnOk, length};
-ghost use Rattle.item_index.specs.Items.{list_of, listed, with_listed, IsListed, IsKept, IsListedEntry, IsListedField};
+ghost use Rattle.item_index.specs.Items.{list_of, listed, with_listed, IsListed, KeepsItems, IsListedEntry, IsListedField};
 
 use crate::item::Item;
 use deb_relation::{Entry, Relations};
@@ -112,7 +112,7 @@ impl<O: Copy + Drop> ItemIndex<O> {
     ///
     /// [`AllocError`] where memory is refused.
     pub fn add(&mut self, text: &[u8], item: Item<O>) -> Result<(), AllocError>
-        ensures kept { OnOk result (IsKept self.old self.new) }
+        ensures kept { OnOk result (KeepsItems self.old self.new) }
         ensures there { OnOk result (IsListed self.new text.now item) }
     {
         let _lists = &self.lists;
@@ -121,7 +121,7 @@ impl<O: Copy + Drop> ItemIndex<O> {
     }
 
     fn add_entry(&mut self, owner: O, number: usize, entry: &Entry) -> Result<(), AllocError>
-        ensures kept { OnOk result (IsKept self.old self.new) }
+        ensures kept { OnOk result (KeepsItems self.old self.new) }
         ensures names { OnOk result (IsListedEntry self.new owner number entry.now) }
     {
         let atoms = entry.alternatives();
@@ -143,7 +143,7 @@ impl<O: Copy + Drop> ItemIndex<O> {
     ///
     /// [`AllocError`] where memory is refused.
     pub fn add_field(&mut self, owner: O, field: &Relations) -> Result<(), AllocError>
-        ensures kept { OnOk result (IsKept self.old self.new) }
+        ensures kept { OnOk result (KeepsItems self.old self.new) }
         ensures names { OnOk result (IsListedField self.new owner field.now) }
     {
         let entries = field.entries();

@@ -3,7 +3,7 @@
 #![tactic(auto)]
 
 ghost use Rattle.std.specs.Prelude.{◌≡◌, length};
-ghost use Rattle.clause_kernel.specs.Kernels.{hits, met, within, same, joined, common, remaining};
+ghost use Rattle.clause_kernel.specs.Kernels.{hits, met, within, same_rows, joined, common, remaining};
 
 /// Tells whether some position has a bit set in both rows.
 #[unsafe(no_mangle)]
@@ -36,7 +36,7 @@ pub extern "C" fn clause_kernel_within(a: &[u64], b: &[u64]) -> bool
 #[unsafe(no_mangle)]
 pub extern "C" fn clause_kernel_same(a: &[u64], b: &[u64]) -> bool
     requires { length a.now ≡ length b.now }
-    ensures { result ≡ same a.now b.now }
+    ensures { result ≡ same_rows a.now b.now }
 {
     clause_kernel::same(a, b)
 }

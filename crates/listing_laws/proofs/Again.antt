@@ -18,7 +18,7 @@ use Rattle.deb_text.specs.Words.{words, is_head, is_run, spaced}
 use Rattle.farm_model.specs.Packages.{base}
 use Rattle.farm_model.specs.Universe.{Universe}
 use Rattle.plan_asm.specs.declared.error.TheConstants.{MOST_LANES, MOST_INSTRUCTIONS}
-use Rattle.plan_asm.specs.Drafts.{Nothing, InLane, Draft, Reading, unread, instructions_of, published, instruction_of, add, take_form}
+use Rattle.plan_asm.specs.Drafts.{Nothing, InLane, Draft, Reading, unread, instructions_of, published, instruction_of, add_to_open, take_form}
 use Rattle.plan_model.specs.Known.{published_by}
 use Rattle.plan_asm.specs.Forms.{LaneForm, form_at}
 use Rattle.plan_asm.specs.Listing.{instruction_text, margin, inside_behind, instruction_lines, lane_text, listing_of}
@@ -90,7 +90,7 @@ module _ (u : Universe) where
 
   add-again : (lanes : List Lane) (m : ℕ) (l : Lane) (done : List Instruction) (x : Instruction)
       → Fits (instructions_of lanes ++ done ++ x ∷ [])
-      → add [] lanes (InLane m (with_done l done)) (x ∷ [])
+      → add_to_open [] lanes (InLane m (with_done l done)) (x ∷ [])
       ≡ Ok (with_more lanes m l (done ++ x ∷ []))
   add-again lanes m l done x fits =
       let all = instructions_of (lanes ++ with_done l done ∷ []) ++ x ∷ [] in

@@ -15,7 +15,7 @@ use Rattle.deb_text.specs.Words.{words, is_word}
 use Rattle.farm_model.specs.Packages.{base}
 use Rattle.farm_model.specs.Universe.{Universe}
 use Rattle.plan_asm.specs.declared.error.TheConstants.{MOST_LANES, MOST_INSTRUCTIONS}
-use Rattle.plan_asm.specs.Drafts.{Block, Open, Nothing, InBlock, InLane, Draft, is_open, block_named, instructions_of, published, known_base, instruction_of, open_block, fresh_lane, open_lane, end_open, with_instructions, published_once, within_limit, add, Reading, is_outside, may_say, on_side, take_end, take_form}
+use Rattle.plan_asm.specs.Drafts.{Block, Open, Nothing, InBlock, InLane, Draft, is_open, block_named, instructions_of, published, known_base, instruction_of, open_block, fresh_lane, open_lane, end_open, with_instructions, published_once, within_limit, add_to_open, Reading, is_outside, may_say, on_side, take_end, take_form}
 use Rattle.plan_asm.specs.Forms.{Form, BlockForm, LaneForm, EndForm, UseForm, InstructionForm, lane_with, lane_form, one_word, wording_by, form_at, first_word, behind_word}
 use Rattle.plan_asm.proofs.DraftLaws.{instructions_of-push, published_once-has}
 use Rattle.plan_model.specs.Branches.{Side, Outside, InFirst, InSecond, side_behind}
@@ -165,7 +165,7 @@ module _ (u : Universe) where
 
   add-has : (bs : List Block) (ls : List Lane) (o : Open) (xs : List Instruction)
       → IsListedDraft u (draft bs ls o) → All (IsListed u) xs
-      → IfOk (add bs ls o xs) (IsListedDraft u)
+      → IfOk (add_to_open bs ls o xs) (IsListedDraft u)
   add-has bs ls Nothing xs is are = tt
   add-has bs ls (InBlock line b) xs is are =
       let more = b.instructions ++ xs in
@@ -278,7 +278,7 @@ module _ (u : Universe) where
   on_side-has s r has = then-has (IsListedDraft u) IsListedReading r (on_side s) has (λ d is. is)
 
   one-has : (r : Reading) (x : Instruction) (s : Side) → IsListedReading r → IsListed u x
-      → IfOk (add r.draft.blocks r.draft.lanes r.draft.current (x ∷ []) >>= on_side s)
+      → IfOk (add_to_open r.draft.blocks r.draft.lanes r.draft.current (x ∷ []) >>= on_side s)
       IsListedReading
   one-has r x s is listed =
       on_side-has s _ (add-has r.draft.blocks r.draft.lanes r.draft.current (x ∷ []) is

@@ -21,7 +21,7 @@ use Rattle.deb_profile.specs.Reduction.{reduced_entry}
 use Rattle.farm_model.specs.Universe.{Universe}
 use Rattle.plan_asm.specs.Drafts.{known_name, instruction_of}
 use Rattle.plan_asm.specs.Forms.{UnpackForm, WaitForm, WhenForm, form_at}
-use Rattle.plan_asm.specs.Listing.{name_of, instruction_text}
+use Rattle.plan_asm.specs.Listing.{name_of_number, instruction_text}
 use Rattle.plan_model.specs.declared.instructions.Instruction.TheVariants.{Unpack, Wait, When}
 use Rattle.listing_laws.proofs.Waits.{reduced-spelled, reduced-some}
 use Rattle.listing_laws.proofs.Wordings.{IsWording}
@@ -93,7 +93,7 @@ module _ (u : Universe) where
 
   pub unpack-listed : (n : ℕ) (name : List ℕ) (relation : Option (Op × List ℕ))
       → IsWording (UnpackForm name relation)
-      → (name_of u n ≡ name) × (known_name u name ≡ Ok n) → IsListed u (Unpack n relation)
+      → (name_of_number u n ≡ name) × (known_name u name ≡ Ok n) → IsListed u (Unpack n relation)
   unfolding instruction_text
   unpack-listed n name relation is known =
       subst (IsLineOf u (Unpack n relation))
@@ -114,7 +114,7 @@ module _ (u : Universe) where
 
   pub when-listed : (n : ℕ) (name : List ℕ) (relation : Option (Op × List ℕ))
       → IsWording (WhenForm name relation)
-      → (name_of u n ≡ name) × (known_name u name ≡ Ok n) → IsListed u (When n relation)
+      → (name_of_number u n ≡ name) × (known_name u name ≡ Ok n) → IsListed u (When n relation)
   unfolding instruction_text
   when-listed n name relation is known =
       subst (IsLineOf u (When n relation))

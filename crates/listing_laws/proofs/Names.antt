@@ -17,7 +17,7 @@ use Rattle.deb_text.specs.Words.{is_run, is_word}
 use Rattle.farm_model.specs.Packages.{base, recipe, no_base, no_recipe}
 use Rattle.farm_model.specs.Universe.{Base, Recipe, Universe}
 use Rattle.plan_asm.specs.Drafts.{or_unknown, known_name, base_names, known_base, recipe_names, known_recipe, distinct_set, set_of}
-use Rattle.plan_asm.specs.Listing.{name_of}
+use Rattle.plan_asm.specs.Listing.{name_of_number}
 use Rattle.plan_model.specs.Sound.{has_double}
 use Rattle.std.proofs.Math.ListN.{get_or-map}
 
@@ -67,14 +67,14 @@ found ks word = go (place_in bytes_eq ks word) refl where
       (sym (place_in-position bytes_eq ks word) ∙ is)).1)
 
 module _ (u : Universe) where
-  name-found : (word : List ℕ) → IfOk (known_name u word) (λ n. name_of u n ≡ word)
+  name-found : (word : List ℕ) → IfOk (known_name u word) (λ n. name_of_number u n ≡ word)
   unfolding known_name
   name-found word = found u.names word
 
   pub name-known : (word : List ℕ)
-      → IfOk (known_name u word) (λ n. (name_of u n ≡ word) × (known_name u word ≡ Ok n))
+      → IfOk (known_name u word) (λ n. (name_of_number u n ≡ word) × (known_name u word ≡ Ok n))
   name-known word =
-      both-have (λ n. name_of u n ≡ word) (λ n. known_name u word ≡ Ok n) (known_name u word)
+      both-have (λ n. name_of_number u n ≡ word) (λ n. known_name u word ≡ Ok n) (known_name u word)
       (name-found word) (ok-itself (known_name u word))
 
   base-found : (word : List ℕ) → IfOk (known_base u word) (λ b. (base u b).name ≡ word)
@@ -106,26 +106,32 @@ module _ (u : Universe) where
   -- ---- sets
 
   all-named : (ws : List (List ℕ))
-      → IfOk (traverse (known_name u) ws) (λ members. map (name_of u) members ≡ ws)
+      → IfOk (traverse (known_name u) ws) (λ members. map (name_of_number u) members ≡ ws)
   unfolding traverse
   all-named [] = refl
   all-named (w ∷ ws) =
-      then-has (λ n. name_of u n ≡ w) (λ members. map (name_of u) members ≡ w ∷ ws)
+      then-has (λ n. name_of_number u n ≡ w) (λ members. map (name_of_number u) members ≡ w ∷ ws)
       (known_name u w) _ (name-found w)
-      (λ n named. then-has (λ members. map (name_of u) members ≡ ws)
-      (λ members. map (name_of u) members ≡ w ∷ ws) (traverse (known_name u) ws) _ (all-named ws)
+      (λ n named. then-has (λ members. map (name_of_number u) members ≡ ws)
+      (λ members. map (name_of_number u) members ≡ w ∷ ws) (traverse (known_name u) ws) _
+      (all-named ws)
       (λ members are. rw (named, are) refl))
 
-  set-named : (ws : List (List ℕ)) → IfOk (set_of u ws) (λ members. map (name_of u) members ≡ ws)
+  set-named : (ws : List (List ℕ)) → IfOk (set_of u ws)
+      (λ members. map (name_of_number u) members ≡ ws)
   unfolding set_of
   set-named ws =
-      then-has (λ members. map (name_of u) members ≡ ws) (λ members. map (name_of u) members ≡ ws)
+      then-has (λ members. map (name_of_number u) members ≡ ws)
+      (λ members. map (name_of_number u) members ≡ ws)
       (traverse (known_name u) ws) distinct_set (all-named ws)
-      (λ members are. if-has (λ members. map (name_of u) members ≡ ws) (has_double members) _ _
+      (λ members are. if-has (λ members. map (name_of_number u) members ≡ ws) (has_double members) _
+      _
       (λ _. tt) (λ _. are))
 
   pub set-known : (ws : List (List ℕ))
-      → IfOk (set_of u ws) (λ members. (map (name_of u) members ≡ ws) × (set_of u ws ≡ Ok members))
+      → IfOk (set_of u ws) (λ members. (map (name_of_number u) members ≡ ws)
+      × (set_of u ws ≡ Ok members))
   set-known ws =
-      both-have (λ members. map (name_of u) members ≡ ws) (λ members. set_of u ws ≡ Ok members)
+      both-have (λ members. map (name_of_number u) members ≡ ws)
+      (λ members. set_of u ws ≡ Ok members)
       (set_of u ws) (set-named ws) (ok-itself (set_of u ws))

@@ -12,7 +12,7 @@ use Rattle.farm_model.specs.Packages.{recipe}
 use Rattle.farm_model.specs.Universe.{Universe}
 use Rattle.plan_asm.specs.Drafts.{known_recipe, set_of, instruction_of}
 use Rattle.plan_asm.specs.Forms.{Wording, ConfigureForm, DeconfigureForm, RemoveForm, BuildForm, PublishForm, ElseForm, InstructionForm, some_words, one_word, form_at}
-use Rattle.plan_asm.specs.Listing.{name_of, names_text, instruction_text}
+use Rattle.plan_asm.specs.Listing.{name_of_number, names_text, instruction_text}
 use Rattle.plan_model.specs.declared.instructions.Instruction.{Instruction}
 use Rattle.plan_model.specs.declared.instructions.Instruction.TheVariants.{Configure, Deconfigure, Remove, Build, Publish, Otherwise, EndWhen}
 use Rattle.listing_laws.proofs.Names.{words-run}
@@ -36,12 +36,12 @@ IsListed u EndWhen = Unit {0}
 IsListed u x = IsLineOf u x (line_of u x)
 
 names-spaced : (u : Universe) (members : List ℕ)
-    → names_text u members ≡ spaced (map (name_of u) members)
+    → names_text u members ≡ spaced (map (name_of_number u) members)
 names-spaced u [] = refl
-names-spaced u (n ∷ ns) = ap (λ text. 32 ∷ (name_of u n ++ text)) (names-spaced u ns)
+names-spaced u (n ∷ ns) = ap (λ text. 32 ∷ (name_of_number u n ++ text)) (names-spaced u ns)
 
 names-are : (u : Universe) (members : List ℕ) (ws : List (List ℕ))
-    → map (name_of u) members ≡ ws → names_text u members ≡ spaced ws
+    → map (name_of_number u) members ≡ ws → names_text u members ≡ spaced ws
 names-are u members ws named = names-spaced u members ∙ ap spaced named
 
 some-again : (ws : List (List ℕ)) → AreWords ws → some_words (words (spaced ws)) ≡ Ok ws
@@ -77,7 +77,7 @@ module _ (u : Universe) where
   }
 
   pub configure-listed : (members : List ℕ) (ws : List (List ℕ)) → AreWords ws
-      → (map (name_of u) members ≡ ws) × (set_of u ws ≡ Ok members)
+      → (map (name_of_number u) members ≡ ws) × (set_of u ws ≡ Ok members)
       → IsListed u (Configure members)
   unfolding instruction_text
   configure-listed members [] are is = absurd (true≢false (sym are))
@@ -99,7 +99,7 @@ module _ (u : Universe) where
   }
 
   pub deconfigure-listed : (members : List ℕ) (ws : List (List ℕ)) → AreWords ws
-      → (map (name_of u) members ≡ ws) × (set_of u ws ≡ Ok members)
+      → (map (name_of_number u) members ≡ ws) × (set_of u ws ≡ Ok members)
       → IsListed u (Deconfigure members)
   unfolding instruction_text
   deconfigure-listed members [] are is = absurd (true≢false (sym are))
@@ -121,7 +121,7 @@ module _ (u : Universe) where
   }
 
   pub remove-listed : (members : List ℕ) (ws : List (List ℕ)) → AreWords ws
-      → (map (name_of u) members ≡ ws) × (set_of u ws ≡ Ok members)
+      → (map (name_of_number u) members ≡ ws) × (set_of u ws ≡ Ok members)
       → IsListed u (Remove members)
   unfolding instruction_text
   remove-listed members [] are is = absurd (true≢false (sym are))

@@ -2,11 +2,10 @@
 use Rattle.std.proofs.Common.{◌≡◌, ◌≢◌, ◌⊎◌, inl, inr, ℕ, zero, suc, ◌<◌, ◌^◌, Bool, true, false, ◌==◌, List, [], ◌∷◌, length, take, replicate, Option, Some, None, refl, sym, ap, ◌∙◌, arith, if◌then◌else◌}
 use Rattle.std.specs.Prelude.{slice_index, slice_index_or}
 use Rattle.std.specs.List.{find}
-use Rattle.std.specs.Int.{bit_at}
 use Rattle.std.proofs.lemmas.Bool.{cases_Bool, cases_eq, eq-eqb, eqb-true, ne_eqb, both_ways}
 use Rattle.std.proofs.lemmas.Nat.{pow_pos}
-use Rattle.std.proofs.lemmas.Nat.Bits.{bit_at-pow_same, bit_at-pow_other}
 use Rattle.clause_kernel.specs.Rows.{word_has}
+use Rattle.bit_rows.proofs.OneName.{one_bit}
 use Rattle.farm_model.specs.declared.types.Variant.{Variant}
 use Rattle.farm_model.specs.Below.{sum_below}
 use Rattle.farm_model.specs.Universe.{Universe}
@@ -60,14 +59,6 @@ nothing-words u = record {
 }
 
 -- ---- one package
-
-one_bit : (bit b : ℕ) → word_has (2 ^ bit) b ≡ (b == bit)
-one_bit bit b =
-    elim (cases_eq b bit) [
-      | inl same ↦ ap (λ k. bit_at (2 ^ bit) k == 1) same
-          ∙ (ap (λ n. n == 1) (bit_at-pow_same bit) ∙ sym (eq-eqb b bit same))
-      | inr other ↦ ap (λ n. n == 1) (bit_at-pow_other bit b other) ∙ sym (ne_eqb b bit other)
-    ]
 
 pub single-words : (count bit word : ℕ) → word ≡ 2 ^ bit → bit < count
     → AreOfName count word word word (joined_word word word)

@@ -2,6 +2,7 @@
 --
 -- Parameters: u a universe, w the words of a may map, n a name, p a test of variants.
 use Rattle.std.proofs.Common.{◌≡◌, ◌↔◌, ◌⊎◌, inl, inr, ℕ, ◌<◌, Bool, true, false, not, ◌&&◌, ◌||◌, ◌==◌, nat_lt, List, length, slice_index, bit_or, refl, sym, ap, ◌∙◌, arith}
+use Rattle.std.specs.Cmp.{both_ways as same_tests}
 use Rattle.std.proofs.lemmas.Bool.{cases_lt, cases_Bool, and_from, and_parts, or_cases, or_left, or_right, not-true, not_from_false, both_ways, eq-eqb, eqb-true, ne_eqb, lt-ltb, ltb-true}
 use Rattle.std.proofs.lemmas.List.{get_or_past}
 use Rattle.clause_kernel.specs.Rows.{word_has}
@@ -13,9 +14,8 @@ use Rattle.farm_model.specs.Below.{some_below}
 use Rattle.farm_model.specs.Universe.{Universe}
 use Rattle.farm_model.specs.Packages.{variant, names, variants, satisfies_entry}
 use Rattle.farm_model.proofs.BelowLaws.{some_below-at, some_below-found, some_below-same, some_below-none, every_below-at, every_below-all}
-use Rattle.farm_model.proofs.TestLaws.{same_tests}
 use Rattle.plan_model.specs.May.{Bits, all_of, some_of, some_name, may_hold, may_hold_configured, surely_configured, surely_met}
-use Rattle.sat_rows.specs.Rows.{passes, IsRowOf}
+use Rattle.sat_rows.specs.Rows.{variant_passes, IsRowOf}
 use Rattle.may_rows.specs.Words.{Words, slot_of, may_of, AreOfName, AreWords, some_name_inside}
 
 -- ---- words of one name
@@ -44,7 +44,7 @@ module _ (u : Universe) (words : List ℕ) (p : Variant → Bool) (long : length
   abbrev may_pass : ℕ → Bool
   may_pass n = some_of u n (word_has (slice_index words n)) (λ b. p (variant n b))
 
-  pub hit-from : HaveCommon (variants_of words) (passes u p)
+  pub hit-from : HaveCommon (variants_of words) (variant_passes u p)
       → some_below (names u) may_pass ≡ true
   hit-from common =
       let n = common.0 in
@@ -55,7 +55,7 @@ module _ (u : Universe) (words : List ℕ) (p : Variant → Bool) (long : length
       (ltb-true b (variants u n) both.0) (and_from _ _ common.2 both.1))
 
   pub hit-to : some_below (names u) may_pass ≡ true
-      → HaveCommon (variants_of words) (passes u p)
+      → HaveCommon (variants_of words) (variant_passes u p)
   hit-to some =
       let f = some_below-found (names u) may_pass some in
       let g =
@@ -69,7 +69,7 @@ module _ (u : Universe) (words : List ℕ) (p : Variant → Bool) (long : length
       not (slice_index words n == 0)
       && all_of u n (word_has (slice_index words n)) (λ b. p (variant n b))
 
-  pub inside-from : HasNameInside (variants_of words) (passes u p)
+  pub inside-from : HasNameInside (variants_of words) (variant_passes u p)
       → some_below (names u) surely_passes ≡ true
   inside-from inside =
       let n = inside.0 in
@@ -92,7 +92,7 @@ module _ (u : Universe) (words : List ℕ) (p : Variant → Bool) (long : length
 
   pub inside-to : ((n b : ℕ) → word_has (slice_index words n) b ≡ true → b < variants u n)
       → some_below (names u) surely_passes ≡ true
-      → HasNameInside (variants_of words) (passes u p)
+      → HasNameInside (variants_of words) (variant_passes u p)
   inside-to known some =
       let f = some_below-found (names u) surely_passes some in
       let parts = and_parts _ _ f.2 in
@@ -103,7 +103,7 @@ module _ (u : Universe) (words : List ℕ) (p : Variant → Bool) (long : length
     where
       each : (n b : ℕ) → word_has (slice_index words n) b ≡ true
           → all_of u n (word_has (slice_index words n)) (λ k. p (variant n k)) ≡ true
-          → passes u p n b ≡ true
+          → variant_passes u p n b ≡ true
       each n b has all =
           let lt = known n b has in
           let one =
@@ -120,7 +120,7 @@ module _ (u : Universe) (words : List ℕ) (p : Variant → Bool) (row : List �
     (long : length words ≡ names u) (is : IsRowOf u p row) where
   -- the row has those that pass
   pub hit_row : (t : Bool) → (t ≡ true) ↔ HaveCommon (variants_of words) (variants_of row)
-      → (t ≡ true) ↔ HaveCommon (variants_of words) (passes u p)
+      → (t ≡ true) ↔ HaveCommon (variants_of words) (variant_passes u p)
   hit_row t told = (
     λ yes.
         let common = told.0 yes in
@@ -229,19 +229,19 @@ module _ (u : Universe) (w : Words) (is : AreWords u w) where
 
   -- the same by those who satisfy it
   pub met_from : (e : Entry)
-      → HasNameInside (variants_of w.ready) (passes u (satisfies_entry u e))
+      → HasNameInside (variants_of w.ready) (variant_passes u (satisfies_entry u e))
       → surely_met u (may_of w) e ≡ true
   met_from e inside =
       met-inside e ∙ inside-from u w.ready (satisfies_entry u e) is.ready_long inside
 
   pub met_to : (e : Entry) → surely_met u (may_of w) e ≡ true
-      → HasNameInside (variants_of w.ready) (passes u (satisfies_entry u e))
+      → HasNameInside (variants_of w.ready) (variant_passes u (satisfies_entry u e))
   met_to e met =
       inside-to u w.ready (satisfies_entry u e) is.ready_long
       (λ n b. ready_known u n (λ k. false) _ _ _ _ (is.each n) b) (sym (met-inside e) ∙ met)
 
   pub common_is : (p : Variant → Bool) (t : Bool)
-      → (t ≡ true) ↔ HaveCommon (variants_of w.here) (passes u p)
+      → (t ≡ true) ↔ HaveCommon (variants_of w.here) (variant_passes u p)
       → t ≡ some_name u (may_of w) (λ n s. may_hold u n (λ b. p (variant n b)) s)
   common_is p t told =
       same_tests t _ (λ holds. hit-from u w.here p is.here_long (told.0 holds))
@@ -250,7 +250,7 @@ module _ (u : Universe) (w : Words) (is : AreWords u w) where
       (λ n lt. hold-is u n (λ b. p (variant n b)) _ _ _ _ (is.each n)))
 
   pub common_configured_is : (p : Variant → Bool) (t : Bool)
-      → (t ≡ true) ↔ HaveCommon (variants_of w.ready) (passes u p)
+      → (t ≡ true) ↔ HaveCommon (variants_of w.ready) (variant_passes u p)
       → t ≡ some_name u (may_of w) (λ n s. may_hold_configured u n (λ b. p (variant n b)) s)
   common_configured_is p t told =
       same_tests t _ (λ holds. hit-from u w.ready p is.ready_long (told.0 holds))

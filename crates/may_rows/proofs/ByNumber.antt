@@ -1,11 +1,11 @@
 -- Lists by the numbers of their elements.
 use Rattle.std.proofs.Common.{◌≡◌, ℕ, zero, suc, ◌<◌, Bool, true, false, ◌||◌, List, [], ◌∷◌, length, refl, sym, ap, ◌∙◌, arith}
+use Rattle.std.specs.Cmp.{both_ways as same_tests}
 use Rattle.std.specs.Prelude.{slice_get, slice_index_or}
 use Rattle.std.specs.List.{list_any}
 use Rattle.std.proofs.lemmas.Option.{slice_get-get_or}
 use Rattle.may_rows.specs.Words.{passes_if}
 use Rattle.farm_model.specs.Below.{some_below}
-use Rattle.farm_model.proofs.TestLaws.{same_tests}
 use Rattle.farm_model.proofs.BelowLaws.{some_below-at, some_below-found}
 
 first_or_rest : {X : Type 0} (p : X → Bool) (none x : X) (xs : List X) (t : Bool) → p x ≡ t

@@ -1,5 +1,6 @@
 -- The candidates of an unpack as a word.
 use Rattle.std.proofs.Common.{◌≡◌, ◌≢◌, inl, inr, ℕ, ◌*◌, ◌-◌, ◌%◌, ◌^◌, ◌<◌, ◌≤◌, Bool, true, not, ◌&&◌, ◌==◌, nat_lt, List, Option, Some, None, bit_and, bit_xor, refl, sym, ap, ◌∙◌, arith}
+use Rattle.std.specs.Cmp.{both_ways as same_tests}
 use Rattle.std.specs.Prelude.{nat_le}
 use Rattle.std.proofs.lemmas.Nat.{pow_pos}
 use Rattle.std.proofs.lemmas.Nat.Bits.{bit_at_ones, bit_at_ones_above}
@@ -15,7 +16,6 @@ use Rattle.farm_model.specs.Below.{highest_below}
 use Rattle.farm_model.specs.Universe.{Universe}
 use Rattle.farm_model.specs.Packages.{variant, variants, is_wanted}
 use Rattle.farm_model.proofs.BelowLaws.{highest_below-some, highest_below-there}
-use Rattle.farm_model.proofs.TestLaws.{same_tests}
 use Rattle.plan_model.specs.Turn.{newest}
 use Rattle.plan_model.specs.Risk.{candidates}
 use Rattle.sat_rows.specs.Rows.{IsWordFor}

@@ -9,7 +9,7 @@ use Rattle.farm_model.specs.Universe.{Universe}
 use Rattle.farm_model.specs.Packages.{names, variants}
 use Rattle.farm_model.proofs.BelowLaws.{some_below-at, some_below-none}
 use Rattle.plan_model.specs.May.{Bits, MaySlot, MayAbsent, MayUnpacked, MayConfigured, May, may_use}
-use Rattle.plan_model.specs.Join.{is_same_phase, phases_differ, either, either_last, joined_slot, both_built, joined}
+use Rattle.plan_model.specs.Join.{is_same_phase, phases_differ, either, either_last, joined_slot, both_built, joined_may}
 use Rattle.may_rows.specs.Joins.{either_last_word, joined_below, BothBelow, joined_rest}
 use Rattle.may_rows.specs.Words.{Words, slot_of, may_of, joined_word, with_slot, AreOfName, AreWords}
 use Rattle.may_rows.proofs.Joins.{some-word, joined-words}
@@ -337,7 +337,7 @@ are-joined u first w is are = record {
 
 pub map-joined : (u : Universe) (first old w : Words) → AreWords u first → AreWords u old
     → may_of w ≡ joined_below u (may_of first) (names u) (may_of old)
-    → may_of (joined_rest first w) ≡ joined u (may_of first) (may_of old)
+    → may_of (joined_rest first w) ≡ joined_may u (may_of first) (may_of old)
 map-joined u first old w is are e =
     λ i. record { slots = λ n. slot n i; cost = spent i; built = made i }
   where

@@ -1,6 +1,7 @@
 -- What surely meets an entry ahead of an unpack: the configured words lie within those that satisfy
 -- it, or the present and the last configured ones together within those of one alternative.
 use Rattle.std.proofs.Common.{subst, ◌≡◌, ◌⊎◌, inl, inr, ℕ, zero, suc, ◌<◌, Bool, true, false, not, ◌&&◌, ◌||◌, ◌==◌, List, [], ◌∷◌, refl, sym, ap, ◌∙◌, if◌then◌else◌}
+use Rattle.std.specs.Cmp.{both_ways as same_tests}
 use Rattle.std.specs.Prelude.{slice_index, bit_or}
 use Rattle.std.specs.List.{list_any}
 use Rattle.std.proofs.lemmas.Bool.{cases_Bool, and_parts, and_left, and_right, or_cases, or_left, or_right, both_ways, eq-eqb, eqb-true, ne_eqb}
@@ -12,9 +13,8 @@ use Rattle.farm_model.specs.Universe.{Universe}
 use Rattle.farm_model.specs.declared.types.Variant.{Variant}
 use Rattle.farm_model.specs.Packages.{variant, names, variants, pre_depends, satisfies, satisfies_entry}
 use Rattle.farm_model.proofs.BelowLaws.{some_below-or, some_below-at, some_below-found, some_below-same, every_below-at, every_below-all}
-use Rattle.farm_model.proofs.TestLaws.{same_tests}
 use Rattle.plan_model.specs.May.{Bits, MayAbsent, May, all_of, is_some_of, surely_pre_meets, surely_pre_met}
-use Rattle.sat_rows.specs.Rows.{IsRowOf, IsAlternativeRow, entry_at}
+use Rattle.sat_rows.specs.Rows.{IsRowOf, IsAlternativeRow, nth_entry}
 use Rattle.may_rows.specs.Words.{Words, slot_of, may_of, AreOfName, AreWords, with_slot, some_name_inside, surely_met_ahead}
 
 -- ---- tests of several things
@@ -229,16 +229,16 @@ ahead-absent u m name e = some_below-same (names u) _ _ (λ n lt. by n (n == nam
 
 -- the rows of tables of the same universe
 pub entry_row_of : (t u : Universe) (v : Variant) (i : ℕ) (row : List ℕ) → t ≡ u
-    → IsRowOf t (satisfies_entry t (entry_at (pre_depends t v) i)) row
-    → IsRowOf u (satisfies_entry u (entry_at (pre_depends u v) i)) row
+    → IsRowOf t (satisfies_entry t (nth_entry (pre_depends t v) i)) row
+    → IsRowOf u (satisfies_entry u (nth_entry (pre_depends u v) i)) row
 entry_row_of t u v i row same is =
-    subst (λ s. IsRowOf s (satisfies_entry s (entry_at (pre_depends s v) i)) row) same is
+    subst (λ s. IsRowOf s (satisfies_entry s (nth_entry (pre_depends s v) i)) row) same is
 
 pub alternative_row_of : (t u : Universe) (v : Variant) (i j : ℕ) (row : List ℕ) → t ≡ u
-    → IsAlternativeRow t (entry_at (pre_depends t v) i) j row
-    → IsAlternativeRow u (entry_at (pre_depends u v) i) j row
+    → IsAlternativeRow t (nth_entry (pre_depends t v) i) j row
+    → IsAlternativeRow u (nth_entry (pre_depends u v) i) j row
 alternative_row_of t u v i j row same is =
-    subst (λ s. IsAlternativeRow s (entry_at (pre_depends s v) i) j row) same is
+    subst (λ s. IsAlternativeRow s (nth_entry (pre_depends s v) i) j row) same is
 
 -- told by two tests, one after the other
 module _ (u : Universe) (w : Words) (e : Entry) (is : AreWords u w) (t : Bool)

@@ -1,5 +1,6 @@
 -- What is unpacked, and what is configured, by the words.
 use Rattle.std.proofs.Common.{◌≡◌, ◌↔◌, ◌⊎◌, inl, inr, ℕ, ◌<◌, Bool, true, false, not, ◌&&◌, ◌||◌, ◌==◌, List, slice_index, Option, Some, None, [], ◌∷◌, Ok, refl, sym, ap, subst, ◌∙◌, arith}
+use Rattle.std.specs.Cmp.{both_ways as same_tests}
 use Rattle.std.specs.List.{list_any}
 use Rattle.std.proofs.lemmas.List.Folds.{list_any-append}
 use Rattle.std.proofs.lemmas.Bool.{cases_Bool, cases_lt, and_from, or_left, or_right, not-true, not_from_false, both_ways, eq-eqb, eqb-true}
@@ -16,7 +17,6 @@ use Rattle.farm_model.specs.declared.types.Variant.{Variant}
 use Rattle.farm_model.specs.Traps.{first_trap}
 use Rattle.farm_model.specs.Packages.{variant, names, variants, recipe}
 use Rattle.farm_model.proofs.BelowLaws.{some_below-or, some_below-at, some_below-found, some_below-same}
-use Rattle.farm_model.proofs.TestLaws.{same_tests}
 use Rattle.plan_model.specs.May.{MaySlot, MayAbsent, MayUnpacked, MayConfigured, May, may_hold, may_hold_configured, surely_met, is_surely_unpacked, is_surely_configured}
 use Rattle.plan_model.specs.MayAt.{may_be_configured, may_be_deconfigured, may_unpack, may_change, may_after}
 use Rattle.plan_model.specs.Plan.{Lane}

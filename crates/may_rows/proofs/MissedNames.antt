@@ -8,7 +8,7 @@ use Rattle.farm_model.specs.Universe.{Universe}
 use Rattle.farm_model.specs.Packages.{variant, variants, satisfies_entry, is_wanted}
 use Rattle.farm_model.proofs.BelowLaws.{some_below-at, some_below-found}
 use Rattle.plan_model.specs.May.{May, surely_met}
-use Rattle.sat_rows.specs.Rows.{passes, IsWordFor}
+use Rattle.sat_rows.specs.Rows.{variant_passes, IsWordFor}
 use Rattle.sat_rows.specs.Served.{IsMissed}
 use Rattle.may_rows.specs.Met.{some_misses, MayMiss, may_serve}
 use Rattle.may_rows.specs.Words.{Words, AreWords, may_of}
@@ -21,7 +21,7 @@ module _ (u : Universe) (w : Words) (are : AreWords u w) where
 
   -- a variant of the word satisfies an entry that may be missed
   pub missed-from : (n b : ℕ) (e : Entry) → MayMiss u m n b e → (k word c : ℕ)
-      → word_has word c ≡ true → passes u (satisfies_entry u e) k c ≡ true
+      → word_has word c ≡ true → variant_passes u (satisfies_entry u e) k c ≡ true
       → IsMissed u k word w.ready
   missed-from n b e is k word c has passing =
       let d = some_below-found (variants u n)

@@ -1,5 +1,6 @@
 -- What is needed, member by member and name by name.
 use Rattle.std.proofs.Common.{◌≡◌, ◌↔◌, ℕ, Bool, true, false, not, ◌&&◌, ◌==◌, nat_lt, List, [], ◌∷◌, refl, sym, ap, ◌∙◌}
+use Rattle.std.specs.Cmp.{both_ways as same_tests}
 use Rattle.std.specs.Prelude.{slice_index, slice_index_or}
 use Rattle.std.specs.List.{list_any}
 use Rattle.std.proofs.Math.Bool.{or-false}
@@ -11,7 +12,6 @@ use Rattle.farm_model.specs.Chroot.{entries}
 use Rattle.farm_model.specs.Universe.{Universe}
 use Rattle.farm_model.specs.Packages.{variant, names, variants, satisfies_entry}
 use Rattle.farm_model.proofs.BelowLaws.{some_below-at, some_below-found}
-use Rattle.farm_model.proofs.TestLaws.{same_tests}
 use Rattle.farm_universe.proofs.PlaceLaws.{named}
 use Rattle.plan_model.specs.May.{Bits, May, some_of, surely_met}
 use Rattle.plan_model.specs.MayAt.{may_be_last}

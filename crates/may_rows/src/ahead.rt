@@ -5,7 +5,7 @@ ghost use Rattle.std.specs.List.{list_any};
 ghost use Rattle.farm_model.specs.Chroot.{unmet};
 ghost use Rattle.farm_model.specs.Packages.{pre_depends, satisfies};
 ghost use Rattle.farm_model.specs.Sound.{IsKnown};
-ghost use Rattle.sat_rows.specs.Rows.{entry_at};
+ghost use Rattle.sat_rows.specs.Rows.{nth_entry};
 ghost use Rattle.may_rows.specs.Words.{AreWords, may_of, surely_met_ahead, alternative_inside, some_name_inside};
 
 use crate::numbers::{NumberTest, some_number};
@@ -27,10 +27,10 @@ impl NumberTest for MetAlternatives<'_> {
     ghost fits = { λ u t. (t.tables.now ≡ u) × (AreWords u t.state.now
         × (IsKnown u t.variant × (t.entry < length (pre_depends u t.variant)))) };
 
-    ghost count = { λ u t. length (entry_at (pre_depends u t.variant) t.entry) };
+    ghost count = { λ u t. length (nth_entry (pre_depends u t.variant) t.entry) };
 
     ghost test = { λ u t j. alternative_inside u t.state.now.both
-        (slice_get (entry_at (pre_depends u t.variant) t.entry) j) };
+        (slice_get (nth_entry (pre_depends u t.variant) t.entry) j) };
 
     fn passes(&self, universe: &Universe, number: usize) -> bool {
         self.state.has_both_inside(
@@ -53,7 +53,7 @@ fn meets_alternative(
     requires known { IsKnown universe.now variant }
     requires there { entry < length (pre_depends universe.now variant) }
     ensures { result ≡ list_any (λ a. some_name_inside universe.now state.now.both
-        (satisfies universe.now a)) (entry_at (pre_depends universe.now variant) entry) }
+        (satisfies universe.now a)) (nth_entry (pre_depends universe.now variant) entry) }
 {
     let relations = universe.relations(variant);
     let alternatives = relations.pre_depends.entry(entry).len();
@@ -83,7 +83,7 @@ pub fn meets_ahead(
     requires known { IsKnown universe.now variant }
     requires there { entry < length (pre_depends universe.now variant) }
     ensures { result ≡ surely_met_ahead universe.now (may_of state.now)
-        (entry_at (pre_depends universe.now variant) entry) }
+        (nth_entry (pre_depends universe.now variant) entry) }
 {
     state.has_ready_inside(tables.pre_depends(variant, entry))
         || meets_alternative(universe, tables, state, variant, entry)
@@ -104,7 +104,7 @@ impl NumberTest for MissedAhead<'_> {
     ghost count = { λ u t. length (pre_depends u t.variant) };
 
     ghost test = { λ u t i.
-        not (surely_met_ahead u (may_of t.state.now) (entry_at (pre_depends u t.variant) i)) };
+        not (surely_met_ahead u (may_of t.state.now) (nth_entry (pre_depends u t.variant) i)) };
 
     fn passes(&self, universe: &Universe, number: usize) -> bool {
         !meets_ahead(universe, self.tables, self.state, self.variant, number)

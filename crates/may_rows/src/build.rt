@@ -8,7 +8,7 @@ ghost use Rattle.farm_model.specs.Traps.{first_trap};
 ghost use Rattle.plan_model.specs.May as may;
 ghost use Rattle.plan_model.specs.Risk.{build_risks, publish_risks};
 ghost use Rattle.plan_model.specs.Turn.{was_built};
-ghost use Rattle.sat_rows.specs.Rows.{entry_at};
+ghost use Rattle.sat_rows.specs.Rows.{nth_entry};
 ghost use Rattle.may_rows.specs.Words.{AreWords, may_of};
 ghost use Rattle.may_rows.specs.Met.{AreDoubts};
 ghost use Rattle.may_rows.specs.Walk.{Answers, IsOfLane};
@@ -38,7 +38,7 @@ impl NumberTest for MissedNeeds<'_> {
     ghost count = { λ u t. length (packages.recipe u t.recipe).needs };
 
     ghost test = { λ u t i. not (may.surely_met u (may_of t.state.now)
-        (entry_at (packages.recipe u t.recipe).needs i)) };
+        (nth_entry (packages.recipe u t.recipe).needs i)) };
 
     fn passes(&self, universe: &Universe, number: usize) -> bool {
         !self

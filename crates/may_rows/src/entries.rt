@@ -5,7 +5,7 @@ ghost use Rattle.farm_model.specs.Chroot.{unmet};
 ghost use Rattle.farm_model.specs.Packages.{pre_depends, depends};
 ghost use Rattle.farm_model.specs.Sound.{IsKnown};
 ghost use Rattle.plan_model.specs.May.{surely_met};
-ghost use Rattle.sat_rows.specs.Rows.{entry_at};
+ghost use Rattle.sat_rows.specs.Rows.{nth_entry};
 ghost use Rattle.may_rows.specs.Words.{AreWords, may_of};
 
 use crate::numbers::{NumberTest, some_number};
@@ -28,7 +28,7 @@ impl NumberTest for MissedPreDepends<'_> {
     ghost count = { λ u t. length (pre_depends u t.variant) };
 
     ghost test = { λ u t i.
-        not (surely_met u (may_of t.state.now) (entry_at (pre_depends u t.variant) i)) };
+        not (surely_met u (may_of t.state.now) (nth_entry (pre_depends u t.variant) i)) };
 
     fn passes(&self, universe: &Universe, number: usize) -> bool {
         !self
@@ -77,7 +77,7 @@ impl NumberTest for MissedDepends<'_> {
     ghost count = { λ u t. length (depends u t.variant) };
 
     ghost test = { λ u t i.
-        not (surely_met u (may_of t.state.now) (entry_at (depends u t.variant) i)) };
+        not (surely_met u (may_of t.state.now) (nth_entry (depends u t.variant) i)) };
 
     fn passes(&self, universe: &Universe, number: usize) -> bool {
         !self

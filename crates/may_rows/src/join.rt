@@ -137,7 +137,7 @@ impl MayHold {
             ≡ false }
         ensures words { AreWords universe.now self.new }
         ensures map { may_of self.new
-            ≡ spec.joined universe.now (may_of first.now) (may_of self.old) }
+            ≡ spec.joined_may universe.now (may_of first.now) (may_of self.old) }
     {
         self.join_slots(universe, first);
         self.join_rest(first);

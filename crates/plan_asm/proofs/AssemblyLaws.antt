@@ -6,7 +6,7 @@ use Rattle.plan_asm.specs.declared.assembly.Section.{Section}
 use Rattle.plan_asm.specs.declared.assembly.Section.TheVariants.{Outside, Block, Lane}
 use Rattle.plan_asm.specs.declared.error.TheConstants.{OVER_LIMIT, MOST_INSTRUCTIONS}
 use Rattle.plan_asm.specs.BlockTable.{BlockList}
-use Rattle.plan_asm.specs.Drafts.{Block as BlockRecord, InLane, is_open, instructions_of, published, with_instructions, published_once, add}
+use Rattle.plan_asm.specs.Drafts.{Block as BlockRecord, InLane, is_open, instructions_of, published, with_instructions, published_once, add_to_open}
 use Rattle.plan_model.specs.Known.{published_by}
 use Rattle.plan_asm.specs.SectionView.{open_of, IsTallied, IsAssembled}
 use Rattle.plan_asm.proofs.Doubles.{double-front}
@@ -47,7 +47,7 @@ module _ (bs : List BlockRecord) (ls : List LaneRecord) (line : ℕ) (l : LaneRe
   once-all = rw (published-append (instructions_of (ls ++ l ∷ [])) xs, sym tallied.recipes) once
 
   pub lane-over : MOST_INSTRUCTIONS < n + length xs
-      → add bs ls (InLane line l) xs ≡ Err OVER_LIMIT
+      → add_to_open bs ls (InLane line l) xs ≡ Err OVER_LIMIT
   lane-over over =
       let counted = tallied.counted in
       let long = length-append (instructions_of (ls ++ l ∷ [])) xs in
@@ -59,7 +59,7 @@ module _ (bs : List BlockRecord) (ls : List LaneRecord) (line : ℕ) (l : LaneRe
 
   pub lane-gives : (next : LaneRecord) → next ≡ with_instructions l xs
       → n + length xs ≤ MOST_INSTRUCTIONS
-      → add bs ls (InLane line l) xs
+      → add_to_open bs ls (InLane line l) xs
       ≡ Ok (record { blocks = bs; lanes = ls; current = InLane line next })
   lane-gives next is fits =
       let counted = tallied.counted in

@@ -10,7 +10,7 @@ use Rattle.deb_text.specs.Steps.{◌>>=◌}
 use Rattle.deb_text.proofs.CarriedLaws.{if-has, then-has, always}
 use Rattle.farm_model.specs.Universe.{Universe}
 use Rattle.plan_asm.specs.declared.error.TheConstants.{MOST_LANES, MOST_INSTRUCTIONS}
-use Rattle.plan_asm.specs.Drafts.{Block, Open, Nothing, InBlock, InLane, Draft, Reading, unread, is_open, block_named, instructions_of, published, known_name, known_base, known_recipe, set_of, instruction_of, end_open, published_once, within_limit, add, add_use, is_outside, may_say, on_side, take_block, take_lane, take_end, take_form}
+use Rattle.plan_asm.specs.Drafts.{Block, Open, Nothing, InBlock, InLane, Draft, Reading, unread, is_open, block_named, instructions_of, published, known_name, known_base, known_recipe, set_of, instruction_of, end_open, published_once, within_limit, add_to_open, add_use, is_outside, may_say, on_side, take_block, take_lane, take_end, take_form}
 use Rattle.plan_asm.specs.Forms.{Wording, UnpackForm, ConfigureForm, DeconfigureForm, RemoveForm, BuildForm, PublishForm, WaitForm, WhenForm, ElseForm, Form, BlockForm, LaneForm, EndForm, UseForm, InstructionForm}
 use Rattle.plan_model.specs.Branches.{Side, Outside, InFirst, InSecond, second_of, side_behind, side_behind_some, side_at, may_stand, IsBranched}
 use Rattle.plan_model.specs.declared.instructions.Instruction.{Instruction}
@@ -154,7 +154,7 @@ draft bs ls o = record { blocks = bs; lanes = ls; current = o }
 -- instructions that lead from the one side to the other
 add-whole : (bs : List Block) (ls : List Lane) (o : Open) (xs : List Instruction) (s t : Side)
     → AreWhole (draft bs ls o) s → Leads (kind s) xs (kind t)
-    → IfOk (add bs ls o xs) (λ d. AreWhole d t)
+    → IfOk (add_to_open bs ls o xs) (λ d. AreWhole d t)
 add-whole bs ls Nothing xs s t kept leads = tt
 add-whole bs ls (InBlock line b) xs s t kept leads =
     let all = b.instructions ++ xs in

@@ -1,6 +1,7 @@
 -- Numbers that stand twice, found by a table.
 use Rattle.std.proofs.Common.{◌⊎◌, inl, inr, ◌≡◌, ◌<◌, ℕ, ◌+◌, ◌==◌, ◌||◌, Bool, true, false, List, [], ◌∷◌, ◌++◌, length, get_or, take, drop, set, refl, sym, ap, ◌∙◌, Ok, Err}
 use Rattle.std.specs.List.{list_any}
+use Rattle.std.proofs.Math.Bool.{or-false, or-true}
 use Rattle.std.proofs.lemmas.Bool.{or_parts, eq-eqb, ne_eqb, cases_eq}
 use Rattle.std.proofs.lemmas.List.{take_more, get_or-set_same, get_or-set_other, take-append-drop, append-nil}
 use Rattle.std.proofs.lemmas.List.Folds.{list_any-append}
@@ -11,18 +12,15 @@ use Rattle.plan_asm.specs.Drafts.{published_once}
 use Rattle.plan_asm.specs.Seen.{Marks}
 use Rattle.plan_model.specs.Sound.{has_double}
 
-pub or-true : (a : Bool) → (a || true) ≡ true
-or-true true = refl
-or-true false = refl
-
-pub or-nil : (a : Bool) → (a || false) ≡ a
-or-nil true = refl
-or-nil false = refl
-
 pub double-push : (ns : List ℕ) (n : ℕ) → has_double (ns ++ n ∷ []) ≡ (has_double ns || member ns n)
 double-push [] n = refl
 double-push (x ∷ ns) n =
-    rw (list_any-append (λ y. y == x) ns (n ∷ []), double-push ns n, eqb-turned n x, or-nil (x == n))
+    rw (
+      list_any-append (λ y. y == x) ns (n ∷ []),
+      double-push ns n,
+      eqb-turned n x,
+      or-false (x == n),
+    )
     (or-four (member ns x) (x == n) (has_double ns) (member ns n))
 
 -- a test of equality turned round
@@ -100,7 +98,7 @@ module _ (ns : List ℕ) (seen : List Bool) (i d : ℕ) (lt : i < length ns)
       rw (
         take_more ns i d lt,
         list_any-append (λ y. y == n) (take i ns) (get_or ns i d ∷ []),
-        or-nil (get_or ns i d == n),
+        or-false (get_or ns i d == n),
         sym (shown n small),
       )
       (go (cases_eq n (get_or ns i d))) where
@@ -115,4 +113,4 @@ module _ (ns : List ℕ) (seen : List Bool) (i d : ℕ) (lt : i < length ns)
               get_or-set_other seen (get_or ns i d) n true false ne,
               ne_eqb (get_or ns i d) n (λ e. ne (sym e)),
             )
-            (sym (or-nil (get_or seen n false)))
+            (sym (or-false (get_or seen n false)))

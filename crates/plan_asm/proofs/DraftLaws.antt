@@ -13,7 +13,7 @@ use Rattle.plan_asm.specs.declared.error.TheConstants.{MOST_LANES, MOST_INSTRUCT
 use Rattle.plan_model.specs.declared.instructions.Instruction.{Instruction}
 use Rattle.plan_model.specs.declared.instructions.Instruction.TheVariants.{Unpack, Configure, Deconfigure, Remove, Build, Publish, Wait, When, Otherwise, EndWhen}
 use Rattle.plan_model.specs.Branches.{Side, Outside, InFirst, InSecond}
-use Rattle.plan_asm.specs.Drafts.{Block, Open, Nothing, InBlock, InLane, Draft, is_open, block_named, all_lanes, instructions_of, published, or_unknown, known_name, base_names, known_base, recipe_names, known_recipe, set_of, instruction_of, open_block, fresh_lane, open_lane, end_open, with_instructions, published_once, within_limit, add, is_outside, may_say, Reading, on_side, put, take_end, take_form}
+use Rattle.plan_asm.specs.Drafts.{Block, Open, Nothing, InBlock, InLane, Draft, is_open, block_named, all_lanes, instructions_of, published, or_unknown, known_name, base_names, known_base, recipe_names, known_recipe, set_of, instruction_of, open_block, fresh_lane, open_lane, end_open, with_instructions, published_once, within_limit, add_to_open, is_outside, may_say, Reading, on_side, put, take_end, take_form}
 use Rattle.plan_asm.specs.Forms.{Wording, UnpackForm, ConfigureForm, DeconfigureForm, RemoveForm, BuildForm, PublishForm, WaitForm, WhenForm, ElseForm, Form, BlockForm, LaneForm, EndForm, UseForm, InstructionForm}
 use Rattle.plan_model.specs.Plan.{Lane}
 use Rattle.plan_model.specs.Sound.{has_double}
@@ -275,7 +275,7 @@ module _ (u : Universe) where
       }
 
   add-has : (bs : List Block) (ls : List Lane) (o : Open) (xs : List Instruction)
-      → good bs ls o → All (IsGood u) xs → IfOk (add bs ls o xs) (IsGoodDraft u)
+      → good bs ls o → All (IsGood u) xs → IfOk (add_to_open bs ls o xs) (IsGoodDraft u)
   add-has bs ls Nothing xs kept fine = tt
   add-has bs ls (InBlock line b) xs kept fine =
       let all = b.instructions ++ xs in

@@ -3,7 +3,7 @@ use Rattle.std.proofs.Common.{◌≡◌, ◌<◌, ◌≤◌, ℕ, ◌+◌, Bool,
 use Rattle.std.proofs.lemmas.Bool.{cases_lt, lt-ltb, le-ltb}
 use Rattle.deb_text.specs.Answers.{Fails}
 use Rattle.plan_asm.specs.declared.error.TheConstants.{PUBLISHED_TWICE, OVER_LIMIT, MOST_INSTRUCTIONS}
-use Rattle.plan_asm.specs.Drafts.{Block, InLane, instructions_of, noted, published, published_once, add}
+use Rattle.plan_asm.specs.Drafts.{Block, InLane, instructions_of, noted, published, published_once, add_to_open}
 use Rattle.plan_asm.specs.SectionView.{IsTallied}
 use Rattle.plan_asm.proofs.AssemblyLaws.{lane-over}
 use Rattle.plan_asm.proofs.Publishes.{published-append}
@@ -52,11 +52,11 @@ module _ (n : ℕ) (rs : List ℕ) (xs : List Instruction) where
   -- where that fails, so does the line
   module _ (bs : List Block) (ls : List Lane) (line : ℕ) (l : Lane)
       (tallied : IsTallied (instructions_of (ls ++ l ∷ [])) n rs) where
-    pub add-stops : (f : ℕ) → noted n rs xs ≡ Err f → add bs ls (InLane line l) xs ≡ Err f
+    pub add-stops : (f : ℕ) → noted n rs xs ≡ Err f → add_to_open bs ls (InLane line l) xs ≡ Err f
     add-stops f is = go (has_double (rs ++ published xs)) refl
       where
         go : (b : Bool) → has_double (rs ++ published xs) ≡ b
-            → add bs ls (InLane line l) xs ≡ Err f
+            → add_to_open bs ls (InLane line l) xs ≡ Err f
         go true twice =
             rw (published-append (instructions_of (ls ++ l ∷ [])) xs, sym tallied.recipes, twice)
             (ap Err (code-same PUBLISHED_TWICE f (rw twice at is)))
@@ -71,10 +71,10 @@ module _ (n : ℕ) (rs : List ℕ) (xs : List Instruction) where
         ]
 
     pub add-noted-fails : {E : Type 0} (refusal : E → Option ℕ) (e : E)
-        → Fails refusal e (noted n rs xs) → Fails refusal e (add bs ls (InLane line l) xs)
+        → Fails refusal e (noted n rs xs) → Fails refusal e (add_to_open bs ls (InLane line l) xs)
     add-noted-fails refusal e fails = go (refusal e) fails
       where
         go : (o : Option ℕ) → MatchOption o (Unit {0}) (λ f. noted n rs xs ≡ Err f)
-            → MatchOption o (Unit {0}) (λ f. add bs ls (InLane line l) xs ≡ Err f)
+            → MatchOption o (Unit {0}) (λ f. add_to_open bs ls (InLane line l) xs ≡ Err f)
         go None is = tt
         go (Some f) is = add-stops f is

@@ -13,7 +13,7 @@ use Rattle.plan_asm.specs.declared.error.LineError.{LineError}
 use Rattle.plan_asm.specs.declared.said.Said.{Said}
 use Rattle.plan_asm.specs.declared.error.TheConstants.{FILE, NO_PLAN}
 use Rattle.plan_asm.specs.Drafts.{Reading}
-use Rattle.plan_asm.specs.Parts.{Says, AreSaid, IsPart, AreParts, behind_head}
+use Rattle.plan_asm.specs.Parts.{Says, AreSaidByLines, IsPartSaid, ArePartsSaid, behind_head}
 use Rattle.plan_asm.specs.PlanText.{reading_of, end_of, plan_in}
 
 module _ (u : Universe) where
@@ -22,8 +22,8 @@ module _ (u : Universe) where
 
   -- the first of the lines from a place on is said, and so are those behind it
   pub first-said : (ls : List Line) (at : ℕ) (r : Answer) (rs : List Answer)
-      → AreSaid u (drop at ls) (r ∷ rs)
-      → (at < length ls) × Says u (get_or ls at (0, [])) r × AreSaid u (drop (at + 1) ls) rs
+      → AreSaidByLines u (drop at ls) (r ∷ rs)
+      → (at < length ls) × Says u (get_or ls at (0, [])) r × AreSaidByLines u (drop (at + 1) ls) rs
   first-said [] zero r rs all = absurd all
   first-said [] (suc at) r rs all = absurd all
   first-said (line ∷ ls) zero r rs all = (omega arith, all.0, all.1)
@@ -33,12 +33,13 @@ module _ (u : Universe) where
       let more : suc (at + 1) ≡ suc at + 1 = omega arith in (
         omega (arith, lt),
         rest.1,
-        subst (λ n. AreSaid u (drop n (line ∷ ls)) rs) more rest.2,
+        subst (λ n. AreSaidByLines u (drop n (line ∷ ls)) rs) more rest.2,
       )
 
   -- one more line is said behind the others
   pub next-said : (ls : List Line) (rs : List Answer) (r : Answer) → length rs < length ls
-      → AreSaid u ls rs → Says u (get_or ls (length rs) (0, [])) r → AreSaid u ls (rs ++ r ∷ [])
+      → AreSaidByLines u ls rs → Says u (get_or ls (length rs) (0, [])) r
+      → AreSaidByLines u ls (rs ++ r ∷ [])
   next-said [] [] r lt all says = absurd (omega (arith, lt))
   next-said [] (s ∷ rs) r lt all says = absurd all
   next-said (line ∷ ls) [] r lt all says = (says, tt)
@@ -47,15 +48,15 @@ module _ (u : Universe) where
 
   -- the parts that several threads read, by their numbers
   parts-from : (n a count : ℕ) (ls : List Line) (parts : List (Result (List Answer) AllocError))
-      → AllZip (λ k part. IsPart u n (drop (1 + k * n) ls) part) (range_with_len a count) parts
-      → AreParts u n (drop (1 + a * n) ls) parts
+      → AllZip (λ k part. IsPartSaid u n (drop (1 + k * n) ls) part) (range_with_len a count) parts
+      → ArePartsSaid u n (drop (1 + a * n) ls) parts
   parts-from n a zero ls [] all = tt
   parts-from n a zero ls (part ∷ parts) all = absurd all
   parts-from n a (suc count) ls [] all = absurd all
   parts-from n a (suc count) ls (part ∷ parts) all =
       let more : 1 + a * n + n ≡ 1 + (a + 1) * n = omega arith in (
         all.0,
-        subst (λ rest. AreParts u n rest parts)
+        subst (λ rest. ArePartsSaid u n rest parts)
             (sym (drop-drop n (1 + a * n) ls ∙ ap (λ m. drop m ls) more))
             (parts-from n (a + 1) count ls parts all.1),
       )
@@ -63,20 +64,21 @@ module _ (u : Universe) where
   pub are-parts : (n count : ℕ) (ls : List Line)
       (parts : List (Result (List Answer) AllocError)) (places : List ℕ)
       → places ≡ range_with_len 0 count
-      → AllZip (λ k part. IsPart u n (drop (1 + k * n) ls) part) places parts
-      → AreParts u n (drop 1 ls) parts
+      → AllZip (λ k part. IsPartSaid u n (drop (1 + k * n) ls) part) places parts
+      → ArePartsSaid u n (drop 1 ls) parts
   are-parts n count ls parts places at all =
       let first : 1 + 0 * n ≡ 1 = omega arith in
-      subst (λ m. AreParts u n (drop m ls) parts) first
+      subst (λ m. ArePartsSaid u n (drop m ls) parts) first
       (parts-from n 0 count ls parts
-      (subst (λ l. AllZip (λ k part. IsPart u n (drop (1 + k * n) ls) part) l parts) at all))
+      (subst (λ l. AllZip (λ k part. IsPartSaid u n (drop (1 + k * n) ls) part) l parts) at all))
 
   -- the lines behind a part
   pub behind-part : (n next at : ℕ) (ls : List Line)
       (parts : List (Result (List Answer) AllocError)) → next ≡ at + n
-      → AreParts u n (drop n (drop at ls)) parts → AreParts u n (drop next ls) parts
+      → ArePartsSaid u n (drop n (drop at ls)) parts → ArePartsSaid u n (drop next ls) parts
   behind-part n next at ls parts is all =
-      subst (λ rest. AreParts u n rest parts) (drop-drop n at ls ∙ ap (λ m. drop m ls) (sym is)) all
+      subst (λ rest. ArePartsSaid u n rest parts) (drop-drop n at ls ∙ ap (λ m. drop m ls) (sym is))
+      all
 
   -- the plan where the first line is `plan 1`
   pub plan-goes : (ls : List Line) (r : Reading) → behind_head ls ≡ Ok (drop 1 ls)

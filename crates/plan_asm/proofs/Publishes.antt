@@ -1,13 +1,14 @@
 -- Lanes that publish each recipe once: the place of a publish is known by its recipe.
 use Rattle.std.proofs.Common.{◌≡◌, ℕ, zero, suc, ◌<◌, Bool, true, false, List, [], ◌∷◌, ◌++◌, length, refl, sym, ap, subst, ◌∙◌, Some, arith, true≢false}
 use Rattle.std.specs.Prelude.{slice_get, ◌==◌}
+use Rattle.std.proofs.Math.Bool.{or-true}
 use Rattle.std.proofs.lemmas.Bool.{or_parts, eqb-true, eq-eqb}
 use Rattle.std.proofs.lemmas.List.Concat.{flat_map-append}
 use Rattle.std.proofs.lemmas.List.Folds.{list_any-append}
 use Rattle.farm_model.specs.Chroot.{member}
 use Rattle.plan_asm.specs.Drafts.{instructions_of, published}
 use Rattle.plan_model.specs.Known.{published_by}
-use Rattle.plan_asm.proofs.Doubles.{or-true, double-front}
+use Rattle.plan_asm.proofs.Doubles.{double-front}
 use Rattle.plan_model.specs.declared.instructions.Instruction.{Instruction}
 use Rattle.plan_model.specs.declared.instructions.Instruction.TheVariants.{Publish}
 use Rattle.plan_model.specs.Plan.{Lane, Plan, lane}

@@ -5,7 +5,7 @@ use Rattle.plan_asm.specs.declared.assembly.Section.{Section}
 use Rattle.plan_asm.specs.declared.assembly.Section.TheVariants.{Outside, Block, Lane}
 use Rattle.plan_asm.specs.declared.error.TheConstants.{BAD_LINE}
 use Rattle.plan_asm.specs.BlockTable.{BlockList}
-use Rattle.plan_asm.specs.Drafts.{Draft, add, noted, with_instructions, within_limit}
+use Rattle.plan_asm.specs.Drafts.{Draft, add_to_open, noted, with_instructions, within_limit}
 use Rattle.plan_asm.specs.SectionView.{IsAssembled, open_of, put_in}
 use Rattle.plan_asm.proofs.AssemblyLaws.{lane-gives, lane-kept}
 use Rattle.plan_asm.proofs.Noted.{add-stops, noted-is}
@@ -34,7 +34,7 @@ module _ (blocks : BlockList) (ls : List LaneRecord) (n : ℕ) (rs : List ℕ) (
       record { blocks = next.ended; lanes = ls; current = open_of next.written section }
 
   abbrev with_more : Section → Result Draft ℕ
-  with_more section = add blocks.ended ls (open_of blocks.written section) (x ∷ [])
+  with_more section = add_to_open blocks.ended ls (open_of blocks.written section) (x ∷ [])
 
   -- where that fails, so does the line
   put-stops : (section : Section) → IsAssembled blocks ls section n rs → (f : ℕ)
@@ -56,7 +56,7 @@ module _ (blocks : BlockList) (ls : List LaneRecord) (n : ℕ) (rs : List ℕ) (
 
   pub put-fails : {E : Type 0} (refusal : E → Option ℕ) (e : E) (section : Section)
       → IsAssembled blocks ls section n rs → Fails refusal e (put_in blocks section n rs x)
-      → Fails refusal e (add blocks.ended ls (open_of blocks.written section) (x ∷ []))
+      → Fails refusal e (add_to_open blocks.ended ls (open_of blocks.written section) (x ∷ []))
   put-fails refusal e section kept fails = go (refusal e) fails
     where
       go : (o : Option ℕ) → MatchOption o (Unit {0}) (λ f. put_in blocks section n rs x ≡ Err f)
@@ -103,6 +103,6 @@ module _ (blocks : BlockList) (ls : List LaneRecord) (n : ℕ) (rs : List ℕ) (
   pub put-gives : (section : Section) → IsAssembled blocks ls section n rs → (bs : BlockList)
       (now : Section) (m : ℕ) (found : List ℕ)
       → put_in blocks section n rs x ≡ Ok (bs, now, m, found)
-      → add blocks.ended ls (open_of blocks.written section) (x ∷ [])
+      → add_to_open blocks.ended ls (open_of blocks.written section) (x ∷ [])
       ≡ Ok (record { blocks = bs.ended; lanes = ls; current = open_of bs.written now })
   put-gives section kept bs now m found is = (put-on section kept (bs, now, m, found) is).1

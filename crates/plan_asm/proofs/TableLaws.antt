@@ -9,7 +9,7 @@ use Rattle.plan_asm.specs.declared.blocks.Part.TheVariants.{Step}
 use Rattle.plan_asm.specs.declared.blocks.Row.{Row}
 use Rattle.plan_asm.specs.declared.blocks.Whole.{Whole}
 use Rattle.plan_asm.specs.declared.error.TheConstants.{MOST_INSTRUCTIONS}
-use Rattle.plan_asm.specs.BlockTable.{one, step_at, opened, AreParts, AreRows, block_of, IsWhole, IsTable, Closes}
+use Rattle.plan_asm.specs.BlockTable.{one, step_at, part_instructions, AreParts, AreRows, block_of, IsWhole, IsTable, Closes}
 use Rattle.plan_asm.proofs.BlockLaws.{parts-more, rows-more, rows-push, top-row, last-row, step-same}
 use Rattle.plan_model.specs.declared.instructions.Instruction.{Instruction}
 
@@ -19,7 +19,7 @@ pub record Extends (xs : List Instruction) (rs : List Row) (ys : List Instructio
   pub steps : length xs ≤ length ys
   pub rows : length rs ≤ length ss
   pub same : (ps : List Part) → AreParts (length xs) (length rs) ps
-      → opened ys ss ps ≡ opened xs rs ps
+      → part_instructions ys ss ps ≡ part_instructions xs rs ps
 
 abbrev pub IsEntry : List Instruction → List Row → Vec ℕ × Whole → Type 0
 IsEntry xs rs e = IsWhole xs rs e.1
@@ -81,31 +81,32 @@ row-extends xs rs r = record {
 -- ---- the open block
 
 pub written-push : (xs : List Instruction) (rs : List Row) (ps : List Part) (p : Part)
-    → opened xs rs (reverse (ps ++ p ∷ []))
-    ≡ opened xs rs (reverse ps) ++ opened xs rs (p ∷ [])
+    → part_instructions xs rs (reverse (ps ++ p ∷ []))
+    ≡ part_instructions xs rs (reverse ps) ++ part_instructions xs rs (p ∷ [])
 written-push xs rs ps p = rw (reverse-append ps (p ∷ [])) refl
 
 pub part-pushed : (xs : List Instruction) (rs : List Row) (es : List (Vec ℕ × Whole))
     (ps : List Part) (p : Part) (n k : ℕ) → IsTable xs rs es ps n
-    → AreParts (length xs) (length rs) (p ∷ []) → k ≡ n + length (opened xs rs (p ∷ []))
+    → AreParts (length xs) (length rs) (p ∷ []) → k ≡ n + length (part_instructions xs rs (p ∷ []))
     → k ≤ MOST_INSTRUCTIONS → IsTable xs rs es (ps ++ p ∷ []) k
 part-pushed xs rs es ps p n k table known is few = record {
   rows = table.rows;
   ended = table.ended;
   parts = rw (reverse-append ps (p ∷ [])) (known.0, table.parts);
-  counted = is ∙ ap (λ m. m + length (opened xs rs (p ∷ []))) table.counted
-      ∙ sym (length-append (opened xs rs (reverse ps)) (opened xs rs (p ∷ [])))
+  counted = is ∙ ap (λ m. m + length (part_instructions xs rs (p ∷ []))) table.counted
+      ∙ sym (length-append (part_instructions xs rs (reverse ps))
+      (part_instructions xs rs (p ∷ [])))
       ∙ ap length (sym (written-push xs rs ps p));
   few = few;
 }
 
 -- what a block stands for comes behind
 pub whole-written : (xs : List Instruction) (rs : List Row) (ps : List Part) (o : Option Part)
-    → opened xs rs (reverse (ps ++ option_to_list o))
-    ≡ opened xs rs (reverse ps) ++ opened xs rs (option_to_list o)
+    → part_instructions xs rs (reverse (ps ++ option_to_list o))
+    ≡ part_instructions xs rs (reverse ps) ++ part_instructions xs rs (option_to_list o)
 whole-written xs rs ps None =
-    ap (λ qs. opened xs rs (reverse qs)) (append-nil ps)
-    ∙ sym (append-nil (opened xs rs (reverse ps)))
+    ap (λ qs. part_instructions xs rs (reverse qs)) (append-nil ps)
+    ∙ sym (append-nil (part_instructions xs rs (reverse ps)))
 whole-written xs rs ps (Some p) = written-push xs rs ps p
 
 pub whole-pushed : (xs : List Instruction) (rs : List Row) (es : List (Vec ℕ × Whole))
@@ -151,11 +152,11 @@ module _ (xs : List Instruction) (rs : List Row) (es : List (Vec ℕ × Whole)) 
   pub step-ended : map (block_of (xs ++ x ∷ []) rs) es ≡ map (block_of xs rs) es
   step-ended = blocks-kept xs rs (xs ++ x ∷ []) rs grown es table.ended
 
-  pub step-written : opened (xs ++ x ∷ []) rs (reverse (ps ++ Step (length xs) ∷ []))
-      ≡ opened xs rs (reverse ps) ++ x ∷ []
+  pub step-written : part_instructions (xs ++ x ∷ []) rs (reverse (ps ++ Step (length xs) ∷ []))
+      ≡ part_instructions xs rs (reverse ps) ++ x ∷ []
   step-written =
       written-push (xs ++ x ∷ []) rs ps (Step (length xs))
-      ∙ ap (λ ys. opened (xs ++ x ∷ []) rs (reverse ps) ++ ys) (at-last xs x)
+      ∙ ap (λ ys. part_instructions (xs ++ x ∷ []) rs (reverse ps) ++ ys) (at-last xs x)
       ∙ ap (λ ys. ys ++ x ∷ []) (grown.same (reverse ps) table.parts)
 
 -- ---- the end of a block
@@ -177,14 +178,14 @@ module _ (xs : List Instruction) (rs ss : List Row) (es : List (Vec ℕ × Whole
         )
       ]
 
-  closed-same : opened xs ss (option_to_list part) ≡ opened xs rs (reverse ps)
+  closed-same : part_instructions xs ss (option_to_list part) ≡ part_instructions xs rs (reverse ps)
   closed-same =
       elim closes [
         | inl kept ↦ rw (kept.0, sym kept.1) refl
         | inr (r, is, parts, one) ↦
             rw (is, one)
             (last-row [] (step_at xs) rs r
-            ∙ ap (λ qs. opened xs rs qs) parts)
+            ∙ ap (λ qs. part_instructions xs rs qs) parts)
       ]
 
   closed-known : AreParts (length xs) (length ss) (option_to_list part)
@@ -217,7 +218,7 @@ module _ (xs : List Instruction) (rs ss : List Row) (es : List (Vec ℕ × Whole
   pub closed-ended : (name : Vec ℕ)
       → map (block_of xs ss) (es ++ (name, record { part = part; count = n }) ∷ [])
       ≡ map (block_of xs rs) es
-      ++ record { name = name.items; instructions = opened xs rs (reverse ps) } ∷ []
+      ++ record { name = name.items; instructions = part_instructions xs rs (reverse ps) } ∷ []
   closed-ended name =
       map-append (block_of xs ss) es ((name, record { part = part; count = n }) ∷ [])
       ∙ ap (λ bs. bs ++ block_of xs ss (name, record { part = part; count = n }) ∷ [])

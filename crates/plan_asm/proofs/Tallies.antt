@@ -2,7 +2,7 @@
 use Rattle.std.proofs.Common.{◌≡◌, ℕ, ◌+◌, Bool, true, false, not, List, [], ◌∷◌, ◌++◌, length, length-append, refl, sym, ap, ◌∙◌, Option, Some, None, Result, Ok, Err, MatchOption}
 use Rattle.deb_text.specs.Answers.{Fails}
 use Rattle.deb_text.specs.Steps.{◌>>=◌}
-use Rattle.plan_asm.specs.Drafts.{Block, InLane, instructions_of, published, with_instructions, published_once, add}
+use Rattle.plan_asm.specs.Drafts.{Block, InLane, instructions_of, published, with_instructions, published_once, add_to_open}
 use Rattle.plan_asm.specs.SectionView.{IsTallied}
 use Rattle.plan_asm.proofs.DraftLaws.{instructions-more}
 use Rattle.plan_asm.proofs.Publishes.{published-append}
@@ -31,7 +31,7 @@ pub add-fails : {E : Type 0} (refusal : E → Option ℕ) (e : E) (bs : List Blo
     (line : ℕ) (l : Lane) (xs : List Instruction) (rs : List ℕ)
     → rs ≡ published (instructions_of (ls ++ l ∷ []))
     → Fails refusal e (published_once (rs ++ published xs))
-    → Fails refusal e (add bs ls (InLane line l) xs)
+    → Fails refusal e (add_to_open bs ls (InLane line l) xs)
 add-fails refusal e bs ls line l xs rs is fails =
     rw (published-append (instructions_of (ls ++ l ∷ [])) xs, sym is)
     (fails-then refusal e (published_once (rs ++ published xs)) _ fails)

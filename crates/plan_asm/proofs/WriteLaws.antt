@@ -14,7 +14,7 @@ use Rattle.plan_asm.specs.declared.blocks.Part.TheVariants.{Step}
 use Rattle.plan_asm.specs.declared.blocks.Row.{Row}
 use Rattle.plan_asm.specs.declared.blocks.Whole.{Whole}
 use Rattle.plan_asm.specs.declared.error.TheConstants.{OVER_LIMIT, MOST_INSTRUCTIONS}
-use Rattle.plan_asm.specs.BlockTable.{BlockList, opened, block_of, IsWhole, IsTable, Closes, whole_named, write, write_use}
+use Rattle.plan_asm.specs.BlockTable.{BlockList, part_instructions, block_of, IsWhole, IsTable, Closes, whole_named, write, write_use}
 use Rattle.plan_asm.specs.Drafts.{Block, block_named, within_limit}
 use Rattle.plan_asm.proofs.TableLaws.{IsEntry, step-table, step-ended, step-written, whole-written, whole-pushed, closed-table, closed-ended}
 use Rattle.plan_asm.proofs.Tallies.{fails-then}
@@ -44,7 +44,7 @@ write-fits blocks xs fits =
 abbrev pub list_of : List Instruction → List Row → List (Vec ℕ × Whole) → List Part → BlockList
 list_of xs rs es ps = record {
   ended = map (block_of xs rs) es;
-  written = opened xs rs (reverse ps);
+  written = part_instructions xs rs (reverse ps);
 }
 
 -- one more instruction
@@ -85,14 +85,14 @@ module _ (xs : List Instruction) (rs : List Row) (name : List ℕ) where
 
   pub named-ended : (es : List (Vec ℕ × Whole))
       → block_named (map (block_of xs rs) es) name
-      ≡ (whole_named es name >>= λ w. Ok (opened xs rs (option_to_list w.part)))
+      ≡ (whole_named es name >>= λ w. Ok (part_instructions xs rs (option_to_list w.part)))
   named-ended [] = refl
   named-ended (e ∷ es) = go (bytes_eq name e.0.items) refl (named-ended es) where
     go : (b : Bool) → bytes_eq name e.0.items ≡ b
         → block_named (map (block_of xs rs) es) name
-        ≡ (whole_named es name >>= λ w. Ok (opened xs rs (option_to_list w.part)))
+        ≡ (whole_named es name >>= λ w. Ok (part_instructions xs rs (option_to_list w.part)))
         → block_named (map (block_of xs rs) (e ∷ es)) name
-        ≡ (whole_named (e ∷ es) name >>= λ w. Ok (opened xs rs (option_to_list w.part)))
+        ≡ (whole_named (e ∷ es) name >>= λ w. Ok (part_instructions xs rs (option_to_list w.part)))
     go true is later = rw is refl
     go false is later = rw is later
 
@@ -127,11 +127,11 @@ module _ (xs : List Instruction) (rs : List Row) (es : List (Vec ℕ × Whole)) 
   found-whole = subst (λ r. IfOk r (IsWhole xs rs)) found (named-whole xs rs name es table.ended)
 
   pub found-named : block_named (map (block_of xs rs) es) name
-      ≡ Ok (opened xs rs (option_to_list w.part))
+      ≡ Ok (part_instructions xs rs (option_to_list w.part))
   found-named = rw (named-ended xs rs name es, found) refl
 
   found-is : write_use (list_of xs rs es ps) name
-      ≡ write (list_of xs rs es ps) (opened xs rs (option_to_list w.part))
+      ≡ write (list_of xs rs es ps) (part_instructions xs rs (option_to_list w.part))
   found-is = rw found-named refl
 
   pub use-over : MOST_INSTRUCTIONS < n + w.count
@@ -140,7 +140,7 @@ module _ (xs : List Instruction) (rs : List Row) (es : List (Vec ℕ × Whole)) 
       let counted = table.counted in
       let long = found-whole.counted in
       found-is
-      ∙ write-over (list_of xs rs es ps) (opened xs rs (option_to_list w.part))
+      ∙ write-over (list_of xs rs es ps) (part_instructions xs rs (option_to_list w.part))
       (omega (arith, counted, long, over))
 
   module _ (fits : n + w.count ≤ MOST_INSTRUCTIONS) (qs : List Part)
@@ -155,7 +155,7 @@ module _ (xs : List Instruction) (rs : List Row) (es : List (Vec ℕ × Whole)) 
         rw (
           parts,
           found-is,
-          write-fits (list_of xs rs es ps) (opened xs rs (option_to_list w.part))
+          write-fits (list_of xs rs es ps) (part_instructions xs rs (option_to_list w.part))
               (omega (arith, counted, long, fits)),
           whole-written xs rs ps w.part,
         ) refl
@@ -179,7 +179,7 @@ module _ (xs : List Instruction) (rs ss : List Row) (es fs : List (Vec ℕ × Wh
 
   pub end-gives : list_of xs ss fs qs ≡ record {
     ended = map (block_of xs rs) es
-        ++ record { name = name.items; instructions = opened xs rs (reverse ps) } ∷ [];
+        ++ record { name = name.items; instructions = part_instructions xs rs (reverse ps) } ∷ [];
     written = [];
   }
   end-gives =

@@ -2,7 +2,7 @@
 -- that stand in blocks, and uses of earlier rows; a row is the parts of a block, the last one
 -- first.
 --
---   opened steps rows ps      the instructions of parts, the last one first
+--   part_instructions steps rows ps  the instructions of parts, the last one first
 --   turns rows ps             how many turns it takes to open them
 --   IsTable ..                what the code keeps of the table
 use Rattle.std.specs.Prelude.{◌≡◌, ◌⊎◌, ◌<◌, ◌≤◌, ℕ, ◌+◌, List, [], ◌∷◌, ◌++◌, length, get_or, take, drop, All, Option, Some, None, option_to_list, reverse, Result, Ok, Err}
@@ -48,8 +48,8 @@ abbrev pub step_at : List Instruction → ℕ → List Instruction
 step_at steps i = take 1 (drop i steps)
 
 -- the instructions that parts stand for, the last one first
-abbrev pub opened : List Instruction → List Row → List Part → List Instruction
-opened steps rows ps = from_top [] (step_at steps) (bodies [] (step_at steps) rows) ps
+abbrev pub part_instructions : List Instruction → List Row → List Part → List Instruction
+part_instructions steps rows ps = from_top [] (step_at steps) (bodies [] (step_at steps) rows) ps
 
 abbrev pub one_turn : List ℕ
 one_turn = 0 ∷ []
@@ -77,13 +77,13 @@ AreRows m n (r ∷ rs) = AreParts m n r.parts.items × AreRows m (n + 1) rs
 abbrev pub block_of : List Instruction → List Row → Vec ℕ × Whole → Block
 block_of steps rows (name, whole) = record {
   name = name.items;
-  instructions = opened steps rows (option_to_list whole.part);
+  instructions = part_instructions steps rows (option_to_list whole.part);
 }
 
 -- it speaks of what there is, and its instructions are counted
 pub record IsWhole (steps : List Instruction) (rows : List Row) (whole : Whole) : Type 0 where
   pub known : AreParts (length steps) (length rows) (option_to_list whole.part)
-  pub counted : whole.count ≡ length (opened steps rows (option_to_list whole.part))
+  pub counted : whole.count ≡ length (part_instructions steps rows (option_to_list whole.part))
   pub few : whole.count ≤ MOST_INSTRUCTIONS
 
 -- steps and rows, the blocks that have ended, and the parts of the open one with their count
@@ -92,7 +92,7 @@ pub record IsTable (xs : List Instruction) (rs : List Row) (es : List (Vec ℕ �
   pub rows : AreRows (length xs) 0 rs
   pub ended : All (λ e. IsWhole xs rs e.1) es
   pub parts : AreParts (length xs) (length rs) (reverse ps)
-  pub counted : n ≡ length (opened xs rs (reverse ps))
+  pub counted : n ≡ length (part_instructions xs rs (reverse ps))
   pub few : n ≤ MOST_INSTRUCTIONS
 
 -- the parts of the open block become a part, and perhaps a row

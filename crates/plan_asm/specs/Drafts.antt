@@ -189,16 +189,16 @@ within_limit xs = if nat_lt MOST_INSTRUCTIONS (length xs) then Err OVER_LIMIT el
 
 -- instructions come into the open block or lane: no recipe is published twice in the lanes, and
 -- there are not too many in the block, or in all lanes
-abbrev pub add : List Block → List Lane → Open → List Instruction → Result Draft ℕ
-add bs ls Nothing xs = Err BAD_LINE
-add bs ls (InBlock line block) xs =
+abbrev pub add_to_open : List Block → List Lane → Open → List Instruction → Result Draft ℕ
+add_to_open bs ls Nothing xs = Err BAD_LINE
+add_to_open bs ls (InBlock line block) xs =
     within_limit (block.instructions ++ xs)
     >>= λ all. Ok (record {
       blocks = bs;
       lanes = ls;
       current = InBlock line (record { name = block.name; instructions = all });
     })
-add bs ls (InLane line lane) xs =
+add_to_open bs ls (InLane line lane) xs =
     let all = instructions_of (ls ++ lane ∷ []) ++ xs in
     published_once (published all)
     >>= λ _. within_limit all
@@ -217,7 +217,7 @@ noted count recipes xs =
 
 -- what a block stands for comes into the open block or lane
 abbrev pub add_use : List Block → List Lane → Open → List ℕ → Result Draft ℕ
-add_use bs ls o name = block_named bs name >>= λ xs. add bs ls o xs
+add_use bs ls o name = block_named bs name >>= λ xs. add_to_open bs ls o xs
 
 -- ---- branches
 
@@ -249,7 +249,7 @@ on_side s d = Ok (record { draft = d; side = s })
 -- an instruction comes into what is open
 abbrev pub put : ℕ → Reading → Instruction → Result Reading ℕ
 put number r x =
-    add r.draft.blocks r.draft.lanes r.draft.current (x ∷ [])
+    add_to_open r.draft.blocks r.draft.lanes r.draft.current (x ∷ [])
     >>= on_side (side_behind number r.side x)
 
 -- ---- a line behind those that were read
@@ -268,7 +268,7 @@ abbrev pub take_end : Draft → Side → Result Reading ℕ
 take_end d Outside = end_open d.blocks d.lanes d.current >>= on_side Outside
 take_end d (InFirst w) = Err BAD_LINE
 take_end d (InSecond w) =
-    add d.blocks d.lanes d.current (EndWhen ∷ []) >>= on_side Outside
+    add_to_open d.blocks d.lanes d.current (EndWhen ∷ []) >>= on_side Outside
 
 -- a use comes into what is open, but into no branch
 abbrev pub take_use : Reading → List ℕ → Result Reading ℕ

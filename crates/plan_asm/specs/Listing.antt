@@ -15,23 +15,23 @@ use Rattle.plan_model.specs.declared.instructions.Instruction.TheVariants.{Unpac
 use Rattle.plan_model.specs.Plan.{Lane, Plan}
 
 -- the name of this number
-abbrev pub name_of : Universe → ℕ → List ℕ
-name_of u n = slice_index_or u.names n []
+abbrev pub name_of_number : Universe → ℕ → List ℕ
+name_of_number u n = slice_index_or u.names n []
 
 -- these names, a space before each
 abbrev pub names_text : Universe → List ℕ → List ℕ
-names_text u members = flat_map (λ n. codes " " ++ name_of u n) members
+names_text u members = flat_map (λ n. codes " " ++ name_of_number u n) members
 
 -- an instruction
 unfoldable pub instruction_text : Universe → Instruction → List ℕ
-instruction_text u (Unpack n wanted) = codes "unpack " ++ name_of u n ++ relation_text wanted
+instruction_text u (Unpack n wanted) = codes "unpack " ++ name_of_number u n ++ relation_text wanted
 instruction_text u (Configure members) = codes "configure" ++ names_text u members
 instruction_text u (Deconfigure members) = codes "deconfigure" ++ names_text u members
 instruction_text u (Remove members) = codes "remove" ++ names_text u members
 instruction_text u (Build r) = codes "build " ++ (recipe u r).name
 instruction_text u (Publish r) = codes "publish " ++ (recipe u r).name
 instruction_text u (Wait e) = codes "wait " ++ entry_text e
-instruction_text u (When n wanted) = codes "when " ++ name_of u n ++ relation_text wanted
+instruction_text u (When n wanted) = codes "when " ++ name_of_number u n ++ relation_text wanted
 instruction_text u Otherwise = codes "else"
 instruction_text u EndWhen = codes "end"
 

@@ -2,9 +2,9 @@
 -- cite this file. Parameters: u a universe, ls the lines from some place on.
 --
 --   Says u line r       r is what the line says by itself, or its own fault
---   AreSaid u ls rs     these are what the first lines say, line by line
---   IsPart u n ls p     a part has what the first n lines say, unless memory ran out
---   AreParts u n ls ps  the parts have what the lines say, part by part, as far as they go
+--   AreSaidByLines u ls rs  these are what the first lines say, line by line
+--   IsPartSaid u n ls p  a part has what the first n lines say, unless memory ran out
+--   ArePartsSaid u n ls ps  the parts have what the lines say, part by part, as far as they go
 --   behind_head ls      the lines behind the first one, which is `plan 1`
 use Rattle.std.specs.Prelude.{◌≡◌, ℕ, List, [], ◌∷◌, length, drop, Result, Ok, Err, IfOk, codes, if◌then◌else◌}
 use Rattle.std.specs.declared.alloc.AllocError.{AllocError}
@@ -25,21 +25,21 @@ abbrev pub Says : Universe → Line → Result Said LineError → Type 0
 Says u line r = Gives refusal_of_line said_of r (said_at u line.1)
 
 -- what the first lines say, line by line
-abbrev pub AreSaid : Universe → List Line → List (Result Said LineError) → Type 0
-AreSaid u ls [] = Unit {0}
-AreSaid u [] (r ∷ rs) = ⊥
-AreSaid u (line ∷ ls) (r ∷ rs) = Says u line r × AreSaid u ls rs
+abbrev pub AreSaidByLines : Universe → List Line → List (Result Said LineError) → Type 0
+AreSaidByLines u ls [] = Unit {0}
+AreSaidByLines u [] (r ∷ rs) = ⊥
+AreSaidByLines u (line ∷ ls) (r ∷ rs) = Says u line r × AreSaidByLines u ls rs
 
 -- a part has what the first n lines say, unless memory ran out
-abbrev pub IsPart : Universe → ℕ → List Line → Result (List (Result Said LineError)) AllocError
+abbrev pub IsPartSaid : Universe → ℕ → List Line → Result (List (Result Said LineError)) AllocError
     → Type 0
-IsPart u n ls part = IfOk part (λ rs. (length rs ≡ n) × AreSaid u ls rs)
+IsPartSaid u n ls part = IfOk part (λ rs. (length rs ≡ n) × AreSaidByLines u ls rs)
 
 -- the parts have what the lines say, n lines each, as far as they go
-abbrev pub AreParts : Universe → ℕ → List Line
+abbrev pub ArePartsSaid : Universe → ℕ → List Line
     → List (Result (List (Result Said LineError)) AllocError) → Type 0
-AreParts u n ls [] = Unit {0}
-AreParts u n ls (part ∷ parts) = IsPart u n ls part × AreParts u n (drop n ls) parts
+ArePartsSaid u n ls [] = Unit {0}
+ArePartsSaid u n ls (part ∷ parts) = IsPartSaid u n ls part × ArePartsSaid u n (drop n ls) parts
 
 -- the lines behind the first one, which is `plan 1`
 abbrev pub behind_head : List Line → Result (List Line) Fault

@@ -7,7 +7,7 @@ ghost use Rattle.deb_text.specs.Answers.{Gives, refusal_of};
 ghost use Rattle.plan_asm.specs.BlockTable.{write};
 ghost use Rattle.plan_asm.specs.Drafts.{empty, is_open, all_lanes, noted, published_once, with_instructions};
 ghost use Rattle.plan_model.specs.Known.{published_by};
-ghost use Rattle.plan_asm.specs.Drafts.{open_block, open_lane, end_open, published as recipes_of, add, add_use};
+ghost use Rattle.plan_asm.specs.Drafts.{open_block, open_lane, end_open, published as recipes_of, add_to_open, add_use};
 ghost use Rattle.plan_asm.specs.Ends.{finished, IsWithinLimits};
 ghost use Rattle.plan_asm.specs.LineErrors.{refusal_of_line};
 ghost use Rattle.plan_asm.specs.SectionView.{put_in};
@@ -330,7 +330,7 @@ impl Assembly {
     /// forgotten then.
     pub fn add(&mut self, alloc: Global, instruction: Instruction) -> Result<(), LineError>
         ensures { Gives refusal_of_line (λ _. self.new) result
-            (add self.old.blocks self.old.lanes self.old.current (instruction ∷ [])) }
+            (add_to_open self.old.blocks self.old.lanes self.old.current (instruction ∷ [])) }
     {
         let Assembly {
             blocks,

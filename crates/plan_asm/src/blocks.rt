@@ -5,7 +5,7 @@ ghost use Rattle.std.specs.Prelude.{◌≡◌, ◌∷◌, ◌++◌, ◌<◌, [],
 ghost use Rattle.std.specs.List.{list_any};
 ghost use Rattle.std.specs.Str.{bytes_eq};
 ghost use Rattle.deb_text.specs.Answers.{Gives};
-ghost use Rattle.plan_asm.specs.BlockTable.{opened, turns, AreParts, AreRows, Closes, whole_named, write, write_use};
+ghost use Rattle.plan_asm.specs.BlockTable.{part_instructions, turns, AreParts, AreRows, Closes, whole_named, write, write_use};
 ghost use Rattle.plan_asm.specs.Drafts.{block_named};
 ghost use Rattle.plan_asm.specs.LineErrors.{refusal_of_line};
 
@@ -50,13 +50,13 @@ pub struct Blocks {
 
 impl Model for Blocks {
     ghost use Rattle.std.specs.Prelude.{map, reverse};
-    ghost use Rattle.plan_asm.specs.BlockTable.{BlockList, block_of, opened, IsTable};
+    ghost use Rattle.plan_asm.specs.BlockTable.{BlockList, block_of, part_instructions, IsTable};
 
     ghost Value = { BlockList };
 
     ghost view = { λ it. record {
       ended = map (block_of it.steps.items it.rows.items) it.ended.entries;
-      written = opened it.steps.items it.rows.items (reverse it.parts.items);
+      written = part_instructions it.steps.items it.rows.items (reverse it.parts.items);
     } };
 
     ghost invariant = { λ it.
@@ -83,8 +83,8 @@ fn take_turn(
 ) -> Result<(), AllocError>
     requires table { AreRows (length steps.now) 0 rows.now }
     requires known { AreParts (length steps.now) (length rows.now) (left.now.items ++ next ∷ []) }
-    ensures same { OnOk result (out.new.items ++ opened steps.now rows.now left.new.items
-        ≡ out.old.items ++ opened steps.now rows.now (left.old.items ++ next ∷ [])) }
+    ensures same { OnOk result (out.new.items ++ part_instructions steps.now rows.now left.new.items
+        ≡ out.old.items ++ part_instructions steps.now rows.now (left.old.items ++ next ∷ [])) }
     ensures less { OnOk result (turns rows.now left.new.items
         < turns rows.now (left.old.items ++ next ∷ [])) }
     ensures known { OnOk result (AreParts (length steps.now) (length rows.now) left.new.items) }
@@ -105,7 +105,8 @@ fn open_part(
 ) -> Result<Vec<Instruction>, AllocError>
     requires table { AreRows (length steps.now) 0 rows.now }
     requires known { AreParts (length steps.now) (length rows.now) (option_to_list part) }
-    ensures { IfOk result (λ out. out.items ≡ opened steps.now rows.now (option_to_list part)) }
+    ensures { IfOk result (λ out. out.items ≡ part_instructions steps.now rows.now
+        (option_to_list part)) }
 {
     let mut out = Vec::new(alloc);
     let mut left = Vec::new(alloc);

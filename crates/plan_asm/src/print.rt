@@ -4,7 +4,7 @@ ghost use Rattle.std.specs.Prelude.{◌≡◌, ◌++◌, codes, map, slice_index
 ghost use Rattle.std.specs.List.{concat, flat_map};
 ghost use Rattle.deb_relation.specs.Spelling.{operator_text, relation_text, qualifier_text, atom_text, more_text, entry_text};
 ghost use Rattle.farm_model.specs.Packages.{recipe, base};
-ghost use Rattle.plan_asm.specs.Listing.{name_of, names_text, instruction_text, margin, instruction_line};
+ghost use Rattle.plan_asm.specs.Listing.{name_of_number, names_text, instruction_text, margin, instruction_line};
 ghost use Rattle.plan_asm.specs.Listing.{inside_behind, instruction_lines, lane_line, lane_text, listing_of};
 
 use crate::lane::Lane;
@@ -76,7 +76,7 @@ fn push_entry(text: &mut Vec<u8>, entry: &Entry) -> Result<(), AllocError>
 /// The name of a package; nothing for a number that is none.
 #[tactic(auto, unfolding(farm_model::specs::Packages::names))]
 fn name_of(universe: &Universe, name: u32) -> &[u8]
-    ensures { result.now ≡ name_of universe.now name }
+    ensures { result.now ≡ name_of_number universe.now name }
 {
     if name < universe.names() {
         universe.name_text(name)

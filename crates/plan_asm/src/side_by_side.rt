@@ -4,7 +4,7 @@ ghost use Rattle.std.specs.Prelude.{◌≡◌, ◌+◌, ◌*◌, ◌<◌, ◌≤
 ghost use Rattle.deb_text.specs.Answers.{Fails, Gives, refusal_of};
 ghost use Rattle.deb_text.specs.Steps.{steps};
 ghost use Rattle.farm_model.specs.Sound.{IsUniverse};
-ghost use Rattle.plan_asm.specs.Parts.{AreParts, AreSaid, IsPart};
+ghost use Rattle.plan_asm.specs.Parts.{ArePartsSaid, AreSaidByLines, IsPartSaid};
 ghost use Rattle.plan_asm.specs.PlanText.{take_line, reading_of};
 ghost use Rattle.plan_asm.specs.PlanText.{plan_in, plan_of};
 ghost use Rattle.plan_model.specs.Plan.{count};
@@ -61,7 +61,7 @@ fn read_part<'t>(
     count: usize,
 ) -> Result<Part<'t>, AllocError>
     requires { first + count ≤ length lines.now }
-    ensures { IsPart names.entry.universe.now count (drop first lines.now) result }
+    ensures { IsPartSaid names.entry.universe.now count (drop first lines.now) result }
 {
     let _lines = lines.count();
     let mut read = Vec::with_capacity(alloc, count)?;
@@ -83,7 +83,7 @@ fn read_parts<'t>(
 ) -> Result<Vec<Result<Part<'t>, AllocError>>, AllocError>
     requires { 1 + PARTS * count ≤ length lines.now }
     ensures { IfOk result
-        (λ parts. AreParts names.entry.universe.now count (drop 1 lines.now) parts.items) }
+        (λ parts. ArePartsSaid names.entry.universe.now count (drop 1 lines.now) parts.items) }
 {
     (0..PARTS)
         .into_par_iter()
@@ -92,7 +92,7 @@ fn read_parts<'t>(
             move |number: usize| -> Result<Part<'_>, AllocError>
                 requires room { 1 + PARTS * count ≤ length lines.now }
                 requires there { number < PARTS }
-                ensures { IsPart names.entry.universe.now count
+                ensures { IsPartSaid names.entry.universe.now count
                     (drop (1 + number * count) lines.entry.now) result }
             {
                 let _lines = lines.count();
@@ -111,7 +111,7 @@ fn place_part(
     so_far: &mut Reading,
     part: Part<'_>,
 ) -> Result<usize, Fault>
-    requires { AreSaid universe.now (drop first lines.now) part }
+    requires { AreSaidByLines universe.now (drop first lines.now) part }
     ensures { MatchResult result
         (λ next. (next ≡ first + length part.entry)
         × (steps (take_line universe.entry.now) so_far.old (drop first lines.now)
@@ -137,7 +137,7 @@ fn place_parts(
     count: usize,
     parts: Vec<Result<Part<'_>, AllocError>>,
 ) -> Result<Reading, Fault>
-    requires { AreParts names.universe.now count (drop 1 lines.now) parts.items }
+    requires { ArePartsSaid names.universe.now count (drop 1 lines.now) parts.items }
     ensures { Gives refusal_of (λ so_far. so_far) result
         (reading_of names.entry.universe.now (drop 1 lines.now)) }
 {

@@ -15,7 +15,7 @@ use Rattle.farm_model.specs.Packages.{names, outputs}
 use Rattle.farm_model.specs.Sound.{IsUniverse, IsKnown}
 use Rattle.plan_model.specs.declared.instructions.Instruction.{Instruction}
 use Rattle.plan_model.specs.declared.instructions.Instruction.TheVariants.{Wait}
-use Rattle.plan_model.specs.Order.{Item, Pass, Give, items_of, items, start_board, on_board, rest_of, board_after, Reaches, IsOrder}
+use Rattle.plan_model.specs.Order.{OrderItem, Pass, Give, items_of, items, start_board, on_board, rest_of, board_after, Reaches, IsOrder}
 use Rattle.plan_model.specs.Plan.{Plan, lane, instruction_at}
 use Rattle.plan_model.specs.Turn as turn
 use Rattle.sat_rows.specs.Rows.{IsRowOf}
@@ -24,7 +24,7 @@ use Rattle.wait_order.proofs.Boards.{reached_same}
 use Rattle.wait_order.proofs.Leading.{makes_none, makes_pass, makes_give}
 use Rattle.plan_cert.specs.declared.events.Event.{Event}
 use Rattle.plan_cert.specs.Broken.{IsBrokenAt}
-use Rattle.plan_cert.specs.Events.{entry_of, item_of, IsEvent, AreEvents, lane_items, left_by, IsMade, IsStep}
+use Rattle.plan_cert.specs.Events.{entry_of, order_item_of, IsEvent, AreEvents, lane_items, left_by, IsMade, IsStep}
 
 pub items-next : (u : Universe) (is : List Instruction) (i : ℕ) (x : Instruction)
     → slice_get is i ≡ Some x → items u (take (i + 1) is) ≡ items u (take i is) ++ items_of u x
@@ -48,30 +48,31 @@ gives-each u p l r events more sound each is =
     (All-map (IsEvent u p l) Event.Give (outputs u r) (sound.outputs_known r)))
 
 gives : (p : Plan) (l : ℕ) (vs : List Variant)
-    → map (item_of p l) (map Event.Give vs) ≡ map Give vs
+    → map (order_item_of p l) (map Event.Give vs) ≡ map Give vs
 gives p l [] = refl
 gives p l (v ∷ vs) = ap (λ xs. Give v ∷ xs) (gives p l vs)
 
 pub gives-items : (p : Plan) (l : ℕ) (vs : List Variant) (events more : List Event)
     → more ≡ events ++ map Event.Give vs
-    → map (item_of p l) more ≡ map (item_of p l) events ++ map Give vs
+    → map (order_item_of p l) more ≡ map (order_item_of p l) events ++ map Give vs
 gives-items p l vs events more is =
-    ap (map (item_of p l)) is ∙ map-append (item_of p l) events (map Event.Give vs)
-    ∙ ap (λ xs. map (item_of p l) events ++ xs) (gives p l vs)
+    ap (map (order_item_of p l)) is ∙ map-append (order_item_of p l) events (map Event.Give vs)
+    ∙ ap (λ xs. map (order_item_of p l) events ++ xs) (gives p l vs)
 
 pub pass-more : (u : Universe) (p : Plan) (l place : ℕ) (events : List Event) (x : Instruction)
     (e : Entry) → instruction_at p l place ≡ Some x → x ≡ Wait e
-    → map (item_of p l) (events ++ Event.Pass place ∷ []) ≡ map (item_of p l) events ++ items_of u x
+    → map (order_item_of p l) (events ++ Event.Pass place ∷ [])
+    ≡ map (order_item_of p l) events ++ items_of u x
 pass-more u p l place events x e at is =
-    map-append (item_of p l) events (Event.Pass place ∷ [])
-    ∙ ap (λ o. map (item_of p l) events ++ Pass (entry_of o) ∷ []) (at ∙ ap Some is)
-    ∙ ap (λ y. map (item_of p l) events ++ items_of u y) (sym is)
+    map-append (order_item_of p l) events (Event.Pass place ∷ [])
+    ∙ ap (λ o. map (order_item_of p l) events ++ Pass (entry_of o) ∷ []) (at ∙ ap Some is)
+    ∙ ap (λ y. map (order_item_of p l) events ++ items_of u y) (sym is)
 
 -- a wait that is told by a hit
 pub made-pass : (u : Universe) (p : Plan) (l place : ℕ) (e : Entry) (there : List ℕ) (hit : Bool)
     → instruction_at p l place ≡ Some (Wait e) → length there ≡ names u
     → ((test : Variant → Bool) → IsRowOf u test there → hit ≡ turn.passes u test e)
-    → IsMade u l (item_of p l (Event.Pass place)) there there hit
+    → IsMade u l (order_item_of p l (Event.Pass place)) there there hit
 made-pass u p l place e there hit at long passes =
     subst (λ (o : Option Instruction). IsMade u l (Pass (entry_of o)) there there hit) (sym at)
     (record {
@@ -94,22 +95,22 @@ made-give u l v there next_there known adds long =
 -- the items of a lane behind those that are made
 module _ (u : Universe) (p : Plan) (l : ℕ) (events : List Event)
     (are : AreEvents u p l (length (lane p l).instructions) events) where
-  all-items : map (item_of p l) events ≡ lane_items u p l
+  all-items : map (order_item_of p l) events ≡ lane_items u p l
   all-items =
       are.items ∙ ap (items u)
       (take_all (length (lane p l).instructions) (lane p l).instructions (omega arith))
 
   pub items-long : length (lane_items u p l) ≡ length events
-  items-long = ap length (sym all-items) ∙ length-map events (item_of p l)
+  items-long = ap length (sym all-items) ∙ length-map events (order_item_of p l)
 
   pub left-next : (n : ℕ) (d : Event) → n < length events
-      → drop n (lane_items u p l) ≡ item_of p l (get_or events n d)
+      → drop n (lane_items u p l) ≡ order_item_of p l (get_or events n d)
       ∷ drop (suc n) (lane_items u p l)
   left-next n d lt =
-      ap (drop n) (sym all-items) ∙ drop-map (item_of p l) n events
-      ∙ ap (map (item_of p l)) (drop-cons events n d lt)
-      ∙ ap (λ xs. item_of p l (get_or events n d) ∷ xs)
-      (sym (drop-map (item_of p l) (suc n) events) ∙ ap (drop (suc n)) all-items)
+      ap (drop n) (sym all-items) ∙ drop-map (order_item_of p l) n events
+      ∙ ap (map (order_item_of p l)) (drop-cons events n d lt)
+      ∙ ap (λ xs. order_item_of p l (get_or events n d) ∷ xs)
+      (sym (drop-map (order_item_of p l) (suc n) events) ∙ ap (drop (suc n)) all-items)
 
 drop-some : {X : Type 0} (xs : List X) (i : ℕ) → i < length xs → drop i xs ≢ []
 drop-some [] i lt e = absurd (omega arith)
@@ -129,8 +130,9 @@ stops-ended u p l made there lt long past =
           (r.rest l lt ∙ drop_of_length-le (lane_items u p l) past);
     }
 
-pub stops-waits : (u : Universe) (p : Plan) (l : ℕ) (made there next_there : List ℕ) (item : Item)
-    (more : List Item) → l < length p → left_by u p made l ≡ item ∷ more
+pub stops-waits : (u : Universe) (p : Plan) (l : ℕ) (made there next_there : List ℕ)
+    (item : OrderItem)
+    (more : List OrderItem) → l < length p → left_by u p made l ≡ item ∷ more
     → IsMade u l item there next_there false → IsStep u p l made made there next_there false
 stops-waits u p l made there next_there item more lt ahead is =
     record {
@@ -142,7 +144,7 @@ stops-waits u p l made there next_there item more lt ahead is =
     }
 
 -- and one that does
-pub steps : (u : Universe) (p : Plan) (l : ℕ) (made there next_there : List ℕ) (item : Item)
+pub steps : (u : Universe) (p : Plan) (l : ℕ) (made there next_there : List ℕ) (item : OrderItem)
     → l < length p
     → l < length made
     → left_by u p made l ≡ item ∷ drop (suc (slice_index made l)) (lane_items u p l)

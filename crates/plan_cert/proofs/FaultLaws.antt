@@ -6,7 +6,7 @@ use Rattle.farm_model.specs.Universe.{Universe}
 use Rattle.plan_model.specs.Known.{Rows, KeepsRows}
 use Rattle.plan_model.specs.Plan.{Plan}
 use Rattle.plan_model.specs.Safety.{Hazard, Meets, Parts, IsSafeUnder}
-use Rattle.plan_verifier.specs.Walk.{told_at}
+use Rattle.plan_verifier.specs.Walk.{place_told}
 use Rattle.verdict_laws.proofs.ByPlace.{keeping_is_by_place, first_unjustified_is_one}
 use Rattle.verdict_laws.specs.Places.{IsFirstUnjustified}
 use Rattle.verdict_laws.proofs.FirstOne.{first_unsafe_is_one}
@@ -42,9 +42,9 @@ same-unsafe : (u : Universe) (p : Plan) (rows : Rows) (l number k other : ℕ) (
     → (l ≡ k) × (number ≡ other) × (hazard ≡ after)
 same-unsafe u p rows l number k other hazard after a b =
     let one = first_unsafe_is_one u p rows l a.place k b.place hazard after a.first b.first in
-    let told : told_at p l a.place hazard ≡ told_at p k b.place after =
-    ap (λ j. told_at p j a.place hazard) one.0 ∙ ap (λ i. told_at p k i hazard) one.1
-    ∙ ap (told_at p k b.place) one.2 in
+    let told : place_told p l a.place hazard ≡ place_told p k b.place after =
+    ap (λ j. place_told p j a.place hazard) one.0 ∙ ap (λ i. place_told p k i hazard) one.1
+    ∙ ap (place_told p k b.place) one.2 in
     (one.0, a.numbered ∙ ap (λ n. n + 1) told ∙ sym b.numbered, one.2)
 
 pub first_fault_is_one : FirstFaultIsOne

@@ -7,30 +7,31 @@ use Rattle.plan_model.specs.Branches.{Side, Outside, InFirst, InSecond, second_o
 use Rattle.plan_model.specs.Known.{row_before, teaches}
 use Rattle.plan_model.specs.Plan.{Plan, lane, instruction_at}
 use Rattle.plan_cert.specs.Opens.{open_of, open_at, open_behind, or_here, place_before}
-use Rattle.plan_cert.specs.Stated.{rows_before, Held, ended, held_behind, held_behind_some, held_at}
+use Rattle.plan_cert.specs.Stated.{rows_before, HeldRows, branch_ended, held_behind, held_behind_some, held_at}
 
 module _ (p : Plan) (l : ℕ) where
   abbrev xs : List Instruction
   xs = (lane p l).instructions
 
   -- inside a branch what is ahead is what held at its `when`
-  abbrev IsAhead : Side → Held → Type 0
+  abbrev IsAhead : Side → HeldRows → Type 0
   IsAhead Outside held = Unit {0}
   IsAhead (InFirst w) held = held.ahead ≡ (held_at p l w).here
   IsAhead (InSecond w) held = held.ahead ≡ (held_at p l w).here
 
-  ahead-same : (s : Side) (held next : Held) → next.ahead ≡ held.ahead → IsAhead s held
+  ahead-same : (s : Side) (held next : HeldRows) → next.ahead ≡ held.ahead → IsAhead s held
       → IsAhead s next
   ahead-same Outside held next same ahead = tt
   ahead-same (InFirst w) held next same ahead = same ∙ ahead
   ahead-same (InSecond w) held next same ahead = same ∙ ahead
 
-  ahead-second : (s : Side) (held : Held) → IsAhead s held → IsAhead (second_of s) (ended s held)
+  ahead-second : (s : Side) (held : HeldRows) → IsAhead s held
+      → IsAhead (second_of s) (branch_ended s held)
   ahead-second Outside held ahead = tt
   ahead-second (InFirst w) held ahead = ahead
   ahead-second (InSecond w) held ahead = ahead
 
-  ahead-behind : (s : Side) (k listed : ℕ) (x : Instruction) (held : Held)
+  ahead-behind : (s : Side) (k listed : ℕ) (x : Instruction) (held : HeldRows)
       → held.here ≡ (held_at p l k).here → IsAhead s held
       → IsAhead (side_behind k s x) (held_behind s listed held x)
   ahead-behind s k listed (Publish r) held here ahead = ahead-same s held _ refl ahead
@@ -51,8 +52,8 @@ module _ (p : Plan) (l : ℕ) where
       by (Some x) ahead =
           ahead-behind (side_at xs k) k (rows_before p l (suc k)) x (held_at p l k) refl ahead
 
-  ended-here : (s : Side) (k : ℕ) (held : Held) → held.here ≡ (held_at p l k).here
-      → IsAhead s held → (ended s held).here ≡ (held_at p l (home s k)).here
+  ended-here : (s : Side) (k : ℕ) (held : HeldRows) → held.here ≡ (held_at p l k).here
+      → IsAhead s held → (branch_ended s held).here ≡ (held_at p l (home s k)).here
   ended-here Outside k held here ahead = here
   ended-here (InFirst w) k held here ahead = ahead
   ended-here (InSecond w) k held here ahead = ahead
@@ -94,7 +95,7 @@ module _ (p : Plan) (l : ℕ) where
     -- what has no row leaves the lane with the row of the place from which it goes on
     pub held-quiet : teaches x ≡ false
         → (held_at p l (suc i)).here ≡ (held_at p l (row_before p l i x)).here
-    held-quiet quiet = ap (λ (h : Held). h.here) held-next ∙ by x quiet
+    held-quiet quiet = ap (λ (h : HeldRows). h.here) held-next ∙ by x quiet
       where
         by : (y : Instruction) → teaches y ≡ false
             → (held_behind (side_at xs i) (rows_before p l (suc i)) (held_at p l i) y).here
@@ -108,7 +109,7 @@ module _ (p : Plan) (l : ℕ) where
 
     -- what has a row leaves the lane with it
     pub held-learns : teaches x ≡ true → (held_at p l (suc i)).here ≡ rows_before p l (suc i)
-    held-learns learnt = ap (λ (h : Held). h.here) held-next ∙ by x learnt
+    held-learns learnt = ap (λ (h : HeldRows). h.here) held-next ∙ by x learnt
       where
         by : (y : Instruction) → teaches y ≡ true
             → (held_behind (side_at xs i) (rows_before p l (suc i)) (held_at p l i) y).here

@@ -1,11 +1,11 @@
 -- The certificate of a plan by its greatest known rows: it has the shape of one, and certifies.
 use Rattle.std.proofs.Common.{◌≡◌, ℕ, suc, ◌+◌, ◌<◌, ◌≤◌, Bool, true, false, not, ◌&&◌, ◌||◌, List, [], length, Some, All, count_by, inl, inr, refl, sym, ap, subst, ◌∙◌, arith}
+use Rattle.std.specs.Cmp.{both_ways as same_tests}
 use Rattle.std.proofs.lemmas.Bool.{or_cases, or_left, cases_lt, cases_Bool, false≢true}
 use Rattle.std.proofs.lemmas.List.{get_or_past, take_all}
 use Rattle.std.proofs.lemmas.List.Elements.{All-nil}
 use Rattle.std.proofs.lemmas.Option.{slice_get_cases, slice_get_within}
 use Rattle.cert_text.specs.Certificates.{Certificate, lane_rows, IsNewRow, IsCertificate}
-use Rattle.farm_model.proofs.TestLaws.{same_tests}
 use Rattle.farm_model.specs.declared.types.Variant.{Variant}
 use Rattle.farm_model.specs.Universe.{Universe}
 use Rattle.farm_model.specs.Packages.{initial}
@@ -25,7 +25,7 @@ use Rattle.plan_cert.proofs.OrderLaws.{order-in-plan}
 use Rattle.plan_cert.proofs.StatedLaws.{next-learns, stated-quiet}
 use Rattle.plan_cert.specs.Certified.{Certifies}
 use Rattle.plan_cert.specs.Made.{IsCertificateOf, AreNewLanes}
-use Rattle.plan_cert.specs.Stated.{rows_before, held_at, lists, stated_rows}
+use Rattle.plan_cert.specs.Stated.{rows_before, held_at, last_row_lists, stated_rows}
 
 -- the initial archive, and what is known besides
 joined : (k s : Bool) → (s ≡ true → k ≡ true) → k ≡ (s || (k && not s))
@@ -97,7 +97,7 @@ module _ (u : Universe) (p : Plan) (known : Rows) (order : List ℕ) (lanes : Li
             joined (known l (suc i) v) (initial u v)
             ((greatest_is_carried u p known greatest).initial_known l (suc i) v lt le)
             ∙ ap (λ b. initial u v || b) (sym (made-exact.rows l i x lt at learnt v))
-            ∙ ap (λ k. initial u v || lists (lane_rows made l) k v) count
+            ∙ ap (λ k. initial u v || last_row_lists (lane_rows made l) k v) count
         | inr quiet ↦
             quiet-same l i v x lt at quiet
             ∙ same v lt (let b = row_before-le p l i x in omega (arith, b, le))

@@ -1,12 +1,12 @@
 -- The rows that a certificate states, instruction by instruction.
 use Rattle.std.proofs.Common.{◌≡◌, ℕ, zero, suc, ◌+◌, ◌<◌, Bool, true, false, cond, ◌||◌, nat_lt, List, [], ◌∷◌, length, take, drop, get_or, Some, slice_index_or, count_by, inl, inr, refl, sym, ap, subst, ◌∙◌, arith, take-append-drop}
+use Rattle.std.specs.Cmp.{both_ways as same_tests}
 use Rattle.std.proofs.lemmas.Bool.{or_cases, and_parts, and_from, cases_lt, lt-ltb, false≢true}
 use Rattle.std.proofs.lemmas.List.{get_or_past}
 use Rattle.std.proofs.lemmas.List.Sums.{sum_by-append}
 use Rattle.cert_text.specs.Certificates.{Certificate, lane_rows, count_rows, IsNewRow, IsCertificate}
 use Rattle.clause_kernel.proofs.Words.{word_has_zero}
 use Rattle.farm_laws.proofs.Archive.{take_some}
-use Rattle.farm_model.proofs.TestLaws.{same_tests}
 use Rattle.farm_model.specs.declared.types.Variant.{Variant}
 use Rattle.farm_model.specs.Universe.{Universe}
 use Rattle.farm_model.specs.Packages.{variants, initial}
@@ -18,7 +18,7 @@ use Rattle.sat_rows.specs.Rows.{IsRowOf}
 use Rattle.wait_order.proofs.ArchiveRows.{row_same}
 use Rattle.plan_cert.proofs.HeldLaws.{held-quiet, held-learns}
 use Rattle.plan_cert.specs.PlaceRows.{IsRowAt}
-use Rattle.plan_cert.specs.Stated.{rows_before, held_at, in_row, lists, stated_rows}
+use Rattle.plan_cert.specs.Stated.{rows_before, held_at, in_row, last_row_lists, stated_rows}
 
 module _ (p : Plan) (l i : ℕ) (x : Instruction) (at : instruction_at p l i ≡ Some x) where
   abbrev one : Instruction → ℕ
@@ -47,7 +47,7 @@ module _ (p : Plan) (l i : ℕ) (x : Instruction) (at : instruction_at p l i ≡
 
 -- a certificate of the plan
 module _ (u : Universe) (p : Plan) (c : Certificate) (is : IsCertificate u p c) where
-  lists-known : (l k : ℕ) (v : Variant) → lists (lane_rows c l) k v ≡ true → IsKnown u v
+  lists-known : (l k : ℕ) (v : Variant) → last_row_lists (lane_rows c l) k v ≡ true → IsKnown u v
   lists-known l zero v e = absurd (false≢true e)
   lists-known l (suc k) v e =
       elim (cases_lt k (length (lane_rows c l))) [
@@ -80,7 +80,7 @@ module _ (u : Universe) (p : Plan) (c : Certificate) (is : IsCertificate u p c) 
       → teaches x ≡ false
       → stated_rows u p c l (suc i) v ≡ stated_rows u p c l (row_before p l i x) v
   stated-quiet l i x v at quiet =
-      ap (λ k. initial u v || lists (lane_rows c l) k v) (held-quiet p l i x at quiet)
+      ap (λ k. initial u v || last_row_lists (lane_rows c l) k v) (held-quiet p l i x at quiet)
 
   pub row-quiet : (l i n : ℕ) (x : Instruction) (rows : List (List ℕ))
       → instruction_at p l i ≡ Some x → teaches x ≡ false
@@ -111,7 +111,7 @@ module _ (u : Universe) (p : Plan) (c : Certificate) (is : IsCertificate u p c) 
       ∙ same-at (lane_rows c l) k listed [] lt in
       row_same u _ _ row
       (λ v. ap (λ r. initial u v || in_row r v) here
-      ∙ ap (λ n. initial u v || lists (lane_rows c l) n v) (sym next)) r
+      ∙ ap (λ n. initial u v || last_row_lists (lane_rows c l) n v) (sym next)) r
     where
       same-at : (xs : List (List ℕ)) (i : ℕ) (a b : List ℕ) → i < length xs → get_or xs i a
           ≡ get_or xs i b

@@ -6,18 +6,18 @@ use Rattle.std.proofs.Math.Seq.{get_or-append_seam}
 use Rattle.farm_model.specs.Universe.{Universe}
 use Rattle.plan_model.specs.Known.{Rows}
 use Rattle.plan_model.specs.Plan.{Plan, lane}
-use Rattle.plan_cert.specs.PlaceRows.{IsRowIn, AreKept, IsExtended, AreRowNumbers}
+use Rattle.plan_cert.specs.PlaceRows.{IsRowIn, ArePlaceRows, IsExtended, AreRowNumbers}
 use Rattle.plan_cert.proofs.PlaceLaws.{numbers_kept}
-use Rattle.plan_cert.specs.Places.{AreRowsOf}
+use Rattle.plan_cert.specs.Places.{AreRowsOfLanes}
 
 -- one more lane
 pub rows_next : (u : Universe) (p : Plan) (known : Rows) (n : ℕ)
     (places more_places rows more : List (List ℕ)) (new : List ℕ) → more_places ≡ places ++ new ∷ []
-    → AreRowsOf u p known n places rows → IsExtended u rows more
+    → AreRowsOfLanes u p known n places rows → IsExtended u rows more
     → AreRowNumbers u (known n) (length (lane p n).instructions) new more
-    → AreRowsOf u p known (n + 1) more_places more
+    → AreRowsOfLanes u p known (n + 1) more_places more
 rows_next u p known n places more_places rows more new items so_far ext is =
-    subst (λ ps. AreRowsOf u p known (n + 1) ps more) (sym items) (record {
+    subst (λ ps. AreRowsOfLanes u p known (n + 1) ps more) (sym items) (record {
       long = length-append places (new ∷ []) ∙ ap (λ k. k + 1) so_far.long;
       each = λ l lt. elim (cases_eq l n) [
         | inl here ↦
@@ -38,7 +38,8 @@ rows_next u p known n places more_places rows more new items so_far ext is =
     })
 
 pub rows_kept : (u : Universe) (p : Plan) (known : Rows) (places rows : List (List ℕ))
-    → AreRowsOf u p known (length p) places rows → All (IsRowIn u) rows → AreKept u p places rows
+    → AreRowsOfLanes u p known (length p) places rows → All (IsRowIn u) rows
+    → ArePlaceRows u p places rows
 rows_kept u p known places rows are all_in =
     record {
       lanes = are.long;

@@ -16,7 +16,7 @@ use Rattle.plan_model.specs.Known.{Rows, KeepsRows}
 use Rattle.plan_model.specs.Order.{IsOrder}
 use Rattle.plan_model.specs.Plan.{Plan}
 use Rattle.plan_model.specs.Safety.{Hazard, Meets, Parts, IsSafeUnder, IsFirstUnsafe}
-use Rattle.plan_verifier.specs.Walk.{told_at}
+use Rattle.plan_verifier.specs.Walk.{place_told}
 use Rattle.verdict_laws.specs.Places.{IsFirstUnjustified}
 use Rattle.plan_cert.specs.Broken.{IsBrokenAt}
 use Rattle.plan_cert.specs.Stated.{stated_rows}
@@ -33,7 +33,7 @@ pub record IsUnsafeAt (u : Universe) (p : Plan) (rows : Rows) (l number : ℕ) (
     : Type 0 where
   pub keeps : KeepsRows u p rows
   pub place : ℕ
-  pub numbered : number ≡ told_at p l place hazard + 1
+  pub numbered : number ≡ place_told p l place hazard + 1
   pub first : IsFirstUnsafe u p rows l place hazard
 
 -- each instruction is safe under rows that keep to the inclusions, but the list is no order

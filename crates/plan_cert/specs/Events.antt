@@ -1,7 +1,7 @@
 -- The waits and outputs of a lane as the program keeps them. The project's own words. Parameters: u
 -- a universe, p a plan, l a lane, i a place.
 --
---   item_of, IsEvent        an event as an item of the lane
+--   order_item_of, IsEvent  an event as an item of the lane
 --   AreEvents               those of the first i instructions
 --   AreLaneEvents           those of the lanes below n
 --   left_by                 what each lane has left where so many of its events are made
@@ -14,7 +14,7 @@ use Rattle.farm_model.specs.Packages.{names}
 use Rattle.farm_model.specs.Sound.{IsKnown}
 use Rattle.plan_model.specs.declared.instructions.Instruction.{Instruction}
 use Rattle.plan_model.specs.declared.instructions.Instruction.TheVariants.{Wait}
-use Rattle.plan_model.specs.Order.{Item, Pass, Give, items, Board, on_board, rest_of, board_after}
+use Rattle.plan_model.specs.Order.{OrderItem, Pass, Give, items, Board, on_board, rest_of, board_after}
 use Rattle.plan_model.specs.Plan.{Plan, lane, instruction_at}
 use Rattle.sat_rows.specs.Rows.{IsRowOf}
 use Rattle.wait_order.specs.Standing.{IsReached, Makes}
@@ -28,9 +28,9 @@ entry_of (Some (Wait e)) = e
 entry_of (Some x) = []
 
 -- a wait is kept by its place
-abbrev pub item_of : Plan → ℕ → Event → Item
-item_of p l (Event.Pass place) = Pass (entry_of (instruction_at p l place))
-item_of p l (Event.Give v) = Give v
+abbrev pub order_item_of : Plan → ℕ → Event → OrderItem
+order_item_of p l (Event.Pass place) = Pass (entry_of (instruction_at p l place))
+order_item_of p l (Event.Give v) = Give v
 
 -- a wait stands at the place; an output is known
 abbrev pub IsEvent : Universe → Plan → ℕ → Event → Type 0
@@ -40,7 +40,7 @@ IsEvent u p l (Event.Give v) = IsKnown u v
 -- the items of the first i instructions
 pub record AreEvents (u : Universe) (p : Plan) (l i : ℕ) (events : List Event) : Type 0 where
   pub each : All (IsEvent u p l) events
-  pub items : map (item_of p l) events ≡ items u (take i (lane p l).instructions)
+  pub items : map (order_item_of p l) events ≡ items u (take i (lane p l).instructions)
 
 -- those of each lane below n
 pub record AreLaneEvents (u : Universe) (p : Plan) (n : ℕ) (lanes : List LaneEvents)
@@ -50,20 +50,21 @@ pub record AreLaneEvents (u : Universe) (p : Plan) (n : ℕ) (lanes : List LaneE
       → AreEvents u p l (length (lane p l).instructions) of.events.items
 
 -- the items of a lane
-abbrev pub lane_items : Universe → Plan → ℕ → List Item
+abbrev pub lane_items : Universe → Plan → ℕ → List OrderItem
 lane_items u p l = items u (lane p l).instructions
 
 -- the items that each lane has left
-abbrev pub left_by : Universe → Plan → List ℕ → ℕ → List Item
+abbrev pub left_by : Universe → Plan → List ℕ → ℕ → List OrderItem
 left_by u p made l = drop (slice_index made l) (lane_items u p l)
 
 -- the item is made, or it is a wait that does not pass
-pub record IsMade (u : Universe) (l : ℕ) (item : Item) (there next_there : List ℕ) (made : Bool)
+pub record IsMade (u : Universe) (l : ℕ) (item : OrderItem) (there next_there : List ℕ)
+    (made : Bool)
     : Type 0 where
   pub long : length next_there ≡ names u
   pub makes : made ≡ true → (order : List ℕ)
       → Makes u l (item ∷ []) order there (order ++ l ∷ []) next_there
-  pub stops : made ≡ false → (b : Board) (more : List Item) → IsRowOf u (on_board u b) there
+  pub stops : made ≡ false → (b : Board) (more : List OrderItem) → IsRowOf u (on_board u b) there
       → board_after u b l (item ∷ more) ≡ None
 
 -- lane l makes its next item; or it cannot, on any board that is reached

@@ -3,8 +3,8 @@
 -- place, rows the words of all rows so far.
 --
 --   PlaceRows                 the universe and the plan, the rows, and the places
---   words_at, rows_of         the words at a place, and the sets that they stand for
---   IsRowIn, AreKept          a row of known variants; what such rows keep
+--   row_words_at, place_rows_of  the words at a place, and the sets that they stand for
+--   IsRowIn, ArePlaceRows     a row of known variants; what such rows keep
 --   IsRowAt                   the row of this number is this one
 --   IsExtended                more rows behind the same
 --   AreRowNumbers             the numbers of the rows of a lane's places
@@ -29,12 +29,12 @@ abbrev pub row_number : List (List ℕ) → ℕ → ℕ → ℕ
 row_number places l i = slice_index (slice_index_or places l []) i
 
 -- the words of the row at a place
-abbrev pub words_at : PlaceRows → ℕ → ℕ → List ℕ
-words_at known l i = slice_index_or known.words (row_number known.places l i) []
+abbrev pub row_words_at : PlaceRows → ℕ → ℕ → List ℕ
+row_words_at known l i = slice_index_or known.words (row_number known.places l i) []
 
 -- the set at each place
-abbrev pub rows_of : PlaceRows → Rows
-rows_of known l i v = variants_of (words_at known l i) v.name v.bit
+abbrev pub place_rows_of : PlaceRows → Rows
+place_rows_of known l i v = variants_of (row_words_at known l i) v.name v.bit
 
 -- a row of known variants
 pub record IsRowIn (u : Universe) (row : List ℕ) : Type 0 where
@@ -42,7 +42,7 @@ pub record IsRowIn (u : Universe) (row : List ℕ) : Type 0 where
   pub few : (n b : ℕ) → variants_of row n b ≡ true → b < variants u n
 
 -- each place of the plan has a row of known variants
-pub record AreKept (u : Universe) (p : Plan) (places words : List (List ℕ)) : Type 0 where
+pub record ArePlaceRows (u : Universe) (p : Plan) (places words : List (List ℕ)) : Type 0 where
   pub lanes : length places ≡ length p
   pub each : (l : ℕ) → l < length p
       → length (slice_index_or places l []) ≡ suc (length (lane p l).instructions)

@@ -1,7 +1,7 @@
 -- The rows of the places of each lane, as they are kept. The project's own words. Parameters: u a
 -- universe, p a plan, known what its lanes know.
 --
---   AreRowsOf            the rows at the places of the lanes below n
+--   AreRowsOfLanes       the rows at the places of the lanes below n
 --   HaveKnown            rows of known variants at the places of a plan
 use Rattle.std.specs.Prelude.{◌≡◌, ℕ, ◌<◌, ◌≤◌, true, List, [], length, slice_index_or}
 use Rattle.farm_model.specs.declared.types.Variant.{Variant}
@@ -12,7 +12,8 @@ use Rattle.plan_model.specs.Known.{Rows}
 use Rattle.plan_cert.specs.PlaceRows.{AreRowNumbers}
 
 -- of each lane below n, for each place the number of its row
-pub record AreRowsOf (u : Universe) (p : Plan) (known : Rows) (n : ℕ) (places rows : List (List ℕ))
+pub record AreRowsOfLanes (u : Universe) (p : Plan) (known : Rows) (n : ℕ)
+    (places rows : List (List ℕ))
     : Type 0 where
   pub long : length places ≡ n
   pub each : (l : ℕ) → l < n → AreRowNumbers u (known l) (length (lane p l).instructions)

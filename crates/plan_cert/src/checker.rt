@@ -5,7 +5,7 @@ ghost use Rattle.cert_text.specs.Certificates.{IsCertificate};
 ghost use Rattle.plan_model.specs.Known.{KeepsRows};
 ghost use Rattle.plan_model.specs.Promise.{IsSafe};
 ghost use Rattle.plan_model.specs.Sound.{IsSound};
-ghost use Rattle.plan_cert.specs.PlaceRows.{rows_of};
+ghost use Rattle.plan_cert.specs.PlaceRows.{place_rows_of};
 ghost use Rattle.plan_cert.specs.Certified.{IsCertVerdict};
 ghost use Rattle.plan_cert.specs.Checked.{AreSafe};
 ghost use Rattle.plan_cert.specs.Stated.{stated_rows};
@@ -31,9 +31,10 @@ fn check_safety(
     claim: Claim<'_>,
 ) -> Result<(), CertFault>
     requires sound { IsSound claim.universe.now claim.plan.now.lanes }
-    requires keeps { KeepsRows claim.universe.now claim.plan.now.lanes (rows_of claim.known.now) }
+    requires keeps { KeepsRows claim.universe.now claim.plan.now.lanes
+        (place_rows_of claim.known.now) }
     ensures { AreSafe claim.entry.universe.now claim.entry.plan.now.lanes
-        (rows_of claim.entry.known.now) result }
+        (place_rows_of claim.entry.known.now) result }
 {
     let outputs = Outputs::of(alloc, claim.universe, claim.plan)?;
     let stage = Stage {
@@ -72,7 +73,7 @@ fn check_claim(
 ) -> Result<(), CertFault>
     requires sound { IsSound claim.universe.now claim.plan.now.lanes }
     requires certificate { IsCertificate claim.universe.now claim.plan.now.lanes certificate.now }
-    requires rows { Agree claim.plan.now.lanes (rows_of claim.known.now)
+    requires rows { Agree claim.plan.now.lanes (place_rows_of claim.known.now)
         (stated_rows claim.universe.now claim.plan.now.lanes certificate.now) }
     ensures verdict { IsCertVerdict claim.entry.universe.now claim.entry.plan.now.lanes
         certificate.now result }

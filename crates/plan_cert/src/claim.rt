@@ -1,7 +1,7 @@
 //! What a certificate claims of a plan.
 
 ghost use Rattle.std.specs.Prelude.{◌≡◌};
-ghost use Rattle.plan_cert.specs.PlaceRows.{rows_of};
+ghost use Rattle.plan_cert.specs.PlaceRows.{place_rows_of};
 ghost use Rattle.plan_cert.specs.Places.{HaveKnown};
 
 use crate::stated_rows::StatedRows;
@@ -20,5 +20,5 @@ pub struct Claim<'a> {
     ghost tables_are: { tables.now ≡ universe.now },
     ghost of_universe: { known.now.universe ≡ universe.now },
     ghost of_plan: { known.now.plan ≡ plan.now.lanes },
-    ghost have_known: { HaveKnown universe.now plan.now.lanes (rows_of known.now) },
+    ghost have_known: { HaveKnown universe.now plan.now.lanes (place_rows_of known.now) },
 }

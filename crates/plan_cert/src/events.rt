@@ -6,7 +6,7 @@ ghost use Rattle.farm_model.specs.Sound.{IsUniverse};
 ghost use Rattle.plan_model.specs.Order.{items_of};
 ghost use Rattle.plan_model.specs.Plan.{lane, instruction_at};
 ghost use Rattle.plan_cert.specs.declared.events.Event as of;
-ghost use Rattle.plan_cert.specs.Events.{item_of, IsEvent, AreEvents, AreLaneEvents};
+ghost use Rattle.plan_cert.specs.Events.{order_item_of, IsEvent, AreEvents, AreLaneEvents};
 
 use farm_universe::{Universe, Variant};
 use plan_asm::{Instruction, Plan};
@@ -51,8 +51,8 @@ fn push_events(
     requires each { All (IsEvent universe.now plan.now.lanes number) events.old.items }
     ensures each { OnOk result
         (All (IsEvent universe.now plan.now.lanes number) events.new.items) }
-    ensures items { OnOk result (map (item_of plan.now.lanes number) events.new.items
-        ≡ map (item_of plan.now.lanes number) events.old.items
+    ensures items { OnOk result (map (order_item_of plan.now.lanes number) events.new.items
+        ≡ map (order_item_of plan.now.lanes number) events.old.items
         ++ items_of universe.now instruction.now) }
 {
     match instruction {

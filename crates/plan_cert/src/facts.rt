@@ -6,7 +6,7 @@ ghost use Rattle.farm_model.specs.Packages.{names, outputs, contains, initial};
 ghost use Rattle.farm_model.specs.Sound.{IsUniverse, IsKnown};
 ghost use Rattle.plan_model.specs.Plan.{lane};
 ghost use Rattle.sat_rows.specs.Rows.{IsRowOf};
-ghost use Rattle.plan_cert.specs.PlaceRows.{rows_of};
+ghost use Rattle.plan_cert.specs.PlaceRows.{place_rows_of};
 ghost use Rattle.plan_cert.specs.Origins.{AreLanePublishes, AreOrigins};
 ghost use Rattle.plan_cert.specs.Stated.{in_row};
 ghost use Rattle.plan_cert.specs.Facts.{HasNoSource, IsFirstSource, IsKnownWith, IsKnownAt, AreFacts};
@@ -104,7 +104,7 @@ fn is_known_at(question: Question<'_>, number: usize, place: usize) -> Result<bo
     requires lane { number < length question.claim.plan.now.lanes }
     requires place { place < length (lane question.claim.plan.now.lanes number).instructions }
     ensures { IfOk result (λ yes. IsTrue yes ↔ IsKnownAt question.entry.claim.universe.now
-        question.entry.claim.plan.now.lanes (rows_of question.entry.claim.known.now)
+        question.entry.claim.plan.now.lanes (place_rows_of question.entry.claim.known.now)
         (in_row question.entry.sources.now) (in_row question.entry.new.now) number place) }
 {
     let claim = question.claim;
@@ -122,7 +122,7 @@ fn is_known_in(question: Question<'_>, number: usize, places: &[usize]) -> Resul
     requires places { AreLanePublishes question.claim.plan.now.lanes number places.now }
     ensures { IfOk result (λ yes. IsTrue yes
         ↔ ((k : ℕ) → IsKnownAt question.entry.claim.universe.now
-        question.entry.claim.plan.now.lanes (rows_of question.entry.claim.known.now)
+        question.entry.claim.plan.now.lanes (place_rows_of question.entry.claim.known.now)
         (in_row question.entry.sources.now) (in_row question.entry.new.now) number k)) }
 {
     for n in 0..places.len() {
@@ -153,7 +153,7 @@ fn is_initial(question: Question<'_>) -> bool
 /// [`AllocError`] where memory is refused.
 pub fn are_facts(question: Question<'_>) -> Result<bool, AllocError>
     ensures { IfOk result (λ yes. IsTrue yes ↔ AreFacts question.entry.claim.universe.now
-        question.entry.claim.plan.now.lanes (rows_of question.entry.claim.known.now)
+        question.entry.claim.plan.now.lanes (place_rows_of question.entry.claim.known.now)
         (in_row question.entry.sources.now) (in_row question.entry.new.now)) }
 {
     if !is_initial(question) {

@@ -11,7 +11,7 @@ ghost use Rattle.plan_model.specs.Plan.{lane};
 ghost use Rattle.plan_model.specs.Sound.{IsInstruction, IsSound};
 ghost use Rattle.verdict_laws.specs.Places.{IsJustified};
 ghost use Rattle.sat_rows.specs.Rows.{IsRowOf};
-ghost use Rattle.plan_cert.specs.PlaceRows.{rows_of};
+ghost use Rattle.plan_cert.specs.PlaceRows.{place_rows_of};
 ghost use Rattle.plan_cert.specs.Opens.{open_at, IsAskedRow};
 ghost use Rattle.plan_cert.specs.Origins.{AreOrigins};
 ghost use Rattle.plan_cert.specs.Stated.{in_row};
@@ -57,7 +57,7 @@ fn may_follow(at: At<'_>, asked: Row, new: &Row) -> Result<bool, AllocError>
     ensures { IfOk result (λ yes. (test : Variant → Bool)
         → IsRowOf at.entry.claim.universe.now test asked → IsTrue yes
         ↔ ((v : Variant) → in_row new.now v ≡ true → Follows at.entry.claim.universe.now
-        at.entry.claim.plan.now.lanes (rows_of at.entry.claim.known.now) at.entry.number
+        at.entry.claim.plan.now.lanes (place_rows_of at.entry.claim.known.now) at.entry.number
         at.entry.place v test)) }
 {
     if !new.within(at.there) {
@@ -144,7 +144,7 @@ fn asked_row(
 fn is_justified(alloc: Global, at: At<'_>) -> Result<bool, AllocError>
     requires { IsSound at.claim.universe.now at.claim.plan.now.lanes }
     ensures { IfOk result (λ yes. IsTrue yes ↔ IsJustified at.entry.claim.universe.now
-        at.entry.claim.plan.now.lanes (rows_of at.entry.claim.known.now) at.entry.number
+        at.entry.claim.plan.now.lanes (place_rows_of at.entry.claim.known.now) at.entry.number
         (suc at.entry.place)) }
 {
     let claim = at.claim;
@@ -183,7 +183,7 @@ fn check_lane(
     requires origins { AreOrigins claim.universe.now claim.plan.now.lanes origins.now }
     requires lane { number < length claim.plan.now.lanes }
     ensures { IsLaneChecked claim.entry.universe.now claim.entry.plan.now.lanes
-        (rows_of claim.entry.known.now) number result }
+        (place_rows_of claim.entry.known.now) number result }
 {
     let _lanes = claim.plan.lanes();
     let instructions = claim.plan.lane(number).instructions();
@@ -220,9 +220,9 @@ fn check_lane(
 pub fn check_rows(alloc: Global, claim: Claim<'_>) -> Result<(), CertFault>
     requires sound { IsSound claim.universe.now claim.plan.now.lanes }
     requires starts { (l : ℕ) (v : Variant) → l < length claim.plan.now.lanes
-        → rows_of claim.known.now l 0 v ≡ true → initial claim.universe.now v ≡ true }
+        → place_rows_of claim.known.now l 0 v ≡ true → initial claim.universe.now v ≡ true }
     ensures { AreChecked claim.entry.universe.now claim.entry.plan.now.lanes
-        (rows_of claim.entry.known.now) result }
+        (place_rows_of claim.entry.known.now) result }
 {
     let origins = find_origins(alloc, claim.universe, claim.plan)?;
     for number in 0..claim.plan.lanes() {

@@ -4,7 +4,7 @@ ghost use Rattle.std.specs.Prelude.{◌≡◌, ◌+◌, ◌<◌, ◌≤◌, ℕ,
 ghost use Rattle.farm_model.specs.Packages.{names};
 ghost use Rattle.farm_model.specs.Sound.{IsUniverse};
 ghost use Rattle.plan_cert.specs.Broken.{IsOrderChecked};
-ghost use Rattle.plan_cert.specs.Events.{item_of, IsEvent, AreLaneEvents, lane_items, IsMade, IsStep};
+ghost use Rattle.plan_cert.specs.Events.{order_item_of, IsEvent, AreLaneEvents, lane_items, IsMade, IsStep};
 
 use crate::claim::Claim;
 use crate::events::{Event, LaneEvents, all_events};
@@ -35,7 +35,7 @@ fn make(
     requires event { IsEvent claim.universe.now claim.plan.now.lanes number event }
     requires archive { length archive.old ≡ names claim.universe.now }
     ensures { IfOk result (IsMade claim.entry.universe.now number
-        (item_of claim.entry.plan.now.lanes number event) archive.old archive.new) }
+        (order_item_of claim.entry.plan.now.lanes number event) archive.old archive.new) }
 {
     match event {
         Event::Pass(place) => {

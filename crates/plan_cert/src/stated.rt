@@ -7,7 +7,7 @@ ghost use Rattle.farm_model.specs.Sound.{IsUniverse};
 ghost use Rattle.plan_model.specs.Plan.{lane, instruction_at};
 ghost use Rattle.verdict_laws.specs.Agreeing.{Agree};
 ghost use Rattle.sat_rows.specs.Rows.{IsRowOf};
-ghost use Rattle.plan_cert.specs.PlaceRows.{rows_of};
+ghost use Rattle.plan_cert.specs.PlaceRows.{place_rows_of};
 ghost use Rattle.plan_model.specs.Known.{row_before};
 ghost use Rattle.plan_cert.specs.PlaceRows.{IsRowAt, IsExtended, AreRowNumbers};
 ghost use Rattle.plan_cert.specs.Stated.{rows_before, in_row, stated_rows};
@@ -140,7 +140,7 @@ pub fn stated_known(
     requires certificate { IsCertificate universe.now plan.now.lanes certificate.now }
     ensures universe { IfOk result (λ known. known.universe ≡ universe.now) }
     ensures plan { IfOk result (λ known. known.plan ≡ plan.now.lanes) }
-    ensures rows { IfOk result (λ known. Agree plan.now.lanes (rows_of known)
+    ensures rows { IfOk result (λ known. Agree plan.now.lanes (place_rows_of known)
         (stated_rows universe.now plan.now.lanes certificate.now)) }
 {
     let archive = initial_row(alloc, universe)?;

@@ -4,7 +4,7 @@ ghost use Rattle.std.specs.Prelude.{◌≡◌, ◌<◌, ◌≤◌, ◌↔◌, tr
 ghost use Rattle.farm_model.specs.declared.types.Variant.{Variant};
 ghost use Rattle.plan_model.specs.Plan.{lane};
 ghost use Rattle.sat_rows.specs.Rows.{IsRowOf};
-ghost use Rattle.plan_cert.specs.PlaceRows.{rows_of, AreKept};
+ghost use Rattle.plan_cert.specs.PlaceRows.{place_rows_of, ArePlaceRows};
 
 use bit_rows::Row;
 use farm_universe::Universe;
@@ -56,7 +56,7 @@ pub struct StatedRows {
 
 impl Model for StatedRows {
     ghost use Rattle.plan_cert.specs.PlaceRows as spec;
-    ghost use Rattle.plan_cert.specs.PlaceRows.{AreKept};
+    ghost use Rattle.plan_cert.specs.PlaceRows.{ArePlaceRows};
 
     ghost Value = { spec.PlaceRows };
 
@@ -67,7 +67,7 @@ impl Model for StatedRows {
       words = stated.rows.items;
     } };
 
-    ghost invariant = { λ stated. AreKept stated.universe.value stated.plan.value.lanes
+    ghost invariant = { λ stated. ArePlaceRows stated.universe.value stated.plan.value.lanes
         stated.places.items stated.rows.items };
 }
 
@@ -79,7 +79,7 @@ impl StatedRows {
         places: Vec<LanePlaces>,
         rows: Vec<Row>,
     ) -> StatedRows
-        requires { AreKept universe.now plan.now.lanes places.items rows.items }
+        requires { ArePlaceRows universe.now plan.now.lanes places.items rows.items }
         ensures { result ≡ record {
           universe = universe.now;
           plan = plan.now.lanes;
@@ -99,7 +99,7 @@ impl StatedRows {
     pub fn row(&self, number: usize, place: usize) -> &Row
         requires lane { number < length self.now.plan }
         requires place { place ≤ length (lane self.now.plan number).instructions }
-        ensures { IsRowOf self.now.universe (rows_of self.now number place) result.now }
+        ensures { IsRowOf self.now.universe (place_rows_of self.now number place) result.now }
     {
         &self.rows[self.places[number].number(place)]
     }
@@ -110,8 +110,8 @@ impl StatedRows {
         requires lane { number < length self.now.plan }
         requires place { place ≤ length (lane self.now.plan number).instructions }
         requires other { other ≤ length (lane self.now.plan number).instructions }
-        ensures { IsTrue result ↔ ((v : Variant) → rows_of self.now number place v ≡ true
-            → rows_of self.now number other v ≡ true) }
+        ensures { IsTrue result ↔ ((v : Variant) → place_rows_of self.now number place v ≡ true
+            → place_rows_of self.now number other v ≡ true) }
     {
         let places = &self.places[number];
         let (here, there) = (places.number(place), places.number(other));
@@ -123,7 +123,7 @@ impl KnownWords for StatedRows {
     ghost known = { λ stated. record {
       universe = stated.universe;
       plan = stated.plan;
-      rows = rows_of stated;
+      rows = place_rows_of stated;
     } };
 
     fn word(&self, _universe: &Universe, number: usize, place: usize, name: u32) -> u64 {

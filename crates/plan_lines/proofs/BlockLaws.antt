@@ -12,7 +12,7 @@ use Rattle.plan_asm.specs.declared.error.TheConstants.{MOST_INSTRUCTIONS}
 use Rattle.plan_lines.specs.declared.blocks.Whole.{Whole}
 use Rattle.plan_lines.specs.declared.origin.Origin.{Origin}
 use Rattle.plan_lines.specs.declared.joins.Part.{Part}
-use Rattle.plan_lines.specs.BlockLines.{lines_of_part, lines_in, block_of, IsSomePart, IsWhole, AreWhole, Grows, empty_whole, whole_named, write, end_block}
+use Rattle.plan_lines.specs.BlockLines.{lines_of_part, lines_in, block_lines_of, IsSomePart, IsWhole, AreWhole, Grows, empty_whole, whole_named, lines_written, end_block}
 use Rattle.plan_lines.specs.Origins.{Block, from_line, with_room, lines_named}
 use Rattle.plan_lines.proofs.JoinLaws.{part-more, body-early}
 
@@ -58,12 +58,12 @@ module _ (bs ys : List (List ℕ)) where
       All-weaker (IsEntry bs) (IsEntry (bs ++ ys)) (λ e is. whole-more bs ys e.1 is) es are
 
   pub blocks-same : (es : List (Vec ℕ × Whole)) → All (IsEntry bs) es
-      → map (block_of (bs ++ ys)) es ≡ map (block_of bs) es
+      → map (block_lines_of (bs ++ ys)) es ≡ map (block_lines_of bs) es
   blocks-same [] are = refl
   blocks-same (e ∷ es) are =
-      ap (λ ns. record { name = e.0.items; lines = ns } ∷ map (block_of (bs ++ ys)) es)
+      ap (λ ns. record { name = e.0.items; lines = ns } ∷ map (block_lines_of (bs ++ ys)) es)
       (whole-same bs ys e.1 (All-head (IsEntry bs) e es are))
-      ∙ ap (λ zs. block_of bs e ∷ zs) (blocks-same es (All-tail (IsEntry bs) e es are))
+      ∙ ap (λ zs. block_lines_of bs e ∷ zs) (blocks-same es (All-tail (IsEntry bs) e es are))
 
 -- ---- the open block grows
 
@@ -111,27 +111,29 @@ module _ (bs new : List (List ℕ)) (es : List (Vec ℕ × Whole)) (begun more w
     begun = grows.whole;
   }
 
-  pub grown-blocks : record { ended = map (block_of new) es; begun = lines_in new whole }
-      ≡ write (record { ended = map (block_of bs) es; begun = lines_in bs begun })
+  pub grown-blocks : record { ended = map (block_lines_of new) es; begun = lines_in new whole }
+      ≡ lines_written (record { ended = map (block_lines_of bs) es; begun = lines_in bs begun })
       (lines_in bs more)
   grown-blocks =
-      ap (λ ns. record { ended = map (block_of new) es; begun = ns }) grows.lines
+      ap (λ ns. record { ended = map (block_lines_of new) es; begun = ns }) grows.lines
       ∙ ap (λ zs. record {
         ended = zs;
         begun = with_room 0 (lines_in bs begun) (lines_in bs more);
       })
-      (ap (λ zs. map (block_of zs) es) grows.joins.1 ∙ blocks-same bs grows.joins.0 es are.ended)
+      (ap (λ zs. map (block_lines_of zs) es) grows.joins.1 ∙ blocks-same bs grows.joins.0 es
+      are.ended)
 
 -- ---- blocks by name
 
 module _ (bs : List (List ℕ)) (name : List ℕ) where
   pub named-lines : (es : List (Vec ℕ × Whole))
-      → lines_named (map (block_of bs) es) name ≡ lines_in bs (whole_named es name)
+      → lines_named (map (block_lines_of bs) es) name ≡ lines_in bs (whole_named es name)
   named-lines [] = refl
   named-lines (e ∷ es) = go (bytes_eq name e.0.items) refl (named-lines es) where
     go : (b : Bool) → bytes_eq name e.0.items ≡ b
-        → lines_named (map (block_of bs) es) name ≡ lines_in bs (whole_named es name)
-        → lines_named (map (block_of bs) (e ∷ es)) name ≡ lines_in bs (whole_named (e ∷ es) name)
+        → lines_named (map (block_lines_of bs) es) name ≡ lines_in bs (whole_named es name)
+        → lines_named (map (block_lines_of bs) (e ∷ es)) name
+        ≡ lines_in bs (whole_named (e ∷ es) name)
     go true is later = rw is refl
     go false is later = rw is later
 
@@ -147,14 +149,14 @@ module _ (bs : List (List ℕ)) (name : List ℕ) where
 
   pub any-ended : (es : List (Vec ℕ × Whole))
       → is_some (lookup (λ k. bytes_eq name k.items) es)
-      ≡ list_any (λ (b : Block). bytes_eq name b.name) (map (block_of bs) es)
+      ≡ list_any (λ (b : Block). bytes_eq name b.name) (map (block_lines_of bs) es)
   any-ended [] = refl
   any-ended (e ∷ es) = go (bytes_eq name e.0.items) refl (any-ended es) where
     go : (b : Bool) → bytes_eq name e.0.items ≡ b
         → is_some (lookup (λ k. bytes_eq name k.items) es)
-        ≡ list_any (λ (b : Block). bytes_eq name b.name) (map (block_of bs) es)
+        ≡ list_any (λ (b : Block). bytes_eq name b.name) (map (block_lines_of bs) es)
         → is_some (lookup (λ k. bytes_eq name k.items) (e ∷ es))
-        ≡ list_any (λ (b : Block). bytes_eq name b.name) (map (block_of bs) (e ∷ es))
+        ≡ list_any (λ (b : Block). bytes_eq name b.name) (map (block_lines_of bs) (e ∷ es))
     go true is later = rw is refl
     go false is later = rw is later
 
@@ -175,46 +177,48 @@ module _ (bs : List (List ℕ)) (es : List (Vec ℕ × Whole)) (begun : Whole)
   }
 
   pub end-known : is_some (lookup (λ k. bytes_eq name.items k.items) es) ≡ true
-      → record { ended = map (block_of bs) es; begun = [] }
-      ≡ end_block (record { ended = map (block_of bs) es; begun = lines_in bs begun }) name.items
+      → record { ended = map (block_lines_of bs) es; begun = [] }
+      ≡ end_block (record { ended = map (block_lines_of bs) es; begun = lines_in bs begun })
+      name.items
   end-known is = rw (sym (any-ended bs name.items es), is) refl
 
   pub end-new : is_some (lookup (λ k. bytes_eq name.items k.items) es) ≡ false
-      → record { ended = map (block_of bs) (es ++ (name, begun) ∷ []); begun = [] }
-      ≡ end_block (record { ended = map (block_of bs) es; begun = lines_in bs begun }) name.items
+      → record { ended = map (block_lines_of bs) (es ++ (name, begun) ∷ []); begun = [] }
+      ≡ end_block (record { ended = map (block_lines_of bs) es; begun = lines_in bs begun })
+      name.items
   end-new is =
       rw (sym (any-ended bs name.items es), is)
       (ap (λ zs. record { ended = zs; begun = [] })
-      (map-append (block_of bs) es ((name, begun) ∷ [])))
+      (map-append (block_lines_of bs) es ((name, begun) ∷ [])))
 
 -- ---- a use in a lane
 
 module _ (bs : List (List ℕ)) (es : List (Vec ℕ × Whole)) (begun : Whole)
     (are : AreWhole bs es begun) (name : List ℕ) (used : Option ℕ) (k : ℕ) (xs : List Origin) where
   used_lines : List Origin
-  used_lines = map (from_line used) (lines_named (map (block_of bs) es) name)
+  used_lines = map (from_line used) (lines_named (map (block_lines_of bs) es) name)
 
   used-long : length used_lines ≡ (whole_named es name).count
   unfolding used_lines
   used-long =
-      length-map (lines_named (map (block_of bs) es) name) (from_line used)
+      length-map (lines_named (map (block_lines_of bs) es) name) (from_line used)
       ∙ ap length (named-lines bs name es)
       ∙ sym (named-whole bs name es are.ended).counted
 
   pub used-over : MOST_INSTRUCTIONS < k + length xs + (whole_named es name).count
-      → with_room k xs (map (from_line used) (lines_named (map (block_of bs) es) name)) ≡ xs
+      → with_room k xs (map (from_line used) (lines_named (map (block_lines_of bs) es) name)) ≡ xs
   unfolding used_lines
   used-over over =
-      room-over k xs (map (from_line used) (lines_named (map (block_of bs) es) name))
+      room-over k xs (map (from_line used) (lines_named (map (block_lines_of bs) es) name))
       (let long = used-long in omega (arith, over, long))
 
   pub used-fits : (o : Option Part) → (whole_named es name).part ≡ o
       → k + length xs + (whole_named es name).count ≤ MOST_INSTRUCTIONS
-      → with_room k xs (map (from_line used) (lines_named (map (block_of bs) es) name))
+      → with_room k xs (map (from_line used) (lines_named (map (block_lines_of bs) es) name))
       ≡ xs ++ map (from_line used) (lines_of_part bs o)
   unfolding used_lines
   used-fits o is fits =
-      room-fits k xs (map (from_line used) (lines_named (map (block_of bs) es) name))
+      room-fits k xs (map (from_line used) (lines_named (map (block_lines_of bs) es) name))
       (let long = used-long in omega (arith, fits, long))
       ∙ ap (λ ns. xs ++ map (from_line used) ns)
       (named-lines bs name es ∙ ap (lines_of_part bs) is)

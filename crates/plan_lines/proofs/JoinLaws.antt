@@ -4,14 +4,15 @@ use Rattle.std.proofs.lemmas.List.{append-nil}
 use Rattle.plan_lines.specs.declared.joins.Pair.{Pair}
 use Rattle.plan_lines.specs.declared.joins.Part.{Part}
 use Rattle.plan_lines.specs.declared.joins.Part.TheVariants.{Line, Join}
-use Rattle.plan_lines.specs.Joins.{body, joined, bodies_from, bodies, IsPart, ArePairs}
+use Rattle.plan_lines.specs.Joins.{body, joined_lines, bodies_from, bodies, IsPartOfJoins, ArePairs}
 
-pub part-more : (m n : ℕ) (p : Part) → m ≤ n → IsPart m p → IsPart n p
+pub part-more : (m n : ℕ) (p : Part) → m ≤ n → IsPartOfJoins m p → IsPartOfJoins n p
 part-more m n (Line number) more is = tt
 part-more m n (Join place) more is = omega (arith, more, is)
 
 pairs-push : (n : ℕ) (qs : List Pair) (q : Pair) → ArePairs n qs
-    → IsPart (n + length qs) q.first → IsPart (n + length qs) q.second → ArePairs n (qs ++ q ∷ [])
+    → IsPartOfJoins (n + length qs) q.first → IsPartOfJoins (n + length qs) q.second
+    → ArePairs n (qs ++ q ∷ [])
 pairs-push n [] q are first second =
     let e : n + 0 ≡ n = omega arith in (rw e at first, rw e at second, tt)
 pairs-push n (r ∷ qs) q are first second =
@@ -19,14 +20,15 @@ pairs-push n (r ∷ qs) q are first second =
     (are.0, are.1, pairs-push (n + 1) qs q are.2 (rw e at first) (rw e at second))
 
 -- one more join of parts that are there
-pub pairs-more : (qs : List Pair) (q : Pair) → ArePairs 0 qs → IsPart (length qs) q.first
-    → IsPart (length qs) q.second → ArePairs 0 (qs ++ q ∷ [])
+pub pairs-more : (qs : List Pair) (q : Pair) → ArePairs 0 qs → IsPartOfJoins (length qs) q.first
+    → IsPartOfJoins (length qs) q.second → ArePairs 0 (qs ++ q ∷ [])
 pairs-more qs q are first second =
     let e : length qs ≡ 0 + length qs = omega arith in
     pairs-push 0 qs q are (rw e at first) (rw e at second)
 
 pub pair-at : (n : ℕ) (qs : List Pair) (d : Pair) (b : ℕ) → b < length qs → ArePairs n qs
-    → IsPart (n + length qs) (get_or qs b d).first × IsPart (n + length qs) (get_or qs b d).second
+    → IsPartOfJoins (n + length qs) (get_or qs b d).first
+    × IsPartOfJoins (n + length qs) (get_or qs b d).second
 pair-at n [] d b lt are = absurd (omega (arith, lt))
 pair-at n (q ∷ qs) d zero lt are = (
   part-more n (n + length (q ∷ qs)) q.first (omega arith) are.0,
@@ -49,13 +51,13 @@ last-is [] x = refl
 last-is (y ∷ done) x = last-is done x
 
 -- parts see no more than the joins that they use
-pub body-early : (xs ys : List (List ℕ)) (p : Part) → IsPart (length xs) p
+pub body-early : (xs ys : List (List ℕ)) (p : Part) → IsPartOfJoins (length xs) p
     → body (xs ++ ys) p ≡ body xs p
 body-early xs ys (Line number) is = refl
 body-early xs ys (Join place) is = get-early xs ys place is
 
-joined-early : (xs ys : List (List ℕ)) (q : Pair) → IsPart (length xs) q.first
-    → IsPart (length xs) q.second → joined (xs ++ ys) q ≡ joined xs q
+joined-early : (xs ys : List (List ℕ)) (q : Pair) → IsPartOfJoins (length xs) q.first
+    → IsPartOfJoins (length xs) q.second → joined_lines (xs ++ ys) q ≡ joined_lines xs q
 joined-early xs ys q first second =
     rw (body-early xs ys q.first first, body-early xs ys q.second second) refl
 
@@ -64,7 +66,7 @@ front-stays : (qs : List Pair) (done : List (List ℕ))
     → (ys : List (List ℕ)) × (bodies_from done qs ≡ done ++ ys) × (length ys ≡ length qs)
 front-stays [] done = ([], sym (append-nil done), refl)
 front-stays (q ∷ qs) done =
-    let x = joined done q in
+    let x = joined_lines done q in
     let later = front-stays qs (done ++ x ∷ []) in
     (x ∷ later.0, later.1 ∙ append_assoc done (x ∷ []) later.0, ap suc later.2)
 
@@ -76,23 +78,23 @@ bodies-long qs =
 
 from-push : (qs : List Pair) (q : Pair) (done : List (List ℕ))
     → bodies_from done (qs ++ q ∷ [])
-    ≡ bodies_from done qs ++ joined (bodies_from done qs) q ∷ []
+    ≡ bodies_from done qs ++ joined_lines (bodies_from done qs) q ∷ []
 from-push [] q done = refl
-from-push (r ∷ qs) q done = from-push qs q (done ++ joined done r ∷ [])
+from-push (r ∷ qs) q done = from-push qs q (done ++ joined_lines done r ∷ [])
 
 -- one more join
 pub bodies-push : (qs : List Pair) (q : Pair)
-    → bodies (qs ++ q ∷ []) ≡ bodies qs ++ joined (bodies qs) q ∷ []
+    → bodies (qs ++ q ∷ []) ≡ bodies qs ++ joined_lines (bodies qs) q ∷ []
 unfolding bodies
 bodies-push qs q = from-push qs q []
 
 join-from : (d : Pair) (qs : List Pair) (done : List (List ℕ)) (j : ℕ) → j < length qs
     → ArePairs (length done) qs
     → get_or (bodies_from done qs) (length done + j) []
-    ≡ joined (bodies_from done qs) (get_or qs j d)
+    ≡ joined_lines (bodies_from done qs) (get_or qs j d)
 join-from d [] done j lt are = absurd (omega (arith, lt))
 join-from d (q ∷ qs) done zero lt are =
-    let x = joined done q in
+    let x = joined_lines done q in
     let front = front-stays qs (done ++ x ∷ []) in
     let long = length-append done (x ∷ []) in
     let whole = front-stays (q ∷ qs) done in
@@ -101,9 +103,9 @@ join-from d (q ∷ qs) done zero lt are =
     ∙ get-early (done ++ x ∷ []) front.0 (length done) (omega (arith, long))
     ∙ last-is done x
     ∙ sym (joined-early done whole.0 q are.0 are.1)
-    ∙ ap (λ zs. joined zs q) (sym whole.1)
+    ∙ ap (λ zs. joined_lines zs q) (sym whole.1)
 join-from d (q ∷ qs) done (suc j) lt are =
-    let x = joined done q in
+    let x = joined_lines done q in
     let long : length (done ++ x ∷ []) ≡ length done + 1 = length-append done (x ∷ []) in
     let place : length (done ++ x ∷ []) + j ≡ length done + suc j = omega (arith, long) in
     ap (λ k. get_or (bodies_from (done ++ x ∷ []) qs) k []) (sym place)
@@ -111,7 +113,7 @@ join-from d (q ∷ qs) done (suc j) lt are =
 
 -- a join stands for its parts
 pub join-at : (d : Pair) (qs : List Pair) (b : ℕ) → b < length qs → ArePairs 0 qs
-    → get_or (bodies qs) b [] ≡ joined (bodies qs) (get_or qs b d)
+    → get_or (bodies qs) b [] ≡ joined_lines (bodies qs) (get_or qs b d)
 unfolding bodies
 join-at d qs b lt are =
     let e : 0 + b ≡ b = omega arith in rw e at (join-from d qs [] b lt are)
@@ -121,7 +123,7 @@ join-at d qs b lt are =
 abbrev pub HasLines : List (List ℕ) → Type 0
 HasLines bs = (i : ℕ) → i < length bs → 0 < length (get_or bs i [])
 
-body-some : (bs : List (List ℕ)) (p : Part) → HasLines bs → IsPart (length bs) p
+body-some : (bs : List (List ℕ)) (p : Part) → HasLines bs → IsPartOfJoins (length bs) p
     → 0 < length (body bs p)
 body-some bs (Line number) have is = omega arith
 body-some bs (Join place) have is = have place is
@@ -138,14 +140,14 @@ have-from : (qs : List Pair) (done : List (List ℕ)) → HasLines done → AreP
     → HasLines (bodies_from done qs)
 have-from [] done have are = have
 have-from (q ∷ qs) done have are =
-    let x = joined done q in
+    let x = joined_lines done q in
     let long : length (done ++ x ∷ []) ≡ length done + 1 = length-append done (x ∷ []) in
     let first = body-some done q.first have are.0 in
     let both = length-append (body done q.first) (body done q.second) in
     have-from qs (done ++ x ∷ []) (have-push done x have (omega (arith, first, both)))
     (rw (sym long) at are.2)
 
-pub part-some : (qs : List Pair) (p : Part) → ArePairs 0 qs → IsPart (length qs) p
+pub part-some : (qs : List Pair) (p : Part) → ArePairs 0 qs → IsPartOfJoins (length qs) p
     → 0 < length (body (bodies qs) p)
 unfolding bodies
 part-some qs p are is =

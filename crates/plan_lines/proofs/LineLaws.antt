@@ -10,7 +10,7 @@ use Rattle.plan_model.specs.declared.instructions.Instruction.{Instruction}
 use Rattle.plan_model.specs.Plan.{Lane}
 use Rattle.plan_lines.specs.declared.origin.Origin.{Origin}
 use Rattle.plan_lines.specs.LinesSay.{Says, IsLane}
-use Rattle.plan_lines.specs.Origins.{Block, LaneLines, from_line, lines_named, count_of}
+use Rattle.plan_lines.specs.Origins.{Block, LaneLines, from_line, lines_named, listed_count}
 use Rattle.plan_lines.specs.Readings as lines
 
 -- ---- lists side by side
@@ -50,12 +50,12 @@ module _ (u : Universe) (ls : List Line) where
   IsOpen bs (plan.InLane line l) ns os (lines.InLane head) = Origins os l.instructions
   IsOpen bs _ ns os _ = ⊥
 
-  abbrev pub IsDraft : plan.Draft → lines.Reading → Type 0
+  abbrev pub IsDraft : plan.Draft → lines.LineReading → Type 0
   IsDraft d s =
       AllZip IsBlock s.blocks d.blocks × AllZip (IsLane u ls) s.lanes d.lanes
       × IsOpen d.blocks d.current s.lines s.origins s.current
 
-  abbrev pub IsReading : plan.Reading → lines.Reading → Type 0
+  abbrev pub IsReading : plan.Reading → lines.LineReading → Type 0
   IsReading r s = IsDraft r.draft s × (s.inside ≡ not (is_outside r.side))
 
   -- ---- what comes into a block or a lane
@@ -68,7 +68,7 @@ module _ (u : Universe) (ls : List Line) where
   with-origins used (n ∷ ns) (x ∷ xs) zip = (zip.0, with-origins used ns xs zip.1)
 
   pub counts : (lanes : List LaneLines) (p : List Lane) → AllZip (IsLane u ls) lanes p
-      → count_of lanes ≡ length (instructions_of p)
+      → listed_count lanes ≡ length (instructions_of p)
   counts [] [] zip = refl
   counts [] (l ∷ p) zip = absurd zip
   counts (lane ∷ lanes) [] zip = absurd zip

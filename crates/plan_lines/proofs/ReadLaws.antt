@@ -17,7 +17,7 @@ use Rattle.plan_asm.specs.Forms.{Wording, UnpackForm, ConfigureForm, Deconfigure
 use Rattle.plan_asm.specs.PlanText as text
 use Rattle.plan_model.specs.Branches.{Side, Outside, InFirst, InSecond, side_behind, second_of}
 use Rattle.plan_model.specs.declared.instructions.Instruction.{Instruction}
-use Rattle.plan_lines.specs.LinesSay.{IsSaid, Says, IsLane, LinesSay}
+use Rattle.plan_lines.specs.LinesSay.{IsSaidByForm, Says, IsLane, LinesSay}
 use Rattle.plan_lines.specs.Readings as lines
 use Rattle.plan_lines.proofs.LineLaws.{IsReading}
 use Rattle.plan_lines.proofs.TakeLaws.{add-goes, end-goes, block-goes, lane-goes, use-goes}
@@ -26,7 +26,7 @@ use Rattle.plan_lines.proofs.TakeLaws.{add-goes, end-goes, block-goes, lane-goes
 abbrev Sides : Wording → Instruction → Type 0
 Sides w x =
     (number : ℕ) (t : Side)
-    → lines.side_behind (not (is_outside t)) w ≡ not (is_outside (side_behind number t x))
+    → lines.inside_behind_line (not (is_outside t)) w ≡ not (is_outside (side_behind number t x))
 
 second-side : (t : Side) → not (is_outside t) ≡ not (is_outside (second_of t))
 second-side Outside = refl
@@ -61,34 +61,38 @@ module _ (u : Universe) where
   wording-sides ElseForm = λ number t. second-side t
 
   module _ (ls : List Line) where
-    instruction-goes : (number : ℕ) (w : Wording) (r : plan.Reading) (s : lines.Reading)
+    instruction-goes : (number : ℕ) (w : Wording) (r : plan.Reading) (s : lines.LineReading)
         → IsReading u ls r s
         → ((x : Instruction) → instruction_of u w ≡ Ok x → Says u ls number x)
         → IfOk (plan.take_instruction u number r w)
         (λ e. IsReading u ls e
-        (lines.on_side (lines.side_behind s.inside w) (lines.add None (number ∷ []) s)))
+        (lines.on_side (lines.inside_behind_line s.inside w)
+        (lines.add_lines None (number ∷ []) s)))
     instruction-goes number w r s is says =
-        let next = lines.on_side (lines.side_behind s.inside w) (lines.add None (number ∷ []) s) in
+        let next = lines.on_side (lines.inside_behind_line s.inside w)
+        (lines.add_lines None (number ∷ []) s) in
         if-has (λ e. IsReading u ls e next) (is_open r.draft.current && may_say r.side w) _ _
         (λ _. go (instruction_of u w) refl (wording-sides w)) (λ _. tt)
       where
         go : (x : Result Instruction ℕ) → instruction_of u w ≡ x → IfOk x (Sides w)
             → IfOk (x >>= put number r)
             (λ e. IsReading u ls e
-            (lines.on_side (lines.side_behind s.inside w) (lines.add None (number ∷ []) s)))
+            (lines.on_side (lines.inside_behind_line s.inside w)
+            (lines.add_lines None (number ∷ []) s)))
         go (Err code) at sides = tt
         go (Ok x) at sides =
             then-has (λ d. _)
             (λ e. IsReading u ls e
-            (lines.on_side (lines.side_behind s.inside w) (lines.add None (number ∷ []) s)))
-            (plan.add r.draft.blocks r.draft.lanes r.draft.current (x ∷ []))
+            (lines.on_side (lines.inside_behind_line s.inside w)
+            (lines.add_lines None (number ∷ []) s)))
+            (plan.add_to_open r.draft.blocks r.draft.lanes r.draft.current (x ∷ []))
             (on_side (side_behind number r.side x))
             (add-goes u ls r.draft s None (number ∷ []) (x ∷ []) is.0 (says x at, tt))
-            (λ d good. (good, ap (λ b. lines.side_behind b w) is.1 ∙ sides number r.side))
+            (λ d good. (good, ap (λ b. lines.inside_behind_line b w) is.1 ∙ sides number r.side))
 
-    form-goes : (number : ℕ) (form : Form) (r : plan.Reading) (s : lines.Reading)
+    form-goes : (number : ℕ) (form : Form) (r : plan.Reading) (s : lines.LineReading)
         → IsReading u ls r s
-        → ((x : Instruction) → IsSaid u (Ok form) x → Says u ls number x)
+        → ((x : Instruction) → IsSaidByForm u (Ok form) x → Says u ls number x)
         → IfOk (plan.take_form u number r form)
         (λ e. IsReading u ls e (lines.take_form number form s))
     unfolding plan.take_form lines.take_form
@@ -99,12 +103,12 @@ module _ (u : Universe) where
     form-goes number (UseForm name) r s is says = use-goes u ls number name r s is
     form-goes number (InstructionForm w) r s is says = instruction-goes number w r s is says
 
-    line-goes : (line : Line) (r : plan.Reading) (s : lines.Reading) → IsReading u ls r s
+    line-goes : (line : Line) (r : plan.Reading) (s : lines.LineReading) → IsReading u ls r s
         → Contains ls line
-        → IfOk (text.take_line u r line) (λ e. IsReading u ls e (lines.take_line s line))
+        → IfOk (text.take_line u r line) (λ e. IsReading u ls e (lines.reading_with s line))
     unfolding text.take_text
     line-goes (number, line) r s is there =
-        placed-has (λ e. IsReading u ls e (lines.take_line s (number, line))) FILE number
+        placed-has (λ e. IsReading u ls e (lines.reading_with s (number, line))) FILE number
         (form_at line >>= plan.take_form u number r)
         (go (form_at line) refl)
       where
@@ -116,21 +120,22 @@ module _ (u : Universe) where
             form-goes number form r s is
             (λ x said. record { line = line; stands = there; said = rw at said })
 
-    steps-go : (front xs : List Line) (r : plan.Reading) (s : lines.Reading) → ls ≡ front ++ xs
+    steps-go : (front xs : List Line) (r : plan.Reading) (s : lines.LineReading) → ls ≡ front ++ xs
         → IsReading u ls r s
-        → IfOk (steps (text.take_line u) r xs) (λ e. IsReading u ls e (fold lines.take_line s xs))
+        → IfOk (steps (text.take_line u) r xs)
+        (λ e. IsReading u ls e (fold lines.reading_with s xs))
     unfolding steps
     steps-go front [] r s cut is = is
     steps-go front (x ∷ xs) r s cut is =
-        then-has (λ e. IsReading u ls e (lines.take_line s x))
-        (λ e. IsReading u ls e (fold lines.take_line (lines.take_line s x) xs))
+        then-has (λ e. IsReading u ls e (lines.reading_with s x))
+        (λ e. IsReading u ls e (fold lines.reading_with (lines.reading_with s x) xs))
         (text.take_line u r x) _
         (line-goes x r s is
         (rw cut (Contains-append_right front (x ∷ xs) x (0, omega arith, refl))))
-        (λ t good. steps-go (front ++ x ∷ []) xs t (lines.take_line s x)
+        (λ t good. steps-go (front ++ x ∷ []) xs t (lines.reading_with s x)
         (cut ∙ sym (append_assoc front (x ∷ []) xs)) good)
 
-    end-says : (r : plan.Reading) (s : lines.Reading) → IsReading u ls r s
+    end-says : (r : plan.Reading) (s : lines.LineReading) → IsReading u ls r s
         → IfOk (text.end_of r) (λ p. AllZip (IsLane u ls) s.lanes p)
     end-says r s is = go r.draft.current where
       go : (o : plan.Open)
@@ -150,15 +155,16 @@ module _ (u : Universe) where
       (λ _. then-has (λ e. IsReading u all e (lines.reading_of ls))
       (λ p. AllZip (IsLane u all) (lines.reading_of ls).lanes p)
       (steps (text.take_line u) plan.unread ls) text.end_of
-      (steps-go all ((number, line) ∷ []) ls plan.unread lines.unread refl ((tt, tt, tt), refl))
+      (steps-go all ((number, line) ∷ []) ls plan.unread lines.no_lines_read refl
+      ((tt, tt, tt), refl))
       (λ e is. end-says all e (lines.reading_of ls) is))
       (λ _. tt)
 
 pub lines-say : LinesSay
-unfolding text.plan_of lines.lines_of
+unfolding text.plan_of lines.plan_lines_of
 lines-say u bytes p is = go (nat_lt MOST_BYTES (length bytes)) refl where
   go : (b : Bool) → nat_lt MOST_BYTES (length bytes) ≡ b
-      → (read : lines.TextLines) × (lines.lines_of bytes ≡ Ok read)
+      → (read : lines.TextLines) × (lines.plan_lines_of bytes ≡ Ok read)
       × AllZip (IsLane u (plain_lines 1 bytes)) read.lanes p
   go true long = let no = rw long at is in absurd cc
   go false short =

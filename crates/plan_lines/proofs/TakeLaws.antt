@@ -18,7 +18,7 @@ use Rattle.plan_model.specs.declared.instructions.Instruction.TheVariants.{EndWh
 use Rattle.plan_model.specs.Plan.{Lane}
 use Rattle.plan_lines.specs.declared.origin.Origin.{Origin}
 use Rattle.plan_lines.specs.LinesSay.{Says, IsLane}
-use Rattle.plan_lines.specs.Origins.{Block, LaneLines, from_line, lines_named, count_of}
+use Rattle.plan_lines.specs.Origins.{Block, LaneLines, from_line, lines_named, listed_count}
 use Rattle.plan_lines.specs.Readings as lines
 use Rattle.plan_lines.proofs.BlockLaws.{room-fits}
 use Rattle.plan_lines.proofs.LineLaws.{Lines, IsBlock, IsOpen, IsDraft, IsReading, zip-append, zip-long, with-origins, counts, named, any-same}
@@ -27,7 +27,7 @@ abbrev draft : List plan.Block → List Lane → plan.Open → plan.Draft
 draft bs ls o = record { blocks = bs; lanes = ls; current = o }
 
 abbrev reading : List Block → List ℕ → List LaneLines → List Origin → lines.Open → Bool
-    → lines.Reading
+    → lines.LineReading
 reading cs ns ms os o inside = record {
   blocks = cs;
   lines = ns;
@@ -46,7 +46,7 @@ module _ (u : Universe) (ls : List Line) where
     to-block : (line : ℕ) (c : plan.Block) (ns : List ℕ) (os : List Origin) (name : List ℕ)
         → IsDraft u ls (draft bs p (plan.InBlock line c))
         (reading cs ns ms os (lines.InBlock name) inside)
-        → IfOk (plan.add bs p (plan.InBlock line c) xs)
+        → IfOk (plan.add_to_open bs p (plan.InBlock line c) xs)
         (λ d. IsDraft u ls d (lines.add_to (lines.InBlock name) used new
         (reading cs ns ms os (lines.InBlock name) inside)))
     to-block line c ns os name is =
@@ -65,7 +65,7 @@ module _ (u : Universe) (ls : List Line) where
     to-lane : (line : ℕ) (l : Lane) (ns : List ℕ) (os : List Origin) (head : ℕ)
         → IsDraft u ls (draft bs p (plan.InLane line l))
         (reading cs ns ms os (lines.InLane head) inside)
-        → IfOk (plan.add bs p (plan.InLane line l) xs)
+        → IfOk (plan.add_to_open bs p (plan.InLane line l) xs)
         (λ d. IsDraft u ls d (lines.add_to (lines.InLane head) used new
         (reading cs ns ms os (lines.InLane head) inside)))
     to-lane line l ns os head is =
@@ -85,7 +85,7 @@ module _ (u : Universe) (ls : List Line) where
         let before = counts u ls ms p is.1 in
         let both = length-append (instructions_of (p ++ l ∷ [])) xs in
         let last = lane-last p l in
-        rw (room-fits (count_of ms) os (map (from_line used) new)
+        rw (room-fits (listed_count ms) os (map (from_line used) new)
         (omega (arith, here, more, before, both, last, fits.1))) (
           is.0,
           is.1,
@@ -105,7 +105,7 @@ module _ (u : Universe) (ls : List Line) where
 
     added : (o : plan.Open) (ns : List ℕ) (os : List Origin) (q : lines.Open)
         → IsDraft u ls (draft bs p o) (reading cs ns ms os q inside)
-        → IfOk (plan.add bs p o xs)
+        → IfOk (plan.add_to_open bs p o xs)
         (λ d. IsDraft u ls d (lines.add_to q used new (reading cs ns ms os q inside)))
     added plan.Nothing ns os q is = tt
     added (plan.InBlock line c) ns os lines.Nothing is = absurd is.2
@@ -115,15 +115,16 @@ module _ (u : Universe) (ls : List Line) where
     added (plan.InLane line l) ns os (lines.InBlock name) is = absurd is.2
     added (plan.InLane line l) ns os (lines.InLane head) is = to-lane line l ns os head is
 
-  pub add-goes : (d : plan.Draft) (s : lines.Reading) (used : Option ℕ) (new : List ℕ)
+  pub add-goes : (d : plan.Draft) (s : lines.LineReading) (used : Option ℕ) (new : List ℕ)
       (xs : List Instruction) → IsDraft u ls d s → Lines u ls new xs
-      → IfOk (plan.add d.blocks d.lanes d.current xs) (λ e. IsDraft u ls e (lines.add used new s))
+      → IfOk (plan.add_to_open d.blocks d.lanes d.current xs)
+      (λ e. IsDraft u ls e (lines.add_lines used new s))
   add-goes d s used new xs is said =
       added d.blocks d.lanes s.blocks s.lanes s.inside used new xs said d.current s.lines s.origins
       s.current is
 
   -- behind a line that comes into no branch
-  side-goes : (b : Bool) (t : Side) (s : lines.Reading) (r : Result plan.Draft ℕ)
+  side-goes : (b : Bool) (t : Side) (s : lines.LineReading) (r : Result plan.Draft ℕ)
       → b ≡ not (is_outside t) → IfOk r (λ d. IsDraft u ls d s)
       → IfOk (r >>= on_side t) (λ e. IsReading u ls e (lines.on_side b s))
   side-goes b t s r inside has =
@@ -132,7 +133,7 @@ module _ (u : Universe) (ls : List Line) where
 
   -- ---- what is open ends
 
-  ends : (bs : List plan.Block) (p : List Lane) (o : plan.Open) (s : lines.Reading) (number : ℕ)
+  ends : (bs : List plan.Block) (p : List Lane) (o : plan.Open) (s : lines.LineReading) (number : ℕ)
       (q : lines.Open) → s.current ≡ q → IsDraft u ls (draft bs p o) s
       → IfOk (plan.end_open bs p o) (λ d. IsDraft u ls d (lines.end_of q number s))
   ends bs p plan.Nothing s number q at is = tt
@@ -153,7 +154,7 @@ module _ (u : Universe) (ls : List Line) where
       rw at at is.2 in
       (is.0, zip-append (IsLane u ls) s.lanes _ p _ is.1 (opened, tt), tt)
 
-  pub end-goes : (number : ℕ) (r : plan.Reading) (s : lines.Reading) → IsReading u ls r s
+  pub end-goes : (number : ℕ) (r : plan.Reading) (s : lines.LineReading) → IsReading u ls r s
       → ((x : Instruction) → x ≡ EndWhen → Says u ls number x)
       → IfOk (plan.take_end r.draft r.side) (λ e. IsReading u ls e (lines.take_end number s))
   end-goes number r s is says = go r.side is.1 where
@@ -161,7 +162,7 @@ module _ (u : Universe) (ls : List Line) where
         → IfOk (plan.take_end r.draft t) (λ e. IsReading u ls e (lines.take_end number s))
     go Outside inside =
         subst (λ b. IfOk (plan.take_end r.draft Outside) (λ e. IsReading u ls e
-        (if b then lines.on_side false (lines.add None (number ∷ []) s)
+        (if b then lines.on_side false (lines.add_lines None (number ∷ []) s)
         else lines.end_of s.current number s))) (sym inside)
         (then-has (λ d. IsDraft u ls d (lines.end_of s.current number s))
         (λ e. IsReading u ls e (lines.end_of s.current number s))
@@ -177,35 +178,36 @@ module _ (u : Universe) (ls : List Line) where
     go (InFirst w) inside = tt
     go (InSecond w) inside =
         subst (λ b. IfOk (plan.take_end r.draft (InSecond w)) (λ e. IsReading u ls e
-        (if b then lines.on_side false (lines.add None (number ∷ []) s)
+        (if b then lines.on_side false (lines.add_lines None (number ∷ []) s)
         else lines.end_of s.current number s))) (sym inside)
-        (side-goes false Outside (lines.add None (number ∷ []) s) _ refl
+        (side-goes false Outside (lines.add_lines None (number ∷ []) s) _ refl
         (add-goes r.draft s None (number ∷ []) (EndWhen ∷ []) is.0 (says EndWhen refl, tt)))
 
   -- ---- what is not in a branch
 
-  pub block-goes : (number : ℕ) (name : List ℕ) (r : plan.Reading) (s : lines.Reading)
+  pub block-goes : (number : ℕ) (name : List ℕ) (r : plan.Reading) (s : lines.LineReading)
       → IsReading u ls r s
       → IfOk (plan.take_block number r.draft name >>= on_side Outside)
-      (λ e. IsReading u ls e (lines.opened (lines.InBlock name) s))
+      (λ e. IsReading u ls e (lines.with_open (lines.InBlock name) s))
   block-goes number name r s is =
-      then-has (λ d. IsDraft u ls d (lines.opened (lines.InBlock name) s))
-      (λ e. IsReading u ls e (lines.opened (lines.InBlock name) s))
+      then-has (λ d. IsDraft u ls d (lines.with_open (lines.InBlock name) s))
+      (λ e. IsReading u ls e (lines.with_open (lines.InBlock name) s))
       (plan.take_block number r.draft name) (on_side Outside)
-      (if-has (λ d. IsDraft u ls d (lines.opened (lines.InBlock name) s))
+      (if-has (λ d. IsDraft u ls d (lines.with_open (lines.InBlock name) s))
       (is_open r.draft.current) _ _ (λ _. tt)
-      (λ _. if-has (λ d. IsDraft u ls d (lines.opened (lines.InBlock name) s))
+      (λ _. if-has (λ d. IsDraft u ls d (lines.with_open (lines.InBlock name) s))
       (list_any (λ (b : plan.Block). bytes_eq name b.name) r.draft.blocks) _ _ (λ _. tt)
       (λ new. (is.0.0, is.0.1, (refl, tt, new)))))
       (λ d good. (good, refl))
 
   pub lane-goes : (number : ℕ) (name chroot : List ℕ) (budget : ℕ) (r : plan.Reading)
-      (s : lines.Reading) → IsReading u ls r s
+      (s : lines.LineReading) → IsReading u ls r s
       → IfOk (plan.take_lane u number r.draft name chroot budget >>= on_side Outside)
-      (λ e. IsReading u ls e (lines.opened (lines.InLane number) s))
+      (λ e. IsReading u ls e (lines.with_open (lines.InLane number) s))
   lane-goes number name chroot budget r s is =
-      let Goal : plan.Draft → Type 0 = λ d. IsDraft u ls d (lines.opened (lines.InLane number) s) in
-      then-has Goal (λ e. IsReading u ls e (lines.opened (lines.InLane number) s))
+      let Goal : plan.Draft → Type 0 = λ d. IsDraft u ls d
+      (lines.with_open (lines.InLane number) s) in
+      then-has Goal (λ e. IsReading u ls e (lines.with_open (lines.InLane number) s))
       (plan.take_lane u number r.draft name chroot budget) (on_side Outside)
       (if-has Goal (is_open r.draft.current) _ _ (λ _. tt)
       (λ _. then-has (λ _. Unit {0}) Goal (known_base u chroot) _ (always (known_base u chroot))
@@ -215,12 +217,12 @@ module _ (u : Universe) (ls : List Line) where
       (λ _. (is.0.0, is.0.1, tt))))))
       (λ d good. (good, refl))
 
-  pub use-goes : (number : ℕ) (name : List ℕ) (r : plan.Reading) (s : lines.Reading)
+  pub use-goes : (number : ℕ) (name : List ℕ) (r : plan.Reading) (s : lines.LineReading)
       → IsReading u ls r s
       → IfOk (plan.take_use r name)
-      (λ e. IsReading u ls e (lines.add (Some number) (lines_named s.blocks name) s))
+      (λ e. IsReading u ls e (lines.add_lines (Some number) (lines_named s.blocks name) s))
   use-goes number name r s is =
-      let next = lines.add (Some number) (lines_named s.blocks name) s in
+      let next = lines.add_lines (Some number) (lines_named s.blocks name) s in
       if-has (λ e. IsReading u ls e next)
       (is_open r.draft.current && is_outside r.side) _ _
       (λ both. then-has (λ d. IsDraft u ls d next) (λ e. IsReading u ls e next)

@@ -4,7 +4,7 @@ use Rattle.std.proofs.lemmas.List.{append-nil}
 use Rattle.plan_lines.specs.declared.joins.Pair.{Pair}
 use Rattle.plan_lines.specs.declared.joins.Part.{Part}
 use Rattle.plan_lines.specs.declared.joins.Part.TheVariants.{Line, Join}
-use Rattle.plan_lines.specs.Joins.{body, bodies, stacked, IsPart, AreParts, ArePairs, turns}
+use Rattle.plan_lines.specs.Joins.{body, bodies, stacked, IsPartOfJoins, ArePartsOfJoins, ArePairs, turns}
 use Rattle.plan_lines.proofs.JoinLaws.{pair-at, join-at, part-some}
 
 stacked-append : (bs : List (List ℕ)) (xs ys : List Part)
@@ -20,22 +20,24 @@ turns-append bs [] ys = omega arith
 turns-append bs (p ∷ xs) ys =
     let later = turns-append bs xs ys in omega (arith, later)
 
-parts-front : (n : ℕ) (xs ys : List Part) → AreParts n (xs ++ ys) → AreParts n xs × AreParts n ys
+parts-front : (n : ℕ) (xs ys : List Part) → ArePartsOfJoins n (xs ++ ys)
+    → ArePartsOfJoins n xs × ArePartsOfJoins n ys
 parts-front n [] ys are = (tt, are)
 parts-front n (p ∷ xs) ys are =
     let later = parts-front n xs ys are.1 in ((are.0, later.0), later.1)
 
-parts-push : (n : ℕ) (xs : List Part) (p : Part) → AreParts n xs → IsPart n p
-    → AreParts n (xs ++ p ∷ [])
+parts-push : (n : ℕ) (xs : List Part) (p : Part) → ArePartsOfJoins n xs → IsPartOfJoins n p
+    → ArePartsOfJoins n (xs ++ p ∷ [])
 parts-push n [] p are is = (is, tt)
 parts-push n (x ∷ xs) p are is = (are.0, parts-push n xs p are.1 is)
 
 module _ (qs : List Pair) (rest : List Part) where
-  pub top-known : (p : Part) → AreParts (length qs) (rest ++ p ∷ []) → IsPart (length qs) p
+  pub top-known : (p : Part) → ArePartsOfJoins (length qs) (rest ++ p ∷ [])
+      → IsPartOfJoins (length qs) p
   top-known p are = (parts-front (length qs) rest (p ∷ []) are).1.0
 
-  pub rest-known : (p : Part) → AreParts (length qs) (rest ++ p ∷ [])
-      → AreParts (length qs) rest
+  pub rest-known : (p : Part) → ArePartsOfJoins (length qs) (rest ++ p ∷ [])
+      → ArePartsOfJoins (length qs) rest
   rest-known p are = (parts-front (length qs) rest (p ∷ []) are).0
 
   pub top-left : (p : Part)
@@ -52,7 +54,7 @@ module _ (qs : List Pair) (rest : List Part) where
     abbrev pub found : Pair
     found = get_or qs b d
 
-    known : IsPart (length qs) found.first × IsPart (length qs) found.second
+    known : IsPartOfJoins (length qs) found.first × IsPartOfJoins (length qs) found.second
     known =
         let e : 0 + length qs ≡ length qs = omega arith in rw e at (pair-at 0 qs d b lt are)
 
@@ -81,8 +83,8 @@ module _ (qs : List Pair) (rest : List Part) where
         ∙ length-append (body (bodies qs) found.first) (body (bodies qs) found.second) in
         omega (arith, one, two, all, first, second, long)
 
-    pub join-known : AreParts (length qs) (rest ++ Join b ∷ [])
-        → AreParts (length qs) ((rest ++ found.second ∷ []) ++ found.first ∷ [])
+    pub join-known : ArePartsOfJoins (length qs) (rest ++ Join b ∷ [])
+        → ArePartsOfJoins (length qs) ((rest ++ found.second ∷ []) ++ found.first ∷ [])
     join-known parts =
         parts-push (length qs) (rest ++ found.second ∷ []) found.first
         (parts-push (length qs) rest found.second (rest-known (Join b) parts) known.1) known.0

@@ -6,7 +6,7 @@ use Rattle.std.specs.Global.{Vec}
 use Rattle.plan_asm.specs.declared.error.TheConstants.{MOST_INSTRUCTIONS}
 use Rattle.plan_lines.specs.declared.blocks.Whole.{Whole}
 use Rattle.plan_lines.specs.declared.joins.Part.{Part}
-use Rattle.plan_lines.specs.Joins.{body, IsPart}
+use Rattle.plan_lines.specs.Joins.{body, IsPartOfJoins}
 use Rattle.plan_lines.specs.Origins.{Block, with_block, with_room}
 
 -- the blocks that have ended, and the lines of the open one so far
@@ -24,13 +24,13 @@ abbrev pub lines_in : List (List ℕ) → Whole → List ℕ
 lines_in bs whole = lines_of_part bs whole.part
 
 -- a block that has ended
-abbrev pub block_of : List (List ℕ) → Vec ℕ × Whole → Block
-block_of bs (name, whole) = record { name = name.items; lines = lines_in bs whole }
+abbrev pub block_lines_of : List (List ℕ) → Vec ℕ × Whole → Block
+block_lines_of bs (name, whole) = record { name = name.items; lines = lines_in bs whole }
 
 -- a part that speaks of the first n joins, where there is one
 abbrev pub IsSomePart : ℕ → Option Part → Type 0
 IsSomePart n None = Unit {0}
-IsSomePart n (Some p) = IsPart n p
+IsSomePart n (Some p) = IsPartOfJoins n p
 
 -- it speaks of what there is, and its lines are counted
 pub record IsWhole (bs : List (List ℕ)) (whole : Whole) : Type 0 where
@@ -58,8 +58,8 @@ abbrev pub whole_named : List (Vec ℕ × Whole) → List ℕ → Whole
 whole_named es name = unwrap_or (lookup (λ k. bytes_eq name k.items) es) empty_whole
 
 -- lines come into the open block
-abbrev pub write : BlockLines → List ℕ → BlockLines
-write blocks ns = record { ended = blocks.ended; begun = with_room 0 blocks.begun ns }
+abbrev pub lines_written : BlockLines → List ℕ → BlockLines
+lines_written blocks ns = record { ended = blocks.ended; begun = with_room 0 blocks.begun ns }
 
 -- the open block ends
 abbrev pub end_block : BlockLines → List ℕ → BlockLines

@@ -14,13 +14,13 @@ body bs (Line number) = number ∷ []
 body bs (Join place) = get_or bs place []
 
 -- the lines of a join
-abbrev pub joined : List (List ℕ) → Pair → List ℕ
-joined bs q = body bs q.first ++ body bs q.second
+abbrev pub joined_lines : List (List ℕ) → Pair → List ℕ
+joined_lines bs q = body bs q.first ++ body bs q.second
 
 -- the joins one after the other, each over those before it
 abbrev pub bodies_from : List (List ℕ) → List Pair → List (List ℕ)
 bodies_from done [] = done
-bodies_from done (q ∷ qs) = bodies_from (done ++ joined done q ∷ []) qs
+bodies_from done (q ∷ qs) = bodies_from (done ++ joined_lines done q ∷ []) qs
 
 -- what each join stands for
 unfoldable pub bodies : List Pair → List (List ℕ)
@@ -32,18 +32,18 @@ stacked bs [] = []
 stacked bs (p ∷ ps) = stacked bs ps ++ body bs p
 
 -- a part that speaks of the first n joins
-abbrev pub IsPart : ℕ → Part → Type 0
-IsPart n (Line number) = Unit {0}
-IsPart n (Join place) = place < n
+abbrev pub IsPartOfJoins : ℕ → Part → Type 0
+IsPartOfJoins n (Line number) = Unit {0}
+IsPartOfJoins n (Join place) = place < n
 
-abbrev pub AreParts : ℕ → List Part → Type 0
-AreParts n [] = Unit {0}
-AreParts n (p ∷ ps) = IsPart n p × AreParts n ps
+abbrev pub ArePartsOfJoins : ℕ → List Part → Type 0
+ArePartsOfJoins n [] = Unit {0}
+ArePartsOfJoins n (p ∷ ps) = IsPartOfJoins n p × ArePartsOfJoins n ps
 
 -- joins behind n others, each of them of parts before it
 abbrev pub ArePairs : ℕ → List Pair → Type 0
 ArePairs n [] = Unit {0}
-ArePairs n (q ∷ qs) = IsPart n q.first × IsPart n q.second × ArePairs (n + 1) qs
+ArePairs n (q ∷ qs) = IsPartOfJoins n q.first × IsPartOfJoins n q.second × ArePairs (n + 1) qs
 
 -- one less than twice its lines: more than its two parts together
 abbrev pub weight : List (List ℕ) → Part → ℕ

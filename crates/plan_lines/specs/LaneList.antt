@@ -2,7 +2,7 @@
 use Rattle.std.specs.Prelude.{◌≡◌, ◌≤◌, ℕ, ◌+◌, List, [], ◌∷◌, ◌++◌, length}
 use Rattle.plan_asm.specs.declared.error.TheConstants.{MOST_INSTRUCTIONS}
 use Rattle.plan_lines.specs.declared.origin.Origin.{Origin}
-use Rattle.plan_lines.specs.Origins.{LaneLines, with_room, count_of}
+use Rattle.plan_lines.specs.Origins.{LaneLines, with_room, listed_count}
 
 -- the lanes that have ended, and where the instructions of the open one come from so far
 pub record LaneList : Type 0 where
@@ -10,15 +10,15 @@ pub record LaneList : Type 0 where
   pub begun : List Origin
 
 -- the instructions of the lanes that have ended are counted, and there are not too many in all
-pub record IsCounted (lanes : List LaneLines) (n : ℕ) (begun : List Origin) : Type 0 where
-  pub counted : n ≡ count_of lanes
+pub record AreLanesCounted (lanes : List LaneLines) (n : ℕ) (begun : List Origin) : Type 0 where
+  pub counted : n ≡ listed_count lanes
   pub few : n + length begun ≤ MOST_INSTRUCTIONS
 
 -- origins come into the open lane
-abbrev pub put : LaneList → List Origin → LaneList
-put lanes xs = record {
+abbrev pub origins_put : LaneList → List Origin → LaneList
+origins_put lanes xs = record {
   ended = lanes.ended;
-  begun = with_room (count_of lanes.ended) lanes.begun xs;
+  begun = with_room (listed_count lanes.ended) lanes.begun xs;
 }
 
 -- the open lane, of the line head, ends at a line

@@ -16,20 +16,20 @@ use Rattle.plan_model.specs.declared.instructions.Instruction.TheVariants.{EndWh
 use Rattle.plan_model.specs.Plan.{Lane, Plan}
 use Rattle.plan_lines.specs.declared.origin.Origin.{Origin}
 use Rattle.plan_lines.specs.Origins.{LaneLines}
-use Rattle.plan_lines.specs.Readings.{TextLines, lines_of}
+use Rattle.plan_lines.specs.Readings.{TextLines, plan_lines_of}
 
 -- a line of this form says an instruction: its own, or that of the `end` of a branch
-abbrev pub IsSaid : Universe → Result Form ℕ → Instruction → Type 0
-IsSaid u (Ok (InstructionForm wording)) x = instruction_of u wording ≡ Ok x
-IsSaid u (Ok EndForm) x = x ≡ EndWhen
-IsSaid u (Ok form) x = ⊥
-IsSaid u (Err code) x = ⊥
+abbrev pub IsSaidByForm : Universe → Result Form ℕ → Instruction → Type 0
+IsSaidByForm u (Ok (InstructionForm wording)) x = instruction_of u wording ≡ Ok x
+IsSaidByForm u (Ok EndForm) x = x ≡ EndWhen
+IsSaidByForm u (Ok form) x = ⊥
+IsSaidByForm u (Err code) x = ⊥
 
 -- there is such a line, and it says the instruction
 pub record Says (u : Universe) (ls : List Line) (number : ℕ) (x : Instruction) : Type 0 where
   pub line : List ℕ
   pub stands : Contains ls (number, line)
-  pub said : IsSaid u (form_at line) x
+  pub said : IsSaidByForm u (form_at line) x
 
 -- a lane has an origin for each instruction, whose line says it
 abbrev pub IsLane : Universe → List Line → LaneLines → Lane → Type 0
@@ -39,5 +39,5 @@ IsLane u ls lane l = AllZip (λ (o : Origin) x. Says u ls o.line x) lane.origins
 abbrev pub LinesSay : Type 0
 LinesSay =
     (u : Universe) (text : List ℕ) (p : Plan) → plan_of u text ≡ Ok p
-    → (lines : TextLines) × (lines_of text ≡ Ok lines)
+    → (lines : TextLines) × (plan_lines_of text ≡ Ok lines)
     × AllZip (IsLane u (plain_lines 1 text)) lines.lanes p

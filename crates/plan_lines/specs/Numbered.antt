@@ -3,7 +3,7 @@
 -- `-` for what there is none of. Parameters: u a universe, ms the lanes by lines, k the number of a
 -- lane.
 --
---   front number line                the numbers before a line
+--   numbers_before number line       the numbers before a line
 --   numbered_listing_of u p lines    the listing with them
 use Rattle.std.specs.Prelude.{ℕ, ◌+◌, Bool, false, List, [], ◌∷◌, ◌++◌, codes, slice_get, Option, None, Some}
 use Rattle.std.specs.Fmt.{decimal}
@@ -22,12 +22,12 @@ number_text (Some number) = decimal number ++ codes " "
 number_text None = codes "- "
 
 -- the number of an instruction, and a line
-abbrev pub front : Option ℕ → Option ℕ → List ℕ
-front number line = number_text number ++ number_text line
+abbrev pub numbers_before : Option ℕ → Option ℕ → List ℕ
+numbers_before number line = number_text number ++ number_text line
 
 -- the line of the instruction at a place of lane k
-abbrev pub line_of : List LaneLines → ℕ → ℕ → Option ℕ
-line_of ms k place = option_map (λ (o : Origin). o.line) (origin_at ms k place)
+abbrev pub line_of_place : List LaneLines → ℕ → ℕ → Option ℕ
+line_of_place ms k place = option_map (λ (o : Origin). o.line) (origin_at ms k place)
 
 -- the lines that open the lane k, and end it
 abbrev pub head_of : List LaneLines → ℕ → Option ℕ
@@ -39,7 +39,7 @@ end_of ms k = option_map (λ (m : LaneLines). m.end) (slice_get ms k)
 -- the line of the instruction at a place of lane k, inside a branch or not
 abbrev pub numbered_line : Universe → List LaneLines → ℕ → Bool → ℕ → Instruction → List ℕ
 numbered_line u ms k inside place x =
-    front (Some (place + 1)) (line_of ms k place) ++ instruction_line u inside x
+    numbers_before (Some (place + 1)) (line_of_place ms k place) ++ instruction_line u inside x
 
 -- the lines of instructions from a place on, the first of them in a branch or not
 abbrev pub numbered_lines : Universe → List LaneLines → ℕ → Bool → ℕ → List Instruction → List ℕ
@@ -51,8 +51,9 @@ numbered_lines u ms k inside place (x ∷ xs) =
 -- the lines of lane k
 unfoldable pub numbered_lane : Universe → List LaneLines → ℕ → Lane → List ℕ
 numbered_lane u ms k l =
-    (front None (head_of ms k) ++ lane_line u l)
-    ++ (numbered_lines u ms k false 0 l.instructions ++ (front None (end_of ms k) ++ codes "end\n"))
+    (numbers_before None (head_of ms k) ++ lane_line u l)
+    ++ (numbered_lines u ms k false 0 l.instructions
+    ++ (numbers_before None (end_of ms k) ++ codes "end\n"))
 
 -- the lines of lanes from number k on
 abbrev pub numbered_lanes : Universe → List LaneLines → ℕ → List Lane → List ℕ
@@ -62,4 +63,4 @@ numbered_lanes u ms k (l ∷ ls) = numbered_lane u ms k l ++ numbered_lanes u ms
 -- the listing of a plan with the lines of a text
 unfoldable pub numbered_listing_of : Universe → Plan → TextLines → List ℕ
 numbered_listing_of u p lines =
-    (front None lines.first ++ codes "plan 1\n") ++ numbered_lanes u lines.lanes 0 p
+    (numbers_before None lines.first ++ codes "plan 1\n") ++ numbered_lanes u lines.lanes 0 p

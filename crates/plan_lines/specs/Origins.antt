@@ -42,5 +42,5 @@ with_block bs name lines =
     else bs ++ record { name = name; lines = lines } ∷ []
 
 -- how many instructions these lanes have
-abbrev pub count_of : List LaneLines → ℕ
-count_of ls = length (flat_map (λ (l : LaneLines). l.origins) ls)
+abbrev pub listed_count : List LaneLines → ℕ
+listed_count ls = length (flat_map (λ (l : LaneLines). l.origins) ls)

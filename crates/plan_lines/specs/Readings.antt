@@ -2,11 +2,11 @@
 -- is none of a plan's says nothing, nor does an instruction, a `use` or an `end` where nothing is
 -- open. What the lines of a text say that is no plan is of no use.
 --
---   Reading              what the lines so far say
---   take_line r line     what they say with one more
+--   LineReading          what the lines so far say
+--   reading_with r line  what they say with one more
 --   TextLines            the lines of a text
 --   origin_at ls l i      where an instruction comes from
---   lines_of text        those of a plan's text, or the fault of a text that is too long
+--   plan_lines_of text   those of a plan's text, or the fault of a text that is too long
 use Rattle.std.specs.Prelude.{ℕ, Bool, true, false, List, [], ◌∷◌, ◌++◌, map, slice_get, fold, Option, None, Some, Result, Ok, Err, if◌then◌else◌}
 use Rattle.std.specs.Option.{option_and_then}
 use Rattle.deb_stanza.specs.Plain.{plain_lines_at}
@@ -17,7 +17,7 @@ use Rattle.farm_universe.specs.Told.{in_file}
 use Rattle.plan_asm.specs.declared.error.TheConstants.{FILE}
 use Rattle.plan_asm.specs.Forms.{Wording, WhenForm, Form, BlockForm, LaneForm, EndForm, UseForm, InstructionForm, form_at}
 use Rattle.plan_lines.specs.declared.origin.Origin.{Origin}
-use Rattle.plan_lines.specs.Origins.{Block, LaneLines, from_line, with_room, lines_named, with_block, count_of}
+use Rattle.plan_lines.specs.Origins.{Block, LaneLines, from_line, with_room, lines_named, with_block, listed_count}
 
 -- what is left open: a block of this name, or a lane that opens at this line
 pub data Open : Type 0 where
@@ -28,7 +28,7 @@ pub data Open : Type 0 where
 -- the blocks that have ended, and the lines of the open one; the lanes that have ended, and where
 -- the instructions of the open one come from; what is open, and whether the next line stands inside
 -- a branch
-pub record Reading : Type 0 where
+pub record LineReading : Type 0 where
   pub blocks : List Block
   pub lines : List ℕ
   pub lanes : List LaneLines
@@ -37,8 +37,8 @@ pub record Reading : Type 0 where
   pub inside : Bool
 
 -- before the first line
-abbrev pub unread : Reading
-unread = record {
+abbrev pub no_lines_read : LineReading
+no_lines_read = record {
   blocks = [];
   lines = [];
   lanes = [];
@@ -48,8 +48,8 @@ unread = record {
 }
 
 -- a block or a lane opens, and what was open is left out
-abbrev pub opened : Open → Reading → Reading
-opened o r = record {
+abbrev pub with_open : Open → LineReading → LineReading
+with_open o r = record {
   blocks = r.blocks;
   lines = [];
   lanes = r.lanes;
@@ -60,60 +60,60 @@ opened o r = record {
 
 -- these lines come into what is open, in a lane as those that the `use` of a line brings in where
 -- there is one
-abbrev pub add_to : Open → Option ℕ → List ℕ → Reading → Reading
+abbrev pub add_to : Open → Option ℕ → List ℕ → LineReading → LineReading
 add_to Nothing used ns r = r
 add_to (InBlock name) used ns r = record r { lines = with_room 0 r.lines ns }
 add_to (InLane head) used ns r =
-    record r { origins = with_room (count_of r.lanes) r.origins (map (from_line used) ns) }
+    record r { origins = with_room (listed_count r.lanes) r.origins (map (from_line used) ns) }
 
-abbrev pub add : Option ℕ → List ℕ → Reading → Reading
-add used ns r = add_to r.current used ns r
+abbrev pub add_lines : Option ℕ → List ℕ → LineReading → LineReading
+add_lines used ns r = add_to r.current used ns r
 
 -- what is open ends at a line
-abbrev pub end_of : Open → ℕ → Reading → Reading
+abbrev pub end_of : Open → ℕ → LineReading → LineReading
 end_of Nothing number r = r
 end_of (InBlock name) number r =
-    opened Nothing (record r { blocks = with_block r.blocks name r.lines })
+    with_open Nothing (record r { blocks = with_block r.blocks name r.lines })
 end_of (InLane head) number r =
-    opened Nothing (record r {
+    with_open Nothing (record r {
       lanes = r.lanes ++ record { head = head; origins = r.origins; end = number } ∷ [];
     })
 
 -- inside a branch or not
-abbrev pub on_side : Bool → Reading → Reading
+abbrev pub on_side : Bool → LineReading → LineReading
 on_side inside r = record r { inside = inside }
 
 -- whether the line behind an instruction stands inside a branch
-abbrev pub side_behind : Bool → Wording → Bool
-side_behind inside (WhenForm name relation) = true
-side_behind inside wording = inside
+abbrev pub inside_behind_line : Bool → Wording → Bool
+inside_behind_line inside (WhenForm name relation) = true
+inside_behind_line inside wording = inside
 
 -- an `end` is that of the branch, or else of the block or lane
-abbrev pub take_end : ℕ → Reading → Reading
+abbrev pub take_end : ℕ → LineReading → LineReading
 take_end number r =
-    if r.inside then on_side false (add None (number ∷ []) r) else end_of r.current number r
+    if r.inside then on_side false (add_lines None (number ∷ []) r) else end_of r.current number r
 
 -- with one more line, of this number and form
-unfoldable pub take_form : ℕ → Form → Reading → Reading
-take_form number (BlockForm name) r = opened (InBlock name) r
-take_form number (LaneForm name chroot budget) r = opened (InLane number) r
+unfoldable pub take_form : ℕ → Form → LineReading → LineReading
+take_form number (BlockForm name) r = with_open (InBlock name) r
+take_form number (LaneForm name chroot budget) r = with_open (InLane number) r
 take_form number EndForm r = take_end number r
-take_form number (UseForm name) r = add (Some number) (lines_named r.blocks name) r
+take_form number (UseForm name) r = add_lines (Some number) (lines_named r.blocks name) r
 take_form number (InstructionForm wording) r =
-    on_side (side_behind r.inside wording) (add None (number ∷ []) r)
+    on_side (inside_behind_line r.inside wording) (add_lines None (number ∷ []) r)
 
 -- the same, where the line has a form
-abbrev pub take_read : ℕ → Result Form ℕ → Reading → Reading
+abbrev pub take_read : ℕ → Result Form ℕ → LineReading → LineReading
 take_read number (Ok form) r = take_form number form r
 take_read number (Err code) r = r
 
 -- with one more line
-abbrev pub take_line : Reading → Line → Reading
-take_line r (number, line) = take_read number (form_at line) r
+abbrev pub reading_with : LineReading → Line → LineReading
+reading_with r (number, line) = take_read number (form_at line) r
 
 -- what the lines behind the first one say
-abbrev pub reading_of : List Line → Reading
-reading_of ls = fold take_line unread ls
+abbrev pub reading_of : List Line → LineReading
+reading_of ls = fold reading_with no_lines_read ls
 
 -- the first line, and the lanes in file order
 pub record TextLines : Type 0 where
@@ -131,5 +131,5 @@ lines_in [] = record { first = None; lanes = [] }
 lines_in ((number, line) ∷ ls) = record { first = Some number; lanes = (reading_of ls).lanes }
 
 -- what the lines of a text say that are neither blank nor comments
-unfoldable pub lines_of : List ℕ → Result TextLines Fault
-lines_of text = in_file FILE (plain_lines_at text) >>= λ ls. Ok (lines_in ls)
+unfoldable pub plan_lines_of : List ℕ → Result TextLines Fault
+plan_lines_of text = in_file FILE (plain_lines_at text) >>= λ ls. Ok (lines_in ls)

@@ -2,7 +2,7 @@
 
 ghost use Rattle.std.specs.Prelude.{◌≡◌, ◌∷◌, ◌+◌, ◌≤◌, [], length, map, Some, IfOk, OnOk};
 ghost use Rattle.plan_asm.specs.declared.error.TheConstants as limits;
-ghost use Rattle.plan_lines.specs.BlockLines.{whole_named, write, end_block, IsWhole, Grows};
+ghost use Rattle.plan_lines.specs.BlockLines.{whole_named, lines_written, end_block, IsWhole, Grows};
 ghost use Rattle.plan_lines.specs.Origins.{from_line, lines_named, with_room};
 
 use crate::joins::{Joins, Part};
@@ -35,12 +35,12 @@ pub struct Blocks {
 
 impl Model for Blocks {
     ghost use Rattle.std.specs.Prelude.{map};
-    ghost use Rattle.plan_lines.specs.BlockLines.{BlockLines, block_of, lines_in, AreWhole};
+    ghost use Rattle.plan_lines.specs.BlockLines.{BlockLines, block_lines_of, lines_in, AreWhole};
 
     ghost Value = { BlockLines };
 
     ghost view = { λ it. record {
-      ended = map (block_of it.joins) it.ended.entries;
+      ended = map (block_lines_of it.joins) it.ended.entries;
       begun = lines_in it.joins it.begun;
     } };
 
@@ -106,7 +106,7 @@ impl Blocks {
     ///
     /// Where memory ran out.
     pub fn add_line(self, line: u32) -> Result<Blocks, AllocError>
-        ensures { IfOk result (λ next. next ≡ write self (line ∷ [])) }
+        ensures { IfOk result (λ next. next ≡ lines_written self (line ∷ [])) }
     {
         let Blocks {
             mut joins,
@@ -131,7 +131,8 @@ impl Blocks {
     ///
     /// Where memory ran out.
     pub fn add_use(self, name: &[u8]) -> Result<Blocks, AllocError>
-        ensures { IfOk result (λ next. next ≡ write self (lines_named self.ended name.now)) }
+        ensures { IfOk result (λ next. next ≡ lines_written self
+            (lines_named self.ended name.now)) }
     {
         let Blocks {
             mut joins,

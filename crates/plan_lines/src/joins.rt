@@ -1,7 +1,7 @@
 //! Lines that stand together, kept without copies.
 
 ghost use Rattle.std.specs.Prelude.{◌≡◌, ◌∷◌, ◌++◌, ◌<◌, [], length, map, Some, IfOk, OnOk};
-ghost use Rattle.plan_lines.specs.Joins.{body, bodies, stacked, turns, IsPart, AreParts, ArePairs};
+ghost use Rattle.plan_lines.specs.Joins.{body, bodies, stacked, turns, IsPartOfJoins, ArePartsOfJoins, ArePairs};
 ghost use Rattle.plan_lines.specs.Origins.{from_line};
 ghost use Rattle.plan_lines.specs.declared.joins.Part.TheVariants.{Join};
 
@@ -49,14 +49,14 @@ fn take_turn(
     out: &mut Vec<Origin>,
 ) -> Result<(), AllocError>
     requires pairs { ArePairs 0 pairs.now }
-    requires known { AreParts (length pairs.now) (left.now.items ++ next ∷ []) }
+    requires known { ArePartsOfJoins (length pairs.now) (left.now.items ++ next ∷ []) }
     ensures same { OnOk result (
         out.new.items ++ map (from_line (Some used)) (stacked (bodies pairs.now) left.new.items)
         ≡ out.old.items
         ++ map (from_line (Some used)) (stacked (bodies pairs.now) (left.old.items ++ next ∷ []))) }
     ensures less { OnOk result (turns (bodies pairs.now) left.new.items
         < turns (bodies pairs.now) (left.old.items ++ next ∷ [])) }
-    ensures known { OnOk result (AreParts (length pairs.now) left.new.items) }
+    ensures known { OnOk result (ArePartsOfJoins (length pairs.now) left.new.items) }
 {
     match next {
         Part::Line(line) => out.push(Origin {
@@ -89,8 +89,8 @@ impl Joins {
     ///
     /// Where memory ran out.
     pub fn join(&mut self, first: Part, second: Part) -> Result<Part, AllocError>
-        requires first { IsPart (length self.old) first }
-        requires second { IsPart (length self.old) second }
+        requires first { IsPartOfJoins (length self.old) first }
+        requires second { IsPartOfJoins (length self.old) second }
         ensures part { IfOk result (λ part. part ≡ Join (length self.old)) }
         ensures lines { OnOk result
             (self.new ≡ self.old ++ (body self.old first ++ body self.old second) ∷ []) }
@@ -112,7 +112,7 @@ impl Joins {
         used: u32,
         out: &mut Vec<Origin>,
     ) -> Result<(), AllocError>
-        requires { IsPart (length self.now) part }
+        requires { IsPartOfJoins (length self.now) part }
         ensures { OnOk result (out.new.items
             ≡ out.old.items ++ map (from_line (Some used)) (body self.now part)) }
     {

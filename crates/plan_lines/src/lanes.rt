@@ -1,7 +1,7 @@
 //! The lanes of a plan, by lines.
 
 ghost use Rattle.std.specs.Prelude.{◌≡◌, ◌∷◌, [], map, None, Some, IfOk};
-ghost use Rattle.plan_lines.specs.LaneList.{put, end_lane};
+ghost use Rattle.plan_lines.specs.LaneList.{origins_put, end_lane};
 ghost use Rattle.plan_lines.specs.Origins.{from_line, lines_named};
 
 use crate::blocks::Blocks;
@@ -36,13 +36,13 @@ pub struct Lanes {
 }
 
 impl Model for Lanes {
-    ghost use Rattle.plan_lines.specs.LaneList.{LaneList, IsCounted};
+    ghost use Rattle.plan_lines.specs.LaneList.{LaneList, AreLanesCounted};
 
     ghost Value = { LaneList };
 
     ghost view = { λ it. record { ended = it.ended.items; begun = it.begun.items } };
 
-    ghost invariant = { λ it. IsCounted it.ended.items it.count it.begun.items };
+    ghost invariant = { λ it. AreLanesCounted it.ended.items it.count it.begun.items };
 }
 
 impl Lanes {
@@ -82,7 +82,7 @@ impl Lanes {
     ///
     /// Where memory ran out.
     pub fn add_line(self, line: u32) -> Result<Lanes, AllocError>
-        ensures { IfOk result (λ next. next ≡ put self (from_line None line ∷ [])) }
+        ensures { IfOk result (λ next. next ≡ origins_put self (from_line None line ∷ [])) }
     {
         let Lanes {
             ended,
@@ -113,7 +113,8 @@ impl Lanes {
         used: u32,
     ) -> Result<Lanes, AllocError>
         ensures { IfOk result (λ next. next
-            ≡ put self (map (from_line (Some used)) (lines_named blocks.now.ended name.now))) }
+            ≡ origins_put self (map (from_line (Some used))
+            (lines_named blocks.now.ended name.now))) }
     {
         let Lanes {
             ended,

@@ -3,7 +3,7 @@
 ghost use Rattle.std.specs.Prelude.{◌≡◌, ◌++◌, ◌+◌, ◌<◌, false, None, Some, IfOk, OnOk};
 ghost use Rattle.farm_model.specs.Packages.{base};
 ghost use Rattle.plan_asm.specs.Listing.{margin, inside_behind, instruction_line, lane_line};
-ghost use Rattle.plan_lines.specs.Numbered.{number_text, front, line_of, numbered_lines};
+ghost use Rattle.plan_lines.specs.Numbered.{number_text, numbers_before, line_of_place, numbered_lines};
 ghost use Rattle.plan_lines.specs.Numbered.{numbered_lane, numbered_listing_of};
 
 use crate::plan_lines::PlanLines;
@@ -43,7 +43,7 @@ fn widen(line: Option<u32>) -> Option<u64>
 
 fn push_front(alloc: Global, text: &mut Vec<u8>, before: Front) -> Result<(), AllocError>
     ensures { OnOk result
-        (text.new.items ≡ text.old.items ++ front before.number before.line) }
+        (text.new.items ≡ text.old.items ++ numbers_before before.number before.line) }
 {
     push_number(alloc, text, before.number)?;
     push_number(alloc, text, widen(before.line))
@@ -94,7 +94,7 @@ fn push_line(
     instruction: &Instruction,
 ) -> Result<(), AllocError>
     ensures { OnOk result (text.new.items ≡ text.old.items
-        ++ (front before.number before.line
+        ++ (numbers_before before.number before.line
         ++ instruction_line universe.now inside instruction.now)) }
 {
     push_front(alloc, text, before)?;
@@ -106,7 +106,7 @@ fn push_line(
 
 /// The line of the instruction at a place of a lane.
 fn line_of(lines: &PlanLines, number: usize, place: usize) -> Option<u32>
-    ensures { result ≡ line_of lines.now.lanes number place }
+    ensures { result ≡ line_of_place lines.now.lanes number place }
 {
     Some(lines.origin(number, place)?.line)
 }

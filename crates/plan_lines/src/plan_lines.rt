@@ -5,7 +5,7 @@ ghost use Rattle.std.specs.Option.{option_map};
 ghost use Rattle.deb_stanza.specs.Plain.{plain_lines_at};
 ghost use Rattle.deb_text.specs.Answers.{Gives, fault_at, refusal_of};
 ghost use Rattle.farm_universe.specs.Told.{in_file};
-ghost use Rattle.plan_lines.specs.Readings.{reading_of, lines_in, lines_of, origin_at};
+ghost use Rattle.plan_lines.specs.Readings.{reading_of, lines_in, plan_lines_of, origin_at};
 
 use crate::lanes::LaneLines;
 use crate::origin::Origin;
@@ -82,9 +82,9 @@ impl PlanLines {
     ///
     /// 105 of file [`FILE`] and line 0 for a text over 67,108,864 bytes; 900 of file 0 and line 0
     /// where memory ran out. Nothing is left behind.
-    #[tactic(auto, unfolding(crate::specs::Readings::lines_of))]
+    #[tactic(auto, unfolding(crate::specs::Readings::plan_lines_of))]
     pub fn read(alloc: Global, text: &[u8]) -> Result<PlanLines, Fault>
-        ensures { Gives refusal_of (λ lines. lines) result (lines_of text.now) }
+        ensures { Gives refusal_of (λ lines. lines) result (plan_lines_of text.now) }
     {
         let lines = kept_lines(alloc, text)?;
         read_lines(alloc, &lines)

@@ -4,8 +4,8 @@ ghost use Rattle.std.specs.Prelude.{◌≡◌, ◌∷◌, [], None, Some, IfOk, 
 ghost use Rattle.deb_text.specs.Answers.{Gives, refusal_of};
 ghost use Rattle.plan_asm.specs.View.{form_of, wording_of};
 ghost use Rattle.plan_lines.specs.Origins.{lines_named};
-ghost use Rattle.plan_lines.specs.Readings.{unread, opened, add, end_of, on_side, side_behind};
-ghost use Rattle.plan_lines.specs.Readings.{take_end, take_form, take_line};
+ghost use Rattle.plan_lines.specs.Readings.{no_lines_read, with_open, add_lines, end_of, on_side, inside_behind_line};
+ghost use Rattle.plan_lines.specs.Readings.{take_end, take_form, reading_with};
 ghost use Rattle.plan_lines.specs.View.{open_of};
 
 use crate::blocks::Blocks;
@@ -37,7 +37,7 @@ impl Model for Reading {
     ghost use Rattle.plan_lines.specs.Readings as spec;
     ghost use Rattle.plan_lines.specs.View.{open_of};
 
-    ghost Value = { spec.Reading };
+    ghost Value = { spec.LineReading };
 
     ghost view = { λ it. record {
       blocks = it.blocks.ended;
@@ -51,7 +51,7 @@ impl Model for Reading {
 
 /// Tells whether the line behind an instruction stands inside a branch.
 fn side_behind(inside: bool, wording: &Wording<'_>) -> bool
-    ensures { result ≡ side_behind inside (wording_of wording.now) }
+    ensures { result ≡ inside_behind_line inside (wording_of wording.now) }
 {
     match wording {
         Wording::When { .. } => true,
@@ -69,7 +69,7 @@ fn side_behind(inside: bool, wording: &Wording<'_>) -> bool
 impl Reading {
     /// Nothing said so far.
     pub fn new(alloc: Global) -> Reading
-        ensures { result ≡ unread }
+        ensures { result ≡ no_lines_read }
     {
         Reading {
             blocks: Blocks::new(alloc),
@@ -94,7 +94,7 @@ impl Reading {
 
     /// Opens a block or a lane.
     fn open(self, alloc: Global, current: Section) -> Reading
-        ensures { result ≡ opened (open_of current) self }
+        ensures { result ≡ with_open (open_of current) self }
     {
         let Reading { blocks, lanes, .. } = self;
         Reading {
@@ -107,7 +107,7 @@ impl Reading {
 
     /// Puts a line into what is open.
     fn add_line(self, line: u32) -> Result<Reading, AllocError>
-        ensures { IfOk result (λ next. next ≡ add None (line ∷ []) self) }
+        ensures { IfOk result (λ next. next ≡ add_lines None (line ∷ []) self) }
     {
         let Reading {
             blocks,
@@ -140,7 +140,7 @@ impl Reading {
     /// Puts the lines of a block into what is open, brought in by the `use` of this line.
     fn add_use(self, alloc: Global, line: u32, name: &[u8]) -> Result<Reading, AllocError>
         ensures { IfOk result (λ next. next
-            ≡ add (Some line) (lines_named self.blocks name.now) self) }
+            ≡ add_lines (Some line) (lines_named self.blocks name.now) self) }
     {
         let Reading {
             blocks,
@@ -240,7 +240,8 @@ impl Reading {
     ///
     /// [`Fault::MEMORY`] where memory ran out.
     pub fn take_line(self, alloc: Global, number: u32, line: &[u8]) -> Result<Reading, Fault>
-        ensures { Gives refusal_of (λ next. next) result (Ok (take_line self (number, line.now))) }
+        ensures { Gives refusal_of (λ next. next) result
+            (Ok (reading_with self (number, line.now))) }
     {
         match read_form(alloc, line) {
             Ok(form) => Ok(self.take_form(alloc, number, form)?),

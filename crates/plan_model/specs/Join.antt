@@ -2,7 +2,7 @@
 -- universe, n a name, first and second what may be at the ends of the branches.
 --
 --   phases_differ          some name is in another phase
---   joined                 what may hold behind both
+--   joined_may             what may hold behind both
 use Rattle.std.specs.Prelude.{ℕ, max, Bool, true, false, not, ◌&&◌, ◌||◌, List, [], ◌∷◌}
 use Rattle.farm_model.specs.Below.{some_below}
 use Rattle.farm_model.specs.Universe.{Universe}
@@ -45,8 +45,8 @@ both_built (x ∷ xs) (y ∷ ys) = (x && y) ∷ both_built xs ys
 both_built xs ys = []
 
 -- the map behind both branches: what either may hold, the greater cost, and what both have built
-abbrev pub joined : Universe → May → May → May
-joined u first second = record {
+abbrev pub joined_may : Universe → May → May → May
+joined_may u first second = record {
   slots =
       λ n. joined_slot u n (first.slots n) (second.slots n);
   cost = max first.cost second.cost;

@@ -17,7 +17,7 @@ use Rattle.plan_model.specs.Plan.{Lane, Plan, lane, instruction_at, set_cost, bu
 use Rattle.plan_model.specs.Turn.{no_builds, with_built, newest}
 use Rattle.plan_model.specs.Known.{Rows, possible}
 use Rattle.plan_model.specs.May.{Bits, MaySlot, MayAbsent, MayUnpacked, MayConfigured, May}
-use Rattle.plan_model.specs.Join.{joined}
+use Rattle.plan_model.specs.Join.{joined_may}
 use Rattle.plan_model.specs.Risk.{candidates, greatest_cost}
 
 -- the variants that may be the last configured one
@@ -98,7 +98,7 @@ maps_behind u known there m (When name wanted) =
 maps_behind u known there m Otherwise =
     record m { here = m.ahead; first = m.here }
 maps_behind u known there m EndWhen =
-    record m { here = joined u m.first m.here }
+    record m { here = joined_may u m.first m.here }
 maps_behind u known there m x =
     record m { here = may_after u known there m.here x }
 

@@ -1,7 +1,7 @@
 -- In which order the waits and outputs of the lanes can be made: the waits and outputs alone,
 -- without chroots and budgets (the project's own rule; a wait is wanna-build's Dep-Wait).
 --
---   Item, items                 a wait or an output; those of a lane, in turn
+--   OrderItem, items            a wait or an output; those of a lane, in turn
 --   Board, board_after          what each lane has left, and what was published; one item made
 --   IsAtRest                    nothing more goes on the board
 --   Reaches, IsOrder            lists of lanes; one that brings each lane past its last item
@@ -19,23 +19,23 @@ use Rattle.plan_model.specs.Plan.{Lane, Plan}
 use Rattle.plan_model.specs.Turn.{passes}
 
 -- a wait to be passed, or an output to be given
-pub data Item : Type 0 where
-  Pass : (entry : Entry) → Item
-  Give : (output : Variant) → Item
+pub data OrderItem : Type 0 where
+  Pass : (entry : Entry) → OrderItem
+  Give : (output : Variant) → OrderItem
 
 -- the waits and outputs of an instruction
-abbrev pub items_of : Universe → Instruction → List Item
+abbrev pub items_of : Universe → Instruction → List OrderItem
 items_of u (Publish r) = map Give (outputs u r)
 items_of u (Wait e) = Pass e ∷ []
 items_of u _ = []
 
 -- those of a list of instructions, in turn
-unfoldable pub items : Universe → List Instruction → List Item
+unfoldable pub items : Universe → List Instruction → List OrderItem
 items u xs = flat_map (items_of u) xs
 
 -- what each lane has left to do in the archive, and what was published
 pub record Board : Type 0 where
-  pub rest : List (List Item)
+  pub rest : List (List OrderItem)
   pub published : List Variant
 
 -- all is left, and nothing is published
@@ -47,11 +47,11 @@ abbrev pub on_board : Universe → Board → Variant → Bool
 on_board u b v = initial u v || contains b.published v
 
 -- what a lane has left
-abbrev pub rest_of : Board → ℕ → List Item
+abbrev pub rest_of : Board → ℕ → List OrderItem
 rest_of b l = slice_index_or b.rest l []
 
 -- the first of these items of lane l made: a wait passes where it can, an output enters the archive
-abbrev pub board_after : Universe → Board → ℕ → List Item → Option Board
+abbrev pub board_after : Universe → Board → ℕ → List OrderItem → Option Board
 board_after u b l [] = None
 board_after u b l (Pass e ∷ is) =
     if passes u (on_board u b) e then Some

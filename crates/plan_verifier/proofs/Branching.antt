@@ -10,7 +10,7 @@ use Rattle.may_rows.specs.Words.{Words, may_of}
 use Rattle.plan_model.specs.declared.instructions.Instruction.{Instruction}
 use Rattle.plan_model.specs.declared.instructions.Instruction.TheVariants.{When, Otherwise, EndWhen}
 use Rattle.plan_model.specs.Branches.{Side, Outside, InFirst, InSecond, side_behind_some, side_at, home, may_stand, IsBranched}
-use Rattle.plan_model.specs.Join.{phases_differ, joined}
+use Rattle.plan_model.specs.Join.{phases_differ, joined_may}
 use Rattle.plan_model.specs.Known.{Rows, possible}
 use Rattle.plan_model.specs.May.{May}
 use Rattle.plan_model.specs.MayAt.{may_after, Maps, maps_behind, maps_at}
@@ -19,8 +19,8 @@ use Rattle.plan_model.specs.Risk.{risk}
 use Rattle.plan_model.specs.Safety.{Meets, Parts, parts_of, hazard_of, hazard_at}
 use Rattle.plan_verifier.specs.declared.branch.Branch.{Branch}
 use Rattle.plan_verifier.specs.declared.branch.LaneMay.{LaneMay}
-use Rattle.plan_verifier.specs.Branch.{forgotten, turned, JoinedBy, IsEndOf, IsJoined, IsBranch, IsAt}
-use Rattle.plan_verifier.specs.Walk.{told_at, is_plain}
+use Rattle.plan_verifier.specs.Branch.{forgotten, turned, JoinedBy, IsBranchEnd, IsBehindEnd, IsBranch, IsAt}
+use Rattle.plan_verifier.specs.Walk.{place_told, is_plain}
 use Rattle.verdict_laws.proofs.RowBefore.{home-before}
 use Rattle.plan_verifier.proofs.Steps.{maps-next, hazard-is}
 
@@ -94,14 +94,14 @@ module _ (u : Universe) (p : Plan) (rows : Rows) (l i : ℕ)
 
   -- behind an `end` whose branches agree
   -- what is kept of the open branch is of the lane
-  pub held-at : (w : LaneMay) → IsAt u p rows l i w → IsEndOf u (lane p l) w
+  pub held-at : (w : LaneMay) → IsAt u p rows l i w → IsBranchEnd u (lane p l) w
   held-at w at = record {
     here = at.of_lane;
     first = λ k first is. (subst (λ b. IsBranch u (lane p l) side maps b) is at.branch).2;
   }
 
   pub end-at : instruction_at p l i ≡ Some EndWhen → (w next : LaneMay) → IsAt u p rows l i w
-      → IsJoined u (lane p l) w next None
+      → IsBehindEnd u (lane p l) w next None
       → (hazard_at u p rows l i ≡ None) × IsAt u p rows l (suc i) next
   end-at is w next at done = by w.branch at.branch done
     where
@@ -116,8 +116,8 @@ module _ (u : Universe) (p : Plan) (rows : Rows) (l i : ℕ)
                 ∙ ap (hazard_of None) (ap (phases_differ u maps.first) at.here
                 ∙ ap (λ m. phases_differ u m (may_of w.here)) e.1 ∙ j.0),
             record {
-              here = ap (λ (m : Maps). m.here) after ∙ ap (joined u maps.first) at.here
-                  ∙ ap (λ m. joined u m (may_of w.here)) e.1 ∙ sym j.1;
+              here = ap (λ (m : Maps). m.here) after ∙ ap (joined_may u maps.first) at.here
+                  ∙ ap (λ m. joined_may u m (may_of w.here)) e.1 ∙ sym j.1;
               of_lane = j.2;
               doubts = subst (AreDoubts u (may_of next.here)) (sym j.3)
                   (nothing_known u (may_of next.here));
@@ -128,13 +128,13 @@ module _ (u : Universe) (p : Plan) (rows : Rows) (l i : ℕ)
 
   -- an `end` whose branches part
   pub parts-at : instruction_at p l i ≡ Some EndWhen → (w next : LaneMay) → IsAt u p rows l i w
-      → (told : ℕ) → IsJoined u (lane p l) w next (Some told)
-      → (hazard_at u p rows l i ≡ Some Parts) × (told ≡ told_at p l i Parts)
+      → (told : ℕ) → IsBehindEnd u (lane p l) w next (Some told)
+      → (hazard_at u p rows l i ≡ Some Parts) × (told ≡ place_told p l i Parts)
   parts-at is w next at told done = by w.branch at.branch done
     where
       by : (b : Branch) → IsBranch u (lane p l) side maps b
           → JoinedBy u (lane p l) w next b (Some told)
-          → (hazard_at u p rows l i ≡ Some Parts) × (told ≡ told_at p l i Parts)
+          → (hazard_at u p rows l i ≡ Some Parts) × (told ≡ place_told p l i Parts)
       by Branch.Outside e j = absurd (both_ways _ refl (stands EndWhen Outside is e))
       by (Branch.First k ahead) e j =
           absurd (both_ways _ refl (stands EndWhen (InFirst k) is e.0))
@@ -220,5 +220,5 @@ module _ (u : Universe) (p : Plan) (rows : Rows) (l i : ℕ)
       ∙ ap (λ r. hazard_of r (parts_of u maps (Some x))) risky
 
   -- where branches part is told ahead of the place
-  pub told-before : told_at p l i Parts ≤ i
+  pub told-before : place_told p l i Parts ≤ i
   told-before = home-before (lane p l).instructions i

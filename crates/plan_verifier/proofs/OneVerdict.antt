@@ -18,7 +18,7 @@ use Rattle.verdict_laws.proofs.Unions.{greatest_is_one}
 use Rattle.plan_verifier.specs.Accepted.{AcceptedPlan, known_rows, AreCosts, IsAccepted}
 use Rattle.plan_verifier.specs.OneVerdict.{RefusalsAreRight, IsSameRefusal, IsForMemory, IsSameAnswer, VerdictsAreOne}
 use Rattle.plan_verifier.specs.Verdict.{IsRefused, AreStuckLanes, IsVerdictOn, IsVerdict}
-use Rattle.plan_verifier.specs.Walk.{told_at}
+use Rattle.plan_verifier.specs.Walk.{place_told}
 use Rattle.plan_verifier.specs.declared.refusal.Refusal.{Refusal}
 use Rattle.plan_verifier.specs.declared.refusal.Refusal.TheVariants.{Text, Unsafe, Uneven, Stuck, Memory}
 
@@ -121,9 +121,9 @@ same-unsafe u p name other number place hazard cause is against =
     let one = first_unsafe_is_one u p is.rows is.l is.i against.l against.i hazard cause is.first
     moved in (
       is.named ∙ ap (λ l. (lane p l).name) one.0 ∙ sym against.named,
-      is.numbered ∙ ap (λ l. told_at p l is.i hazard + 1) one.0
-          ∙ ap (λ i. told_at p against.l i hazard + 1) one.1
-          ∙ ap (λ h. told_at p against.l against.i h + 1) one.2 ∙ sym against.numbered,
+      is.numbered ∙ ap (λ l. place_told p l is.i hazard + 1) one.0
+          ∙ ap (λ i. place_told p against.l i hazard + 1) one.1
+          ∙ ap (λ h. place_told p against.l against.i h + 1) one.2 ∙ sym against.numbered,
       one.2,
     )
 

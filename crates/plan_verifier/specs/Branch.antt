@@ -3,8 +3,8 @@
 --
 --   forgotten          nothing is known to be met
 --   turned             behind an `else`
---   IsEndOf            at an `end`
---   IsJoined           behind it
+--   IsBranchEnd        at an `end`
+--   IsBehindEnd        behind it
 --   IsBranch, IsAt     what is kept of the open branch, and at a place of a lane
 use Rattle.std.specs.Prelude.{◌≡◌, ℕ, true, false, [], Option, Some, None}
 use Rattle.farm_model.specs.Universe.{Universe}
@@ -12,7 +12,7 @@ use Rattle.may_rows.specs.Met.{Doubt, AreDoubts}
 use Rattle.may_rows.specs.Walk.{IsOfLane}
 use Rattle.may_rows.specs.Words.{Words, may_of}
 use Rattle.plan_model.specs.Branches.{Side, Outside, InFirst, InSecond, side_at}
-use Rattle.plan_model.specs.Join.{phases_differ, joined}
+use Rattle.plan_model.specs.Join.{phases_differ, joined_may}
 use Rattle.plan_model.specs.Known.{Rows}
 use Rattle.plan_model.specs.MayAt.{Maps, maps_at}
 use Rattle.plan_model.specs.Plan.{Lane, Plan, lane}
@@ -29,7 +29,7 @@ turned w (Branch.First at ahead) =
 turned w _ = record { here = w.here; doubts = forgotten; branch = Branch.Outside }
 
 -- what may be held at the ends of both branches is of the lane
-pub record IsEndOf (u : Universe) (of : Lane) (w : LaneMay) : Type 0 where
+pub record IsBranchEnd (u : Universe) (of : Lane) (w : LaneMay) : Type 0 where
   pub here : IsOfLane u of w.here
   pub first : (at : ℕ) (first : Words) → w.branch ≡ Branch.Second at first → IsOfLane u of first
 
@@ -40,12 +40,12 @@ JoinedBy u of w next (Branch.Second at first) (Some told) =
     (told ≡ at) × (phases_differ u (may_of first) (may_of w.here) ≡ true)
 JoinedBy u of w next (Branch.Second at first) None =
     (phases_differ u (may_of first) (may_of w.here) ≡ false)
-    × (may_of next.here ≡ joined u (may_of first) (may_of w.here)) × IsOfLane u of next.here
+    × (may_of next.here ≡ joined_may u (may_of first) (may_of w.here)) × IsOfLane u of next.here
     × (next.doubts ≡ forgotten) × (next.branch ≡ Branch.Outside)
 JoinedBy u of w next _ told = Unit {0}
 
-abbrev pub IsJoined : Universe → Lane → LaneMay → LaneMay → Option ℕ → Type 0
-IsJoined u of w next told = JoinedBy u of w next w.branch told
+abbrev pub IsBehindEnd : Universe → Lane → LaneMay → LaneMay → Option ℕ → Type 0
+IsBehindEnd u of w next told = JoinedBy u of w next w.branch told
 
 -- the branch that is kept is the one that the place lies in, with the map that is needed again
 abbrev pub IsBranch : Universe → Lane → Side → Maps → Branch → Type 0

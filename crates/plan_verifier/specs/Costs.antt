@@ -12,13 +12,13 @@ use Rattle.plan_model.specs.Safety.{Hazard, Meets, Parts, IsSafeUnder, IsFirstUn
 use Rattle.plan_verifier.specs.declared.refusal.Refusal.{Refusal}
 use Rattle.plan_verifier.specs.declared.walk.WalkError.{WalkError}
 use Rattle.plan_verifier.specs.Accepted.{AreCosts}
-use Rattle.plan_verifier.specs.Walk.{told_at}
+use Rattle.plan_verifier.specs.Walk.{place_told}
 
 -- the first hazard of the first lane that has one is told, by the lane's number
 pub record IsFirstTold (u : Universe) (p : Plan) (rows : Rows) (l : ℕ) (hazard : Hazard)
     (number : ℕ) : Type 0 where
   pub i : ℕ
-  pub numbered : number ≡ told_at p l i hazard + 1
+  pub numbered : number ≡ place_told p l i hazard + 1
   pub first : IsFirstUnsafe u p rows l i hazard
 
 -- each instruction is safe under the rows, and these are the costs; or the first hazard is told
@@ -48,7 +48,7 @@ pub record IsFirstToldUnsafe (u : Universe) (p : Plan) (rows : Rows) (name : Lis
   pub i : ℕ
   pub first : IsFirstUnsafe u p rows l i hazard
   pub named : name ≡ (lane p l).name
-  pub numbered : number ≡ told_at p l i hazard + 1
+  pub numbered : number ≡ place_told p l i hazard + 1
 
 -- each instruction is safe under the rows, and these are the costs; or the first hazard is told
 abbrev pub IsWalked : Universe → Plan → Rows → Result (Vec ℕ) Refusal → Type 0

@@ -14,7 +14,7 @@ use Rattle.plan_model.specs.Safety.{Hazard, Meets, Parts, IsSafeUnder, IsFirstUn
 use Rattle.plan_verifier.specs.declared.refusal.Refusal.{Refusal}
 use Rattle.plan_verifier.specs.declared.refusal.Refusal.TheVariants.{Text, Unsafe, Uneven, Stuck, Memory}
 use Rattle.plan_verifier.specs.Accepted.{AcceptedPlan, IsAccepted}
-use Rattle.plan_verifier.specs.Walk.{told_at}
+use Rattle.plan_verifier.specs.Walk.{place_told}
 use Rattle.farm_input.specs.Planned.{FarmPlan}
 
 -- Under the greatest known rows, this hazard is the first one of the first lane that has one: a
@@ -28,7 +28,7 @@ pub record IsRefused (u : Universe) (p : Plan) (name : List ℕ) (number : ℕ) 
   pub i : ℕ
   pub first : IsFirstUnsafe u p rows l i hazard
   pub named : name ≡ (lane p l).name
-  pub numbered : number ≡ told_at p l i hazard + 1
+  pub numbered : number ≡ place_told p l i hazard + 1
 
 -- Under the greatest known rows each instruction is safe, and the lanes of these names, in file
 -- order, are those that no list of waits and outputs brings past their last one; there are some.

@@ -1,7 +1,7 @@
 -- A walk over the instructions of a lane. Parameters: u a universe, p a plan, rows what its lanes
 -- know, l a lane. The project's own rules.
 --
---   told_at, IsTold     where a hazard is told
+--   place_told, IsTold  where a hazard is told
 --   IsAdvanced          what is answered to an instruction
 --   WalkedTo, Walked    what is answered to the instructions ahead of a place, and to a lane
 use Rattle.std.specs.Prelude.{◌≡◌, ℕ, suc, ◌+◌, ◌<◌, Bool, true, false, Some, None, Result, Ok, Err}
@@ -19,16 +19,16 @@ use Rattle.plan_verifier.specs.declared.walk.WalkError.{WalkError}
 use Rattle.plan_verifier.specs.declared.walk.WalkError.TheVariants.{Unsafe, Uneven, Memory}
 
 -- where a hazard is told: a trap at its instruction, branches that part at their `when`
-abbrev pub told_at : Plan → ℕ → ℕ → Hazard → ℕ
-told_at p l i (Meets trap) = i
-told_at p l i Parts = home (side_at (lane p l).instructions i) i
+abbrev pub place_told : Plan → ℕ → ℕ → Hazard → ℕ
+place_told p l i (Meets trap) = i
+place_told p l i Parts = home (side_at (lane p l).instructions i) i
 
 -- the first hazard of the lane is at place i, and is told by this lane and the number, from 1
 pub record IsTold (u : Universe) (p : Plan) (rows : Rows) (l : ℕ) (hazard : Hazard)
     (told number : ℕ) : Type 0 where
   pub i : ℕ
   pub lane : told ≡ l
-  pub numbered : number ≡ told_at p l i hazard + 1
+  pub numbered : number ≡ place_told p l i hazard + 1
   pub here : hazard_at u p rows l i ≡ Some hazard
   pub before : (k : ℕ) → k < i → hazard_at u p rows l k ≡ None
 
@@ -43,7 +43,7 @@ is_plain _ = true
 pub record IsToldHere (u : Universe) (p : Plan) (rows : Rows) (l i : ℕ) (hazard : Hazard)
     (told number : ℕ) : Type 0 where
   pub lane : told ≡ l
-  pub numbered : number ≡ told_at p l i hazard + 1
+  pub numbered : number ≡ place_told p l i hazard + 1
   pub here : hazard_at u p rows l i ≡ Some hazard
 
 -- the instruction at place i is safe, and this is what may be held behind it; or its hazard is told

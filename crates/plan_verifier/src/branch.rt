@@ -3,7 +3,7 @@
 ghost use Rattle.std.specs.Prelude.{◌≡◌, ℕ, OnOk};
 ghost use Rattle.may_rows.specs.Words.{Words, AreWords};
 ghost use Rattle.plan_model.specs.Plan as plan;
-ghost use Rattle.plan_verifier.specs.Branch.{turned, IsEndOf, IsJoined};
+ghost use Rattle.plan_verifier.specs.Branch.{turned, IsBranchEnd, IsBehindEnd};
 
 use farm_universe::Universe;
 use may_rows::{Doubts, MayHold};
@@ -67,8 +67,8 @@ impl LaneMay {
         requires here { AreWords universe.now self.old.here }
         requires first { (at : ℕ) (first : Words) → self.old.branch ≡ Branch.Second at first
             → AreWords universe.now first }
-        ensures { (of : plan.Lane) → IsEndOf universe.now of self.old
-            → IsJoined universe.now of self.old self.new result }
+        ensures { (of : plan.Lane) → IsBranchEnd universe.now of self.old
+            → IsBehindEnd universe.now of self.old self.new result }
     {
         self.doubts.forget();
         match mem::replace(&mut self.branch, Branch::Outside) {

@@ -14,7 +14,7 @@ use Rattle.may_rows.specs.Words.{Words, may_of, AreWords}
 use Rattle.may_rows.proofs.Bridges.{hold-is, configured-is}
 use Rattle.refusal_reasons.specs.declared.types.Reason.{Reason}
 use Rattle.refusal_reasons.specs.First.{first_below, first_held, first_configured, first_other}
-use Rattle.refusal_reasons.specs.Hits.{hits, IsFirstHit}
+use Rattle.refusal_reasons.specs.Hits.{name_has_hit, IsFirstHit}
 use Rattle.refusal_reasons.proofs.FirstLaws.{first_below-some, first_below-at, first_held-some, first_configured-some}
 use Rattle.refusal_reasons.proofs.HasReason.{then-is, else-some}
 
@@ -75,7 +75,7 @@ module _ (u : Universe) (w : Words) (is : AreWords u w) (v : Variant) (q : Varia
   abbrev ready : ℕ → Option Reason
   ready n = if n == v.name then None else first_configured u f n (slot n)
 
-  held-is : (n : ℕ) → is_some (held n) ≡ hits u w.here (of_another_name v q) n
+  held-is : (n : ℕ) → is_some (held n) ≡ name_has_hit u w.here (of_another_name v q) n
   held-is n =
       else-some (n == v.name) (first_held u f n (slot n))
       ∙ (λ i. not (n == v.name) && first_held-some u f n (slot n) i)
@@ -84,7 +84,7 @@ module _ (u : Universe) (w : Words) (is : AreWords u w) (v : Variant) (q : Varia
       ∙ (λ i. not (n == v.name) && hold-is u n (p n) _ _ _ _ (is.each n) i)
       ∙ sym (apart u n (word_has (slice_index w.here n)) (p n) (n == v.name))
 
-  ready-is : (n : ℕ) → is_some (ready n) ≡ hits u w.ready (of_another_name v q) n
+  ready-is : (n : ℕ) → is_some (ready n) ≡ name_has_hit u w.ready (of_another_name v q) n
   ready-is n =
       else-some (n == v.name) (first_configured u f n (slot n))
       ∙ (λ i. not (n == v.name) && first_configured-some u f n (slot n) i)
@@ -93,27 +93,29 @@ module _ (u : Universe) (w : Words) (is : AreWords u w) (v : Variant) (q : Varia
       ∙ (λ i. not (n == v.name) && configured-is u n (p n) _ _ _ _ (is.each n) i)
       ∙ sym (apart u n (word_has (slice_index w.ready n)) (p n) (n == v.name))
 
-  pub held-none : some_below (names u) (hits u w.here (of_another_name v q)) ≡ false
+  pub held-none : some_below (names u) (name_has_hit u w.here (of_another_name v q)) ≡ false
       → None ≡ first_other u (may_of w) v.name (first_held u f)
-  held-none none = sym (by-none (hits u w.here (of_another_name v q)) held held-is (names u) none)
+  held-none none = sym (by-none (name_has_hit u w.here (of_another_name v q)) held held-is (names u)
+      none)
 
   pub held-some : (n : ℕ) → IsFirstHit u w.here (of_another_name v q) n
       → first_held u f n ((may_of w).slots n)
       ≡ first_other u (may_of w) v.name (first_held u f)
   held-some n first =
       not_left_out (n == v.name) (first_held u f n (slot n)) (held-is n ∙ first.hit)
-      ∙ by-first (hits u w.here (of_another_name v q)) held held-is (names u) n first.named
+      ∙ by-first (name_has_hit u w.here (of_another_name v q)) held held-is (names u) n first.named
       first.hit first.before
 
-  pub ready-none : some_below (names u) (hits u w.ready (of_another_name v q)) ≡ false
+  pub ready-none : some_below (names u) (name_has_hit u w.ready (of_another_name v q)) ≡ false
       → None ≡ first_other u (may_of w) v.name (first_configured u f)
   ready-none none =
-      sym (by-none (hits u w.ready (of_another_name v q)) ready ready-is (names u) none)
+      sym (by-none (name_has_hit u w.ready (of_another_name v q)) ready ready-is (names u) none)
 
   pub ready-some : (n : ℕ) → IsFirstHit u w.ready (of_another_name v q) n
       → first_configured u f n ((may_of w).slots n)
       ≡ first_other u (may_of w) v.name (first_configured u f)
   ready-some n first =
       not_left_out (n == v.name) (first_configured u f n (slot n)) (ready-is n ∙ first.hit)
-      ∙ by-first (hits u w.ready (of_another_name v q)) ready ready-is (names u) n first.named
+      ∙ by-first (name_has_hit u w.ready (of_another_name v q)) ready ready-is (names u) n
+      first.named
       first.hit first.before

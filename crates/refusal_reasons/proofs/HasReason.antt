@@ -24,13 +24,13 @@ use Rattle.plan_model.specs.Turn.{was_built, newest}
 use Rattle.plan_model.specs.May.{Bits, MaySlot, May, some_of, some_name, may_hold, may_hold_configured, surely_met, surely_met_with, surely_pre_met, greatest_size, may_use, is_surely_unpacked, is_surely_configured, is_surely_present}
 use Rattle.plan_model.specs.Risk as risks
 use Rattle.plan_model.specs.Risk.{candidates, greatest_cost, may_exceed, some_may_member, may_be_needed, may_be_unsettled, risk}
-use Rattle.sat_rows.specs.Rows.{entry_at}
+use Rattle.sat_rows.specs.Rows.{nth_entry}
 use Rattle.may_rows.proofs.ByNumber.{any-numbers}
 use Rattle.refusal_reasons.specs.declared.types.Field.{Field}
 use Rattle.refusal_reasons.specs.declared.types.Reason.{Reason}
 use Rattle.refusal_reasons.specs.First.{first_place, first_of, first_held, first_configured, first_other, first_member}
 use Rattle.refusal_reasons.specs.Reasons as reasons
-use Rattle.refusal_reasons.specs.Reasons.{field_of, unmet_field, unmet_entry, needs_member, needed_field, needed_entry, reason}
+use Rattle.refusal_reasons.specs.Reasons.{asked_in_field, unmet_field, unmet_entry, needs_member, needed_field, needed_entry, reason}
 use Rattle.refusal_reasons.proofs.FirstLaws.{or-is, first_below-some, first_in-some, first_of-some, first_held-some, first_configured-some, first_name-some, first_member-some}
 
 -- ---- one test
@@ -61,16 +61,17 @@ map-some f (Some x) = refl
 
 first_place-some : (p : Entry → Bool) (es : Relations) → is_some (first_place p es) ≡ list_any p es
 first_place-some p es =
-    first_below-some (length es) (λ i. if p (entry_at es i) then Some i else None)
-    ∙ (λ j. some_below (length es) (λ i. then-is (p (entry_at es i)) i j))
+    first_below-some (length es) (λ i. if p (nth_entry es i) then Some i else None)
+    ∙ (λ j. some_below (length es) (λ i. then-is (p (nth_entry es i)) i j))
     ∙ any-numbers p [] es
 
 module _ (u : Universe) (test : Entry → Bool) (v : Variant) where
   unmet_field-some : (field : Field)
-      → is_some (unmet_field u test field v) ≡ unmet test (field_of u v field)
+      → is_some (unmet_field u test field v) ≡ unmet test (asked_in_field u v field)
   unmet_field-some field =
-      map-some (λ i. Reason.Unmet v field i) (first_place (λ e. not (test e)) (field_of u v field))
-      ∙ first_place-some (λ e. not (test e)) (field_of u v field)
+      map-some (λ i. Reason.Unmet v field i)
+      (first_place (λ e. not (test e)) (asked_in_field u v field))
+      ∙ first_place-some (λ e. not (test e)) (asked_in_field u v field)
 
   unmet_entry-some : is_some (unmet_entry u test v) ≡ unmet test (entries u v)
   unmet_entry-some =
@@ -78,10 +79,10 @@ module _ (u : Universe) (test : Entry → Bool) (v : Variant) where
       ∙ sym (list_any-append (λ e. not (test e)) (depends u v) (pre_depends u v))
 
   needed_field-some : (field : Field)
-      → is_some (needed_field u test field v) ≡ list_any test (field_of u v field)
+      → is_some (needed_field u test field v) ≡ list_any test (asked_in_field u v field)
   needed_field-some field =
-      map-some (λ i. Reason.StillNeeded v field i) (first_place test (field_of u v field))
-      ∙ first_place-some test (field_of u v field)
+      map-some (λ i. Reason.StillNeeded v field i) (first_place test (asked_in_field u v field))
+      ∙ first_place-some test (asked_in_field u v field)
 
   needed_entry-some : is_some (needed_entry u test v) ≡ list_any test (entries u v)
   needed_entry-some =
@@ -141,7 +142,7 @@ module _ (u : Universe) (m : May) where
       ∙ (λ i. list_any (λ k. else-is (right (m.slots k)) (Reason.WrongState k) i) members)
 
   still_needed-some : (members : List ℕ)
-      → is_some (reasons.still_needed u members m) ≡ may_be_needed u members m
+      → is_some (reasons.still_needed_reason u members m) ≡ may_be_needed u members m
   unfolding may_be_needed
   still_needed-some members =
       let f = needed_entry u (needs_member u members m) in
@@ -184,7 +185,7 @@ explained f (x ∷ xs) each t is =
     first_or f x.0 x.1 t (first_trap xs) is each.0 (explained f xs each.1 t)
 
 module _ (u : Universe) (of : Lane) (m : May) where
-  over : (cost : ℕ) → is_some (reasons.over_budget of m cost) ≡ may_exceed of m cost
+  over : (cost : ℕ) → is_some (reasons.over_budget_reason of m cost) ≡ may_exceed of m cost
   over cost = then-is (may_exceed of m cost) (Reason.OverBudget m.cost cost of.budget)
 
   full : (added : ℕ)

@@ -1,5 +1,6 @@
 -- What is kept of a map, and what a member may be needed for, by it.
 use Rattle.std.proofs.Common.{◌≡◌, ◌≢◌, inl, inr, ℕ, ◌+◌, ◌<◌, Bool, true, false, not, ◌&&◌, List, Option, None, refl, sym, ap, ◌∙◌, arith, if◌then◌else◌}
+use Rattle.std.specs.Cmp.{both_ways as same_tests}
 use Rattle.std.specs.Prelude.{nat_lt}
 use Rattle.std.proofs.lemmas.Bool.{cases_eq, cases_Bool, eq-eqb, ne_eqb, lt-ltb, ltb-true}
 use Rattle.deb_relation.specs.Relations.{Entry}
@@ -8,7 +9,6 @@ use Rattle.farm_model.specs.Chroot.{member}
 use Rattle.farm_model.specs.Universe.{Universe}
 use Rattle.farm_model.specs.Packages.{variant, names, satisfies_entry}
 use Rattle.farm_model.proofs.BelowLaws.{some_below-same}
-use Rattle.farm_model.proofs.TestLaws.{same_tests}
 use Rattle.plan_model.specs.May.{Bits, MaySlot, MayAbsent, MayUnpacked, MayConfigured, May, some_name, may_hold, may_hold_configured, surely_configured, surely_met}
 use Rattle.plan_model.specs.Risk.{surely_met_outside, may_meet}
 use Rattle.may_rows.specs.Configures.{slots_after}
@@ -89,7 +89,7 @@ module _ (u : Universe) (ms : List ℕ) (m : May) where
         by n q false (MayUnpacked current last) = refl
         by n q false (MayConfigured current) = refl
 
-    meets-outside : surely_met u outside e ≡ surely_met_outside u ms m e
+    pub meets-outside : surely_met u outside e ≡ surely_met_outside u ms m e
     unfolding surely_met surely_met_outside
     meets-outside =
         some_below-same (names u) _ _ (λ n lt. by n (p n) (member ms n) (m.slots n))

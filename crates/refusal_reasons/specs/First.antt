@@ -12,7 +12,7 @@ use Rattle.farm_model.specs.declared.types.Variant.{Variant}
 use Rattle.farm_model.specs.Universe.{Universe}
 use Rattle.farm_model.specs.Packages.{variant, names, variants}
 use Rattle.plan_model.specs.May.{Bits, MaySlot, MayAbsent, MayUnpacked, MayConfigured, May}
-use Rattle.sat_rows.specs.Rows.{entry_at}
+use Rattle.sat_rows.specs.Rows.{nth_entry}
 
 -- the answer of the first number below n that has one
 abbrev pub first_below : {A : Type 0} → ℕ → (ℕ → Option A) → Option A
@@ -26,7 +26,7 @@ first_in f (x ∷ xs) = option_or (f x) (first_in f xs)
 
 -- the place of the first entry that passes
 abbrev pub first_place : (Entry → Bool) → Relations → Option ℕ
-first_place p es = first_below (length es) (λ i. if p (entry_at es i) then Some i else None)
+first_place p es = first_below (length es) (λ i. if p (nth_entry es i) then Some i else None)
 
 -- of these variants of a name, the answer of the lowest bit that has one
 abbrev pub first_of : {A : Type 0} → Universe → ℕ → Bits → (Variant → Option A) → Option A

@@ -1,6 +1,6 @@
 -- What the instructions at a place of a lane go by.
 --
---   IsPlace      its parts belong together
+--   IsPlaceOfLane  its parts belong together
 use Rattle.std.specs.Prelude.{◌≡◌}
 use Rattle.farm_model.specs.Universe.{Universe}
 use Rattle.plan_model.specs.Plan.{Lane}
@@ -8,6 +8,6 @@ use Rattle.may_rows.specs.Walk.{IsOfLane}
 use Rattle.may_rows.specs.Words.{Words}
 
 -- the tables are of the universe, and so is what the lane's chroot may hold
-pub record IsPlace (u tables : Universe) (of : Lane) (w : Words) : Type 0 where
+pub record IsPlaceOfLane (u tables : Universe) (of : Lane) (w : Words) : Type 0 where
   pub tables_are : tables ≡ u
   pub of_lane : IsOfLane u of w

@@ -3,7 +3,7 @@
 -- own rules: each reason goes by the very tests of plan_model's Risk and May. Parameters: u a
 -- universe, of a lane, m a may map, v a variant.
 --
---   field_of                        what a field asks for
+--   asked_in_field                  what a field asks for
 --   unmet_field, unmet_entry        the first entry that is not met
 --   needed_field, needed_entry      the first entry for which a member may be needed
 --   unpack_reason, .., reason       the reason of a trap of each instruction; of any one
@@ -31,14 +31,15 @@ use Rattle.refusal_reasons.specs.First.{first_in, first_place, first_of, first_h
 -- ---- entries
 
 -- what a field of a variant asks for
-abbrev pub field_of : Universe → Variant → Field → Relations
-field_of u v Field.PreDepends = pre_depends u v
-field_of u v Field.Depends = depends u v
+abbrev pub asked_in_field : Universe → Variant → Field → Relations
+asked_in_field u v Field.PreDepends = pre_depends u v
+asked_in_field u v Field.Depends = depends u v
 
 -- the first entry of a field that is not met
 abbrev pub unmet_field : Universe → (Entry → Bool) → Field → Variant → Option Reason
 unmet_field u meets field v =
-    option_map (λ i. Reason.Unmet v field i) (first_place (λ e. not (meets e)) (field_of u v field))
+    option_map (λ i. Reason.Unmet v field i)
+    (first_place (λ e. not (meets e)) (asked_in_field u v field))
 
 -- the first entry of a variant that is not met, Depends before Pre-Depends
 abbrev pub unmet_entry : Universe → (Entry → Bool) → Variant → Option Reason
@@ -52,7 +53,7 @@ needs_member u members m e = may_meet u members m e && not (surely_met_outside u
 -- the first entry of a field that passes is the one for which a member may be needed
 abbrev pub needed_field : Universe → (Entry → Bool) → Field → Variant → Option Reason
 needed_field u needs field v =
-    option_map (λ i. Reason.StillNeeded v field i) (first_place needs (field_of u v field))
+    option_map (λ i. Reason.StillNeeded v field i) (first_place needs (asked_in_field u v field))
 
 -- the same of a variant, Depends before Pre-Depends
 abbrev pub needed_entry : Universe → (Entry → Bool) → Variant → Option Reason
@@ -61,8 +62,8 @@ needed_entry u needs v =
 
 -- ---- tests of several instructions
 
-abbrev pub over_budget : Lane → May → ℕ → Option Reason
-over_budget of m cost =
+abbrev pub over_budget_reason : Lane → May → ℕ → Option Reason
+over_budget_reason of m cost =
     if may_exceed of m cost then Some (Reason.OverBudget m.cost cost of.budget) else None
 
 abbrev pub too_full : Universe → Lane → May → ℕ → Option Reason
@@ -76,8 +77,8 @@ wrong_state right m members =
     first_in (λ k. if right (m.slots k) then None else Some (Reason.WrongState k)) members
 
 -- the first configured variant outside the set with an entry for which a member may be needed
-abbrev pub still_needed : Universe → List ℕ → May → Option Reason
-still_needed u members m = first_name u m
+abbrev pub still_needed_reason : Universe → List ℕ → May → Option Reason
+still_needed_reason u members m = first_name u m
     (λ n s. if member members n then None
     else first_configured u (needed_entry u (needs_member u members m)) n s)
 
@@ -90,7 +91,7 @@ abbrev pub breaking : Universe → Variant → Variant → Option Reason
 breaking u v w = if breaks u v w then Some (Reason.Breaks v w) else None
 
 abbrev pub unpack_reason : Universe → Lane → May → ℕ → Bits → Trap → Option Reason
-unpack_reason u of m name set Trap.OverBudget = over_budget of m (greatest_cost u name set)
+unpack_reason u of m name set Trap.OverBudget = over_budget_reason of m (greatest_cost u name set)
 unpack_reason u of m name set Trap.PreDepends =
     first_of u name set (unmet_field u (surely_pre_met u name m) Field.PreDepends)
 unpack_reason u of m name set Trap.Conflict =
@@ -115,7 +116,7 @@ pick_reason u there of m name wanted (Some highest) trap =
 -- ---- the other instructions
 
 abbrev pub configure_reason : Universe → Lane → May → List ℕ → Trap → Option Reason
-configure_reason u of m members Trap.OverBudget = over_budget of m (set_cost members)
+configure_reason u of m members Trap.OverBudget = over_budget_reason of m (set_cost members)
 configure_reason u of m members Trap.WrongState = wrong_state is_surely_unpacked m members
 configure_reason u of m members Trap.PreDepends =
     first_member u members m (unmet_field u (surely_met u m) Field.PreDepends)
@@ -127,18 +128,18 @@ configure_reason u of m members Trap.Broken =
 configure_reason u of m members _ = None
 
 abbrev pub deconfigure_reason : Universe → Lane → May → List ℕ → Trap → Option Reason
-deconfigure_reason u of m members Trap.OverBudget = over_budget of m (set_cost members)
+deconfigure_reason u of m members Trap.OverBudget = over_budget_reason of m (set_cost members)
 deconfigure_reason u of m members Trap.WrongState = wrong_state is_surely_configured m members
-deconfigure_reason u of m members Trap.StillNeeded = still_needed u members m
+deconfigure_reason u of m members Trap.StillNeeded = still_needed_reason u members m
 deconfigure_reason u of m members _ = None
 
 abbrev pub remove_reason : Universe → Lane → May → List ℕ → Trap → Option Reason
-remove_reason u of m members Trap.OverBudget = over_budget of m (set_cost members)
+remove_reason u of m members Trap.OverBudget = over_budget_reason of m (set_cost members)
 remove_reason u of m members Trap.WrongState = wrong_state is_surely_present m members
 remove_reason u of m members Trap.Essential =
     first_member u members m
     (λ v. if essential u v then Some (Reason.Essential v) else None)
-remove_reason u of m members Trap.StillNeeded = still_needed u members m
+remove_reason u of m members Trap.StillNeeded = still_needed_reason u members m
 remove_reason u of m members _ = None
 
 -- the first name that is unpacked alone, or holds a variant with an entry that is not surely met
@@ -148,7 +149,7 @@ unsettled u m = first_name u m
     else first_held u (unmet_entry u (surely_met u m)) n s)
 
 abbrev pub build_reason : Universe → Lane → May → ℕ → Trap → Option Reason
-build_reason u of m r Trap.OverBudget = over_budget of m (build_cost (recipe u r))
+build_reason u of m r Trap.OverBudget = over_budget_reason of m (build_cost (recipe u r))
 build_reason u of m r Trap.Unsettled = unsettled u m
 build_reason u of m r Trap.BuildDepends =
     option_map (λ i. Reason.BuildNeed r i)
@@ -160,7 +161,7 @@ build_reason u of m r Trap.Full = too_full u of m (recipe u r).scratch
 build_reason u of m r _ = None
 
 abbrev pub publish_reason : Universe → Lane → May → ℕ → Trap → Option Reason
-publish_reason u of m r Trap.OverBudget = over_budget of m (publish_cost u r)
+publish_reason u of m r Trap.OverBudget = over_budget_reason of m (publish_cost u r)
 publish_reason u of m r Trap.NotBuilt =
     if was_built m.built r then None else Some (Reason.NotBuilt r)
 publish_reason u of m r _ = None

@@ -6,7 +6,7 @@ ghost use Rattle.plan_model.specs.May as may;
 ghost use Rattle.may_rows.specs.Words.{AreWords, may_of};
 ghost use Rattle.refusal_reasons.specs.First as first;
 ghost use Rattle.refusal_reasons.specs.Reasons as reasons;
-ghost use Rattle.refusal_reasons.specs.Place.{IsPlace};
+ghost use Rattle.refusal_reasons.specs.Place.{IsPlaceOfLane};
 ghost use Rattle.refusal_reasons.specs.declared.types.Reason.{Reason};
 
 use crate::entries::UnmetEntry;
@@ -70,7 +70,7 @@ impl EntryTest for UnmetNeeds<'_> {
 
 /// The first need of a recipe that may not be met.
 fn unmet_need(at: &Place, recipe: u32) -> Option<Reason>
-    requires place { IsPlace at.now.universe.now at.now.tables.now at.now.lane.now
+    requires place { IsPlaceOfLane at.now.universe.now at.now.tables.now at.now.lane.now
         at.now.state.now }
     requires known { recipe < length at.now.universe.now.recipes }
     ensures { result ≡ option_map (λ i. Reason.BuildNeed recipe i) (first.first_place
@@ -118,7 +118,7 @@ impl VariantFinder for Clashing<'_> {
 
 /// Why a build of a recipe may meet a trap.
 pub fn build_reason(at: &Place, recipe: u32, trap: Trap) -> Option<Reason>
-    requires place { IsPlace at.now.universe.now at.now.tables.now at.now.lane.now
+    requires place { IsPlaceOfLane at.now.universe.now at.now.tables.now at.now.lane.now
         at.now.state.now }
     requires known { recipe < length at.now.universe.now.recipes }
     ensures { result ≡ reasons.build_reason at.now.universe.now at.now.lane.now
@@ -151,7 +151,7 @@ pub fn build_reason(at: &Place, recipe: u32, trap: Trap) -> Option<Reason>
 
 /// Why a publish of a recipe may meet a trap.
 pub fn publish_reason(at: &Place, recipe: u32, trap: Trap) -> Option<Reason>
-    requires place { IsPlace at.now.universe.now at.now.tables.now at.now.lane.now
+    requires place { IsPlaceOfLane at.now.universe.now at.now.tables.now at.now.lane.now
         at.now.state.now }
     ensures { result ≡ reasons.publish_reason at.now.universe.now at.now.lane.now
         (may_of at.now.state.now) recipe trap }

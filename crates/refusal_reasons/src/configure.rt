@@ -6,7 +6,7 @@ ghost use Rattle.plan_model.specs.Sound.{IsNameSet};
 ghost use Rattle.may_rows.specs.Words.{may_of};
 ghost use Rattle.refusal_reasons.specs.First as first;
 ghost use Rattle.refusal_reasons.specs.Reasons as reasons;
-ghost use Rattle.refusal_reasons.specs.Place.{IsPlace};
+ghost use Rattle.refusal_reasons.specs.Place.{IsPlaceOfLane};
 ghost use Rattle.refusal_reasons.specs.declared.types.Field.{Field};
 
 use crate::changed::with_configured;
@@ -23,7 +23,7 @@ use std::alloc::AllocError;
 
 /// The answer of the first variant that a member may hold and that has one.
 pub fn first_member<T: VariantFinder>(at: &Place, members: &[u32], finder: &T) -> Option<Reason>
-    requires place { IsPlace at.now.universe.now at.now.tables.now at.now.lane.now
+    requires place { IsPlaceOfLane at.now.universe.now at.now.tables.now at.now.lane.now
         at.now.state.now }
     requires fits { T.fits at.now.universe.now finder.now }
     requires members { IsNameSet at.now.universe.now members.now }
@@ -40,7 +40,7 @@ pub fn first_member<T: VariantFinder>(at: &Place, members: &[u32], finder: &T) -
 /// The first variant of a member with a Depends entry that may not be met, where the members are
 /// configured together.
 fn unmet_depends(at: &Place, members: &[u32]) -> Result<Option<Reason>, AllocError>
-    requires place { IsPlace at.now.universe.now at.now.tables.now at.now.lane.now
+    requires place { IsPlaceOfLane at.now.universe.now at.now.tables.now at.now.lane.now
         at.now.state.now }
     requires members { IsNameSet at.now.universe.now members.now }
     ensures { IfOk result (λ told. told ≡ first.first_member at.now.universe.now members.now
@@ -59,7 +59,7 @@ fn unmet_depends(at: &Place, members: &[u32]) -> Result<Option<Reason>, AllocErr
 
 /// The first variant of a member that one of another name may break.
 fn broken_member(at: &Place, members: &[u32]) -> Result<Option<Reason>, AllocError>
-    requires place { IsPlace at.now.universe.now at.now.tables.now at.now.lane.now
+    requires place { IsPlaceOfLane at.now.universe.now at.now.tables.now at.now.lane.now
         at.now.state.now }
     requires members { IsNameSet at.now.universe.now members.now }
     ensures { IfOk result (λ told. told ≡ reasons.configure_reason at.now.universe.now
@@ -84,7 +84,7 @@ pub fn configure_reason(
     members: &[u32],
     trap: Trap,
 ) -> Result<Option<Reason>, AllocError>
-    requires place { IsPlace at.now.universe.now at.now.tables.now at.now.lane.now
+    requires place { IsPlaceOfLane at.now.universe.now at.now.tables.now at.now.lane.now
         at.now.state.now }
     requires members { IsNameSet at.now.universe.now members.now }
     ensures { IfOk result (λ told. told ≡ reasons.configure_reason at.now.universe.now

@@ -4,10 +4,10 @@ ghost use Rattle.std.specs.Prelude.{◌≡◌, ◌<◌, not, length};
 ghost use Rattle.farm_model.specs.Packages.{satisfies_entry};
 ghost use Rattle.farm_model.specs.Sound.{IsKnown};
 ghost use Rattle.plan_model.specs.May.{surely_met};
-ghost use Rattle.sat_rows.specs.Rows.{IsRowOf, entry_at};
+ghost use Rattle.sat_rows.specs.Rows.{IsRowOf, nth_entry};
 ghost use Rattle.may_rows.specs.Words.{AreWords, may_of};
 ghost use Rattle.refusal_reasons.specs.Reasons as reasons;
-ghost use Rattle.refusal_reasons.specs.Reasons.{field_of};
+ghost use Rattle.refusal_reasons.specs.Reasons.{asked_in_field};
 
 use crate::first::{EntryTest, VariantFinder, first_place};
 use crate::types::{Field, Reason};
@@ -19,7 +19,7 @@ use sat_rows::Tables;
 /// How many entries a field of a variant has.
 pub fn entry_count(universe: &Universe, variant: Variant, field: Field) -> usize
     requires known { IsKnown universe.now variant }
-    ensures { result ≡ length (field_of universe.now variant field) }
+    ensures { result ≡ length (asked_in_field universe.now variant field) }
 {
     match field {
         Field::PreDepends => universe.relations(variant).pre_depends.len(),
@@ -30,9 +30,9 @@ pub fn entry_count(universe: &Universe, variant: Variant, field: Field) -> usize
 /// The variants that satisfy an entry of a field of a variant.
 pub fn entry_row(tables: &Tables, variant: Variant, field: Field, number: usize) -> &Row
     requires known { IsKnown tables.now variant }
-    requires there { number < length (field_of tables.now variant field) }
+    requires there { number < length (asked_in_field tables.now variant field) }
     ensures { IsRowOf tables.now
-        (satisfies_entry tables.now (entry_at (field_of tables.now variant field) number))
+        (satisfies_entry tables.now (nth_entry (asked_in_field tables.now variant field) number))
         result.now }
 {
     match field {
@@ -54,7 +54,7 @@ impl EntryTest for UnmetEntries<'_> {
     ghost fits = { λ u t.
         (t.tables.now ≡ u) × (AreWords u t.state.now × IsKnown u t.variant) };
 
-    ghost entries = { λ u t. field_of u t.variant t.field };
+    ghost entries = { λ u t. asked_in_field u t.variant t.field };
 
     ghost test = { λ u t e. not (surely_met u (may_of t.state.now) e) };
 

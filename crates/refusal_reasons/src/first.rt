@@ -6,7 +6,7 @@ ghost use Rattle.deb_relation.specs.Relations.{Entry, Relations};
 ghost use Rattle.farm_model.specs.declared.types.Variant.{Variant};
 ghost use Rattle.farm_model.specs.Packages.{variant, names, variants};
 ghost use Rattle.farm_model.specs.Universe.{Universe};
-ghost use Rattle.sat_rows.specs.Rows.{entry_at};
+ghost use Rattle.sat_rows.specs.Rows.{nth_entry};
 ghost use Rattle.refusal_reasons.specs.First as first;
 ghost use Rattle.refusal_reasons.specs.declared.types.Reason.{Reason};
 
@@ -26,7 +26,7 @@ pub trait EntryTest {
         requires fits { fits universe.now self.now }
         requires within { number < length (entries universe.now self.now) }
         ensures { result
-            ≡ test universe.now self.now (entry_at (entries universe.now self.now) number) };
+            ≡ test universe.now self.now (nth_entry (entries universe.now self.now) number) };
 }
 
 /// The place of the first of so many entries that passes.

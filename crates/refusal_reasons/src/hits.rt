@@ -7,9 +7,9 @@ ghost use Rattle.farm_model.specs.declared.types.Variant.{Variant};
 ghost use Rattle.farm_model.specs.Below.{some_below};
 ghost use Rattle.farm_model.specs.Packages as packages;
 ghost use Rattle.farm_model.specs.Universe.{Universe};
-ghost use Rattle.sat_rows.specs.Rows.{passes};
+ghost use Rattle.sat_rows.specs.Rows.{variant_passes};
 ghost use Rattle.may_rows.specs.Words.{AreWords};
-ghost use Rattle.refusal_reasons.specs.Hits.{hits, IsFirstHit};
+ghost use Rattle.refusal_reasons.specs.Hits.{name_has_hit, IsFirstHit};
 
 use farm_universe::Universe;
 use may_rows::MayHold;
@@ -25,7 +25,7 @@ pub trait WordsTest {
     fn some_in(&self, universe: &Universe, words: &[u64]) -> bool
         requires { fits universe.now self.now }
         ensures { IsTrue result ↔ HaveCommon (variants_of words.now)
-            (passes universe.now (test universe.now self.now)) };
+            (variant_passes universe.now (test universe.now self.now)) };
 }
 
 /// Tells whether the words have a variant that passes of a name ahead of this one.
@@ -33,7 +33,7 @@ fn some_ahead<T: WordsTest>(universe: &Universe, words: &[u64], end: usize, test
     requires fits { T.fits universe.now test.now }
     requires within { end ≤ length words.now }
     ensures { result
-        ≡ some_below end (hits universe.now words.now (T.test universe.now test.now)) }
+        ≡ some_below end (name_has_hit universe.now words.now (T.test universe.now test.now)) }
 {
     test.some_in(universe, &words[..end])
 }
@@ -45,7 +45,7 @@ pub fn first_hit<T: WordsTest>(universe: &Universe, words: &[u64], test: &T) -> 
     ensures some { IfSome result
         (IsFirstHit universe.now words.now (T.test universe.now test.now)) }
     ensures none { IfNone result (some_below (packages.names universe.now)
-        (hits universe.now words.now (T.test universe.now test.now)) ≡ false) }
+        (name_has_hit universe.now words.now (T.test universe.now test.now)) ≡ false) }
 {
     let _names = universe.names();
     let mut end = words.len();

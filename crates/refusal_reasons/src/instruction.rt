@@ -10,7 +10,7 @@ ghost use Rattle.sat_rows.specs.Rows.{IsWordFor};
 ghost use Rattle.may_rows.specs.Picks.{AreOfArchive};
 ghost use Rattle.may_rows.specs.Walk.{AreWordsFor};
 ghost use Rattle.may_rows.specs.Words.{may_of};
-ghost use Rattle.refusal_reasons.specs.Place.{IsPlace};
+ghost use Rattle.refusal_reasons.specs.Place.{IsPlaceOfLane};
 ghost use Rattle.refusal_reasons.specs.Reasons as reasons;
 
 use crate::build::{build_reason, publish_reason};
@@ -35,7 +35,7 @@ fn pick_reason(
     words: ArchiveWords,
     trap: Trap,
 ) -> Result<Option<Reason>, AllocError>
-    requires place { IsPlace at.now.universe.now at.now.tables.now at.now.lane.now
+    requires place { IsPlaceOfLane at.now.universe.now at.now.tables.now at.now.lane.now
         at.now.state.now }
     requires named { name < packages.names at.now.universe.now }
     requires known_there { (b : ℕ) → word_has words.known b ≡ true → word_has words.there b ≡ true }
@@ -63,7 +63,7 @@ pub fn instruction_reason(
     words: ArchiveWords,
     trap: Trap,
 ) -> Result<Option<Reason>, AllocError>
-    requires place { IsPlace at.now.universe.now at.now.tables.now at.now.lane.now
+    requires place { IsPlaceOfLane at.now.universe.now at.now.tables.now at.now.lane.now
         at.now.state.now }
     requires instruction { IsInstruction at.now.universe.now instruction.now }
     requires known_there { (b : ℕ) → word_has words.known b ≡ true → word_has words.there b ≡ true }

@@ -15,7 +15,7 @@ use plan_asm::Lane;
 /// Why a further cost may be over the budget of a lane.
 pub fn over_budget(lane: &Lane, state: &MayHold, cost: u64) -> Option<Reason>
     requires { state.now.cost ≤ lane.now.budget }
-    ensures { result ≡ reasons.over_budget lane.now (may_of state.now) cost }
+    ensures { result ≡ reasons.over_budget_reason lane.now (may_of state.now) cost }
 {
     let spent = state.cost();
     let budget = lane.budget();

@@ -7,9 +7,9 @@ ghost use Rattle.plan_model.specs.Sound.{IsNameSet};
 ghost use Rattle.may_rows.specs.Words.{AreWords, may_of, with_slot};
 ghost use Rattle.refusal_reasons.specs.Changed.{kept_slot, kept_below, needs_inside};
 ghost use Rattle.refusal_reasons.specs.First as first;
-ghost use Rattle.refusal_reasons.specs.Place.{IsPlace};
+ghost use Rattle.refusal_reasons.specs.Place.{IsPlaceOfLane};
 ghost use Rattle.refusal_reasons.specs.Reasons as reasons;
-ghost use Rattle.refusal_reasons.specs.Reasons.{field_of};
+ghost use Rattle.refusal_reasons.specs.Reasons.{asked_in_field};
 
 use crate::changed::without;
 use crate::entries::{entry_count, entry_row};
@@ -81,7 +81,7 @@ impl EntryTest for NeededEntries<'_> {
     ghost fits = { λ u t. (t.tables.now ≡ u) × (AreWords u t.inside.now
         × (AreWords u t.outside.now × IsKnown u t.variant)) };
 
-    ghost entries = { λ u t. field_of u t.variant t.field };
+    ghost entries = { λ u t. asked_in_field u t.variant t.field };
 
     ghost test = { λ u t e. needs_inside u (may_of t.inside.now) (may_of t.outside.now) e };
 
@@ -174,10 +174,11 @@ impl NameFinder for NeededOwner<'_> {
 ///
 /// [`AllocError`] where memory is refused.
 pub fn still_needed(at: &Place, members: &[u32]) -> Result<Option<Reason>, AllocError>
-    requires place { IsPlace at.now.universe.now at.now.tables.now at.now.lane.now
+    requires place { IsPlaceOfLane at.now.universe.now at.now.tables.now at.now.lane.now
         at.now.state.now }
     requires members { IsNameSet at.now.universe.now members.now }
-    ensures { IfOk result (λ told. told ≡ reasons.still_needed at.now.universe.now members.now
+    ensures { IfOk result (λ told. told ≡ reasons.still_needed_reason at.now.universe.now
+        members.now
         (may_of at.now.state.now)) }
 {
     let outside = without(at.universe, at.state, members)?;

@@ -8,7 +8,7 @@ ghost use Rattle.plan_model.specs.Risk.{greatest_cost};
 ghost use Rattle.may_rows.specs.Words.{may_of};
 ghost use Rattle.refusal_reasons.specs.First as first;
 ghost use Rattle.refusal_reasons.specs.Reasons as reasons;
-ghost use Rattle.refusal_reasons.specs.Place.{IsPlace};
+ghost use Rattle.refusal_reasons.specs.Place.{IsPlaceOfLane};
 ghost use Rattle.refusal_reasons.specs.declared.types.Field.{Field};
 
 use crate::ahead::UnmetAhead;
@@ -56,7 +56,7 @@ fn unpack_cost(universe: &Universe, name: u32, set: u64) -> u64
 
 /// The lowest variant of a set with a Pre-Depends entry that may not be met ahead of its unpack.
 fn unmet_ahead(at: &Place, name: u32, set: u64) -> Result<Option<Reason>, AllocError>
-    requires place { IsPlace at.now.universe.now at.now.tables.now at.now.lane.now
+    requires place { IsPlaceOfLane at.now.universe.now at.now.tables.now at.now.lane.now
         at.now.state.now }
     requires named { name < packages.names at.now.universe.now }
     ensures { IfOk result (λ told. told ≡ first.first_of at.now.universe.now name (word_has set)
@@ -73,7 +73,8 @@ fn unmet_ahead(at: &Place, name: u32, set: u64) -> Result<Option<Reason>, AllocE
 
 /// The lowest variant of a set that may be in conflict with one of another name.
 fn conflict_of(at: &Place, name: u32, set: u64) -> Result<Option<Reason>, AllocError>
-    requires { IsPlace at.now.universe.now at.now.tables.now at.now.lane.now at.now.state.now }
+    requires { IsPlaceOfLane at.now.universe.now at.now.tables.now at.now.lane.now
+        at.now.state.now }
     ensures { IfOk result (λ told. told
         ≡ reasons.unpack_reason at.now.universe.now at.now.lane.now (may_of at.now.state.now) name
         (word_has set) Trap.Conflict) }
@@ -89,7 +90,8 @@ fn conflict_of(at: &Place, name: u32, set: u64) -> Result<Option<Reason>, AllocE
 
 /// The lowest variant of a set that may break a configured one of another name.
 fn broken_by(at: &Place, name: u32, set: u64) -> Result<Option<Reason>, AllocError>
-    requires { IsPlace at.now.universe.now at.now.tables.now at.now.lane.now at.now.state.now }
+    requires { IsPlaceOfLane at.now.universe.now at.now.tables.now at.now.lane.now
+        at.now.state.now }
     ensures { IfOk result (λ told. told
         ≡ reasons.unpack_reason at.now.universe.now at.now.lane.now (may_of at.now.state.now) name
         (word_has set) Trap.BreaksOther) }
@@ -114,7 +116,7 @@ pub fn unpack_reason(
     set: u64,
     trap: Trap,
 ) -> Result<Option<Reason>, AllocError>
-    requires place { IsPlace at.now.universe.now at.now.tables.now at.now.lane.now
+    requires place { IsPlaceOfLane at.now.universe.now at.now.tables.now at.now.lane.now
         at.now.state.now }
     requires named { name < packages.names at.now.universe.now }
     ensures { IfOk result (λ told. told ≡ reasons.unpack_reason at.now.universe.now at.now.lane.now

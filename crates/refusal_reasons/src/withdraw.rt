@@ -5,7 +5,7 @@ ghost use Rattle.farm_model.specs.Packages as packages;
 ghost use Rattle.plan_model.specs.Sound.{IsNameSet};
 ghost use Rattle.may_rows.specs.Words.{may_of};
 ghost use Rattle.refusal_reasons.specs.Reasons as reasons;
-ghost use Rattle.refusal_reasons.specs.Place.{IsPlace};
+ghost use Rattle.refusal_reasons.specs.Place.{IsPlaceOfLane};
 ghost use Rattle.refusal_reasons.specs.declared.types.Reason.{Reason};
 
 use crate::configure::first_member;
@@ -44,7 +44,7 @@ pub fn deconfigure_reason(
     members: &[u32],
     trap: Trap,
 ) -> Result<Option<Reason>, AllocError>
-    requires place { IsPlace at.now.universe.now at.now.tables.now at.now.lane.now
+    requires place { IsPlaceOfLane at.now.universe.now at.now.tables.now at.now.lane.now
         at.now.state.now }
     requires members { IsNameSet at.now.universe.now members.now }
     ensures { IfOk result (λ told. told ≡ reasons.deconfigure_reason at.now.universe.now
@@ -76,7 +76,7 @@ pub fn deconfigure_reason(
 ///
 /// [`AllocError`] where memory is refused.
 pub fn remove_reason(at: &Place, members: &[u32], trap: Trap) -> Result<Option<Reason>, AllocError>
-    requires place { IsPlace at.now.universe.now at.now.tables.now at.now.lane.now
+    requires place { IsPlaceOfLane at.now.universe.now at.now.tables.now at.now.lane.now
         at.now.state.now }
     requires members { IsNameSet at.now.universe.now members.now }
     ensures { IfOk result (λ told. told ≡ reasons.remove_reason at.now.universe.now

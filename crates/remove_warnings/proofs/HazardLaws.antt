@@ -7,7 +7,7 @@ use Rattle.farm_model.specs.Universe.{Universe}
 use Rattle.plan_model.specs.Known.{Rows}
 use Rattle.plan_model.specs.Plan.{Plan, lane}
 use Rattle.plan_model.specs.Safety.{Hazard, hazard_at}
-use Rattle.plan_verifier.specs.Walk.{told_at}
+use Rattle.plan_verifier.specs.Walk.{place_told}
 use Rattle.refusal_reasons.proofs.FirstLaws.{first_below-at}
 use Rattle.remove_warnings.specs.Lines.{looked_at}
 
@@ -26,7 +26,7 @@ module _ (u : Universe) (p : Plan) (rows : Rows) (l : ℕ) where
   -- where this is its first hazard
   pub looked_at_first : (i : ℕ) (hazard : Hazard) → hazard_at u p rows l i ≡ Some hazard
       → ((k : ℕ) → k < i → hazard_at u p rows l k ≡ None)
-      → looked_at p l (first_hazard u p rows l) ≡ told_at p l i hazard + 1
+      → looked_at p l (first_hazard u p rows l) ≡ place_told p l i hazard + 1
   looked_at_first i hazard here before =
       ap (looked_at p l)
       (first_below-at (length (lane p l).instructions) i at (i, hazard)

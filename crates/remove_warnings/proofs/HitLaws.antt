@@ -1,5 +1,6 @@
 -- A word of one name hits a row where some variant of the word passes.
 use Rattle.std.proofs.Common.{◌≡◌, ◌↔◌, ℕ, Bool, true, ◌&&◌, List, sym, ◌∙◌}
+use Rattle.std.specs.Cmp.{both_ways as same_tests}
 use Rattle.std.proofs.lemmas.Bool.{and_from, and_parts, lt-ltb, ltb-true}
 use Rattle.bit_rows.specs.Sets.{variants_of, HasSomeAt}
 use Rattle.clause_kernel.specs.Rows.{word_has}
@@ -7,7 +8,6 @@ use Rattle.farm_model.specs.declared.types.Variant.{Variant}
 use Rattle.farm_model.specs.Packages.{variant, variants}
 use Rattle.farm_model.specs.Universe.{Universe}
 use Rattle.farm_model.proofs.BelowLaws.{some_below-at, some_below-found}
-use Rattle.farm_model.proofs.TestLaws.{same_tests}
 use Rattle.plan_model.specs.May.{some_of}
 use Rattle.sat_rows.specs.Rows.{IsRowOf}
 

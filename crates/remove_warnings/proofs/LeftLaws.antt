@@ -1,15 +1,12 @@
 -- What is unpacked outside a set, by a map without its members, and by words.
-use Rattle.std.proofs.Common.{◌≡◌, ℕ, Bool, true, false, not, ◌&&◌, ◌==◌, List, Option, None, refl, if◌then◌else◌}
+use Rattle.std.proofs.Common.{◌≡◌, ℕ, Bool, true, false, ◌==◌, List, Option, None, refl, if◌then◌else◌}
 use Rattle.std.proofs.lemmas.Bool.{both_ways}
 use Rattle.clause_kernel.specs.Rows.{word_has}
-use Rattle.deb_relation.specs.Relations.{Entry}
 use Rattle.farm_model.specs.declared.types.Variant.{Variant}
 use Rattle.farm_model.specs.Chroot.{member}
 use Rattle.farm_model.specs.Universe.{Universe}
-use Rattle.farm_model.specs.Packages.{variant, names, satisfies_entry}
-use Rattle.farm_model.proofs.BelowLaws.{some_below-same}
-use Rattle.plan_model.specs.May.{Bits, MaySlot, MayAbsent, MayUnpacked, MayConfigured, May, surely_configured, surely_met, is_surely_unpacked}
-use Rattle.plan_model.specs.Risk.{surely_met_outside}
+use Rattle.farm_model.specs.Packages.{variant, names}
+use Rattle.plan_model.specs.May.{MaySlot, MayAbsent, MayUnpacked, MayConfigured, May, is_surely_unpacked}
 use Rattle.may_rows.specs.Configures.{slots_after}
 use Rattle.may_rows.specs.Words.{slot_of}
 use Rattle.refusal_reasons.specs.First.{first_of, first_name}
@@ -19,18 +16,6 @@ use Rattle.remove_warnings.specs.Left.{first_unpacked}
 module _ (u : Universe) (ms : List ℕ) (m : May) where
   abbrev outside : May
   outside = slots_after (λ s. MayAbsent) m ms
-
-  pub meets-outside : (e : Entry) → surely_met u outside e ≡ surely_met_outside u ms m e
-  unfolding surely_met surely_met_outside
-  meets-outside e =
-      some_below-same (names u) _ _
-      (λ n lt. by n (λ b. satisfies_entry u e (variant n b)) (member ms n) (m.slots n))
-    where
-      by : (n : ℕ) (q : Bits) (is : Bool) (s : MaySlot)
-          → surely_configured u n q (if is then MayAbsent else s)
-          ≡ (not is && surely_configured u n q s)
-      by n q true s = refl
-      by n q false s = refl
 
   -- the unpacked variants outside the set
   pub outside-is : {A : Type 0} (f : Variant → Option A)

@@ -12,7 +12,7 @@ use Rattle.farm_model.specs.declared.types.Variant.{Variant}
 use Rattle.farm_model.specs.Universe.{Universe}
 use Rattle.farm_spelling.specs.Variants.{variant_text}
 use Rattle.farm_explain.specs.LaneNotes.{first_hazard}
-use Rattle.farm_explain.specs.ReasonText.{place_text, field_of, field_word}
+use Rattle.farm_explain.specs.ReasonText.{place_text, field_word}
 use Rattle.farm_explain.specs.Texts.{text_below}
 use Rattle.plan_lines.specs.declared.origin.Origin.{Origin}
 use Rattle.plan_lines.specs.Origins.{LaneLines}
@@ -24,10 +24,11 @@ use Rattle.plan_model.specs.May.{May}
 use Rattle.plan_model.specs.MayAt.{may_at}
 use Rattle.plan_model.specs.Plan.{Plan, lane, instruction_at}
 use Rattle.plan_model.specs.Safety.{Hazard}
-use Rattle.plan_verifier.specs.Walk.{told_at}
+use Rattle.plan_verifier.specs.Walk.{place_told}
 use Rattle.refusal_reasons.specs.declared.types.Field.{Field}
 use Rattle.refusal_reasons.specs.declared.types.Reason.{Reason}
 use Rattle.refusal_reasons.specs.declared.types.Reason.TheVariants.{StillNeeded}
+use Rattle.refusal_reasons.specs.Reasons.{asked_in_field}
 use Rattle.remove_warnings.specs.Left.{left_unmet}
 
 -- what a line begins with
@@ -52,7 +53,7 @@ entry_said u origin v field (Some e) = line_text u origin v field e
 -- of the variant that is left, if there is one
 abbrev pub reason_said : Universe → Option Origin → Option Reason → List ℕ
 reason_said u origin (Some (StillNeeded v field i)) =
-    entry_said u origin v field (slice_get (field_of u v field) i)
+    entry_said u origin v field (slice_get (asked_in_field u v field) i)
 reason_said u origin x = []
 
 -- what an instruction may leave unmet, where this may be held
@@ -73,7 +74,7 @@ place_said u p rows ls l i =
 -- so many instructions of a lane: all, or up to the one by whose number it is refused
 abbrev pub looked_at : Plan → ℕ → Option (ℕ × Hazard) → ℕ
 looked_at p l None = length (lane p l).instructions
-looked_at p l (Some (i, hazard)) = told_at p l i hazard + 1
+looked_at p l (Some (i, hazard)) = place_told p l i hazard + 1
 
 abbrev pub lane_said : Universe → Plan → Rows → List LaneLines → ℕ → List ℕ
 lane_said u p rows ls l =

@@ -6,10 +6,10 @@ ghost use Rattle.farm_model.specs.Packages as packages;
 ghost use Rattle.farm_model.specs.Packages.{variant, variants};
 ghost use Rattle.farm_model.specs.Sound.{IsKnown};
 ghost use Rattle.plan_model.specs.Sound.{IsNameSet};
-ghost use Rattle.sat_rows.specs.Rows.{entry_at};
+ghost use Rattle.sat_rows.specs.Rows.{nth_entry};
 ghost use Rattle.may_rows.specs.Words.{AreWords, may_of};
 ghost use Rattle.refusal_reasons.specs.First as first;
-ghost use Rattle.refusal_reasons.specs.Reasons.{field_of, needed_field, needed_entry};
+ghost use Rattle.refusal_reasons.specs.Reasons.{asked_in_field, needed_field, needed_entry};
 ghost use Rattle.remove_warnings.specs.Left as spec;
 ghost use Rattle.remove_warnings.specs.Parts.{IsSearch};
 
@@ -26,9 +26,9 @@ fn loses_entry(of: &Search, variant: Variant, field: Field, number: usize) -> bo
     requires search { IsSearch of.now.universe.now of.now.tables.now of.now.members.now
         of.now.state.now of.now.outside.now }
     requires known { IsKnown of.now.universe.now variant }
-    requires there { number < length (field_of of.now.universe.now variant field) }
+    requires there { number < length (asked_in_field of.now.universe.now variant field) }
     ensures { result ≡ spec.loses of.now.universe.now of.now.members.now (may_of of.now.state.now)
-        (entry_at (field_of of.now.universe.now variant field) number) }
+        (nth_entry (asked_in_field of.now.universe.now variant field) number) }
 {
     let row = entry_row(of.tables, variant, field, number);
     loses(of, row)
@@ -40,7 +40,7 @@ fn lost_place(of: &Search, variant: Variant, field: Field) -> Option<usize>
         of.now.state.now of.now.outside.now }
     requires known { IsKnown of.now.universe.now variant }
     ensures { result ≡ first.first_place (spec.loses of.now.universe.now of.now.members.now
-        (may_of of.now.state.now)) (field_of of.now.universe.now variant field) }
+        (may_of of.now.state.now)) (asked_in_field of.now.universe.now variant field) }
 {
     let count = entry_count(of.universe, variant, field);
     for number in 0..count {

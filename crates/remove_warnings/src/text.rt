@@ -3,7 +3,8 @@
 ghost use Rattle.std.specs.Prelude.{◌≡◌, ◌++◌, nat_lt, slice_get, OnOk};
 ghost use Rattle.std.specs.Option.{option_map};
 ghost use Rattle.farm_model.specs.Packages.{variants};
-ghost use Rattle.farm_explain.specs.ReasonText.{field_of, field_word};
+ghost use Rattle.farm_explain.specs.ReasonText.{field_word};
+ghost use Rattle.refusal_reasons.specs.Reasons.{asked_in_field};
 ghost use Rattle.remove_warnings.specs.Lines as spec;
 
 use crate::place::push_place;
@@ -27,7 +28,7 @@ fn is_known(universe: &Universe, variant: Variant) -> bool
 #[tactic(auto, using(farm_explain::proofs::Unknown::no_fields))]
 fn entry_of(universe: &Universe, variant: Variant, field: Field, number: usize) -> Option<&Entry>
     ensures { option_map (λ entry. entry.now) result
-        ≡ slice_get (field_of universe.now variant field) number }
+        ≡ slice_get (asked_in_field universe.now variant field) number }
 {
     if !is_known(universe, variant) {
         return None;

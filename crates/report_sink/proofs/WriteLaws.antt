@@ -3,7 +3,7 @@ use Rattle.std.proofs.Common.{◌≡◌, ◌-◌, arith, ℕ, ◌==◌, nat_lt, 
 use Rattle.std.specs.Io.KnownBytes.{Appends}
 use Rattle.std.proofs.lemmas.List.{append_assoc, append-nil, take-append-drop, take_all, length-drop}
 use Rattle.std.specs.Result.{result_unwrap_or}
-use Rattle.report_sink.specs.Sinks.{SinkState, IsTaken, IsWritten, count_of}
+use Rattle.report_sink.specs.Sinks.{SinkState, IsTaken, IsWritten, taken_count}
 
 -- bytes that are put behind known ones, twice
 pub appends_twice : (old mid new : Option (List ℕ)) (a b : List ℕ)
@@ -100,7 +100,7 @@ not_refused n b some = grind arith
 
 -- it goes on by the bytes that a write has taken
 pub went_on : {E : Type 0} (old now new : SinkState) (text rest : List ℕ) (answer : Result ℕ E)
-    (count : ℕ) → count ≡ count_of answer → (count ≡ 0 → ⊥) → IsGoing old now text rest
+    (count : ℕ) → count ≡ taken_count answer → (count ≡ 0 → ⊥) → IsGoing old now text rest
     → IsTaken now new rest answer → IsGoing old new text (drop count rest)
 went_on old now new text rest (Err error) count is some so_far more = absurd (some is)
 went_on old now new text rest (Ok n) count is some so_far more = record {
@@ -121,6 +121,6 @@ pub behind : (k : ℕ) (rest : List ℕ) → take (length rest - k) (drop k rest
 behind k rest = take_all (length rest - k) (drop k rest) (omega (arith, length-drop k rest))
 
 -- a count, or none
-pub count_is : {E : Type 0} (answer : Result ℕ E) → result_unwrap_or answer 0 ≡ count_of answer
+pub count_is : {E : Type 0} (answer : Result ℕ E) → result_unwrap_or answer 0 ≡ taken_count answer
 count_is (Ok n) = refl
 count_is (Err error) = refl

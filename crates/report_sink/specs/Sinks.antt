@@ -13,9 +13,9 @@ pub record SinkState : Type 0 where
   pub failed : Bool
 
 -- how many bytes a write takes: none with an error
-abbrev pub count_of : {E : Type 0} → Result ℕ E → ℕ
-count_of (Ok count) = count
-count_of (Err error) = 0
+abbrev pub taken_count : {E : Type 0} → Result ℕ E → ℕ
+taken_count (Ok count) = count
+taken_count (Err error) = 0
 
 -- an error, or a count of 0 for bytes that are not empty
 abbrev pub is_refused : {E : Type 0} → List ℕ → Result ℕ E → Bool
@@ -26,8 +26,8 @@ is_refused bytes (Err error) = true
 pub record IsTaken {E : Type 0} (old new : SinkState) (bytes : List ℕ) (answer : Result ℕ E)
     : Type 0 where
   -- takes the first of them, and no others;
-  pub within : count_of answer ≤ length bytes
-  pub appended : Appends old.contents new.contents (take (count_of answer) bytes)
+  pub within : taken_count answer ≤ length bytes
+  pub appended : Appends old.contents new.contents (take (taken_count answer) bytes)
   -- and the sink has failed from the first write on that is refused.
   pub failed : new.failed ≡ (old.failed || is_refused bytes answer)
 

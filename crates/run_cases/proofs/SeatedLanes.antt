@@ -6,7 +6,7 @@ use Rattle.std.proofs.lemmas.List.{length-map}
 use Rattle.std.proofs.lemmas.Option.{same_Some}
 use Rattle.atomic_table.specs.Seated.{TableId}
 use Rattle.chroot_state.specs.Held.{Held}
-use Rattle.farm_executor.specs.Seated.{AreTaken, blank_seat}
+use Rattle.farm_executor.specs.Seated.{AreSameSeats, blank_seat}
 use Rattle.lane_runner.specs.Calls.{IsRunning}
 use Rattle.lane_runner.specs.declared.runner.Runner.{Runner}
 use Rattle.plan_verifier.specs.Accepted.{AcceptedPlan}
@@ -22,7 +22,7 @@ from_ok P (Err e) x is h = absurd (cc)
 -- a lane with its first seat, whose seat was taken from those of an archive that was opened
 pub seated : (a b : AcceptedPlan) (w : Runner) (c : Held) (t : TableId) (k : ℕ) (q : LaneSeatOf)
     (old new : LaneSeatsOf) → IsRunning a w c q.about q.lane q.log → q ≡ blank_seat t b k
-    → old ≡ opened_seats t b → AreTaken old new → k < length b.plan → IsSeatedIn a w c q new
+    → old ≡ opened_seats t b → AreSameSeats old new → k < length b.plan → IsSeatedIn a w c q new
 seated a b w c t k q old new run is opened taken lt =
     let logs : length old.logs ≡ length b.plan =
     ap (λ (s : LaneSeatsOf). length s.logs) opened ∙ length-map b.plan (blank_log b.universe) in

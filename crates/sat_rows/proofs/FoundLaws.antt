@@ -3,6 +3,7 @@ use Rattle.std.proofs.Common.{◌≡◌, ℕ, ◌+◌, ◌<◌, ◌≤◌, get_o
 use Rattle.std.specs.Cmp.{both_ways as both_tests}
 use Rattle.std.specs.List.{list_any}
 use Rattle.std.specs.Option.{is_none}
+use Rattle.std.proofs.Math.Bool.{and-false, or-false}
 use Rattle.std.proofs.lemmas.Bool.{or_cases, or_left, or_right, and_parts, and_from, ltb-true, eqb-true, eq-eqb}
 use Rattle.std.proofs.lemmas.List.Folds.{list_any_more}
 use Rattle.std.proofs.lemmas.List.{take_all}
@@ -20,17 +21,8 @@ use Rattle.item_index.proofs.ItemLaws.{any_atom-at, any_atom-found}
 use Rattle.sat_rows.proofs.RowLaws.{row_from_names}
 use Rattle.sat_rows.specs.declared.found.NumberWord.{NumberWord}
 use Rattle.sat_rows.specs.Index.{IsNaming}
-use Rattle.sat_rows.specs.Rows.{passes, IsRowOf}
-use Rattle.sat_rows.specs.Found.{among, Puts, IsFound, Finds, GrowsBy, holds, some_atom, passes_there, HasItems}
-
--- tests
-and_false : (x : Bool) → (x && false) ≡ false
-and_false true = refl
-and_false false = refl
-
-pub or_false : (x : Bool) → (x || false) ≡ x
-or_false true = refl
-or_false false = refl
+use Rattle.sat_rows.specs.Rows.{variant_passes, IsRowOf}
+use Rattle.sat_rows.specs.Found.{among, Puts, IsFound, Finds, GrowsBy, alternative_passes, some_atom, passes_there, HasItems}
 
 or_spread : (a k p q : Bool) → ((a || (k && p)) || (k && q)) ≡ (a || (k && (p || q)))
 or_spread true k p q = refl
@@ -41,7 +33,7 @@ module _ (u : Universe) (p : Variant → Bool) where
   -- variants of a name that are put to those found
   module _ (name word : ℕ) (old new : List NumberWord)
       (put : (n b : ℕ) → among new n b ≡ (among old n b || ((n == name) && word_has word b))) where
-    pub put_grows : ((b : ℕ) → word_has word b ≡ true → passes u p name b ≡ true)
+    pub put_grows : ((b : ℕ) → word_has word b ≡ true → variant_passes u p name b ≡ true)
         → GrowsBy u p old new
     put_grows only =
         record {
@@ -50,14 +42,14 @@ module _ (u : Universe) (p : Variant → Bool) where
         }
       where
         back : (n b : ℕ) → (among old n b || ((n == name) && word_has word b)) ≡ true
-            → (among old n b || passes u p n b) ≡ true
+            → (among old n b || variant_passes u p n b) ≡ true
         back n b is =
             elim (or_cases (among old n b) _ is) [
               | inl before ↦ or_left (among old n b) _ before
               | inr both ↦
                   let parts = and_parts (n == name) _ both in
                   or_right (among old n b) _
-                  (ap (λ k. passes u p k b) (eqb-true n name parts.0) ∙ only b parts.1)
+                  (ap (λ k. variant_passes u p k b) (eqb-true n name parts.0) ∙ only b parts.1)
             ]
 
     pub put_has : (b : ℕ) → word_has word b ≡ true → among new name b ≡ true
@@ -71,8 +63,8 @@ module _ (u : Universe) (p : Variant → Bool) where
         passing = λ n k is. back n k (next.passing n k is);
       }
     where
-      back : (n k : ℕ) → (among b n k || passes u p n k) ≡ true
-          → (among a n k || passes u p n k) ≡ true
+      back : (n k : ℕ) → (among b n k || variant_passes u p n k) ≡ true
+          → (among a n k || variant_passes u p n k) ≡ true
       back n k is =
           elim (or_cases (among b n k) _ is) [
             | inl old ↦ first.passing n k old
@@ -81,7 +73,7 @@ module _ (u : Universe) (p : Variant → Bool) where
 
   -- all that pass were found
   pub finds_from_grows : (old new : List NumberWord) → GrowsBy u p old new
-      → ((n b : ℕ) → passes u p n b ≡ true → among new n b ≡ true) → Finds u p old new
+      → ((n b : ℕ) → variant_passes u p n b ≡ true → among new n b ≡ true) → Finds u p old new
   finds_from_grows old new grows all n b =
       both_tests (among new n b) _ (grows.passing n b)
       (λ is. elim (or_cases (among old n b) _ is) [
@@ -92,21 +84,21 @@ module _ (u : Universe) (p : Variant → Bool) where
   pub finds_next : (q r : Variant → Bool) (a b c : List NumberWord)
       → ((v : Variant) → r v ≡ (p v || q v)) → Finds u p a b → Finds u q b c → Finds u r a c
   finds_next q r a b c either first next n k =
-      next n k ∙ ap (λ x. x || passes u q n k) (first n k)
+      next n k ∙ ap (λ x. x || variant_passes u q n k) (first n k)
       ∙ or_spread (among a n k) (nat_lt k (variants u n)) (p (variant n k)) (q (variant n k))
       ∙ ap (λ x. among a n k || (nat_lt k (variants u n) && x)) (sym (either (variant n k)))
 
 pub finds_none : (u : Universe) (vs : List NumberWord) → Finds u (λ v. false) vs vs
 finds_none u vs n b =
-    sym (ap (λ x. among vs n b || x) (and_false (nat_lt b (variants u n)))
-    ∙ or_false (among vs n b))
+    sym (ap (λ x. among vs n b || x) (and-false (nat_lt b (variants u n)))
+    ∙ or-false (among vs n b))
 
 -- where none passes, nothing is found
 pub finds_never : (u : Universe) (p : Variant → Bool) (vs : List NumberWord)
     → ((v : Variant) → p v ≡ false) → Finds u p vs vs
 finds_never u p vs never n b =
     sym (ap (λ x. among vs n b || (nat_lt b (variants u n) && x)) (never (variant n b))
-    ∙ ap (λ x. among vs n b || x) (and_false (nat_lt b (variants u n))) ∙ or_false (among vs n b))
+    ∙ ap (λ x. among vs n b || x) (and-false (nat_lt b (variants u n))) ∙ or-false (among vs n b))
 
 -- what an index lists
 module _ (u : Universe) (field : Package → Relations) (test : Atom → Bool) where
@@ -116,17 +108,18 @@ module _ (u : Universe) (field : Package → Relations) (test : Atom → Bool) w
   -- the bit of the owner of an item
   module _ (at : Item Variant) (word : ℕ)
       (is : (b : ℕ) → word_has word b ≡ (passes_there u field test at && (b == at.owner.bit))) where
-    told : (o : Option Atom) → item_of at (field (package_of u at.owner)) ≡ o → holds test o ≡ true
+    told : (o : Option Atom) → item_of at (field (package_of u at.owner)) ≡ o
+        → alternative_passes test o ≡ true
         → some at.owner ≡ true
     told None e is = absurd cc
     told (Some a) e is =
         any_atom-at test (field (package_of u at.owner)) at.entry at.alternative a e is
 
-    pub item_only : (b : ℕ) → word_has word b ≡ true → passes u some at.owner.name b ≡ true
+    pub item_only : (b : ℕ) → word_has word b ≡ true → variant_passes u some at.owner.name b ≡ true
     item_only b has =
         let parts = and_parts (passes_there u field test at) _ (sym (is b) ∙ has) in
         let there = and_parts (nat_lt at.owner.bit (variants u at.owner.name)) _ parts.0 in
-        ap (passes u some at.owner.name) (eqb-true b at.owner.bit parts.1)
+        ap (variant_passes u some at.owner.name) (eqb-true b at.owner.bit parts.1)
         ∙ and_from _ _ there.0
         (told (item_of at (field (package_of u at.owner))) refl there.1)
 
@@ -143,7 +136,7 @@ module _ (u : Universe) (field : Package → Relations) (test : Atom → Bool) w
   finds_listed lists name old new naming same grows has = finds_from_grows u some old new grows
       every
     where
-      every : (n b : ℕ) → passes u some n b ≡ true → among new n b ≡ true
+      every : (n b : ℕ) → variant_passes u some n b ≡ true → among new n b ≡ true
       every n b pass =
           let v = variant n b in
           let both = and_parts (nat_lt b (variants u n)) _ pass in
@@ -154,7 +147,7 @@ module _ (u : Universe) (field : Package → Relations) (test : Atom → Bool) w
           found.3
           found.5 in
           has at (subst (λ text. IsIn (listed lists text) at) (same found.3 found.7) there)
-          (and_from _ _ both.0 (ap (holds test) found.6 ∙ found.7))
+          (and_from _ _ both.0 (ap (alternative_passes test) found.6 ∙ found.7))
 
 -- an alternative is satisfied by a variant's own name, or by an item that it provides
 module _ (u : Universe) (v : Variant) where
@@ -214,7 +207,7 @@ joined_word s new name before word is replaced n b = replaced n b ∙ one (n == 
     one true same =
         word_has-or before word b
         ∙ ap (λ x. x || word_has word b) (sym (is b) ∙ ap (λ k. s k b) (sym (eqb-true n name same)))
-    one false other = sym (or_false (s n b))
+    one false other = sym (or-false (s n b))
 
 -- a word joined to one of its number
 join_spread : (s x y r : Bool) → ((s && (x || y)) || r) ≡ (((s && x) || r) || (s && y))

@@ -10,7 +10,7 @@ use Rattle.clause_kernel.proofs.Words.{shares_bit-bits}
 use Rattle.item_index.proofs.ItemLaws.{any-at, any-found}
 use Rattle.sat_rows.specs.declared.found.NumberWord.{NumberWord}
 use Rattle.sat_rows.specs.Found.{among, shares_other, hits_other}
-use Rattle.sat_rows.specs.Links.{list_at, leads_by, IsJoined, AreJoined}
+use Rattle.sat_rows.specs.Links.{nth_list, leads_by, IsJoined, AreJoined}
 use Rattle.sat_rows.proofs.FoundLaws.{any_next, or_assoc}
 
 -- words put to others, one more
@@ -32,12 +32,12 @@ pub leads_next : (by_entry : List (List NumberWord)) (bit : ℕ) (old new es : L
     (i : ℕ)
     (e : NumberWord) → i < length es → e ≡ get_or es i e → IsJoined (take i es) by_entry bit old
     → ((m c : ℕ) → among new m c ≡ (among old m c
-    || (word_has e.word bit && among (list_at by_entry e.number) m c)))
+    || (word_has e.word bit && among (nth_list by_entry e.number) m c)))
     → IsJoined (take (i + 1) es) by_entry bit new
 leads_next by_entry bit old new es i e lt is so_far put m c =
     put m c
-    ∙ ap (λ x. x || (word_has e.word bit && among (list_at by_entry e.number) m c)) (so_far m c)
-    ∙ sym (any_next (λ e. word_has e.word bit && among (list_at by_entry e.number) m c) es i e lt
+    ∙ ap (λ x. x || (word_has e.word bit && among (nth_list by_entry e.number) m c)) (so_far m c)
+    ∙ sym (any_next (λ e. word_has e.word bit && among (nth_list by_entry e.number) m c) es i e lt
     is)
 
 pub leads_all : (by_entry : List (List NumberWord)) (bit : ℕ) (vs es : List NumberWord) (i : ℕ)
@@ -49,7 +49,7 @@ leads_all by_entry bit vs es i all is m c =
 module _ (entries : List NumberWord) (by_entry : List (List NumberWord)) (bit name : ℕ)
     (words : List ℕ) (vs : List NumberWord) (is : IsJoined entries by_entry bit vs) where
   abbrev way : NumberWord → Bool
-  way e = word_has e.word bit && hits_other name words (list_at by_entry e.number)
+  way e = word_has e.word bit && hits_other name words (nth_list by_entry e.number)
 
   -- a variant of a list that the words have
   meets : (list : List NumberWord) → hits_other name words list ≡ true
@@ -84,20 +84,20 @@ module _ (entries : List NumberWord) (by_entry : List (List NumberWord)) (bit na
     on : hits_other name words vs ≡ true → list_any way entries ≡ true
     on hit =
         let at = meets vs hit in
-        let e = any-found (λ e. word_has e.word bit && among (list_at by_entry e.number) at.0 at.1)
+        let e = any-found (λ e. word_has e.word bit && among (nth_list by_entry e.number) at.0 at.1)
         entries (sym (is at.0 at.1) ∙ at.4) in
         let both = and_parts (word_has e.1.word bit) _ e.3 in
         any-at way entries e.0 e.1 e.2
-        (and_from _ _ both.0 (met (list_at by_entry e.1.number) at.0 at.1 at.2 at.3 both.1))
+        (and_from _ _ both.0 (met (nth_list by_entry e.1.number) at.0 at.1 at.2 at.3 both.1))
 
     back : list_any way entries ≡ true → hits_other name words vs ≡ true
     back some =
         let e = any-found way entries some in
         let both = and_parts (word_has e.1.word bit) _ e.3 in
-        let at = meets (list_at by_entry e.1.number) both.1 in
+        let at = meets (nth_list by_entry e.1.number) both.1 in
         met vs at.0 at.1 at.2 at.3
         (is at.0 at.1
-        ∙ any-at (λ e. word_has e.word bit && among (list_at by_entry e.number) at.0 at.1) entries
+        ∙ any-at (λ e. word_has e.word bit && among (nth_list by_entry e.number) at.0 at.1) entries
         e.0
         e.1 e.2 (and_from _ _ both.0 at.4))
 

@@ -14,11 +14,11 @@ use Rattle.farm_universe.proofs.PlaceLaws.{named}
 use Rattle.item_index.proofs.ItemLaws.{any-at, any-found}
 use Rattle.sat_rows.specs.declared.found.NumberWord.{NumberWord}
 use Rattle.sat_rows.specs.Found.{among, shares_other, hits_other}
-use Rattle.sat_rows.specs.Rows.{passes, of_another_name}
-use Rattle.sat_rows.specs.Links.{Links, list_at, Leads, reaches, IsLinks, AreNumbered, AreSets, AreTurned, declares, Exclusion, AreBoth, IsExclusion}
+use Rattle.sat_rows.specs.Rows.{variant_passes, of_another_name}
+use Rattle.sat_rows.specs.Links.{Links, nth_list, Leads, reaches, IsLinks, AreNumbered, AreSets, AreTurned, declares, Exclusion, AreBoth, IsExclusion}
 
 -- what a list has stands within the lists
-pub within : (lists : List (List NumberWord)) (i k b : ℕ) → among (list_at lists i) k b ≡ true
+pub within : (lists : List (List NumberWord)) (i k b : ℕ) → among (nth_list lists i) k b ≡ true
     → i < length lists
 within lists i k b has =
     elim (cases_lt i (length lists)) [
@@ -104,26 +104,26 @@ module _ (u : Universe) (test : Variant → Variant → Bool) (x : Links) (links
 module _ (u : Universe) (test : Variant → Variant → Bool) (x : Links) (links : IsLinks u test x)
     (v : Variant) (known : IsKnown u v) (words : List ℕ) where
   abbrev Common : Type 0
-  Common = HaveCommon (variants_of words) (passes u (of_another_name v (test v)))
+  Common = HaveCommon (variants_of words) (variant_passes u (of_another_name v (test v)))
 
   abbrev way : NumberWord → Bool
-  way e = word_has e.word v.bit && hits_other v.name words (list_at x.by_entry e.number)
+  way e = word_has e.word v.bit && hits_other v.name words (nth_list x.by_entry e.number)
 
   pub reaches_some : reaches x v words ≡ true → Common
   reaches_some is =
-      let e = any-found way (list_at x.by_name v.name) is in
+      let e = any-found way (nth_list x.by_name v.name) is in
       let both = and_parts (word_has e.1.word v.bit) _ e.3 in
-      let w = any-found (shares_other v.name words) (list_at x.by_entry e.1.number) both.1 in
+      let w = any-found (shares_other v.name words) (nth_list x.by_entry e.1.number) both.1 in
       let parts = and_parts (not (w.1.number == v.name)) _ w.3 in
       let shared = (shares_bit-bits (slice_index words w.1.number) w.1.word).0 parts.1 in
       let leads : Leads x v.name v.bit w.1.number shared.0 =
       record {
         entry = e.1.number;
         has = any-at (λ t. (e.1.number == t.number) && word_has t.word v.bit)
-            (list_at x.by_name v.name) e.0 e.1 e.2
+            (nth_list x.by_name v.name) e.0 e.1 e.2
             (and_from _ _ (eq-eqb e.1.number e.1.number refl) both.0);
         to = any-at (λ t. (w.1.number == t.number) && word_has t.word shared.0)
-            (list_at x.by_entry e.1.number) w.0 w.1 w.2
+            (nth_list x.by_entry e.1.number) w.0 w.1 w.2
             (and_from _ _ (eq-eqb w.1.number w.1.number refl) shared.2);
       } in
       let told = links.only v.name v.bit w.1.number shared.0 leads in (
@@ -143,20 +143,20 @@ module _ (u : Universe) (test : Variant → Variant → Bool) (x : Links) (links
       let leads = links.every v.name v.bit m c known (ltb-true c (variants u m) passing.0)
       other.1 in
       let e = any-found (λ t. (leads.entry == t.number) && word_has t.word v.bit)
-      (list_at x.by_name v.name) leads.has in
+      (nth_list x.by_name v.name) leads.has in
       let first = and_parts (leads.entry == e.1.number) _ e.3 in
-      let to : among (list_at x.by_entry e.1.number) m c ≡ true =
-      subst (λ k. among (list_at x.by_entry k) m c ≡ true)
+      let to : among (nth_list x.by_entry e.1.number) m c ≡ true =
+      subst (λ k. among (nth_list x.by_entry k) m c ≡ true)
       (eqb-true leads.entry e.1.number first.0) leads.to in
       let w = any-found (λ t. (m == t.number) && word_has t.word c)
-      (list_at x.by_entry e.1.number) to in
+      (nth_list x.by_entry e.1.number) to in
       let second = and_parts (m == w.1.number) _ w.3 in
       let same = eqb-true m w.1.number second.0 in
       let shared = (shares_bit-bits (slice_index words w.1.number) w.1.word).1
       (c, subst (λ k. variants_of words k c ≡ true) same common.2, second.1) in
-      any-at way (list_at x.by_name v.name) e.0 e.1 e.2
+      any-at way (nth_list x.by_name v.name) e.0 e.1 e.2
       (and_from _ _ first.1
-      (any-at (shares_other v.name words) (list_at x.by_entry e.1.number) w.0 w.1 w.2
+      (any-at (shares_other v.name words) (nth_list x.by_entry e.1.number) w.0 w.1 w.2
       (and_from _ _ (subst (λ k. not (k == v.name) ≡ true) same other.0) shared)))
 
   pub reaches_is : (t : Bool) → t ≡ reaches x v words → (t ≡ true) ↔ Common
@@ -166,7 +166,7 @@ module _ (u : Universe) (test : Variant → Variant → Bool) (x : Links) (links
 -- variants that pass one of two tests
 module _ (u : Universe) (v : Variant) (p q : Variant → Bool) (words : List ℕ) where
   abbrev Has : (Variant → Bool) → Type 0
-  Has r = HaveCommon (variants_of words) (passes u (of_another_name v r))
+  Has r = HaveCommon (variants_of words) (variant_passes u (of_another_name v r))
 
   wider : (r s : Variant → Bool) → ((w : Variant) → r w ≡ true → s w ≡ true) → Has r → Has s
   wider r s on has =

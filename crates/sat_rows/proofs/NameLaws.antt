@@ -16,7 +16,7 @@ use Rattle.farm_model.specs.Packages.{variant, names, variants, facts, is_wanted
 use Rattle.farm_model.specs.Universe.{Universe}
 use Rattle.farm_universe.proofs.PlaceLaws.{named}
 use Rattle.farm_universe.specs.Kept.{IsKept}
-use Rattle.sat_rows.specs.Rows.{passes}
+use Rattle.sat_rows.specs.Rows.{variant_passes}
 
 -- no text stands at two places
 same-place : (ks : List (List ℕ)) → AllDistinct bytes_eq ks → (i j : ℕ) → i < length ks
@@ -37,7 +37,7 @@ same-place (k ∷ ks) distinct (suc i) (suc j) li lj same =
 module _ (u : Universe) (kept : IsKept u) (a : Atom) where
   -- the variant has the name of the alternative, and a version in its relation
   abbrev own : ℕ → ℕ → Bool
-  own n b = passes u (λ v. is_its_own (facts u v) a) n b
+  own n b = variant_passes u (λ v. is_its_own (facts u v) a) n b
 
   parts : (n b : ℕ) → own n b ≡ true
       → (b < variants u n) × (n < length u.names) × (get_or u.names n [] ≡ a.name)
@@ -56,7 +56,7 @@ module _ (u : Universe) (kept : IsKept u) (a : Atom) where
 
   -- where the name has this number, they are its variants
   pub own-found : (k : ℕ) (has : ℕ → Bool)
-      → ((b : ℕ) → has b ≡ passes u (is_wanted u a.relation) k b)
+      → ((b : ℕ) → has b ≡ variant_passes u (is_wanted u a.relation) k b)
       → place_in bytes_eq u.names a.name ≡ Some k
       → (n b : ℕ) → ((n == k) && has b) ≡ own n b
   unfolding facts is_wanted
@@ -82,7 +82,7 @@ module _ (u : Universe) (kept : IsKept u) (a : Atom) where
         let told = parts n b passing in
         let same = same-place u.names kept.distinct n k told.1 place.0 (told.2 ∙ sym place.1) in
         and_from _ _ (eq-eqb n k same)
-        (is b ∙ ap (λ n. passes u (is_wanted u a.relation) n b) (sym same)
+        (is b ∙ ap (λ n. variant_passes u (is_wanted u a.relation) n b) (sym same)
         ∙ and_from _ _ (lt-ltb b (variants u n) told.0) told.3)
 
   -- where no name is that, there are none

@@ -5,8 +5,8 @@ use Rattle.deb_relation.specs.Relations.{Entry}
 use Rattle.farm_model.specs.declared.types.Variant.{Variant}
 use Rattle.farm_model.specs.Universe.{Universe}
 use Rattle.farm_model.specs.Packages.{variant, pre_depends, depends}
-use Rattle.sat_rows.specs.ByVariant.{AreOfName}
-use Rattle.sat_rows.specs.Entries.{IsGrown, IsNumberOf, IsPreNumbers, AreNumbers, AreNumbered, PreNumbers, Numbers, no_numbers}
+use Rattle.sat_rows.specs.ByVariant.{AreValuesOfName}
+use Rattle.sat_rows.specs.Entries.{IsGrown, IsNumberOf, IsPreNumbers, AreNumbers, AreVariantNumbers, PreNumbers, Numbers, no_numbers}
 
 pub grown_trans : (a b c : List Entry) → IsGrown a b → IsGrown b c → IsGrown a c
 grown_trans a b c first next n e is = next n e (first n e is)
@@ -41,16 +41,16 @@ module _ (a b : List Entry) (grown : IsGrown a b) where
       }
 
   pub name_grown : (u : Universe) (n : ℕ) (values : List Numbers)
-      → AreOfName u (AreNumbers u a) no_numbers n values
-      → AreOfName u (AreNumbers u b) no_numbers n values
+      → AreValuesOfName u (AreNumbers u a) no_numbers n values
+      → AreValuesOfName u (AreNumbers u b) no_numbers n values
   name_grown u n values are =
       record {
         long = are.long;
         each = λ k lt. numbers_grown u (variant n k) (get_or values k no_numbers) (are.each k lt);
       }
 
-  pub numbered_grown : (u : Universe) (lists : List (List Numbers)) → AreNumbered u a lists
-      → AreNumbered u b lists
+  pub numbered_grown : (u : Universe) (lists : List (List Numbers)) → AreVariantNumbers u a lists
+      → AreVariantNumbers u b lists
   numbered_grown u lists are =
       record {
         long = are.long;

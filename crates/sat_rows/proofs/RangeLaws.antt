@@ -4,6 +4,7 @@ use Rattle.std.specs.declared.cmp.Ordering.TheVariants.{Less, Equal, Greater}
 use Rattle.std.proofs.lemmas.Cmp.{alike_right}
 use Rattle.std.proofs.lemmas.Bool.{cases_lt, cases_Bool, both_ways, lt-ltb}
 use Rattle.std.proofs.lemmas.Bool.Decides.{nat_tests}
+use Rattle.std.proofs.Math.Bool.{and-true}
 use Rattle.std.proofs.Math.Nat.{pow-le-pow_right}
 use Rattle.std.proofs.lemmas.Nat.{pow_pos}
 use Rattle.std.proofs.lemmas.Nat.Bits.{bit_at_mask_above, bit_at_mask_below, bit_at_mask_inside}
@@ -18,7 +19,7 @@ use Rattle.std.specs.Ordering.{is_lt, is_le, ordering_reverse}
 use Rattle.deb_relation.specs.declared.operator.Op.{Op}
 use Rattle.deb_relation.specs.declared.operator.Op.TheVariants.{Earlier, EarlierOrEqual, Equal as SameVersion, LaterOrEqual, Later}
 use Rattle.deb_relation.specs.Satisfaction.{admits}
-use Rattle.sat_rows.specs.Rows.{passes}
+use Rattle.sat_rows.specs.Rows.{variant_passes}
 use Rattle.sat_rows.specs.Ranges.{is_before, IsCountBefore, IsRange}
 
 -- numbers that are not below
@@ -232,10 +233,6 @@ bits_between low high b =
       ]
     ]
 
-and_true : (x : Bool) → (x && true) ≡ x
-and_true true = refl
-and_true false = refl
-
 less_or_equal : (o : Ordering) → is_lt o ≡ true → is_le o ≡ true
 less_or_equal Less is = refl
 less_or_equal Equal is = refl
@@ -244,13 +241,13 @@ less_or_equal Greater is = is
 -- the ranges of relations
 pub none_wanted : (u : Universe) (n b count word : ℕ) → count ≡ variants u n
     → word_has word b ≡ (not (nat_lt b 0) && nat_lt b count)
-    → word_has word b ≡ passes u (is_wanted u None) n b
+    → word_has word b ≡ variant_passes u (is_wanted u None) n b
 unfolding is_wanted
 none_wanted u n b count word is bits =
     bits
     ∙ ap (λ t. not t && nat_lt b count) (not_lt b 0 (omega arith))
     ∙ ap (nat_lt b) is
-    ∙ sym (and_true (nat_lt b (variants u n)))
+    ∙ sym (and-true (nat_lt b (variants u n)))
 
 module _ (u : Universe) (n : ℕ) (bound : List ℕ) (op : Op) where
   pub up_to : (e : Bool) (count : ℕ) → ((o : Ordering) → admits op o ≡ is_before e o)
@@ -275,7 +272,7 @@ module _ (u : Universe) (n : ℕ) (bound : List ℕ) (op : Op) where
         within = omega (arith, all);
         each = λ b lt.
             agree (text_cmp (package_of u (variant n b)).version bound) ∙ ap not (is.before b lt)
-            ∙ sym (and_true (not (nat_lt b count)))
+            ∙ sym (and-true (not (nat_lt b count)))
             ∙ ap (λ t. not (nat_lt b count) && t) (sym (lt-ltb b high (omega (arith, all))));
       }
 

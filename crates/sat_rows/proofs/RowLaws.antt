@@ -13,20 +13,21 @@ use Rattle.farm_model.specs.declared.types.Variant.{Variant}
 use Rattle.farm_model.specs.Universe.{Universe}
 use Rattle.farm_model.specs.Packages.{names}
 use Rattle.farm_universe.proofs.PlaceLaws.{no_variants}
-use Rattle.sat_rows.specs.Rows.{passes, IsRowOf}
+use Rattle.sat_rows.specs.Rows.{variant_passes, IsRowOf}
 
 -- what is no name has no variant that passes
-none_past : (u : Universe) (p : Variant → Bool) (n b : ℕ) → names u ≤ n → passes u p n b ≡ false
+none_past : (u : Universe) (p : Variant → Bool) (n b : ℕ) → names u ≤ n
+    → variant_passes u p n b ≡ false
 none_past u p n b past =
     let none : nat_lt b 0 ≡ false = grind (arith, nat_tests) in
     and_left _ _ (ap (λ m. nat_lt b m) (no_variants u n past) ∙ none)
 
 -- a row that is right at each name is right
 pub row_from_names : (u : Universe) (p : Variant → Bool) (row : List ℕ) → length row ≡ names u
-    → ((n b : ℕ) → n < names u → variants_of row n b ≡ passes u p n b) → IsRowOf u p row
+    → ((n b : ℕ) → n < names u → variants_of row n b ≡ variant_passes u p n b) → IsRowOf u p row
 row_from_names u p row long each = record { long = long; set = λ n b. at n b }
   where
-    at : (n b : ℕ) → variants_of row n b ≡ passes u p n b
+    at : (n b : ℕ) → variants_of row n b ≡ variant_passes u p n b
     at n b =
         elim (cases_lt n (names u)) [
           | inl there ↦ each n b there

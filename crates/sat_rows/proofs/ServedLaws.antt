@@ -16,14 +16,14 @@ use Rattle.farm_universe.proofs.PlaceLaws.{named}
 use Rattle.item_index.proofs.ItemLaws.{any-at, any-found}
 use Rattle.sat_rows.specs.declared.found.NumberWord.{NumberWord}
 use Rattle.sat_rows.specs.Found.{among}
-use Rattle.sat_rows.specs.Links.{Links, list_at}
-use Rattle.sat_rows.specs.Rows.{passes, IsRowOf}
-use Rattle.sat_rows.specs.Served.{AreServed, shares, hits, is_unmet, is_missed_by, misses, IsMissed}
+use Rattle.sat_rows.specs.Links.{Links, nth_list}
+use Rattle.sat_rows.specs.Rows.{variant_passes, IsRowOf}
+use Rattle.sat_rows.specs.Served.{AreServed, shares, hits_some, is_unmet, is_missed_by, misses, IsMissed}
 use Rattle.sat_rows.proofs.LinkLaws.{within}
 use Rattle.sat_rows.proofs.WantedLaws.{wanted_is}
 
 -- words that hit a list have one of its variants
-hit_found : (words : List ℕ) (vs : List NumberWord) → hits words vs ≡ true
+hit_found : (words : List ℕ) (vs : List NumberWord) → hits_some words vs ≡ true
     → (n : ℕ) × (b : ℕ) × (variants_of words n b ≡ true) × (among vs n b ≡ true)
 hit_found words vs hit =
     let w = any-found (shares words) vs hit in
@@ -36,7 +36,7 @@ hit_found words vs hit =
     )
 
 hit_from : (words : List ℕ) (vs : List NumberWord) (n b : ℕ) → variants_of words n b ≡ true
-    → among vs n b ≡ true → hits words vs ≡ true
+    → among vs n b ≡ true → hits_some words vs ≡ true
 hit_from words vs n b held has =
     let w = any-found (λ t. (n == t.number) && word_has t.word b) vs has in
     let parts = and_parts (n == w.1.number) _ w.3 in
@@ -48,12 +48,12 @@ hit_from words vs n b held has =
 -- the row of variants that pass, and these
 inside_row : (u : Universe) (p : Variant → Bool) (row words : List ℕ) → IsRowOf u p row
     → HasNameInside (variants_of words) (variants_of row)
-    → HasNameInside (variants_of words) (passes u p)
+    → HasNameInside (variants_of words) (variant_passes u p)
 inside_row u p row words is inside =
     (inside.0, inside.1, λ b has. sym (is.set inside.0 b) ∙ inside.2 b has)
 
 inside_passing : (u : Universe) (p : Variant → Bool) (row words : List ℕ) → IsRowOf u p row
-    → HasNameInside (variants_of words) (passes u p)
+    → HasNameInside (variants_of words) (variant_passes u p)
     → HasNameInside (variants_of words) (variants_of row)
 inside_passing u p row words is inside =
     (inside.0, inside.1, λ b has. is.set inside.0 b ∙ inside.2 b has)
@@ -79,14 +79,14 @@ module _ (u : Universe) (rows : List (List ℕ)) (x : Links) (are : AreServed u 
     row_is = are.rows_of.each k e at
 
     unmet_is : is_unmet words (slice_get rows k) ≡ true
-        → HasNameInside (variants_of words) (passes u p) → ⊥
+        → HasNameInside (variants_of words) (variant_passes u p) → ⊥
     unmet_is told inside =
         let not_met = not-true _ (sym (ap (is_unmet words) row_there) ∙ told) in
         both_ways _ not_met
         ((met-bits words (get_or rows k []) (long ∙ sym row_is.long)).1
         (inside_passing u p (get_or rows k []) words row_is inside))
 
-    unmet_from : (HasNameInside (variants_of words) (passes u p) → ⊥)
+    unmet_from : (HasNameInside (variants_of words) (variant_passes u p) → ⊥)
         → is_unmet words (slice_get rows k) ≡ true
     unmet_from none =
         ap (is_unmet words) row_there
@@ -101,23 +101,24 @@ module _ (u : Universe) (rows : List (List ℕ)) (x : Links) (are : AreServed u 
     missed_found some =
         let serving = are.serving in
         let own = slice_index words name in
-        let at = any-found (is_missed_by x rows word own words) (list_at x.by_name name) some in
+        let at = any-found (is_missed_by x rows word own words) (nth_list x.by_name name) some in
         let k = at.1.number in
         let first = and_parts (shares_bit word at.1.word) _ at.3 in
         let others = and_parts (not (meets own at.1.word)) _ first.1 in
-        let second = and_parts (hits words (list_at x.by_entry k)) _ others.1 in
+        let second = and_parts (hits_some words (nth_list x.by_entry k)) _ others.1 in
         let shared = (shares_bit-bits word at.1.word).0 first.0 in
-        let listed : among (list_at x.by_name name) k shared.0 ≡ true =
-        any-at (λ t. (k == t.number) && word_has t.word shared.0) (list_at x.by_name name) at.0 at.1
+        let listed : among (nth_list x.by_name name) k shared.0 ≡ true =
+        any-at (λ t. (k == t.number) && word_has t.word shared.0) (nth_list x.by_name name) at.0
+        at.1
         at.2
         (and_from _ _ (eq-eqb k k refl) shared.2) in
         let there = within x.by_name name k shared.0 listed in
-        let set : among (list_at serving.sets k) name shared.0 ≡ true =
+        let set : among (nth_list serving.sets k) name shared.0 ≡ true =
         sym (serving.satisfied.each name k shared.0 (omega (arith, there, serving.satisfied.long)))
         ∙ listed in
-        let owner = hit_found words (list_at x.by_entry k) second.0 in
+        let owner = hit_found words (nth_list x.by_entry k) second.0 in
         let owned = within x.by_entry k owner.0 owner.1 owner.3 in
-        let noted : among (list_at serving.noted owner.0) k owner.1 ≡ true =
+        let noted : among (nth_list serving.noted owner.0) k owner.1 ≡ true =
         sym (serving.owners.each k owner.0 owner.1 (omega (arith, owned, serving.owners.long)))
         ∙ owner.3 in
         let name_there = within serving.noted owner.0 k owner.1 noted in
@@ -142,9 +143,9 @@ module _ (u : Universe) (rows : List (List ℕ)) (x : Links) (are : AreServed u 
     -- an entry that is listed under the name, where all that the words have of the name is in its
     -- word, is met by it
     met_by_own : (at : NumberWord) (e : Entry) → slice_get are.entries at.number ≡ Some e
-        → (i : ℕ) → slice_get (list_at x.by_name name) i ≡ Some at
+        → (i : ℕ) → slice_get (nth_list x.by_name name) i ≡ Some at
         → meets (slice_index words name) at.word ≡ true
-        → HasNameInside (variants_of words) (passes u (satisfies_entry u e))
+        → HasNameInside (variants_of words) (variant_passes u (satisfies_entry u e))
     met_by_own at e is i listed meets_it =
         let parts = (meets-bits (slice_index words name) at.word).0 meets_it in (
           name,
@@ -152,8 +153,8 @@ module _ (u : Universe) (rows : List (List ℕ)) (x : Links) (are : AreServed u 
           λ b has.
               let serving = are.serving in
               let k = at.number in
-              let among_it : among (list_at x.by_name name) k b ≡ true =
-              any-at (λ t. (k == t.number) && word_has t.word b) (list_at x.by_name name) i at
+              let among_it : among (nth_list x.by_name name) k b ≡ true =
+              any-at (λ t. (k == t.number) && word_has t.word b) (nth_list x.by_name name) i at
               listed
               (and_from _ _ (eq-eqb k k refl) (parts.1 b has)) in
               let name_there = within x.by_name name k b among_it in
@@ -173,14 +174,15 @@ module _ (u : Universe) (rows : List (List ℕ)) (x : Links) (are : AreServed u 
         let k = noted.number in
         let inside = slice_get_within are.entries k is.entry noted.is in
         let count = serving.are_sets.long in
-        let owned : among (list_at x.by_entry k) v.name v.bit ≡ true =
+        let owned : among (nth_list x.by_entry k) v.name v.bit ≡ true =
         serving.owners.each k v.name v.bit (omega (arith, inside, count)) ∙ noted.has in
         let passing = and_parts (nat_lt is.bit (variants u name)) _ is.satisfied in
         let there = named u name is.bit (ltb-true is.bit (variants u name) passing.0) in
-        let listed : among (list_at x.by_name name) k is.bit ≡ true =
+        let listed : among (nth_list x.by_name name) k is.bit ≡ true =
         serving.satisfied.each name k is.bit there
         ∙ (serving.are_sets.each k is.entry noted.is name is.bit ∙ is.satisfied) in
-        let at = any-found (λ t. (k == t.number) && word_has t.word is.bit) (list_at x.by_name name)
+        let at = any-found (λ t. (k == t.number) && word_has t.word is.bit)
+        (nth_list x.by_name name)
         listed in
         let parts = and_parts (k == at.1.number) _ at.3 in
         let same = eqb-true k at.1.number parts.0 in
@@ -192,12 +194,12 @@ module _ (u : Universe) (rows : List (List ℕ)) (x : Links) (are : AreServed u 
           | inr out ↦ out
           | inl it ↦ absurd (is.unmet (met_by_own at.1 is.entry entry_is at.0 at.2 it))
         ]) in
-        any-at (is_missed_by x rows word own words) (list_at x.by_name name) at.0 at.1 at.2
+        any-at (is_missed_by x rows word own words) (nth_list x.by_name name) at.0 at.1 at.2
         (and_from _ _ ((shares_bit-bits word at.1.word).1 (is.bit, is.taken, parts.1))
         (and_from _ _ not_own
-        (subst (λ j. (hits words (list_at x.by_entry j) && is_unmet words (slice_get rows j))
+        (subst (λ j. (hits_some words (nth_list x.by_entry j) && is_unmet words (slice_get rows j))
         ≡ true) same
-        (and_from _ _ (hit_from words (list_at x.by_entry k) v.name v.bit is.held owned)
+        (and_from _ _ (hit_from words (nth_list x.by_entry k) v.name v.bit is.held owned)
         (unmet_from k is.entry noted.is is.unmet)))))
 
     pub misses_is : (t : Bool) → t ≡ misses x rows name word words

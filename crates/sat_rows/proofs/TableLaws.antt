@@ -1,6 +1,7 @@
 -- What is read of the tables.
 use Rattle.std.proofs.Common.{◌≡◌, ℕ, zero, suc, ◌<◌, ◌&&◌, nat_lt, List, [], ◌∷◌, Some, length, get_or, refl, sym, ap, ◌∙◌, subst, arith}
 use Rattle.std.specs.List.{AllZip, slice_get}
+use Rattle.std.proofs.Math.Bool.{or-false}
 use Rattle.std.proofs.lemmas.List.{get_or_default}
 use Rattle.std.proofs.lemmas.Option.{slice_get_read, slice_get_within, get_or_from_slice_get}
 use Rattle.deb_relation.specs.Relations.{Atom, Entry}
@@ -9,11 +10,10 @@ use Rattle.farm_model.specs.Universe.{Universe}
 use Rattle.farm_model.specs.Packages.{variant, variants, pre_depends, depends, recipe, satisfies, satisfies_entry}
 use Rattle.farm_model.specs.Sound.{IsKnown}
 use Rattle.farm_universe.proofs.PlaceLaws.{named}
-use Rattle.sat_rows.specs.ByVariant.{AreOfName, AreOfEach}
+use Rattle.sat_rows.specs.ByVariant.{AreValuesOfName, AreOfEach}
 use Rattle.sat_rows.specs.Entries.{Numbers, PreNumbers, IsNumberOf, IsPreNumbers, AreNumbers, no_numbers, no_pre_numbers}
-use Rattle.sat_rows.specs.Rows.{IsRowOf, entry_at}
+use Rattle.sat_rows.specs.Rows.{IsRowOf, nth_entry}
 use Rattle.sat_rows.specs.Tables.{AreEntryRows}
-use Rattle.sat_rows.proofs.FoundLaws.{or_false}
 use Rattle.sat_rows.proofs.Pairs.{paired_within, paired_at, paired_with}
 
 module _ {T : Type 0} (u : Universe) (Is : Variant → T → Type 0) (none : T) (lists : List (List T))
@@ -23,9 +23,9 @@ module _ {T : Type 0} (u : Universe) (Is : Variant → T → Type 0) (none : T) 
   name_within = let there = named u v.name v.bit known in omega (arith, all.long)
 
   module _ (here : List T) (is : here ≡ get_or lists v.name here) where
-    pub name_at : AreOfName u Is none v.name here
+    pub name_at : AreValuesOfName u Is none v.name here
     name_at =
-        subst (AreOfName u Is none v.name)
+        subst (AreValuesOfName u Is none v.name)
         (get_or_from_slice_get lists v.name here []
         (slice_get_read lists (length lists) v.name here refl name_within is))
         (all.each v.name (named u v.name v.bit known))
@@ -50,7 +50,7 @@ one_alternative u a row is =
       long = is.long;
       set = λ n b.
           is.set n b ∙ ap (λ x. nat_lt b (variants u n) && x)
-          (or_false (satisfies u a (variant n b)));
+          (or-false (satisfies u a (variant n b)));
     }
 
 module _ (u : Universe) (by_name : List (List Numbers)) (by_recipe rows : List (List ℕ))
@@ -89,9 +89,9 @@ module _ (u : Universe) (by_name : List (List Numbers)) (by_recipe rows : List (
 
         pub depends_number : (i n : ℕ) → i < length (depends u v)
             → n ≡ get_or numbers.depends i 0
-            → IsNumberOf kept.entries (entry_at (depends u v) i) n
+            → IsNumberOf kept.entries (nth_entry (depends u v) i) n
         depends_number i n lt e =
-            subst (IsNumberOf kept.entries (entry_at (depends u v) i)) (sym e)
+            subst (IsNumberOf kept.entries (nth_entry (depends u v) i)) (sym e)
             (paired_at (IsNumberOf kept.entries) (depends u v) numbers.depends i [] 0 are.depends
             lt)
 
@@ -102,9 +102,9 @@ module _ (u : Universe) (by_name : List (List Numbers)) (by_recipe rows : List (
 
         pub pre_numbers : (i : ℕ) (pre : PreNumbers) → i < length (pre_depends u v)
             → pre ≡ get_or numbers.pre_depends i no_pre_numbers
-            → IsPreNumbers kept.entries (entry_at (pre_depends u v) i) pre
+            → IsPreNumbers kept.entries (nth_entry (pre_depends u v) i) pre
         pre_numbers i pre lt e =
-            subst (IsPreNumbers kept.entries (entry_at (pre_depends u v) i)) (sym e)
+            subst (IsPreNumbers kept.entries (nth_entry (pre_depends u v) i)) (sym e)
             (paired_at (IsPreNumbers kept.entries) (pre_depends u v) numbers.pre_depends i []
             no_pre_numbers are.pre_depends lt)
 
@@ -138,7 +138,7 @@ module _ (u : Universe) (by_name : List (List Numbers)) (by_recipe rows : List (
           paired_within (IsNumberOf kept.entries) (recipe u r).needs here i all there
 
       pub need_number : (i n : ℕ) → i < length (recipe u r).needs → n ≡ get_or here i 0
-          → IsNumberOf kept.entries (entry_at (recipe u r).needs i) n
+          → IsNumberOf kept.entries (nth_entry (recipe u r).needs i) n
       need_number i n there e =
-          subst (IsNumberOf kept.entries (entry_at (recipe u r).needs i)) (sym e)
+          subst (IsNumberOf kept.entries (nth_entry (recipe u r).needs i)) (sym e)
           (paired_at (IsNumberOf kept.entries) (recipe u r).needs here i [] 0 all there)

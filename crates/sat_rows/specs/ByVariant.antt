@@ -1,6 +1,6 @@
 -- A value for each variant of a universe, as a list for each name. The project's own words.
 --
---   AreOfName      the values of the variants of one name
+--   AreValuesOfName  the values of the variants of one name
 --   AreOfEach      those of all variants
 use Rattle.std.specs.Prelude.{◌≡◌, ℕ, ◌<◌, List, [], length, slice_index_or}
 use Rattle.farm_model.specs.declared.types.Variant.{Variant}
@@ -8,7 +8,8 @@ use Rattle.farm_model.specs.Universe.{Universe}
 use Rattle.farm_model.specs.Packages.{variant, names, variants}
 
 -- each variant of the name has its value in the place of its bit
-pub record AreOfName {T : Type 0} (u : Universe) (Is : Variant → T → Type 0) (none : T) (n : ℕ)
+pub record AreValuesOfName {T : Type 0} (u : Universe) (Is : Variant → T → Type 0) (none : T)
+    (n : ℕ)
     (values : List T) : Type 0 where
   pub long : length values ≡ variants u n
   pub each : (b : ℕ) → b < variants u n → Is (variant n b) (slice_index_or values b none)
@@ -17,4 +18,4 @@ pub record AreOfName {T : Type 0} (u : Universe) (Is : Variant → T → Type 0)
 pub record AreOfEach {T : Type 0} (u : Universe) (Is : Variant → T → Type 0) (none : T)
     (lists : List (List T)) : Type 0 where
   pub long : length lists ≡ names u
-  pub each : (n : ℕ) → n < names u → AreOfName u Is none n (slice_index_or lists n [])
+  pub each : (n : ℕ) → n < names u → AreValuesOfName u Is none n (slice_index_or lists n [])

@@ -5,7 +5,7 @@
 --   IsNumberOf         the number of an entry
 --   IsPreNumbers       those of a Pre-Depends entry and of its alternatives
 --   AreNumbers         those of the entries of a variant
---   AreNumbered        those of all variants
+--   AreVariantNumbers  those of all variants
 --   AreNeeds           those of the needs of all recipes
 --   AreRowsOf          the rows of the entries
 use Rattle.std.specs.Prelude.{◌≡◌, ℕ, ◌<◌, List, [], ◌∷◌, length, Some, slice_get, slice_index_or}
@@ -50,8 +50,8 @@ no_pre_numbers = record { entry = 0; alternatives = [] }
 abbrev pub no_numbers : Numbers
 no_numbers = record { pre_depends = []; depends = [] }
 
-abbrev pub AreNumbered : Universe → List Entry → List (List Numbers) → Type 0
-AreNumbered u entries = AreOfEach u (AreNumbers u entries) no_numbers
+abbrev pub AreVariantNumbers : Universe → List Entry → List (List Numbers) → Type 0
+AreVariantNumbers u entries = AreOfEach u (AreNumbers u entries) no_numbers
 
 -- each recipe has the numbers of its needs in the place of its own
 pub record AreNeeds (u : Universe) (entries : List Entry) (lists : List (List ℕ)) : Type 0 where

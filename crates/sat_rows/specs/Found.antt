@@ -7,7 +7,7 @@
 --   IsFound           those found are the variants of a universe that pass a test
 --   Finds             the variants that pass are put to those found
 --   GrowsBy           some that pass are put to them
---   holds             a test of what may be there
+--   alternative_passes  a test of what may be there
 --   some_atom         some alternative of a field of a variant passes
 --   passes_there      the universe has the owner of an item, and the alternative there passes
 --   HasItems          the owners of items whose alternative passes were found
@@ -21,7 +21,7 @@ use Rattle.farm_model.specs.Universe.{Package, Universe}
 use Rattle.farm_model.specs.Packages.{variants, package_of}
 use Rattle.item_index.specs.declared.item.Item.{Item}
 use Rattle.item_index.specs.Items.{any_atom, item_of, IsIn}
-use Rattle.sat_rows.specs.Rows.{passes}
+use Rattle.sat_rows.specs.Rows.{variant_passes}
 use Rattle.sat_rows.specs.declared.found.NumberWord.{NumberWord}
 
 -- the bit is set in a word under this number
@@ -43,21 +43,21 @@ hits_other but words vs = list_any (shares_other but words) vs
 
 -- the variants of the universe that pass, and no others
 abbrev pub IsFound : Universe → (Variant → Bool) → List NumberWord → Type 0
-IsFound u p vs = (n b : ℕ) → among vs n b ≡ passes u p n b
+IsFound u p vs = (n b : ℕ) → among vs n b ≡ variant_passes u p n b
 
 -- those that pass are put to the old ones
 abbrev pub Finds : Universe → (Variant → Bool) → List NumberWord → List NumberWord → Type 0
-Finds u p old new = (n b : ℕ) → among new n b ≡ (among old n b || passes u p n b)
+Finds u p old new = (n b : ℕ) → among new n b ≡ (among old n b || variant_passes u p n b)
 
 -- some that pass are put to the old ones
 pub record GrowsBy (u : Universe) (p : Variant → Bool) (old new : List NumberWord) : Type 0 where
   pub kept : (n b : ℕ) → among old n b ≡ true → among new n b ≡ true
-  pub passing : (n b : ℕ) → among new n b ≡ true → (among old n b || passes u p n b) ≡ true
+  pub passing : (n b : ℕ) → among new n b ≡ true → (among old n b || variant_passes u p n b) ≡ true
 
 -- what is there passes; what is not there does not
-abbrev pub holds : (Atom → Bool) → Option Atom → Bool
-holds test None = false
-holds test (Some a) = test a
+abbrev pub alternative_passes : (Atom → Bool) → Option Atom → Bool
+alternative_passes test None = false
+alternative_passes test (Some a) = test a
 
 -- some alternative of the field of the variant passes
 abbrev pub some_atom : Universe → (Package → Relations) → (Atom → Bool) → Variant → Bool
@@ -67,7 +67,7 @@ some_atom u field test v = any_atom test (field (package_of u v))
 abbrev pub passes_there : Universe → (Package → Relations) → (Atom → Bool) → Item Variant → Bool
 passes_there u field test at =
     nat_lt at.owner.bit (variants u at.owner.name)
-    && holds test (item_of at (field (package_of u at.owner)))
+    && alternative_passes test (item_of at (field (package_of u at.owner)))
 
 -- the owners of the items whose alternative passes were found
 abbrev pub HasItems : Universe → (Package → Relations) → (Atom → Bool) → List (Item Variant)

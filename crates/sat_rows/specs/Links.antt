@@ -32,25 +32,25 @@ pub record Links : Type 0 where
   pub by_entry : List (List NumberWord)
 
 -- the list of a number
-abbrev pub list_at : List (List NumberWord) → ℕ → List NumberWord
-list_at lists i = slice_index_or lists i []
+abbrev pub nth_list : List (List NumberWord) → ℕ → List NumberWord
+nth_list lists i = slice_index_or lists i []
 
 -- some entry of the variant of name n and bit b leads to that of name m and bit c
 pub record Leads (x : Links) (n b m c : ℕ) : Type 0 where
   pub entry : ℕ
-  pub has : among (list_at x.by_name n) entry b ≡ true
-  pub to : among (list_at x.by_entry entry) m c ≡ true
+  pub has : among (nth_list x.by_name n) entry b ≡ true
+  pub to : among (nth_list x.by_entry entry) m c ≡ true
 
 -- some entry of the variant leads to one of another name that the words have
 abbrev pub reaches : Links → Variant → List ℕ → Bool
 reaches x v words =
-    list_any (λ e. word_has e.word v.bit && hits_other v.name words (list_at x.by_entry e.number))
-    (list_at x.by_name v.name)
+    list_any (λ e. word_has e.word v.bit && hits_other v.name words (nth_list x.by_entry e.number))
+    (nth_list x.by_name v.name)
 
 -- some entry of the variant leads to that of name m and bit c
 abbrev pub leads_by : List NumberWord → List (List NumberWord) → (b m c : ℕ) → Bool
 leads_by entries by_entry b m c =
-    list_any (λ e. word_has e.word b && among (list_at by_entry e.number) m c) entries
+    list_any (λ e. word_has e.word b && among (nth_list by_entry e.number) m c) entries
 
 -- a list has the variants to which the entries lead
 abbrev pub IsJoined : List NumberWord → List (List NumberWord) → ℕ → List NumberWord → Type 0
@@ -63,7 +63,7 @@ AreJoined entries by_entry lists =
 
 abbrev pub AllJoined : Links → List (List (List NumberWord)) → Type 0
 AllJoined x joined =
-    (n : ℕ) → AreJoined (list_at x.by_name n) x.by_entry (slice_index_or joined n [])
+    (n : ℕ) → AreJoined (nth_list x.by_name n) x.by_entry (slice_index_or joined n [])
 
 -- each variant leads to those that pass, and to no others
 pub record IsLinks (u : Universe) (test : Variant → Variant → Bool) (x : Links) : Type 0 where
@@ -98,21 +98,21 @@ pub record IsNumbered (u : Universe) (field : Package → Relations) (entries : 
 pub record AreNumbered (u : Universe) (field : Package → Relations) (entries : List Entry)
     (count : ℕ) (lists : List (List NumberWord)) : Type 0 where
   pub long : length lists ≡ count
-  pub each : (n : ℕ) → n < count → IsNumbered u field entries n (variants u n) (list_at lists n)
+  pub each : (n : ℕ) → n < count → IsNumbered u field entries n (variants u n) (nth_list lists n)
 
 -- the variants that satisfy each entry
 pub record AreSets (u : Universe) (entries : List Entry) (sets : List (List NumberWord))
     : Type 0 where
   pub long : length sets ≡ length entries
   pub each : (k : ℕ) (e : Entry) → slice_get entries k ≡ Some e
-      → IsFound u (satisfies_entry u e) (list_at sets k)
+      → IsFound u (satisfies_entry u e) (nth_list sets k)
 
 -- what the lists have under so many numbers, listed by these
 pub record AreTurned (lists : List (List NumberWord)) (count : ℕ) (turned : List (List NumberWord))
     : Type 0 where
   pub long : length turned ≡ count
   pub each : (j i b : ℕ) → j < count
-      → among (list_at turned j) i b ≡ among (list_at lists i) j b
+      → among (nth_list turned j) i b ≡ among (nth_list lists i) j b
 
 -- the second satisfies some entry of the field of the first
 abbrev pub declares : Universe → (Package → Relations) → Variant → Variant → Bool

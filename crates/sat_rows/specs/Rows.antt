@@ -1,9 +1,9 @@
 -- The row of a test: the set of the variants of a universe that pass it. The project's own words.
 --
---   passes                        the universe has the variant, and it passes
+--   variant_passes                the universe has the variant, and it passes
 --   IsWordFor, IsRowOf            the word of one name, and the row of all names
 --   IsSharedRow                   a row, or none where no variant passes
---   entry_at, IsAlternativeRow    the entry of a number, and the row of an alternative
+--   nth_entry, IsAlternativeRow   the entry of a number, and the row of an alternative
 --   of_another_name               a test of variants of other names alone
 --   conflicts_with, broken_by, breakers_of
 --                                 the tests of Conflicts and Breaks (Debian Policy 7.3, 7.4)
@@ -16,26 +16,26 @@ use Rattle.farm_model.specs.Universe.{Universe}
 use Rattle.farm_model.specs.Packages.{variant, names, variants, satisfies, conflict, breaks}
 
 -- the universe has the variant, and it passes
-abbrev pub passes : Universe → (Variant → Bool) → ℕ → ℕ → Bool
-passes u p n b = nat_lt b (variants u n) && p (variant n b)
+abbrev pub variant_passes : Universe → (Variant → Bool) → ℕ → ℕ → Bool
+variant_passes u p n b = nat_lt b (variants u n) && p (variant n b)
 
 -- the bits of the word are the variants of this name that pass
 abbrev pub IsWordFor : Universe → (Variant → Bool) → ℕ → ℕ → Type 0
-IsWordFor u p n word = (b : ℕ) → word_has word b ≡ passes u p n b
+IsWordFor u p n word = (b : ℕ) → word_has word b ≡ variant_passes u p n b
 
 -- the row has a word for each name, and its bits are the variants that pass
 pub record IsRowOf (u : Universe) (p : Variant → Bool) (row : List ℕ) : Type 0 where
   pub long : length row ≡ names u
-  pub set : (n b : ℕ) → variants_of row n b ≡ passes u p n b
+  pub set : (n b : ℕ) → variants_of row n b ≡ variant_passes u p n b
 
 -- a row that is left out where no variant passes
 abbrev pub IsSharedRow : Universe → (Variant → Bool) → Option (List ℕ) → Type 0
-IsSharedRow u p None = (n b : ℕ) → passes u p n b ≡ false
+IsSharedRow u p None = (n b : ℕ) → variant_passes u p n b ≡ false
 IsSharedRow u p (Some row) = IsRowOf u p row
 
 -- the entry of a number; past the last one an entry without alternatives
-abbrev pub entry_at : Relations → ℕ → Entry
-entry_at es i = slice_index_or es i []
+abbrev pub nth_entry : Relations → ℕ → Entry
+nth_entry es i = slice_index_or es i []
 
 -- the row of the alternative of a number
 abbrev pub IsAlternativeRow : Universe → Entry → ℕ → List ℕ → Type 0

@@ -5,7 +5,7 @@
 --   AreLong             a list for each name, with a value for each of its variants
 --   IsServing           by name the entries that its variants satisfy, and by entry who has it
 --   AreServed           the same, with the rows of the entries
---   shares, hits        words share a bit with one of variants, or with some of a list
+--   shares, hits_some   words share a bit with one of variants, or with some of a list
 --   is_unmet            there is a row, and no name of the words meets it
 --   is_missed_by, misses
 --                       the words hit the owners of an entry that the word satisfies, and do not
@@ -24,8 +24,8 @@ use Rattle.farm_model.specs.Packages.{names, variants, satisfies_entry}
 use Rattle.farm_model.specs.Sound.{IsKnown}
 use Rattle.sat_rows.specs.declared.found.NumberWord.{NumberWord}
 use Rattle.sat_rows.specs.Entries.{AreRowsOf}
-use Rattle.sat_rows.specs.Links.{Links, list_at, AreNumbered, AreSets, AreTurned}
-use Rattle.sat_rows.specs.Rows.{passes}
+use Rattle.sat_rows.specs.Links.{Links, nth_list, AreNumbered, AreSets, AreTurned}
+use Rattle.sat_rows.specs.Rows.{variant_passes}
 
 -- Depends and Pre-Depends (Debian Policy 7.2)
 abbrev pub wanted : Package → Relations
@@ -52,8 +52,8 @@ pub record AreServed (u : Universe) (rows : List (List ℕ)) (x : Links) : Type 
 abbrev pub shares : List ℕ → NumberWord → Bool
 shares words at = shares_bit (slice_index words at.number) at.word
 
-abbrev pub hits : List ℕ → List NumberWord → Bool
-hits words vs = list_any (shares words) vs
+abbrev pub hits_some : List ℕ → List NumberWord → Bool
+hits_some words vs = list_any (shares words) vs
 
 abbrev pub is_unmet : List ℕ → Option (List ℕ) → Bool
 is_unmet words None = false
@@ -64,11 +64,12 @@ is_unmet words (Some row) = not (met words row)
 abbrev pub is_missed_by : Links → List (List ℕ) → (word own : ℕ) → List ℕ → NumberWord → Bool
 is_missed_by x rows word own words at =
     shares_bit word at.word && (not (meets own at.word)
-    && (hits words (list_at x.by_entry at.number) && is_unmet words (slice_get rows at.number)))
+    && (hits_some words (nth_list x.by_entry at.number) && is_unmet words
+    (slice_get rows at.number)))
 
 abbrev pub misses : Links → List (List ℕ) → (name word : ℕ) → List ℕ → Bool
 misses x rows name word words =
-    list_any (is_missed_by x rows word (slice_index words name) words) (list_at x.by_name name)
+    list_any (is_missed_by x rows word (slice_index words name) words) (nth_list x.by_name name)
 
 -- a variant that the words have
 pub record IsMissed (u : Universe) (name word : ℕ) (words : List ℕ) : Type 0 where
@@ -82,6 +83,6 @@ pub record IsMissed (u : Universe) (name word : ℕ) (words : List ℕ) : Type 0
   -- that a variant of the name satisfies, one that the word has,
   pub bit : ℕ
   pub taken : word_has word bit ≡ true
-  pub satisfied : passes u (satisfies_entry u entry) name bit ≡ true
+  pub satisfied : variant_passes u (satisfies_entry u entry) name bit ≡ true
   -- and of no name the words have variants that all satisfy it
-  pub unmet : ¬ HasNameInside (variants_of words) (passes u (satisfies_entry u entry))
+  pub unmet : ¬ HasNameInside (variants_of words) (variant_passes u (satisfies_entry u entry))

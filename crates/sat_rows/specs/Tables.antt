@@ -13,7 +13,7 @@ use Rattle.farm_model.specs.Packages.{names}
 use Rattle.item_index.specs.declared.item.Item.{Item}
 use Rattle.sat_rows.specs.declared.tables.Exclusions.{Exclusions}
 use Rattle.sat_rows.specs.Clashes.{AreClashes}
-use Rattle.sat_rows.specs.Entries.{Numbers, AreNumbered, AreNeeds, AreRowsOf}
+use Rattle.sat_rows.specs.Entries.{Numbers, AreVariantNumbers, AreNeeds, AreRowsOf}
 use Rattle.sat_rows.specs.Index.{IsProviding}
 use Rattle.sat_rows.specs.Links.{Links, Exclusion, IsExclusion}
 use Rattle.sat_rows.specs.Served.{AreServed}
@@ -22,7 +22,7 @@ use Rattle.sat_rows.specs.Served.{AreServed}
 pub record AreEntryRows (u : Universe) (by_name : List (List Numbers)) (by_recipe : List (List ℕ))
     (rows : List (List ℕ)) : Type 0 where
   pub entries : List Entry
-  pub variants : AreNumbered u entries by_name
+  pub variants : AreVariantNumbers u entries by_name
   pub needs : AreNeeds u entries by_recipe
   pub rows_of : AreRowsOf u entries rows
 

@@ -5,7 +5,7 @@ ghost use Rattle.std.specs.Option.{is_none};
 ghost use Rattle.deb_relation.specs.Relations.{Atom};
 ghost use Rattle.deb_relation.specs.Satisfaction.{provides_it};
 ghost use Rattle.item_index.specs.Items.{item_of};
-ghost use Rattle.sat_rows.specs.Found.{holds};
+ghost use Rattle.sat_rows.specs.Found.{alternative_passes};
 
 use deb_relation::{Atom, Relations, provides_it};
 use farm_universe::Variant;
@@ -42,7 +42,7 @@ pub fn is_bare(atom: &Atom) -> bool
 
 /// Tells whether the alternative at the place of an item passes.
 pub fn passes_at<T: AtomTest>(field: &Relations, test: &T, item: &Item<Variant>) -> bool
-    ensures { result ≡ holds (T.test test.now) (item_of item.now field.now) }
+    ensures { result ≡ alternative_passes (T.test test.now) (item_of item.now field.now) }
 {
     match item.of(field) {
         Some(atom) => test.passes(atom),

@@ -3,7 +3,7 @@
 ghost use Rattle.std.specs.Prelude.{◌<◌, Bool, List, IfOk, length};
 ghost use Rattle.farm_model.specs.declared.types.Variant.{Variant};
 ghost use Rattle.sat_rows.specs.Found.{IsFound};
-ghost use Rattle.sat_rows.specs.Links.{list_at, AreSets};
+ghost use Rattle.sat_rows.specs.Links.{nth_list, AreSets};
 ghost use Rattle.farm_model.specs.Packages.{satisfies_entry};
 ghost use Rattle.sat_rows.specs.Index.{IsProviding};
 ghost use Rattle.sat_rows.specs.Rows.{IsRowOf};
@@ -60,7 +60,7 @@ pub fn all_entry_rows(
             move |number: usize| -> Result<Row, AllocError>
                 requires { number < length sets.now }
                 ensures { IfOk result (λ row. (p : Variant → Bool)
-                    → IsFound universe.entry.now p (list_at sets.entry.now number)
+                    → IsFound universe.entry.now p (nth_list sets.entry.now number)
                     → IsRowOf universe.entry.now p row) }
             { Ok(row_of_found(alloc, universe, &sets[number])?) },
         )

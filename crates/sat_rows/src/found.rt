@@ -8,7 +8,7 @@ ghost use Rattle.farm_model.specs.Packages.{facts, is_wanted, satisfies, satisfi
 ghost use Rattle.sat_rows.specs.Index.{IsNaming, IsProviding};
 ghost use Rattle.sat_rows.specs.Rows.{IsWordFor};
 ghost use Rattle.sat_rows.specs.Found.{among, Puts, IsFound, Finds, GrowsBy, HasItems, some_atom, passes_there, shares_other, hits_other};
-ghost use Rattle.sat_rows.specs.Served.{shares, hits};
+ghost use Rattle.sat_rows.specs.Served.{shares, hits_some};
 
 use crate::atom_test::{AtomTest, ProvidesIt, is_bare, passes_at};
 use crate::index::{Field, Provides};
@@ -168,7 +168,7 @@ impl Found {
 
     /// Tells whether some word shares a bit with the one at its number.
     pub fn hits(&self, words: &[u64]) -> bool
-        ensures { result ≡ hits words.now self.now }
+        ensures { result ≡ hits_some words.now self.now }
     {
         self.words.iter().any(|at| shares(at, words))
     }

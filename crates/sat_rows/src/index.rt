@@ -5,7 +5,7 @@ ghost use Rattle.std.specs.Prelude.{◌≡◌, IfOk, OnOk};
 ghost use Rattle.farm_model.specs.Packages.{package_of};
 ghost use Rattle.farm_model.specs.Sound.{IsKnown};
 ghost use Rattle.farm_model.specs.Universe.{Package};
-ghost use Rattle.item_index.specs.Items.{IsKept};
+ghost use Rattle.item_index.specs.Items.{KeepsItems};
 ghost use Rattle.sat_rows.specs.Index.{AreNaming, IsNaming};
 ghost use Rattle.deb_relation.specs.Relations.{Relations};
 
@@ -64,7 +64,7 @@ fn add_name<F: Field>(
     field: &F,
     name: u32,
 ) -> Result<(), AllocError>
-    ensures kept { OnOk result (IsKept index.old index.new) }
+    ensures kept { OnOk result (KeepsItems index.old index.new) }
     ensures names { OnOk result (AreNaming universe.now F.field name index.new) }
 {
     for bit in 0..variant_count(universe, name) {

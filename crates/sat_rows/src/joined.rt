@@ -4,7 +4,7 @@ ghost use Rattle.std.specs.Prelude.{◌≡◌, ◌&&◌, ◌||◌, [], ℕ, IfOk
 ghost use Rattle.std.specs.Option.{option_map};
 ghost use Rattle.clause_kernel.specs.Rows.{word_has};
 ghost use Rattle.sat_rows.specs.Found.{among};
-ghost use Rattle.sat_rows.specs.Links.{list_at, IsJoined, AreJoined};
+ghost use Rattle.sat_rows.specs.Links.{nth_list, IsJoined, AreJoined};
 
 use crate::found::{Found, NumberWord};
 use crate::word::has_bit;
@@ -43,7 +43,7 @@ impl Joined {
 
 /// The list of an entry.
 pub fn words_at(lists: &[Found], entry: usize) -> &[NumberWord]
-    ensures { result.now ≡ list_at lists.now entry }
+    ensures { result.now ≡ nth_list lists.now entry }
 {
     match lists.get(entry) {
         Some(found) => found.words(),
@@ -77,7 +77,7 @@ fn add_entry(
     bit: u32,
 ) -> Result<(), AllocError>
     ensures { OnOk result ((m c : ℕ) → among found.new m c ≡ (among found.old m c
-        || (word_has entry.now.word bit && among (list_at by_entry.now entry.now.number) m c))) }
+        || (word_has entry.now.word bit && among (nth_list by_entry.now entry.now.number) m c))) }
 {
     if !has_bit(entry.word, bit) {
         return Ok(());
@@ -139,7 +139,7 @@ pub fn all_joined(
     by_name: &[Found],
     by_entry: &[Found],
 ) -> Result<Vec<Joined>, AllocError>
-    ensures { IfOk result (λ joined. (n : ℕ) → AreJoined (list_at by_name.now n) by_entry.now
+    ensures { IfOk result (λ joined. (n : ℕ) → AreJoined (nth_list by_name.now n) by_entry.now
         (slice_index_or joined.items n [])) }
 {
     let mut left = MOST_WORDS;

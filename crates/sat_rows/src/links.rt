@@ -3,7 +3,7 @@
 ghost use Rattle.std.specs.Prelude.{◌≡◌, ◌&&◌, IfOk, IfSome};
 ghost use Rattle.clause_kernel.specs.Rows.{word_has};
 ghost use Rattle.sat_rows.specs.Found.{hits_other};
-ghost use Rattle.sat_rows.specs.Links.{list_at, reaches, IsJoined};
+ghost use Rattle.sat_rows.specs.Links.{nth_list, reaches, IsJoined};
 
 use crate::found::{Found, NumberWord};
 use crate::joined::{Joined, MANY, all_joined, words_at};
@@ -65,14 +65,14 @@ impl Links {
     }
 
     fn entries(&self, name: u32) -> &[NumberWord]
-        ensures { result.now ≡ list_at self.now.by_name name }
+        ensures { result.now ≡ nth_list self.now.by_name name }
     {
         words_at(&self.by_name, name as usize)
     }
 
     /// Tells whether an entry leads to a variant of another name that the words have.
     fn leads_to_other(&self, entry: usize, but: u32, words: &[u64]) -> bool
-        ensures { result ≡ hits_other but words.now (list_at self.now.by_entry entry) }
+        ensures { result ≡ hits_other but words.now (nth_list self.now.by_entry entry) }
     {
         match self.by_entry.get(entry) {
             Some(found) => found.hits_other(but, words),
@@ -82,7 +82,7 @@ impl Links {
 
     fn is_way(&self, entry: &NumberWord, variant: Variant, words: &[u64]) -> bool
         ensures { result ≡ (word_has entry.now.word variant.bit
-            && hits_other variant.name words.now (list_at self.now.by_entry entry.now.number)) }
+            && hits_other variant.name words.now (nth_list self.now.by_entry entry.now.number)) }
     {
         has_bit(entry.word, variant.bit) && self.leads_to_other(entry.number, variant.name, words)
     }
@@ -90,7 +90,7 @@ impl Links {
     /// To whom a variant leads, if that is one list. None is looked for where there are few
     /// entries.
     fn joined(&self, variant: Variant) -> Option<&Found>
-        ensures { IfSome result (λ found. IsJoined (list_at self.now.by_name variant.name)
+        ensures { IfSome result (λ found. IsJoined (nth_list self.now.by_name variant.name)
             self.now.by_entry variant.bit found.now) }
     {
         if self.entries(variant.name).len() < MANY {

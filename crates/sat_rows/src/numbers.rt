@@ -4,8 +4,8 @@ ghost use Rattle.std.specs.Prelude.{◌≡◌, ◌<◌, ◌∷◌, [], IfOk, OnO
 ghost use Rattle.std.specs.List.{AllZip};
 ghost use Rattle.farm_model.specs.Packages.{names, recipe};
 ghost use Rattle.farm_model.specs.Sound.{IsKnown};
-ghost use Rattle.sat_rows.specs.Entries.{IsGrown, IsNumberOf, IsPreNumbers, AreNumbers, AreNumbered, AreNeeds, no_numbers, no_pre_numbers};
-ghost use Rattle.sat_rows.specs.ByVariant.{AreOfName};
+ghost use Rattle.sat_rows.specs.Entries.{IsGrown, IsNumberOf, IsPreNumbers, AreNumbers, AreVariantNumbers, AreNeeds, no_numbers, no_pre_numbers};
+ghost use Rattle.sat_rows.specs.ByVariant.{AreValuesOfName};
 
 use crate::entries::Entries;
 use crate::word::variant_count;
@@ -233,7 +233,7 @@ impl<'a> Entries<'a> {
         requires { name < names universe.now }
         ensures grown { OnOk result (IsGrown self.old self.new) }
         ensures numbers { IfOk result
-            (AreOfName universe.now (AreNumbers universe.now self.new) no_numbers name) }
+            (AreValuesOfName universe.now (AreNumbers universe.now self.new) no_numbers name) }
     {
         let mut variants = Vec::new(alloc);
         for bit in 0..variant_count(universe, name) {
@@ -254,7 +254,7 @@ impl<'a> Entries<'a> {
     ) -> Result<Vec<NameNumbers>, AllocError>
         ensures grown { OnOk result (IsGrown self.old self.new) }
         ensures numbers { IfOk result
-            (λ numbers. AreNumbered universe.now self.new numbers.items) }
+            (λ numbers. AreVariantNumbers universe.now self.new numbers.items) }
     {
         let mut names = Vec::new(alloc);
         for name in 0..universe.names() {

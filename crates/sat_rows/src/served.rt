@@ -3,9 +3,9 @@
 ghost use Rattle.std.specs.Prelude.{◌≡◌, ◌<◌, ℕ, [], List, IfOk, length, slice_get, slice_index, slice_index_or};
 ghost use Rattle.clause_kernel.specs.Kernels.{meets};
 ghost use Rattle.deb_relation.specs.Relations.{Entry};
-ghost use Rattle.sat_rows.specs.Entries.{AreNumbered};
-ghost use Rattle.sat_rows.specs.Links.{list_at, AreSets};
-ghost use Rattle.sat_rows.specs.Served.{AreLong, IsServing, hits, is_unmet, is_missed_by, misses};
+ghost use Rattle.sat_rows.specs.Entries.{AreVariantNumbers};
+ghost use Rattle.sat_rows.specs.Links.{nth_list, AreSets};
+ghost use Rattle.sat_rows.specs.Served.{AreLong, IsServing, hits_some, is_unmet, is_missed_by, misses};
 
 use crate::found::{Found, NumberWord};
 use crate::joined::words_at;
@@ -77,7 +77,7 @@ impl Served {
         sets: &[Found],
     ) -> Result<Served, AllocError>
         requires { AreLong universe.now names.now }
-        ensures { (entries : List Entry) → AreNumbered universe.now entries names.now
+        ensures { (entries : List Entry) → AreVariantNumbers universe.now entries names.now
             → AreSets universe.now entries sets.now → IfOk result (IsServing universe.now entries) }
     {
         let noted = all_wanted(alloc, universe, names)?;
@@ -88,7 +88,7 @@ impl Served {
 
     /// Tells whether the words have a variant with the entry of this number.
     fn is_wanted(&self, number: usize, words: &[u64]) -> bool
-        ensures { result ≡ hits words.now (list_at self.now.by_entry number) }
+        ensures { result ≡ hits_some words.now (nth_list self.now.by_entry number) }
     {
         match self.owners.get(number) {
             Some(found) => found.hits(words),

@@ -6,10 +6,10 @@ ghost use Rattle.farm_model.specs.declared.types.Variant.{Variant};
 ghost use Rattle.farm_model.specs.Packages.{names, pre_depends, depends, satisfies_entry, satisfies_any};
 ghost use Rattle.farm_model.specs.Packages as packages;
 ghost use Rattle.farm_model.specs.Sound.{IsKnown};
-ghost use Rattle.sat_rows.specs.Rows.{passes, IsRowOf, IsSharedRow, IsAlternativeRow, entry_at, conflicts_with, broken_by, breakers_of};
+ghost use Rattle.sat_rows.specs.Rows.{variant_passes, IsRowOf, IsSharedRow, IsAlternativeRow, nth_entry, conflicts_with, broken_by, breakers_of};
 ghost use Rattle.sat_rows.specs.Index.{IsProviding};
 ghost use Rattle.deb_relation.specs.Relations as spec;
-ghost use Rattle.sat_rows.specs.Entries.{AreNumbered, AreRowsOf};
+ghost use Rattle.sat_rows.specs.Entries.{AreVariantNumbers, AreRowsOf};
 ghost use Rattle.sat_rows.specs.Served.{AreLong, AreServed, IsServing, IsMissed};
 ghost use Rattle.sat_rows.specs.Links.{AreSets, IsExclusion};
 ghost use Rattle.sat_rows.specs.Tables.{AreEntryRows, AreExclusions};
@@ -101,7 +101,7 @@ fn rows_beside_served(
     requires { AreLong universe.now names.now }
     ensures rows { (entries : List spec.Entry) → AreSets universe.now entries sets.now
         → IfOk result.0 (λ rows. AreRowsOf universe.now entries rows.items) }
-    ensures served { (entries : List spec.Entry) → AreNumbered universe.now entries names.now
+    ensures served { (entries : List spec.Entry) → AreVariantNumbers universe.now entries names.now
         → AreSets universe.now entries sets.now → IfOk result.1 (IsServing universe.now entries) }
 {
     join(
@@ -114,7 +114,7 @@ fn rows_beside_served(
         move || -> Result<Served, AllocError>
             requires { AreLong universe.now names.now }
             ensures { (entries : List spec.Entry)
-                → AreNumbered universe.entry.now entries names.entry.now
+                → AreVariantNumbers universe.entry.now entries names.entry.now
                 → AreSets universe.entry.now entries sets.entry.now
                 → IfOk result (IsServing universe.entry.now entries) }
         { Served::build(alloc, universe, names, sets) },
@@ -311,7 +311,8 @@ impl Tables {
         requires known { IsKnown self.now variant }
         requires there { number < length (pre_depends self.now variant) }
         ensures { IsRowOf self.now
-            (satisfies_entry self.now (entry_at (pre_depends self.now variant) number)) result.now }
+            (satisfies_entry self.now (nth_entry (pre_depends self.now variant) number))
+            result.now }
     {
         let numbers = self.names[variant.name as usize].variant(variant.bit);
         &self.rows[numbers.pre_depends(number).entry()]
@@ -321,8 +322,8 @@ impl Tables {
     pub fn pre_alternative(&self, variant: Variant, number: usize, alternative: usize) -> &Row
         requires known { IsKnown self.now variant }
         requires there { number < length (pre_depends self.now variant) }
-        requires among { alternative < length (entry_at (pre_depends self.now variant) number) }
-        ensures { IsAlternativeRow self.now (entry_at (pre_depends self.now variant) number)
+        requires among { alternative < length (nth_entry (pre_depends self.now variant) number) }
+        ensures { IsAlternativeRow self.now (nth_entry (pre_depends self.now variant) number)
             alternative result.now }
     {
         let numbers = self.names[variant.name as usize].variant(variant.bit);
@@ -334,7 +335,7 @@ impl Tables {
         requires known { IsKnown self.now variant }
         requires there { number < length (depends self.now variant) }
         ensures { IsRowOf self.now
-            (satisfies_entry self.now (entry_at (depends self.now variant) number)) result.now }
+            (satisfies_entry self.now (nth_entry (depends self.now variant) number)) result.now }
     {
         let numbers = self.names[variant.name as usize].variant(variant.bit);
         &self.rows[numbers.depends(number)]
@@ -345,7 +346,7 @@ impl Tables {
     pub fn conflicts_with_some(&self, variant: Variant, words: &[u64]) -> bool
         requires { IsKnown self.now variant }
         ensures { IsTrue result ↔ HaveCommon (variants_of words.now)
-            (passes self.now (conflicts_with self.now variant)) }
+            (variant_passes self.now (conflicts_with self.now variant)) }
     {
         self.conflicts.has_some(variant, words)
     }
@@ -354,7 +355,7 @@ impl Tables {
     pub fn breaks_some(&self, variant: Variant, words: &[u64]) -> bool
         requires { IsKnown self.now variant }
         ensures { IsTrue result ↔ HaveCommon (variants_of words.now)
-            (passes self.now (broken_by self.now variant)) }
+            (variant_passes self.now (broken_by self.now variant)) }
     {
         self.breaks.names_some(variant, words)
     }
@@ -363,7 +364,7 @@ impl Tables {
     pub fn is_broken_by_some(&self, variant: Variant, words: &[u64]) -> bool
         requires { IsKnown self.now variant }
         ensures { IsTrue result ↔ HaveCommon (variants_of words.now)
-            (passes self.now (breakers_of self.now variant)) }
+            (variant_passes self.now (breakers_of self.now variant)) }
     {
         self.breaks.is_named(variant, words)
     }
@@ -383,7 +384,7 @@ impl Tables {
         requires known { recipe < length self.now.recipes }
         requires there { number < length (packages.recipe self.now recipe).needs }
         ensures { IsRowOf self.now (satisfies_entry self.now
-            (entry_at (packages.recipe self.now recipe).needs number)) result.now }
+            (nth_entry (packages.recipe self.now recipe).needs number)) result.now }
     {
         &self.rows[self.needs[recipe as usize].need(number)]
     }

@@ -3,7 +3,7 @@
 ghost use Rattle.std.specs.Prelude.{◌≡◌, ◌<◌, ◌==◌, ◌&&◌, ◌||◌, [], ℕ, IfOk, OnOk, length};
 ghost use Rattle.clause_kernel.specs.Rows.{word_has};
 ghost use Rattle.sat_rows.specs.Found.{among};
-ghost use Rattle.sat_rows.specs.Links.{list_at, AreTurned};
+ghost use Rattle.sat_rows.specs.Links.{nth_list, AreTurned};
 
 use crate::found::Found;
 use std::alloc::{AllocError, Global};
@@ -11,7 +11,7 @@ use std::alloc::{AllocError, Global};
 /// So many empty lists.
 fn empty_lists(alloc: Global, count: usize) -> Result<Vec<Found>, AllocError>
     ensures long { IfOk result (λ lists. length lists.items ≡ count) }
-    ensures none { IfOk result (λ lists. (j : ℕ) → list_at lists.items j ≡ []) }
+    ensures none { IfOk result (λ lists. (j : ℕ) → nth_list lists.items j ≡ []) }
 {
     let mut lists = Vec::new(alloc);
     for number in 0..count {
@@ -24,7 +24,7 @@ fn empty_lists(alloc: Global, count: usize) -> Result<Vec<Found>, AllocError>
 fn put(lists: &mut Vec<Found>, place: usize, number: usize, word: u64) -> Result<(), AllocError>
     ensures long { OnOk result (length lists.new.items ≡ length lists.old.items) }
     ensures put { OnOk result ((j i b : ℕ) → j < length lists.old.items
-        → among (list_at lists.new.items j) i b ≡ (among (list_at lists.old.items j) i b
+        → among (nth_list lists.new.items j) i b ≡ (among (nth_list lists.old.items j) i b
         || ((j == place) && ((i == number) && word_has word b)))) }
 {
     if place < lists.len() {
@@ -37,7 +37,7 @@ fn put(lists: &mut Vec<Found>, place: usize, number: usize, word: u64) -> Result
 fn put_all(lists: &mut Vec<Found>, found: &Found, number: usize) -> Result<(), AllocError>
     ensures long { OnOk result (length lists.new.items ≡ length lists.old.items) }
     ensures put { OnOk result ((j i b : ℕ) → j < length lists.old.items
-        → among (list_at lists.new.items j) i b ≡ (among (list_at lists.old.items j) i b
+        → among (nth_list lists.new.items j) i b ≡ (among (nth_list lists.old.items j) i b
         || ((i == number) && among found.now j b))) }
 {
     for at in found.words() {

@@ -7,7 +7,7 @@ ghost use Rattle.farm_model.specs.declared.types.Variant.{Variant};
 ghost use Rattle.farm_model.specs.Chroot as chroot;
 ghost use Rattle.farm_model.specs.Packages.{names, variants};
 ghost use Rattle.farm_model.specs.Universe.{Universe};
-ghost use Rattle.sat_rows.specs.ByVariant.{AreOfName};
+ghost use Rattle.sat_rows.specs.ByVariant.{AreValuesOfName};
 ghost use Rattle.sat_rows.specs.Entries as listed;
 ghost use Rattle.sat_rows.specs.Entries.{IsNumberOf, IsPreNumbers, AreNumbers, no_numbers};
 ghost use Rattle.sat_rows.specs.Fields.{AddsField};
@@ -67,7 +67,7 @@ fn wanted_name(
 ) -> Result<Found, AllocError>
     requires { length numbers.now ≡ variants universe.now name }
     ensures { (entries : List Entry)
-        → AreOfName universe.now (AreNumbers universe.now entries) no_numbers name numbers.now
+        → AreValuesOfName universe.now (AreNumbers universe.now entries) no_numbers name numbers.now
         → IfOk result (IsNumbered universe.now wanted entries name (variants universe.now name)) }
 {
     let mut found = Found::new(alloc);
@@ -88,7 +88,7 @@ pub fn all_wanted(
     numbers: &[NameNumbers],
 ) -> Result<Vec<Found>, AllocError>
     requires { AreLong universe.now numbers.now }
-    ensures { (entries : List Entry) → listed.AreNumbered universe.now entries numbers.now
+    ensures { (entries : List Entry) → listed.AreVariantNumbers universe.now entries numbers.now
         → IfOk result (λ lists. AreNumbered universe.now wanted entries (names universe.now)
         lists.items) }
 {

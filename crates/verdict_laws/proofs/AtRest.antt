@@ -11,12 +11,12 @@ use Rattle.std.proofs.lemmas.List.Kept.{IsStrictlyIncreasing-filter}
 use Rattle.std.proofs.lemmas.Option.{none-some, same_Some, cond_some}
 use Rattle.farm_model.specs.Universe.{Universe}
 use Rattle.plan_model.specs.Plan.{Lane}
-use Rattle.plan_model.specs.Order.{Item, Pass, Give, items, Board, start_board, rest_of, board_after, Reaches, CannotEnd}
+use Rattle.plan_model.specs.Order.{OrderItem, Pass, Give, items, Board, start_board, rest_of, board_after, Reaches, CannotEnd}
 use Rattle.farm_laws.proofs.Boards.{stuck_exact}
 use Rattle.verdict_laws.specs.Stuck.{is_left, lanes_left, EachRestIsExact, LanesLeftAreLeft}
 
 -- an item leaves as many lanes as there were
-pub after_long : (u : Universe) (b next : Board) (l : ℕ) (is : List Item)
+pub after_long : (u : Universe) (b next : Board) (l : ℕ) (is : List OrderItem)
     → board_after u b l is ≡ Some next → length next.rest ≡ length b.rest
 after_long u b next l [] e = absurd (none-some next e)
 after_long u b next l (Pass entry ∷ is) e =
@@ -37,7 +37,7 @@ left_lane b l ne =
     [ inl lt ↦ lt | inr past ↦ absurd (ne (get_or_past b.rest l [] past)) ]
 
 -- a list is empty where it cannot be otherwise
-empty : (xs : List Item) → ((xs ≢ []) → ⊥) → xs ≡ []
+empty : (xs : List OrderItem) → ((xs ≢ []) → ⊥) → xs ≡ []
 empty [] h = refl
 empty (x ∷ xs) h = absurd (h (λ e. cc))
 
@@ -85,11 +85,11 @@ each_rest_is_exact u p order end way rest =
     left : (l : ℕ) → CannotEnd u p l → rest_of end l ≢ []
     left l cannot = cannot order end way
 
-is_left-true : (xs : List Item) → xs ≢ [] → is_left xs ≡ true
+is_left-true : (xs : List OrderItem) → xs ≢ [] → is_left xs ≡ true
 is_left-true [] ne = absurd (ne refl)
 is_left-true (x ∷ xs) ne = refl
 
-is_left-ne : (xs : List Item) → is_left xs ≡ true → xs ≢ []
+is_left-ne : (xs : List OrderItem) → is_left xs ≡ true → xs ≢ []
 is_left-ne [] e h = cc
 is_left-ne (x ∷ xs) e h = cc
 

@@ -8,7 +8,7 @@ use Rattle.farm_model.specs.Packages.{names, variants}
 use Rattle.farm_model.proofs.BelowLaws.{some_below-at, some_below-found, some_below-mono}
 use Rattle.farm_laws.proofs.Slots.{or-mono}
 use Rattle.plan_model.specs.May.{Bits, MaySlot, May, is_some_of}
-use Rattle.plan_model.specs.Join.{is_same_phase, phases_differ, either, either_last, joined_slot, both_built, joined}
+use Rattle.plan_model.specs.Join.{is_same_phase, phases_differ, either, either_last, joined_slot, both_built, joined_may}
 use Rattle.plan_model.specs.MayAt.{Maps}
 use Rattle.verdict_laws.proofs.Narrower.{IsPart, Narrows, both_absent, both_unpacked, both_configured, NarrowsAll}
 
@@ -96,7 +96,8 @@ module _ (u : Universe) (first wide_first second wide_second : May)
       same_tests_below : (f g : ℕ → Bool) → ((n : ℕ) → f n ≡ g n) → f ≡ g
       same_tests_below f g h = λ i n. h n i
 
-  pub joined-narrower : NarrowsAll u (joined u first second) (joined u wide_first wide_second)
+  pub joined-narrower : NarrowsAll u (joined_may u first second)
+      (joined_may u wide_first wide_second)
   joined-narrower =
       record {
         each = λ n. joined_slot-narrower u n (one.each n) (two.each n);

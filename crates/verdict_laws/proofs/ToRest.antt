@@ -5,7 +5,7 @@ use Rattle.std.proofs.lemmas.List.{get_or_past}
 use Rattle.std.proofs.lemmas.List.Sums.{sum_by-set}
 use Rattle.std.proofs.lemmas.Option.{none-some, same_Some, cond_some}
 use Rattle.farm_model.specs.Universe.{Universe}
-use Rattle.plan_model.specs.Order.{Item, Pass, Give, Board, start_board, rest_of, board_after, IsAtRest}
+use Rattle.plan_model.specs.Order.{OrderItem, Pass, Give, Board, start_board, rest_of, board_after, IsAtRest}
 use Rattle.verdict_laws.specs.Stuck.{ComesToRest, PlansComeToRest}
 
 -- how many items the lanes have left
@@ -13,13 +13,13 @@ abbrev items_left : Board → ℕ
 items_left b = sum_by length b.rest
 
 -- an item that is made is no longer left
-record Made (b m : Board) (l : ℕ) (xs : List Item) : Type 0 where
-  pub item : Item
-  pub rest : List Item
+record Made (b m : Board) (l : ℕ) (xs : List OrderItem) : Type 0 where
+  pub item : OrderItem
+  pub rest : List OrderItem
   pub was : xs ≡ item ∷ rest
   pub now : m.rest ≡ slice_set b.rest l rest
 
-made : (u : Universe) (b m : Board) (l : ℕ) (xs : List Item) → board_after u b l xs ≡ Some m
+made : (u : Universe) (b m : Board) (l : ℕ) (xs : List OrderItem) → board_after u b l xs ≡ Some m
     → Made b m l xs
 made u b m l [] e = absurd (none-some m e)
 made u b m l (Pass entry ∷ rest) e =

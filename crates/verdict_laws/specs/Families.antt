@@ -26,14 +26,15 @@ KnownArePossible =
 
 -- the family is a union of families that keep to the inclusions: each variant that it has at a
 -- place of the plan, one of them has there
-abbrev pub IsUnion : Universe → Plan → Rows → Type 0
-IsUnion u p rows =
+abbrev pub IsUnionOfFamilies : Universe → Plan → Rows → Type 0
+IsUnionOfFamilies u p rows =
     (l i : ℕ) (v : Variant) → l < length p → i ≤ length (lane p l).instructions → rows l i v ≡ true
     → (part : Rows) × KeepsRows u p part × IsWithin p part rows × (part l i v ≡ true)
 
 -- such a union keeps to them
 abbrev pub UnionsKeep : Type 0
-UnionsKeep = (u : Universe) (p : Plan) (rows : Rows) → IsUnion u p rows → KeepsRows u p rows
+UnionsKeep = (u : Universe) (p : Plan) (rows : Rows) → IsUnionOfFamilies u p rows
+    → KeepsRows u p rows
 
 -- so does the union of two
 abbrev pub UnionOfTwoKeeps : Type 0

@@ -10,7 +10,7 @@ use Rattle.std.specs.List.{filter, range_with_len}
 use Rattle.std.specs.List.Sorted.{IsStrictlyIncreasing}
 use Rattle.farm_model.specs.Universe.{Universe}
 use Rattle.plan_model.specs.Plan.{Plan}
-use Rattle.plan_model.specs.Order.{Item, Board, start_board, rest_of, Reaches, IsOrder, CannotEnd, AreStuck, IsAtRest}
+use Rattle.plan_model.specs.Order.{OrderItem, Board, start_board, rest_of, Reaches, IsOrder, CannotEnd, AreStuck, IsAtRest}
 
 -- these are all lanes that have something left, in file order
 pub record AreLeft (b : Board) (lanes : List ℕ) : Type 0 where
@@ -18,7 +18,7 @@ pub record AreLeft (b : Board) (lanes : List ℕ) : Type 0 where
   pub all : (l : ℕ) → rest_of b l ≢ [] → Contains lanes l
   pub in_order : IsStrictlyIncreasing lanes
 
-abbrev pub is_left : List Item → Bool
+abbrev pub is_left : List OrderItem → Bool
 is_left [] = false
 is_left (x ∷ xs) = true
 

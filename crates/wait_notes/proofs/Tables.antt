@@ -10,7 +10,7 @@ use Rattle.farm_model.specs.Packages.{names, variants, same}
 use Rattle.farm_model.specs.Universe.{Universe}
 use Rattle.farm_universe.proofs.PlaceLaws.{no_variants}
 use Rattle.wait_notes.specs.declared.publications.Publication.{Publication}
-use Rattle.wait_notes.specs.Places.{Table, place_of, slot, found, with_place, HasSlots, Adds}
+use Rattle.wait_notes.specs.Places.{Table, publication_place, table_slot, found, with_place, HasSlots, AddsFound}
 
 module _ {A : Type 0} where
   or_nothing : (a : Option A) → option_or a None ≡ a
@@ -19,24 +19,26 @@ module _ {A : Type 0} where
 
 -- the place of a variant, where it is this one
 abbrev pub only : Variant → Publication → Variant → Option (ℕ × ℕ)
-only v place w = if same v w then Some (place_of place) else None
+only v place w = if same v w then Some (publication_place place) else None
 
 module _ (t : Table) (v : Variant) (place : Publication) where
   -- nothing is added where the variant is found
-  pub adds_none : (r : Option Publication) → option_map place_of r ≡ found t v → is_some r ≡ true
-      → Adds t t (only v place)
+  pub adds_none : (r : Option Publication) → option_map publication_place r ≡ found t v
+      → is_some r ≡ true
+      → AddsFound t t (only v place)
   adds_none None is some w = absurd (false≢true some)
   adds_none (Some x) is some w = by (cases_Bool (same v w))
     where
       by : (same v w ≡ true) ⊎ (same v w ≡ false)
           → found t w ≡ option_or (found t w) (only v place w)
       by (inl this) =
-          let there : found t w ≡ Some (place_of x) =
+          let there : found t w ≡ Some (publication_place x) =
           ap (found t) (sym (same-true v w this)) ∙ sym is in
           there ∙ sym (ap (λ o. option_or o (only v place w)) there)
       by (inr other) = rw other (sym (or_nothing (found t w)))
 
-  pub none_found : (r : Option Publication) → option_map place_of r ≡ found t v → is_some r ≡ false
+  pub none_found : (r : Option Publication) → option_map publication_place r ≡ found t v
+      → is_some r ≡ false
       → found t v ≡ None
   none_found None is none = sym is
   none_found (Some x) is none = absurd (false≢true (sym none))
@@ -48,11 +50,11 @@ module _ (t : Table) (v : Variant) (place : Publication) where
     of_this : get_or next v.name [] ≡ slice_set (get_or t v.name []) v.bit (Some place)
     of_this = get_or-set_same t v.name _ [] named
 
-    here : slot next v ≡ Some place
+    here : table_slot next v ≡ Some place
     here = ap (λ xs. get_or xs v.bit None) of_this
         ∙ get_or-set_same (get_or t v.name []) v.bit (Some place) None there
 
-    elsewhere : (w : Variant) → same v w ≡ false → slot next w ≡ slot t w
+    elsewhere : (w : Variant) → same v w ≡ false → table_slot next w ≡ table_slot t w
     unfolding same
     elsewhere w other =
         elim (cases_eq w.name v.name) [
@@ -69,20 +71,20 @@ module _ (t : Table) (v : Variant) (place : Publication) where
         ]
 
     -- its place is added where it is not found
-    pub adds_one : found t v ≡ None → Adds t next (only v place)
+    pub adds_one : found t v ≡ None → AddsFound t next (only v place)
     adds_one none w = by (cases_Bool (same v w))
       where
         by : (same v w ≡ true) ⊎ (same v w ≡ false)
             → found next w ≡ option_or (found t w) (only v place w)
         by (inl this) =
             let is = same-true v w this in
-            ap (found next) (sym is) ∙ ap (option_map place_of) here
+            ap (found next) (sym is) ∙ ap (option_map publication_place) here
             ∙ sym (ap (λ o. option_or o (only v place w)) (ap (found t) (sym is) ∙ none)
-            ∙ ap (λ (s : Bool). if s then Some (place_of place) else None) this)
+            ∙ ap (λ (s : Bool). if s then Some (publication_place place) else None) this)
         by (inr other) =
-            ap (option_map place_of) (elsewhere w other)
+            ap (option_map publication_place) (elsewhere w other)
             ∙ sym (ap (λ (s : Bool). option_or (found t w)
-            (if s then Some (place_of place) else None)) other ∙ or_nothing (found t w))
+            (if s then Some (publication_place place) else None)) other ∙ or_nothing (found t w))
 
 -- the names of the universe have their places, and past the last there is nothing
 pub slots_of : (u : Universe) (t : Table) → length t ≡ names u

@@ -3,11 +3,11 @@
 --
 --   found t v              the lane that publishes a variant, and the instruction's number
 --   HasSlots               the table has a place for each variant
---   Adds                   a table has more than another: what was not found there
+--   AddsFound              a table has more than another: what was not found there
 --   IsTableOf              all that a plan publishes
 use Rattle.std.specs.Prelude.{◌≡◌, ℕ, List, [], length, Option, None, slice_index_or, slice_set, Some}
 use Rattle.std.specs.Option.{option_map, option_or}
-use Rattle.farm_explain.specs.ReasonText.{publication}
+use Rattle.farm_explain.specs.ReasonText.{first_publication}
 use Rattle.farm_model.specs.declared.types.Variant.{Variant}
 use Rattle.farm_model.specs.Packages.{names, variants}
 use Rattle.farm_model.specs.Universe.{Universe}
@@ -17,14 +17,14 @@ use Rattle.wait_notes.specs.declared.publications.Publication.{Publication}
 abbrev pub Table : Type 0
 Table = List (List (Option Publication))
 
-abbrev pub place_of : Publication → ℕ × ℕ
-place_of found = (found.lane, found.instruction)
+abbrev pub publication_place : Publication → ℕ × ℕ
+publication_place found = (found.lane, found.instruction)
 
-abbrev pub slot : Table → Variant → Option Publication
-slot t v = slice_index_or (slice_index_or t v.name []) v.bit None
+abbrev pub table_slot : Table → Variant → Option Publication
+table_slot t v = slice_index_or (slice_index_or t v.name []) v.bit None
 
 abbrev pub found : Table → Variant → Option (ℕ × ℕ)
-found t v = option_map place_of (slot t v)
+found t v = option_map publication_place (table_slot t v)
 
 -- the table with one publication more
 abbrev pub with_place : Table → Variant → Publication → Table
@@ -35,8 +35,8 @@ pub record HasSlots (u : Universe) (t : Table) : Type 0 where
   pub long : length t ≡ names u
   pub each : (n : ℕ) → length (slice_index_or t n []) ≡ variants u n
 
-abbrev pub Adds : Table → Table → (Variant → Option (ℕ × ℕ)) → Type 0
-Adds old new more = (v : Variant) → found new v ≡ option_or (found old v) (more v)
+abbrev pub AddsFound : Table → Table → (Variant → Option (ℕ × ℕ)) → Type 0
+AddsFound old new more = (v : Variant) → found new v ≡ option_or (found old v) (more v)
 
 abbrev pub IsTableOf : Universe → Plan → Table → Type 0
-IsTableOf u p t = (v : Variant) → found t v ≡ publication u p v
+IsTableOf u p t = (v : Variant) → found t v ≡ first_publication u p v

@@ -12,7 +12,7 @@ use Rattle.std.specs.Option.{option_map}
 use Rattle.deb_relation.specs.Relations.{Entry}
 use Rattle.farm_explain.specs.declared.kinds.Kind.{Kind}
 use Rattle.farm_explain.specs.Notes.{NoteFacts, notes_below, place_at}
-use Rattle.farm_explain.specs.ReasonText.{publication, at_text, where_text}
+use Rattle.farm_explain.specs.ReasonText.{first_publication, at_text, where_text}
 use Rattle.farm_explain.specs.Texts.{could_meet, said, text_below}
 use Rattle.farm_model.specs.declared.types.Variant.{Variant}
 use Rattle.farm_model.specs.Below.{some_below}
@@ -44,7 +44,7 @@ source_text u p ls l v None = word_text Word.Nobody ++ variant_text u v
 source_text u p ls l v (Some (j, number)) = variant_text u v ++ by_text p ls l j number
 
 abbrev pub source_line : Universe → Plan → List LaneLines → ℕ → Variant → List ℕ
-source_line u p ls l v = said (source_text u p ls l v (publication u p v))
+source_line u p ls l v = said (source_text u p ls l v (first_publication u p v))
 
 -- ---- where nothing does
 
@@ -118,12 +118,12 @@ name_text p None = []
 name_text p (Some l) = (lane p l).name
 
 -- `a waits for b`
-abbrev pub between : Plan → Option ℕ → Option ℕ → List ℕ
-between p from to = concat (name_text p from ∷ word_text Word.WaitsFor ∷ name_text p to ∷ [])
+abbrev pub waits_for_text : Plan → Option ℕ → Option ℕ → List ℕ
+waits_for_text p from to = concat (name_text p from ∷ word_text Word.WaitsFor ∷ name_text p to ∷ [])
 
 -- the lane k lanes on from l, and the next
 abbrev pub link_text : Plan → (ℕ → Option ℕ) → (l k : ℕ) → List ℕ
-link_text p next l k = between p (follow next k l) (follow next (suc k) l)
+link_text p next l k = waits_for_text p (follow next k l) (follow next (suc k) l)
 
 -- so many links, and the one that leads back
 abbrev pub circle_line : Plan → (ℕ → Option ℕ) → (l k : ℕ) → List ℕ

@@ -8,8 +8,8 @@ use Rattle.std.specs.Prelude.{ℕ, zero, suc, ◌+◌, ◌==◌, nat_lt, Bool, f
 use Rattle.std.specs.List.{concat, filter, find}
 use Rattle.deb_relation.specs.Relations.{Entry}
 use Rattle.farm_explain.specs.declared.kinds.Kind.{Kind}
-use Rattle.farm_explain.specs.Notes.{NoteFacts, notes_below, place_at, told}
-use Rattle.farm_explain.specs.ReasonText.{publication}
+use Rattle.farm_explain.specs.Notes.{NoteFacts, notes_below, place_at, note_of}
+use Rattle.farm_explain.specs.ReasonText.{first_publication}
 use Rattle.farm_model.specs.declared.types.Variant.{Variant}
 use Rattle.farm_model.specs.Packages.{initial}
 use Rattle.farm_model.specs.Universe.{Universe}
@@ -28,7 +28,7 @@ comes l i (Some (j, number)) = not ((j == l) && nat_lt i number)
 
 -- those of some variants that can let the wait pass
 abbrev pub sources : Universe → Plan → (l i : ℕ) → List Variant → List Variant
-sources u p l i vs = filter (λ v. comes l i (publication u p v)) vs
+sources u p l i vs = filter (λ v. comes l i (first_publication u p v)) vs
 
 -- `lane NAME instruction N waits for `
 abbrev pub wait_head : Plan → (l number : ℕ) → List ℕ
@@ -49,7 +49,7 @@ more_text (suc k) = counted Word.Or (suc k) ++ word_text Word.More
 
 abbrev pub coming_text : Universe → Plan → (l number : ℕ) → Variant → ℕ → List ℕ
 coming_text u p l number v more =
-    concat (wait_head p l number ∷ variant_text u v ∷ of_text p (publication u p v)
+    concat (wait_head p l number ∷ variant_text u v ∷ of_text p (first_publication u p v)
     ∷ more_text more ∷ codes "\n" ∷ [])
 
 -- the first of these variants, and how many more there are
@@ -68,15 +68,15 @@ wait_text u p l i vs None = coming_line u p l (i + 1) (sources u p l i vs)
 wait_text u p l i vs (Some v) = nothing_text u p l (i + 1) v
 
 -- of the variants that satisfy its entry
-abbrev pub entry_text : Universe → Plan → (l i : ℕ) → Entry → List ℕ
-entry_text u p l i e =
+abbrev pub entry_wait_text : Universe → Plan → (l i : ℕ) → Entry → List ℕ
+entry_wait_text u p l i e =
     wait_text u p l i (satisfying u e) (find (initial u) (satisfying u e))
 
 -- the wait at a place, if there is one; none where nothing is said of it
 abbrev pub wait_notes : Universe → Plan → List LaneLines → (l i : ℕ) → Option Entry → List NoteFacts
 wait_notes u p ls l i None = []
 wait_notes u p ls l i (Some e) =
-    told Kind.Wait (Some (place_at p ls l i None)) (entry_text u p l i e)
+    note_of Kind.Wait (Some (place_at p ls l i None)) (entry_wait_text u p l i e)
 
 abbrev pub lane_waits : Universe → Plan → List LaneLines → ℕ → List NoteFacts
 lane_waits u p ls l =

@@ -47,8 +47,8 @@ abbrev pub waits_for : Universe → Plan → (ℕ → ℕ) → ℕ → Option �
 waits_for u p at l = option_and_then (first_server u p at) (awaited p at l)
 
 -- the same of a list that says it of each lane
-abbrev pub next_of : List (Option ℕ) → ℕ → Option ℕ
-next_of nexts l = slice_index_or nexts l None
+abbrev pub next_lane_of : List (Option ℕ) → ℕ → Option ℕ
+next_lane_of nexts l = slice_index_or nexts l None
 
 -- the lane that is k lanes on
 abbrev pub follow : (ℕ → Option ℕ) → ℕ → ℕ → Option ℕ

@@ -3,7 +3,7 @@
 ghost use Rattle.std.specs.Prelude.{◌≡◌, ◌++◌, codes, length, IfOk, OnOk};
 ghost use Rattle.farm_explain.specs.Notes.{all_facts, facts};
 ghost use Rattle.wait_notes.specs.StuckText as spec;
-ghost use Rattle.wait_notes.specs.Waiting.{next_of};
+ghost use Rattle.wait_notes.specs.Waiting.{next_lane_of};
 
 use crate::groups::{step, way_back};
 use crate::lane::lane_name;
@@ -32,7 +32,7 @@ fn push_link(
     to: Option<usize>,
 ) -> Result<(), AllocError>
     ensures { OnOk result
-        (text.new.items ≡ text.old.items ++ spec.between plan.now.lanes from to) }
+        (text.new.items ≡ text.old.items ++ spec.waits_for_text plan.now.lanes from to) }
 {
     push_name(text, plan, from)?;
     push_pieces(text, &[Word::WaitsFor.text()])?;
@@ -48,7 +48,7 @@ fn push_line(
     others: usize,
 ) -> Result<(), AllocError>
     ensures { OnOk result (text.new.items ≡ text.old.items
-        ++ spec.circle_line plan.now.lanes (next_of nexts.now) first others) }
+        ++ spec.circle_line plan.now.lanes (next_lane_of nexts.now) first others) }
 {
     let mut at = Some(first);
     for _passed in 0..others {
@@ -63,7 +63,7 @@ fn push_line(
 
 /// The first lane that waits in a circle, and how many others there are in its circle.
 fn first_circle(nexts: &[Option<usize>]) -> Option<(usize, usize)>
-    ensures { result ≡ spec.first_circle (next_of nexts.now) (length nexts.now) }
+    ensures { result ≡ spec.first_circle (next_lane_of nexts.now) (length nexts.now) }
 {
     for number in 0..nexts.len() {
         if let Some(others) = way_back(nexts, number) {
@@ -82,7 +82,7 @@ fn circle_note(
     others: usize,
 ) -> Result<Note, AllocError>
     ensures { IfOk result (λ note. facts note
-        ≡ spec.circle_note plan.now.lanes (next_of nexts.now) first others) }
+        ≡ spec.circle_note plan.now.lanes (next_lane_of nexts.now) first others) }
 {
     let mut text = Vec::new(alloc);
     push_line(&mut text, plan, nexts, first, others)?;
@@ -107,7 +107,7 @@ pub fn push_circle(
 ) -> Result<(), AllocError>
     requires { length nexts.now ≡ length plan.now.lanes }
     ensures { OnOk result (all_facts notes.new.items ≡ all_facts notes.old.items
-        ++ spec.circle_notes plan.now.lanes (next_of nexts.now)) }
+        ++ spec.circle_notes plan.now.lanes (next_lane_of nexts.now)) }
 {
     if let Some((first, others)) = first_circle(nexts) {
         notes.push(circle_note(alloc, plan, nexts, first, others)?)?;

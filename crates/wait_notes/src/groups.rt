@@ -44,7 +44,7 @@ pub fn group_kind(group: Group) -> Kind
 
 /// The lane that a lane waits for.
 fn next_of(nexts: &[Option<usize>], number: usize) -> Option<usize>
-    ensures { result ≡ spec.next_of nexts.now number }
+    ensures { result ≡ spec.next_lane_of nexts.now number }
 {
     if number < nexts.len() {
         nexts[number]
@@ -55,7 +55,7 @@ fn next_of(nexts: &[Option<usize>], number: usize) -> Option<usize>
 
 /// The lane that is one further on.
 pub fn step(nexts: &[Option<usize>], at: Option<usize>) -> Option<usize>
-    ensures { result ≡ option_and_then (spec.next_of nexts.now) at }
+    ensures { result ≡ option_and_then (spec.next_lane_of nexts.now) at }
 {
     match at {
         Some(number) => next_of(nexts, number),
@@ -74,7 +74,7 @@ fn is_lane(number: usize, at: Option<usize>) -> bool
 
 /// How many other lanes lie on the way from a lane to itself, where there is a way.
 pub fn way_back(nexts: &[Option<usize>], number: usize) -> Option<usize>
-    ensures { result ≡ spec.way_back (spec.next_of nexts.now) (length nexts.now) number }
+    ensures { result ≡ spec.way_back (spec.next_lane_of nexts.now) (length nexts.now) number }
 {
     let mut at = Some(number);
     for passed in 0..nexts.len() {
@@ -88,7 +88,8 @@ pub fn way_back(nexts: &[Option<usize>], number: usize) -> Option<usize>
 
 /// Tells whether a lane stands in a group, by the lane that each lane waits for.
 pub fn stands_in(nexts: &[Option<usize>], group: Group, number: usize) -> bool
-    ensures { result ≡ spec.stands_in (spec.next_of nexts.now) (length nexts.now) group number }
+    ensures { result ≡ spec.stands_in (spec.next_lane_of nexts.now) (length nexts.now) group
+        number }
 {
     match group {
         Group::Unpublished => next_of(nexts, number).is_none(),

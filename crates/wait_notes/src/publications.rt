@@ -2,13 +2,13 @@
 
 ghost use Rattle.std.specs.Prelude.{◌≡◌, ◌<◌, ◌≤◌, ℕ, Some, None, [], IfOk, length, slice_index_or, slice_set, if◌then◌else◌};
 ghost use Rattle.std.specs.Option.{option_map};
-ghost use Rattle.farm_explain.specs.ReasonText.{publishes, publishing_place};
+ghost use Rattle.farm_explain.specs.ReasonText.{publishes_variant, publishing_place};
 ghost use Rattle.farm_model.specs.declared.types.Variant.{Variant as VariantData};
 ghost use Rattle.farm_model.specs.Packages.{contains, outputs, same};
 ghost use Rattle.farm_model.specs.Sound.{IsUniverse};
 ghost use Rattle.farm_model.specs.Universe as farm;
 ghost use Rattle.wait_notes.specs.Places as spec;
-ghost use Rattle.wait_notes.specs.Places.{Adds, HasSlots, IsTableOf};
+ghost use Rattle.wait_notes.specs.Places.{AddsFound, HasSlots, IsTableOf};
 
 use farm_universe::{Universe, Variant};
 use may_rows::variant_count;
@@ -99,7 +99,7 @@ impl Publications {
 
     /// Where a variant is published, if it is.
     pub fn of(&self, variant: Variant) -> Option<Publication>
-        ensures { option_map spec.place_of result ≡ spec.found self.now variant }
+        ensures { option_map spec.publication_place result ≡ spec.found self.now variant }
     {
         let name = variant.name as usize;
         if name < self.names.len() {
@@ -122,8 +122,8 @@ impl Publications {
         requires named { variant.name < length self.old }
         requires there { variant.bit < length (slice_index_or self.old variant.name []) }
         ensures slots { (u : farm.Universe) → HasSlots u self.old → HasSlots u self.new }
-        ensures put { Adds self.old self.new
-            (λ v. if same variant v then Some (spec.place_of place) else None) }
+        ensures put { AddsFound self.old self.new
+            (λ v. if same variant v then Some (spec.publication_place place) else None) }
     {
         if self.of(variant).is_none() {
             self.set(variant, place);
@@ -135,8 +135,9 @@ impl Publications {
         requires sound { IsUniverse universe.now }
         requires slots { HasSlots universe.now self.old }
         ensures slots { HasSlots universe.now self.new }
-        ensures put { Adds self.old self.new (λ v.
-            if contains (outputs universe.now recipe) v then Some (spec.place_of place) else None) }
+        ensures put { AddsFound self.old self.new (λ v.
+            if contains (outputs universe.now recipe) v then Some (spec.publication_place place)
+            else None) }
     {
         let outputs = universe.outputs(recipe);
         for i in 0..outputs.len() {
@@ -154,9 +155,9 @@ impl Publications {
         requires sound { IsUniverse universe.now }
         requires slots { HasSlots universe.now self.old }
         ensures slots { HasSlots universe.now self.new }
-        ensures put { Adds self.old self.new (λ v.
-            if publishes universe.now v (Some instruction.now) then Some (spec.place_of place)
-            else None) }
+        ensures put { AddsFound self.old self.new (λ v.
+            if publishes_variant universe.now v (Some instruction.now)
+            then Some (spec.publication_place place) else None) }
     {
         match instruction {
             Instruction::Publish(recipe) => self.put_outputs(universe, *recipe, place),
@@ -178,7 +179,7 @@ impl Publications {
         requires slots { HasSlots universe.now self.old }
         requires lane { number < length plan.now.lanes }
         ensures slots { HasSlots universe.now self.new }
-        ensures put { Adds self.old self.new
+        ensures put { AddsFound self.old self.new
             (λ v. publishing_place universe.now plan.now.lanes v number) }
     {
         let instructions = plan.lane(number).instructions();

@@ -5,7 +5,7 @@ ghost use Rattle.std.specs.List.{flat_map};
 ghost use Rattle.std.specs.Option.{option_map};
 ghost use Rattle.farm_explain.specs.Texts.{could_meet, text_below};
 ghost use Rattle.farm_model.specs.Packages.{names, variant};
-ghost use Rattle.wait_notes.specs.Places.{IsTableOf, place_of};
+ghost use Rattle.wait_notes.specs.Places.{IsTableOf, publication_place};
 ghost use Rattle.wait_notes.specs.StuckText as spec;
 
 use crate::lane::{LaneOf, lane_name};
@@ -60,7 +60,7 @@ fn push_source(
 ) -> Result<(), AllocError>
     ensures { OnOk result (text.new.items ≡ text.old.items
         ++ spec.source_text of.entry.universe.now of.entry.plan.now.lanes lines.now.lanes
-        of.entry.number variant (option_map place_of found)) }
+        of.entry.number variant (option_map publication_place found)) }
 {
     let Some(found) = found else {
         push_pieces(text, &[Word::Nobody.text()])?;

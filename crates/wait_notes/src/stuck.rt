@@ -8,7 +8,7 @@ ghost use Rattle.wait_order.specs.Standing.{place_of};
 ghost use Rattle.wait_notes.specs.Places.{IsTableOf};
 ghost use Rattle.wait_notes.specs.Shown.{ShowsStuck};
 ghost use Rattle.wait_notes.specs.StuckText as spec;
-ghost use Rattle.wait_notes.specs.Waiting.{awaited, next_of};
+ghost use Rattle.wait_notes.specs.Waiting.{awaited, next_lane_of};
 
 use crate::circles::push_circle;
 use crate::groups::{Group, group_kind, group_word, stands_in};
@@ -142,7 +142,7 @@ fn push_if_in(
         < length (lane halted.plan.now.lanes number).instructions }
     ensures { OnOk result (all_facts notes.new.items ≡ all_facts notes.old.items
         ++ spec.lane_notes halted.entry.universe.now halted.entry.plan.now.lanes
-        halted.entry.lines.now.lanes (next_of halted.entry.nexts.now) group number
+        halted.entry.lines.now.lanes (next_lane_of halted.entry.nexts.now) group number
         (place_of halted.entry.ats.now number) (Some entry.now)) }
 {
     if !stands_in(halted.nexts, group, number) {
@@ -167,7 +167,7 @@ fn push_note(
     requires lane { number < length halted.plan.now.lanes }
     ensures { OnOk result (all_facts notes.new.items ≡ all_facts notes.old.items
         ++ spec.lane_notes halted.entry.universe.now halted.entry.plan.now.lanes
-        halted.entry.lines.now.lanes (next_of halted.entry.nexts.now) group number
+        halted.entry.lines.now.lanes (next_lane_of halted.entry.nexts.now) group number
         (place_of halted.entry.ats.now number)
         (awaited halted.entry.plan.now.lanes (place_of halted.entry.ats.now) number)) }
 {
@@ -190,7 +190,7 @@ fn push_group(
     requires each { length halted.nexts.now ≡ length halted.plan.now.lanes }
     ensures { OnOk result (all_facts notes.new.items ≡ all_facts notes.old.items
         ++ spec.group_notes halted.entry.universe.now halted.entry.plan.now.lanes
-        halted.entry.lines.now.lanes (next_of halted.entry.nexts.now)
+        halted.entry.lines.now.lanes (next_lane_of halted.entry.nexts.now)
         (place_of halted.entry.ats.now) group) }
 {
     for number in 0..halted.plan.lanes() {
@@ -208,7 +208,7 @@ fn halted_notes(alloc: Global, halted: Halted<'_>) -> Result<Vec<Note>, AllocErr
     requires each { length halted.nexts.now ≡ length halted.plan.now.lanes }
     ensures { IfOk result (λ notes. all_facts notes.items ≡ spec.halted_notes
         halted.entry.universe.now halted.entry.plan.now.lanes halted.entry.lines.now.lanes
-        (next_of halted.entry.nexts.now) (place_of halted.entry.ats.now)) }
+        (next_lane_of halted.entry.nexts.now) (place_of halted.entry.ats.now)) }
 {
     let mut notes = Vec::new(alloc);
     push_group(&mut notes, alloc, halted, Group::Unpublished)?;

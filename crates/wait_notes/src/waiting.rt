@@ -136,7 +136,7 @@ pub fn nexts(
     requires sound { IsUniverse universe.now }
     requires long { length ats.now ≡ length plan.now.lanes }
     ensures long { IfOk result (λ nexts. length nexts.items ≡ length plan.now.lanes) }
-    ensures each { IfOk result (λ nexts. (l : ℕ) → spec.next_of nexts.items l
+    ensures each { IfOk result (λ nexts. (l : ℕ) → spec.next_lane_of nexts.items l
         ≡ spec.waits_for universe.now plan.now.lanes (place_of ats.now) l) }
 {
     let mut nexts = Vec::new(alloc);

@@ -4,11 +4,11 @@ ghost use Rattle.std.specs.Prelude.{◌≡◌, ◌<◌, ◌++◌, length, IfOk, 
 ghost use Rattle.std.specs.List.{filter, find};
 ghost use Rattle.std.specs.Option.{option_map};
 ghost use Rattle.farm_explain.specs.Notes.{all_facts};
-ghost use Rattle.farm_explain.specs.ReasonText.{publication};
+ghost use Rattle.farm_explain.specs.ReasonText.{first_publication};
 ghost use Rattle.farm_model.specs.Packages.{initial};
 ghost use Rattle.plan_model.specs.Plan.{lane};
 ghost use Rattle.plan_verifier.specs.Stage.{IsStage};
-ghost use Rattle.wait_notes.specs.Places.{IsTableOf, place_of};
+ghost use Rattle.wait_notes.specs.Places.{IsTableOf, publication_place};
 ghost use Rattle.wait_notes.specs.WaitText as spec;
 ghost use Rattle.wait_notes.specs.Waiting as waiting;
 
@@ -56,7 +56,7 @@ fn first_initial(universe: &Universe, variants: &[Variant]) -> Option<Variant>
 /// Tells whether a lane publishes what is found here, and not this lane itself at or behind a
 /// place.
 fn comes(number: usize, place: usize, found: Option<Publication>) -> bool
-    ensures { result ≡ spec.comes number place (option_map place_of found) }
+    ensures { result ≡ spec.comes number place (option_map publication_place found) }
 {
     match found {
         Some(found) => !(found.lane == number && place < found.instruction),
@@ -73,7 +73,7 @@ fn sources(
 ) -> Result<Vec<Variant>, AllocError>
     requires { IsTableOf of.universe.now of.plan.now.lanes of.publications.now }
     ensures { IfOk result (λ found. found.items ≡ filter (λ v. spec.comes of.entry.number place
-        (publication of.entry.universe.now of.entry.plan.now.lanes v)) variants.now) }
+        (first_publication of.entry.universe.now of.entry.plan.now.lanes v)) variants.now) }
 {
     let mut found = Vec::new(alloc);
     for i in 0..variants.len() {
@@ -103,7 +103,7 @@ fn push_head(
 /// ` of lane NAME instruction N`, where a variant is published.
 fn push_of(text: &mut Vec<u8>, plan: &Plan, found: Option<Publication>) -> Result<(), AllocError>
     ensures { OnOk result (text.new.items
-        ≡ text.old.items ++ spec.of_text plan.now.lanes (option_map place_of found)) }
+        ≡ text.old.items ++ spec.of_text plan.now.lanes (option_map publication_place found)) }
 {
     let Some(found) = found else {
         return Ok(());
@@ -217,7 +217,7 @@ fn entry_text(
     requires tables { tables.now ≡ of.universe.now }
     requires lane { of.number < length of.plan.now.lanes }
     requires place { place < length (lane of.plan.now.lanes of.number).instructions }
-    ensures { IfOk result (λ text. text.items ≡ spec.entry_text of.entry.universe.now
+    ensures { IfOk result (λ text. text.items ≡ spec.entry_wait_text of.entry.universe.now
         of.entry.plan.now.lanes of.entry.number place entry.now) }
 {
     let found = satisfying(alloc, of.universe, tables, entry)?;

@@ -1,5 +1,6 @@
 -- Rows of the archive: one more variant, one more list of variants.
 use Rattle.std.proofs.Common.{◌≡◌, inl, inr, ℕ, suc, ◌+◌, ◌<◌, Bool, true, false, ◌&&◌, ◌||◌, ◌==◌, nat_lt, List, [], ◌∷◌, length, take, get_or, refl, sym, ap, subst, ◌∙◌, arith}
+use Rattle.std.specs.Cmp.{both_ways as same_tests}
 use Rattle.std.specs.List.{list_any}
 use Rattle.std.proofs.Math.Seq.{take-suc}
 use Rattle.std.proofs.Math.Bool.{or-false}
@@ -10,9 +11,8 @@ use Rattle.farm_model.specs.declared.types.Variant.{Variant}
 use Rattle.farm_model.specs.Universe.{Universe}
 use Rattle.farm_model.specs.Packages.{variant, names, variants, same}
 use Rattle.farm_model.specs.Sound.{IsKnown}
-use Rattle.farm_model.proofs.TestLaws.{same_tests}
 use Rattle.farm_laws.proofs.Archive.{same-true, same-refl}
-use Rattle.sat_rows.specs.Rows.{passes, IsRowOf}
+use Rattle.sat_rows.specs.Rows.{variant_passes, IsRowOf}
 
 -- a row of one test is that of another that passes in the same cases
 pub row_same : (u : Universe) (p q : Variant → Bool) (row : List ℕ)
@@ -36,10 +36,10 @@ row_added u test row next v known is adds long = record {
     now : Variant → Bool
     now w = test w || same v w
 
-    there_to : (n b : ℕ) → (passes u test n b || ((n == v.name) && (b == v.bit))) ≡ true
-        → passes u now n b ≡ true
+    there_to : (n b : ℕ) → (variant_passes u test n b || ((n == v.name) && (b == v.bit))) ≡ true
+        → variant_passes u now n b ≡ true
     there_to n b h =
-        elim (or_cases (passes u test n b) _ h) [
+        elim (or_cases (variant_passes u test n b) _ h) [
           | inl old ↦
               let parts = and_parts (nat_lt b (variants u n)) _ old in
               and_from _ _ parts.0 (or_left (test (variant n b)) _ parts.1)
@@ -55,15 +55,15 @@ row_added u test row next v known is adds long = record {
               (or_right (test (variant n b)) _ (ap (same v) here ∙ same-refl v))
         ]
 
-    back : (n b : ℕ) → passes u now n b ≡ true
-        → (passes u test n b || ((n == v.name) && (b == v.bit))) ≡ true
+    back : (n b : ℕ) → variant_passes u now n b ≡ true
+        → (variant_passes u test n b || ((n == v.name) && (b == v.bit))) ≡ true
     back n b h =
         let parts = and_parts (nat_lt b (variants u n)) _ h in
         elim (or_cases (test (variant n b)) _ parts.1) [
-          | inl old ↦ or_left (passes u test n b) _ (and_from _ _ parts.0 old)
+          | inl old ↦ or_left (variant_passes u test n b) _ (and_from _ _ parts.0 old)
           | inr new ↦
               let here : v ≡ variant n b = same-true v (variant n b) new in
-              or_right (passes u test n b) _ (and_from _ _
+              or_right (variant_passes u test n b) _ (and_from _ _
               (eq-eqb n v.name (ap (λ (w : Variant). w.name) (sym here)))
               (eq-eqb b v.bit (ap (λ (w : Variant). w.bit) (sym here))))
         ]

@@ -1,5 +1,6 @@
 -- Boards that are reached: one more wait passes, or one more output is made.
 use Rattle.std.proofs.Common.{◌≡◌, inl, inr, ℕ, ◌<◌, Bool, true, ◌&&◌, ◌||◌, ◌==◌, nat_lt, List, [], ◌∷◌, ◌++◌, length, get_or, Some, slice_set, refl, sym, ap, subst, ◌∙◌, arith, length-set, get_or-set_same, get_or-set_other}
+use Rattle.std.specs.Cmp.{both_ways as same_tests}
 use Rattle.std.proofs.lemmas.Bool.{cases_eq, eq-eqb, ne_eqb, eqb-true, or_cases, or_left, or_right, and_parts, and_from, lt-ltb}
 use Rattle.bit_rows.specs.Sets.{variants_of, AddsVariant}
 use Rattle.deb_relation.specs.Relations.{Entry}
@@ -7,12 +8,11 @@ use Rattle.farm_model.specs.declared.types.Variant.{Variant}
 use Rattle.farm_model.specs.Universe.{Universe}
 use Rattle.farm_model.specs.Packages.{variant, names, variants, same, contains, initial}
 use Rattle.farm_model.specs.Sound.{IsKnown}
-use Rattle.farm_model.proofs.TestLaws.{same_tests}
 use Rattle.farm_laws.proofs.Archive.{same-true, same-refl}
 use Rattle.plan_model.specs.Plan.{Plan}
 use Rattle.plan_model.specs.Turn as turn
-use Rattle.plan_model.specs.Order.{Item, Pass, Give, Board, on_board, rest_of, board_after, Reaches}
-use Rattle.sat_rows.specs.Rows.{passes, IsRowOf}
+use Rattle.plan_model.specs.Order.{OrderItem, Pass, Give, Board, on_board, rest_of, board_after, Reaches}
+use Rattle.sat_rows.specs.Rows.{variant_passes, IsRowOf}
 use Rattle.wait_order.specs.Standing.{IsReached, with_left}
 
 reaches_more : (u : Universe) (ls : List ℕ) (b m t : Board) (l : ℕ) → Reaches u b ls m
@@ -26,7 +26,7 @@ reaches_more u [] b m t l r e = (
 reaches_more u (k ∷ ks) b m t l r e = (r.0, r.1, reaches_more u ks r.0 m t l r.2 e)
 
 -- the same lanes have the same left
-pub reached_same : (u : Universe) (p : Plan) (order there : List ℕ) (left next : ℕ → List Item)
+pub reached_same : (u : Universe) (p : Plan) (order there : List ℕ) (left next : ℕ → List OrderItem)
     → ((l : ℕ) → l < length p → left l ≡ next l) → IsReached u p order there left
     → IsReached u p order there next
 reached_same u p order there left next e r =
@@ -38,11 +38,12 @@ reached_same u p order there left next e r =
       archive = r.archive;
     }
 
-pub with_left-here : (left : ℕ → List Item) (l : ℕ) (is : List Item) → with_left left l is l ≡ is
+pub with_left-here : (left : ℕ → List OrderItem) (l : ℕ) (is : List OrderItem)
+    → with_left left l is l ≡ is
 with_left-here left l is = rw (eq-eqb l l refl) refl
 
-module _ (u : Universe) (p : Plan) (order there : List ℕ) (left : ℕ → List Item)
-    (r : IsReached u p order there left) (l : ℕ) (lt : l < length p) (more : List Item) where
+module _ (u : Universe) (p : Plan) (order there : List ℕ) (left : ℕ → List OrderItem)
+    (r : IsReached u p order there left) (l : ℕ) (lt : l < length p) (more : List OrderItem) where
   one_more : (t : Board) (next_there : List ℕ)
       → board_after u r.board l (rest_of r.board l) ≡ Some t
       → t.rest ≡ slice_set r.board.rest l more → IsRowOf u (on_board u t) next_there
@@ -93,13 +94,13 @@ module _ (u : Universe) (p : Plan) (order there : List ℕ) (left : ℕ → List
       }
     where
       at : ℕ → ℕ → Bool
-      at n b = passes u (on_board u r.board) n b
+      at n b = variant_passes u (on_board u r.board) n b
 
       now : Variant → Bool
       now w = initial u w || contains (v ∷ r.board.published) w
 
       there_to : (n b : ℕ) → (at n b || ((n == v.name) && (b == v.bit))) ≡ true
-          → passes u now n b ≡ true
+          → variant_passes u now n b ≡ true
       there_to n b h =
           elim (or_cases (at n b) _ h) [
             | inl old ↦
@@ -122,7 +123,7 @@ module _ (u : Universe) (p : Plan) (order there : List ℕ) (left : ℕ → List
                 (ap (same v) is ∙ same-refl v)))
           ]
 
-      back : (n b : ℕ) → passes u now n b ≡ true
+      back : (n b : ℕ) → variant_passes u now n b ≡ true
           → (at n b || ((n == v.name) && (b == v.bit))) ≡ true
       back n b h =
           let parts = and_parts (nat_lt b (variants u n)) _ h in

@@ -12,7 +12,7 @@ use Rattle.plan_model.specs.Plan.{Plan, lane, lane_outputs, outputs_before}
 use Rattle.clock_laws.proofs.Made.{made}
 use Rattle.sat_rows.specs.Rows.{IsRowOf}
 use Rattle.wait_order.specs.declared.marks.Output.{Output}
-use Rattle.wait_order.specs.Column.{count_at, IsIn}
+use Rattle.wait_order.specs.Column.{count_at, IsPointBelow}
 use Rattle.wait_order.specs.Columns.{column_of, counts_of}
 use Rattle.wait_order.specs.KnownRows.{HasCounts}
 use Rattle.wait_order.specs.Marks.{outputs_with_points}
@@ -81,9 +81,9 @@ module _ (u : Universe) (p : Plan) where
 
   -- the point of a place has a count in each column
   pub point_in : (columns : List (List ℕ)) (l i : ℕ) → HasCounts p columns → l < length p
-      → (j : ℕ) → j < length p → IsIn (length (column_of columns j)) (last_point p l i)
+      → (j : ℕ) → j < length p → IsPointBelow (length (column_of columns j)) (last_point p l i)
   point_in columns l i has lt j j_lt =
-      subst (λ n. IsIn n (last_point p l i)) (sym (has.each j j_lt)) (last-in p l i lt)
+      subst (λ n. IsPointBelow n (last_point p l i)) (sym (has.each j j_lt)) (last-in p l i lt)
 
   -- the clock of a place
   pub clock_is : (columns : List (List ℕ)) (l i own : ℕ) (last : Option ℕ)

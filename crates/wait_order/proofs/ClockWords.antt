@@ -1,23 +1,23 @@
 -- The words of clocks: the outputs of one name that count.
 use Rattle.std.proofs.Common.{◌≡◌, ◌⊎◌, inl, inr, ℕ, ◌+◌, ◌<◌, ◌≤◌, true, List, [], length, take, get_or, Some, slice_get, sym, ap, subst, ◌∙◌, arith}
+use Rattle.std.specs.Cmp.{both_ways as same_tests}
 use Rattle.std.specs.Prelude.{slice_index, slice_index_or}
 use Rattle.std.proofs.lemmas.Bool.{cases_eq, or_cases, or_left, or_right, and_parts, and_from, lt-ltb}
 use Rattle.std.proofs.lemmas.Option.{same_Some, slice_get_within, get_or_from_slice_get}
 use Rattle.clause_kernel.specs.Rows.{word_has}
 use Rattle.farm_laws.proofs.Archive.{element, list_any-some, same-true, same-refl}
 use Rattle.farm_model.proofs.BelowLaws.{some_below-at, some_below-found}
-use Rattle.farm_model.proofs.TestLaws.{same_tests}
 use Rattle.farm_model.specs.declared.types.Variant.{Variant}
 use Rattle.farm_model.specs.Below.{some_below}
 use Rattle.farm_model.specs.Universe.{Universe}
 use Rattle.farm_model.specs.Packages.{variant, variants, same, contains, initial}
 use Rattle.farm_model.specs.Sound.{IsKnown, IsUniverse}
 use Rattle.plan_model.specs.Plan.{Plan, lane, lane_outputs}
-use Rattle.sat_rows.specs.Rows.{passes, IsWordFor}
+use Rattle.sat_rows.specs.Rows.{variant_passes, IsWordFor}
 use Rattle.wait_order.specs.declared.by_name.OutputPlace.{OutputPlace}
 use Rattle.wait_order.specs.declared.marks.LaneOutputs.{LaneOutputs}
 use Rattle.wait_order.specs.declared.marks.Output.{Output}
-use Rattle.wait_order.specs.ByName.{place, AreKnownLanes, AreListed}
+use Rattle.wait_order.specs.ByName.{place, AreKnownLanes, AreListedByName}
 use Rattle.wait_order.specs.Clock.{row_of, IsCounted}
 use Rattle.wait_order.specs.Marks.{AreLanes}
 use Rattle.wait_order.proofs.ClockRows.{first-made}
@@ -88,7 +88,7 @@ module _ (u : Universe) (p : Plan) (lanes : List LaneOutputs) (sound : IsUnivers
     (are : AreLanes u p lanes) (x : ℕ → ℕ) where
   -- an output that counts is in the row
   counted_in : (at : OutputPlace) (n b : ℕ) → IsCounted lanes x at n b
-      → passes u (row_of u p x) n b ≡ true
+      → variant_passes u (row_of u p x) n b ≡ true
   counted_in at n b is =
       let of = is.is.of in
       let outs = of.outputs.items in
@@ -113,7 +113,7 @@ module _ (u : Universe) (p : Plan) (lanes : List LaneOutputs) (sound : IsUnivers
       (omega (arith, lt, are.long)) made))
 
   -- what is in the row, and not from the start, is an output that counts and is listed
-  counted_back : (lists : List (List OutputPlace)) → AreListed lists lanes (length lanes)
+  counted_back : (lists : List (List OutputPlace)) → AreListedByName lists lanes (length lanes)
       → (n b : ℕ)
       → some_below (length p) (λ j. contains (take (x j) (lane_outputs u (lane p j))) (variant n b))
       ≡ true
@@ -145,7 +145,7 @@ module _ (u : Universe) (p : Plan) (lanes : List LaneOutputs) (sound : IsUnivers
         },
       )
 
-  pub word_is : (lists : List (List OutputPlace)) → AreListed lists lanes (length lanes)
+  pub word_is : (lists : List (List OutputPlace)) → AreListedByName lists lanes (length lanes)
       → (n first k word : ℕ) → first ≡ slice_index u.initial n
       → length (slice_index_or lists n []) ≤ k
       → IsWordSoFar lanes x (slice_index_or lists n []) n first k word

@@ -11,7 +11,7 @@ use Rattle.std.proofs.lemmas.List.Elements.{filter-append}
 use Rattle.plan_model.specs.declared.instructions.Instruction.{Instruction}
 use Rattle.plan_model.specs.declared.instructions.Instruction.TheVariants.{Wait}
 use Rattle.plan_model.specs.Plan.{Lane, Plan, lane}
-use Rattle.plan_model.specs.Order.{Item, items_of, items, Board, start_board, on_board, rest_of, board_after, IsOrder, AreStuck, IsAtRest}
+use Rattle.plan_model.specs.Order.{OrderItem, items_of, items, Board, start_board, on_board, rest_of, board_after, IsOrder, AreStuck, IsAtRest}
 use Rattle.sat_rows.specs.Rows.{IsRowOf}
 use Rattle.verdict_laws.specs.Stuck.{is_left, lanes_left, AreLeft}
 use Rattle.verdict_laws.proofs.AtRest.{each_rest_is_exact, lanes_left_are_left}
@@ -27,11 +27,11 @@ unfolding items
 items-end u is i le = ap (items u) (drop_of_length-le is le)
 
 -- a wait that does not pass
-record Blocked (u : Universe) (b : Board) (l : ℕ) (is : List Item) : Type 0 where
+record Blocked (u : Universe) (b : Board) (l : ℕ) (is : List OrderItem) : Type 0 where
   pub none : board_after u b l is ≡ None
   pub left : is_left is ≡ true
 
-blocked : (u : Universe) (b : Board) (l : ℕ) (t : List ℕ) (x : Instruction) (more : List Item)
+blocked : (u : Universe) (b : Board) (l : ℕ) (t : List ℕ) (x : Instruction) (more : List OrderItem)
     → IsRowOf u (on_board u b) t → Holds u t x → Blocked u b l (items_of u x ++ more)
 blocked u b l t (Wait e) more row holds =
     record { none = rw (holds (on_board u b) row) refl; left = refl }

@@ -9,7 +9,7 @@ use Rattle.sat_rows.proofs.Gathered.{each_next}
 use Rattle.wait_order.specs.declared.column.Source.{Source}
 use Rattle.wait_order.specs.declared.marks.Mark.{Mark}
 use Rattle.wait_order.specs.Entries.{IsLonger, AreFor}
-use Rattle.wait_order.specs.EntrySources.{IsNumber, AreNumbers, AreAllSources, AreFoundFor}
+use Rattle.wait_order.specs.EntrySources.{IsNumber, AreMarkNumbers, AreAllSources, AreFoundFor}
 use Rattle.wait_order.specs.Hits.{AreEntrySources}
 use Rattle.wait_order.specs.Marks.{all_marks, IsThere, AreThere}
 use Rattle.wait_order.proofs.KeptLaws.{for_at}
@@ -25,9 +25,9 @@ all_there u p marks are w mark at =
 
 -- one more number
 pub numbers_next : (p : Plan) (es more : List Entry) (marks : List Mark) (numbers next : List ℕ)
-    (k n : ℕ) (mark : Mark) → AreNumbers p es marks numbers k → IsLonger es more
+    (k n : ℕ) (mark : Mark) → AreMarkNumbers p es marks numbers k → IsLonger es more
     → slice_get marks k ≡ Some mark → IsNumber p more mark n → next ≡ numbers ++ n ∷ []
-    → AreNumbers p more marks next (k + 1)
+    → AreMarkNumbers p more marks next (k + 1)
 numbers_next p es more marks numbers next k n mark are longer at is items =
     record {
       long = ap length items ∙ length-append numbers (n ∷ []) ∙ ap (λ m. m + 1) are.long;
@@ -55,7 +55,7 @@ module _ {V : Type 0} (Is : Entry → V → Type 0) where
 
 -- under the number of a wait stand the sources of its entry
 pub found_for : (u : Universe) (p : Plan) (es : List Entry) (all : List (List Source))
-    (marks : List Mark) (numbers : List ℕ) → AreNumbers p es marks numbers (length marks)
+    (marks : List Mark) (numbers : List ℕ) → AreMarkNumbers p es marks numbers (length marks)
     → AreAllSources u p es all → AreFoundFor u p all marks numbers
 found_for u p es all marks numbers are sources =
     record {

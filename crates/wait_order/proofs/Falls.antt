@@ -5,14 +5,15 @@ use Rattle.std.proofs.lemmas.Option.{slice_get_read, slice_get_within, slice_get
 use Rattle.std.proofs.lemmas.Bool.{cases_eq}
 use Rattle.wait_order.specs.declared.column.Source.{Source}
 use Rattle.wait_order.specs.declared.column.Point.{Point}
-use Rattle.wait_order.specs.Column.{Counts, of_list, count_at, known, least, bound, IsIn, ArePlaced, IsPlaced, ArePointsIn, IsKnown, IsAbove, IsGreatestColumn}
+use Rattle.wait_order.specs.Column.{Counts, of_list, count_at, known, least, bound, IsPointBelow, ArePlaced, IsPlaced, ArePointsIn, AreKnownCounts, IsAbove, IsGreatestColumn}
 
-count_at-mono : (n : ℕ) (y x : Counts) (o : Option ℕ) → IsIn n o → ((w : ℕ) → w < n → y w ≤ x w)
+count_at-mono : (n : ℕ) (y x : Counts) (o : Option ℕ) → IsPointBelow n o
+    → ((w : ℕ) → w < n → y w ≤ x w)
     → count_at y o ≤ count_at x o
 count_at-mono n y x None placed h = omega arith
 count_at-mono n y x (Some w) placed h = h w placed
 
-known-mono : (n lane : ℕ) (y x : Counts) (s : Source) → IsIn n s.point
+known-mono : (n lane : ℕ) (y x : Counts) (s : Source) → IsPointBelow n s.point
     → ((w : ℕ) → w < n → y w ≤ x w) → known lane y s ≤ known lane x s
 known-mono n lane y x s placed h = by (s.lane == lane) (count_at-mono n y x s.point placed h)
   where
@@ -103,7 +104,7 @@ greatest-exact lane total ps xs placed few g w p at = let a = g.above next is w
         ≡ bound lane total (of_list xs) p
     next-at w p at = ap next_of at
 
-    is : IsKnown lane total ps next
+    is : AreKnownCounts lane total ps next
     is = record { few = λ w. low w (slice_get ps w) refl; bounded = λ w p at. up w p at }
       where
         low : (w : ℕ) (o : Option Point) → slice_get ps w ≡ o → next w ≤ total

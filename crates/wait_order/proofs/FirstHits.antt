@@ -12,7 +12,7 @@ use Rattle.wait_order.specs.declared.marks.LaneOutputs.{LaneOutputs}
 use Rattle.wait_order.specs.declared.marks.Output.{Output}
 use Rattle.wait_order.specs.Hits.{HasNoHit, AreKnownOutputs}
 use Rattle.wait_order.proofs.HitLaws.{out_known}
-use Rattle.wait_order.specs.ByName.{IsOutput, AreKnownLanes, AreListed, place, has, AreHits, IsEarliest, AreMoved, AreFirsts}
+use Rattle.wait_order.specs.ByName.{IsOutput, AreKnownLanes, AreListedByName, place, has, AreHits, IsEarliest, AreMoved, AreFirsts}
 
 module _ (row : List ℕ) (lanes : List LaneOutputs) where
   pub moved_not : (firsts : List ℕ) → AreMoved row lanes firsts firsts
@@ -91,7 +91,7 @@ module _ (row : List ℕ) (lanes : List LaneOutputs) where
 
   -- once the list of a name was gone over
   pub name_done : (lists : List (List OutputPlace)) (places : List OutputPlace) (firsts : List ℕ)
-      (name k : ℕ) → AreListed lists lanes (length lanes) → places ≡ get_or lists name []
+      (name k : ℕ) → AreListedByName lists lanes (length lanes) → places ≡ get_or lists name []
       → length places ≤ k → AreEarly places k firsts → IsEarliest row lanes firsts name
   name_done lists places firsts name k listed are end so_far l n o is named hit =
       let within = slice_get_within lanes l is.of is.lane in

@@ -15,7 +15,7 @@ use Rattle.verdict_laws.proofs.Unions.{there}
 use Rattle.verdict_laws.proofs.RowBefore.{row_before-le, each_place}
 use Rattle.wait_order.specs.declared.column.Source.{Source}
 use Rattle.wait_order.specs.declared.column.Point.{Point}
-use Rattle.wait_order.specs.Column.{Counts, of_list, count_at, least, bound, IsIn, ArePointsIn, IsGreatestColumn}
+use Rattle.wait_order.specs.Column.{Counts, of_list, count_at, least, bound, IsPointBelow, ArePointsIn, IsGreatestColumn}
 use Rattle.wait_order.specs.Points.{asked, one_point, point_number, last_point, IsNothing, IsSource, HasPoint, ArePoints}
 use Rattle.wait_order.proofs.Falls.{greatest-exact}
 use Rattle.wait_order.proofs.Numbering.{last-in, count-few}
@@ -25,22 +25,23 @@ use Rattle.wait_order.proofs.Bounds.{least-le, bound-own, bound-other}
 
 module _ (u : Universe) (p : Plan) (sound : IsSound u p) (ps : List Point)
     (points : ArePoints u p ps) where
-  pub last-there : (h k : ℕ) → h < length p → IsIn (length ps) (last_point p h k)
+  pub last-there : (h k : ℕ) → h < length p → IsPointBelow (length ps) (last_point p h k)
   last-there h k lt =
-      subst (λ n. IsIn n (last_point p h k)) (sym points.long) (last-in p h k lt)
+      subst (λ n. IsPointBelow n (last_point p h k)) (sym points.long) (last-in p h k lt)
 
   placed_source : (l i : ℕ) (test : Variant → Bool) (s : Source)
-      → IsNothing u test s ⊎ IsSource u p l i test s → IsIn (length ps) s.point
-  placed_source l i test s (inl none) = subst (IsIn (length ps)) (sym none.point) tt
+      → IsNothing u test s ⊎ IsSource u p l i test s → IsPointBelow (length ps) s.point
+  placed_source l i test s (inl none) = subst (IsPointBelow (length ps)) (sym none.point) tt
   placed_source l i test s (inr one) =
-      subst (IsIn (length ps)) (sym one.point) (last-there s.lane one.place one.below)
+      subst (IsPointBelow (length ps)) (sym one.point) (last-there s.lane one.place one.below)
 
   pub points_in : ArePointsIn (length ps) ps
   points_in k d lt =
       let of = get_or ps k d in
       let w = points.back k of (slice_get-get_or ps k d lt) in
       record {
-        before = subst (IsIn (length ps)) (sym w.is.before) (last-there w.lane w.place w.below);
+        before = subst (IsPointBelow (length ps)) (sym w.is.before)
+            (last-there w.lane w.place w.below);
         sources = λ n s n_lt.
             placed_source w.lane w.place w.test (get_or of.sources.items n s)
             (w.is.sources.sound n (get_or of.sources.items n s)

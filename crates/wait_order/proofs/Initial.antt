@@ -1,13 +1,13 @@
 -- The initial archive as a row.
 use Rattle.std.proofs.Common.{◌≡◌, inl, inr, ℕ, ◌+◌, ◌<◌, List, true, slice_index, refl, sym, ap, ◌∙◌, arith}
+use Rattle.std.specs.Cmp.{both_ways as same_tests}
 use Rattle.std.proofs.lemmas.Bool.{cases_eq, and_parts, and_from, lt-ltb, eq-eqb, ne_eqb}
 use Rattle.bit_rows.specs.Sets.{variants_of, ReplacesName}
 use Rattle.clause_kernel.specs.Rows.{word_has}
-use Rattle.farm_model.proofs.TestLaws.{same_tests}
 use Rattle.farm_model.specs.Universe.{Universe}
 use Rattle.farm_model.specs.Packages.{variant, variants, initial, has_bit}
 use Rattle.farm_model.specs.Sound.{IsUniverse}
-use Rattle.sat_rows.specs.Rows.{passes}
+use Rattle.sat_rows.specs.Rows.{variant_passes}
 
 initial-bit : (u : Universe) (n b : ℕ)
     → initial u (variant n b) ≡ word_has (slice_index u.initial n) b
@@ -16,7 +16,7 @@ initial-bit u n b = refl
 
 -- the bits of a word of the initial archive are its variants
 pub initial_word : (u : Universe) (n b : ℕ) → IsUniverse u
-    → word_has (slice_index u.initial n) b ≡ passes u (initial u) n b
+    → word_has (slice_index u.initial n) b ≡ variant_passes u (initial u) n b
 initial_word u n b sound =
     same_tests _ _
     (λ h.
@@ -27,8 +27,8 @@ initial_word u n b sound =
 -- one more name
 pub initial_more : (u : Universe) (row next : List ℕ) (i word : ℕ) → IsUniverse u
     → word ≡ slice_index u.initial i → ReplacesName (variants_of row) i word (variants_of next)
-    → ((n b : ℕ) → n < i → variants_of row n b ≡ passes u (initial u) n b)
-    → (n b : ℕ) → n < i + 1 → variants_of next n b ≡ passes u (initial u) n b
+    → ((n b : ℕ) → n < i → variants_of row n b ≡ variant_passes u (initial u) n b)
+    → (n b : ℕ) → n < i + 1 → variants_of next n b ≡ variant_passes u (initial u) n b
 initial_more u row next i word sound is replaced old n b lt =
     elim (cases_eq n i) [
       | inl here ↦

@@ -15,14 +15,14 @@ use Rattle.plan_model.specs.declared.instructions.Instruction.{Instruction}
 use Rattle.plan_model.specs.declared.instructions.Instruction.TheVariants.{Wait}
 use Rattle.plan_model.specs.Plan.{Plan, lane, instruction_at}
 use Rattle.plan_model.specs.Turn as turn
-use Rattle.plan_model.specs.Order.{Item, Pass, Give, items_of, items}
+use Rattle.plan_model.specs.Order.{OrderItem, Pass, Give, items_of, items}
 use Rattle.sat_rows.specs.Rows.{IsRowOf}
 use Rattle.wait_order.specs.declared.standing.Standing.{Standing}
 use Rattle.wait_order.specs.Standing.{items_at, with_left, Makes, IsHeldAt, IsMade, IsStanding, Leads, IsAdvance}
 use Rattle.wait_order.proofs.Boards.{reached_same, with_left-here, pass_one, give_one}
 
 -- what is left last is what is left
-with_left-twice : (left : ℕ → List Item) (l : ℕ) (is more : List Item) (k : ℕ)
+with_left-twice : (left : ℕ → List OrderItem) (l : ℕ) (is more : List OrderItem) (k : ℕ)
     → with_left (with_left left l is) l more k ≡ with_left left l more k
 with_left-twice left l is more k =
     elim (cases_eq k l) [
@@ -30,7 +30,7 @@ with_left-twice left l is more k =
       | inr other ↦ rw (ne_eqb k l other) refl
     ]
 
-with_left-same : (left : ℕ → List Item) (l : ℕ) (is : List Item) → left l ≡ is → (k : ℕ)
+with_left-same : (left : ℕ → List OrderItem) (l : ℕ) (is : List OrderItem) → left l ≡ is → (k : ℕ)
     → left k ≡ with_left left l is k
 with_left-same left l is e k =
     elim (cases_eq k l) [

@@ -20,7 +20,7 @@ use Rattle.clock_laws.proofs.Sets.{some_below_length}
 use Rattle.clock_laws.proofs.Greatest.{greatest_clocks_are_greatest}
 use Rattle.wait_order.specs.declared.column.Source.{Source}
 use Rattle.wait_order.specs.declared.column.Point.{Point}
-use Rattle.wait_order.specs.Column.{Counts, of_list, count_at, known, least, bound, IsIn, IsKnown, IsGreatestColumn}
+use Rattle.wait_order.specs.Column.{Counts, of_list, count_at, known, least, bound, IsPointBelow, AreKnownCounts, IsGreatestColumn}
 use Rattle.wait_order.specs.Points.{one_point, point_number, last_point, IsNothing, IsSource, HasFirst, AreSources, ArePoints, clock_of}
 use Rattle.wait_order.proofs.Numbering.{count-next, count-start, count-mono}
 use Rattle.wait_order.proofs.Asked.{Asks, quiet_or_asks, asks-one, asks-row, asks-makes, learns-asked, adds-asked, learns-quiet}
@@ -275,7 +275,7 @@ module _ (u : Universe) (p : Plan) (sound : IsSound u p) (ps : List Point)
               (omega (arith, k_lt)) in
               omega (arith, a, b, d, f)
 
-      theirs-known : (j : ℕ) → j < length p → IsKnown j (total j) ps (theirs j)
+      theirs-known : (j : ℕ) → j < length p → AreKnownCounts j (total j) ps (theirs j)
       unfolding theirs value
       theirs-known j j_lt = record { few = λ w. few (slice_get ps w); bounded = bounded }
         where
@@ -338,7 +338,7 @@ module _ (u : Universe) (p : Plan) (sound : IsSound u p) (ps : List Point)
                 omega (arith, a, b, x-other l i j other)
           ]
         where
-          within_last : (o : Option ℕ) → IsIn (length ps) o
+          within_last : (o : Option ℕ) → IsPointBelow (length ps) o
               → count_at (theirs j) o ≤ count_at (counts j) o
           within_last None placed = omega arith
           within_last (Some w) placed = (greatest j j_lt).above (theirs j) (theirs-known j j_lt) w

@@ -7,10 +7,11 @@ use Rattle.std.proofs.lemmas.Option.{slice_get_within, slice_get-get_or, get_or_
 use Rattle.wait_order.specs.declared.by_name.OutputPlace.{OutputPlace}
 use Rattle.wait_order.specs.declared.marks.LaneOutputs.{LaneOutputs}
 use Rattle.wait_order.specs.declared.marks.Output.{Output}
-use Rattle.wait_order.specs.ByName.{place, IsIn, IsListed, with_listed, IsKept, AreLaneListed, AreListed}
+use Rattle.wait_order.specs.ByName.{place, IsAmongPlaces, IsListedByName, with_place_listed, KeepsListed, AreLaneListed, AreListedByName}
 
 -- a list keeps its places as one more comes
-in_more : (list : List OutputPlace) (a b : OutputPlace) → IsIn list b → IsIn (list ++ a ∷ []) b
+in_more : (list : List OutputPlace) (a b : OutputPlace) → IsAmongPlaces list b
+    → IsAmongPlaces (list ++ a ∷ []) b
 in_more list a b there =
     let lt = slice_get_within list there.0 b there.1 in
     let long : there.0 < length (list ++ a ∷ []) = omega (arith, length-append list (a ∷ [])) in (
@@ -20,7 +21,7 @@ in_more list a b there =
           ∙ get_or_from_slice_get list there.0 b b there.1),
     )
 
-in_last : (list : List OutputPlace) (a : OutputPlace) → IsIn (list ++ a ∷ []) a
+in_last : (list : List OutputPlace) (a : OutputPlace) → IsAmongPlaces (list ++ a ∷ []) a
 in_last list a =
     let long : length list < length (list ++ a ∷ []) = omega (arith, length-append list (a ∷ [])) in (
       length list,
@@ -31,30 +32,32 @@ in_last list a =
 -- one more place under a name: what was listed still is, and it is listed
 module _ (lists : List (List OutputPlace)) (name : ℕ) (at : OutputPlace)
     (lt : name < length lists) where
-  there : get_or (with_listed lists name at) name [] ≡ get_or lists name [] ++ at ∷ []
+  there : get_or (with_place_listed lists name at) name [] ≡ get_or lists name [] ++ at ∷ []
   there = get_or-set_same lists name _ [] lt
 
-  kept_at : (other : ℕ) (b : OutputPlace) → IsListed lists other b
-      → IsListed (with_listed lists name at) other b
+  kept_at : (other : ℕ) (b : OutputPlace) → IsListedByName lists other b
+      → IsListedByName (with_place_listed lists name at) other b
   kept_at other b is =
       elim (cases_eq other name) [
         | inl same ↦
-            subst (λ n. IsListed (with_listed lists name at) n b) (sym same)
-            (subst (λ list. IsIn list b) (sym there)
+            subst (λ n. IsListedByName (with_place_listed lists name at) n b) (sym same)
+            (subst (λ list. IsAmongPlaces list b) (sym there)
             (in_more (get_or lists name []) at b
-            (subst (λ n. IsListed lists n b) same is)))
+            (subst (λ n. IsListedByName lists n b) same is)))
         | inr differs ↦
-            subst (λ list. IsIn list b) (sym (get_or-set_other lists name other _ [] differs)) is
+            subst (λ list. IsAmongPlaces list b)
+            (sym (get_or-set_other lists name other _ [] differs)) is
       ]
 
-  pub IsKept-with_listed : IsKept lists (with_listed lists name at)
+  pub IsKept-with_listed : KeepsListed lists (with_place_listed lists name at)
   IsKept-with_listed = record { long = length-set lists name _; kept = kept_at }
 
-  pub IsListed-with_listed : IsListed (with_listed lists name at) name at
-  IsListed-with_listed = subst (λ list. IsIn list at) (sym there)
+  pub IsListed-with_listed : IsListedByName (with_place_listed lists name at) name at
+  IsListed-with_listed = subst (λ list. IsAmongPlaces list at) (sym there)
       (in_last (get_or lists name []) at)
 
-pub kept_trans : (a b c : List (List OutputPlace)) → IsKept a b → IsKept b c → IsKept a c
+pub kept_trans : (a b c : List (List OutputPlace)) → KeepsListed a b → KeepsListed b c
+    → KeepsListed a c
 kept_trans a b c first next =
     record {
       long = next.long ∙ first.long;
@@ -63,24 +66,25 @@ kept_trans a b c first next =
 
 -- one more output of a lane
 pub lane_next : (old new : List (List OutputPlace)) (l n : ℕ) (outs : List Output) (d : Output)
-    → IsKept old new → AreLaneListed old l outs n
-    → IsListed new (get_or outs n d).variant.name (place l n) → AreLaneListed new l outs (n + 1)
+    → KeepsListed old new → AreLaneListed old l outs n
+    → IsListedByName new (get_or outs n d).variant.name (place l n)
+    → AreLaneListed new l outs (n + 1)
 lane_next old new l n outs d kept so_far here m o lt at =
     elim (cases_eq m n) [
       | inl same ↦
           let found : get_or outs n d ≡ o =
           get_or_from_slice_get outs n o d (ap (slice_get outs) (sym same) ∙ at) in
-          subst (λ k. IsListed new o.variant.name (place l k)) (sym same)
-          (subst (λ (w : Output). IsListed new w.variant.name (place l n)) found here)
+          subst (λ k. IsListedByName new o.variant.name (place l k)) (sym same)
+          (subst (λ (w : Output). IsListedByName new w.variant.name (place l n)) found here)
       | inr other ↦
           kept.kept o.variant.name (place l m) (so_far m o (omega (arith, lt, other)) at)
     ]
 
 -- one more lane
 pub lanes_next : (old new : List (List OutputPlace)) (l : ℕ) (lanes : List LaneOutputs)
-    (outs : List Output) → IsKept old new → AreListed old lanes l
+    (outs : List Output) → KeepsListed old new → AreListedByName old lanes l
     → ((of : LaneOutputs) → slice_get lanes l ≡ Some of → outs ≡ of.outputs.items)
-    → AreLaneListed new l outs (length outs) → AreListed new lanes (l + 1)
+    → AreLaneListed new l outs (length outs) → AreListedByName new lanes (l + 1)
 lanes_next old new l lanes outs kept so_far is here k of lt at =
     elim (cases_eq k l) [
       | inl same ↦

@@ -11,7 +11,7 @@ use Rattle.plan_model.specs.declared.instructions.Instruction.TheVariants.{Wait,
 use Rattle.plan_model.specs.Plan.{Plan, lane, instruction_at, outputs_of, lane_outputs, outputs_before}
 use Rattle.clock_laws.proofs.Made.{made}
 use Rattle.wait_order.specs.declared.marks.LastPoints.{LastPoints}
-use Rattle.wait_order.specs.Column.{IsIn}
+use Rattle.wait_order.specs.Column.{IsPointBelow}
 use Rattle.wait_order.specs.Points.{one_point, point_count, points_before, first_point, point_number, last_after, last_after_some, lasts_at, last_point}
 
 point_count-append : (xs ys : List Instruction) → point_count (xs ++ ys) ≡ point_count xs +
@@ -48,8 +48,8 @@ sum_below-le (suc n) l f lt =
 
 -- the points of a state are below a number
 record AreIn (n : ℕ) (last : LastPoints) : Type 0 where
-  pub here : IsIn n last.here
-  pub ahead : IsIn n last.ahead
+  pub here : IsPointBelow n last.here
+  pub ahead : IsPointBelow n last.ahead
 
 in-after : (x : Instruction) (next n : ℕ) (last : LastPoints) → next + one_point x ≤ n
     → AreIn n last → AreIn n (last_after x next last)
@@ -76,7 +76,7 @@ lasts-in p l n (suc i) le = by (instruction_at p l i) refl (lasts-in p l n i le)
 
 -- the point of a place is one of the plan's
 pub last-in : (p : Plan) (l i : ℕ) → l < length p
-    → IsIn (first_point p (length p)) (last_point p l i)
+    → IsPointBelow (first_point p (length p)) (last_point p l i)
 last-in p l i lt =
     (lasts-in p l (first_point p (length p)) i
     (sum_below-le (length p) l (λ h. point_count (lane p h).instructions) lt)).here

@@ -1,5 +1,6 @@
 -- A wait passes where the rows of its entry and of the archive have a common variant.
 use Rattle.std.proofs.Common.{◌≡◌, ℕ, Bool, true, ◌&&◌, nat_lt, List, sym, ◌∙◌}
+use Rattle.std.specs.Cmp.{both_ways as same_tests}
 use Rattle.std.specs.Prelude.{◌↔◌, IsTrue}
 use Rattle.std.proofs.lemmas.Bool.{and_parts, and_from, lt-ltb, ltb-true}
 use Rattle.bit_rows.specs.Sets.{variants_of, HaveCommon}
@@ -9,7 +10,6 @@ use Rattle.farm_model.specs.Below.{some_below}
 use Rattle.farm_model.specs.Universe.{Universe}
 use Rattle.farm_model.specs.Packages.{variant, names, variants, satisfies_entry}
 use Rattle.farm_model.proofs.BelowLaws.{some_below-at, some_below-found}
-use Rattle.farm_model.proofs.TestLaws.{same_tests}
 use Rattle.farm_universe.proofs.PlaceLaws.{named}
 use Rattle.plan_model.specs.Turn as turn
 use Rattle.sat_rows.specs.Rows.{IsRowOf}

@@ -8,7 +8,7 @@ use Rattle.wait_order.specs.declared.column.Source.{Source}
 use Rattle.wait_order.specs.declared.column.Point.{Point}
 use Rattle.wait_order.specs.declared.visit.Visit.{Visit}
 use Rattle.wait_order.specs.Column.{Counts, of_list, count_at, known, least, bound, IsAbove, IsGreatestColumn}
-use Rattle.wait_order.specs.Visit.{IsEarlier, IsReady, IsInTurn, IsVisit, AreSettled}
+use Rattle.wait_order.specs.Visit.{IsEarlier, BuildsOnEarlier, IsInTurn, IsVisit, AreSettled}
 
 -- counts that agree on the points before place k
 record AgreeBefore (places : List ℕ) (k : ℕ) (x y : Counts) : Type 0 where
@@ -37,7 +37,8 @@ least-same lane places k x y best (s ∷ ss) early same =
 
 -- a point may know the same where all that it builds on does
 bound-same : (lane total : ℕ) (places : List ℕ) (k : ℕ) (x y : Counts) (p : Point)
-    → IsReady places k p → AgreeBefore places k x y → bound lane total x p ≡ bound lane total y p
+    → BuildsOnEarlier places k p → AgreeBefore places k x y
+    → bound lane total x p ≡ bound lane total y p
 unfolding bound
 bound-same lane total places k x y p ready same =
     ap (λ n. if p.lane == lane then p.own else max n (least lane x total p.sources.items))

@@ -1,5 +1,6 @@
 -- Words that are taken from the counts of one clock to those of another.
 use Rattle.std.proofs.Common.{◌≡◌, ℕ, ◌*◌, ◌%◌, ◌^◌, ◌<◌, ◌≤◌, Bool, true, false, ◌||◌, List, length, take, bit_or, set, inl, inr, refl, sym, ap, subst, ◌∙◌, arith}
+use Rattle.std.specs.Cmp.{both_ways as same_tests}
 use Rattle.std.specs.Prelude.{slice_index}
 use Rattle.std.proofs.Math.Bool.{or-false}
 use Rattle.std.proofs.lemmas.Bool.{or_cases, or_left, or_right}
@@ -9,7 +10,6 @@ use Rattle.bit_rows.specs.Sets.{variants_of, AddsVariant}
 use Rattle.clause_kernel.specs.Rows.{word_has}
 use Rattle.farm_laws.proofs.Archive.{list_any-some}
 use Rattle.farm_model.proofs.BelowLaws.{some_below-at, some_below-mono, some_below-none}
-use Rattle.farm_model.proofs.TestLaws.{same_tests}
 use Rattle.farm_model.specs.declared.types.Variant.{Variant}
 use Rattle.farm_model.specs.Universe.{Universe}
 use Rattle.farm_model.specs.Packages.{same, contains, initial}

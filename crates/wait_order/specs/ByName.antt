@@ -3,7 +3,7 @@
 -- output, lists the places of outputs by name.
 --
 --   IsOutput, AreKnownLanes    output n of lane l; each is of the universe
---   IsListed, AreListed        a place under a name; each output under its name
+--   IsListedByName, AreListedByName  a place under a name; each output under its name
 --   AreHits, IsEarliest        numbers, for each lane one, of outputs that the row has, of each
 --   name
 --                              none later than the first
@@ -30,31 +30,31 @@ abbrev pub place : ℕ → ℕ → OutputPlace
 place l n = record { lane = l; number = n }
 
 -- the place stands in the list
-abbrev pub IsIn : List OutputPlace → OutputPlace → Type 0
-IsIn list at = (k : ℕ) × (slice_get list k ≡ Some at)
+abbrev pub IsAmongPlaces : List OutputPlace → OutputPlace → Type 0
+IsAmongPlaces list at = (k : ℕ) × (slice_get list k ≡ Some at)
 
 -- the place is listed under the name
-abbrev pub IsListed : List (List OutputPlace) → ℕ → OutputPlace → Type 0
-IsListed lists name at = IsIn (slice_index_or lists name []) at
+abbrev pub IsListedByName : List (List OutputPlace) → ℕ → OutputPlace → Type 0
+IsListedByName lists name at = IsAmongPlaces (slice_index_or lists name []) at
 
 -- one more place under a name
-abbrev pub with_listed : List (List OutputPlace) → ℕ → OutputPlace → List (List OutputPlace)
-with_listed lists name at = slice_set lists name (slice_index_or lists name [] ++ at ∷ [])
+abbrev pub with_place_listed : List (List OutputPlace) → ℕ → OutputPlace → List (List OutputPlace)
+with_place_listed lists name at = slice_set lists name (slice_index_or lists name [] ++ at ∷ [])
 
 -- what was listed still is
-pub record IsKept (old new : List (List OutputPlace)) : Type 0 where
+pub record KeepsListed (old new : List (List OutputPlace)) : Type 0 where
   pub long : length new ≡ length old
-  pub kept : (name : ℕ) (at : OutputPlace) → IsListed old name at → IsListed new name at
+  pub kept : (name : ℕ) (at : OutputPlace) → IsListedByName old name at → IsListedByName new name at
 
 -- the first k outputs of lane l are listed under their names
 abbrev pub AreLaneListed : List (List OutputPlace) → ℕ → List Output → ℕ → Type 0
 AreLaneListed lists l outs k =
     (n : ℕ) (o : Output) → n < k → slice_get outs n ≡ Some o
-    → IsListed lists o.variant.name (place l n)
+    → IsListedByName lists o.variant.name (place l n)
 
 -- each output of the first k lanes is listed under its name
-abbrev pub AreListed : List (List OutputPlace) → List LaneOutputs → ℕ → Type 0
-AreListed lists lanes k =
+abbrev pub AreListedByName : List (List OutputPlace) → List LaneOutputs → ℕ → Type 0
+AreListedByName lists lanes k =
     (l : ℕ) (of : LaneOutputs) → l < k → slice_get lanes l ≡ Some of
     → AreLaneListed lists l of.outputs.items (length of.outputs.items)
 

@@ -17,7 +17,7 @@ use Rattle.wait_order.specs.declared.clock.Clock.{Clock}
 use Rattle.wait_order.specs.declared.marks.LaneOutputs.{LaneOutputs}
 use Rattle.wait_order.specs.declared.marks.Output.{Output}
 use Rattle.wait_order.specs.ByName.{IsOutput}
-use Rattle.wait_order.specs.Column.{count_at, IsIn}
+use Rattle.wait_order.specs.Column.{count_at, IsPointBelow}
 use Rattle.wait_order.specs.Columns.{column_of, counts_of}
 
 -- of its own lane the outputs made, of another those that its last point knows
@@ -28,7 +28,7 @@ count_of clock j =
 -- the last point has a count of each of so many lanes
 pub record IsClockFor (lanes : ℕ) (clock : Clock) : Type 0 where
   pub long : length clock.columns.now ≡ lanes
-  pub there : (j : ℕ) → j < lanes → IsIn (length (column_of clock.columns.now j)) clock.last
+  pub there : (j : ℕ) → j < lanes → IsPointBelow (length (column_of clock.columns.now j)) clock.last
 
 -- the initial archive, and of each lane so many outputs
 abbrev pub row_of : Universe → Plan → (ℕ → ℕ) → Variant → Bool

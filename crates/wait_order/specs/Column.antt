@@ -29,28 +29,28 @@ unfoldable pub bound : ℕ → ℕ → Counts → Point → ℕ
 bound lane total x p = if p.lane == lane then p.own else max (count_at x p.before)
     (least lane x total p.sources.items)
 
-abbrev pub IsIn : ℕ → Option ℕ → Type 0
-IsIn n None = Unit {0}
-IsIn n (Some w) = w < n
+abbrev pub IsPointBelow : ℕ → Option ℕ → Type 0
+IsPointBelow n None = Unit {0}
+IsPointBelow n (Some w) = w < n
 
 abbrev pub ArePlaced : ℕ → List Source → Type 0
-ArePlaced n ss = All (λ (s : Source). IsIn n s.point) ss
+ArePlaced n ss = All (λ (s : Source). IsPointBelow n s.point) ss
 
 pub record IsPlaced (n : ℕ) (p : Point) : Type 0 where
-  pub before : IsIn n p.before
+  pub before : IsPointBelow n p.before
   pub sources : ArePlaced n p.sources.items
 
 abbrev pub ArePointsIn : ℕ → List Point → Type 0
 ArePointsIn n ps = All (IsPlaced n) ps
 
 -- counts that know no more than they may
-pub record IsKnown (lane total : ℕ) (ps : List Point) (y : Counts) : Type 0 where
+pub record AreKnownCounts (lane total : ℕ) (ps : List Point) (y : Counts) : Type 0 where
   pub few : (w : ℕ) → y w ≤ total
   pub bounded : (w : ℕ) (p : Point) → slice_get ps w ≡ Some p → y w ≤ bound lane total y p
 
 -- all such counts lie within these
 abbrev pub IsAbove : ℕ → ℕ → List Point → List ℕ → Type 0
-IsAbove lane total ps xs = (y : Counts) → IsKnown lane total ps y → (w : ℕ) → w < length ps
+IsAbove lane total ps xs = (y : Counts) → AreKnownCounts lane total ps y → (w : ℕ) → w < length ps
     → y w ≤ slice_index xs w
 
 pub record IsGreatestColumn (lane total : ℕ) (ps : List Point) (xs : List ℕ) : Type 0 where

@@ -2,7 +2,7 @@
 -- Parameters: u a universe, p a plan, es the entries, marks the points of the plan, numbers for each
 -- of them one, all for each of the entries its sources.
 --
---   IsNumber, AreNumbers      the entry of a wait has this number
+--   IsNumber, AreMarkNumbers  the entry of a wait has this number
 --   AreAllSources             the sources of each entry
 --   IsFoundFor, AreFoundFor   the sources of the entry of a wait stand under this number
 use Rattle.std.specs.Prelude.{◌≡◌, ℕ, ◌<◌, List, [], length, Some, slice_get, slice_index, slice_index_or}
@@ -20,7 +20,8 @@ IsNumber p es mark n =
     (e : Entry) → instruction_at p mark.lane mark.place ≡ Some (Wait e) → slice_get es n ≡ Some e
 
 -- those of the marks below k
-pub record AreNumbers (p : Plan) (es : List Entry) (marks : List Mark) (numbers : List ℕ) (k : ℕ)
+pub record AreMarkNumbers (p : Plan) (es : List Entry) (marks : List Mark) (numbers : List ℕ)
+    (k : ℕ)
     : Type 0 where
   pub long : length numbers ≡ k
   pub each : (w : ℕ) (mark : Mark) → w < k → slice_get marks w ≡ Some mark

@@ -22,7 +22,7 @@ HasNoHit row outs n =
     → variants_of row o.variant.name o.variant.bit ≡ false
 
 -- output n is the first one below the limit that the row has
-pub record IsFirstHit (row : List ℕ) (outs : List Output) (limit n : ℕ) : Type 0 where
+pub record IsFirstOutputHit (row : List ℕ) (outs : List Output) (limit n : ℕ) : Type 0 where
   pub below : n < limit
   pub hit : (o : Output) → slice_get outs n ≡ Some o
       → variants_of row o.variant.name o.variant.bit ≡ true
@@ -30,7 +30,7 @@ pub record IsFirstHit (row : List ℕ) (outs : List Output) (limit n : ℕ) : Ty
 
 -- n is the number of the first output that the row has, or of none where it has none
 pub record IsFirst (row : List ℕ) (outs : List Output) (n : ℕ) : Type 0 where
-  pub hit : n < length outs → IsFirstHit row outs (length outs) n
+  pub hit : n < length outs → IsFirstOutputHit row outs (length outs) n
   pub none : length outs ≤ n → HasNoHit row outs (length outs)
 
 abbrev pub AreKnownOutputs : Universe → List Output → Type 0
@@ -41,7 +41,7 @@ pub record IsHitSource (row : List ℕ) (outs : List Output) (limit l : ℕ) (s 
     : Type 0 where
   pub number : ℕ
   pub output : Output
-  pub first : IsFirstHit row outs limit number
+  pub first : IsFirstOutputHit row outs limit number
   pub at : slice_get outs number ≡ Some output
   pub is : s ≡ record { point = output.point; lane = l; count = number + 1 }
 

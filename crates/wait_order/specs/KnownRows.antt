@@ -2,7 +2,7 @@
 -- plan, columns how many outputs of each lane each wait and `when` knows.
 --
 --   KnownRows                the universe and the plan, and the columns
---   known_rows, rows_of      what the columns tell at each place
+--   column_rows, rows_of     what the columns tell at each place
 --   HasCounts                each point has a count in each column
 --   Knowledge                known rows of a plan, however they are kept
 use Rattle.std.specs.Prelude.{◌≡◌, ℕ, ◌<◌, List, length}
@@ -19,11 +19,11 @@ pub record KnownRows : Type 0 where
   pub columns : List (List ℕ)
 
 -- what the columns tell at each place
-abbrev pub known_rows : Universe → Plan → List (List ℕ) → Rows
-known_rows u p columns = clock_rows u p (clock_of u p (counts_of columns))
+abbrev pub column_rows : Universe → Plan → List (List ℕ) → Rows
+column_rows u p columns = clock_rows u p (clock_of u p (counts_of columns))
 
 abbrev pub rows_of : KnownRows → Rows
-rows_of known = known_rows known.universe known.plan known.columns
+rows_of known = column_rows known.universe known.plan known.columns
 
 -- each wait and `when` of the plan has a count of the outputs of each lane
 pub record HasCounts (p : Plan) (columns : List (List ℕ)) : Type 0 where

@@ -3,7 +3,7 @@
 --
 --   PlanOutputs     the universe and the plan that they are about
 --   AreTotals       as a point would have them that knows all outputs
---   AreOutputs      what is kept of them
+--   AreOutputsOfPlan  what is kept of them
 use Rattle.std.specs.Prelude.{◌≡◌, ℕ, ◌<◌, List, [], ◌∷◌, length}
 use Rattle.farm_model.specs.Universe.{Universe}
 use Rattle.farm_model.specs.Packages.{names}
@@ -11,7 +11,7 @@ use Rattle.plan_model.specs.Plan.{Plan, lane, lane_outputs}
 use Rattle.plan_model.specs.Sound.{IsSound}
 use Rattle.wait_order.specs.declared.by_name.OutputPlace.{OutputPlace}
 use Rattle.wait_order.specs.declared.marks.LaneOutputs.{LaneOutputs}
-use Rattle.wait_order.specs.ByName.{AreListed}
+use Rattle.wait_order.specs.ByName.{AreListedByName}
 use Rattle.wait_order.specs.Columns.{column_of}
 use Rattle.wait_order.specs.Marks.{AreLanes, HavePast}
 
@@ -24,11 +24,11 @@ pub record AreTotals (u : Universe) (p : Plan) (n : ℕ) (totals : List (List �
   pub long : length totals ≡ n
   pub each : (j : ℕ) → j < n → column_of totals j ≡ length (lane_outputs u (lane p j)) ∷ []
 
-pub record AreOutputs (u : Universe) (p : Plan) (lanes : List LaneOutputs)
+pub record AreOutputsOfPlan (u : Universe) (p : Plan) (lanes : List LaneOutputs)
     (lists : List (List OutputPlace)) (totals : List (List ℕ)) : Type 0 where
   pub sound : IsSound u p
   pub are : AreLanes u p lanes
   pub past : HavePast u p lanes
   pub named : length lists ≡ names u
-  pub listed : AreListed lists lanes (length lanes)
+  pub listed : AreListedByName lists lanes (length lanes)
   pub in_all : AreTotals u p (length p) totals

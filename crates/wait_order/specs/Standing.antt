@@ -16,16 +16,16 @@ use Rattle.plan_model.specs.declared.instructions.Instruction.{Instruction}
 use Rattle.plan_model.specs.declared.instructions.Instruction.TheVariants.{Wait}
 use Rattle.plan_model.specs.Plan.{Plan, lane, instruction_at}
 use Rattle.plan_model.specs.Turn.{passes}
-use Rattle.plan_model.specs.Order.{Item, items_of, items, Board, start_board, on_board, rest_of, Reaches}
+use Rattle.plan_model.specs.Order.{OrderItem, items_of, items, Board, start_board, on_board, rest_of, Reaches}
 use Rattle.sat_rows.specs.Rows.{IsRowOf}
 use Rattle.wait_order.specs.declared.standing.Standing.{Standing}
 
 -- what lane l has left of its waits and outputs at place i
-abbrev pub items_at : Universe → Plan → ℕ → ℕ → List Item
+abbrev pub items_at : Universe → Plan → ℕ → ℕ → List OrderItem
 items_at u p l i = items u (drop i (lane p l).instructions)
 
 -- the list leads to a board with this archive, on which the lanes have left what `left` says
-pub record IsReached (u : Universe) (p : Plan) (order there : List ℕ) (left : ℕ → List Item)
+pub record IsReached (u : Universe) (p : Plan) (order there : List ℕ) (left : ℕ → List OrderItem)
     : Type 0 where
   pub board : Board
   pub way : Reaches u (start_board u p) order board
@@ -34,13 +34,13 @@ pub record IsReached (u : Universe) (p : Plan) (order there : List ℕ) (left : 
   pub archive : IsRowOf u (on_board u board) there
 
 -- with something else left in lane l
-abbrev pub with_left : (ℕ → List Item) → ℕ → List Item → ℕ → List Item
+abbrev pub with_left : (ℕ → List OrderItem) → ℕ → List OrderItem → ℕ → List OrderItem
 with_left left l is k = if k == l then is else left k
 
 -- where lane l has these items ahead, they are made
-abbrev pub Makes : Universe → ℕ → List Item → List ℕ → List ℕ → List ℕ → List ℕ → Type 0
+abbrev pub Makes : Universe → ℕ → List OrderItem → List ℕ → List ℕ → List ℕ → List ℕ → Type 0
 Makes u l is order there next_order next_there =
-    (p : Plan) (left : ℕ → List Item) (more : List Item) → l < length p
+    (p : Plan) (left : ℕ → List OrderItem) (more : List OrderItem) → l < length p
     → IsReached u p order there left → left l ≡ is ++ more
     → IsReached u p next_order next_there (with_left left l more)
 
@@ -68,7 +68,7 @@ pub record IsStanding (u : Universe) (p : Plan) (l : ℕ) (at : Standing) : Type
 -- where lane l stands at place i, it goes on to place j
 abbrev pub Leads : Universe → Plan → ℕ → ℕ → ℕ → List ℕ → List ℕ → List ℕ → List ℕ → Type 0
 Leads u p l i j order there next_order next_there =
-    (left : ℕ → List Item) → IsReached u p order there left → left l ≡ items_at u p l i
+    (left : ℕ → List OrderItem) → IsReached u p order there left → left l ≡ items_at u p l i
     → IsReached u p next_order next_there (with_left left l (items_at u p l j))
 
 -- a lane goes on as far as it can
@@ -97,7 +97,7 @@ pub record AreStanding (u : Universe) (p : Plan) (ats : List Standing) : Type 0 
   pub each : (l : ℕ) → l < length p → IsStanding u p l (slice_index_or ats l no_standing)
 
 -- what the lanes have left
-abbrev pub left_of : Universe → Plan → List Standing → ℕ → List Item
+abbrev pub left_of : Universe → Plan → List Standing → ℕ → List OrderItem
 left_of u p ats l = items_at u p l (place_of ats l)
 
 -- how many instructions are left

@@ -8,7 +8,7 @@ use Rattle.farm_model.specs.Packages.{names, initial}
 use Rattle.plan_model.specs.Plan.{Plan}
 use Rattle.plan_model.specs.Sound.{IsSound}
 use Rattle.sat_rows.specs.Rows.{IsRowOf}
-use Rattle.wait_order.specs.ByName.{AreListed}
+use Rattle.wait_order.specs.ByName.{AreListedByName}
 use Rattle.wait_order.specs.Marks.{AreLanes}
 use Rattle.wait_order.specs.declared.by_name.OutputPlace.{OutputPlace}
 use Rattle.wait_order.specs.declared.marks.LaneOutputs.{LaneOutputs}
@@ -22,4 +22,4 @@ pub record IsSupply (u : Universe) (p : Plan) (tables : Universe) (archive : Lis
   pub archive_is : IsRowOf u (initial u) archive
   pub lanes_are : AreLanes u p lanes
   pub long : length lists ≡ names u
-  pub listed : AreListed lists lanes (length lanes)
+  pub listed : AreListedByName lists lanes (length lanes)

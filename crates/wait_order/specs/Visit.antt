@@ -2,7 +2,7 @@
 -- ps the points, places the place of each point in the order, k a place, w a point's number, x
 -- counts of the outputs of one lane.
 --
---   IsReady, IsInTurn    what a point builds on stands before it
+--   BuildsOnEarlier, IsInTurn  what a point builds on stands before it
 --   IsVisit              the points that are out of turn are listed
 --   AreSettled           those in turn that were looked at know no more than they may
 use Rattle.std.specs.Prelude.{◌≡◌, ◌⊎◌, ℕ, ◌<◌, ◌≤◌, List, length, All, Option, Some, None, slice_get, slice_index}
@@ -18,14 +18,14 @@ IsEarlier places k None = Unit {0}
 IsEarlier places k (Some w) = slice_index places w < k
 
 -- all that a point builds on stands before place k
-pub record IsReady (places : List ℕ) (k : ℕ) (p : Point) : Type 0 where
+pub record BuildsOnEarlier (places : List ℕ) (k : ℕ) (p : Point) : Type 0 where
   pub before : IsEarlier places k p.before
   pub sources : All (λ (s : Source). IsEarlier places k s.point) p.sources.items
 
 -- point w stands in the order at its place, behind all that it builds on
 pub record IsInTurn (order places : List ℕ) (w : ℕ) (p : Point) : Type 0 where
   pub there : slice_get order (slice_index places w) ≡ Some w
-  pub ready : IsReady places (slice_index places w) p
+  pub ready : BuildsOnEarlier places (slice_index places w) p
 
 -- each point has a place; it is in turn there, or listed as late
 pub record IsVisit (ps : List Point) (visit : Visit) : Type 0 where

@@ -3,7 +3,7 @@
 ghost use Rattle.std.specs.Prelude.{◌≡◌, ◌<◌, ◌++◌, ◌∷◌, [], Some, IfOk, OnOk, length, slice_get, slice_index_or};
 ghost use Rattle.farm_model.specs.Packages.{names};
 ghost use Rattle.wait_order.specs.declared.marks.LaneOutputs.{LaneOutputs};
-ghost use Rattle.wait_order.specs.ByName.{with_listed, IsListed, IsKept, AreLaneListed, AreListed};
+ghost use Rattle.wait_order.specs.ByName.{with_place_listed, IsListedByName, KeepsListed, AreLaneListed, AreListedByName};
 
 use crate::known_outputs::KnownOutputs;
 use std::alloc::{AllocError, Global};
@@ -91,15 +91,15 @@ impl ByName {
 
     fn put(&mut self, name: usize, place: OutputPlace) -> Result<(), AllocError>
         requires { name < length self.old }
-        ensures { OnOk result (self.new ≡ with_listed self.old name place) }
+        ensures { OnOk result (self.new ≡ with_place_listed self.old name place) }
     {
         self.lists[name].push(place)
     }
 
     fn add(&mut self, name: usize, place: OutputPlace) -> Result<(), AllocError>
         requires { name < length self.old }
-        ensures kept { OnOk result (IsKept self.old self.new) }
-        ensures there { OnOk result (IsListed self.new name place) }
+        ensures kept { OnOk result (KeepsListed self.old self.new) }
+        ensures there { OnOk result (IsListedByName self.new name place) }
     {
         self.put(name, place)?;
         Ok(())
@@ -109,7 +109,7 @@ impl ByName {
     fn add_lane(&mut self, known: KnownOutputs<'_>, lane: usize) -> Result<(), AllocError>
         requires long { length self.old ≡ names known.universe.now }
         requires lane { lane < length known.lanes.now }
-        ensures kept { OnOk result (IsKept self.old self.new) }
+        ensures kept { OnOk result (KeepsListed self.old self.new) }
         ensures listed { OnOk result ((of : LaneOutputs)
             → slice_get known.entry.lanes.now lane ≡ Some of
             → AreLaneListed self.new lane of.outputs.items (length of.outputs.items)) }
@@ -130,7 +130,7 @@ impl ByName {
     pub fn of(alloc: Global, known: KnownOutputs<'_>) -> Result<ByName, AllocError>
         ensures long { IfOk result (λ lists. length lists ≡ names known.entry.universe.now) }
         ensures listed { IfOk result (λ lists.
-            AreListed lists known.entry.lanes.now (length known.entry.lanes.now)) }
+            AreListedByName lists known.entry.lanes.now (length known.entry.lanes.now)) }
     {
         let mut lists = ByName::new(alloc, known.universe.names())?;
         for lane in 0..known.lanes.len() {

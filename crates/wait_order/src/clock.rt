@@ -9,9 +9,9 @@ ghost use Rattle.farm_model.specs.Packages.{names, initial, same};
 ghost use Rattle.plan_model.specs.Plan as model;
 ghost use Rattle.sat_rows.specs.Rows.{IsWordFor, IsRowOf};
 ghost use Rattle.wait_order.specs.declared.marks.LaneOutputs.{LaneOutputs};
-ghost use Rattle.wait_order.specs.ByName.{AreListed};
+ghost use Rattle.wait_order.specs.ByName.{AreListedByName};
 ghost use Rattle.wait_order.specs.Clock.{count_of, IsClockFor, row_of, IsCounted};
-ghost use Rattle.wait_order.specs.Column.{IsIn};
+ghost use Rattle.wait_order.specs.Column.{IsPointBelow};
 ghost use Rattle.wait_order.specs.Columns.{column_of};
 ghost use Rattle.wait_order.specs.Marks.{AreLanes};
 
@@ -50,7 +50,7 @@ impl<'k> Clock<'k> {
 /// How many outputs of a lane count.
 pub fn counted(clock: &Clock, other: usize) -> u64
     requires other { other < length clock.now.columns.now }
-    requires there { IsIn (length (column_of clock.now.columns.now other)) clock.now.last }
+    requires there { IsPointBelow (length (column_of clock.now.columns.now other)) clock.now.last }
     ensures { result ≡ count_of clock.now other }
 {
     if other == clock.lane {
@@ -105,7 +105,7 @@ fn with_counted(
 /// The variants of a name that are there from the start or among the outputs that count, as a word.
 pub fn clock_word(known: KnownOutputs<'_>, by_name: &ByName, clock: &Clock, name: u32) -> u64
     requires lists { length by_name.now ≡ names known.universe.now }
-    requires listed { AreListed by_name.now known.lanes.now (length known.lanes.now) }
+    requires listed { AreListedByName by_name.now known.lanes.now (length known.lanes.now) }
     requires clock { IsClockFor (length known.lanes.now) clock.now }
     requires name { name < names known.universe.now }
     ensures { (p : model.Plan) → AreLanes known.entry.universe.now p known.entry.lanes.now

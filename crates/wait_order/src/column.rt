@@ -4,7 +4,7 @@ ghost use Rattle.std.specs.Prelude.{◌≡◌, ℕ, ◌+◌, ◌<◌, ◌≤◌,
 ghost use Rattle.std.specs.List.{sum};
 ghost use Rattle.wait_order.specs.declared.column.Point.{Point};
 ghost use Rattle.wait_order.specs.Column as spec;
-ghost use Rattle.wait_order.specs.Column.{of_list, IsIn, ArePlaced, IsPlaced, ArePointsIn, IsAbove, IsGreatestColumn};
+ghost use Rattle.wait_order.specs.Column.{of_list, IsPointBelow, ArePlaced, IsPlaced, ArePointsIn, IsAbove, IsGreatestColumn};
 ghost use Rattle.wait_order.specs.Visit.{IsVisit, AreSettled};
 
 use crate::visit::Visit;
@@ -32,7 +32,7 @@ pub struct Point {
 
 /// What a point knows, or 0 where there is none.
 pub fn count_at(x: &[u64], point: Option<usize>) -> u64
-    requires { IsIn (length x.now) point }
+    requires { IsPointBelow (length x.now) point }
     ensures { result ≡ spec.count_at (of_list x.now) point }
 {
     match point {
@@ -42,7 +42,7 @@ pub fn count_at(x: &[u64], point: Option<usize>) -> u64
 }
 
 fn known(lane: usize, x: &[u64], source: Source) -> u64
-    requires { IsIn (length x.now) source.point }
+    requires { IsPointBelow (length x.now) source.point }
     ensures { result ≡ spec.known lane (of_list x.now) source }
 {
     if source.lane == lane {

@@ -4,7 +4,7 @@ ghost use Rattle.std.specs.Prelude.{◌≡◌, ◌<◌, ◌∷◌, [], length, I
 ghost use Rattle.farm_model.specs.Universe as farm;
 ghost use Rattle.plan_model.specs.Plan as model;
 ghost use Rattle.wait_order.specs.Column as spec;
-ghost use Rattle.wait_order.specs.Column.{of_list, IsIn, ArePointsIn};
+ghost use Rattle.wait_order.specs.Column.{of_list, IsPointBelow, ArePointsIn};
 ghost use Rattle.wait_order.specs.Marks.{AreLanes};
 ghost use Rattle.wait_order.specs.Columns.{AreColumns, IsLaneColumn};
 ghost use Rattle.wait_order.specs.Visit.{IsVisit};
@@ -50,7 +50,7 @@ impl Counts {
 
     /// What a point knows, or 0 where there is none.
     pub fn at(&self, point: Option<usize>) -> u64
-        requires { IsIn (length self.now) point }
+        requires { IsPointBelow (length self.now) point }
         ensures { result ≡ spec.count_at (of_list self.now) point }
     {
         count_at(&self.counts, point)

@@ -4,7 +4,7 @@ ghost use Rattle.std.specs.Prelude.{◌≡◌, ℕ, ◌<◌, Some, length, slice
 ghost use Rattle.deb_relation.specs.Relations as relations;
 ghost use Rattle.plan_model.specs.Plan.{lane};
 ghost use Rattle.wait_order.specs.Entries.{IsLonger};
-ghost use Rattle.wait_order.specs.EntrySources.{IsNumber, AreNumbers, AreAllSources};
+ghost use Rattle.wait_order.specs.EntrySources.{IsNumber, AreMarkNumbers, AreAllSources};
 ghost use Rattle.wait_order.specs.Hits.{AreEntrySources};
 ghost use Rattle.wait_order.specs.Marks.{AreThere};
 ghost use Rattle.wait_order.specs.Supply.{IsSupply};
@@ -85,7 +85,7 @@ pub fn named_entries<'p>(
     marks: &[Mark],
 ) -> Result<Named<'p>, AllocError>
     requires { AreThere plan.now.lanes marks.now }
-    ensures { IfOk result (λ named. AreNumbers plan.now.lanes named.entries marks.now
+    ensures { IfOk result (λ named. AreMarkNumbers plan.now.lanes named.entries marks.now
         named.numbers.items (length marks.now)) }
 {
     let mut entries = Entries::new(alloc)?;

@@ -4,7 +4,7 @@ ghost use Rattle.std.specs.Prelude.{◌≡◌, ℕ, ◌<◌, ◌≤◌, true, So
 ghost use Rattle.farm_model.specs.Packages.{names};
 ghost use Rattle.wait_order.specs.declared.marks.LaneOutputs.{LaneOutputs};
 ghost use Rattle.wait_order.specs.declared.marks.Output.{Output};
-ghost use Rattle.wait_order.specs.ByName.{IsOutput, AreListed, IsEarliest, AreMoved, AreFirsts, has};
+ghost use Rattle.wait_order.specs.ByName.{IsOutput, AreListedByName, IsEarliest, AreMoved, AreFirsts, has};
 
 use crate::by_name::{ByName, OutputPlace};
 use crate::known_outputs::KnownOutputs;
@@ -59,7 +59,7 @@ fn look_at_name(
 )
     requires long { length row.now ≡ names known.universe.now }
     requires lists { length by_name.now ≡ names known.universe.now }
-    requires listed { AreListed by_name.now known.lanes.now (length known.lanes.now) }
+    requires listed { AreListedByName by_name.now known.lanes.now (length known.lanes.now) }
     requires name { name < length row.now }
     requires count { length firsts.old ≡ length known.lanes.now }
     ensures moved { AreMoved row.now known.entry.lanes.now firsts.old firsts.new }
@@ -101,7 +101,7 @@ pub fn first_hits(
 ) -> Result<Vec<usize>, AllocError>
     requires long { length row.now ≡ names known.universe.now }
     requires lists { length by_name.now ≡ names known.universe.now }
-    requires listed { AreListed by_name.now known.lanes.now (length known.lanes.now) }
+    requires listed { AreListedByName by_name.now known.lanes.now (length known.lanes.now) }
     ensures { IfOk result (λ firsts. AreFirsts row.now known.entry.lanes.now firsts.items) }
 {
     let mut firsts = ends(alloc, known.lanes)?;

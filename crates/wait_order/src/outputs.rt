@@ -38,7 +38,7 @@ pub struct Outputs {
 
 impl Model for Outputs {
     ghost use Rattle.wait_order.specs.Outputs as spec;
-    ghost use Rattle.wait_order.specs.Outputs.{AreOutputs};
+    ghost use Rattle.wait_order.specs.Outputs.{AreOutputsOfPlan};
 
     ghost Value = { spec.PlanOutputs };
 
@@ -47,7 +47,7 @@ impl Model for Outputs {
       plan = outputs.plan.value.lanes;
     } };
 
-    ghost invariant = { λ outputs. AreOutputs outputs.universe.value outputs.plan.value.lanes
+    ghost invariant = { λ outputs. AreOutputsOfPlan outputs.universe.value outputs.plan.value.lanes
         outputs.lanes.items outputs.by_name outputs.totals.items };
 }
 

@@ -4,7 +4,7 @@ ghost use Rattle.std.specs.Prelude.{◌≡◌, ◌⊎◌, ℕ, ◌<◌, length, 
 ghost use Rattle.std.specs.List.{Contains};
 ghost use Rattle.wait_order.specs.declared.column.Point.{Point};
 ghost use Rattle.wait_order.specs.declared.column.Source.{Source};
-ghost use Rattle.wait_order.specs.Visit.{IsEarlier, IsReady, IsInTurn, IsVisit};
+ghost use Rattle.wait_order.specs.Visit.{IsEarlier, BuildsOnEarlier, IsInTurn, IsVisit};
 
 use crate::column::{Point, Source};
 use std::alloc::{AllocError, Global};
@@ -180,7 +180,7 @@ fn are_earlier(places: &[usize], k: usize, sources: &[Source]) -> bool
 
 /// Tells whether all that a point builds on is known to stand before a place.
 fn is_ready(places: &[usize], k: usize, p: &Point) -> bool
-    ensures { result ≡ true → IsReady places.now k p.now }
+    ensures { result ≡ true → BuildsOnEarlier places.now k p.now }
 {
     is_earlier(places, k, p.before) && are_earlier(places, k, &p.sources)
 }

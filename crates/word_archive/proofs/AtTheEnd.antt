@@ -2,7 +2,7 @@
 use Rattle.std.proofs.Common.{Bool, List, Some, [], ap, arith, cond, eqb, inl, inr, length, refl, slice_get, subst, suc, sym, take, true, zero, ℕ, ⊎_elim, ◌+◌, ◌<◌, ◌∙◌, ◌∷◌, ◌≡◌, ◌≤◌, ◌⊎◌}
 use Rattle.std.proofs.lemmas.Bool.{cases_Bool, cases_lt, eqb-true, or_left, or_right}
 use Rattle.std.proofs.lemmas.Bool.Decides.{nat_tests}
-use Rattle.std.proofs.lemmas.Option.{same_Some}
+use Rattle.std.proofs.lemmas.Option.{same_Some, slice_get_within}
 use Rattle.farm_model.proofs.BelowLaws.{some_below-at}
 use Rattle.farm_model.specs.Packages.{contains, has_bit, initial, same}
 use Rattle.farm_model.specs.declared.types.Variant.{Variant}
@@ -17,10 +17,9 @@ use Rattle.archive_laws.specs.Shown.{recorded}
 use Rattle.lane_records.specs.Records.{Record}
 use Rattle.plan_verifier.specs.Accepted.{AcceptedPlan, IsAccepted}
 use Rattle.word_archive.specs.History.{HasOne, IsClosed, IsHistory, IsUnused, entry}
-use Rattle.word_archive.specs.Rule.{AreWordsOf, serial_word, shown}
+use Rattle.word_archive.specs.Rule.{AreWordsOf, serial_word, shown_world}
 use Rattle.word_archive.specs.Serials.{IsPublishedBelow, drawn, made_by, once_below, times}
 use Rattle.word_archive.proofs.KnownPublished.{all_below, words_published}
-use Rattle.word_archive.proofs.Lists.{some_length}
 use Rattle.word_archive.proofs.Moves.{lane_shown}
 use Rattle.word_archive.proofs.SerialsDrawn.{less_at}
 
@@ -81,7 +80,7 @@ module _ (a : AcceptedPlan) (accepted : IsAccepted a) (words : List ℕ) (record
 
   -- the words have each publication of the history
   has_publication : (v : Variant) → HasOne history (λ h. h.variant ≡ v)
-      → has_bit (shown a words records).words v ≡ true
+      → has_bit (shown_world a words records).words v ≡ true
   has_publication v g =
       let u = a.universe in
       let h = g.1 in
@@ -89,20 +88,21 @@ module _ (a : AcceptedPlan) (accepted : IsAccepted a) (words : List ℕ) (record
       let outs = lane_outputs u (lane a.plan h.lane) in
       let here : contains (take (made_by a h.lane o.told.at) outs) h.variant ≡ true =
       taken_has outs (made_by a h.lane o.told.at) o.place h.variant o.made o.output in
-      let at : world_lane (shown a words records) h.lane ≡ o.told.at =
+      let at : world_lane (shown_world a words records) h.lane ≡ o.told.at =
       lane_shown a words records h.lane o.told o.there in
       let mine : contains (recorded u (lane a.plan h.lane)
-      (world_lane (shown a words records) h.lane)) v ≡ true =
+      (world_lane (shown_world a words records) h.lane)) v ≡ true =
       subst (λ (y : LaneState × Variant). contains (recorded u (lane a.plan h.lane) y.0) y.1
       ≡ true)
       (λ i. (sym at i, g.3 i)) here in
-      words_are_recorded u a.plan accepted.sound (shown a words records) st.reached v
+      words_are_recorded u a.plan accepted.sound (shown_world a words records) st.reached v
       ∙ or_right (initial u v) _ (some_below-at (length a.plan)
-      (λ m. contains (recorded u (lane a.plan m) (world_lane (shown a words records) m)) v) h.lane
-      (omega (arith, some_length records h.lane o.told o.there, st.lanes)) mine)
+      (λ m. contains (recorded u (lane a.plan m) (world_lane (shown_world a words records) m)) v)
+      h.lane
+      (omega (arith, slice_get_within records h.lane o.told o.there, st.lanes)) mine)
 
   -- what the words have is initial or stands in the history
-  has_words : (v : Variant) → has_bit (shown a words records).words v ≡ true
+  has_words : (v : Variant) → has_bit (shown_world a words records).words v ≡ true
       → (initial a.universe v ≡ true) ⊎ HasOne history (λ h. h.variant ≡ v)
   has_words v there =
       elim (words_published a accepted words records stopped st v there) [
@@ -112,9 +112,9 @@ module _ (a : AcceptedPlan) (accepted : IsAccepted a) (words : List ℕ) (record
 
   -- they have the initial archive
   has_initial : (v : Variant) → initial a.universe v ≡ true
-      → has_bit (shown a words records).words v ≡ true
+      → has_bit (shown_world a words records).words v ≡ true
   has_initial v start =
-      words_are_recorded a.universe a.plan accepted.sound (shown a words records) st.reached v
+      words_are_recorded a.universe a.plan accepted.sound (shown_world a words records) st.reached v
       ∙ or_left (initial a.universe v) _ start
 
   -- a serial that was drawn was used, or is the last of its lane
@@ -127,7 +127,7 @@ module _ (a : AcceptedPlan) (accepted : IsAccepted a) (words : List ℕ) (record
       let r = f.1 in
       let owed = st.serials.owed l r f.2 in
       let most = owed.1 in
-      let within = some_length r.serials f.3 x f.4 in
+      let within = slice_get_within r.serials f.3 x f.4 in
       elim (cases_lt f.3 (made_by a l r.at)) [
         | inl made ↦
             let h = told.all l f.3 r f.2 made in

@@ -6,7 +6,7 @@ use Rattle.atomic_table.specs.Table.{Final, Seen}
 use Rattle.farm_model.specs.Packages.{same}
 use Rattle.lane_records.specs.Records.{Record}
 use Rattle.plan_verifier.specs.Accepted.{AcceptedPlan}
-use Rattle.word_archive.specs.Rule.{AreWordsOf, Entries, Kept}
+use Rattle.word_archive.specs.Rule.{AreWordsOf, Entries, KeepsRule}
 use Rattle.word_archive.specs.Views.{SeatView, base_view}
 
 -- all records are back, in the lanes' order
@@ -38,7 +38,7 @@ same_list (x ∷ xs) (y ∷ ys) e h =
 -- at the end the words are those of the records that came back
 pub closes : (S : Type 0) (p : AcceptedPlan) (id next : ℕ) (stopped : Bool)
     (records : List Record) (words : List ℕ) (slots : List S) → length records ≡ length p.plan
-    → Final (Seen (Kept {S = S} p) id (base_view p next stopped (numbered 0 records))) words
+    → Final (Seen (KeepsRule {S = S} p) id (base_view p next stopped (numbered 0 records))) words
     slots → AreWordsOf p words records stopped
 closes S p id next stopped records words slots long f =
     let s = f.0 in
@@ -56,12 +56,12 @@ closes S p id next stopped records words slots long f =
 pub closes_as : (S : Type 0) (p q : AcceptedPlan) (id next : ℕ) (stopped : Bool)
     (records : List Record) (words : List ℕ) (slots : List S) (v : SeatView)
     → v ≡ base_view p next stopped (numbered 0 records) → q ≡ p → length records ≡ length q.plan
-    → Final (Seen (Kept {S = S} p) id v) words slots → AreWordsOf q words records stopped
+    → Final (Seen (KeepsRule {S = S} p) id v) words slots → AreWordsOf q words records stopped
 closes_as S p q id next stopped records words slots v is same long f =
     subst (λ (x : AcceptedPlan). AreWordsOf x words records stopped) (sym same)
     (closes S p id next stopped records words slots (long
     ∙ ap (λ x. length x.plan) same) (subst
-    (λ (u : SeatView). Final (Seen (Kept {S = S} p) id u) words slots) is f))
+    (λ (u : SeatView). Final (Seen (KeepsRule {S = S} p) id u) words slots) is f))
 
 -- the first words and one more
 pub take_elem : (xs : List ℕ) (n x : ℕ) → get_elem? xs n ≡ some x

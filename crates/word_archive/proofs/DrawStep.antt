@@ -6,7 +6,7 @@ use Rattle.farm_model.specs.Packages.{names}
 use Rattle.farm_model.specs.declared.types.Variant.{Variant}
 use Rattle.lane_records.specs.Records.{Record, after_draw, next_output}
 use Rattle.plan_verifier.specs.Accepted.{AcceptedPlan, IsAccepted}
-use Rattle.word_archive.specs.Rule.{Keeps, Kept, serial_word}
+use Rattle.word_archive.specs.Rule.{Keeps, KeepsRule, serial_word}
 use Rattle.word_archive.specs.Serials.{SerialsFit, made_by}
 use Rattle.word_archive.specs.Steps.{Drawn}
 use Rattle.word_archive.specs.Views.{SeatView, lane_view}
@@ -20,7 +20,7 @@ use Rattle.word_archive.proofs.Records.{record_holds}
 pub draws_one : {S : Type 0} (a : AcceptedPlan) (slots id l : ℕ) (r : Record) (v : Variant)
     → IsAccepted a → SerialsFit a → next_output a.universe a.plan l r.at ≡ Some v
     → length r.serials ≡ made_by a l r.at
-    → Allows {S = S} {V = SeatView} (Kept a) slots id (lane_view a l r, []) (names a.universe)
+    → Allows {S = S} {V = SeatView} (KeepsRule a) slots id (lane_view a l r, []) (names a.universe)
     (λ n. (n + 1) % 2 ^ 64) (Drawn (step slots (names a.universe) 1 0 none) (lane_view a l r, []))
 draws_one a slots id l r v accepted few next room s h homes at small =
     let found = serial_word a s.words in
@@ -51,9 +51,9 @@ pub draws_as : {S : Type 0} (a : AcceptedPlan) (slots id l n : ℕ) (r : Record)
     (me : Me S SeatView) → IsAccepted a → SerialsFit a
     → next_output a.universe a.plan l r.at ≡ Some v
     → length r.serials ≡ made_by a l r.at → n ≡ names a.universe → me ≡ (lane_view a l r, [])
-    → Allows {S = S} {V = SeatView} (Kept a) slots id me n (λ n. (n + 1) % 2 ^ 64)
+    → Allows {S = S} {V = SeatView} (KeepsRule a) slots id me n (λ n. (n + 1) % 2 ^ 64)
     (Drawn (step slots n 1 0 none) me)
 draws_as {S} a slots id l n r v me accepted few next room at is =
-    subst (λ (m : Me S SeatView × ℕ). Allows {S = S} {V = SeatView} (Kept a) slots id m.0 m.1
+    subst (λ (m : Me S SeatView × ℕ). Allows {S = S} {V = SeatView} (KeepsRule a) slots id m.0 m.1
     (λ n. (n + 1) % 2 ^ 64) (Drawn (step slots m.1 1 0 none) m.0)) (λ i. (sym is i, sym at i))
     (draws_one a slots id l r v accepted few next room)

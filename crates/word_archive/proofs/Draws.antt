@@ -1,5 +1,6 @@
 -- The draw of a serial: the words are those of the records after it.
 use Rattle.std.proofs.Common.{Bool, List, Some, [], ap, arith, false, inl, inr, length, length-append, length-set, map, refl, set, slice_get, subst, suc, sym, true, ℕ, ◌%◌, ◌++◌, ◌+◌, ◌<◌, ◌^◌, ◌∙◌, ◌∷◌, ◌≡◌, ◌≤◌}
+use Rattle.std.proofs.lemmas.Option.{slice_get_within}
 use Rattle.std.proofs.Math.Nat.{mod-eq_of_lt}
 use Rattle.std.proofs.lemmas.List.{take-set-le}
 use Rattle.std.specs.Int.{bit_at}
@@ -15,11 +16,11 @@ use Rattle.archive_laws.specs.Shown.{IsReached}
 use Rattle.lane_records.specs.Bounds.{IsWithinBits}
 use Rattle.lane_records.specs.Records.{Record, after_draw, next_of, next_output, ready_in}
 use Rattle.plan_verifier.specs.Accepted.{AcceptedPlan, IsAccepted, known_rows}
-use Rattle.word_archive.specs.Rule.{AreWordsOf, IsHalted, halt_word, serial_word, shown}
+use Rattle.word_archive.specs.Rule.{AreWordsOf, IsHalted, halt_word, serial_word, shown_world}
 use Rattle.word_archive.specs.Serials.{AreFew, IsPublishedBelow, IsSerials, SerialsFit, made_by}
 use Rattle.word_archive.proofs.HaltWord.{halts_stay, same_world}
 use Rattle.word_archive.proofs.KnownPublished.{known_published, one_place}
-use Rattle.word_archive.proofs.Lists.{index_set, index_set_other, some_length}
+use Rattle.word_archive.proofs.Lists.{index_set, index_set_other}
 use Rattle.word_archive.proofs.Loads.{in_plan, stands_at}
 use Rattle.word_archive.proofs.Moves.{changed}
 use Rattle.word_archive.proofs.Publishes.{given_next}
@@ -32,7 +33,7 @@ module _ (a : AcceptedPlan) (accepted : IsAccepted a) (words : List ℕ) (record
     (next : next_output a.universe a.plan l r.at ≡ Some v) (small : SerialsFit a)
     (room : length r.serials ≡ made_by a l r.at) where
   abbrev w : World
-  w = shown a words records
+  w = shown_world a words records
 
   -- where the lane is at its next archive step
   abbrev place : ℕ
@@ -57,7 +58,7 @@ module _ (a : AcceptedPlan) (accepted : IsAccepted a) (words : List ℕ) (record
       omega (
         arith,
         made_is,
-        some_length (lane_outputs a.universe (lane a.plan l)) _ v
+        slice_get_within (lane_outputs a.universe (lane a.plan l)) _ v
             given.output,
       )
 

@@ -10,7 +10,7 @@ use Rattle.plan_model.specs.Turn.{LaneState}
 use Rattle.archive_laws.specs.Shown.{IsReached}
 use Rattle.lane_records.specs.Records.{Record}
 use Rattle.plan_verifier.specs.Accepted.{AcceptedPlan}
-use Rattle.word_archive.specs.Rule.{AreWordsOf, HasHalted, IsHalted, halt_word, shown}
+use Rattle.word_archive.specs.Rule.{AreWordsOf, HasHalted, IsHalted, halt_word, shown_world}
 use Rattle.word_archive.proofs.Lists.{get_map, get_set, get_set_other, index_set, index_set_other, map_set, set_same}
 use Rattle.word_archive.proofs.Moves.{changed, same_record}
 
@@ -52,8 +52,8 @@ halts_stay word records stopped l r r' h here halted saw = record {
 pub same_world : (a : AcceptedPlan) (words : List ℕ) (records : List Record) (l : ℕ)
     (r r' : Record)
     → slice_get records l ≡ Some r → r'.at ≡ r.at
-    → IsReached a.universe a.plan (shown a words records)
-    → IsReached a.universe a.plan (shown a words (set records l r'))
+    → IsReached a.universe a.plan (shown_world a words records)
+    → IsReached a.universe a.plan (shown_world a words (set records l r'))
 same_world a words records l r r' here at h =
     subst (λ (ls : List LaneState). IsReached a.universe a.plan
     (record { words = take (names a.universe) words; lanes = ls }))
@@ -101,8 +101,8 @@ module _ (a : AcceptedPlan) (words : List ℕ) (records : List Record) (stopped 
       index_set_other words (names a.universe + 1) n (bit_or found 1) (λ e. omega arith)
 
   -- so the world shown is the same
-  pub reached_after : (rs : List Record) → IsReached a.universe a.plan (shown a words rs)
-      → IsReached a.universe a.plan (shown a words_after rs)
+  pub reached_after : (rs : List Record) → IsReached a.universe a.plan (shown_world a words rs)
+      → IsReached a.universe a.plan (shown_world a words_after rs)
   reached_after rs h =
       subst (λ (ws : List ℕ). IsReached a.universe a.plan
       (record { words = ws; lanes = map (λ (q : Record). q.at) rs }))

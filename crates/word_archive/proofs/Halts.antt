@@ -8,7 +8,7 @@ use Rattle.farm_model.specs.Packages.{names}
 use Rattle.lane_records.specs.Bounds.{IsWithinBits}
 use Rattle.lane_records.specs.Records.{Record, after_halt, after_look}
 use Rattle.plan_verifier.specs.Accepted.{AcceptedPlan, IsAccepted}
-use Rattle.word_archive.specs.Rule.{AreWordsOf, Keeps, Kept, halt_word, serial_word}
+use Rattle.word_archive.specs.Rule.{AreWordsOf, Keeps, KeepsRule, halt_word, serial_word}
 use Rattle.word_archive.specs.Serials.{IsSerials}
 use Rattle.word_archive.specs.Steps.{Halted, Looked}
 use Rattle.word_archive.specs.Views.{SeatView, lane_view}
@@ -20,7 +20,8 @@ use Rattle.word_archive.proofs.SerialsKept.{serials_stay}
 
 -- a look at the halt word
 pub looks : {S : Type 0} (a : AcceptedPlan) (slots id l : ℕ) (r : Record) → IsAccepted a
-    → Allows {S = S} {V = SeatView} (Kept a) slots id (lane_view a l r, []) (names a.universe + 1)
+    → Allows {S = S} {V = SeatView} (KeepsRule a) slots id (lane_view a l r, [])
+    (names a.universe + 1)
     (λ x. x) (Looked (step slots (names a.universe + 1) 0 0 none) (lane_view a l r, []))
 looks a slots id l r accepted s h homes at small =
     let m = names a.universe in
@@ -60,7 +61,8 @@ looks a slots id l r accepted s h homes at small =
 
 -- the halt word set by a lane's seat
 pub halts_one : {S : Type 0} (a : AcceptedPlan) (slots id l : ℕ) (r : Record) → IsAccepted a
-    → Allows {S = S} {V = SeatView} (Kept a) slots id (lane_view a l r, []) (names a.universe + 1)
+    → Allows {S = S} {V = SeatView} (KeepsRule a) slots id (lane_view a l r, [])
+    (names a.universe + 1)
     (λ x. bit_or x 1) (Halted (step slots (names a.universe + 1) 1 0 none) (lane_view a l r, []))
 halts_one a slots id l r accepted s h homes at small =
     let m = names a.universe in
@@ -104,10 +106,10 @@ halts_one a slots id l r accepted s h homes at small =
 pub looks_as : {S : Type 0} (a : AcceptedPlan) (slots id l n : ℕ) (r : Record)
     (me : Me S SeatView)
     → IsAccepted a → n ≡ names a.universe + 1 → me ≡ (lane_view a l r, [])
-    → Allows {S = S} {V = SeatView} (Kept a) slots id me n (λ x. x)
+    → Allows {S = S} {V = SeatView} (KeepsRule a) slots id me n (λ x. x)
     (Looked (step slots n 0 0 none) me)
 looks_as {S} a slots id l n r me accepted at is =
-    subst (λ (m : Me S SeatView × ℕ). Allows {S = S} {V = SeatView} (Kept a) slots id m.0 m.1
+    subst (λ (m : Me S SeatView × ℕ). Allows {S = S} {V = SeatView} (KeepsRule a) slots id m.0 m.1
     (λ x. x)
     (Looked (step slots m.1 0 0 none) m.0)) (λ i. (sym is i, sym at i))
     (looks a slots id l r accepted)
@@ -116,9 +118,9 @@ looks_as {S} a slots id l n r me accepted at is =
 pub halts_as : {S : Type 0} (a : AcceptedPlan) (slots id l n : ℕ) (r : Record)
     (me : Me S SeatView)
     → IsAccepted a → n ≡ names a.universe + 1 → me ≡ (lane_view a l r, [])
-    → Allows {S = S} {V = SeatView} (Kept a) slots id me n (λ x. bit_or x 1)
+    → Allows {S = S} {V = SeatView} (KeepsRule a) slots id me n (λ x. bit_or x 1)
     (Halted (step slots n 1 0 none) me)
 halts_as {S} a slots id l n r me accepted at is =
-    subst (λ (m : Me S SeatView × ℕ). Allows {S = S} {V = SeatView} (Kept a) slots id m.0 m.1
+    subst (λ (m : Me S SeatView × ℕ). Allows {S = S} {V = SeatView} (KeepsRule a) slots id m.0 m.1
     (λ x. bit_or x 1) (Halted (step slots m.1 1 0 none) m.0)) (λ i. (sym is i, sym at i))
     (halts_one a slots id l r accepted)

@@ -11,10 +11,10 @@ use Rattle.plan_model.specs.Plan.{lane, lane_outputs}
 use Rattle.farm_archive.specs.declared.publication.Publication.{Publication}
 use Rattle.lane_records.specs.Records.{Record}
 use Rattle.plan_verifier.specs.Accepted.{AcceptedPlan, IsAccepted}
-use Rattle.word_archive.specs.History.{IsHistory, IsOutput, lanes_published}
+use Rattle.word_archive.specs.History.{IsHistory, IsMadeOutput, lanes_published}
 use Rattle.word_archive.specs.Rule.{AreWordsOf, serial_word}
 use Rattle.word_archive.specs.Serials.{made_by}
-use Rattle.word_archive.proofs.Lists.{get_some, some_length}
+use Rattle.word_archive.proofs.Lists.{get_some}
 use Rattle.word_archive.proofs.Published.{in_all, in_has, in_sum}
 use Rattle.word_archive.proofs.Records.{record_holds}
 use Rattle.word_archive.proofs.SerialSums.{at_most_one, drawn_front, is_under, one_if, output_at, same_under, two_in}
@@ -46,9 +46,9 @@ history_is a accepted words records stopped st all is history permutation up =
     λ l i r e made. get_some (lane_outputs a.universe (lane a.plan l)) i (variant 0 0)
     (let f = fits l r e in
     let g = (record_holds a accepted words records stopped st l r e).few in omega arith) in
-    let each_all : All (IsOutput a records) history =
-    All-permutation (IsOutput a records) (lanes_published a shown n) history same
-    (in_all a records fits (IsOutput a records) n (omega (arith, long))
+    let each_all : All (IsMadeOutput a records) history =
+    All-permutation (IsMadeOutput a records) (lanes_published a shown n) history same
+    (in_all a records fits (IsMadeOutput a records) n (omega (arith, long))
     (λ l i r e made. record {
       told = r;
       place = i;
@@ -58,12 +58,12 @@ history_is a accepted words records stopped st all is history permutation up =
       output = output_there l i r e made;
     })) in
     record {
-      each = λ k h e. subst (IsOutput a records) (get_or_from_slice_get history k h h e)
+      each = λ k h e. subst (IsMadeOutput a records) (get_or_from_slice_get history k h h e)
           (each_all k h (slice_get_within history k h e));
       all = λ l i r e made.
           let x = output_at l (lane_outputs a.universe (lane a.plan l)) r.serials i in
           let c = Contains-permutation (lanes_published a shown n) history x same
-          (in_has a records fits n l i r (let b = some_length records l r e in
+          (in_has a records fits n l i r (let b = slice_get_within records l r e in
           omega (arith, long)) e made) in
           record {
             serial = x.serial;

@@ -1,5 +1,6 @@
 -- The base seat takes another in.
 use Rattle.std.proofs.Common.{Bool, List, Some, [], ap, cond, eqb, inl, inr, length, refl, set, slice_get, subst, sym, ℕ, ⊎_elim, ◌++◌, ◌<◌, ◌∙◌, ◌∷◌, ◌≡◌, ◌≢◌, ◌≤◌, ◌⊎◌}
+use Rattle.std.proofs.lemmas.Option.{slice_get_within}
 use Rattle.std.proofs.lemmas.Bool.{cases_lt, eq-eqb, ne_eqb, false≢true}
 use mathlib.Core.Option.{some}
 use lib.ListN.{get_elem?}
@@ -8,9 +9,8 @@ use Rattle.atomic_table.specs.Table.{Joins}
 use Rattle.plan_model.specs.Plan.{lane}
 use Rattle.lane_records.specs.Records.{Record, blank}
 use Rattle.plan_verifier.specs.Accepted.{AcceptedPlan}
-use Rattle.word_archive.specs.Rule.{AllBelow, Entries, Fits, Kept}
-use Rattle.word_archive.specs.Views.{SeatView, base_view, joined, spent}
-use Rattle.word_archive.proofs.Lists.{some_length}
+use Rattle.word_archive.specs.Rule.{AllBelow, Entries, Fits, KeepsRule}
+use Rattle.word_archive.specs.Views.{SeatView, base_view, joined_view, spent}
 
 -- who has the lanes of a seat once they went to another
 abbrev taken_over : (ℕ → ℕ) → ℕ → ℕ → ℕ → ℕ
@@ -64,16 +64,17 @@ all_split owner records n id other (e ∷ es) apart own h =
   where
     below : (e.0 < n) ⊎ (n ≤ e.0) → e.0 < n
     below (inl lt) = lt
-    below (inr ge) = absurd (apart (sym h.0.0 ∙ own e.0 ge (some_length records e.0 e.1 h.0.1)))
+    below (inr ge) =
+        absurd (apart (sym h.0.0 ∙ own e.0 ge (slice_get_within records e.0 e.1 h.0.1)))
 
 -- the base seat takes another in
 pub joins : {S : Type 0} (p : AcceptedPlan) (id next : ℕ) (stopped : Bool)
     (mine : List (ℕ × Record)) (other : ℕ) (w : SeatView)
-    → Joins {S = S} {V = SeatView} (Kept p) id (base_view p next stopped mine) other w
-    (joined (base_view p next stopped mine) w) spent
+    → Joins {S = S} {V = SeatView} (KeepsRule p) id (base_view p next stopped mine) other w
+    (joined_view (base_view p next stopped mine) w) spent
 joins p id next stopped mine other w s h at apart there =
     let v = base_view p next stopped mine in
-    let both = joined v w in
+    let both = joined_view v w in
     let fit = h.fits id v at in
     let spare = fit.spare refl in
     let theirs : Fits p h.owner h.records h.stopped other w = ⊎_elim
@@ -106,7 +107,7 @@ joins p id next stopped mine other w s h at apart there =
         → (h.owner l ≡ id) × (slice_get h.records l ≡ Some (blank p.universe (lane p.plan l))))
         → id ≡ 0 → Entries h.owner h.records other w.mine
         → Fits p (taken_over h.owner other id) h.records h.stopped id
-        (joined (base_view p next stopped mine) w)
+        (joined_view (base_view p next stopped mine) w)
     base_fits own spare zeroth theirs = record {
       entries = entries_both (taken_over h.owner other id) h.records id mine w.mine
           (entries_stay h.owner h.records id other id mine (λ q. apart (sym q)) own)
@@ -139,7 +140,8 @@ joins p id next stopped mine other w s h at apart there =
 -- the same, where the base seat's view is known by an equation
 pub joins_as : {S : Type 0} (p : AcceptedPlan) (id next : ℕ) (stopped : Bool)
     (mine : List (ℕ × Record)) (other : ℕ) (v w : SeatView) → v ≡ base_view p next stopped mine
-    → Joins {S = S} {V = SeatView} (Kept p) id v other w (joined v w) spent
+    → Joins {S = S} {V = SeatView} (KeepsRule p) id v other w (joined_view v w) spent
 joins_as {S} p id next stopped mine other v w is =
-    subst (λ (u : SeatView). Joins {S = S} {V = SeatView} (Kept p) id u other w (joined u w)
+    subst (λ (u : SeatView). Joins {S = S} {V = SeatView} (KeepsRule p) id u other w
+    (joined_view u w)
     spent) (sym is) (joins p id next stopped mine other w)

@@ -22,7 +22,7 @@ use Rattle.archive_laws.specs.LaneMoves.{IsOutputOf}
 use Rattle.archive_laws.specs.Shown.{ready_lane, recorded, with_lane}
 use Rattle.lane_records.specs.Records.{Record, ready_in}
 use Rattle.plan_verifier.specs.Accepted.{AcceptedPlan, IsAccepted, known_rows}
-use Rattle.word_archive.specs.Rule.{AreWordsOf, serial_word, shown}
+use Rattle.word_archive.specs.Rule.{AreWordsOf, serial_word, shown_world}
 use Rattle.word_archive.specs.Serials.{IsPublishedBelow, made_by}
 use Rattle.word_archive.proofs.Lists.{get_some}
 use Rattle.word_archive.proofs.Loads.{in_plan, stands_at}
@@ -81,7 +81,7 @@ one_place u of branched k m j a b =
 module _ (a : AcceptedPlan) (accepted : IsAccepted a) (words : List ℕ) (records : List Record)
     (stopped : Bool) (st : AreWordsOf a words records stopped) where
   abbrev w : World
-  w = shown a words records
+  w = shown_world a words records
 
   -- all serials of a lane are below the serial word
   pub all_below : (l : ℕ) (r : Record) → slice_get records l ≡ Some r

@@ -24,12 +24,6 @@ module _ {A : Type 0} where
   set_same (z ∷ zs) zero x e = let q : z ≡ x = cc in λ k. sym q k ∷ zs
   set_same (z ∷ zs) (suc i) x e = ap (λ l. z ∷ l) (set_same zs i x e)
 
-  -- a place with an element is inside
-  pub some_length : (xs : List A) (i : ℕ) (x : A) → slice_get xs i ≡ Some x → i < length xs
-  some_length [] i x e = absurd (cc)
-  some_length (z ∷ zs) zero x e = omega arith
-  some_length (z ∷ zs) (suc i) x e = omega (arith, some_length zs i x e)
-
   -- a map over a list with one element changed
   pub map_set : {B : Type 0} (f : A → B) (xs : List A) (i : ℕ) (y : A)
       → map f (set xs i y) ≡ set (map f xs) i (f y)

@@ -1,5 +1,6 @@
 -- A load of a name's word.
 use Rattle.std.proofs.Common.{Bool, List, Some, [], ap, arith, get_or, get_or-set_same, inl, inr, length, length-set, refl, set, slice_get, subst, sym, take, ℕ, ◌<◌, ◌∙◌, ◌≡◌, ◌≢◌, ◌⊎◌}
+use Rattle.std.proofs.lemmas.Option.{slice_get_within}
 use Rattle.std.proofs.lemmas.Bool.{cases_eq}
 use Rattle.std.specs.Int.{bit_at}
 use Rattle.std.specs.Prelude.{slice_index}
@@ -18,12 +19,12 @@ use Rattle.archive_laws.specs.Shown.{IsReached, ready_lane, with_lane}
 use Rattle.lane_records.specs.Bounds.{IsLoaded, IsWithinBits}
 use Rattle.lane_records.specs.Records.{Record, after_load, ready_in}
 use Rattle.plan_verifier.specs.Accepted.{AcceptedPlan, IsAccepted}
-use Rattle.word_archive.specs.Rule.{AreWordsOf, Keeps, Kept, shown}
+use Rattle.word_archive.specs.Rule.{AreWordsOf, Keeps, KeepsRule, shown_world}
 use Rattle.word_archive.specs.Serials.{made_by}
 use Rattle.word_archive.specs.Steps.{Loaded}
 use Rattle.word_archive.specs.Views.{SeatView, lane_view}
 use Rattle.word_archive.proofs.HaltWord.{halts_stay}
-use Rattle.word_archive.proofs.Lists.{get_set, index_set_other, index_take, map_set, set_index, some_length}
+use Rattle.word_archive.proofs.Lists.{get_set, index_set_other, index_take, map_set, set_index}
 use Rattle.word_archive.proofs.Moves.{changed, lane_moves, lane_shown}
 use Rattle.word_archive.proofs.Records.{record_holds}
 use Rattle.word_archive.proofs.SerialsKept.{serials_stay}
@@ -33,11 +34,11 @@ module _ (a : AcceptedPlan) (accepted : IsAccepted a) (words : List ℕ) (record
     (stopped : Bool) (st : AreWordsOf a words records stopped) (l : ℕ) (r : Record)
     (here : slice_get records l ≡ Some r) where
   abbrev w : World
-  w = shown a words records
+  w = shown_world a words records
 
   -- the lane is one of the plan
   pub in_plan : l < length a.plan
-  in_plan = omega (arith, some_length records l r here, st.lanes)
+  in_plan = omega (arith, slice_get_within records l r here, st.lanes)
 
   -- the world has the lane where its record says
   pub stands_at : world_lane w l ≡ r.at
@@ -119,7 +120,7 @@ module _ (a : AcceptedPlan) (accepted : IsAccepted a) (words : List ℕ) (record
 -- the step of a lane's seat
 pub loads : {S : Type 0} (a : AcceptedPlan) (slots id l n : ℕ) (r : Record) → IsAccepted a
     → n < names a.universe
-    → Allows {S = S} {V = SeatView} (Kept a) slots id (lane_view a l r, []) n (λ x. x)
+    → Allows {S = S} {V = SeatView} (KeepsRule a) slots id (lane_view a l r, []) n (λ x. x)
     (Loaded (step slots n 0 0 none) (lane_view a l r, []))
 loads a slots id l n r accepted lt s h homes at small =
     let found = get_or s.words n 0 in
@@ -149,8 +150,8 @@ loads a slots id l n r accepted lt s h homes at small =
 pub loads_as : {S : Type 0} (a : AcceptedPlan) (slots id l n : ℕ) (r : Record)
     (me : Me S SeatView)
     → IsAccepted a → n < names a.universe → me ≡ (lane_view a l r, [])
-    → Allows {S = S} {V = SeatView} (Kept a) slots id me n (λ x. x)
+    → Allows {S = S} {V = SeatView} (KeepsRule a) slots id me n (λ x. x)
     (Loaded (step slots n 0 0 none) me)
 loads_as {S} a slots id l n r me accepted lt is =
-    subst (λ (m : Me S SeatView). Allows {S = S} {V = SeatView} (Kept a) slots id m n (λ x. x)
+    subst (λ (m : Me S SeatView). Allows {S = S} {V = SeatView} (KeepsRule a) slots id m n (λ x. x)
     (Loaded (step slots n 0 0 none) m)) (sym is) (loads a slots id l n r accepted lt)

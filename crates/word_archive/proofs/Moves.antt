@@ -8,7 +8,7 @@ use Rattle.atomic_table.proofs.Lists.{at_set}
 use Rattle.plan_model.specs.World.{world_lane}
 use Rattle.lane_records.specs.Records.{Record}
 use Rattle.plan_verifier.specs.Accepted.{AcceptedPlan}
-use Rattle.word_archive.specs.Rule.{AreWordsOf, Entries, Fits, Keeps, shown}
+use Rattle.word_archive.specs.Rule.{AreWordsOf, Entries, Fits, Keeps, shown_world}
 use Rattle.word_archive.specs.Views.{SeatView, lane_view}
 use Rattle.word_archive.proofs.Lists.{get_set, get_set_other}
 
@@ -95,7 +95,7 @@ same_record records l q r e f = same_Some q r (sym e ∙ f)
 
 -- the lane of a record, as the world shows it
 pub lane_shown : (a : AcceptedPlan) (words : List ℕ) (records : List Record) (l : ℕ) (r : Record)
-    → slice_get records l ≡ Some r → world_lane (shown a words records) l ≡ r.at
+    → slice_get records l ≡ Some r → world_lane (shown_world a words records) l ≡ r.at
 lane_shown a words [] l r e = absurd (cc)
 lane_shown a words (q ∷ rs) zero r e = let s : q ≡ r = cc in ap (λ (y : Record). y.at) s
 lane_shown a words (q ∷ rs) (suc l) r e = lane_shown a words rs l r e

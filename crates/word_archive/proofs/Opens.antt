@@ -17,7 +17,7 @@ use Rattle.archive_laws.proofs.Turns.{start_is_reached}
 use Rattle.archive_laws.specs.Shown.{IsReached}
 use Rattle.lane_records.specs.Records.{Record, blank}
 use Rattle.plan_verifier.specs.Accepted.{AcceptedPlan}
-use Rattle.word_archive.specs.Rule.{Fits, HasHalted, Keeps, Kept}
+use Rattle.word_archive.specs.Rule.{Fits, HasHalted, Keeps, KeepsRule}
 use Rattle.word_archive.specs.Serials.{AreFew, drawn, draws, made_by, once_below}
 use Rattle.word_archive.specs.Views.{SeatView, base_view}
 
@@ -93,7 +93,7 @@ long_initial a sound = sound.universe.words
 -- the rule holds of the initial words
 pub opens : (S : Type 0) (a : AcceptedPlan) (words : List ℕ) → IsSound a.universe a.plan
     → words ≡ a.universe.initial ++ 0 ∷ 0 ∷ []
-    → Kept {S = S} a (opening words [] (base_view a 0 false []))
+    → KeepsRule {S = S} a (opening words [] (base_view a 0 false []))
 opens S a words sound is =
     subst (λ ws. Keeps a ws (base_view a 0 false [] ∷ [])) (sym is) (record {
       records = blanks u a.plan;

@@ -19,7 +19,7 @@ use Rattle.archive_laws.specs.Shown.{IsReached}
 use Rattle.lane_records.specs.Bounds.{IsWithinBits}
 use Rattle.lane_records.specs.Records.{Record, after_output, after_publish, next_output}
 use Rattle.plan_verifier.specs.Accepted.{AcceptedPlan, IsAccepted, known_rows}
-use Rattle.word_archive.specs.Rule.{AreWordsOf, IsHalted, Keeps, Kept, halt_word, serial_word, shown}
+use Rattle.word_archive.specs.Rule.{AreWordsOf, IsHalted, Keeps, KeepsRule, halt_word, serial_word, shown_world}
 use Rattle.word_archive.specs.Serials.{IsSerials, drawn, made_by}
 use Rattle.word_archive.specs.Steps.{Published}
 use Rattle.word_archive.specs.Views.{SeatView, lane_view}
@@ -37,7 +37,7 @@ module _ (a : AcceptedPlan) (accepted : IsAccepted a) (words : List ℕ) (record
     (here : slice_get records l ≡ Some r) (v : Variant)
     (next : next_output a.universe a.plan l r.at ≡ Some v) where
   abbrev w : World
-  w = shown a words records
+  w = shown_world a words records
 
   -- the lane is one of the plan
   abbrev inside : l < length a.plan
@@ -151,7 +151,7 @@ pub publishes : {S : Type 0} (a : AcceptedPlan) (slots id l k : ℕ) (r : Record
     → IsAccepted a → next_output a.universe a.plan l r.at ≡ Some v
     → length r.serials ≡ suc (made_by a l r.at)
     → k ≡ 2 ^ v.bit
-    → Allows {S = S} {V = SeatView} (Kept a) slots id (lane_view a l r, []) v.name
+    → Allows {S = S} {V = SeatView} (KeepsRule a) slots id (lane_view a l r, []) v.name
     (λ x. bit_or x k)
     (Published (step slots v.name k 0 none) (lane_view a l r, []))
 publishes {S} a slots id l k r v accepted next drawn power s h homes at small =
@@ -186,9 +186,9 @@ pub publishes_as : {S : Type 0} (a : AcceptedPlan) (slots id l n k : ℕ) (r : R
     (me : Me S SeatView) → IsAccepted a → next_output a.universe a.plan l r.at ≡ Some v
     → length r.serials ≡ suc (made_by a l r.at) → k ≡ 2 ^ v.bit → n ≡ v.name
     → me ≡ (lane_view a l r, [])
-    → Allows {S = S} {V = SeatView} (Kept a) slots id me n (λ x. bit_or x k)
+    → Allows {S = S} {V = SeatView} (KeepsRule a) slots id me n (λ x. bit_or x k)
     (Published (step slots n k 0 none) me)
 publishes_as {S} a slots id l n k r v me accepted next drawn power name is =
-    subst (λ (m : Me S SeatView × ℕ). Allows {S = S} {V = SeatView} (Kept a) slots id m.0 m.1
+    subst (λ (m : Me S SeatView × ℕ). Allows {S = S} {V = SeatView} (KeepsRule a) slots id m.0 m.1
     (λ x. bit_or x k) (Published (step slots m.1 k 0 none) m.0)) (λ i. (sym is i, sym name i))
     (publishes a slots id l k r v accepted next drawn power)

@@ -8,7 +8,7 @@ use Rattle.atomic_table.specs.Table.{Splits}
 use Rattle.plan_model.specs.Plan.{lane}
 use Rattle.lane_records.specs.Records.{Record, blank}
 use Rattle.plan_verifier.specs.Accepted.{AcceptedPlan}
-use Rattle.word_archive.specs.Rule.{AllBelow, Entries, Fits, Kept}
+use Rattle.word_archive.specs.Rule.{AllBelow, Entries, Fits, KeepsRule}
 use Rattle.word_archive.specs.Views.{SeatView, base_view, split_left, split_right}
 
 -- who has a lane once it went to another seat
@@ -51,7 +51,7 @@ below_more n (e ∷ es) h = let lt = h.0 in (omega arith, below_more n es h.1)
 -- the next lane's seat is split false≢true the base seat
 pub splits : {S : Type 0} (p : AcceptedPlan) (id next : ℕ) (stopped : Bool)
     (mine : List (ℕ × Record)) → next < length p.plan
-    → Splits {S = S} {V = SeatView} (Kept p) id (base_view p next stopped mine)
+    → Splits {S = S} {V = SeatView} (KeepsRule p) id (base_view p next stopped mine)
     (split_left (base_view p next stopped mine)) (split_right (base_view p next stopped mine))
 splits p id next stopped mine lt s h at =
     let v = base_view p next stopped mine in
@@ -134,7 +134,7 @@ splits p id next stopped mine lt s h at =
 pub splits_as : {S : Type 0} (p : AcceptedPlan) (id next : ℕ) (stopped : Bool)
     (mine : List (ℕ × Record)) (v : SeatView) → next < length p.plan
     → v ≡ base_view p next stopped mine
-    → Splits {S = S} {V = SeatView} (Kept p) id v (split_left v) (split_right v)
+    → Splits {S = S} {V = SeatView} (KeepsRule p) id v (split_left v) (split_right v)
 splits_as {S} p id next stopped mine v lt is =
-    subst (λ (u : SeatView). Splits {S = S} {V = SeatView} (Kept p) id u (split_left u)
+    subst (λ (u : SeatView). Splits {S = S} {V = SeatView} (KeepsRule p) id u (split_left u)
     (split_right u)) (sym is) (splits p id next stopped mine lt)

@@ -8,7 +8,7 @@ use Rattle.atomic_table.specs.Table.{Allows, Me, keeps, step}
 use Rattle.farm_model.specs.Packages.{names}
 use Rattle.lane_records.specs.Records.{Record}
 use Rattle.plan_verifier.specs.Accepted.{AcceptedPlan}
-use Rattle.word_archive.specs.Rule.{AreWordsOf, Fits, Keeps, Kept}
+use Rattle.word_archive.specs.Rule.{AreWordsOf, Fits, Keeps, KeepsRule}
 use Rattle.word_archive.specs.Serials.{IsSerials}
 use Rattle.word_archive.specs.Steps.{Stopped}
 use Rattle.word_archive.specs.Views.{SeatView, base_view}
@@ -17,7 +17,7 @@ use Rattle.word_archive.proofs.HaltWord.{is_set, other_words, reached_after, wor
 -- the halt word set by the base seat
 pub stops_one : {S : Type 0} (a : AcceptedPlan) (slots id next : ℕ) (stopped : Bool)
     (mine : List (ℕ × Record))
-    → Allows {S = S} {V = SeatView} (Kept a) slots id (base_view a next stopped mine, [])
+    → Allows {S = S} {V = SeatView} (KeepsRule a) slots id (base_view a next stopped mine, [])
     (names a.universe + 1) (λ x. bit_or x 1)
     (Stopped (step slots (names a.universe + 1) 1 0 none) (base_view a next stopped mine, []))
 stops_one a slots id next stopped mine s h homes at small =
@@ -74,9 +74,9 @@ stops_one a slots id next stopped mine s h homes at small =
 pub stops_as : {S : Type 0} (a : AcceptedPlan) (slots id next n : ℕ) (stopped : Bool)
     (mine : List (ℕ × Record)) (me : Me S SeatView) → n ≡ names a.universe + 1
     → me ≡ (base_view a next stopped mine, [])
-    → Allows {S = S} {V = SeatView} (Kept a) slots id me n (λ x. bit_or x 1)
+    → Allows {S = S} {V = SeatView} (KeepsRule a) slots id me n (λ x. bit_or x 1)
     (Stopped (step slots n 1 0 none) me)
 stops_as {S} a slots id next n stopped mine me at is =
-    subst (λ (m : Me S SeatView × ℕ). Allows {S = S} {V = SeatView} (Kept a) slots id m.0 m.1
+    subst (λ (m : Me S SeatView × ℕ). Allows {S = S} {V = SeatView} (KeepsRule a) slots id m.0 m.1
     (λ x. bit_or x 1) (Stopped (step slots m.1 1 0 none) m.0)) (λ i. (sym is i, sym at i))
     (stops_one a slots id next stopped mine)

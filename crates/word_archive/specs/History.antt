@@ -2,7 +2,7 @@
 -- project's own rules. Parameters: a an accepted plan, l a lane, h a publication.
 --
 --   first_published, lanes_published     what the lanes have published, lane by lane
---   IsOutput, HasOutput, IsHistory       the history that the records tell
+--   IsMadeOutput, HasOutput, IsHistory   the history that the records tell
 --   IsClosed                             what is told of an archive that is closed
 use Rattle.word_archive.specs.Serials.{made_by}
 use Rattle.std.specs.Prelude.{◌≡◌, ◌↔◌, ◌⊎◌, ℕ, zero, suc, ◌<◌, Bool, true, false, List, [], ◌∷◌, ◌++◌, Option, None, Some, slice_get, length, slice_index, slice_index_or}
@@ -13,7 +13,7 @@ use Rattle.plan_model.specs.Plan.{lane, lane_outputs}
 use Rattle.archive_laws.specs.LaneMoves.{IsOutputOf}
 use Rattle.lane_records.specs.Records.{Record}
 use Rattle.plan_verifier.specs.Accepted.{AcceptedPlan, known_rows}
-use Rattle.word_archive.specs.Rule.{AreWordsOf, HasHalted, serial_word, shown}
+use Rattle.word_archive.specs.Rule.{AreWordsOf, HasHalted, serial_word, shown_world}
 
 abbrev pub entry : ℕ → ℕ → Variant → Publication
 entry serial l v = record { serial = serial; lane = l; variant = v }
@@ -39,7 +39,7 @@ lanes_published a logs zero = []
 lanes_published a logs (suc l) = lanes_published a logs l ++ lane_published a l (slice_get logs l)
 
 -- the publication is an output that its lane has made, under the serial that the lane drew for it
-pub record IsOutput (a : AcceptedPlan) (records : List Record) (h : Publication) : Type 0 where
+pub record IsMadeOutput (a : AcceptedPlan) (records : List Record) (h : Publication) : Type 0 where
   pub told : Record
   pub place : ℕ
   pub there : slice_get records h.lane ≡ Some told
@@ -60,7 +60,7 @@ pub record HasOutput (a : AcceptedPlan) (history : List Publication) (l i : ℕ)
 -- The history has exactly the outputs that the lanes have made, and its serials rise.
 pub record IsHistory (a : AcceptedPlan) (records : List Record) (history : List Publication)
     : Type 0 where
-  pub each : (k : ℕ) (h : Publication) → slice_get history k ≡ Some h → IsOutput a records h
+  pub each : (k : ℕ) (h : Publication) → slice_get history k ≡ Some h → IsMadeOutput a records h
   pub all : (l i : ℕ) (r : Record) → slice_get records l ≡ Some r
       → i < made_by a l r.at → HasOutput a history l i r
   pub rises : (j k : ℕ) (g h : Publication) → j < k → slice_get history j ≡ Some g
@@ -85,10 +85,10 @@ pub record IsClosed (a : AcceptedPlan) (words : List ℕ) (records : List Record
   -- the history has the outputs that the lanes have made, by serial;
   pub told : IsHistory a records history
   -- the words have the initial archive and what the history has;
-  pub words_are : (v : Variant) → (has_bit (shown a words records).words v ≡ true)
+  pub words_are : (v : Variant) → (has_bit (shown_world a words records).words v ≡ true)
       ↔ ((initial a.universe v ≡ true) ⊎ HasOne history (λ h. h.variant ≡ v))
   -- a serial is above those of the publications that are known ahead of its publish;
-  pub above : (k i : ℕ) (h : Publication) (o : IsOutput a records h) (v : Variant)
+  pub above : (k i : ℕ) (h : Publication) (o : IsMadeOutput a records h) (v : Variant)
       → slice_get history k ≡ Some h → IsOutputOf a.universe (lane a.plan h.lane) i o.place
       → known_rows a h.lane i v ≡ true → initial a.universe v ≡ false
       → HasOne history (λ g. (g.variant ≡ v) × (g.serial < h.serial))

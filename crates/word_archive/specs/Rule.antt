@@ -4,7 +4,7 @@
 --   IsHalted                  the halt word is set exactly where some seat has halted
 --   AreWordsOf                the words are those of these records: they show a reachable state
 --   Entries, Fits             the records that stand in a view
---   Keeps, Kept               the rule
+--   Keeps, KeepsRule          the rule
 use Rattle.std.specs.Prelude.{◌≡◌, ◌≢◌, ◌↔◌, ◌⊎◌, ℕ, ◌+◌, ◌<◌, ◌≤◌, Bool, true, List, [], ◌∷◌, Some, map, take, length, slice_get, slice_index}
 use mathlib.Core.Option.{some}
 use lib.ListN.{get_elem?}
@@ -30,8 +30,8 @@ pub record IsHalted (word : ℕ) (records : List Record) (stopped : Bool) : Type
   pub sights : (l : ℕ) (r : Record) → slice_get records l ≡ Some r → r.saw ≡ true → word ≢ 0
 
 -- what the words and the records show
-abbrev pub shown : AcceptedPlan → List ℕ → List Record → World
-shown a words records =
+abbrev pub shown_world : AcceptedPlan → List ℕ → List Record → World
+shown_world a words records =
     record { words = take (names a.universe) words; lanes = map (λ r. r.at) records }
 
 -- behind the words of the names stand the serial word and the halt word
@@ -54,7 +54,7 @@ pub record AreWordsOf (a : AcceptedPlan) (words : List ℕ) (records : List Reco
   pub serials : IsSerials a (serial_word a words) records
   pub halts : IsHalted (halt_word a words) records stopped
   -- and the words show, with the records, a reachable state.
-  pub reached : IsReached a.universe a.plan (shown a words records)
+  pub reached : IsReached a.universe a.plan (shown_world a words records)
 
 -- the records that stand in a view belong to its seat, and are those of the lanes
 abbrev pub Entries : (ℕ → ℕ) → List Record → ℕ → List (ℕ × Record) → Type 0
@@ -90,5 +90,5 @@ pub record Keeps (a : AcceptedPlan) (words : List ℕ) (views : List SeatView) :
   pub fits : (id : ℕ) (v : SeatView) → get_elem? views id ≡ some v
       → Fits a owner records stopped id v
 
-abbrev pub Kept : {S : Type 0} → AcceptedPlan → State S SeatView → Type 0
-Kept a s = Keeps a s.words s.views
+abbrev pub KeepsRule : {S : Type 0} → AcceptedPlan → State S SeatView → Type 0
+KeepsRule a s = Keeps a s.words s.views

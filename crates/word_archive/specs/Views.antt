@@ -5,7 +5,7 @@
 --   base_view, lane_view, spent     that of the base seat, of a lane's seat, one without records
 --   lane_in, record_in              the lane and the record of a lane's view
 --   split_left, split_right         the base seat's with one more lane split off; the lane's
---   joined, halted_base             the base seat's with another's records; after its halt
+--   joined_view, halted_base        the base seat's with another's records; after its halt
 use Rattle.std.specs.Prelude.{ℕ, suc, Bool, true, false, List, [], ◌∷◌, ◌++◌}
 use Rattle.farm_model.specs.Universe.{Universe}
 use Rattle.plan_model.specs.Plan.{lane}
@@ -77,8 +77,8 @@ split_right v =
     lane_view v.about v.next (blank v.about.universe (lane v.about.plan v.next))
 
 -- the base seat's view with the records of another
-abbrev pub joined : SeatView → SeatView → SeatView
-joined v w = record v { mine = v.mine ++ w.mine }
+abbrev pub joined_view : SeatView → SeatView → SeatView
+joined_view v w = record v { mine = v.mine ++ w.mine }
 
 -- the base seat's view once it has halted
 abbrev pub halted_base : SeatView → SeatView

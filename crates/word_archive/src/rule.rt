@@ -22,10 +22,10 @@ pub struct Law;
 
 impl TableRule<(), View, Accepted> for Law {
     ghost use Rattle.std.specs.Prelude.{[], false};
-    ghost use Rattle.word_archive.specs.Rule.{Kept};
+    ghost use Rattle.word_archive.specs.Rule.{KeepsRule};
     ghost use Rattle.word_archive.specs.Views.{base_view};
 
-    ghost holds = { λ a s. Kept a s };
+    ghost holds = { λ a s. KeepsRule a s };
 
     ghost first = { λ a. base_view a 0 false [] };
 }
@@ -99,9 +99,9 @@ impl Split<View> for NextLane {
 pub struct BackAgain;
 
 impl Join<View> for BackAgain {
-    ghost use Rattle.word_archive.specs.Views.{joined, spent};
+    ghost use Rattle.word_archive.specs.Views.{joined_view, spent};
 
-    ghost both = { joined };
+    ghost both = { joined_view };
 
     ghost spent = { spent };
 }

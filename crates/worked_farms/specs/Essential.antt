@@ -11,7 +11,7 @@ use Rattle.farm_model.specs.Packages.{variant}
 use Rattle.plan_model.specs.declared.instructions.Instruction.TheVariants.{Unpack, Configure, Deconfigure, Remove}
 use Rattle.plan_model.specs.Plan.{Plan}
 use Rattle.plan_model.specs.Known.{Rows}
-use Rattle.worked_farms.specs.Notation.{any, entry, binary, plain, frame, lone, rows_of}
+use Rattle.worked_farms.specs.Notation.{any, entry, binary, plain, frame, lone, table_rows}
 use Rattle.worked_farms.specs.Growing.{recipe_of, beside}
 
 abbrev pub aa : ℕ
@@ -27,11 +27,11 @@ kept =
     ∷ (record plain { depends = entry (any (codes "aa")) ∷ [] } ∷ [])
     ∷ [])
 
-abbrev pub removed : Plan
-removed = lone (Unpack aa None ∷ Remove (aa ∷ []) ∷ [])
+abbrev pub removed_essential : Plan
+removed_essential = lone (Unpack aa None ∷ Remove (aa ∷ []) ∷ [])
 
-abbrev pub deconfigured : Plan
-deconfigured = lone (Unpack aa None ∷ Configure (aa ∷ []) ∷ Deconfigure (aa ∷ []) ∷ [])
+abbrev pub deconfigured_essential : Plan
+deconfigured_essential = lone (Unpack aa None ∷ Configure (aa ∷ []) ∷ Deconfigure (aa ∷ []) ∷ [])
 
 abbrev pub removed_while_needed : Plan
 removed_while_needed =
@@ -64,4 +64,4 @@ abbrev pub removed_beside : Option (Op × List ℕ) → Plan
 removed_beside wanted = beside 0 0 100 (Unpack aa wanted ∷ Remove (aa ∷ []) ∷ [])
 
 abbrev pub known_beside : Rows
-known_beside = rows_of later ([] ∷ ([] ∷ [] ∷ (variant aa 1 ∷ []) ∷ []) ∷ [])
+known_beside = table_rows later ([] ∷ ([] ∷ [] ∷ (variant aa 1 ∷ []) ∷ []) ∷ [])

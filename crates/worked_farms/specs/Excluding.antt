@@ -1,7 +1,7 @@
 -- Packages that exclude each other, and packages that are still needed (Debian Policy 7.2 to 7.5).
 --
 --   declares_one, mail_servers      conflicts that one declares, and that both do
---   breaking                        aa breaks bb
+--   breaking_farm                   aa breaks bb
 --   providers                       two packages, either of which gives what a third needs
 --   withdrawn                       an instruction in a chroot with libc6, and libgmp that depends
 --                                   on it
@@ -47,8 +47,8 @@ second_then_first = lone (Unpack second None ∷ Unpack first None ∷ [])
 -- ---- breaks
 
 -- aa breaks bb
-abbrev pub breaking : Universe
-breaking =
+abbrev pub breaking_farm : Universe
+breaking_farm =
     frame (codes "aa" ∷ codes "bb" ∷ [])
     ((record plain { breaks = entry (any (codes "bb")) ∷ [] } ∷ []) ∷ (plain ∷ []) ∷ [])
 

@@ -14,7 +14,7 @@ use Rattle.plan_model.specs.declared.instructions.Instruction.{Instruction}
 use Rattle.plan_model.specs.declared.instructions.Instruction.TheVariants.{Unpack, Configure, Remove, Build, Publish, Wait}
 use Rattle.plan_model.specs.Plan.{Plan}
 use Rattle.plan_model.specs.Known.{Rows}
-use Rattle.worked_farms.specs.Notation.{any, in_version, entry, binary, plain, lane_in, rows_of}
+use Rattle.worked_farms.specs.Notation.{any, in_version, entry, binary, plain, lane_in, table_rows}
 
 abbrev pub lib : ℕ
 lib = 0
@@ -75,7 +75,7 @@ beside r base budget instructions =
     ∷ []
 
 abbrev pub beside_known : Variant → Rows
-beside_known output = rows_of growing ([] ∷ ([] ∷ [] ∷ (output ∷ []) ∷ []) ∷ [])
+beside_known output = table_rows growing ([] ∷ ([] ∷ [] ∷ (output ∷ []) ∷ []) ∷ [])
 
 abbrev pub new_lib : Variant
 new_lib = variant lib 1
@@ -140,7 +140,7 @@ two_makers awaited =
 -- a knows these once its wait has passed
 abbrev pub two_makers_known : List Variant → Rows
 two_makers_known a_knows =
-    rows_of makers
+    table_rows makers
     (([] ∷ a_knows ∷ a_knows ∷ [])
     ∷ ([] ∷ [] ∷ (variant 0 0 ∷ []) ∷ [])
     ∷ ([] ∷ [] ∷ late ∷ [])

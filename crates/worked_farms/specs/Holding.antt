@@ -13,7 +13,7 @@ use Rattle.farm_model.specs.Universe.{Universe}
 use Rattle.plan_model.specs.declared.instructions.Instruction.TheVariants.{Unpack, Configure, Remove}
 use Rattle.plan_model.specs.Plan.{Plan}
 use Rattle.plan_model.specs.Known.{Rows}
-use Rattle.worked_farms.specs.Notation.{in_version, entry, binary, plain, rows_of}
+use Rattle.worked_farms.specs.Notation.{in_version, entry, binary, plain, table_rows}
 use Rattle.worked_farms.specs.Growing.{lib, new_lib, recipe_of, empty_base, beside}
 
 abbrev pub cc : ℕ
@@ -50,7 +50,7 @@ holding = record {
 
 -- the other lane knows what it has published, and this lane the initial archive alone
 abbrev pub holding_known : Rows
-holding_known = rows_of holding ([] ∷ ([] ∷ [] ∷ (new_lib ∷ []) ∷ []) ∷ [])
+holding_known = table_rows holding ([] ∷ ([] ∷ [] ∷ (new_lib ∷ []) ∷ []) ∷ [])
 
 -- the lib that is unpacked may be lib 2, which conflicts with cc
 abbrev pub excludes_beside : Plan
@@ -60,12 +60,12 @@ excludes_beside = beside 0 0 100 (Unpack lib None ∷ Unpack cc None ∷ [])
 abbrev pub breaks_beside : Plan
 breaks_beside = beside 0 0 100 (Unpack lib None ∷ Configure (lib ∷ []) ∷ Unpack dd None ∷ [])
 
-abbrev pub only_first : Option (Op × List ℕ)
-only_first = Some (Equal, codes "1")
+abbrev pub version_one : Option (Op × List ℕ)
+version_one = Some (Equal, codes "1")
 
 -- the lib that goes may be lib 1, which ee needs, or lib 2
 abbrev pub removes_beside : Plan
 removes_beside =
     beside 0 0 100
-    (Unpack lib only_first ∷ Configure (lib ∷ []) ∷ Unpack ee None ∷ Configure (ee ∷ [])
+    (Unpack lib version_one ∷ Configure (lib ∷ []) ∷ Unpack ee None ∷ Configure (ee ∷ [])
     ∷ Unpack lib None ∷ Configure (lib ∷ []) ∷ Remove (lib ∷ []) ∷ [])

@@ -4,7 +4,7 @@
 --   binary, plain              a package without relations; the same of version 1 and no size
 --   frame, lane_in, lone       a farm of one empty chroot whose archive has each package; a lane; a
 --                              plan of one lane
---   rows_of                    known rows: the initial archive, and more by a table
+--   table_rows                 known rows: the initial archive, and more by a table
 use Rattle.std.specs.Prelude.{ℕ, false, ◌-◌, ◌^◌, ◌||◌, List, [], ◌∷◌, length, map, Some, None, slice_index_or, codes}
 use Rattle.deb_relation.specs.declared.operator.Op.{Op}
 use Rattle.deb_relation.specs.Relations.{Atom, Entry}
@@ -78,5 +78,6 @@ abbrev pub lone : List Instruction → Plan
 lone instructions = lane_in (codes "a") 0 100 instructions ∷ []
 
 -- known rows by lane and place: the initial archive and what the table lists
-abbrev pub rows_of : Universe → List (List (List Variant)) → Rows
-rows_of u table l i v = initial u v || contains (slice_index_or (slice_index_or table l []) i []) v
+abbrev pub table_rows : Universe → List (List (List Variant)) → Rows
+table_rows u table l i v =
+    initial u v || contains (slice_index_or (slice_index_or table l []) i []) v

@@ -15,8 +15,8 @@ use Rattle.plan_model.specs.Run.{lane_state}
 use Rattle.worked_farms.specs.Notation.{any, in_version, entry, binary, plain, frame, lone}
 use Rattle.worked_farms.specs.Verdict.{run_alone}
 
-abbrev pub bare : Atom
-bare = any (codes "vv")
+abbrev pub bare_atom : Atom
+bare_atom = any (codes "vv")
 
 abbrev pub versioned : Atom
 versioned = in_version (codes "vv") Equal (codes "1.0")

@@ -17,7 +17,7 @@ use Rattle.plan_model.specs.declared.instructions.Instruction.TheVariants.{Unpac
 use Rattle.plan_model.specs.Plan.{Lane, Plan}
 use Rattle.plan_model.specs.Run.{State, Ending, publication}
 use Rattle.plan_model.specs.Known.{Rows}
-use Rattle.worked_farms.specs.Notation.{in_version, entry, lane_in, rows_of}
+use Rattle.worked_farms.specs.Notation.{in_version, entry, lane_in, table_rows}
 use Rattle.worked_farms.specs.Toolchain.{gcc, libgmp, stage1, gcc_stage1, gcc_full, gmp, needs_gcc, needs_libgmp, toolchain, newer}
 
 abbrev pub only_stage1 : Option (Op × List ℕ)
@@ -44,7 +44,7 @@ abbrev pub handing_known : List Variant → Rows
 handing_known b_knows =
     let first = gcc_stage1 ∷ [] in
     let second = gcc_stage1 ∷ gmp ∷ [] in
-    rows_of toolchain
+    table_rows toolchain
     (([] ∷ [] ∷ first ∷ second ∷ second ∷ second ∷ second ∷ (gcc_stage1 ∷ gmp ∷ gcc_full ∷ []) ∷ [])
     ∷ ([] ∷ b_knows ∷ b_knows ∷ b_knows ∷ b_knows ∷ second ∷ [])
     ∷ [])
@@ -72,8 +72,8 @@ handed = record {
 }
 
 -- a run that meets no trap and ends in this state
-abbrev pub ended : State → Ending
-ended s = record { state = s; stop = None }
+abbrev pub ended_in : State → Ending
+ended_in s = record { state = s; stop = None }
 
 -- ---- the unpack may give a newer one
 
@@ -89,7 +89,7 @@ newest_or_exact relation =
 abbrev pub newest_or_exact_known : Rows
 newest_or_exact_known =
     let first = gcc_stage1 ∷ [] in
-    rows_of newer
+    table_rows newer
     (([] ∷ first ∷ first ∷ first ∷ [])
     ∷ ([] ∷ [] ∷ first ∷ first ∷ (gcc_stage1 ∷ gcc_full ∷ []) ∷ [])
     ∷ [])
@@ -106,7 +106,7 @@ between budget =
 -- b knows these once its wait has passed
 abbrev pub between_known : List Variant → Rows
 between_known b_knows =
-    rows_of toolchain
+    table_rows toolchain
     (([] ∷ [] ∷ (gcc_stage1 ∷ gmp ∷ []) ∷ [])
     ∷ ([] ∷ b_knows ∷ b_knows ∷ b_knows ∷ [])
     ∷ [])
@@ -134,7 +134,7 @@ abbrev pub through_another_known : Rows
 through_another_known =
     let first = gcc_stage1 ∷ [] in
     let second = gcc_stage1 ∷ gmp ∷ [] in
-    rows_of toolchain
+    table_rows toolchain
     (([] ∷ [] ∷ first ∷ [])
     ∷ ([] ∷ first ∷ first ∷ first ∷ first ∷ second ∷ [])
     ∷ ([] ∷ second ∷ second ∷ second ∷ [])
@@ -151,7 +151,7 @@ circle_known =
     let first = gcc_stage1 ∷ [] in
     let second = gmp ∷ [] in
     let both = gcc_stage1 ∷ gmp ∷ [] in
-    rows_of toolchain
+    table_rows toolchain
     (([] ∷ second ∷ second ∷ both ∷ [])
     ∷ ([] ∷ first ∷ first ∷ first ∷ first ∷ both ∷ [])
     ∷ [])
@@ -161,4 +161,4 @@ abbrev pub self_circle : Plan
 self_circle = lane_in (codes "a") 0 50 (Wait needs_gcc ∷ Build 0 ∷ Publish 0 ∷ []) ∷ []
 
 abbrev pub self_circle_known : Rows
-self_circle_known = rows_of toolchain (([] ∷ [] ∷ [] ∷ (gcc_stage1 ∷ []) ∷ []) ∷ [])
+self_circle_known = table_rows toolchain (([] ∷ [] ∷ [] ∷ (gcc_stage1 ∷ []) ∷ []) ∷ [])

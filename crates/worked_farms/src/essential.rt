@@ -7,14 +7,14 @@ ghost use Rattle.plan_model.specs.Run.{result_of};
 ghost use Rattle.verdict_laws.specs.Greatest.{is_settled};
 ghost use Rattle.worked_farms.specs.KnownMore.{none_more};
 ghost use Rattle.worked_farms.specs.Verdict.{Costs, Refused, verdict_of, trap_at, Passes, Traps};
-ghost use Rattle.worked_farms.specs.Essential.{kept, removed, deconfigured, removed_while_needed, replaced, removed_once_replaced, exactly, later, removed_beside, known_beside};
+ghost use Rattle.worked_farms.specs.Essential.{kept, removed_essential, deconfigured_essential, removed_while_needed, replaced, removed_once_replaced, exactly, later, removed_beside, known_beside};
 
 /// An Essential package stays, whether or not something still needs it. It may be deconfigured, and
 /// what has taken its place may go where that is not Essential.
 pub fn essential_stays()
-    ensures removed { Traps kept removed 2 Essential }
+    ensures removed { Traps kept removed_essential 2 Essential }
     ensures needed_too { Traps kept removed_while_needed 4 Essential }
-    ensures deconfigured { Passes kept deconfigured 3 }
+    ensures deconfigured { Passes kept deconfigured_essential 3 }
     ensures replaced { Passes replaced removed_once_replaced 3 }
 {}
 

@@ -7,7 +7,7 @@ ghost use Rattle.plan_model.specs.declared.instructions.Instruction.TheVariants.
 ghost use Rattle.worked_farms.specs.Notation.{lone};
 ghost use Rattle.worked_farms.specs.Verdict.{Passes, Traps};
 ghost use Rattle.worked_farms.specs.Toolchain.{libc6, libgmp, newer};
-ghost use Rattle.worked_farms.specs.Excluding.{first, second, third, declares_one, mail_servers, only_first, first_then_second, second_then_first, breaking, beside_configured, beside_deconfigured, providers, with_all_three, withdrawn};
+ghost use Rattle.worked_farms.specs.Excluding.{first, second, third, declares_one, mail_servers, only_first, first_then_second, second_then_first, breaking_farm, beside_configured, beside_deconfigured, providers, with_all_three, withdrawn};
 
 /// A conflict counts whichever of the two declares it, and a package is in no conflict with itself.
 pub fn conflict_from_either_side()
@@ -20,9 +20,9 @@ pub fn conflict_from_either_side()
 /// A package that breaks another is not unpacked while that one is configured, and keeps it from
 /// being configured again.
 pub fn breaks_configured_alone()
-    ensures configured { Traps breaking beside_configured 3 BreaksOther }
-    ensures deconfigured { Passes breaking (lone beside_deconfigured) 4 }
-    ensures configured_again { Traps breaking
+    ensures configured { Traps breaking_farm beside_configured 3 BreaksOther }
+    ensures deconfigured { Passes breaking_farm (lone beside_deconfigured) 4 }
+    ensures configured_again { Traps breaking_farm
         (lone (beside_deconfigured ++ Configure (second ∷ []) ∷ [])) 5 Broken }
 {}
 

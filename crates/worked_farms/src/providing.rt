@@ -6,11 +6,11 @@ ghost use Rattle.deb_relation.specs.declared.operator.Op.TheVariants.{Earlier, E
 ghost use Rattle.farm_model.specs.declared.types.Trap.TheVariants.{Depends};
 ghost use Rattle.farm_model.specs.declared.types.Slot.TheVariants.{Absent, Unpacked};
 ghost use Rattle.worked_farms.specs.Verdict.{Passes, Traps};
-ghost use Rattle.worked_farms.specs.Providing.{bare, versioned, provider, one_then_the_other, taken};
+ghost use Rattle.worked_farms.specs.Providing.{bare_atom, versioned, provider, one_then_the_other, taken};
 
 /// A Provides satisfies a relation with a version only where it states a version in it.
 pub fn bare_provides_satisfies_no_version()
-    ensures bare { Traps (provider bare) one_then_the_other 4 Depends }
+    ensures bare { Traps (provider bare_atom) one_then_the_other 4 Depends }
     ensures versioned { Passes (provider versioned) one_then_the_other 4 }
 {}
 

@@ -13,7 +13,7 @@ ghost use Rattle.worked_farms.specs.Verdict.{Costs, Refused, verdict_of, trap_at
 ghost use Rattle.worked_farms.specs.Toolchain.{gcc_stage1, gmp, toolchain, newer, one_recipe};
 ghost use Rattle.worked_farms.specs.KnownMore.{none_more};
 ghost use Rattle.worked_farms.specs.Orders.{lanes_going, left_after};
-ghost use Rattle.worked_farms.specs.Waiting.{only_stage1, handing_after, handing, handing_known, handed, ended, newest_or_exact, newest_or_exact_known, between, between_known, through_another_after, through_another, through_another_known, circle, circle_known, self_circle, self_circle_known};
+ghost use Rattle.worked_farms.specs.Waiting.{only_stage1, handing_after, handing, handing_known, handed, ended_in, newest_or_exact, newest_or_exact_known, between, between_known, through_another_after, through_another, through_another_known, circle, circle_known, self_circle, self_circle_known};
 
 /// Two lanes hand a compiler to each other: a builds its first stage, b makes libgmp with that, and
 /// a builds the rest with libgmp.
@@ -29,7 +29,7 @@ pub fn two_lanes_hand_a_compiler_to_each_other()
     ensures order { left_after toolchain handing (0 ∷ 1 ∷ 1 ∷ 0 ∷ 0 ∷ []) ≡ Some [] }
 
     ensures end { result_of toolchain handing
-        (0 ∷ 0 ∷ 1 ∷ 1 ∷ 1 ∷ 1 ∷ 1 ∷ 0 ∷ 0 ∷ 0 ∷ 0 ∷ 0 ∷ []) ≡ ended handed }
+        (0 ∷ 0 ∷ 1 ∷ 1 ∷ 1 ∷ 1 ∷ 1 ∷ 0 ∷ 0 ∷ 0 ∷ 0 ∷ 0 ∷ []) ≡ ended_in handed }
     ensures finished { is_finished handing handed ≡ true }
     ensures used_by_a { used toolchain (lane_state handed 0).chroot ≡ 2560 }
     ensures used_by_b { used toolchain (lane_state handed 1).chroot ≡ 3072 }
@@ -39,7 +39,7 @@ pub fn two_lanes_hand_a_compiler_to_each_other()
 
     // Events of lanes that are blocked, have ended or are unknown change nothing.
     ensures blocked_between { result_of toolchain handing
-        (1 ∷ 0 ∷ 0 ∷ 0 ∷ 7 ∷ 1 ∷ 1 ∷ 1 ∷ 1 ∷ 1 ∷ 1 ∷ 0 ∷ 0 ∷ 0 ∷ 0 ∷ 0 ∷ 0 ∷ []) ≡ ended handed }
+        (1 ∷ 0 ∷ 0 ∷ 0 ∷ 7 ∷ 1 ∷ 1 ∷ 1 ∷ 1 ∷ 1 ∷ 1 ∷ 0 ∷ 0 ∷ 0 ∷ 0 ∷ 0 ∷ 0 ∷ []) ≡ ended_in handed }
 {}
 
 /// An unpack of any version may take a newer one than the lane waited for, with other needs; an
@@ -145,5 +145,6 @@ pub fn circle_never_steps()
     ensures both_left { lanes_left (start_board toolchain circle) ≡ 0 ∷ 1 ∷ [] }
     ensures self_goes_not { lanes_going toolchain (start_board toolchain self_circle) ≡ [] }
     ensures self_left { lanes_left (start_board toolchain self_circle) ≡ 0 ∷ [] }
-    ensures events { result_of toolchain circle (0 ∷ 1 ∷ 7 ∷ []) ≡ ended (start toolchain circle) }
+    ensures events { result_of toolchain circle (0 ∷ 1 ∷ 7 ∷ [])
+        ≡ ended_in (start toolchain circle) }
 {}

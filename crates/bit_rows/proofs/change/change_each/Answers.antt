@@ -1,9 +1,9 @@
 use Rattle.std.proofs.Common.{◌≡◌, ◌+◌, ◌<◌, ◌≤◌, ◌++◌, ℕ, true, false, List, refl, sym, ap, ap₂, ◌∙◌, arith, length, take, drop, get_or, set}
 use Rattle.std.specs.Simd.Lanes.{zip2}
 use Rattle.std.proofs.lemmas.List.{get_or-drop, get_or_default, drop-drop, drop-set-lt, length-set}
-use Rattle.clause_kernel.specs.Kernels.{same}
+use Rattle.clause_kernel.specs.Kernels.{same_rows}
 use Rattle.bit_rows.specs.declared.block.Block.{Block}
-use Rattle.bit_rows.specs.Blocks.{words_at, changed, no_words, IsAscending, StandsAt}
+use Rattle.bit_rows.specs.Blocks.{block_words_at, changed_blocks, no_words, IsAscending, StandsAt}
 use Rattle.bit_rows.proofs.Places.{blank, below_to}
 use Rattle.bit_rows.proofs.Walks.{place_next}
 use Rattle.bit_rows.proofs.Changes.{changed_kept, changed_dropped}
@@ -26,15 +26,15 @@ record Reads (f : ℕ → ℕ → ℕ) (at there : ℕ) (item : Block) (words : 
   ascending : IsAscending 0 start
   lt : at < length start
   item_is : item ≡ get_or blocks at item
-  words_are : words ≡ zip2 f item.words (words_at others item.place)
+  words_are : words ≡ zip2 f item.words (block_words_at others item.place)
   stands : StandsAt there item.place others
 
 turn : (f : ℕ → ℕ → ℕ) (at kept kept_new there there_new : ℕ) (item : Block) (words : List ℕ)
     (blocks new others start : List Block) → IsChangedTo f at kept there blocks others start
     → Reads f at there_new item words blocks others start → kept_new ≤ at + 1
     → length new ≡ length blocks → drop (at + 1) new ≡ drop (at + 1) blocks
-    → take kept_new new ++ changed f (drop (at + 1) new) others
-    ≡ take kept blocks ++ changed f (drop at blocks) others
+    → take kept_new new ++ changed_blocks f (drop (at + 1) new) others
+    ≡ take kept blocks ++ changed_blocks f (drop at blocks) others
     → IsChangedTo f (at + 1) kept_new there_new new others start
 turn f at kept kept_new there there_new item words blocks new others start is reads order long tail
     done =
@@ -55,7 +55,7 @@ turn f at kept kept_new there there_new item words blocks new others start is re
 
 turn_kept : (f : ℕ → ℕ → ℕ) (at kept kept_new there there_new : ℕ) (item : Block) (words : List ℕ)
     (blocks new others start : List Block) → IsChangedTo f at kept there blocks others start
-    → Reads f at there_new item words blocks others start → same words no_words ≡ false
+    → Reads f at there_new item words blocks others start → same_rows words no_words ≡ false
     → new ≡ set blocks kept (record { place = item.place; words = words }) → kept_new ≡ kept + 1
     → IsChangedTo f (at + 1) kept_new there_new new others start
 turn_kept f at kept kept_new there there_new item words blocks new others start is reads one made
@@ -69,21 +69,21 @@ turn_kept f at kept kept_new there there_new item words blocks new others start 
     let read : b ≡ record {
       place = (get_or blocks at item).place;
       words = zip2 f (get_or blocks at item).words
-          (words_at others (get_or blocks at item).place);
+          (block_words_at others (get_or blocks at item).place);
     } =
     ap (λ w. record { place = item.place; words = w }) reads.words_are
     ∙ ap (λ (x : Block). record
-    { place = x.place; words = zip2 f x.words (words_at others x.place) }) reads.item_is in
+    { place = x.place; words = zip2 f x.words (block_words_at others x.place) }) reads.item_is in
     turn f at kept kept_new there there_new item words blocks new others start is reads
     (omega arith)
     long_new (ap (drop (at + 1)) made ∙ drop-set-lt (at + 1) blocks kept b (omega arith))
-    (ap₂ (λ k l. take k l ++ changed f (drop (at + 1) l) others) counted made
+    (ap₂ (λ k l. take k l ++ changed_blocks f (drop (at + 1) l) others) counted made
     ∙ changed_kept f blocks others kept at b item le inside one read)
 
 turn_dropped : (f : ℕ → ℕ → ℕ) (at kept kept_new there there_new : ℕ) (item : Block)
     (words : List ℕ) (blocks new others start : List Block)
     → IsChangedTo f at kept there blocks others start
-    → Reads f at there_new item words blocks others start → same words no_words ≡ true
+    → Reads f at there_new item words blocks others start → same_rows words no_words ≡ true
     → new ≡ blocks → kept_new ≡ kept → IsChangedTo f (at + 1) kept_new there_new new others start
 turn_dropped f at kept kept_new there there_new item words blocks new others start is reads none
     made counted =
@@ -95,15 +95,15 @@ turn_dropped f at kept kept_new there there_new item words blocks new others sta
     let read : b ≡ record {
       place = (get_or blocks at item).place;
       words = zip2 f (get_or blocks at item).words
-          (words_at others (get_or blocks at item).place);
+          (block_words_at others (get_or blocks at item).place);
     } =
     ap (λ w. record { place = item.place; words = w }) reads.words_are
     ∙ ap (λ (x : Block). record
-    { place = x.place; words = zip2 f x.words (words_at others x.place) }) reads.item_is in
+    { place = x.place; words = zip2 f x.words (block_words_at others x.place) }) reads.item_is in
     turn f at kept kept_new there there_new item words blocks new others start is reads
     (omega arith)
     (ap length made) (ap (drop (at + 1)) made)
-    (ap₂ (λ k l. take k l ++ changed f (drop (at + 1) l) others) counted made
+    (ap₂ (λ k l. take k l ++ changed_blocks f (drop (at + 1) l) others) counted made
     ∙ changed_dropped f blocks others kept at b item inside none read)
 
 pub loop-at-preserved : goal.loop-at-preserved

@@ -3,7 +3,7 @@ use Rattle.std.specs.Simd.Lanes.{zip2}
 use Rattle.std.proofs.lemmas.List.{drop_all, take_at, length-take-le, length-append}
 use Rattle.std.proofs.lemmas.Simd.{length-zip2}
 use Rattle.bit_rows.specs.declared.block.Block.{Block}
-use Rattle.bit_rows.specs.Blocks.{words_at, IsAscending, AreBelow, AreRowBlocks, AreOfOneLength, StandsAt, placed, block_of, behind, missing}
+use Rattle.bit_rows.specs.Blocks.{block_words_at, IsAscending, AreBelow, AreRowBlocks, AreOfOneLength, StandsAt, placed, block_if_any, behind_place, missing_places}
 use Rattle.bit_rows.proofs.Places.{blank, below_to}
 use Rattle.bit_rows.proofs.RowWords.{eight_at, zero_past, row_blocks-placed}
 use Rattle.bit_rows.proofs.Walks.{place_next, block_at}
@@ -16,7 +16,8 @@ use Rattle.bit_rows.proofs.change.join_each.Goals as goal
 turn : (i at_old at capacity capacity_new : ℕ) (cur others start new : List Block) (ws : List ℕ)
     → IsJoinedTo i at_old capacity cur others start → AreOfOneLength start others
     → i < length others → StandsAt at (get_or others i blank).place cur
-    → ws ≡ zip2 bit_or (get_or others i blank).words (words_at cur (get_or others i blank).place)
+    → ws ≡ zip2 bit_or (get_or others i blank).words
+    (block_words_at cur (get_or others i blank).place)
     → new ≡ placed at (record { place = (get_or others i blank).place; words = ws }) cur
     → capacity ≤ capacity_new → IsJoinedTo (i + 1) at capacity_new new others start
 turn i at_old at capacity capacity_new cur others start new ws is of lt stands joined made wide =
@@ -24,7 +25,7 @@ turn i at_old at capacity capacity_new cur others start new ws is of lt stands j
     let are_o = of.2 in
     let y = get_or others i blank in
     let b : Block = record { place = y.place; words = ws } in
-    let there = words_at cur y.place in
+    let there = block_words_at cur y.place in
     let are_cur = is.are n of.1 are_o in
     let even : length y.words ≡ length there =
     (block_at n others i blank are_o.each lt).eight ∙ sym (eight_at n cur y.place are_cur.each) in
@@ -32,12 +33,12 @@ turn i at_old at capacity capacity_new cur others start new ws is of lt stands j
     ∙ (block_at n others i blank are_o.each lt).eight) in
     let front : length (take at cur) ≡ at = length-take-le at cur stands.bound in
     let kept : take at new ≡ take at cur = ap (take at) made
-    ∙ take_at (take at cur) (block_of b ++ behind y.place (drop at cur)) at front in
+    ∙ take_at (take at cur) (block_if_any b ++ behind_place y.place (drop at cur)) at front in
     record {
       bound = omega (
         arith,
         ap length made,
-        length-append (take at cur) (block_of b ++ behind y.place (drop at cur)),
+        length-append (take at cur) (block_if_any b ++ behind_place y.place (drop at cur)),
         front,
       );
       below = λ later.
@@ -54,16 +55,17 @@ turn i at_old at capacity capacity_new cur others start new ws is of lt stands j
           (zero_past m cur y.place k (is.are m a o).each past)))
           stands (is.are m a o));
       words = λ m place a o.
-          ap (λ l. zip2 bit_or (words_at l place) (words_at (drop (i + 1) others) place)) made
+          ap (λ l. zip2 bit_or (block_words_at l place)
+          (block_words_at (drop (i + 1) others) place)) made
           ∙ (joined_more cur others at i blank ws place are_o.ascending lt stands long joined
           ∙ is.words m place a o);
       room = (
           let grown = room_more cur others at i blank ws are_o.ascending lt stands long in
           let had = is.room in
           let same_length : length new ≡ length (placed at b cur) = ap length made in
-          let same_missing : missing new (drop (i + 1) others)
-          ≡ missing (placed at b cur) (drop (i + 1) others) =
-          ap (λ l. missing l (drop (i + 1) others)) made in
+          let same_missing : missing_places new (drop (i + 1) others)
+          ≡ missing_places (placed at b cur) (drop (i + 1) others) =
+          ap (λ l. missing_places l (drop (i + 1) others)) made in
           omega arith);
     }
 
@@ -84,7 +86,8 @@ loop-other-preserved g c =
     c.seek-at.ensures)
     (c.or_into.ensures.row
     ∙ ap (zip2 bit_or y.words)
-    (c.words_there.ensures ∙ ap (λ l. words_at l y.place) c.deref-in-loop-other-2.ensures.value))
+    (c.words_there.ensures ∙ ap (λ l. block_words_at l y.place)
+    c.deref-in-loop-other-2.ensures.value))
     c.in_ok-put.ensures.placed c.in_ok-put.ensures.capacity
 
 pub returns-clause-joined : goal.returns-clause-joined
@@ -97,7 +100,7 @@ returns-clause-joined g c =
     record {
       are = is.are;
       words = λ place.
-          sym (or-none 8 (words_at cur place) (eight_at n cur place are.each))
-          ∙ (ap (λ l. zip2 bit_or (words_at cur place) (words_at l place)) (sym last)
+          sym (or-none 8 (block_words_at cur place) (eight_at n cur place are.each))
+          ∙ (ap (λ l. zip2 bit_or (block_words_at cur place) (block_words_at l place)) (sym last)
           ∙ is.words n place c.requires.1 c.requires.2);
     }

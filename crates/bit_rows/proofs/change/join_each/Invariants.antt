@@ -1,7 +1,7 @@
 use Rattle.std.proofs.Common.{◌≡◌, ◌+◌, ◌<◌, ◌≤◌, ℕ, List, length, get_or, take, drop, bit_or, vec_capacity}
 use Rattle.std.specs.Simd.Lanes.{zip2}
 use Rattle.bit_rows.specs.declared.block.Block.{Block}
-use Rattle.bit_rows.specs.Blocks.{AreBelow, AreRowBlocks, missing, words_at}
+use Rattle.bit_rows.specs.Blocks.{AreBelow, AreRowBlocks, missing_places, block_words_at}
 use Rattle.bit_rows.proofs.Places.{blank}
 use Rattle.bit_rows.proofs.change.join_each.Given as goal
 
@@ -11,9 +11,9 @@ pub record IsJoinedTo (done at capacity : ℕ) (blocks others start : List Block
   pub below : done < length others → AreBelow (get_or others done blank).place (take at blocks)
   pub are : (n : ℕ) → AreRowBlocks n start → AreRowBlocks n others → AreRowBlocks n blocks
   pub words : (n place : ℕ) → AreRowBlocks n start → AreRowBlocks n others
-      → zip2 bit_or (words_at blocks place) (words_at (drop done others) place)
-      ≡ zip2 bit_or (words_at start place) (words_at others place)
-  pub room : length blocks + missing blocks (drop done others) ≤ capacity
+      → zip2 bit_or (block_words_at blocks place) (block_words_at (drop done others) place)
+      ≡ zip2 bit_or (block_words_at start place) (block_words_at others place)
+  pub room : length blocks + missing_places blocks (drop done others) ≤ capacity
 
 abbrev pub invariant-loop-other : goal.invariant-loop-other
 invariant-loop-other g l =

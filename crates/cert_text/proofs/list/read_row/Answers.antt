@@ -2,7 +2,7 @@ use Rattle.std.proofs.Common.{◌≡◌, sym, ap, ◌∙◌, ◌++◌, ◌∷◌
 use Rattle.std.specs.Option.{option_map}
 use Rattle.deb_relation.specs.Field.{entries_left}
 use Rattle.farm_model.specs.Packages.{names}
-use Rattle.farm_universe.specs.ListText.{words_of}
+use Rattle.farm_universe.specs.ListText.{variant_words}
 use Rattle.cert_text.specs.Rows.{comes_behind}
 use Rattle.cert_text.proofs.RowsSoFar.{so_far-nil, left-begins, so_far-push, so_far-words, left-none, left-stops, left-goes, left-ends, variants_said, row-said}
 use Rattle.cert_text.proofs.list.read_row.Goals.{then-not-is_behind-via-then-not-is_behind, then-not-is_behind-via-else-not-is_behind+then-is_initial}
@@ -15,7 +15,7 @@ returns-in_default-2-clause-row c =
     left-none u c.loop-item.invariant.variants c.loop-item.last c.in-Some.item.now _ _ _
     c.in-Some.ensures.entry c.loop-item.invariant.left
     (sym c.in_ok-variant.ensures.said ∙ c.in_default-2.is) in
-    sym (row-said u c.args.text.now ∙ ap (option_map (words_of (names u))) none)
+    sym (row-said u c.args.text.now ∙ ap (option_map (variant_words (names u))) none)
 
 pub returns-then-not-is_behind-clause-row : goal.returns-then-not-is_behind-clause-row
 returns-then-not-is_behind-clause-row c =
@@ -23,7 +23,7 @@ returns-then-not-is_behind-clause-row c =
     let last = c.loop-item.last in
     let v = c.in-Some-2.variant in
     let stops = λ (not : comes_behind u last v ≡ false).
-    sym (row-said u c.args.text.now ∙ ap (option_map (words_of (names u)))
+    sym (row-said u c.args.text.now ∙ ap (option_map (variant_words (names u)))
     (left-stops u c.loop-item.invariant.variants last c.in-Some.item.now _ _ _
     c.in-Some.ensures.entry c.loop-item.invariant.left v
     (sym c.in_ok-variant.ensures.said ∙ c.in-Some-2.is) not)) in
@@ -74,4 +74,4 @@ returns-clause-row c =
     let total : variants_said u None (entries_left (Some c.args.text.now)) ≡ Some vs =
     left-ends u vs c.loop-item.last _ _ c.in_default.ensures.none c.loop-item.invariant.left in
     ap Some (so_far-words (names u) c.loop-item.row vs c.loop-item.invariant.row)
-    ∙ sym (row-said u c.args.text.now ∙ ap (option_map (words_of (names u))) total)
+    ∙ sym (row-said u c.args.text.now ∙ ap (option_map (variant_words (names u))) total)

@@ -5,7 +5,7 @@ use Rattle.std.specs.List.{flat_map, range_with_len}
 use Rattle.clause_kernel.specs.Rows.{word_has}
 use Rattle.farm_model.specs.declared.types.Variant.{Variant}
 use Rattle.farm_model.specs.Packages.{variants}
-use Rattle.cert_text.specs.Rows.{IsIn, named_in_row, row_variants}
+use Rattle.cert_text.specs.Rows.{IsOfUniverse, named_in_row, row_variants}
 use Rattle.cert_text.proofs.RowLists.{row_variants-in, in_row-none, names-more}
 use Rattle.cert_text.proofs.printer.row_variants.Goals as goal
 use Rattle.cert_text.proofs.printer.row_variants.Goals.{then-word-ne0+in_ok-push_named, else-word-ne0}
@@ -30,7 +30,7 @@ loop-name-preserved c =
 
 pub returns-clause-known : goal.returns-clause-known
 returns-clause-known c =
-    All-same (IsIn c.args.universe.now) c.loop-name.found.items
+    All-same (IsOfUniverse c.args.universe.now) c.loop-name.found.items
     (row_variants c.args.universe.now c.args.row.now)
     (c.loop-name.invariant
     ∙ ap (λ k. flat_map (named_in_row c.args.universe.now c.args.row.now) (range_with_len 0 k))

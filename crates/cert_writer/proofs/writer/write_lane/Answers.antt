@@ -7,7 +7,7 @@ use Rattle.farm_laws.proofs.Archive.{element}
 use Rattle.cert_writer.proofs.Places.{text_to, text_behind, text-next, text-all, text-around}
 use Rattle.cert_writer.proofs.SendingLaws.{none_sent, sent_twice, stopped_within}
 use Rattle.cert_writer.proofs.writer.write_lane.Goals as goal
-use Rattle.cert_writer.specs.Lines.{place_text, lane_text}
+use Rattle.cert_writer.specs.Lines.{place_row_text, lane_text}
 use Rattle.cert_writer.specs.Sending.{IsSent}
 
 there : (p : Plan) (l i : ℕ) (xs : List Instruction) → xs ≡ (lane p l).instructions → i < length xs
@@ -35,7 +35,7 @@ loop-place-preserved g c =
           (sym (text-next a.universe a.plan (known_rows a) l i x.0 x.1))
           (sent_twice old (g.S.Sink.state c.loop-place.out) c.args.pending.now c.loop-place.pending
           (text_to a.universe a.plan (known_rows a) l i)
-          (place_text a.universe a.plan (known_rows a) l i)
+          (place_row_text a.universe a.plan (known_rows a) l i)
           c.loop-place.invariant.sent new c.write_place.new.pending
           c.in_ok-write_place.ensures.sent);
       carried = c.in_ok-write_place.ensures.carried;
@@ -53,7 +53,8 @@ returns-in_err-write_place-clause-sent g c =
     rw (e.1, e.2)
     (stopped_within (g.S.Sink.state c.args.out.now) (g.S.Sink.state c.loop-place.out)
     (g.S.Sink.state c.write_place.new.out) c.args.pending.now c.loop-place.pending
-    (text_to a.universe a.plan (known_rows a) l i) (place_text a.universe a.plan (known_rows a) l i)
+    (text_to a.universe a.plan (known_rows a) l i)
+    (place_row_text a.universe a.plan (known_rows a) l i)
     (text_behind a.universe a.plan (known_rows a) l (i + 1))
     (lane_text a.universe a.plan (known_rows a) l) _
     (text-around a.universe a.plan (known_rows a) l i x.0 x.1) c.loop-place.invariant.sent

@@ -1,6 +1,6 @@
 use Rattle.std.specs.List.{flat_map, range_with_len}
 use Rattle.plan_verifier.specs.Accepted.{known_rows}
-use Rattle.cert_writer.specs.Carried.{IsReady}
+use Rattle.cert_writer.specs.Carried.{IsReadyForRow}
 use Rattle.cert_writer.specs.Lines.{lane_text}
 use Rattle.cert_writer.specs.Sending.{IsSent}
 use Rattle.cert_writer.proofs.writer.write_lanes.Given as goal
@@ -12,5 +12,5 @@ invariant-loop-number g l =
       sent : IsSent (g.S.Sink.state l.fn.out) (g.S.Sink.state l.out) l.fn.pending l.pending
           (flat_map (lane_text l.accepted.universe l.accepted.plan (known_rows l.accepted))
           (range_with_len 0 l.number));
-      ready : IsReady l.accepted.universe l.carried;
+      ready : IsReadyForRow l.accepted.universe l.carried;
     }

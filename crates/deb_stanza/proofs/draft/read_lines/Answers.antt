@@ -4,9 +4,9 @@ use Rattle.deb_text.specs.Answers.{refusal_of}
 use Rattle.deb_text.specs.Lines.{is_comment, control_lines}
 use Rattle.deb_text.proofs.LineLaws.{lines_kept-keeps, lines_kept-ends}
 use Rattle.deb_text.proofs.StepLaws.{steps-goes, steps-stops, steps-ends, judged-made, judged-fails}
-use Rattle.deb_stanza.specs.Draft.{state_of, step}
+use Rattle.deb_stanza.specs.Draft.{state_of, draft_step}
 use Rattle.deb_stanza.specs.Stanza.{fault_of}
-use Rattle.deb_stanza.specs.View.{finished}
+use Rattle.deb_stanza.specs.View.{paragraph_of_raw}
 use Rattle.deb_stanza.proofs.StateLaws.{steps-lines, judged-paragraphs}
 use Rattle.deb_stanza.proofs.draft.read_lines.Goals as goal
 
@@ -26,7 +26,7 @@ loop-bytes-preserved-in-Continue-1 c =
     (ap not (sym c.is_comment.ensures ∙ c.if-not-is_comment.true)) in
     record {
       so_far =
-          steps-goes step _ _ _ _ _ _ kept c.in_ok-take_line.ensures.state
+          steps-goes draft_step _ _ _ _ _ _ kept c.in_ok-take_line.ensures.state
           c.loop-bytes.invariant.so_far;
       fit = c.in_ok-take_line.ensures.fit;
       in_range = omega (arith, c.in-Some.ensures.shorter);
@@ -42,10 +42,10 @@ returns-in_err-take_line-clause-read c =
     (ap not (sym c.is_comment.ensures ∙ c.if-not-is_comment.true)) in
     let e = c.in_err-take_line.field-0.0 in
     let stops =
-    steps-stops step refusal_of e _ _ _ _ _ kept c.in_err-take_line.ensures.state
+    steps-stops draft_step refusal_of e _ _ _ _ _ kept c.in_err-take_line.ensures.state
     c.loop-bytes.invariant.so_far in
     rw (p.1, p.2, ← judged-paragraphs (control_lines 1 c.args.text.now))
-    (judged-fails fault_of state_of (λ s. map finished s.raws) refusal_of e
+    (judged-fails fault_of state_of (λ s. map paragraph_of_raw s.raws) refusal_of e
     (control_lines 1 c.args.text.now) stops)
 
 pub returns-clause-read : goal.returns-clause-read
@@ -54,6 +54,6 @@ returns-clause-read c =
     let ends =
     lines_kept-ends (λ line. not (is_comment line))
     (c.loop-bytes.number + 1) c.loop-bytes.rest.now c.in_default.ensures.none in
-    let total = steps-ends step _ _ _ ends c.loop-bytes.invariant.so_far in
+    let total = steps-ends draft_step _ _ _ ends c.loop-bytes.invariant.so_far in
     sym (judged-paragraphs lines)
-    ∙ judged-made fault_of state_of (λ s. map finished s.raws) lines _ total
+    ∙ judged-made fault_of state_of (λ s. map paragraph_of_raw s.raws) lines _ total

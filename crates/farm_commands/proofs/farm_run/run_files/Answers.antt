@@ -1,6 +1,6 @@
 use Rattle.std.proofs.Common.{subst}
 use Rattle.farm_commands.specs.FarmAnswers.{AnswersRun, StopsRun}
-use Rattle.farm_commands.specs.Requests.{AreRead, OnFiles, named}
+use Rattle.farm_commands.specs.Requests.{AreFilesRead, OnFiles, named}
 use Rattle.farm_commands.specs.View.{texts_in_files}
 use Rattle.farm_commands.proofs.RunLaws.{comes-by}
 use Rattle.farm_commands.proofs.farm_run.run_files.Goals as goal
@@ -14,7 +14,7 @@ returns-clause-end g c =
     let texts = texts_in_files c.in_ok-files.files in
     comes-by (AnswersRun (texts_view c.texts.result)) (OnFiles held c.args.of.paths AnswersRun)
     (StopsRun (texts_view c.texts.result))
-    (λ line. (t : Texts) × AreRead held c.args.of.paths t × StopsRun t line)
+    (λ line. (t : Texts) × AreFilesRead held c.args.of.paths t × StopsRun t line)
     _ _ _ _ _
     (λ text status is. (
       texts,

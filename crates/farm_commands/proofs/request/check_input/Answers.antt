@@ -3,7 +3,7 @@ use Rattle.farm_commands.specs.Answers.{AnswersCheck}
 use Rattle.farm_commands.specs.Requests.{OnInput}
 use Rattle.farm_commands.proofs.AnswerLaws.{answered-by}
 use Rattle.farm_commands.proofs.request.check_input.Goals as goal
-use Rattle.farm_input.specs.Input.{texts_in}
+use Rattle.farm_input.specs.Input.{input_texts}
 use Rattle.farm_input.specs.View.{texts_view}
 
 pub returns : goal.returns
@@ -16,7 +16,7 @@ returns g c =
         c.in_ok-input.ensures.bytes,
         omega (arith, c.in_ok-input.ensures.most, c.in_ok-input.input.ok.0),
       ),
-      subst (λ bytes. AnswersCheck false (texts_in bytes) text status) c.deref.ensures.value
+      subst (λ bytes. AnswersCheck false (input_texts bytes) text status) c.deref.ensures.value
           (subst (λ texts. AnswersCheck false texts text status) c.texts_of.ensures is),
     ))
     c.answer_check.ensures

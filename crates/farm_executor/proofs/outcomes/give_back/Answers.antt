@@ -1,11 +1,11 @@
 use Rattle.std.proofs.Common.{◌≡◌, ◌∷◌, ◌++◌, [], suc, length, length-append, length-set, drop, map, take, Some, ◌∙◌, sym, ap, arith}
+use Rattle.std.proofs.lemmas.Option.{slice_get_within}
 use Rattle.std.specs.Prelude.{slice_set}
 use Rattle.std.specs.Vec.Iter.{into_iter_items}
 use Rattle.archive_laws.proofs.Settles.{next_of}
 use Rattle.word_archive.specs.Seats.{LaneSeatOf, LaneSeatsOf}
 use Rattle.farm_executor.proofs.GivenBack.{more_mapped, take_set}
 use Rattle.farm_executor.proofs.Pairs.{drop_more}
-use Rattle.farm_executor.proofs.Within.{within_list}
 use Rattle.farm_executor.proofs.outcomes.give_back.Goals as goal
 
 pub give-requires-clause-table : goal.give-requires-clause-table
@@ -31,7 +31,7 @@ give-requires-clause-lane c =
     let at = sym h.rest ∙ c.in-Some.ensures.steps.0 in
     let there = (next_of c.args.ends.items done c.in-Some.end _ at).0 in
     let lane = ap (λ (q : LaneSeatOf). q.lane) (c.requires.seats done c.in-Some.end there) in
-    let lt = within_list c.args.ends.items done c.in-Some.end there in
+    let lt = slice_get_within c.args.ends.items done c.in-Some.end there in
     omega (arith, lane, lt, h.long)
 
 pub loop-end-preserved : goal.loop-end-preserved
@@ -45,7 +45,7 @@ loop-end-preserved c =
     let rest = into_iter_items c.next.new.self in
     let at : drop done ends ≡ end ∷ rest = sym h.rest ∙ step.0 in
     let there = (next_of ends done end rest at).0 in
-    let lt = within_list ends done end there in
+    let lt = slice_get_within ends done end there in
     let lane = ap (λ (q : LaneSeatOf). q.lane) (c.requires.seats done end there) in
     let stops = c.push_reserved.ensures in
     let chroots = c.push_reserved-in-loop-end.ensures in

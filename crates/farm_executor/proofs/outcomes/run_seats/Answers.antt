@@ -1,4 +1,5 @@
 use Rattle.std.proofs.Common.{◌≡◌, ◌⊎◌, inl, inr, ℕ, true, List, map, sym, ap, subst, ◌∙◌, arith}
+use Rattle.std.proofs.lemmas.Option.{slice_get_within}
 use Rattle.std.proofs.lemmas.Bool.{false≢true}
 use Rattle.std.proofs.Crossing.{crosses}
 use denote.Param.Send.{sendable}
@@ -20,7 +21,6 @@ use Rattle.farm_executor.proofs.Crossing.{accepted_sync}
 use Rattle.farm_executor.proofs.GivenBack.{mapped_twice}
 use Rattle.farm_executor.proofs.Pairs.{some_at}
 use Rattle.farm_executor.proofs.WereRun.{base_table, base_about, end_run, end_seat, job_ready, were_run}
-use Rattle.farm_executor.proofs.Within.{within_list}
 use Rattle.farm_executor.proofs.outcomes.run_seats.Goals as goal
 
 pub run_lanes-requires-send-E : goal.run_lanes-requires-send-E
@@ -33,7 +33,7 @@ run_lanes-requires-sync-Q g c κs within = let a = accepted_sync in search senda
 
 pub run_lanes-requires-clause-ready : goal.run_lanes-requires-clause-ready
 run_lanes-requires-clause-ready g c κs within k j is =
-    let lt = within_list c.in_ok-jobs.jobs.items k j is in
+    let lt = slice_get_within c.in_ok-jobs.jobs.items k j is in
     job_ready c.args.archive.now.table.shared.table_id c.args.accepted.now k j.lane j.chroot
     j.end.seat (omega (arith, lt, c.in_ok-jobs.ensures.long)) (c.in_ok-jobs.ensures.each k j is)
 

@@ -1,14 +1,14 @@
 use Rattle.std.proofs.Common.{◌∙◌, sym, ap, arith}
+use Rattle.std.proofs.lemmas.Option.{slice_get_within}
 use Rattle.farm_executor.specs.declared.link.Link.{Link}
 use Rattle.farm_executor.proofs.Pairs.{some_at}
 use Rattle.farm_executor.proofs.WereRun.{job_ready}
-use Rattle.farm_executor.proofs.Within.{within_list}
 use Rattle.farm_executor.proofs.turns.lanes_in_turns.Goals as goal
 
 pub in_turns-requires : goal.in_turns-requires
 in_turns-requires c = record {
   ready = λ k j is.
-      let lt = within_list c.in_ok-jobs.jobs.items k j is in
+      let lt = slice_get_within c.in_ok-jobs.jobs.items k j is in
       job_ready c.args.archive.now.table.shared.table_id c.args.accepted.now k j.lane j.chroot
       j.end.seat (omega (arith, lt, c.in_ok-jobs.ensures.long)) (c.in_ok-jobs.ensures.each k j is);
 }

@@ -4,7 +4,7 @@ use Rattle.std.proofs.lemmas.Option.{slice_get_read}
 use Rattle.plan_model.specs.Plan.{Lane, lane, instruction_at}
 use Rattle.refusal_reasons.proofs.FirstLaws.{first_below-at}
 use Rattle.farm_explain.proofs.Below.{one_more}
-use Rattle.farm_explain.specs.ReasonText.{publishes}
+use Rattle.farm_explain.specs.ReasonText.{publishes_variant}
 use Rattle.farm_explain.proofs.missing.publishing_place.Goals as goal
 
 pub returns-then-publishes : goal.returns-then-publishes
@@ -21,11 +21,12 @@ returns-then-publishes c =
     (slice_get_read c.instructions-instructions.result.now
     (length c.instructions-instructions.result.now) k c.index-instructions-place.result
     refl c.loop-place-test.true c.index-instructions-place.is) in
-    let passes : publishes u c.args.variant (instruction_at p c.args.number k) ≡ true =
-    ap (publishes u c.args.variant) here ∙ (sym c.publishes.ensures ∙ c.if-publishes.true) in
+    let passes : publishes_variant u c.args.variant (instruction_at p c.args.number k) ≡ true =
+    ap (publishes_variant u c.args.variant) here
+    ∙ (sym c.publishes.ensures ∙ c.if-publishes.true) in
     sym
     (first_below-at {A = ℕ × ℕ} (length xs) k
-    (λ i. if publishes u c.args.variant (instruction_at p c.args.number i)
+    (λ i. if publishes_variant u c.args.variant (instruction_at p c.args.number i)
     then Some (c.args.number, i + 1) else None)
     (c.args.number, k + 1) lt c.loop-place.invariant
     (ap (λ (t : Bool). if t then Some (c.args.number, k + 1) else None) passes))
@@ -43,10 +44,11 @@ loop-place-preserved c =
     (slice_get_read c.instructions-instructions.result.now
     (length c.instructions-instructions.result.now) k c.index-instructions-place.result
     refl c.loop-place-test.true c.index-instructions-place.is) in
-    let fails : publishes u c.args.variant (instruction_at p c.args.number k) ≡ false =
-    ap (publishes u c.args.variant) here ∙ (sym c.publishes.ensures ∙ c.if-publishes.false) in
+    let fails : publishes_variant u c.args.variant (instruction_at p c.args.number k) ≡ false =
+    ap (publishes_variant u c.args.variant) here
+    ∙ (sym c.publishes.ensures ∙ c.if-publishes.false) in
     one_more {A = ℕ × ℕ} k
-    (λ i. if publishes u c.args.variant (instruction_at p c.args.number i)
+    (λ i. if publishes_variant u c.args.variant (instruction_at p c.args.number i)
     then Some (c.args.number, i + 1) else None)
     c.loop-place.invariant
     (ap (λ (t : Bool). if t then Some (c.args.number, k + 1) else None) fails)

@@ -3,7 +3,7 @@ use Rattle.std.specs.List.{AllZip}
 use Rattle.rayon.specs.Numbers.{nat_range}
 use Rattle.rayon.proofs.ListFacts.{IfOk-then}
 use Rattle.deb_stanza.specs.Stanza.{paragraph_at}
-use Rattle.farm_universe.specs.TableView.{IsListed}
+use Rattle.farm_universe.specs.TableView.{IsListedPackage}
 use Rattle.farm_universe.proofs.PartLaws.{are_parts, inside}
 use Rattle.farm_universe.proofs.packages.read_packages.Goals as goal
 
@@ -26,7 +26,7 @@ returns g c =
     IfOk-then c.collect.result _ _ c.collect.ensures (λ v h.
     let places = h.1.1 ∙ (λ i. nat_range (start i) (end i)) in
     let called =
-    subst (λ f. AllZip (λ n read. IsListed (paragraph_at f.1.now n) read) h.1.0 h.0)
+    subst (λ f. AllZip (λ n read. IsListedPackage (paragraph_at f.1.now n) read) h.1.0 h.0)
     c.map.ensures.f h.1.2 in
-    are_parts IsListed ps c.args.from c.args.to c.requires.ascends v.items h.1.0 places
+    are_parts IsListedPackage ps c.args.from c.args.to c.requires.ascends v.items h.1.0 places
     (rw h.2 called))

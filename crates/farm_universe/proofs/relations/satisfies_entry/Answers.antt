@@ -1,6 +1,6 @@
 use Rattle.std.proofs.Common.{ap, ◌∙◌}
 use Rattle.std.specs.List.{list_any}
-use Rattle.deb_relation.specs.Satisfaction.{satisfies as package_satisfies}
+use Rattle.deb_relation.specs.Satisfaction.{package_satisfies}
 use Rattle.farm_model.specs.Packages.{satisfies}
 use Rattle.farm_universe.proofs.relations.satisfies_entry.Goals as goal
 

@@ -1,13 +1,13 @@
 use Rattle.std.proofs.Common.{◌≡◌, ◌++◌, length}
 use Rattle.std.specs.List.{flat_map}
 use Rattle.farm_warnings.specs.Fields.{all_said, later_said}
-use Rattle.farm_warnings.specs.Lines.{paragraphs_in, paragraphs_of}
+use Rattle.farm_warnings.specs.Lines.{paragraph_lines_in, paragraph_lines}
 use Rattle.farm_warnings.proofs.fields.push_fields.Given as goal
 
 abbrev pub invariant-loop-paragraph : goal.invariant-loop-paragraph
 invariant-loop-paragraph l =
-    l.fn.text.items ++ all_said (paragraphs_in l.farm)
-    ≡ l.text.items ++ flat_map later_said (paragraphs_of l.left)
+    l.fn.text.items ++ all_said (paragraph_lines_in l.farm)
+    ≡ l.text.items ++ flat_map later_said (paragraph_lines l.left)
 
 abbrev pub decreases-loop-paragraph : goal.decreases-loop-paragraph
 decreases-loop-paragraph l = length l.left

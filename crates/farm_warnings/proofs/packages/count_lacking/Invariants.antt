@@ -1,5 +1,5 @@
 use Rattle.std.proofs.Common.{◌≡◌, ◌+◌, ◌≤◌, drop, filter, length}
-use Rattle.farm_warnings.specs.Packages.{first_of, lacks}
+use Rattle.farm_warnings.specs.Packages.{first_line_of, lacks}
 use Rattle.farm_warnings.proofs.packages.count_lacking.Given as goal
 
 abbrev pub invariant-loop-place : goal.invariant-loop-place
@@ -7,7 +7,7 @@ invariant-loop-place l = record {
   count : l.count
       ≡ length (filter (lacks l.universe.architectures l.lack) (drop l.place l.paragraphs));
   first : l.first
-      ≡ first_of (filter (lacks l.universe.architectures l.lack) (drop l.place l.paragraphs));
+      ≡ first_line_of (filter (lacks l.universe.architectures l.lack) (drop l.place l.paragraphs));
   in_range : l.count + l.place ≤ length l.paragraphs;
 }
 

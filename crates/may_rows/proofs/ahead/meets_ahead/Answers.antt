@@ -1,13 +1,13 @@
 use Rattle.std.proofs.Common.{◌∙◌}
 use Rattle.farm_model.specs.Packages.{pre_depends, satisfies_entry}
-use Rattle.sat_rows.specs.Rows.{entry_at}
+use Rattle.sat_rows.specs.Rows.{nth_entry}
 use Rattle.may_rows.proofs.MetAhead.{entry_row_of, ahead_by_entry, ahead_by_alternative}
 use Rattle.may_rows.proofs.ahead.meets_ahead.Goals as goal
 
 pub returns-then-has_ready_inside : goal.returns-then-has_ready_inside
 returns-then-has_ready_inside c =
     let u = c.args.universe.now in
-    let e = entry_at (pre_depends u c.args.variant) c.args.entry in
+    let e = nth_entry (pre_depends u c.args.variant) c.args.entry in
     let row =
     entry_row_of c.args.tables.now u c.args.variant c.args.entry c.pre_depends.result.now
     c.requires.same c.pre_depends.ensures in
@@ -18,7 +18,7 @@ returns-then-has_ready_inside c =
 pub returns-else-has_ready_inside : goal.returns-else-has_ready_inside
 returns-else-has_ready_inside c =
     let u = c.args.universe.now in
-    let e = entry_at (pre_depends u c.args.variant) c.args.entry in
+    let e = nth_entry (pre_depends u c.args.variant) c.args.entry in
     let row =
     entry_row_of c.args.tables.now u c.args.variant c.args.entry c.pre_depends.result.now
     c.requires.same c.pre_depends.ensures in

@@ -1,6 +1,6 @@
 use Rattle.std.proofs.Common.{◌∙◌}
 use Rattle.farm_model.specs.Packages.{pre_depends, satisfies}
-use Rattle.sat_rows.specs.Rows.{entry_at}
+use Rattle.sat_rows.specs.Rows.{nth_entry}
 use Rattle.may_rows.specs.Words.{some_name_inside}
 use Rattle.may_rows.proofs.ByNumber.{any-got}
 use Rattle.may_rows.proofs.ahead.meets_alternative.Goals as goal
@@ -10,4 +10,4 @@ returns c =
     let u = c.args.universe.now in
     c.some_number.ensures
     ∙ any-got (λ a. some_name_inside u c.args.state.now.both (satisfies u a))
-    (entry_at (pre_depends u c.args.variant) c.args.entry)
+    (nth_entry (pre_depends u c.args.variant) c.args.entry)

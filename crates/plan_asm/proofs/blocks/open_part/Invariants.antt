@@ -1,12 +1,12 @@
 use Rattle.std.proofs.Common.{◌≡◌, ◌++◌, length}
 use Rattle.std.specs.Prelude.{option_to_list}
-use Rattle.plan_asm.specs.BlockTable.{opened, turns, AreParts}
+use Rattle.plan_asm.specs.BlockTable.{part_instructions, turns, AreParts}
 use Rattle.plan_asm.proofs.blocks.open_part.Given as goal
 
 abbrev pub invariant-loop-next : goal.invariant-loop-next
 invariant-loop-next l = record {
-  same : l.out.items ++ opened l.steps l.rows l.left.items
-      ≡ opened l.steps l.rows (option_to_list l.fn.part);
+  same : l.out.items ++ part_instructions l.steps l.rows l.left.items
+      ≡ part_instructions l.steps l.rows (option_to_list l.fn.part);
   known : AreParts (length l.steps) (length l.rows) l.left.items;
 }
 

@@ -1,5 +1,5 @@
 use Rattle.std.proofs.Common.{◌<◌, ◌++◌, ◌∷◌, [], length, sym, ap, ◌∙◌, append_assoc, rules}
-use Rattle.plan_asm.specs.BlockTable.{opened}
+use Rattle.plan_asm.specs.BlockTable.{part_instructions}
 use Rattle.plan_asm.proofs.TurnLaws.{step-left, use-left, step-turns, use-turns, top-known, rest-known, use-known}
 use Rattle.plan_asm.proofs.blocks.take_turn.Goals as goal
 
@@ -36,7 +36,7 @@ returns-in_ok-push-in-Step-clause-same c =
     let lt = top-known rows rest (length steps) (length rows) _
     (rw c.in-Step.is at c.requires.known) in
     rw (c.in_ok-push-in-Step.ensures.items, c.in_ok-copy_instruction-in-Step.ensures, c.in-Step.is)
-    (append_assoc c.args.out.now.items (x ∷ []) (opened steps rows rest)
+    (append_assoc c.args.out.now.items (x ∷ []) (part_instructions steps rows rest)
     ∙ ap (λ ys. c.args.out.now.items ++ ys)
     (sym (step-left rows rest steps c.in-Step.i x lt c.index-steps-i.is)))
 

@@ -1,14 +1,14 @@
 use Rattle.std.proofs.Common.{◌≡◌, ◌+◌, length, drop}
 use Rattle.std.specs.Vec.Iter.{into_iter_items}
 use Rattle.deb_text.specs.Steps.{steps}
-use Rattle.plan_asm.specs.Parts.{AreSaid}
+use Rattle.plan_asm.specs.Parts.{AreSaidByLines}
 use Rattle.plan_asm.specs.PlanText.{take_line}
 use Rattle.plan_asm.proofs.side_by_side.place_part.Given as goal
 
 abbrev pub invariant-loop-read : goal.invariant-loop-read
 invariant-loop-read l = record {
   count : l.at + length (into_iter_items l.read-iterator) ≡ l.fn.first + length l.fn.part;
-  rest : AreSaid l.universe (drop l.at l.lines) (into_iter_items l.read-iterator);
+  rest : AreSaidByLines l.universe (drop l.at l.lines) (into_iter_items l.read-iterator);
   steps : steps (take_line l.universe) l.so_far (drop l.at l.lines)
       ≡ steps (take_line l.universe) l.fn.so_far (drop l.fn.first l.lines);
 }

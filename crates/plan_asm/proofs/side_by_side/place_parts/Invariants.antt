@@ -1,13 +1,13 @@
 use Rattle.std.proofs.Common.{◌≡◌, drop}
 use Rattle.std.specs.Vec.Iter.{into_iter_items}
 use Rattle.deb_text.specs.Steps.{steps}
-use Rattle.plan_asm.specs.Parts.{AreParts}
+use Rattle.plan_asm.specs.Parts.{ArePartsSaid}
 use Rattle.plan_asm.specs.PlanText.{take_line, reading_of}
 use Rattle.plan_asm.proofs.side_by_side.place_parts.Given as goal
 
 abbrev pub invariant-loop-part : goal.invariant-loop-part
 invariant-loop-part l = record {
-  rest : AreParts l.names.universe.now l.count (drop l.next l.lines)
+  rest : ArePartsSaid l.names.universe.now l.count (drop l.next l.lines)
       (into_iter_items l.part-iterator);
   steps : steps (take_line l.names.universe.now) l.so_far (drop l.next l.lines)
       ≡ reading_of l.names.universe.now (drop 1 l.lines);

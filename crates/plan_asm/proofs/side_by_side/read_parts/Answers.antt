@@ -3,7 +3,7 @@ use Rattle.std.specs.List.{AllZip, range_with_len}
 use Rattle.rayon.specs.Numbers.{nat_range}
 use Rattle.rayon.proofs.ListFacts.{IfOk-then}
 use Rattle.plan_asm.specs.declared.side_by_side.TheConstants.{PARTS}
-use Rattle.plan_asm.specs.Parts.{IsPart}
+use Rattle.plan_asm.specs.Parts.{IsPartSaid}
 use Rattle.plan_asm.proofs.PartLaws.{are-parts}
 use Rattle.plan_asm.proofs.side_by_side.read_parts.Goals as goal
 
@@ -21,6 +21,6 @@ returns g c =
     IfOk-then c.collect.result _ _ c.collect.ensures (λ v h.
     let places = h.1.1 ∙ ((λ i. nat_range (start i) (end i)) ∙ ap (range_with_len 0) whole) in
     let called =
-    subst (λ f. AllZip (λ k part. IsPart f.2.universe.now f.3 (drop (1 + k * f.3) f.0.now) part)
+    subst (λ f. AllZip (λ k part. IsPartSaid f.2.universe.now f.3 (drop (1 + k * f.3) f.0.now) part)
     h.1.0 h.0) c.map.ensures.f h.1.2 in
     are-parts u count PARTS ls v.items h.1.0 places (rw h.2 called))

@@ -1,4 +1,4 @@
-use Rattle.plan_cert.specs.PlaceRows.{rows_of}
+use Rattle.plan_cert.specs.PlaceRows.{place_rows_of}
 use Rattle.plan_cert.proofs.CheckLaws.{have-known}
 use Rattle.plan_cert.proofs.checker.check_by_tables.Goals as goal
 
@@ -8,6 +8,6 @@ invariant_of-claim g c = record {
   of_universe = c.in_ok-known.ensures.universe;
   of_plan = c.in_ok-known.ensures.plan;
   have_known = have-known c.args.universe.now c.args.plan.now.lanes c.args.certificate.now
-      c.requires.certificate c.requires.sound.universe (rows_of c.in_ok-known.known)
+      c.requires.certificate c.requires.sound.universe (place_rows_of c.in_ok-known.known)
       c.in_ok-known.ensures.rows;
 }

@@ -2,7 +2,7 @@ use Rattle.std.proofs.Common.{subst, List, ℕ, Err}
 use Rattle.std.proofs.lemmas.Result.{err_from_is_err_and}
 use Rattle.plan_cert.specs.Broken.{IsOrderChecked}
 use Rattle.plan_model.specs.Order.{IsOrder}
-use Rattle.plan_cert.specs.PlaceRows.{rows_of}
+use Rattle.plan_cert.specs.PlaceRows.{place_rows_of}
 use Rattle.plan_cert.proofs.CheckLaws.{rows-verdict, safety-verdict, order-verdict, certified, promise}
 use Rattle.plan_cert.proofs.checker.check_claim.Goals as goal
 
@@ -12,7 +12,7 @@ returns-in_err-check_rows-clause-verdict g c =
     let e = err_from_is_err_and from.result from.ensures.1 in
     rw (e.1, e.2) (rows-verdict c.args.claim.universe.now c.args.claim.plan.now.lanes
     c.args.certificate.now
-    c.requires.certificate c.requires.sound.universe (rows_of c.args.claim.known.now)
+    c.requires.certificate c.requires.sound.universe (place_rows_of c.args.claim.known.now)
     c.requires.rows c.in_err-check_rows.field-0.0 c.in_err-check_rows.ensures)
 
 pub returns-in_err-check_safety-clause-verdict : goal.returns-in_err-check_safety-clause-verdict
@@ -21,7 +21,7 @@ returns-in_err-check_safety-clause-verdict g c =
     let e = err_from_is_err_and from.result from.ensures.1 in
     rw (e.1, e.2) (safety-verdict c.args.claim.universe.now c.args.claim.plan.now.lanes
     c.args.certificate.now
-    c.requires.certificate c.requires.sound.universe (rows_of c.args.claim.known.now)
+    c.requires.certificate c.requires.sound.universe (place_rows_of c.args.claim.known.now)
     c.requires.rows c.in_ok-check_rows.ensures c.in_err-check_safety.field-0.0
     c.in_err-check_safety.ensures)
 
@@ -31,7 +31,7 @@ returns-in_err-check_order-clause-verdict g c =
     let e = err_from_is_err_and from.result from.ensures.1 in
     rw (e.1, e.2) (order-verdict c.args.claim.universe.now c.args.claim.plan.now.lanes
     c.args.certificate.now
-    c.requires.certificate c.requires.sound.universe (rows_of c.args.claim.known.now)
+    c.requires.certificate c.requires.sound.universe (place_rows_of c.args.claim.known.now)
     c.requires.rows c.in_ok-check_rows.ensures c.in_ok-check_safety.ensures
     c.in_err-check_order.field-0.0
     (subst (λ (xs : List ℕ). IsOrderChecked c.args.claim.universe.now c.args.claim.plan.now.lanes xs
@@ -40,7 +40,7 @@ returns-in_err-check_order-clause-verdict g c =
 pub returns-clause-verdict : goal.returns-clause-verdict
 returns-clause-verdict g c =
     certified c.args.claim.universe.now c.args.claim.plan.now.lanes c.args.certificate.now
-    c.requires.certificate c.requires.sound.universe (rows_of c.args.claim.known.now)
+    c.requires.certificate c.requires.sound.universe (place_rows_of c.args.claim.known.now)
     c.requires.rows c.in_ok-check_rows.ensures c.in_ok-check_safety.ensures
     (subst (IsOrder c.args.claim.universe.now c.args.claim.plan.now.lanes) c.order.ensures
     c.in_ok-check_order.ensures)
@@ -50,7 +50,7 @@ returns-clause-safe g c =
     promise c.args.claim.universe.now c.args.claim.plan.now.lanes c.args.certificate.now
     c.requires.sound
     (certified c.args.claim.universe.now c.args.claim.plan.now.lanes c.args.certificate.now
-    c.requires.certificate c.requires.sound.universe (rows_of c.args.claim.known.now)
+    c.requires.certificate c.requires.sound.universe (place_rows_of c.args.claim.known.now)
     c.requires.rows c.in_ok-check_rows.ensures c.in_ok-check_safety.ensures
     (subst (IsOrder c.args.claim.universe.now c.args.claim.plan.now.lanes) c.order.ensures
     c.in_ok-check_order.ensures))

@@ -3,7 +3,7 @@ use Rattle.plan_model.specs.Order.{items_of}
 use Rattle.plan_model.specs.Plan.{lane, instruction_at}
 use Rattle.wait_order.proofs.Leading.{read_at}
 use Rattle.std.proofs.lemmas.List.Elements.{All-nil}
-use Rattle.plan_cert.specs.Events.{item_of, IsEvent}
+use Rattle.plan_cert.specs.Events.{order_item_of, IsEvent}
 use Rattle.plan_cert.proofs.EventLaws.{items-next, items-start}
 use Rattle.plan_cert.proofs.events.lane_events.Goals as goal
 
@@ -39,6 +39,6 @@ loop-place-init c =
     let l = c.args.number in
     record {
       each = subst (All (IsEvent u p l)) (sym c.new-events.ensures.items) (All-nil (IsEvent u p l));
-      items = ap (map (item_of p l)) c.new-events.ensures.items
+      items = ap (map (order_item_of p l)) c.new-events.ensures.items
           ∙ items-start u (lane p l).instructions;
     }

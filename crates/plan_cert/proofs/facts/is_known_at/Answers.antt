@@ -3,7 +3,7 @@ use Rattle.farm_model.specs.Universe.{Universe}
 use Rattle.plan_model.specs.declared.instructions.Instruction.TheVariants.{Publish}
 use Rattle.plan_model.specs.Plan.{lane, instruction_at}
 use Rattle.sat_rows.specs.Rows.{IsRowOf}
-use Rattle.plan_cert.specs.PlaceRows.{rows_of}
+use Rattle.plan_cert.specs.PlaceRows.{place_rows_of}
 use Rattle.wait_order.proofs.Leading.{read_at}
 use Rattle.plan_cert.specs.Stated.{in_row}
 use Rattle.plan_cert.proofs.FactLaws.{known_here}
@@ -13,7 +13,7 @@ pub returns : goal.returns
 returns c =
     let u = c.args.question.claim.universe.now in
     let p = c.args.question.claim.plan.now.lanes in
-    let rows = rows_of c.args.question.claim.known.now in
+    let rows = place_rows_of c.args.question.claim.known.now in
     let j = c.args.number in
     let k = c.args.place in
     let xs = c.instructions.ensures ∙ ap (λ of. of.instructions) c.lane.ensures in

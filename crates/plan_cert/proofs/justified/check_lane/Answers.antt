@@ -6,7 +6,7 @@ use Rattle.plan_verifier.proofs.Reach.{possible_after}
 use Rattle.plan_asm.proofs.Counts.{lane-few}
 use Rattle.verdict_laws.specs.Places.{IsJustified}
 use Rattle.wait_order.proofs.Leading.{read_at}
-use Rattle.plan_cert.specs.PlaceRows.{rows_of}
+use Rattle.plan_cert.specs.PlaceRows.{place_rows_of}
 use Rattle.plan_cert.specs.Opens.{open_behind}
 use Rattle.plan_cert.proofs.HeldLaws.{open-next}
 use Rattle.plan_cert.proofs.JustifiedLaws.{past-justified}
@@ -48,7 +48,7 @@ loop-place-preserved c =
           (c.in_ok-add_outputs.ensures.added (possible u p l i) c.loop-place.invariant.there));
       justified = λ k lt. elim (cases_eq k i) [
         | inl same ↦
-            subst (λ n. IsJustified u p (rows_of c.args.claim.known.now) l (suc n)) (sym same)
+            subst (λ n. IsJustified u p (place_rows_of c.args.claim.known.now) l (suc n)) (sym same)
             (c.in_ok-is_justified.ensures.0 c.if-not-branch.false)
         | inr other ↦ c.loop-place.invariant.justified k (omega (arith, lt, other))
       ];
@@ -58,7 +58,7 @@ pub returns : goal.returns
 returns c =
     let xs = c.instructions-instructions.ensures ∙ ap (λ of. of.instructions) c.lane.ensures in
     past-justified c.args.claim.universe.now c.args.claim.plan.now.lanes
-    (rows_of c.args.claim.known.now)
+    (place_rows_of c.args.claim.known.now)
     c.args.number c.loop-place.place
     (omega (arith, ap length xs, c.loop-place-test.false))
     c.loop-place.invariant.justified

@@ -3,7 +3,7 @@ use Rattle.plan_model.specs.Known.{possible}
 use Rattle.verdict_laws.specs.Places.{IsJustified}
 use Rattle.sat_rows.specs.Rows.{IsRowOf}
 use Rattle.plan_cert.specs.Opens.{open_at}
-use Rattle.plan_cert.specs.PlaceRows.{rows_of}
+use Rattle.plan_cert.specs.PlaceRows.{place_rows_of}
 use Rattle.plan_cert.proofs.justified.check_lane.Given as goal
 
 -- the places so far
@@ -13,7 +13,8 @@ invariant-loop-place l =
       there : IsRowOf l.claim.universe.now
           (possible l.claim.universe.now l.claim.plan.now.lanes l.number l.place) l.there;
       justified : (k : ℕ) → k < l.place
-          → IsJustified l.claim.universe.now l.claim.plan.now.lanes (rows_of l.claim.known.now)
+          → IsJustified l.claim.universe.now l.claim.plan.now.lanes
+          (place_rows_of l.claim.known.now)
           l.number (suc k);
       when_is : l.when ≡ open_at l.claim.plan.now.lanes l.number l.place;
     }

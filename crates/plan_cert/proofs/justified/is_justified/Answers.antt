@@ -9,7 +9,7 @@ use Rattle.plan_asm.proofs.Counts.{lane-few}
 use Rattle.sat_rows.specs.Rows.{IsRowOf}
 use Rattle.wait_order.proofs.Leading.{read_at}
 use Rattle.verdict_laws.proofs.RowBefore.{row_before-le}
-use Rattle.plan_cert.specs.PlaceRows.{rows_of}
+use Rattle.plan_cert.specs.PlaceRows.{place_rows_of}
 use Rattle.plan_cert.specs.Opens.{place_before, IsAskedRow}
 use Rattle.plan_cert.proofs.HeldLaws.{before-is}
 use Rattle.plan_cert.proofs.JustifiedLaws.{IsWithin, more-unjustified, within-justified, publish-justified, asked-justified, adds-nothing}
@@ -26,7 +26,7 @@ pub returns-in-Some : goal.returns-in-Some
 returns-in-Some c =
     let u = c.args.at.claim.universe.now in
     let p = c.args.at.claim.plan.now.lanes in
-    let rows = rows_of c.args.at.claim.known.now in
+    let rows = place_rows_of c.args.at.claim.known.now in
     let l = c.args.at.number in
     let i = c.args.at.place in
     let x = c.index-instructions-place.result in
@@ -60,7 +60,7 @@ pub returns-in-Some-2 : goal.returns-in-Some-2
 returns-in-Some-2 c =
     let u = c.args.at.claim.universe.now in
     let p = c.args.at.claim.plan.now.lanes in
-    let rows = rows_of c.args.at.claim.known.now in
+    let rows = place_rows_of c.args.at.claim.known.now in
     let l = c.args.at.number in
     let i = c.args.at.place in
     let x = c.index-instructions-place.result in
@@ -92,7 +92,7 @@ pub returns : goal.returns
 returns c =
     let u = c.args.at.claim.universe.now in
     let p = c.args.at.claim.plan.now.lanes in
-    let rows = rows_of c.args.at.claim.known.now in
+    let rows = place_rows_of c.args.at.claim.known.now in
     let l = c.args.at.number in
     let i = c.args.at.place in
     let x = c.index-instructions-place.result in
@@ -116,7 +116,7 @@ pub returns-then-knows_within : goal.returns-then-knows_within
 returns-then-knows_within c =
     let u = c.args.at.claim.universe.now in
     let p = c.args.at.claim.plan.now.lanes in
-    let rows = rows_of c.args.at.claim.known.now in
+    let rows = place_rows_of c.args.at.claim.known.now in
     let l = c.args.at.number in
     let i = c.args.at.place in
     let x = c.index-instructions-place.result in

@@ -9,7 +9,7 @@ use Rattle.sat_rows.specs.Rows.{IsRowOf}
 use Rattle.wait_order.proofs.Leading.{read_at}
 use Rattle.wait_order.proofs.Passes.{hit_passes}
 use Rattle.plan_cert.specs.declared.events.Event.{Event}
-use Rattle.plan_cert.specs.Events.{item_of, IsEvent, IsMade}
+use Rattle.plan_cert.specs.Events.{order_item_of, IsEvent, IsMade}
 use Rattle.plan_cert.proofs.EventLaws.{made-pass, made-give}
 use Rattle.plan_cert.proofs.order.make.Goals as goal
 
@@ -48,7 +48,7 @@ returns-in_ok-row-in-Pass c =
     let row : IsRowOf u (satisfies_entry u e) c.in_ok-row-in-Pass.row =
     subst (λ (w : Universe). IsRowOf w (satisfies_entry w e) c.in_ok-row-in-Pass.row)
     c.args.claim.tables_are c.in_ok-row-in-Pass.ensures in
-    subst (λ (x : Event). IsMade u l (item_of p l x) c.args.archive.now c.args.archive.now
+    subst (λ (x : Event). IsMade u l (order_item_of p l x) c.args.archive.now c.args.archive.now
     c.hits.result)
     (sym c.in-Pass.is)
     (made-pass u p l place e c.args.archive.now c.hits.result at c.requires.archive
@@ -62,7 +62,8 @@ returns-in_ok-set_bit-in-Give c =
     let l = c.args.number in
     let known : IsEvent u p l (Event.Give c.in-Give.output) =
     subst (IsEvent u p l) c.in-Give.is c.requires.event in
-    subst (λ (x : Event). IsMade u l (item_of p l x) c.args.archive.now c.set_bit.new.self true)
+    subst (λ (x : Event). IsMade u l (order_item_of p l x) c.args.archive.now c.set_bit.new.self
+    true)
     (sym c.in-Give.is)
     (made-give u l c.in-Give.output c.args.archive.now c.set_bit.new.self known
     c.in_ok-set_bit-in-Give.ensures.set (c.set_bit.ensures.len ∙ c.requires.archive))

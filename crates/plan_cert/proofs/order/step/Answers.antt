@@ -2,7 +2,7 @@ use Rattle.std.proofs.Common.{◌<◌, ◌≤◌, length, get_or, slice_index, s
 use Rattle.std.proofs.lemmas.Option.{slice_get-get_or}
 use Rattle.plan_model.specs.Plan.{lane}
 use Rattle.plan_cert.specs.declared.events.Event.{Event}
-use Rattle.plan_cert.specs.Events.{item_of, AreEvents, IsMade, lane_items}
+use Rattle.plan_cert.specs.Events.{order_item_of, AreEvents, IsMade, lane_items}
 use Rattle.plan_cert.proofs.EventLaws.{items-long, left-next, stops-ended, stops-waits, steps}
 use Rattle.plan_cert.proofs.order.step.Goals as goal
 
@@ -53,7 +53,7 @@ returns-then-not-branch c =
     (slice_get-get_or c.args.of.lanes.now l c.index-of-number.result lt)) in
     let below : n < length evs =
     omega (arith, c.if-next-events.false, ap length c.as_slice-events.ensures.value) in
-    let item = item_of p l (get_or evs n (Event.Pass 0)) in
+    let item = order_item_of p l (get_or evs n (Event.Pass 0)) in
     stops-waits u p l c.args.made.now c.args.archive.now c.make.new.archive item _ c.requires.lane
     (left-next u p l evs are n (Event.Pass 0) below)
     (subst (IsMade u l item c.args.archive.now c.make.new.archive) c.if-not-branch.true
@@ -74,7 +74,7 @@ returns c =
     (slice_get-get_or c.args.of.lanes.now l c.index-of-number.result lt)) in
     let below : n < length evs =
     omega (arith, c.if-next-events.false, ap length c.as_slice-events.ensures.value) in
-    let item = item_of p l (get_or evs n (Event.Pass 0)) in
+    let item = order_item_of p l (get_or evs n (Event.Pass 0)) in
     steps u p l c.args.made.now c.args.archive.now c.make.new.archive item c.requires.lane
     (omega (arith, c.requires.lane, c.requires.made))
     (left-next u p l evs are n (Event.Pass 0) below)

@@ -1,5 +1,5 @@
 use Rattle.std.proofs.Common.{◌<◌, sym, subst, arith}
-use Rattle.plan_cert.specs.PlaceRows.{words_at}
+use Rattle.plan_cert.specs.PlaceRows.{row_words_at}
 use Rattle.sat_rows.specs.Rows.{IsRowOf}
 use Rattle.plan_cert.specs.Stated.{stated_rows}
 use Rattle.plan_cert.proofs.StatedLaws.{stated-known, row-has}
@@ -26,8 +26,8 @@ returns-clause-rows c = λ l i v lt le.
     let known = stated_rows u p c.args.certificate.now in
     let below : l < c.loop-number.number =
     omega (arith, lt, c.lanes-number-end.ensures.lanes, c.loop-number-test.false) in
-    let row : IsRowOf u (known l i) (words_at c.new.result l i) =
-    subst (λ k. IsRowOf u (known l i) (words_at k l i)) (sym c.new.ensures)
+    let row : IsRowOf u (known l i) (row_words_at c.new.result l i) =
+    subst (λ k. IsRowOf u (known l i) (row_words_at k l i)) (sym c.new.ensures)
     ((c.loop-number.invariant.places.each l below).each i le).row in
-    row-has u (known l i) (words_at c.new.result l i) row
+    row-has u (known l i) (row_words_at c.new.result l i) row
     (stated-known u p c.args.certificate.now c.requires.certificate c.requires.sound l i) v

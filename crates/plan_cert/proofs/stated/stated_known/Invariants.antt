@@ -1,6 +1,6 @@
 use Rattle.std.proofs.Common.{All}
 use Rattle.plan_cert.specs.PlaceRows.{IsRowIn}
-use Rattle.plan_cert.specs.Places.{AreRowsOf}
+use Rattle.plan_cert.specs.Places.{AreRowsOfLanes}
 use Rattle.plan_cert.specs.Stated.{stated_rows}
 use Rattle.plan_cert.proofs.stated.stated_known.Given as goal
 
@@ -8,7 +8,8 @@ use Rattle.plan_cert.proofs.stated.stated_known.Given as goal
 abbrev pub invariant-loop-number : goal.invariant-loop-number
 invariant-loop-number l =
     record {
-      places : AreRowsOf l.universe l.plan.lanes (stated_rows l.universe l.plan.lanes l.certificate)
+      places : AreRowsOfLanes l.universe l.plan.lanes
+          (stated_rows l.universe l.plan.lanes l.certificate)
           l.number l.places.items l.rows.items;
       words : All (IsRowIn l.universe) l.rows.items;
     }

@@ -1,6 +1,6 @@
 use Rattle.std.proofs.Common.{suc, ◌+◌, Some, refl, ap, ◌∙◌, sym, subst, arith}
 use Rattle.plan_model.specs.Plan.{lane}
-use Rattle.plan_verifier.specs.Branch.{IsAt, IsJoined}
+use Rattle.plan_verifier.specs.Branch.{IsAt, IsBehindEnd}
 use Rattle.plan_verifier.proofs.Branching.{begin-at, turn-at, held-at, end-at, parts-at, told-before, when-safe, else-safe}
 use Rattle.plan_asm.proofs.Counts.{lane-few}
 use Rattle.plan_verifier.proofs.Steps.{instruction-is, below-lane}
@@ -84,7 +84,7 @@ overflow_add-result g c =
     (held-at u p rows l i branched c.args.may.now c.requires.at) in
     let told = parts-at u p rows l i branched is c.args.may.now c.end.new.self c.requires.at
     c.in-Some.at
-    (subst (IsJoined u (lane p l) c.args.may.now c.end.new.self) c.in-Some.is done) in
+    (subst (IsBehindEnd u (lane p l) c.args.may.now c.end.new.self) c.in-Some.is done) in
     omega (
       arith,
       told.1,
@@ -112,7 +112,7 @@ returns-in-Some g c =
     (held-at u p rows l i branched c.args.may.now c.requires.at) in
     let told = parts-at u p rows l i branched is c.args.may.now c.end.new.self c.requires.at
     c.in-Some.at
-    (subst (IsJoined u (lane p l) c.args.may.now c.end.new.self) c.in-Some.is done) in
+    (subst (IsBehindEnd u (lane p l) c.args.may.now c.end.new.self) c.in-Some.is done) in
     record { lane = refl; numbered = ap (λ k. k + 1) told.1; here = told.0 }
 
 pub returns-in-None : goal.returns-in-None
@@ -133,4 +133,4 @@ returns-in-None g c =
     let done = c.end.ensures (lane p l)
     (held-at u p rows l i branched c.args.may.now c.requires.at) in
     end-at u p rows l i branched is c.args.may.now c.end.new.self c.requires.at
-    (subst (IsJoined u (lane p l) c.args.may.now c.end.new.self) c.in-None.is done)
+    (subst (IsBehindEnd u (lane p l) c.args.may.now c.end.new.self) c.in-None.is done)

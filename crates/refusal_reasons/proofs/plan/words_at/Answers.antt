@@ -3,7 +3,7 @@ use Rattle.std.proofs.lemmas.Bool.{and_parts, and_from}
 use Rattle.farm_model.specs.Packages.{variant}
 use Rattle.plan_model.specs.Known.{possible}
 use Rattle.plan_model.specs.Plan.{Plan}
-use Rattle.sat_rows.specs.Rows.{passes}
+use Rattle.sat_rows.specs.Rows.{variant_passes}
 use Rattle.plan_verifier.proofs.Steps.{of_archive}
 use Rattle.refusal_reasons.proofs.plan.words_at.Goals as goal
 
@@ -19,5 +19,5 @@ returns-in-Unpack-clause-known_there g c b h =
     c.requires.stage.sound.universe c.requires.stage.keeps l i c.requires.lane c.requires.place in
     let parts = and_parts _ _ (sym (c.word.ensures b) ∙ h) in
     c.possible_word.ensures b
-    ∙ ap (λ (q : Plan). passes u (possible u q l i) n b) c.requires.stage.outputs_are.1
+    ∙ ap (λ (q : Plan). variant_passes u (possible u q l i) n b) c.requires.stage.outputs_are.1
     ∙ and_from _ _ parts.0 (archive.known_there (variant n b) parts.1)

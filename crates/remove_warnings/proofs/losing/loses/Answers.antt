@@ -2,7 +2,7 @@ use Rattle.std.proofs.Common.{not, ◌&&◌, sym, ap, ◌∙◌}
 use Rattle.plan_model.specs.May.{May, surely_met}
 use Rattle.plan_model.specs.Risk.{surely_met_outside}
 use Rattle.may_rows.specs.Words.{may_of}
-use Rattle.remove_warnings.proofs.LeftLaws.{meets-outside}
+use Rattle.refusal_reasons.proofs.Kept.{meets-outside}
 use Rattle.remove_warnings.proofs.losing.loses.Goals as goal
 
 pub returns-then-may_hit : goal.returns-then-may_hit

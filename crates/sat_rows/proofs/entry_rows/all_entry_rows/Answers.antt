@@ -7,7 +7,7 @@ use Rattle.rayon.proofs.ToStd.{nat_range-All}
 use Rattle.farm_model.specs.declared.types.Variant.{Variant}
 use Rattle.farm_model.specs.Packages.{satisfies_entry}
 use Rattle.sat_rows.specs.Found.{IsFound}
-use Rattle.sat_rows.specs.Links.{list_at}
+use Rattle.sat_rows.specs.Links.{nth_list}
 use Rattle.sat_rows.specs.Rows.{IsRowOf}
 use Rattle.sat_rows.proofs.Gathered.{gathered}
 use Rattle.sat_rows.proofs.entry_rows.all_entry_rows.Goals as goal
@@ -36,11 +36,11 @@ returns g c entries are =
     let places = h.1.1 ∙ ((λ i. nat_range (start i) (end i)) ∙ ap (range_with_len 0) whole) in
     let called =
     subst (λ f. AllZip (λ n row. IfOk row
-    (λ row. (p : Variant → Bool) → IsFound f.1.now p (list_at f.2.now n)
+    (λ row. (p : Variant → Bool) → IsFound f.1.now p (nth_list f.2.now n)
     → IsRowOf f.1.now p row)) h.1.0 h.0)
     c.map.ensures.f h.1.2 in
     let all =
-    gathered AllocError (λ n row. (p : Variant → Bool) → IsFound u p (list_at sets n)
+    gathered AllocError (λ n row. (p : Variant → Bool) → IsFound u p (nth_list sets n)
     → IsRowOf u p row) n h.0 made.0 c.in_ok-rows.rows.items [] h.1.0
     made.1 made.2 places called in
     record {

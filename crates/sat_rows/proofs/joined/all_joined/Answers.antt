@@ -2,7 +2,7 @@ use Rattle.std.proofs.Common.{◌∙◌, ℕ, ◌+◌, List, [], ◌∷◌, leng
 use Rattle.std.proofs.lemmas.Bool.{cases_lt}
 use Rattle.std.proofs.lemmas.List.{get_or_past}
 use Rattle.sat_rows.specs.declared.found.NumberWord.{NumberWord}
-use Rattle.sat_rows.specs.Links.{list_at, AreJoined}
+use Rattle.sat_rows.specs.Links.{nth_list, AreJoined}
 use Rattle.sat_rows.proofs.Gathered.{each_next}
 use Rattle.sat_rows.proofs.JoinLaws.{joined_none}
 use Rattle.sat_rows.proofs.joined.all_joined.Goals as goal
@@ -13,7 +13,7 @@ loop-name-preserved c =
     let xs = c.loop-name.joined.items in
     let x = c.in_ok-joined_name.field-0 in
     let P = λ (n : ℕ) (lists : List (List NumberWord)).
-    AreJoined (list_at c.args.by_name.now n) c.args.by_entry.now lists in
+    AreJoined (nth_list c.args.by_name.now n) c.args.by_entry.now lists in
     let here = subst (λ n. P n x) (sym so_far.0)
     (subst (λ es. AreJoined es c.args.by_entry.now x) c.words_at-entries.ensures
     c.in_ok-joined_name.ensures) in
@@ -30,7 +30,7 @@ returns c n =
     elim (cases_lt n (length lists)) [
       | inl lt ↦ c.loop-name.invariant.1 n lt
       | inr past ↦
-          subst (AreJoined (list_at c.args.by_name.now n) c.args.by_entry.now)
+          subst (AreJoined (nth_list c.args.by_name.now n) c.args.by_entry.now)
           (sym (get_or_past lists n [] past))
-          (joined_none (list_at c.args.by_name.now n) c.args.by_entry.now)
+          (joined_none (nth_list c.args.by_name.now n) c.args.by_entry.now)
     ]

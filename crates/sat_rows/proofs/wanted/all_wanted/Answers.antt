@@ -1,7 +1,7 @@
 use Rattle.std.proofs.Common.{◌∙◌, ℕ, ◌+◌, List, [], ◌∷◌, length-append, sym, ap, subst, arith}
 use Rattle.std.proofs.lemmas.List.{get_or_default}
 use Rattle.farm_model.specs.Packages.{variants}
-use Rattle.sat_rows.specs.ByVariant.{AreOfName}
+use Rattle.sat_rows.specs.ByVariant.{AreValuesOfName}
 use Rattle.sat_rows.specs.Entries.{AreNumbers, no_numbers}
 use Rattle.sat_rows.specs.declared.found.NumberWord.{NumberWord}
 use Rattle.sat_rows.specs.Links.{IsNumbered}
@@ -22,7 +22,7 @@ loop-name-preserved c =
           let P = λ (n : ℕ) (vs : List NumberWord). IsNumbered u wanted entries n (variants u n)
           vs in
           let here = c.in_ok-wanted_name.ensures entries
-          (subst (AreOfName u (AreNumbers u entries) no_numbers c.loop-name.name)
+          (subst (AreValuesOfName u (AreNumbers u entries) no_numbers c.loop-name.name)
           (get_or_default c.args.numbers.now c.loop-name.name [] c.index-numbers-name.result
           (omega (arith, are.long, c.loop-name-test.true, c.names-name-end.ensures.number))
           ∙ sym c.index-numbers-name.is)

@@ -2,7 +2,7 @@ use Rattle.std.proofs.Common.{◌≡◌, ℕ, ◌<◌, List, length}
 use Rattle.deb_relation.specs.Relations.{Entry}
 use Rattle.farm_model.specs.Packages.{variants}
 use Rattle.sat_rows.specs.Entries as numbers
-use Rattle.sat_rows.specs.Links.{list_at, IsNumbered}
+use Rattle.sat_rows.specs.Links.{nth_list, IsNumbered}
 use Rattle.sat_rows.specs.Served.{wanted}
 use Rattle.sat_rows.proofs.wanted.all_wanted.Given as goal
 
@@ -10,7 +10,7 @@ use Rattle.sat_rows.proofs.wanted.all_wanted.Given as goal
 abbrev pub invariant-loop-name : goal.invariant-loop-name
 invariant-loop-name l = record {
   long : length l.lists.items ≡ l.name;
-  each : (entries : List Entry) → numbers.AreNumbered l.universe entries l.numbers → (n : ℕ)
+  each : (entries : List Entry) → numbers.AreVariantNumbers l.universe entries l.numbers → (n : ℕ)
       → n < l.name
-      → IsNumbered l.universe wanted entries n (variants l.universe n) (list_at l.lists.items n);
+      → IsNumbered l.universe wanted entries n (variants l.universe n) (nth_list l.lists.items n);
 }

@@ -1,6 +1,6 @@
 use Rattle.std.proofs.Common.{ℕ, length, option_map, sym, ap, arith}
 use Rattle.refusal_reasons.proofs.FirstLaws.{first_below-at}
-use Rattle.wait_notes.specs.Waiting.{way_back, next_of}
+use Rattle.wait_notes.specs.Waiting.{way_back, next_lane_of}
 use Rattle.wait_notes.proofs.circles.first_circle.Goals as goal
 
 pub returns-in-Some : goal.returns-in-Some
@@ -9,6 +9,6 @@ returns-in-Some c =
     let l = c.loop-number.number in
     sym
     (first_below-at {A = ℕ × ℕ} (length nexts) l
-    (λ k. option_map (λ others. (k, others)) (way_back (next_of nexts) (length nexts) k))
+    (λ k. option_map (λ others. (k, others)) (way_back (next_lane_of nexts) (length nexts) k))
     (l, c.in-Some.others) (omega (arith, c.loop-number-test.true)) c.loop-number.invariant
     (ap (option_map (λ others. (l, others))) (sym c.in-Some.ensures)))

@@ -1,12 +1,12 @@
 use Rattle.std.proofs.Common.{◌≡◌, suc, true, length, sym, ap, ◌∙◌, arith}
 use Rattle.std.specs.Option.{option_and_then}
-use Rattle.wait_notes.specs.Waiting.{follow, is_lane, next_of}
+use Rattle.wait_notes.specs.Waiting.{follow, is_lane, next_lane_of}
 use Rattle.wait_notes.proofs.Firsts.{found_at}
 use Rattle.wait_notes.proofs.groups.way_back.Goals as goal
 
 pub returns-then-is_lane : goal.returns-then-is_lane
 returns-then-is_lane c =
-    let next = next_of c.args.nexts.now in
+    let next = next_lane_of c.args.nexts.now in
     let l = c.args.number in
     let k = c.loop-passed.passed in
     let here : is_lane l (follow next (suc k) l) ≡ true =

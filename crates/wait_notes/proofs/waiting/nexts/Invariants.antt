@@ -1,6 +1,6 @@
 use Rattle.std.proofs.Common.{◌≡◌, ℕ, ◌<◌, length}
 use Rattle.wait_order.specs.Standing.{place_of}
-use Rattle.wait_notes.specs.Waiting.{next_of, waits_for}
+use Rattle.wait_notes.specs.Waiting.{next_lane_of, waits_for}
 use Rattle.wait_notes.proofs.waiting.nexts.Given as goal
 
 -- the lanes so far
@@ -9,5 +9,5 @@ invariant-loop-number l =
     record {
       long : length l.nexts.items ≡ l.number;
       each : (k : ℕ) → k < l.number
-          → next_of l.nexts.items k ≡ waits_for l.universe l.plan.lanes (place_of l.ats) k;
+          → next_lane_of l.nexts.items k ≡ waits_for l.universe l.plan.lanes (place_of l.ats) k;
     }

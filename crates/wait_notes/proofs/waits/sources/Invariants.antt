@@ -1,12 +1,12 @@
 use Rattle.std.proofs.Common.{◌≡◌, ◌++◌, drop}
 use Rattle.std.specs.List.{filter}
-use Rattle.farm_explain.specs.ReasonText.{publication}
+use Rattle.farm_explain.specs.ReasonText.{first_publication}
 use Rattle.wait_notes.specs.WaitText.{comes}
 use Rattle.wait_notes.proofs.waits.sources.Given as goal
 
 abbrev pub invariant-loop-i : goal.invariant-loop-i
 invariant-loop-i l =
     l.found.items ++ filter (λ v. comes l.of.number l.place
-    (publication l.of.universe.now l.of.plan.now.lanes v)) (drop l.i l.variants)
+    (first_publication l.of.universe.now l.of.plan.now.lanes v)) (drop l.i l.variants)
     ≡ filter (λ v. comes l.of.number l.place
-    (publication l.of.universe.now l.of.plan.now.lanes v)) l.variants
+    (first_publication l.of.universe.now l.of.plan.now.lanes v)) l.variants

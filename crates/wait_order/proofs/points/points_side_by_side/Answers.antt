@@ -1,5 +1,5 @@
 use Rattle.std.proofs.Common.{length, sym, subst, ◌∙◌}
-use Rattle.wait_order.specs.EntrySources.{AreNumbers, AreAllSources}
+use Rattle.wait_order.specs.EntrySources.{AreMarkNumbers, AreAllSources}
 use Rattle.wait_order.specs.Marks.{AreLanes}
 use Rattle.wait_order.proofs.EntryLaws.{all_there, found_for}
 use Rattle.wait_order.proofs.points.points_side_by_side.Goals as goal
@@ -24,6 +24,6 @@ points_by-requires-clause-sources g c =
     let marks = c.as_slice-all.result.now in
     let es = c.in_ok-named.named.entries in
     found_for u p es c.deref-2.result.now marks c.deref.result.now
-    (subst (λ numbers. AreNumbers p es marks numbers (length marks)) (sym c.deref.ensures.value)
+    (subst (λ numbers. AreMarkNumbers p es marks numbers (length marks)) (sym c.deref.ensures.value)
     c.in_ok-named.ensures)
     (subst (AreAllSources u p es) (sym c.deref-2.ensures.value) c.in_ok-sources.ensures)

@@ -4,7 +4,7 @@ use Rattle.std.specs.Simd.Lanes.{zip2}
 use Rattle.clause_kernel.specs.Rows.{row_has}
 use Rattle.clause_kernel.proofs.Meanings.{joined-bits}
 use Rattle.bit_rows.specs.declared.block.Block.{Block}
-use Rattle.bit_rows.specs.Blocks.{AreRowBlocks, AreJoined}
+use Rattle.bit_rows.specs.Blocks.{AreRowBlocks, AreJoinedBlocks}
 use Rattle.bit_rows.proofs.RowWords.{length-words_of}
 use Rattle.bit_rows.proofs.Writes.{on_ok}
 use Rattle.bit_rows.proofs.ChangedRows.{IsRow, joined_row, rows_of_one_length}
@@ -12,8 +12,8 @@ use Rattle.bit_rows.proofs.row.Row.or_into.Goals as goal
 
 -- the blocks stay those of a row, whether they are joined or not
 stay : {T E : Type 0} (r : Result T E) (n : ℕ) (old others new : List Block) (row : List ℕ)
-    → OnOk r (AreJoined old others new) → OnErr r (new ≡ old)
-    → (AreJoined old others new → IsRow n new row) → AreRowBlocks n old → AreRowBlocks n new
+    → OnOk r (AreJoinedBlocks old others new) → OnErr r (new ≡ old)
+    → (AreJoinedBlocks old others new → IsRow n new row) → AreRowBlocks n old → AreRowBlocks n new
 stay (Ok x) n old others new row ok err made are = (made ok).are
 stay (Err e) n old others new row ok err made are = subst (AreRowBlocks n) (sym err) are
 

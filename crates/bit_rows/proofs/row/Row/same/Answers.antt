@@ -1,8 +1,8 @@
 use Rattle.std.proofs.Common.{◌≡◌, sym, ◌∙◌}
-use Rattle.clause_kernel.specs.Kernels.{same}
+use Rattle.std.specs.Cmp.{both_ways as same_tests}
+use Rattle.clause_kernel.specs.Kernels.{same_rows}
 use Rattle.clause_kernel.proofs.Meanings.{same-equal}
 use Rattle.bit_rows.proofs.SetLaws.{same-variants}
-use Rattle.bit_rows.proofs.Merges.{same_tests}
 use Rattle.bit_rows.proofs.OneForm.{same_blocks}
 use Rattle.bit_rows.proofs.row.Row.same.Goals as goal
 
@@ -21,11 +21,12 @@ pub returns-clause-test : goal.returns-clause-test
 returns-clause-test g c =
     let equal = returns-clause-equal g c in
     let kernel = same-equal c.args.self.now c.args.other.now c.requires in
-    same_tests c.are_same.result (same c.args.self.now c.args.other.now)
+    same_tests c.are_same.result (same_rows c.args.self.now c.args.other.now)
     (λ e. kernel.1 (equal.0 e)) (λ e. equal.1 (kernel.0 e))
 
 pub returns-clause-set : goal.returns-clause-set
 returns-clause-set g c =
-    let test : c.are_same.result ≡ same c.args.self.now c.args.other.now = returns-clause-test g
+    let test : c.are_same.result ≡ same_rows c.args.self.now c.args.other.now =
+    returns-clause-test g
     c in
     rw test (same-variants c.args.self.now c.args.other.now c.requires)

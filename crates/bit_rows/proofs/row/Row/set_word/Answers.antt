@@ -2,7 +2,7 @@ use Rattle.std.proofs.Common.{◌≡◌, ◌<◌, ◌/◌, ◌%◌, ℕ, List, l
 use Rattle.std.proofs.lemmas.List.{length-set}
 use Rattle.bit_rows.specs.declared.block.Block.{Block}
 use Rattle.bit_rows.specs.Sets.{variants_of, ReplacesName}
-use Rattle.bit_rows.specs.Blocks.{words_at, words_of, placed, StandsAt, AreRowBlocks}
+use Rattle.bit_rows.specs.Blocks.{block_words_at, words_of, placed, StandsAt, AreRowBlocks}
 use Rattle.bit_rows.proofs.RowWords.{length-words_of, eight_at, row_blocks-placed, words_of-placed, written_inside}
 use Rattle.bit_rows.proofs.Writes.{after_write, on_ok, replaces-set}
 use Rattle.bit_rows.proofs.row.Row.set_word.Goals as goal
@@ -15,18 +15,18 @@ pub record IsWritten (n name word : ℕ) (row : List ℕ) (new : List Block) : T
 written : (n at name word : ℕ) (bs found before : List Block) (ws row : List ℕ) → AreRowBlocks n bs
     → words_of n bs ≡ row → name < length row → found ≡ bs → before ≡ bs
     → StandsAt at (name / 8) before
-    → ws ≡ words_at found (name / 8)
+    → ws ≡ block_words_at found (name / 8)
     → IsWritten n name word row
     (placed at (record { place = name / 8; words = set ws (name % 8) word }) bs)
 written n at name word bs found before ws row are view lt same_found same_before stands e =
     let place = name / 8 in
     let here = subst (StandsAt at place) same_before stands in
-    let old = words_at bs place in
+    let old = block_words_at bs place in
     let inside : name < n = omega (arith, length-words_of n bs, ap length view) in
     subst
     (λ l. IsWritten n name word row
     (placed at (record { place = place; words = set l (name % 8) word }) bs))
-    (sym (e ∙ ap (λ l. words_at l place) same_found)) (record {
+    (sym (e ∙ ap (λ l. block_words_at l place) same_found)) (record {
       are = row_blocks-placed n at (record { place = place; words = set old (name % 8) word }) bs
           (length-set old (name % 8) word ∙ eight_at n bs place are.each)
           (written_inside n name word bs inside are.each) here are;

@@ -1,10 +1,11 @@
 use Rattle.std.proofs.Common.{◌≡◌, ◌+◌, ◌||◌, List, ℕ, ◌∷◌, map, refl, sym, ap, ◌∙◌, arith}
+use Rattle.std.proofs.Math.Bool.{or-false}
 use Rattle.std.specs.List.{list_any}
 use Rattle.std.specs.Str.{bytes_eq}
 use Rattle.deb_stanza.specs.Draft.{has_key, lowered, names_from}
 use Rattle.deb_stanza.specs.Stanza.{name_of}
 use Rattle.deb_stanza.proofs.LastLaws.{drop-texts, names-cons}
-use Rattle.deb_stanza.proofs.NameLaws.{or_none, push_or}
+use Rattle.deb_stanza.proofs.NameLaws.{push_or}
 use Rattle.deb_stanza.proofs.table.Table.name_set.Goals as goal
 
 pub loop-field-init : goal.loop-field-init
@@ -31,7 +32,7 @@ returns c = record {
       let has = has_key c.loop-field.names key in
       let none = drop-texts t.bytes.items t.fields.items c.loop-field.field
       (omega (arith, t.fields.ok.0)) in
-      sym (or_none has)
+      sym (or-false has)
       ∙ ap (λ (ts : List (List ℕ)). has || list_any (bytes_eq key) (map lowered (map name_of ts)))
       (sym none)
       ∙ c.loop-field.invariant key;

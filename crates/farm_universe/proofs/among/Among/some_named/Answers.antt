@@ -3,7 +3,7 @@ use Rattle.std.specs.List.{list_any}
 use Rattle.deb_relation.specs.Relations.{Atom}
 use Rattle.deb_relation.specs.Satisfaction.{is_its_own}
 use Rattle.item_index.specs.Items.{listed}
-use Rattle.farm_universe.specs.Among.{is_other, at_owner, AreFound}
+use Rattle.farm_universe.specs.Among.{is_another_member, at_owner, AreFound}
 use Rattle.farm_universe.specs.BaseText.{Member, member_facts}
 use Rattle.farm_universe.proofs.AmongLaws.{any-named}
 use Rattle.farm_universe.proofs.among.Among.some_named.Goals as goal
@@ -16,7 +16,8 @@ returns c =
     let provided = c.self.inside.provided in
     let are : AreFound ms named provided =
     subst (λ ms. AreFound ms named provided) c.self.view_is c.self.invariant in
-    let test : Member → Bool = λ m. is_other c.args.besides m && is_its_own (member_facts m) a in
+    let test : Member → Bool = λ m. is_another_member c.args.besides m
+    && is_its_own (member_facts m) a in
     let name = ap (λ (a : Atom). a.name) c.atom.view_is in
     let text : c.deref.result.now ≡ a.name = cc (name, c.deref.ensures.value) in
     let items : c.listed.result.now ≡ listed named a.name =

@@ -3,7 +3,7 @@ use Rattle.std.specs.List.{list_any}
 use Rattle.deb_relation.specs.Relations.{Atom}
 use Rattle.item_index.specs.declared.item.Item.{Item}
 use Rattle.item_index.specs.Items.{listed}
-use Rattle.farm_universe.specs.Among.{is_other, provides_at, at_owner, AreFound}
+use Rattle.farm_universe.specs.Among.{is_another_member, provides_at, at_owner, AreFound}
 use Rattle.farm_universe.proofs.AmongLaws.{any-provided}
 use Rattle.farm_universe.proofs.among.Among.some_provides.Goals as goal
 
@@ -16,7 +16,7 @@ returns c =
     let are : AreFound ms named provided =
     subst (λ ms. AreFound ms named provided) c.self.view_is c.self.invariant in
     let test : Item ℕ → Bool =
-    λ at. at_owner (λ m. is_other c.args.besides m && provides_at at m a) ms at in
+    λ at. at_owner (λ m. is_another_member c.args.besides m && provides_at at m a) ms at in
     let name = ap (λ (a : Atom). a.name) c.atom.view_is in
     let text : c.deref.result.now ≡ a.name = cc (name, c.deref.ensures.value) in
     let items : c.listed.result.now ≡ listed provided a.name =

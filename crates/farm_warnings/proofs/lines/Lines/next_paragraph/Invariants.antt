@@ -1,10 +1,10 @@
 use Rattle.std.proofs.Common.{◌≡◌, ◌≤◌, length}
-use Rattle.farm_warnings.specs.Lines.{paragraphs_of}
+use Rattle.farm_warnings.specs.Lines.{paragraph_lines}
 use Rattle.farm_warnings.proofs.lines.Lines.next_paragraph.Given as goal
 
 abbrev pub invariant-loop-line : goal.invariant-loop-line
 invariant-loop-line l = record {
-  same : paragraphs_of l.fn.self ≡ paragraphs_of l.self;
+  same : paragraph_lines l.fn.self ≡ paragraph_lines l.self;
   begun : l.begun ≡ l.self;
   shorter : length l.self ≤ length l.fn.self;
 }

@@ -1,10 +1,10 @@
 use Rattle.std.proofs.Common.{◌≡◌, ◌≤◌, filter, length}
-use Rattle.farm_warnings.specs.Lines.{is_recipe, paragraphs_of}
+use Rattle.farm_warnings.specs.Lines.{is_recipe, paragraph_lines}
 use Rattle.farm_warnings.proofs.lines.Lines.next_recipe.Given as goal
 
 abbrev pub invariant-loop-paragraph : goal.invariant-loop-paragraph
 invariant-loop-paragraph l = record {
-  same : filter is_recipe (paragraphs_of l.fn.self) ≡ filter is_recipe (paragraphs_of l.self);
+  same : filter is_recipe (paragraph_lines l.fn.self) ≡ filter is_recipe (paragraph_lines l.self);
   shorter : length l.self ≤ length l.fn.self;
 }
 

@@ -1,7 +1,7 @@
 use Rattle.std.proofs.Common.{◌≡◌, ◌↔◌, true, ap, subst, ◌∙◌}
 use Rattle.bit_rows.specs.Sets.{variants_of, HaveCommon}
 use Rattle.farm_model.specs.Packages.{breaks}
-use Rattle.sat_rows.specs.Rows.{passes, breakers_of}
+use Rattle.sat_rows.specs.Rows.{variant_passes, breakers_of}
 use Rattle.may_rows.specs.Words.{Words, may_of}
 use Rattle.may_rows.proofs.Bridges.{common_is}
 use Rattle.may_rows.proofs.OtherNames.{may_hold-other}
@@ -16,10 +16,11 @@ returns c =
     (view, c.deref.ensures.value) in
     let told = subst
     (λ ws. (c.is_broken_by_some.result ≡ true) ↔ HaveCommon (variants_of ws)
-    (passes u (breakers_of u v))) words
+    (variant_passes u (breakers_of u v))) words
     (subst
     (λ t. (c.is_broken_by_some.result ≡ true)
-    ↔ HaveCommon (variants_of c.deref.result.now) (passes t (breakers_of t v))) c.requires.fits.0
+    ↔ HaveCommon (variants_of c.deref.result.now) (variant_passes t (breakers_of t v)))
+    c.requires.fits.0
     c.is_broken_by_some.ensures) in
     common_is u c.args.self.now.state.now c.requires.fits.1 (breakers_of u v)
     c.is_broken_by_some.result told

@@ -1,7 +1,7 @@
 use Rattle.std.proofs.Common.{◌≡◌, ◌↔◌, true, ap, subst, ◌∙◌}
 use Rattle.bit_rows.specs.Sets.{variants_of, HaveCommon}
 use Rattle.farm_model.specs.Packages.{breaks}
-use Rattle.sat_rows.specs.Rows.{passes, broken_by}
+use Rattle.sat_rows.specs.Rows.{variant_passes, broken_by}
 use Rattle.may_rows.specs.Words.{Words, may_of}
 use Rattle.may_rows.proofs.Bridges.{common_configured_is}
 use Rattle.may_rows.proofs.OtherNames.{may_hold_configured-other}
@@ -15,11 +15,13 @@ returns c =
     let words : c.deref.result.now ≡ c.args.self.now.state.now.ready = cc
     (view, c.deref.ensures.value) in
     let told = subst
-    (λ ws. (c.breaks_some.result ≡ true) ↔ HaveCommon (variants_of ws) (passes u (broken_by u v)))
+    (λ ws. (c.breaks_some.result ≡ true) ↔ HaveCommon (variants_of ws)
+    (variant_passes u (broken_by u v)))
     words
     (subst
     (λ t. (c.breaks_some.result ≡ true)
-    ↔ HaveCommon (variants_of c.deref.result.now) (passes t (broken_by t v))) c.requires.fits.0
+    ↔ HaveCommon (variants_of c.deref.result.now) (variant_passes t (broken_by t v)))
+    c.requires.fits.0
     c.breaks_some.ensures) in
     common_configured_is u c.args.self.now.state.now c.requires.fits.1 (broken_by u v)
     c.breaks_some.result told

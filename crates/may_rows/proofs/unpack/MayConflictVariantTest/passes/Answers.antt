@@ -1,7 +1,7 @@
 use Rattle.std.proofs.Common.{◌≡◌, ◌↔◌, true, ap, subst, ◌∙◌}
 use Rattle.bit_rows.specs.Sets.{variants_of, HaveCommon}
 use Rattle.farm_model.specs.Packages.{conflict}
-use Rattle.sat_rows.specs.Rows.{passes, conflicts_with}
+use Rattle.sat_rows.specs.Rows.{variant_passes, conflicts_with}
 use Rattle.may_rows.specs.Words.{Words, may_of}
 use Rattle.may_rows.proofs.Bridges.{common_is}
 use Rattle.may_rows.proofs.OtherNames.{may_hold-other}
@@ -16,10 +16,11 @@ returns c =
     (view, c.deref.ensures.value) in
     let told = subst
     (λ ws. (c.conflicts_with_some.result ≡ true) ↔ HaveCommon (variants_of ws)
-    (passes u (conflicts_with u v))) words
+    (variant_passes u (conflicts_with u v))) words
     (subst
     (λ t. (c.conflicts_with_some.result ≡ true)
-    ↔ HaveCommon (variants_of c.deref.result.now) (passes t (conflicts_with t v))) c.requires.fits.0
+    ↔ HaveCommon (variants_of c.deref.result.now) (variant_passes t (conflicts_with t v)))
+    c.requires.fits.0
     c.conflicts_with_some.ensures) in
     common_is u c.args.self.now.state.now c.requires.fits.1 (conflicts_with u v)
     c.conflicts_with_some.result told

@@ -1,7 +1,7 @@
 use Rattle.std.proofs.Common.{◌≡◌, ◌<◌, ◌≤◌, ℕ, List, true, length, get_or, slice_index, [], sym, ap, subst, ◌∙◌, arith}
 use Rattle.bit_rows.specs.Sets.{variants_of}
 use Rattle.plan_model.specs.Plan.{lane}
-use Rattle.plan_cert.specs.PlaceRows.{PlaceRows, words_at, row_number}
+use Rattle.plan_cert.specs.PlaceRows.{PlaceRows, row_words_at, row_number}
 use Rattle.std.proofs.lemmas.List.{get_or_default}
 use Rattle.plan_cert.proofs.stated_rows.StatedRows.knows_within.Goals as goal
 
@@ -25,17 +25,17 @@ returns-else-here-there c =
     λ n i is. is ∙ ap (λ (ns : List ℕ). slice_index ns i) lane_places in
     let words : (row : List ℕ) (n i : ℕ)
     → i ≤ length (lane c.self.inside.plan.value.lanes l).instructions
-    → row ≡ get_or rows n row → n ≡ row_number places l i → row ≡ words_at known l i =
+    → row ≡ get_or rows n row → n ≡ row_number places l i → row ≡ row_words_at known l i =
     λ row n i le is at.
     is
     ∙ get_or_default rows n row [] (omega (arith, at, c.self.invariant.within l i lt le))
     ∙ ap (λ k. get_or rows k []) at
-    ∙ ap (λ (k : PlaceRows). words_at k l i) view in
-    let here : c.index.result.now ≡ words_at known l c.args.place =
+    ∙ ap (λ (k : PlaceRows). row_words_at k l i) view in
+    let here : c.index.result.now ≡ row_words_at known l c.args.place =
     words c.index.result.now c.number-here.result c.args.place
     (omega (arith, c.requires.place, long)) c.index.ensures
     (number c.number-here.result c.args.place c.number-here.ensures) in
-    let there : c.index-else-here-there.result.now ≡ words_at known l c.args.other =
+    let there : c.index-else-here-there.result.now ≡ row_words_at known l c.args.other =
     words c.index-else-here-there.result.now c.number-there.result c.args.other
     (omega (arith, c.requires.other, long)) c.index-else-here-there.ensures
     (number c.number-there.result c.args.other c.number-there.ensures) in (

@@ -1,5 +1,5 @@
 use Rattle.std.proofs.Common.{◌≡◌, ◌++◌, length, map, Some}
-use Rattle.plan_lines.specs.Joins.{body, bodies, stacked, turns, AreParts}
+use Rattle.plan_lines.specs.Joins.{body, bodies, stacked, turns, ArePartsOfJoins}
 use Rattle.plan_lines.specs.Origins.{from_line}
 use Rattle.plan_lines.proofs.joins.Joins.push_origins.Given as goal
 
@@ -9,7 +9,7 @@ invariant-loop-next l = record {
       ++ map (from_line (Some l.used)) (stacked (bodies l.self-inside.pairs.items) l.left.items)
       ≡ l.fn.out.items
       ++ map (from_line (Some l.used)) (body (bodies l.self-inside.pairs.items) l.fn.part);
-  known : AreParts (length l.self-inside.pairs.items) l.left.items;
+  known : ArePartsOfJoins (length l.self-inside.pairs.items) l.left.items;
 }
 
 abbrev pub decreases-loop-next : goal.decreases-loop-next

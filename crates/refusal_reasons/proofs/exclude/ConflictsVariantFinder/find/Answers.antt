@@ -4,7 +4,7 @@ use Rattle.farm_model.specs.Below.{some_below}
 use Rattle.farm_model.specs.Packages.{names, conflict}
 use Rattle.sat_rows.specs.Rows.{of_another_name}
 use Rattle.refusal_reasons.specs.declared.types.Reason.{Reason}
-use Rattle.refusal_reasons.specs.Hits.{hits, IsFirstHit}
+use Rattle.refusal_reasons.specs.Hits.{name_has_hit, IsFirstHit}
 use Rattle.refusal_reasons.proofs.Excluded.{held-some, held-none}
 use Rattle.refusal_reasons.proofs.exclude.ConflictsVariantFinder.find.Goals as goal
 
@@ -27,5 +27,6 @@ returns-in-None c =
     let q : Variant → Bool = conflict u v in
     held-none u c.args.self.now.state.now c.requires.fits.1.0 v q
     (λ (d : Variant). Reason.Conflict v d)
-    (subst (λ (words : List ℕ). some_below (names u) (hits u words (of_another_name v q)) ≡ false)
+    (subst (λ (words : List ℕ). some_below (names u) (name_has_hit u words (of_another_name v q))
+    ≡ false)
     c.requires.fits.1.1 c.in-None.ensures.none)

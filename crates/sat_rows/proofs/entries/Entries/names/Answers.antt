@@ -1,5 +1,5 @@
 use Rattle.std.proofs.Common.{[], sym, subst, arith, get_or}
-use Rattle.sat_rows.specs.ByVariant.{AreOfName}
+use Rattle.sat_rows.specs.ByVariant.{AreValuesOfName}
 use Rattle.sat_rows.specs.Entries.{AreNumbers, no_numbers}
 use Rattle.sat_rows.proofs.Gathered.{each_next}
 use Rattle.sat_rows.proofs.NumberLaws.{grown_trans, name_grown}
@@ -13,7 +13,7 @@ loop-name-preserved c =
     let new = c.name.new.self in
     let grown = c.in_ok-name.ensures.grown in
     let pushed = c.in_ok-push.ensures in
-    let P = AreOfName u (AreNumbers u new) no_numbers in
+    let P = AreValuesOfName u (AreNumbers u new) no_numbers in
     let xs = c.loop-name.names.items in
     let x = c.in_ok-name.field-0 in
     let here = subst (λ n. P n x) (sym so_far.1) c.in_ok-name.ensures.numbers in (

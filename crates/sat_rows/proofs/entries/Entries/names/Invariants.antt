@@ -1,5 +1,5 @@
 use Rattle.std.proofs.Common.{◌≡◌, ℕ, ◌<◌, [], length, get_or}
-use Rattle.sat_rows.specs.ByVariant.{AreOfName}
+use Rattle.sat_rows.specs.ByVariant.{AreValuesOfName}
 use Rattle.sat_rows.specs.Entries.{IsGrown, AreNumbers, no_numbers}
 use Rattle.sat_rows.proofs.entries.Entries.names.Given as goal
 
@@ -9,4 +9,5 @@ invariant-loop-name l =
     IsGrown l.fn.self l.self
     × (length l.names.items ≡ l.name)
     × ((n : ℕ) → n < l.name
-    → AreOfName l.universe (AreNumbers l.universe l.self) no_numbers n (get_or l.names.items n []))
+    → AreValuesOfName l.universe (AreNumbers l.universe l.self) no_numbers n
+    (get_or l.names.items n []))

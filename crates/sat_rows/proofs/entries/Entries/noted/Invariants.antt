@@ -1,7 +1,7 @@
 use Rattle.std.proofs.Common.{◌≡◌, ℕ, ◌<◌, length}
 use Rattle.farm_model.specs.Packages.{variants}
 use Rattle.sat_rows.specs.Entries.{IsGrown}
-use Rattle.sat_rows.specs.Links.{list_at, IsNumbered}
+use Rattle.sat_rows.specs.Links.{nth_list, IsNumbered}
 use Rattle.sat_rows.proofs.entries.Entries.noted.Given as goal
 
 -- the names so far
@@ -11,4 +11,4 @@ invariant-loop-name g l =
     × (length l.lists.items ≡ l.name)
     × ((n : ℕ) → n < l.name
     → IsNumbered l.universe g.F.Field.field l.self n (variants l.universe n)
-    (list_at l.lists.items n))
+    (nth_list l.lists.items n))

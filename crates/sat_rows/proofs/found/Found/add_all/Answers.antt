@@ -1,12 +1,13 @@
 use Rattle.std.proofs.Common.{◌∙◌, ◌||◌, sym, ap, get_or, arith}
+use Rattle.std.proofs.Math.Bool.{or-false}
 use Rattle.std.proofs.lemmas.List.{get_or_default, take_all}
 use Rattle.sat_rows.specs.Found.{among}
-use Rattle.sat_rows.proofs.FoundLaws.{no_word, or_false}
+use Rattle.sat_rows.proofs.FoundLaws.{no_word}
 use Rattle.sat_rows.proofs.JoinLaws.{added_next}
 use Rattle.sat_rows.proofs.found.Found.add_all.Goals as goal
 
 pub loop-at-init : goal.loop-at-init
-loop-at-init c n b = sym (or_false (among c.args.self.now n b))
+loop-at-init c n b = sym (or-false (among c.args.self.now n b))
 
 pub loop-at-preserved : goal.loop-at-preserved
 loop-at-preserved c =

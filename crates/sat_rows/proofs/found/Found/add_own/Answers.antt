@@ -1,10 +1,10 @@
 use Rattle.std.proofs.Common.{◌≡◌, ◌∙◌, ◌||◌, Some, None, ap, sym}
+use Rattle.std.proofs.Math.Bool.{or-false}
 use Rattle.std.specs.Str.{bytes_eq}
 use Rattle.deb_text.specs.Groups.{place_in}
 use Rattle.deb_relation.specs.Relations.{Atom}
 use Rattle.clause_kernel.specs.Rows.{word_has}
 use Rattle.sat_rows.specs.Found.{among}
-use Rattle.sat_rows.proofs.FoundLaws.{or_false}
 use Rattle.sat_rows.proofs.NameLaws.{own-found, own-none}
 use Rattle.sat_rows.proofs.found.Found.add_own.Goals as goal
 
@@ -30,4 +30,4 @@ returns-in_default c n b =
     let at : place_in bytes_eq u.names a.name ≡ None =
     ap (place_in bytes_eq u.names) (sym text) ∙ sym c.in_default.ensures.number in
     sym (ap (λ x. among c.args.self.now n b || x) (own-none u c.names-names.ensures.kept a at n b)
-    ∙ or_false (among c.args.self.now n b))
+    ∙ or-false (among c.args.self.now n b))

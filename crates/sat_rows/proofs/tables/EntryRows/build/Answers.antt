@@ -1,5 +1,5 @@
 use Rattle.std.proofs.Common.{sym, subst}
-use Rattle.sat_rows.specs.Entries.{AreNumbered}
+use Rattle.sat_rows.specs.Entries.{AreVariantNumbers}
 use Rattle.sat_rows.specs.Links.{AreSets}
 use Rattle.sat_rows.proofs.NumberLaws.{numbered_grown}
 use Rattle.sat_rows.proofs.tables.EntryRows.build.Goals as goal
@@ -25,7 +25,7 @@ returns-clause-served g c =
     let sets = subst (AreSets u entries) (sym c.deref-2.ensures.value) c.in_ok-sets.ensures in
     let rows = c.rows_beside_served-rows.ensures.rows entries sets in
     let served = c.rows_beside_served-rows.ensures.served entries
-    (subst (AreNumbered u entries) (sym c.deref.ensures.value)
+    (subst (AreVariantNumbers u entries) (sym c.deref.ensures.value)
     (numbered_grown c.names-2.new.self entries c.in_ok-needs.ensures.grown u
     c.in_ok-names.names.items c.in_ok-names.ensures.numbers))
     sets in

@@ -1,7 +1,7 @@
 use Rattle.std.proofs.Common.{subst, arith}
 use Rattle.sat_rows.specs.Tables.{AreKept}
 use Rattle.farm_model.specs.Packages.{depends}
-use Rattle.sat_rows.specs.Rows.{entry_at}
+use Rattle.sat_rows.specs.Rows.{nth_entry}
 use Rattle.sat_rows.proofs.TableLaws.{numbers_within, variant_within, depends_within, depends_number, row_within, row_at}
 use Rattle.sat_rows.proofs.tables.Tables.depends.Goals as goal
 
@@ -51,7 +51,7 @@ index-requires-2 c =
     inside.breaks
     inside.clashes.items inside.providers inside.empty inside.served) c.self.view_is
     c.self.invariant in
-    let e = entry_at (depends c.args.self.now c.args.variant) c.args.number in
+    let e = nth_entry (depends c.args.self.now c.args.variant) c.args.number in
     let is = depends_number c.args.self.now inside.names.items inside.needs.items inside.rows.items
     kept.entries
     c.args.variant c.requires.known c.index.result.now c.index.ensures
@@ -70,7 +70,7 @@ returns c =
     inside.breaks
     inside.clashes.items inside.providers inside.empty inside.served) c.self.view_is
     c.self.invariant in
-    let e = entry_at (depends c.args.self.now c.args.variant) c.args.number in
+    let e = nth_entry (depends c.args.self.now c.args.variant) c.args.number in
     row_at c.args.self.now inside.names.items inside.needs.items inside.rows.items kept.entries
     e c.depends.result c.index-2.result.now
     (depends_number c.args.self.now inside.names.items inside.needs.items inside.rows.items

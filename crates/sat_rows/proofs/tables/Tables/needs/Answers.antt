@@ -1,7 +1,7 @@
 use Rattle.std.proofs.Common.{subst, arith}
 use Rattle.sat_rows.specs.Tables.{AreKept}
 use Rattle.farm_model.specs.Packages.{recipe}
-use Rattle.sat_rows.specs.Rows.{entry_at}
+use Rattle.sat_rows.specs.Rows.{nth_entry}
 use Rattle.sat_rows.proofs.TableLaws.{needs_within, need_within, need_number, row_within, row_at}
 use Rattle.sat_rows.proofs.tables.Tables.needs.Goals as goal
 
@@ -37,7 +37,7 @@ index-requires-2 c =
     inside.breaks
     inside.clashes.items inside.providers inside.empty inside.served) c.self.view_is
     c.self.invariant in
-    let e = entry_at (recipe c.args.self.now c.args.recipe).needs c.args.number in
+    let e = nth_entry (recipe c.args.self.now c.args.recipe).needs c.args.number in
     let is = need_number c.args.self.now inside.names.items inside.needs.items inside.rows.items
     kept.entries
     c.args.recipe c.requires.known c.index.result.now c.index.ensures
@@ -55,7 +55,7 @@ returns c =
     inside.breaks
     inside.clashes.items inside.providers inside.empty inside.served) c.self.view_is
     c.self.invariant in
-    let e = entry_at (recipe c.args.self.now c.args.recipe).needs c.args.number in
+    let e = nth_entry (recipe c.args.self.now c.args.recipe).needs c.args.number in
     row_at c.args.self.now inside.names.items inside.needs.items inside.rows.items kept.entries
     e c.need.result c.index-2.result.now
     (need_number c.args.self.now inside.names.items inside.needs.items inside.rows.items

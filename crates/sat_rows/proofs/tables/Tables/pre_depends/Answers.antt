@@ -2,7 +2,7 @@ use Rattle.std.proofs.Common.{sym, subst, arith}
 use Rattle.sat_rows.specs.Tables.{AreKept}
 use Rattle.farm_model.specs.Packages.{pre_depends}
 use Rattle.sat_rows.specs.Entries.{IsNumberOf}
-use Rattle.sat_rows.specs.Rows.{entry_at}
+use Rattle.sat_rows.specs.Rows.{nth_entry}
 use Rattle.sat_rows.proofs.TableLaws.{numbers_within, variant_within, pre_within, pre_numbers, row_within, row_at}
 use Rattle.sat_rows.proofs.tables.Tables.pre_depends.Goals as goal
 
@@ -51,7 +51,7 @@ index-requires-2 c =
     inside.breaks
     inside.clashes.items inside.providers inside.empty inside.served) c.self.view_is
     c.self.invariant in
-    let e = entry_at (pre_depends c.args.self.now c.args.variant) c.args.number in
+    let e = nth_entry (pre_depends c.args.self.now c.args.variant) c.args.number in
     let pre = pre_numbers c.args.self.now inside.names.items inside.needs.items inside.rows.items
     kept.entries
     c.args.variant c.requires.known c.index.result.now c.index.ensures
@@ -71,7 +71,7 @@ returns c =
     inside.breaks
     inside.clashes.items inside.providers inside.empty inside.served) c.self.view_is
     c.self.invariant in
-    let e = entry_at (pre_depends c.args.self.now c.args.variant) c.args.number in
+    let e = nth_entry (pre_depends c.args.self.now c.args.variant) c.args.number in
     let pre = pre_numbers c.args.self.now inside.names.items inside.needs.items inside.rows.items
     kept.entries
     c.args.variant c.requires.known c.index.result.now c.index.ensures

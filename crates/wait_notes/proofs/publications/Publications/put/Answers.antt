@@ -1,5 +1,5 @@
 use Rattle.std.proofs.Common.{not, sym, ap, subst, ◌∙◌}
-use Rattle.wait_notes.specs.Places.{Adds}
+use Rattle.wait_notes.specs.Places.{AddsFound}
 use Rattle.wait_notes.proofs.Tables.{only, adds_none, none_found, adds_one}
 use Rattle.wait_notes.proofs.publications.Publications.put.Goals as goal
 
@@ -8,7 +8,7 @@ returns-then-is_none-clause-put c =
     let t = c.args.self.now in
     let v = c.args.variant in
     let place = c.args.place in
-    subst (λ next. Adds t next (only v place)) (sym c.set.ensures)
+    subst (λ next. AddsFound t next (only v place)) (sym c.set.ensures)
     (adds_one t v place c.requires.named c.requires.there
     (none_found t v place c.of.result c.of.ensures (c.is_none.ensures ∙ ap not c.if-is_none.true)))
 

@@ -1,8 +1,8 @@
 use Rattle.std.proofs.Common.{ℕ, ◌+◌, Some, None, if◌then◌else◌}
-use Rattle.farm_explain.specs.ReasonText.{publishes}
+use Rattle.farm_explain.specs.ReasonText.{publishes_variant}
 use Rattle.plan_model.specs.Plan.{instruction_at}
 use Rattle.refusal_reasons.specs.First.{first_below}
-use Rattle.wait_notes.specs.Places.{Adds, HasSlots}
+use Rattle.wait_notes.specs.Places.{AddsFound, HasSlots}
 use Rattle.wait_notes.proofs.publications.Publications.put_lane.Given as goal
 
 -- the instructions so far
@@ -10,8 +10,8 @@ abbrev pub invariant-loop-i : goal.invariant-loop-i
 invariant-loop-i l =
     record {
       slots : HasSlots l.universe l.self;
-      put : Adds l.fn.self l.self
+      put : AddsFound l.fn.self l.self
           (λ v. first_below {A = ℕ × ℕ} l.i
-          (λ k. if publishes l.universe v (instruction_at l.plan.lanes l.number k)
+          (λ k. if publishes_variant l.universe v (instruction_at l.plan.lanes l.number k)
           then Some (l.number, k + 1) else None));
     }

@@ -1,6 +1,6 @@
 use Rattle.std.proofs.Common.{take, Some, None, if◌then◌else◌}
 use Rattle.farm_model.specs.Packages.{contains}
-use Rattle.wait_notes.specs.Places.{Adds, HasSlots, place_of}
+use Rattle.wait_notes.specs.Places.{AddsFound, HasSlots, publication_place}
 use Rattle.wait_notes.proofs.publications.Publications.put_outputs.Given as goal
 
 -- the outputs so far
@@ -8,6 +8,6 @@ abbrev pub invariant-loop-i : goal.invariant-loop-i
 invariant-loop-i l =
     record {
       slots : HasSlots l.universe l.self;
-      put : Adds l.fn.self l.self
-          (λ v. if contains (take l.i l.outputs) v then Some (place_of l.place) else None);
+      put : AddsFound l.fn.self l.self
+          (λ v. if contains (take l.i l.outputs) v then Some (publication_place l.place) else None);
     }

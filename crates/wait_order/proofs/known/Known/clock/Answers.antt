@@ -2,7 +2,7 @@ use Rattle.std.proofs.Common.{◌≡◌, ℕ, ◌==◌, List, Option, length, sy
 use Rattle.std.specs.Prelude.{if◌then◌else◌}
 use Rattle.plan_model.specs.Plan.{Plan}
 use Rattle.wait_order.specs.declared.marks.Past.{Past}
-use Rattle.wait_order.specs.Column.{IsIn, count_at}
+use Rattle.wait_order.specs.Column.{IsPointBelow, count_at}
 use Rattle.wait_order.specs.Clock.{row_of}
 use Rattle.wait_order.specs.Columns.{column_of, counts_of}
 use Rattle.wait_order.specs.KnownRows.{KnownRows, rows_of}
@@ -38,9 +38,10 @@ returns-clause-fits c =
       long = ap (λ (cs : List (List ℕ)). length cs) c.deref.ensures.value ∙ c.self.invariant.long
           ∙ long;
       there = λ j lt.
-          subst (λ (cs : List (List ℕ)). IsIn (length (column_of cs j)) c.past-past.result.last)
+          subst (λ (cs : List (List ℕ)). IsPointBelow (length (column_of cs j))
+          c.past-past.result.last)
           (sym c.deref.ensures.value)
-          (subst (λ (o : Option ℕ). IsIn (length (column_of columns j)) o) (sym last)
+          (subst (λ (o : Option ℕ). IsPointBelow (length (column_of columns j)) o) (sym last)
           (point_in u q columns c.args.number c.args.place c.self.invariant
           (omega (arith, c.requires.lane, long)) j (omega (arith, lt, long))));
     }

@@ -2,7 +2,7 @@ use Rattle.std.proofs.Common.{◌≡◌, Bool, sym, ap, ◌∙◌}
 use Rattle.farm_model.specs.declared.types.Variant.{Variant}
 use Rattle.farm_model.specs.Universe.{Universe}
 use Rattle.plan_model.specs.Plan.{Plan}
-use Rattle.sat_rows.specs.Rows.{passes}
+use Rattle.sat_rows.specs.Rows.{variant_passes}
 use Rattle.wait_order.specs.Clock.{count_of, row_of}
 use Rattle.wait_order.specs.KnownRows.{KnownRows, rows_of}
 use Rattle.wait_order.proofs.known.KnownKnownWords.word.Goals as goal
@@ -18,4 +18,4 @@ returns c b =
     let rows : row_of u q x ≡ rows_of k c.args.number c.args.place =
     ap (λ (w : Universe). row_of w q x) (sym c.requires.of_universe)
     ∙ ap (λ (p : Plan). row_of k.universe p x) same ∙ c.clock-clock.ensures.rows in
-    c.word.ensures b ∙ ap (λ (t : Variant → Bool). passes u t c.args.name b) rows
+    c.word.ensures b ∙ ap (λ (t : Variant → Bool). variant_passes u t c.args.name b) rows

@@ -4,9 +4,9 @@ use Rattle.plan_asm.specs.CountedPlan.{CountedPlan}
 use Rattle.plan_model.specs.Plan.{Plan}
 use Rattle.wait_order.specs.declared.by_name.OutputPlace.{OutputPlace}
 use Rattle.wait_order.specs.declared.marks.LaneOutputs.{LaneOutputs}
-use Rattle.wait_order.specs.ByName.{AreKnownLanes, AreListed}
+use Rattle.wait_order.specs.ByName.{AreKnownLanes, AreListedByName}
 use Rattle.wait_order.specs.Marks.{AreLanes}
-use Rattle.wait_order.specs.Outputs.{AreOutputs}
+use Rattle.wait_order.specs.Outputs.{AreOutputsOfPlan}
 use Rattle.wait_order.proofs.HitLaws.{lanes_known}
 use Rattle.wait_order.proofs.outputs.Outputs.of_lanes.Goals as goal
 
@@ -21,11 +21,11 @@ invariant_of-known c =
 
 -- the universe and the plan are kept as they were
 about : (u w : Universe) (p q : Plan) (lanes : List LaneOutputs) (lists : List (List OutputPlace))
-    (totals : List (List ℕ)) → w ≡ u → q ≡ p → AreOutputs u p lanes lists totals
-    → AreOutputs w q lanes lists totals
+    (totals : List (List ℕ)) → w ≡ u → q ≡ p → AreOutputsOfPlan u p lanes lists totals
+    → AreOutputsOfPlan w q lanes lists totals
 about u w p q lanes lists totals same same_plan are =
-    subst (λ v. AreOutputs v q lanes lists totals) (sym same)
-    (subst (λ r. AreOutputs u r lanes lists totals) (sym same_plan) are)
+    subst (λ v. AreOutputsOfPlan v q lanes lists totals) (sym same)
+    (subst (λ r. AreOutputsOfPlan u r lanes lists totals) (sym same_plan) are)
 
 pub invariant_of-result : goal.invariant_of-result
 invariant_of-result c =
@@ -40,7 +40,8 @@ invariant_of-result c =
       past = c.requires.past;
       named = c.in_ok-by_name.ensures.long;
       listed = subst
-          (λ (lanes : List LaneOutputs). AreListed c.in_ok-by_name.by_name lanes (length lanes))
+          (λ (lanes : List LaneOutputs). AreListedByName c.in_ok-by_name.by_name lanes
+          (length lanes))
           c.deref.ensures.value c.in_ok-by_name.ensures.listed;
       in_all = c.in_ok-totals.ensures u p
           (subst (AreLanes u p) (sym c.deref-2.ensures.value) c.requires.lanes);

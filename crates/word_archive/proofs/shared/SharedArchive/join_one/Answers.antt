@@ -1,6 +1,6 @@
 use Rattle.word_archive.proofs.shared.SharedArchive.join_one.Goals as goal
 use Rattle.std.proofs.Common.{[], ap, arith, sym, ◌++◌, ◌∙◌, ◌∷◌, ◌≡◌}
-use Rattle.word_archive.specs.Views.{base_view, joined, lane_view, record_in}
+use Rattle.word_archive.specs.Views.{base_view, joined_view, lane_view, record_in}
 use Rattle.word_archive.proofs.Joins.{joins_as}
 
 pub join_seat-requires : goal.join_seat-requires
@@ -23,13 +23,13 @@ returns c =
     let v = c.args.base.now.me.0 in
     let p = c.args.self.now.accepted.now in
     let w = c.seat.inside.seat.me.0 in
-    let mixed : (joined v w, c.args.base.now.me.1)
+    let mixed : (joined_view v w, c.args.base.now.me.1)
     ≡ (
-      joined (base_view p v.next v.stopped v.mine)
+      joined_view (base_view p v.next v.stopped v.mine)
           (lane_view w.about c.seat.inside.lane (record_in w)),
       [],
     ) =
-    λ i. (joined (c.requires.base i).0 (c.seat.invariant.0 i).0, (c.requires.base i).1) in (
+    λ i. (joined_view (c.requires.base i).0 (c.seat.invariant.0 i).0, (c.requires.base i).1) in (
       e.0,
       e.2 ∙ (mixed ∙ ap (λ s. (
         base_view p v.next v.stopped (v.mine ++ (s.lane, s.log) ∷ []),
