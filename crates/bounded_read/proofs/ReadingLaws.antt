@@ -16,7 +16,8 @@ pub read_behind : (a b c : Option (List ℕ)) (x y z : List ℕ) → IsReadOn a 
 read_behind a b c x y z first second = record {
   bytes = first.bytes ++ second.bytes;
   taken = Consumes-trans a b c first.bytes second.bytes first.taken second.taken;
-  put = second.put ∙ ap (λ l. l ++ second.bytes) first.put ∙ append_assoc x first.bytes second.bytes;
+  put = second.put ∙ ap (λ l. l ++ second.bytes) first.put
+      ∙ append_assoc x first.bytes second.bytes;
 }
 
 -- a reader at its end gave all that it had

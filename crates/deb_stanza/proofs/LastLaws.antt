@@ -57,7 +57,8 @@ drop-texts bytes fields i le =
 
 pub names-cons : (bytes fields : List ℕ) (i : ℕ) → i < length fields
     → map name_of (drop i (texts_in bytes fields))
-    ≡ name_of (get_or (texts_in bytes fields) i []) ∷ map name_of (drop (i + 1) (texts_in bytes fields))
+    ≡ name_of (get_or (texts_in bytes fields) i [])
+    ∷ map name_of (drop (i + 1) (texts_in bytes fields))
 names-cons bytes fields i lt =
     let texts = texts_in bytes fields in
     let within : i < length texts = omega (arith, length-texts bytes fields) in

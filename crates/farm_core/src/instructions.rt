@@ -44,7 +44,8 @@ impl LaneRun {
         requires short { length lane.now.instructions ≤ MOST_INSTRUCTIONS }
         requires named { All (λ m. m < names universe.now) members.now }
         ensures { IsTurn universe.now lane.now self.old self.new result
-            (turn_of universe.now nothing lane.now (shown self.old) (Some (Configure members.now))) }
+            (turn_of universe.now nothing lane.now (shown self.old)
+            (Some (Configure members.now))) }
     {
         let cost = members.len() as u64;
         if self.is_over(lane, cost) {

@@ -190,7 +190,8 @@ fn push_clash(
     ensures { OnOk result (text.new.items ≡ text.old.items
         ++ spec.where_known universe.now variant (spec.exclusion_lines universe.now
         (Owner.Recipe recipe) (word_text WordData.BuildConflicts) variant
-        (spec.first_satisfied universe.now (packages.recipe universe.now recipe).clashes variant))) }
+        (spec.first_satisfied universe.now
+        (packages.recipe universe.now recipe).clashes variant))) }
 {
     if recipe >= universe.recipes() || !is_known(universe, variant) {
         return Ok(());

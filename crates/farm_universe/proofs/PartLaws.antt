@@ -46,7 +46,8 @@ are_parts {P} IsPart ps from to ascends parts places at all =
 -- the numbers from one up to another are below a third that is not less
 pub inside : (from to n : ℕ) → to ≤ n → (k d : ℕ) → k < length (nat_range from to)
     → get_or (nat_range from to) k d < n
-inside from to n within = nat_range-All (λ i. i < n) from to (λ i low high. omega (arith, high, within))
+inside from to n within =
+    nat_range-All (λ i. i < n) from to (λ i low high. omega (arith, high, within))
 
 -- the next part of several is that of a paragraph
 pub next_below : {P : Type 0} (first number n : ℕ) (parts yielded : List P) (part : P)

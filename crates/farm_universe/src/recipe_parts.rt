@@ -59,7 +59,8 @@ fn outputs_in(
 ///
 /// # Errors
 ///
-/// 208 where it has none, and those of [`read_list`]. [`FieldFault::Memory`] where memory is refused.
+/// 208 where it has none, and those of [`read_list`]. [`FieldFault::Memory`] where memory is
+/// refused.
 fn read_outputs(alloc: Global, land: &Land, paragraph: &Paragraph) -> Outputs
     requires { IsLand (land_view land.now) }
     ensures { AreOutputsOf (land_view land.now) paragraph.now result }

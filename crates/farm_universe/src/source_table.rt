@@ -90,7 +90,8 @@ fn put_at(
     requires within { IsSourcePlace (source_view table.old) at }
     requires room { table.old.count < MOST_SOURCES }
     ensures put { OnOk result
-        (source_view table.new ≡ put_source (source_view table.old) at (listed_source_view listed)) }
+        (source_view table.new
+        ≡ put_source (source_view table.old) at (listed_source_view listed)) }
     ensures memory { IfErr result (λ e. refusal_of e ≡ None) }
 {
     table.count += 1;

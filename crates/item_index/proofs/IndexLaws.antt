@@ -65,7 +65,8 @@ module _ {O : Type 0} where
                 subst (λ items. IsIn items at) (sym one) (is_in_more (listed lists text) new at is)
             | inr other ↦
                 subst (λ items. IsIn items at)
-                (sym (at_more text ∙ get_or-set_other lists (place name) (place text) _ [] other)) is
+                (sym (at_more text
+                ∙ get_or-set_other lists (place name) (place text) _ [] other)) is
           ]
 
       pub IsListed-with_listed : IsListed more name new

@@ -73,7 +73,8 @@ module _ (a : AcceptedPlan) (accepted : IsAccepted a) (w : Runner) (c : Held) (b
           (unpack_traps u (room u c) c.slots (variant name k))
       unfolding capacity
       can_take short =
-          let free = unpack_free u a.plan (known_rows a) accepted.sound (annotation a accepted) w c r
+          let free = unpack_free u a.plan (known_rows a) accepted.sound
+          (annotation a accepted) w c r
           run.on name wanted here found within o picked k some in
           record {
             next = place_below (Unpack name wanted) here;
@@ -214,7 +215,8 @@ module _ (a : AcceptedPlan) (accepted : IsAccepted a) (w : Runner) (c : Held) (b
           subst (λ (x : AcceptedPlan × ℕ). q' ≡ after_publish x.0.universe x.0.plan x.1 q)
           (λ i. (plan_is i, lane_is i)) q_is in
           subst (λ (m : ℕ). IsLastOutput u a.plan m q' h) (sym (next_lane ∙ lane_is))
-          (is_last u a.plan (known_rows a) accepted.sound (annotation a accepted) w c r run.on recipe
+          (is_last u a.plan (known_rows a) accepted.sound
+          (annotation a accepted) w c r run.on recipe
           here serial q q' drawn told h lane_here serial_is variant_is)
 
     -- what the output costs is within the budget, or nothing

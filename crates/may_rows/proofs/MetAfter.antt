@@ -1,5 +1,5 @@
--- After a safe instruction an entry is missed only where it was missed before, or where a variant of
--- the configured name that was unpacked over satisfies it.
+-- After a safe instruction an entry is missed only where it was missed before, or where a variant
+-- of the configured name that was unpacked over satisfies it.
 use Rattle.std.proofs.Common.{◌≡◌, ◌⊎◌, inl, inr, ℕ, ◌<◌, ◌≢◌, Bool, true, false, not, ◌&&◌, ◌||◌, ◌==◌, List, [], ◌∷◌, Option, Some, None, refl, sym, ap, ◌∙◌, subst, if◌then◌else◌}
 use Rattle.std.specs.Prelude.{slice_get, slice_index_or}
 use Rattle.std.specs.List.{list_any}

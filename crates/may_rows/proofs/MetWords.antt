@@ -189,7 +189,8 @@ KeepsConfigured m after =
 
 -- where members are changed so that none is unpacked
 changed_off : (f : MaySlot → MaySlot) (m : May) (members : List ℕ)
-    → ((s : MaySlot) → is_surely_unpacked (f s) ≡ false) → KeepsConfigured m (may_change f m members)
+    → ((s : MaySlot) → is_surely_unpacked (f s) ≡ false)
+    → KeepsConfigured m (may_change f m members)
 changed_off f m members off n is = elim (cases_Bool (member members n)) [
   | inl inside ↦ absurd (both_ways _ (off (m.slots n)) (rw inside at is))
   | inr outside ↦ rw outside at is
@@ -198,10 +199,11 @@ changed_off f m members off n is = elim (cases_Bool (member members n)) [
 -- what is in doubt stays so, where nothing more misses an entry or is unpacked
 doubts_kept : (u : Universe) (m after : May) (d new : Doubt) → KeepsMet u m after
     → KeepsConfigured m after → AreDoubts u m d → new ≡ d → AreDoubts u after new
-doubts_kept u m after d new keeps configured are same = subst (AreDoubts u after) (sym same) (record {
-  among = λ known n b e is. are.among known n b e (keeps n b e is);
-  loose = λ known n lt is. are.loose known n lt (configured n is);
-})
+doubts_kept u m after d new keeps configured are same =
+    subst (AreDoubts u after) (sym same) (record {
+      among = λ known n b e is. are.among known n b e (keeps n b e is);
+      loose = λ known n lt is. are.loose known n lt (configured n is);
+    })
 
 -- further names
 doubts_more : (u : Universe) (m after : May) (old new : Doubt) (over loose : List ℕ)

@@ -18,7 +18,8 @@ const MOST_NAMES: usize = 64;
 pub struct Doubts {
     /// Whether something is known at all.
     pub(crate) known: bool,
-    /// The names that were unpacked over since each entry of what is configured was known to be met.
+    /// The names that were unpacked over since each entry of what is configured was known to be
+    /// met.
     pub(crate) over: Vec<u32>,
     /// The names that were unpacked or deconfigured since all was known to be configured.
     pub(crate) loose: Vec<u32>,

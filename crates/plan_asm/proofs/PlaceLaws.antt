@@ -37,7 +37,8 @@ module _ (u : Universe) (number : ℕ) (r : Reading) where
       else Err BAD_LINE) (may-say r.side wording)
 
   -- what a line does is what is placed of it
-  pub placed-line : (line : List ℕ) → take_text u number r line ≡ (said_at u line >>= place u number r)
+  pub placed-line : (line : List ℕ) → take_text u number r line
+      ≡ (said_at u line >>= place u number r)
   unfolding take_text said_at
   placed-line line = by (form_at line)
     where

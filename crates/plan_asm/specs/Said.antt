@@ -1,6 +1,6 @@
 -- What a line of a plan says by itself, and what that does behind the lines before it: the same as
--- the line's form (Drafts), whose names are looked up where the line's turn comes. Only the contracts
--- of private functions cite this file. Parameters: u a universe.
+-- the line's form (Drafts), whose names are looked up where the line's turn comes. Only the
+-- contracts of private functions cite this file. Parameters: u a universe.
 --
 --   Said                  what a line says, the names of an instruction looked up
 --   standing_of wording   where an instruction may stand, by its kind

@@ -1,5 +1,5 @@
--- What the `unpack` lines of a plan were read as, by the text behind the word. Only the contracts of
--- private functions cite this file. Parameters: u a universe.
+-- What the `unpack` lines of a plan were read as, by the text behind the word. Only the contracts
+-- of private functions cite this file. Parameters: u a universe.
 --
 --   unpack_of u text     the instruction of an `unpack` line, or the code of the line's fault
 --   said_unpack u text   what an `unpack` line says, or BAD_LINE

@@ -118,7 +118,8 @@ fn open_part(
 }
 
 fn find(ended: &IndexMap<Vec<u8>, Whole>, name: &[u8]) -> Result<Whole, LineError>
-    ensures { Gives refusal_of_line (λ whole. whole) result (whole_named ended.now.entries name.now) }
+    ensures { Gives refusal_of_line (λ whole. whole) result
+        (whole_named ended.now.entries name.now) }
 {
     match ended.get(name) {
         Some(whole) => Ok(*whole),

@@ -187,7 +187,8 @@ fn read_when<'a>(alloc: Global, text: &[u8]) -> Result<Wording<'a>, LineError>
 }
 
 fn read_entry(alloc: Global, text: &[u8]) -> Result<Entry, LineError>
-    ensures { Gives refusal_of_line (λ entry. entry) result (in_line (entry_at Kind.Need text.now)) }
+    ensures { Gives refusal_of_line (λ entry. entry) result
+        (in_line (entry_at Kind.Need text.now)) }
 {
     match Entry::parse(alloc, text, Kind::Need) {
         Ok(entry) => Ok(entry),
@@ -221,7 +222,8 @@ fn are_words(text: &[u8]) -> bool
 }
 
 fn some_words(text: &[u8]) -> Result<&[u8], LineError>
-    ensures { Gives refusal_of_line (λ names. words names.now) result (some_words (words text.now)) }
+    ensures { Gives refusal_of_line (λ names. words names.now) result
+        (some_words (words text.now)) }
 {
     if next_word(text).is_none() || !are_words(text) {
         return Err(LineError::BadLine);

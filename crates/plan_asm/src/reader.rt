@@ -89,6 +89,11 @@ fn in_plan(fault: Fault) -> Fault
     fault.in_file(FILE)
 }
 
+/// Cuts the text of a plan into its lines.
+///
+/// # Errors
+///
+/// The first fault of [`plain_lines`], in the file of the plan; 900 where memory is refused.
 pub fn read_lines(alloc: Global, text: &[u8]) -> Result<Lines, Fault>
     ensures { Gives refusal_of (λ lines. lines) result (in_file FILE (plain_lines_at text.now)) }
 {

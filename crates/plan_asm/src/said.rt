@@ -43,8 +43,8 @@ pub type LineRead<'a> = Result<Said<'a>, LineError>;
 ///
 /// # Errors
 ///
-/// [`BadLine`](LineError::BadLine) where it is none of the lines that a plan has; or that memory ran
-/// out.
+/// [`BadLine`](LineError::BadLine) where it is none of the lines that a plan has; or that memory
+/// ran out.
 #[tactic(auto, unfolding(crate::specs::Said::said_at, crate::specs::Forms::form_at))]
 pub fn read_line<'t>(
     alloc: Global,

@@ -29,8 +29,8 @@ use std::thread::Threads;
 /// A plan of fewer lines is read by one thread: to wake others would take longer.
 const FEWEST_LINES: usize = 2048;
 
-/// A plan of more lines is read by one thread, which keeps nothing of a line but what it says of the
-/// plan: what several threads read ahead takes more memory than the line itself.
+/// A plan of more lines is read by one thread, which keeps nothing of a line but what it says of
+/// the plan: what several threads read ahead takes more memory than the line itself.
 const MOST_LINES: usize = 262_144;
 
 /// How many parts the lines are cut into, which are read side by side.

@@ -197,7 +197,8 @@ module _ (u : Universe) (p : Plan) (rows : Rows) (l i : ℕ) (lt : l < length p)
   publish-justified r n at sound is row row_is answer subset = (
     λ t y v there e.
         let same : Publish r ≡ y = cc in
-        elim (or_cases (rows l i v) _ (sym (row-holds v) ∙ subset.0 t v.name v.bit (end-has v ∙ e))) [
+        elim (or_cases (rows l i v) _
+        (sym (row-holds v) ∙ subset.0 t v.name v.bit (end-has v ∙ e))) [
           | inl old ↦ inl (subst (λ x. rows l (row_before p l i x) v ≡ true) same old)
           | inr new ↦ inr (subst (Adds u p rows l i v) same
               (sym (ap (λ vs. contains vs v) all) ∙ new))

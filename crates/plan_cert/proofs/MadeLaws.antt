@@ -146,7 +146,8 @@ module _ (a : AcceptedPlan) (is : IsAccepted a) (lanes : List (List (List ℕ)))
     about : AreNewLanes a.universe a.plan (known_rows a) (length a.plan) lanes
     about =
         subst (λ p. AreNewLanes a.universe p (known_rows a) (length p) lanes) is.about.1
-        (subst (λ u. AreNewLanes u a.known.plan (known_rows a) (length a.known.plan) lanes) is.about.0
+        (subst (λ u. AreNewLanes u a.known.plan (known_rows a)
+        (length a.known.plan) lanes) is.about.0
         are)
 
     pub accepted-shape : IsCertificate a.universe a.plan of
@@ -159,4 +160,5 @@ module _ (a : AcceptedPlan) (is : IsAccepted a) (lanes : List (List (List ℕ)))
 
     pub accepted-certifies : Certifies a.universe a.plan of
     accepted-certifies =
-        made-certifies a.universe a.plan (known_rows a) a.order lanes is.known is.safe is.order about
+        made-certifies a.universe a.plan
+        (known_rows a) a.order lanes is.known is.safe is.order about

@@ -70,7 +70,8 @@ pub fn read_ready(
       plan = ready.planned.plan.lanes;
     }) result (planned_of packages.now sources.now farm.now plan.now) }
     ensures counted { IfOk result
-        (λ ready. ready.planned.plan.count ≡ count ready.planned.universe ready.planned.plan.lanes) }
+        (λ ready. ready.planned.plan.count
+        ≡ count ready.planned.universe ready.planned.plan.lanes) }
     ensures sound { IfOk result
         (λ ready. IsSound ready.planned.universe ready.planned.plan.lanes) }
     ensures tables { IfOk result

@@ -70,7 +70,8 @@ pub record IsBetween (u : Universe) (n : ℕ) (bound : List ℕ) (e : Bool) (low
   where
     pub order : low ≤ high
     pub within : high ≤ variants u n
-    pub below : (b : ℕ) → b < low → is_before e (text_cmp (package_of u (variant n b)).version bound)
+    pub below : (b : ℕ) → b < low
+        → is_before e (text_cmp (package_of u (variant n b)).version bound)
         ≡ true
     pub above : (b : ℕ) → high ≤ b → b < variants u n
         → is_before e (text_cmp (package_of u (variant n b)).version bound) ≡ false

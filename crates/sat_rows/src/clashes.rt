@@ -24,7 +24,8 @@ fn clashes_row(
     requires providers { IsProviding universe.now providers.now }
     requires there { number < length universe.now.recipes }
     ensures { IfOk result
-        (IsSharedRow universe.now (satisfies_any universe.now (recipe universe.now number).clashes)) }
+        (IsSharedRow universe.now
+        (satisfies_any universe.now (recipe universe.now number).clashes)) }
 {
     let clashes = universe.recipe(number).clashes();
     let found = satisfying_any(alloc, universe, providers, clashes)?;

@@ -27,7 +27,8 @@ fn item_word<F: Field, T: AtomTest>(
     item: &Item<Variant>,
 ) -> u64
     ensures { (b : ℕ) → word_has result b ≡
-        (passes_there universe.now F.field (T.test test.now) item.now && (b == item.now.owner.bit)) }
+        (passes_there universe.now F.field (T.test test.now) item.now
+        && (b == item.now.owner.bit)) }
 {
     let owner = item.owner;
     if owner.bit < variant_count(universe, owner.name) {

@@ -36,7 +36,8 @@ numbers_next p es more marks numbers next k n mark are longer at is items =
           (each_next (λ v i. (g : Mark) → slice_get marks v ≡ Some g → IsNumber p more g i)
           numbers n 0
           (λ v v_lt g there e waits.
-          longer (get_or numbers v 0) e (are.each v g (omega (arith, v_lt, are.long)) there e waits))
+          longer (get_or numbers v 0) e
+          (are.each v g (omega (arith, v_lt, are.long)) there e waits))
           (λ g there.
           subst (λ h. IsNumber p more h n)
           (same_Some mark g (sym at ∙ ap (slice_get marks) (sym are.long) ∙ there)) is) w

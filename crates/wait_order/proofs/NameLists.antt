@@ -23,7 +23,8 @@ in_more list a b there =
 
 in_last : (list : List OutputPlace) (a : OutputPlace) → IsAmongPlaces (list ++ a ∷ []) a
 in_last list a =
-    let long : length list < length (list ++ a ∷ []) = omega (arith, length-append list (a ∷ [])) in (
+    let long : length list < length (list ++ a ∷ []) =
+    omega (arith, length-append list (a ∷ [])) in (
       length list,
       slice_get-get_or (list ++ a ∷ []) (length list) a long
           ∙ ap Some (get_or-append_seam list a [] a),

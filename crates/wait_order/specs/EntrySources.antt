@@ -1,6 +1,6 @@
 -- The entries of the waits of a plan by number, and the sources of each. The project's own words.
--- Parameters: u a universe, p a plan, es the entries, marks the points of the plan, numbers for each
--- of them one, all for each of the entries its sources.
+-- Parameters: u a universe, p a plan, es the entries, marks the points of the plan, numbers for
+-- each of them one, all for each of the entries its sources.
 --
 --   IsNumber, AreMarkNumbers  the entry of a wait has this number
 --   AreAllSources             the sources of each entry

@@ -73,12 +73,14 @@ loop-end-preserved c =
           ∙ (let l = length-append c.loop-end.outcomes.spent.items (end.spent ∷ []) in
           omega (arith, l, long, h.spent_even));
       stops = ap (λ xs. xs ++ map (λ e. e.stop) rest) stops.items
-          ∙ more_mapped (λ e. e.stop) c.loop-end.outcomes.stops.items left end rest _ step.0 h.stops;
+          ∙ more_mapped (λ e. e.stop) c.loop-end.outcomes.stops.items left end rest _
+          step.0 h.stops;
       chroots = ap (λ xs. xs ++ map (λ e. e.chroot) rest) chroots.items
           ∙ more_mapped (λ e. e.chroot) c.loop-end.outcomes.chroots.items left end rest _ step.0
           h.chroots;
       spent = ap (λ xs. xs ++ map (λ e. e.spent) rest) spent.items
-          ∙ more_mapped (λ e. e.spent) c.loop-end.outcomes.spent.items left end rest _ step.0 h.spent;
+          ∙ more_mapped (λ e. e.spent) c.loop-end.outcomes.spent.items left end rest _
+          step.0 h.spent;
       table = ap (λ (s : LaneSeatsOf). s.table) c.give.ensures ∙ h.table;
       about = ap (λ (s : LaneSeatsOf). s.about) c.give.ensures ∙ h.about;
       stopped = ap (λ (s : LaneSeatsOf). s.stopped) c.give.ensures ∙ h.stopped;

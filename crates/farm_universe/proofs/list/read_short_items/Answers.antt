@@ -15,7 +15,8 @@ pub loop-item-init : goal.loop-item-init
 unfolding relations_at
 loop-item-init c = record {
   so_far =
-      rw c.new-variants.ensures.items (items_left-all (table_view c.args.table.now) c.args.text.now);
+      rw c.new-variants.ensures.items
+      (items_left-all (table_view c.args.table.now) c.args.text.now);
   judged = c.requires.judged;
   different = AreDifferent-none (table_view c.args.table.now) _ c.new-variants.ensures.items;
 }

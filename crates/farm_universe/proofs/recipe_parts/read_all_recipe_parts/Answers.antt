@@ -27,7 +27,8 @@ returns g c =
     IfOk-then c.collect.result _ _ c.collect.ensures (λ v h.
     let places = h.1.1 ∙ (λ i. nat_range (start i) (end i)) in
     let called =
-    subst (λ f. AllZip (λ n parts. AreRecipeParts (land_view f.1.now) (paragraph_at f.2.now n) parts)
+    subst (λ f. AllZip
+    (λ n parts. AreRecipeParts (land_view f.1.now) (paragraph_at f.2.now n) parts)
     h.1.0 h.0)
     c.map.ensures.f h.1.2 in
     are_parts (AreRecipeParts land) ps c.args.from c.args.to c.requires.ascends v.items h.1.0 places

@@ -31,7 +31,8 @@ returns-then-has_some_bit-clause-read c =
     c.requires.read.said)
     (sym (any-taken (land_view c.args.land.now) c.args.list.now.recipes.items
     c.args.list.now.taken.items c.in_ok-outputs.outputs.items c.requires.list.taken
-    (listed (land_view c.args.land.now) c.args.read _ c.in_ok-outputs.was c.requires.read.outputs).known)
+    (listed (land_view c.args.land.now) c.args.read _ c.in_ok-outputs.was
+    c.requires.read.outputs).known)
     ∙ (λ j. list_any (has_bit (sym c.deref.ensures.value j)) (sym c.deref-2.ensures.value j))
     ∙ sym c.has_some_bit.ensures ∙ c.if-has_some_bit.true)
 
@@ -43,17 +44,20 @@ returns-clause-read c =
     c.requires.read.said)
     (sym (any-taken (land_view c.args.land.now) c.args.list.now.recipes.items
     c.args.list.now.taken.items c.in_ok-outputs.outputs.items c.requires.list.taken
-    (listed (land_view c.args.land.now) c.args.read _ c.in_ok-outputs.was c.requires.read.outputs).known)
+    (listed (land_view c.args.land.now) c.args.read _ c.in_ok-outputs.was
+    c.requires.read.outputs).known)
     ∙ (λ j. list_any (has_bit (sym c.deref.ensures.value j)) (sym c.deref-2.ensures.value j))
     ∙ sym c.has_some_bit.ensures ∙ c.if-has_some_bit.false)
 
 pub returns-clause-new : goal.returns-clause-new
 returns-clause-new c = record {
-  outputs = listed (land_view c.args.land.now) c.args.read _ c.in_ok-outputs.was c.requires.read.outputs;
+  outputs = listed (land_view c.args.land.now) c.args.read _ c.in_ok-outputs.was
+      c.requires.read.outputs;
   free =
       sym (any-taken (land_view c.args.land.now) c.args.list.now.recipes.items
       c.args.list.now.taken.items c.in_ok-outputs.outputs.items c.requires.list.taken
-      (listed (land_view c.args.land.now) c.args.read _ c.in_ok-outputs.was c.requires.read.outputs).known)
+      (listed (land_view c.args.land.now) c.args.read _ c.in_ok-outputs.was
+      c.requires.read.outputs).known)
       ∙ (λ j. list_any (has_bit (sym c.deref.ensures.value j)) (sym c.deref-2.ensures.value j))
       ∙ sym c.has_some_bit.ensures ∙ c.if-has_some_bit.false;
 }

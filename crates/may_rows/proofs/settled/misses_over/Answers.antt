@@ -29,7 +29,8 @@ returns-clause-some c is =
     let words : c.deref.result.now ≡ w.ready =
     cc (ap (λ (x : Words). x.ready) c.state.view_is, c.deref.ensures.value) in
     over-some u w c.requires.state k word c.mask-all.ensures t
-    (told u c.args.tables.now k word w.ready c.deref.result.now t c.requires.same words c.is_missed.ensures) is
+    (told u c.args.tables.now k word w.ready c.deref.result.now t c.requires.same words
+    c.is_missed.ensures) is
 
 pub returns-clause-none : goal.returns-clause-none
 returns-clause-none c is =
@@ -41,4 +42,5 @@ returns-clause-none c is =
     let words : c.deref.result.now ≡ w.ready =
     cc (ap (λ (x : Words). x.ready) c.state.view_is, c.deref.ensures.value) in
     over-none u w c.requires.state k word c.mask-all.ensures t
-    (told u c.args.tables.now k word w.ready c.deref.result.now t c.requires.same words c.is_missed.ensures) is
+    (told u c.args.tables.now k word w.ready c.deref.result.now t c.requires.same words
+    c.is_missed.ensures) is

@@ -25,4 +25,9 @@ loop-number-preserved c u p are =
     subst (AreTotals u p (n + 1))
     (sym (c.in_ok-push.ensures.items ∙ ap (λ xs. before ++ xs ∷ []) c.in_ok-one.ensures))
     (totals_next u p n c.len-total.result before (c.loop-number.invariant u p are)
-    (omega (arith, c.len-total.ensures, ap (λ w. length w.outputs.items) c.index-lanes-number.is, made)))
+    (omega (
+      arith,
+      c.len-total.ensures,
+      ap (λ w. length w.outputs.items) c.index-lanes-number.is,
+      made,
+    )))
