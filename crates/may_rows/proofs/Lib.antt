@@ -1,6 +1,7 @@
 pub mod Bridges
 pub mod Writes
 pub mod Sizes
+pub mod Payments
 pub mod ByNumber
 pub mod MetAhead
 pub mod Joins

@@ -150,7 +150,7 @@ impl MayHold {
 }
 
 /// Configures the words of the members.
-fn configure_members(state: &mut MayHold, members: &[u32])
+pub(crate) fn configure_members(state: &mut MayHold, members: &[u32])
     requires { All (HasName state.old) members.now }
     ensures { state.new ≡ fold name_configured state.old members.now }
 {

@@ -96,7 +96,7 @@ fn size_cost(size: u64) -> u64
 }
 
 /// What an unpack of a variant of a set costs at most.
-fn unpack_cost(universe: &Universe, name: u32, set: u64) -> u64
+pub(crate) fn unpack_cost(universe: &Universe, name: u32, set: u64) -> u64
     ensures { result ≡ greatest_cost universe.now name (word_has set) }
 {
     size_cost(greatest_size(universe, name, set))

@@ -33,7 +33,7 @@ impl MayHold {
 }
 
 /// Withdraws the members.
-fn withdraw_members(state: &mut MayHold, members: &[u32])
+pub(crate) fn withdraw_members(state: &mut MayHold, members: &[u32])
     requires { All (HasName state.old) members.now }
     ensures { state.new ≡ fold name_withdrawn state.old members.now }
 {
@@ -43,7 +43,7 @@ fn withdraw_members(state: &mut MayHold, members: &[u32])
 }
 
 /// Takes all that is present of the members away.
-fn remove_members(universe: &Universe, state: &mut MayHold, members: &[u32])
+pub(crate) fn remove_members(universe: &Universe, state: &mut MayHold, members: &[u32])
     requires words { AreWords universe.now state.old }
     requires members { IsNameSet universe.now members.now }
     ensures words { AreWords universe.now state.new }
@@ -55,7 +55,7 @@ fn remove_members(universe: &Universe, state: &mut MayHold, members: &[u32])
 }
 
 /// Tells whether some member may not be configured.
-fn some_not_configured(members: &[u32], state: &MayHold) -> bool
+pub(crate) fn some_not_configured(members: &[u32], state: &MayHold) -> bool
     ensures { result ≡ list_any (λ k. not (is_surely_configured ((may_of state.now).slots k)))
         members.now }
 {

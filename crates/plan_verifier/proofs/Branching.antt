@@ -177,6 +177,30 @@ module _ (u : Universe) (p : Plan) (rows : Rows) (l i : ℕ)
   plain-parts _ e = refl
 
   -- behind any other instruction
+  pub past-at : (x : Instruction) → is_plain x ≡ true → instruction_at p l i ≡ Some x
+      → (w : LaneMay) → IsAt u p rows l i w → (here : Words) (doubts : Doubt)
+      → may_after u (rows l i) (possible u p l i) (may_of w.here) x ≡ may_of here
+      → IsOfLane u (lane p l) here → AreDoubts u (may_of here) doubts
+      → IsAt u p rows l (suc i) (record { here = here; doubts = doubts; branch = w.branch })
+  past-at x plain is w at here doubts after of_lane known =
+      let next = maps-next u p rows l i x is ∙ plain-behind x plain in
+      record {
+        here = ap (λ (m : Maps). m.here) next
+            ∙ ap (λ m. may_after u (rows l i) (possible u p l i) m x) at.here ∙ after;
+        of_lane = of_lane;
+        doubts = known;
+        branch = kept w.branch at.branch (maps_at u p rows l (suc i))
+            (side-next x is ∙ plain-side x side plain)
+            (ap (λ (m : Maps). m.ahead) next) (ap (λ (m : Maps). m.first) next);
+      }
+    where
+      kept : (b : Branch) → IsBranch u (lane p l) side maps b → (m : Maps) → {s : Side} → s ≡ side
+          → m.ahead ≡ maps.ahead → m.first ≡ maps.first → IsBranch u (lane p l) s m b
+      kept Branch.Outside e m s a f = s ∙ e
+      kept (Branch.First k ahead) e m s a f = (s ∙ e.0, a ∙ e.1, e.2)
+      kept (Branch.Second k first) e m s a f = (s ∙ e.0, f ∙ e.1, e.2)
+
+  -- behind one that is safe
   pub step-at : (x : Instruction) → is_plain x ≡ true → instruction_at p l i ≡ Some x
       → (w : LaneMay) → IsAt u p rows l i w → (here : Words) (doubts : Doubt)
       → risk u (lane p l) (rows l i) (possible u p l i) (may_of w.here) x ≡ None
@@ -184,29 +208,14 @@ module _ (u : Universe) (p : Plan) (rows : Rows) (l i : ℕ)
       → IsOfLane u (lane p l) here → AreDoubts u (may_of here) doubts
       → (hazard_at u p rows l i ≡ None) × IsAt u p rows l (suc i)
       (record { here = here; doubts = doubts; branch = w.branch })
-  step-at x plain is w at here doubts safe after of_lane known =
-      let next = maps-next u p rows l i x is ∙ plain-behind x plain in (
-        hazard-is u p rows l i x is
-            ∙ ap (λ m. hazard_of (risk u (lane p l) (rows l i) (possible u p l i) m x)
-            (parts_of u maps (Some x))) at.here
-            ∙ ap (λ r. hazard_of r (parts_of u maps (Some x))) safe
-            ∙ ap (hazard_of None) (plain-parts x plain),
-        record {
-          here = ap (λ (m : Maps). m.here) next
-              ∙ ap (λ m. may_after u (rows l i) (possible u p l i) m x) at.here ∙ after;
-          of_lane = of_lane;
-          doubts = known;
-          branch = kept w.branch at.branch (maps_at u p rows l (suc i))
-              (side-next x is ∙ plain-side x side plain)
-              (ap (λ (m : Maps). m.ahead) next) (ap (λ (m : Maps). m.first) next);
-        },
-      )
-    where
-      kept : (b : Branch) → IsBranch u (lane p l) side maps b → (m : Maps) → {s : Side} → s ≡ side
-          → m.ahead ≡ maps.ahead → m.first ≡ maps.first → IsBranch u (lane p l) s m b
-      kept Branch.Outside e m s a f = s ∙ e
-      kept (Branch.First k ahead) e m s a f = (s ∙ e.0, a ∙ e.1, e.2)
-      kept (Branch.Second k first) e m s a f = (s ∙ e.0, f ∙ e.1, e.2)
+  step-at x plain is w at here doubts safe after of_lane known = (
+    hazard-is u p rows l i x is
+        ∙ ap (λ m. hazard_of (risk u (lane p l) (rows l i) (possible u p l i) m x)
+        (parts_of u maps (Some x))) at.here
+        ∙ ap (λ r. hazard_of r (parts_of u maps (Some x))) safe
+        ∙ ap (hazard_of None) (plain-parts x plain),
+    past-at x plain is w at here doubts after of_lane known,
+  )
 
   -- the trap that another instruction may meet
   pub risk-at : (x : Instruction) → instruction_at p l i ≡ Some x → (w : LaneMay)

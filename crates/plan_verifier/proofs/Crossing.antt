@@ -1,8 +1,10 @@
--- What threads may share: universes and plans with what is found of them.
+-- What threads may share: universes and plans with what is found of them; and what one may hand to
+-- another.
 use denote.RattleType.{RattleType}
 use denote.Ref.{NamedLft}
-use denote.Param.Send.{IsSync, sendable}
+use denote.Param.Send.{IsSend, IsSync, sendable}
 use Rattle.std.proofs.Crossing.{crosses}
+use Rattle.plan_verifier.specs.contracts.branch.LaneMay as LaneMay
 use Rattle.plan_verifier.specs.contracts.stage.Stage as Stage
 use Rattle.wait_order.specs.contracts.known.Known as Known
 use Rattle.wait_order.specs.contracts.outputs.Outputs as Outputs
@@ -24,3 +26,7 @@ stage_sync a K k =
     let o = outputs_sync in
     let t = tables_sync in
     search (crosses, sendable) depth 60 fits 50000
+
+-- what may be held at a place
+pub may_send : IsSend LaneMay.the_row
+may_send = search (crosses, sendable) depth 60 fits 50000

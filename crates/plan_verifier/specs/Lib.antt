@@ -9,3 +9,4 @@ pub mod Messages
 pub mod Stuck
 pub mod OneVerdict
 pub mod SideBySide
+pub mod Pieces

@@ -2,11 +2,13 @@
 #![tactic(auto)]
 
 mod accepted;
+mod ahead;
 mod branch;
 mod costs;
 mod examined;
 mod laws;
 mod message;
+mod pieces;
 mod possible;
 mod ready;
 mod refusal;

@@ -1,55 +1,18 @@
 //! The walks over the lanes of a plan, side by side.
 
-ghost use Rattle.std.specs.Prelude.{◌≡◌, ℕ, ◌<◌, length, IfOk, Result};
+ghost use Rattle.std.specs.Prelude.{◌≡◌, ◌<◌, length, IfOk};
 ghost use Rattle.plan_verifier.specs.SideBySide.{AreWalks};
-ghost use Rattle.plan_verifier.specs.Stage.{IsStage};
 ghost use Rattle.plan_verifier.specs.Walk.{Walked};
-ghost use Rattle.plan_verifier.specs.declared.walk.WalkError as error;
 
-use crate::stage::Stage;
-use crate::walk::{WalkError, walk};
+use crate::pieces::{LaneWalks, walk_side_by_side};
+use crate::walk::WalkError;
 use plan_asm::Plan;
 use rayon::prelude::*;
 use std::alloc::{AllocError, Global};
 use std::thread::Threads;
-use wait_order::KnownWords;
 
 /// A plan of fewer events is walked over by one thread: to wake others would take longer.
 const EVENTS_FOR_THREADS: usize = 4096;
-
-/// What walks over lanes by their numbers.
-pub trait LaneWalks {
-    // how many lanes there are
-    ghost lanes: { Self → ℕ };
-    // what the walks rest on
-    ghost ready: { Self → Type 0 };
-    // what is told of the walk over a lane
-    ghost told: { Self → ℕ → Result ℕ error.WalkError → Type 0 };
-
-    /// What the walk over the lane of this number comes to.
-    ///
-    /// # Errors
-    ///
-    /// The error of the walk.
-    fn walk_lane(&self, alloc: Global, number: usize) -> Result<u64, WalkError>
-        requires ready { ready self.now }
-        requires there { number < lanes self.now }
-        ensures { told self.now number result };
-}
-
-impl<K: KnownWords> LaneWalks for Stage<'_, K> {
-    ghost lanes = { λ stage. length stage.plan.now.lanes };
-
-    ghost ready = { λ stage. IsStage stage.universe.now stage.plan.now.lanes
-        stage.tables.now stage.outputs.now (K.known stage.known.now) };
-
-    ghost told = { λ stage number result. Walked stage.universe.now
-        stage.plan.now.lanes (K.known stage.known.now).rows number result };
-
-    fn walk_lane(&self, alloc: Global, number: usize) -> Result<u64, WalkError> {
-        walk(alloc, self, number)
-    }
-}
 
 /// The fewest lanes that one thread walks over.
 pub fn lanes_at_once(plan: &Plan) -> usize {
@@ -66,16 +29,17 @@ pub fn lanes_at_once(plan: &Plan) -> usize {
 /// # Errors
 ///
 /// [`AllocError`] where memory is refused. What a walk comes to stands in its place of the list.
-pub fn walk_each<W: LaneWalks + Sync>(
-    rt: &(impl Threads + Sync),
+pub fn walk_each<R: Threads + Sync, W: LaneWalks + Sync>(
+    rt: &R,
     alloc: Global,
     walks: &W,
     lanes: usize,
     least: usize,
 ) -> Result<Vec<Result<u64, WalkError>>, AllocError>
     requires ready { W.ready walks.now }
-    requires lanes { lanes ≡ W.lanes walks.now }
-    ensures { IfOk result (λ all. AreWalks (W.told walks.now) lanes all.items) }
+    requires lanes { lanes ≡ length (W.plan walks.now) }
+    ensures { IfOk result (λ all. AreWalks
+        (Walked (W.universe walks.now) (W.plan walks.now) (W.rows walks.now)) lanes all.items) }
 {
     (0..lanes)
         .into_par_iter()
@@ -83,9 +47,10 @@ pub fn walk_each<W: LaneWalks + Sync>(
         .map(
             move |number: usize| -> Result<u64, WalkError>
                 requires ready { W.ready walks.now }
-                requires there { number < W.lanes walks.now }
-                ensures { W.told walks.entry.now number result }
-            { walks.walk_lane(alloc, number) },
+                requires there { number < length (W.plan walks.now) }
+                ensures { Walked (W.universe walks.entry.now) (W.plan walks.entry.now)
+                    (W.rows walks.entry.now) number result }
+            { walk_side_by_side(rt, alloc, walks, number) },
         )
         .collect::<Vec<Result<u64, WalkError>>>(rt, alloc)
 }
