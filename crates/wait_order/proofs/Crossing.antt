@@ -3,6 +3,7 @@ use denote.Ref.{NamedLft}
 use denote.Param.Send.{IsSend, IsSync, sendable}
 use Rattle.std.proofs.Crossing.{crosses}
 use Rattle.std.proofs.MapsCrossing as maps
+use Rattle.deb_relation.specs.contracts.relations.Entry as Entry
 use Rattle.deb_relation.specs.contracts.relations.Relations as Relations
 use Rattle.deb_version.specs.contracts.version.Version as Version
 use Rattle.farm_universe.specs.contracts.binary.PackageRelations as PackageRelations
@@ -15,8 +16,11 @@ use Rattle.sat_rows.specs.contracts.tables.Tables as Tables
 use Rattle.wait_order.specs.contracts.entries.Entries as Entries
 use Rattle.wait_order.specs.contracts.supply.Supply as Supply
 
+entry_sync : IsSync Entry.the_row
+entry_sync = search (crosses, sendable) depth 60 fits 20000
+
 relations_sync : IsSync Relations.the_row
-relations_sync = search (crosses, sendable) depth 60 fits 20000
+relations_sync = let e = entry_sync in search (crosses, sendable) depth 60 fits 20000
 
 version_sync : IsSync Version.the_row
 version_sync = search (crosses, sendable) depth 60 fits 20000
@@ -42,7 +46,7 @@ universe_sync =
     search (maps.crosses, crosses, sendable) depth 60 fits 50000
 
 pub plan_sync : IsSync Plan.the_row
-plan_sync = search (crosses, sendable) depth 60 fits 50000
+plan_sync = let e = entry_sync in search (crosses, sendable) depth 60 fits 50000
 
 pub tables_sync : IsSync Tables.the_row
 tables_sync = let u = universe_sync in search (maps.crosses, crosses, sendable) depth 60 fits 50000
@@ -62,4 +66,4 @@ supply_send a =
     search (crosses, sendable) depth 60 fits 50000
 
 pub entries_sync : (a : NamedLft) → IsSync (Entries.the_row a)
-entries_sync a = search (crosses, sendable) depth 60 fits 50000
+entries_sync a = let e = entry_sync in search (crosses, sendable) depth 60 fits 50000
