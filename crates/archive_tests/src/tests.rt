@@ -7,7 +7,7 @@ use plan_verifier::{Accepted, check};
 use std::alloc::Global;
 use std::test::Fail;
 use std::thread::Threads;
-use word_archive::{LaneSeats, SharedArchive};
+use word_archive::{Closed, LaneSeats, SharedArchive};
 
 const PACKAGES: &[u8] =
     b"Package: libc6\nVersion: 2.40-1\nInstalled-Size: 2048\n\nPackage: gcc\nVersion: 14-1~stage1\nInstalled-Size: 1024\nDepends: libc6 (>= 2.40)\n\nPackage: gcc\nVersion: 14-1\nInstalled-Size: 3072\nDepends: libc6 (>= 2.40), libgmp\n\nPackage: libgmp\nVersion: 6.3-1\nInstalled-Size: 512\nDepends: libc6\n";
@@ -30,34 +30,43 @@ fn accepted_plan(rt: &(impl Threads + Sync), alloc: Global) -> Result<Accepted, 
     Ok(check(rt, alloc, PACKAGES, SOURCES, FARM, PLAN)?)
 }
 
-// An archive whose seats come back unused has the initial words, and nothing was published.
+// An archive whose seats come back unused.
+fn closed_unused(alloc: Global, accepted: &Accepted) -> Option<Closed> {
+    let (archive, seats) = SharedArchive::open(alloc, accepted).ok()?;
+    archive.close(alloc, seats).ok()
+}
+
+// It has the initial words, and nothing was published.
 #[test]
 fn opens_and_closes(rt: HostRuntime) -> Result<(), Fail> {
     let accepted = accepted_plan(&rt, rt.alloc())?;
-    let (archive, seats) = SharedArchive::open(rt.alloc(), &accepted)?;
-    let closed = archive.close(rt.alloc(), seats)?;
+    let Some(closed) = closed_unused(rt.alloc(), &accepted) else {
+        panic!(rt; "memory was refused");
+    };
     assert_eq!(rt; closed.words.as_slice(), WORDS.as_slice());
     assert_eq!(rt; closed.history.len(), 0);
     Ok(())
 }
 
-// A seat is taken once, until it comes back; the plan has two lanes.
+// The lanes whose seats are asked for, one after the other; the plan has two.
+const ASKED: [usize; 7] = [0, 0, 1, 0, 1, 2, usize::MAX];
+
+// Whether the seat of each was in.
+fn seats_taken(alloc: Global, accepted: &Accepted) -> Option<[bool; 7]> {
+    let (_archive, mut seats) = SharedArchive::open(alloc, accepted).ok()?;
+    let mut taken = [false; 7];
+    for number in 0..7 {
+        taken[number] = seats.take(ASKED[number]).is_some();
+    }
+    Some(taken)
+}
+
+// A seat is taken once, until it comes back.
 #[test]
 fn takes_each_seat_once(rt: HostRuntime) -> Result<(), Fail> {
     let accepted = accepted_plan(&rt, rt.alloc())?;
-    let (_archive, mut seats) = SharedArchive::open(rt.alloc(), &accepted)?;
-    // lane, and whether its seat is in
-    for (lane, is_in) in [
-        (0, true),
-        (0, false),
-        (1, true),
-        (0, false),
-        (1, false),
-        (2, false),
-        (usize::MAX, false),
-    ] {
-        assert_eq!(rt; seats.take(lane).is_some(), is_in, "lane {lane}");
-    }
+    let wanted = [true, false, true, false, false, false, false];
+    assert_eq!(rt; seats_taken(rt.alloc(), &accepted), Some(wanted));
     Ok(())
 }
 
@@ -78,39 +87,83 @@ fn is_told(archive: &SharedArchive<'_>, seats: &mut LaneSeats, lane: usize) -> b
     }
 }
 
+// Which lanes are told of a halt: both before the base seat has halted, both after it. With the
+// archive as it is closed then.
+fn told_of_a_stop(alloc: Global, accepted: &Accepted) -> Option<([bool; 4], Closed)> {
+    let (archive, mut seats) = SharedArchive::open(alloc, accepted).ok()?;
+    let before = (
+        is_told(&archive, &mut seats, 0),
+        is_told(&archive, &mut seats, 1),
+    );
+    seats.stop(&archive);
+    let after = (
+        is_told(&archive, &mut seats, 0),
+        is_told(&archive, &mut seats, 1),
+    );
+    let closed = archive.close(alloc, seats).ok()?;
+    Some(([before.0, before.1, after.0, after.1], closed))
+}
+
 // Each lane is told of a halt once the base seat has halted, and no sooner. The archive can be
 // closed all the same.
 #[test]
 fn stops(rt: HostRuntime) -> Result<(), Fail> {
     let accepted = accepted_plan(&rt, rt.alloc())?;
-    let (archive, mut seats) = SharedArchive::open(rt.alloc(), &accepted)?;
-    assert!(rt; !is_told(&archive, &mut seats, 0));
-    assert!(rt; !is_told(&archive, &mut seats, 1));
-    seats.stop(&archive);
-    assert!(rt; is_told(&archive, &mut seats, 0));
-    assert!(rt; is_told(&archive, &mut seats, 1));
-    let closed = archive.close(rt.alloc(), seats)?;
+    let Some((told, closed)) = told_of_a_stop(rt.alloc(), &accepted) else {
+        panic!(rt; "memory was refused");
+    };
+    assert_eq!(rt; told, [false, false, true, true]);
     assert_eq!(rt; closed.words.as_slice(), WORDS.as_slice());
     assert_eq!(rt; closed.history.len(), 0);
     Ok(())
 }
 
-// Where one lane halts, the other is told; each loads the initial words.
+// The words that a lane loads where it has a seat; then it halts.
+fn loaded_and_halted(
+    archive: &SharedArchive<'_>,
+    seats: &mut LaneSeats,
+    accepted: &Accepted,
+) -> Option<[u64; 3]>
+    requires table { seats.old.table ≡ archive.now.table.shared.table_id }
+    requires about { seats.old.about ≡ archive.now.accepted.now }
+    requires accepted { archive.now.accepted.now ≡ accepted.now }
+    ensures table { seats.new.table ≡ seats.old.table }
+    ensures about { seats.new.about ≡ seats.old.about }
+{
+    let mut seat = seats.take(0)?;
+    let words = if accepted.universe().names() == 3 {
+        Some([
+            archive.load(&mut seat, 0),
+            archive.load(&mut seat, 1),
+            archive.load(&mut seat, 2),
+        ])
+    } else {
+        None
+    };
+    archive.halt(&mut seat);
+    seats.give(seat);
+    words
+}
+
+// What a lane loads, whether the other one is told that it halted, and the archive as it is closed
+// then.
+fn halted_by_a_lane(alloc: Global, accepted: &Accepted) -> Option<([u64; 3], bool, Closed)> {
+    let (archive, mut seats) = SharedArchive::open(alloc, accepted).ok()?;
+    let words = loaded_and_halted(&archive, &mut seats, accepted)?;
+    let told = is_told(&archive, &mut seats, 1);
+    let closed = archive.close(alloc, seats).ok()?;
+    Some((words, told, closed))
+}
+
+// Where one lane halts, the other is told; it loads the initial words.
 #[test]
 fn loads_and_halts(rt: HostRuntime) -> Result<(), Fail> {
     let accepted = accepted_plan(&rt, rt.alloc())?;
-    let (archive, mut seats) = SharedArchive::open(rt.alloc(), &accepted)?;
-    if let Some(mut seat) = seats.take(0) {
-        if accepted.universe().names() == 3 {
-            assert_eq!(rt; archive.load(&mut seat, 0), WORDS[0]);
-            assert_eq!(rt; archive.load(&mut seat, 1), WORDS[1]);
-            assert_eq!(rt; archive.load(&mut seat, 2), WORDS[2]);
-        }
-        archive.halt(&mut seat);
-        seats.give(seat);
-    }
-    assert!(rt; is_told(&archive, &mut seats, 1));
-    let closed = archive.close(rt.alloc(), seats)?;
+    let Some((words, told, closed)) = halted_by_a_lane(rt.alloc(), &accepted) else {
+        panic!(rt; "memory was refused, or there are not three names");
+    };
+    assert_eq!(rt; words, WORDS);
+    assert!(rt; told);
     assert_eq!(rt; closed.history.len(), 0);
     Ok(())
 }
