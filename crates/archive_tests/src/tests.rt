@@ -89,7 +89,10 @@ fn is_told(archive: &SharedArchive<'_>, seats: &mut LaneSeats, lane: usize) -> b
 
 // Which lanes are told of a halt: both before the base seat has halted, both after it. With the
 // archive as it is closed then.
-fn told_of_a_stop(alloc: Global, accepted: &Accepted) -> Option<([bool; 4], Closed)> {
+fn told_of_a_stop(
+    alloc: Global,
+    accepted: &Accepted,
+) -> Option<((bool, bool, bool, bool), Closed)> {
     let (archive, mut seats) = SharedArchive::open(alloc, accepted).ok()?;
     let before = (
         is_told(&archive, &mut seats, 0),
@@ -101,7 +104,7 @@ fn told_of_a_stop(alloc: Global, accepted: &Accepted) -> Option<([bool; 4], Clos
         is_told(&archive, &mut seats, 1),
     );
     let closed = archive.close(alloc, seats).ok()?;
-    Some(([before.0, before.1, after.0, after.1], closed))
+    Some(((before.0, before.1, after.0, after.1), closed))
 }
 
 // Each lane is told of a halt once the base seat has halted, and no sooner. The archive can be
@@ -112,7 +115,7 @@ fn stops(rt: HostRuntime) -> Result<(), Fail> {
     let Some((told, closed)) = told_of_a_stop(rt.alloc(), &accepted) else {
         panic!(rt; "memory was refused");
     };
-    assert_eq!(rt; told, [false, false, true, true]);
+    assert_eq!(rt; told, (false, false, true, true));
     assert_eq!(rt; closed.words.as_slice(), WORDS.as_slice());
     assert_eq!(rt; closed.history.len(), 0);
     Ok(())
@@ -123,7 +126,7 @@ fn loaded_and_halted(
     archive: &SharedArchive<'_>,
     seats: &mut LaneSeats,
     accepted: &Accepted,
-) -> Option<[u64; 3]>
+) -> Option<(u64, u64, u64)>
     requires table { seats.old.table ≡ archive.now.table.shared.table_id }
     requires about { seats.old.about ≡ archive.now.accepted.now }
     requires accepted { archive.now.accepted.now ≡ accepted.now }
@@ -132,11 +135,11 @@ fn loaded_and_halted(
 {
     let mut seat = seats.take(0)?;
     let words = if accepted.universe().names() == 3 {
-        Some([
+        Some((
             archive.load(&mut seat, 0),
             archive.load(&mut seat, 1),
             archive.load(&mut seat, 2),
-        ])
+        ))
     } else {
         None
     };
@@ -147,7 +150,7 @@ fn loaded_and_halted(
 
 // What a lane loads, whether the other one is told that it halted, and the archive as it is closed
 // then.
-fn halted_by_a_lane(alloc: Global, accepted: &Accepted) -> Option<([u64; 3], bool, Closed)> {
+fn halted_by_a_lane(alloc: Global, accepted: &Accepted) -> Option<((u64, u64, u64), bool, Closed)> {
     let (archive, mut seats) = SharedArchive::open(alloc, accepted).ok()?;
     let words = loaded_and_halted(&archive, &mut seats, accepted)?;
     let told = is_told(&archive, &mut seats, 1);
@@ -162,7 +165,7 @@ fn loads_and_halts(rt: HostRuntime) -> Result<(), Fail> {
     let Some((words, told, closed)) = halted_by_a_lane(rt.alloc(), &accepted) else {
         panic!(rt; "memory was refused, or there are not three names");
     };
-    assert_eq!(rt; words, WORDS);
+    assert_eq!(rt; words, (WORDS[0], WORDS[1], WORDS[2]));
     assert!(rt; told);
     assert_eq!(rt; closed.history.len(), 0);
     Ok(())
