@@ -1,6 +1,7 @@
 -- A base chroot of the farm text (the project's own format).
 --
 --   is_settled_base table capacity vs    these variants can be what a base chroot holds
+--   held_at table p                      what it holds, whatever base chroots stand before it
 --   base_at table before p               what a paragraph says, behind the base chroots before it
 use Rattle.std.specs.Prelude.{ℕ, ◌+◌, Bool, true, ◌&&◌, ◌||◌, not, ◌==◌, nat_le, List, [], ◌∷◌, map, get_or, length, Option, Some, None, Result, Ok, codes}
 use Rattle.std.specs.List.{list_any, list_all}
@@ -99,14 +100,20 @@ base_name before given = do
   free ← refused_if (list_any (λ base. bytes_eq name base.name) before) TWICE
   Ok name
 
+-- its capacity in KiB, and the variants that it holds
+unfoldable pub held_at : PackageTable → Paragraph → Result (ℕ × List Variant) ℕ
+held_at table p = do
+  spelled ← needed_at p (codes "Capacity")
+  capacity ← number_up_to MOST_CAPACITY spelled
+  packages ← packages_at table (value_of p (codes "Packages"))
+  settled ← refused_if (not (is_settled_base table capacity packages)) UNSETTLED_BASE
+  Ok (capacity, packages)
+
 -- the fields in the order in which they are looked at
 unfoldable pub base_at : PackageTable → List Base → Paragraph → Result Base ℕ
 base_at table before p = do
   given ← needed_at p (codes "Chroot")
   name ← base_name before given
-  spelled ← needed_at p (codes "Capacity")
-  capacity ← number_up_to MOST_CAPACITY spelled
-  packages ← packages_at table (value_of p (codes "Packages"))
-  settled ← refused_if (not (is_settled_base table capacity packages)) UNSETTLED_BASE
+  held ← held_at table p
   free ← refused_if (nat_le MOST_BASES (length before)) OVER_LIMIT
-  Ok (record { name = name; capacity = capacity; packages = packages })
+  Ok (record { name = name; capacity = held.0; packages = held.1 })

@@ -1,5 +1,5 @@
 -- What is true of what the farm text says.
-use Rattle.std.specs.Prelude.{◌≡◌, ℕ, ◌+◌, ◌<◌, ◌≤◌, List, [], IfOk, Result, length, map, sum, All, true, false, Some, codes, get_or, slice_get}
+use Rattle.std.specs.Prelude.{◌≡◌, ℕ, ◌+◌, ◌<◌, ◌≤◌, List, [], IfOk, IfSome, Result, length, map, sum, All, true, false, Some, codes, get_or, slice_get}
 use Rattle.std.specs.Global.{Vec}
 use Rattle.std.specs.List.{list_any}
 use Rattle.deb_stanza.specs.Stanza.{Paragraph, value_of}
@@ -12,13 +12,15 @@ use Rattle.farm_universe.specs.declared.error.FieldFault.{FieldFault}
 use Rattle.farm_universe.specs.declared.land.Head.{Head}
 use Rattle.farm_universe.specs.declared.land.Land.{Land}
 use Rattle.farm_universe.specs.declared.list.VariantList.{VariantList}
+use Rattle.farm_universe.specs.declared.bases.BaseHeld.{BaseHeld}
+use Rattle.farm_universe.specs.declared.later_parts.LaterParts.{LaterParts}
 use Rattle.farm_universe.specs.declared.recipe_parts.RecipeParts.{RecipeParts}
 use Rattle.farm_universe.specs.declared.recipes.RecipeList.{RecipeList}
 use Rattle.farm_universe.specs.declared.farm.Farm.{Farm}
 use Rattle.farm_universe.specs.declared.farm.Yard.{Yard}
 use Rattle.item_index.specs.Items.{item, IsListed}
 use Rattle.item_index.specs.declared.item.Item.{Item}
-use Rattle.farm_universe.specs.BaseText.{is_settled_base}
+use Rattle.farm_universe.specs.BaseText.{held_at, is_settled_base}
 use Rattle.farm_universe.specs.FarmText as text
 use Rattle.farm_universe.specs.Land as land
 use Rattle.farm_universe.specs.ListText.{variant_words}
@@ -165,6 +167,20 @@ pub record IsBase (table : PackageTable) (base : Base) : Type 0 where
   pub known : All (IsPlace table) base.packages
   pub settled : is_settled_base table base.capacity base.packages ≡ true
   pub small : base.capacity ≤ MOST_CAPACITY
+
+-- what was read of what a base chroot holds
+pub record IsHeldRead (table : PackageTable) (p : Paragraph) (read : Result BaseHeld FieldFault)
+    : Type 0 where
+  pub said : Gives refusal_of (λ held. (held.capacity, held.packages.items)) read (held_at table p)
+  pub known : IfOk read (λ held. All (IsPlace table) held.packages.items)
+  pub settled : IfOk read
+      (λ held. is_settled_base table held.capacity held.packages.items ≡ true)
+  pub small : IfOk read (λ held. held.capacity ≤ MOST_CAPACITY)
+
+-- what was read of a later paragraph whatever stands before it
+pub record AreLaterParts (l : land.Land) (p : Paragraph) (parts : LaterParts) : Type 0 where
+  pub recipe : AreRecipeParts l p parts.recipe
+  pub held : IfSome parts.held (IsHeldRead l.table p)
 
 pub record AreBases (table : PackageTable) (bases : List Base) : Type 0 where
   pub few : length bases ≤ MOST_BASES

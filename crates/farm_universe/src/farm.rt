@@ -1,21 +1,21 @@
 //! The farm text.
 
-ghost use Rattle.std.specs.Prelude.{◌≡◌, [], IfOk, OnOk, drop};
+ghost use Rattle.std.specs.Prelude.{◌≡◌, [], IfOk, IfSome, OnOk, drop};
 ghost use Rattle.deb_text.specs.Answers.{Gives, refusal_of as fault_of};
 ghost use Rattle.farm_universe.specs.FarmText.{later_at, tell_later, yard_of, land_at, farm_of};
-ghost use Rattle.farm_universe.specs.FarmView.{AreRecipeParts, IsLand, IsYard, farm_view, land_view, yard_view};
+ghost use Rattle.farm_universe.specs.FarmView.{AreLaterParts, IsHeldRead, IsLand, IsYard, farm_view, land_view, yard_view};
 ghost use Rattle.farm_universe.specs.SourceView.{source_view, IsSourceTable};
 ghost use Rattle.farm_universe.specs.TableView.{table_view, IsFit};
 ghost use Rattle.farm_universe.specs.View.{refusal_of};
 
 use crate::base::Base;
-use crate::bases::add_base;
+use crate::bases::{HeldRead, add_base, read_held};
 use crate::error::{ABSENT, FieldFault, told};
 use crate::land::{Land, make_land, tell_head};
+use crate::later_parts::{LaterParts, part_end, read_all_later_parts, read_later_parts};
 use crate::limits::MOST_RECIPES;
 use crate::package_table::PackageTable;
 use crate::paragraph::Paragraph;
-use crate::recipe_parts::{RecipeParts, read_all_recipe_parts, read_recipe_parts, recipes_end};
 use crate::recipes::{RecipeList, add_recipe};
 use crate::side_by_side::{is_short, take_part};
 use crate::source_table::SourceTable;
@@ -41,25 +41,49 @@ pub struct Farm {
     pub yard: Yard,
 }
 
-/// Goes on by a paragraph, of which these parts were read, if it is that of a recipe.
+/// What a base chroot holds, where it was not read yet.
+fn held_of(alloc: Global, land: &Land, paragraph: &Paragraph, ahead: Option<HeldRead>) -> HeldRead
+    requires land { IsLand (land_view land.now) }
+    requires ahead { IfSome ahead (IsHeldRead (land_view land.now).table paragraph.now) }
+    ensures { IsHeldRead (land_view land.now).table paragraph.now result }
+{
+    match ahead {
+        Some(held) => held,
+        None => read_held(alloc, &land.table, paragraph),
+    }
+}
+
+/// Goes on by a paragraph, of which these parts were read.
 #[tactic(auto, unfolding(crate::specs::FarmText::later_at))]
 fn add_later(
     alloc: Global,
     land: &Land,
     yard: &mut Yard,
     paragraph: &Paragraph,
-    parts: RecipeParts,
+    parts: LaterParts,
 ) -> Result<(), FieldFault>
     requires land { IsLand (land_view land.now) }
     requires yard { IsYard (land_view land.now) yard.old }
-    requires parts { AreRecipeParts (land_view land.now) paragraph.now parts }
+    requires parts { AreLaterParts (land_view land.now) paragraph.now parts }
     ensures read { Gives refusal_of (λ _. yard_view yard.new) result
         (later_at (land_view land.now) (yard_view yard.old) paragraph.now) }
     ensures yard { OnOk result (IsYard (land_view land.now) yard.new) }
 {
     match paragraph.field(b"Recipe") {
-        Some(given) => add_recipe(alloc, land, &mut yard.recipes, paragraph, given, parts),
-        None => add_base(alloc, &land.table, &mut yard.bases, paragraph),
+        Some(given) => {
+            add_recipe(
+                alloc,
+                land,
+                &mut yard.recipes,
+                paragraph,
+                given,
+                parts.recipe,
+            )
+        }
+        None => {
+            let held = held_of(alloc, land, paragraph, parts.held);
+            add_base(alloc, &land.table, &mut yard.bases, paragraph, held)
+        }
     }
 }
 
@@ -74,7 +98,7 @@ impl ParagraphStep for YardStep<'_> {
 
     type SoFar = Yard;
 
-    type Part = RecipeParts;
+    type Part = LaterParts;
 
     ghost Said = { text.Yard };
 
@@ -82,14 +106,14 @@ impl ParagraphStep for YardStep<'_> {
 
     ghost ready = { λ s. IsLand (land_view s.land.now) };
 
-    ghost is_part = { λ s p parts. AreRecipeParts (land_view s.land.now) p parts };
+    ghost is_part = { λ s p parts. AreLaterParts (land_view s.land.now) p parts };
 
     ghost fits = { λ s yard. IsYard (land_view s.land.now) yard };
 
     ghost step = { λ s. tell_later (land_view s.land.now) };
 
-    fn read(&self, alloc: Global, paragraph: &Paragraph) -> RecipeParts {
-        read_recipe_parts(alloc, self.land, paragraph)
+    fn read(&self, alloc: Global, paragraph: &Paragraph) -> LaterParts {
+        read_later_parts(alloc, self.land, paragraph)
     }
 
     #[tactic(auto, using(crate::proofs::ToldLaws::gives_told))]
@@ -98,7 +122,7 @@ impl ParagraphStep for YardStep<'_> {
         alloc: Global,
         yard: &mut Yard,
         paragraph: &Paragraph,
-        parts: RecipeParts,
+        parts: LaterParts,
     ) -> Result<(), Fault> {
         told(
             FARM,
@@ -157,8 +181,8 @@ fn read_yard_side_by_side(
     let step = YardStep { land };
     let mut number = 1;
     while number < paragraphs.count() {
-        let end = recipes_end(alloc, land, paragraphs, number);
-        let parts = read_all_recipe_parts(rt, alloc, land, paragraphs, number, end)?;
+        let end = part_end(alloc, land, paragraphs, number);
+        let parts = read_all_later_parts(rt, alloc, land, paragraphs, number, end)?;
         take_part(alloc, &step, &mut yard, paragraphs, number, parts)?;
         number = end;
     }

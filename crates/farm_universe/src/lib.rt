@@ -13,6 +13,7 @@ mod field_text;
 mod fields;
 mod keyed;
 mod land;
+mod later_parts;
 pub mod limits;
 mod list;
 mod member;

@@ -16,10 +16,12 @@ use plan_verifier::Accepted;
 use word_picks::newest;
 
 /// Where a `when` at a place leads to.
+#[tactic(auto, using(crate::proofs::Onwards::behind_branch))]
 fn branch_place(lane: &Lane, place: usize, holds: bool) -> usize
     requires { place < length lane.now.instructions }
     ensures place { result ≡ branch_place lane.now place holds }
     ensures within { result ≤ length lane.now.instructions }
+    ensures behind { place < result }
 {
     if holds {
         return lane.next_place(place);
@@ -47,6 +49,7 @@ impl Runner {
         ensures kept { HasKept (A.log archive.old) (A.log archive.new) }
         ensures running { IsRunning accepted.now self.new chroot.now (A.about archive.new)
             (A.lane archive.new) (A.log archive.new) }
+        ensures moves { self.old.done < self.new.done }
     {
         accepted.keeps();
         let universe = accepted.universe();

@@ -38,6 +38,7 @@ impl Runner {
         ensures chroot { chroot.new ≡ with_slots universe.now chroot.old
             (unpacked chroot.old.slots variant) }
         ensures place { self.new ≡ passed lane.now self.old (unpack_cost universe.now variant) }
+        ensures moves { self.old.done < self.new.done }
     {
         let cost = size_cost(universe.size(variant));
         chroot.unpack_untested(universe, variant);
@@ -61,6 +62,7 @@ impl Runner {
         ensures chroot { chroot.new ≡ with_slots universe.now chroot.old
             (configured chroot.old.slots members.now) }
         ensures place { self.new ≡ passed lane.now self.old (length members.now) }
+        ensures moves { self.old.done < self.new.done }
     {
         chroot.change(universe, members, Change::Configure);
         let _budget = lane.budget();
@@ -83,6 +85,7 @@ impl Runner {
         ensures chroot { chroot.new ≡ with_slots universe.now chroot.old
             (deconfigured chroot.old.slots members.now) }
         ensures place { self.new ≡ passed lane.now self.old (length members.now) }
+        ensures moves { self.old.done < self.new.done }
     {
         chroot.change(universe, members, Change::Deconfigure);
         let _budget = lane.budget();
@@ -105,6 +108,7 @@ impl Runner {
         ensures chroot { chroot.new ≡ with_slots universe.now chroot.old
             (removed chroot.old.slots members.now) }
         ensures place { self.new ≡ passed lane.now self.old (length members.now) }
+        ensures moves { self.old.done < self.new.done }
     {
         chroot.change(universe, members, Change::Remove);
         let _budget = lane.budget();
@@ -118,6 +122,7 @@ impl Runner {
         requires known { recipe < length universe.now.recipes }
         ensures place { self.new
             ≡ passed lane.now self.old (build_cost (packages.recipe universe.now recipe)) }
+        ensures moves { self.old.done < self.new.done }
     {
         let _budget = lane.budget();
         self.pass(lane, universe.recipe(recipe).steps());

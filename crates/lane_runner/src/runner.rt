@@ -56,11 +56,13 @@ impl Runner {
     }
 
     /// Goes behind the instruction at this cost.
+    #[tactic(auto, using(crate::proofs::Onwards::behind_passed))]
     pub(crate) fn pass(&mut self, lane: &Lane, cost: u64)
         requires next { self.old.done < length lane.now.instructions }
         requires short { length lane.now.instructions ≤ MOST_INSTRUCTIONS }
         requires fits { self.old.spent + cost < 2 ^ 64 }
-        ensures { self.new ≡ passed lane.now self.old cost }
+        ensures place { self.new ≡ passed lane.now self.old cost }
+        ensures moves { self.old.done < self.new.done }
     {
         self.go_to(lane.next_place(self.done as usize));
         self.spent += cost;

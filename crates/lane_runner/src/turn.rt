@@ -1,13 +1,15 @@
 //! One turn of a lane.
 
-ghost use Rattle.std.specs.Prelude.{◌≡◌, ◌<◌, ◌≤◌, ℕ, true, false, Some, length};
+ghost use Rattle.std.specs.Prelude.{◌≡◌, ◌<◌, ◌≤◌, ◌++◌, ◌∷◌, [], ℕ, true, false, Some, length};
+ghost use Rattle.deb_relation.specs.Relations.{Entry};
 ghost use Rattle.farm_archive.specs.declared.publication.Publication as publication;
 ghost use Rattle.lane_records.specs.Records.{Record};
 ghost use Rattle.lane_runner.specs.Calls.{HasKept, IsLastOutput, IsRunning, IsSameEnd};
 ghost use Rattle.lane_runner.specs.OnWay.{IsOnWay};
-ghost use Rattle.lane_runner.specs.declared.turn.Turn.TheVariants.{Published, Waits};
+ghost use Rattle.lane_runner.specs.declared.turn.Turn.TheVariants.{Moved, Published, Waits};
 ghost use Rattle.plan_asm.specs.declared.error.TheConstants.{MOST_INSTRUCTIONS};
 ghost use Rattle.plan_model.specs.Plan.{instruction_at, lane};
+ghost use Rattle.plan_model.specs.declared.instructions.Instruction.TheVariants.{Wait};
 ghost use Rattle.plan_model.specs.World.{is_archive_step};
 ghost use Rattle.plan_verifier.specs.Accepted.{known_rows};
 
@@ -50,6 +52,7 @@ impl Runner {
         requires on { (r : Record) × IsOnWay accepted.now.universe accepted.now.plan
             (known_rows accepted.now) self.old chroot.old r }
         ensures lane { self.new.lane ≡ self.old.lane }
+        ensures moves { self.old.done < self.new.done }
         ensures on { (r : Record) → IsOnWay accepted.now.universe accepted.now.plan
             (known_rows accepted.now) self.old chroot.old r
             → IsOnWay accepted.now.universe accepted.now.plan (known_rows accepted.now) self.new
@@ -94,7 +97,11 @@ impl Runner {
         ensures last { (h : publication.Publication) → result ≡ Published h
             → IsLastOutput accepted.now.universe accepted.now.plan (A.lane archive.new)
             (A.log archive.new) h }
-        ensures waits { result ≡ Waits → self.new ≡ self.old }
+        ensures drawn { (h : publication.Publication) → result ≡ Published h
+            → (A.log archive.new).serials ≡ (A.log archive.old).serials ++ h.serial ∷ [] }
+        ensures moved { result ≡ Moved → self.old.done < self.new.done }
+        ensures waits { result ≡ Waits → (self.new ≡ self.old) × ((entry : Entry)
+            × (instruction_at accepted.now.plan self.old.lane self.old.done ≡ Some (Wait entry))) }
     {
         let instruction = &lane_of(accepted, self.lane).instructions()[self.done as usize];
         match instruction {

@@ -1,13 +1,14 @@
 //! A lane that takes its turns one by one.
 
-ghost use Rattle.std.specs.Prelude.{◌≡◌, ◌<◌, ℕ, None, Some, IfSome, IsSome, length};
+ghost use Rattle.std.specs.Prelude.{◌≡◌, ◌<◌, ◌++◌, ◌∷◌, [], ℕ, None, Some, IfSome, IsSome, length};
 ghost use Rattle.chroot_state.specs.Held.{IsHeld, opened};
+ghost use Rattle.deb_relation.specs.Relations.{Entry};
 ghost use Rattle.farm_archive.specs.declared.publication.Publication as publication;
 ghost use Rattle.lane_records.specs.Records.{after_draw};
 ghost use Rattle.lane_runner.specs.Calls.{HasKept, IsLastOutput, IsRunning, IsSameEnd};
 ghost use Rattle.lane_runner.specs.OnWay.{IsEnded, IsFresh};
-ghost use Rattle.lane_runner.specs.declared.turn.Turn.TheVariants.{Published};
-ghost use Rattle.plan_model.specs.declared.instructions.Instruction.TheVariants.{Publish};
+ghost use Rattle.lane_runner.specs.declared.turn.Turn.TheVariants.{Moved, Published, Waits};
+ghost use Rattle.plan_model.specs.declared.instructions.Instruction.TheVariants.{Publish, Wait};
 ghost use Rattle.plan_model.specs.Plan as plan;
 ghost use Rattle.plan_model.specs.Plan.{instruction_at};
 
@@ -67,6 +68,12 @@ impl<'a, E: LaneArchive + Drop> LaneTurns<'a, E> {
         ensures last { (h : publication.Publication) → result ≡ Some (Published h)
             → IsLastOutput self.new.accepted.now.universe self.new.accepted.now.plan
             (E.lane self.new.end) (E.log self.new.end) h }
+        ensures drawn { (h : publication.Publication) → result ≡ Some (Published h)
+            → (E.log self.new.end).serials ≡ (E.log self.old.end).serials ++ h.serial ∷ [] }
+        ensures moved { result ≡ Some Moved → self.old.runner.done < self.new.runner.done }
+        ensures waits { result ≡ Some Waits → (self.new.runner ≡ self.old.runner)
+            × ((entry : Entry) × (instruction_at self.old.accepted.now.plan self.old.runner.lane
+            self.old.runner.done ≡ Some (Wait entry))) }
     {
         if self.runner.has_ended(self.accepted) {
             return None;

@@ -1,6 +1,6 @@
 //! An unpack, over one load.
 
-ghost use Rattle.std.specs.Prelude.{◌≡◌, Some};
+ghost use Rattle.std.specs.Prelude.{◌≡◌, ◌<◌, Some};
 ghost use Rattle.lane_runner.specs.Calls.{HasKept, IsRunning, IsSameEnd};
 ghost use Rattle.plan_model.specs.declared.instructions.Instruction.TheVariants.{Unpack};
 ghost use Rattle.plan_model.specs.Plan.{instruction_at};
@@ -33,6 +33,7 @@ impl Runner {
         ensures kept { HasKept (A.log archive.old) (A.log archive.new) }
         ensures running { IsRunning accepted.now self.new chroot.new (A.about archive.new)
             (A.lane archive.new) (A.log archive.new) }
+        ensures moves { self.old.done < self.new.done }
     {
         accepted.keeps();
         let universe = accepted.universe();

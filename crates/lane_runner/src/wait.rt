@@ -1,6 +1,6 @@
 //! A wait, over loads of the names that may let it pass.
 
-ghost use Rattle.std.specs.Prelude.{◌≡◌, ◌<◌, Some, false, IfSome};
+ghost use Rattle.std.specs.Prelude.{◌≡◌, ◌<◌, Some, true, false, IfSome};
 ghost use Rattle.farm_model.specs.Packages.{names};
 ghost use Rattle.lane_runner.specs.Calls.{HasKept, IsRunning, IsSameEnd};
 ghost use Rattle.plan_model.specs.declared.instructions.Instruction.TheVariants.{Wait};
@@ -55,6 +55,7 @@ impl Runner {
         ensures running { IsRunning accepted.now self.new chroot.now (A.about archive.new)
             (A.lane archive.new) (A.log archive.new) }
         ensures waits { result ≡ false → self.new ≡ self.old }
+        ensures moves { result ≡ true → self.old.done < self.new.done }
     {
         accepted.keeps();
         let universe = accepted.universe();
@@ -88,6 +89,7 @@ impl Runner {
         ensures running { IsRunning accepted.now self.new chroot.now (A.about archive.new)
             (A.lane archive.new) (A.log archive.new) }
         ensures waits { result ≡ false → self.new ≡ self.old }
+        ensures moves { result ≡ true → self.old.done < self.new.done }
     {
         let universe = accepted.universe();
         for number in 0..=archive.providers(&atom.name) {
@@ -120,6 +122,7 @@ impl Runner {
         ensures running { IsRunning accepted.now self.new chroot.now (A.about archive.new)
             (A.lane archive.new) (A.log archive.new) }
         ensures waits { result ≡ false → self.new ≡ self.old }
+        ensures moves { result ≡ true → self.old.done < self.new.done }
     {
         for atom in entry.alternatives() {
             if self.look_for(accepted, chroot, archive, entry, atom) {

@@ -141,40 +141,68 @@ fn has_stopped_at_a_wait(run: &Stopped) -> bool {
     is_cause && (gave_up_too || matches!(other.code, 0 | HALTED))
 }
 
+/// Runs the lanes over gates that give up at the instructions of a lane, one after the other, up to
+/// its last. The plan, where each run stopped there.
+fn run_up_to_each(
+    rt: &(impl Threads + Wait + Sync),
+    alloc: Global,
+    accepted: Accepted,
+    lane: u32,
+    last: u32,
+) -> Option<Accepted> {
+    let mut accepted = accepted;
+    for instruction in 1..=last {
+        let run = run_up_to(rt, alloc, accepted, At::Before { lane, instruction })?;
+        if !has_stopped(&run, lane, instruction) {
+            return None;
+        }
+        accepted = run.accepted;
+    }
+    Some(accepted)
+}
+
 // The lane that gives up is the cause, and stands where it gave up; the other one is at its end, or
 // was halted.
 #[test]
 fn stops_at_each_instruction(rt: HostRuntime) -> Result<(), Fail> {
-    let mut accepted = accepted_plan(&rt, rt.alloc())?;
-    for (lane, last) in [(0, 7), (1, 5)] {
-        for instruction in 1..=last {
-            let at = At::Before { lane, instruction };
-            let Some(run) = run_up_to(&rt, rt.alloc(), accepted, at) else {
-                panic!(rt; "the run did not stop");
-            };
-            assert!(rt; has_stopped(&run, lane, instruction));
-            accepted = run.accepted;
-        }
-    }
+    let accepted = accepted_plan(&rt, rt.alloc())?;
+    let Some(accepted) = run_up_to_each(&rt, rt.alloc(), accepted, 0, 7) else {
+        panic!(rt; "the first lane did not stop where its gate gave up");
+    };
+    assert!(rt; run_up_to_each(&rt, rt.alloc(), accepted, 1, 5).is_some());
     Ok(())
 }
 
-// A lane that gives up halts the other one where it waits.
+/// Runs the lanes over a gate that gives up at an instruction of a lane: the code and the lane that
+/// are told as the cause, and the ends of both lanes.
+fn told_at(
+    rt: &(impl Threads + Wait + Sync),
+    alloc: Global,
+    accepted: Accepted,
+    lane: u32,
+    instruction: u32,
+) -> Option<(u16, u32, (LaneStop, LaneStop))> {
+    let run = run_up_to(rt, alloc, accepted, At::Before { lane, instruction })?;
+    Some((run.code, run.lane, run.ends))
+}
+
+// The second lane gives up, and halts the first one where it waits.
 #[test]
-fn halts_the_other_lane(rt: HostRuntime) -> Result<(), Fail> {
-    let mut accepted = accepted_plan(&rt, rt.alloc())?;
-    // lane and instruction, and the ends of both lanes
-    for (lane, instruction, ends) in [
-        (1, 3, (end_by(HALTED, 3), end_by(GAVE_UP, 3))),
-        (0, 1, (end_by(GAVE_UP, 1), end_by(HALTED, 1))),
-    ] {
-        let at = At::Before { lane, instruction };
-        let Some(run) = run_up_to(&rt, rt.alloc(), accepted, at) else {
-            panic!(rt; "the run did not stop");
-        };
-        assert_eq!(rt; (run.code, run.lane, run.ends), (GAVE_UP, lane, ends));
-        accepted = run.accepted;
-    }
+fn halts_the_first_lane(rt: HostRuntime) -> Result<(), Fail> {
+    let accepted = accepted_plan(&rt, rt.alloc())?;
+    let told = told_at(&rt, rt.alloc(), accepted, 1, 3);
+    let ends = (end_by(HALTED, 3), end_by(GAVE_UP, 3));
+    assert_eq!(rt; told, Some((GAVE_UP, 1, ends)));
+    Ok(())
+}
+
+// The first lane gives up, and halts the second one where it waits.
+#[test]
+fn halts_the_second_lane(rt: HostRuntime) -> Result<(), Fail> {
+    let accepted = accepted_plan(&rt, rt.alloc())?;
+    let told = told_at(&rt, rt.alloc(), accepted, 0, 1);
+    let ends = (end_by(GAVE_UP, 1), end_by(HALTED, 1));
+    assert_eq!(rt; told, Some((GAVE_UP, 0, ends)));
     Ok(())
 }
 
@@ -194,16 +222,28 @@ fn run_up_to_a_wait(
     }
 }
 
+/// Tells whether each of so many runs did so.
+fn all_up_to_a_wait(
+    rt: &(impl Threads + Wait + Sync),
+    alloc: Global,
+    accepted: Accepted,
+    times: u32,
+) -> bool {
+    let mut accepted = accepted;
+    for _ in 0..times {
+        match run_up_to_a_wait(rt, alloc, accepted) {
+            Some(again) => accepted = again,
+            None => return false,
+        }
+    }
+    true
+}
+
 // Where a lane waits in vain in a run, it gives up there; where none does, the run comes to its
 // end.
 #[test]
 fn stops_at_a_pause(rt: HostRuntime) -> Result<(), Fail> {
-    let mut accepted = accepted_plan(&rt, rt.alloc())?;
-    for _ in 0..100 {
-        let Some(again) = run_up_to_a_wait(&rt, rt.alloc(), accepted) else {
-            panic!(rt; "a lane stands elsewhere, or memory was refused");
-        };
-        accepted = again;
-    }
+    let accepted = accepted_plan(&rt, rt.alloc())?;
+    assert!(rt; all_up_to_a_wait(&rt, rt.alloc(), accepted, 100));
     Ok(())
 }

@@ -210,16 +210,22 @@ fn leave_drawn(
     Some((serial?, seats))
 }
 
+/// How many turns of two lanes came as they should, and the archive that they then leave.
+fn closed_behind_turns(alloc: Global, accepted: &Accepted) -> Option<(usize, Closed)> {
+    let (archive, seats) = SharedArchive::open(alloc, accepted).ok()?;
+    let (taken, seats) = play_lanes(alloc, accepted, &archive, seats)?;
+    let closed = archive.close(alloc, seats).ok()?;
+    Some((taken, closed))
+}
+
 // Each lane sees at once what the other one has published, and both come to their ends.
 #[test]
 fn takes_turns(rt: HostRuntime) -> Result<(), Fail> {
     let accepted = accepted_plan(&rt, rt.alloc())?;
-    let (archive, seats) = SharedArchive::open(rt.alloc(), &accepted)?;
-    let Some((taken, seats)) = play_lanes(rt.alloc(), &accepted, &archive, seats) else {
+    let Some((taken, closed)) = closed_behind_turns(rt.alloc(), &accepted) else {
         panic!(rt; "there are no two lanes");
     };
     assert_eq!(rt; taken, 15);
-    let closed = archive.close(rt.alloc(), seats)?;
     assert_eq!(rt; closed.words.as_slice(), [1, 3, 1].as_slice());
     let wanted = [
         output(0, A, GCC, 0),

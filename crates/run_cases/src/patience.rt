@@ -5,8 +5,11 @@ use farm_archive::Publication;
 use farm_executor::run_farm;
 use lane_runner::{Gate, Go, LaneArchive};
 use plan_verifier::Accepted;
+use std::alloc::Global;
+use std::sync::Wait;
 use std::sync::atomic::{AtomicU64, Ordering};
 use std::test::Fail;
+use std::thread::Threads;
 
 // How often the lanes of a run may wait in vain.
 const MOST: u64 = 1_000_000;
@@ -36,18 +39,30 @@ impl Gate for Patient {
     fn ring(&self) {}
 }
 
-// A lane sees what the other one publishes, though nothing wakes it.
-#[test]
-fn sees_an_output_in_time(rt: HostRuntime) -> Result<(), Fail> {
-    let mut accepted = accepted_plan(&rt, rt.alloc())?;
-    for _ in 0..20 {
+/// Runs the lanes over such a gate so many times, and tells whether each run came to its end.
+fn all_end(
+    rt: &(impl Threads + Wait + Sync),
+    alloc: Global,
+    accepted: Accepted,
+    times: u32,
+) -> bool {
+    let mut accepted = accepted;
+    for _ in 0..times {
         let gate = Patient {
             pauses: AtomicU64::new(0),
         };
-        let Ok(run) = run_farm(&rt, rt.alloc(), accepted, &gate) else {
-            panic!(rt; "a lane waited in vain");
-        };
-        accepted = run.accepted;
+        match run_farm(rt, alloc, accepted, &gate) {
+            Ok(run) => accepted = run.accepted,
+            Err(_) => return false,
+        }
     }
+    true
+}
+
+// A lane sees what the other one publishes, though nothing wakes it.
+#[test]
+fn sees_an_output_in_time(rt: HostRuntime) -> Result<(), Fail> {
+    let accepted = accepted_plan(&rt, rt.alloc())?;
+    assert!(rt; all_end(&rt, rt.alloc(), accepted, 20));
     Ok(())
 }

@@ -24,16 +24,28 @@ fn run_again(
     Some(run.accepted)
 }
 
+/// Tells whether so many runs came to what they should.
+fn all_come_to_it(
+    rt: &(impl Threads + Wait + Sync),
+    alloc: Global,
+    accepted: Accepted,
+    times: u32,
+) -> bool {
+    let mut accepted = accepted;
+    for _ in 0..times {
+        match run_again(rt, alloc, accepted) {
+            Some(again) => accepted = again,
+            None => return false,
+        }
+    }
+    true
+}
+
 // Each of many runs comes to the same end.
 #[test]
 fn comes_to_the_same_end(rt: HostRuntime) -> Result<(), Fail> {
-    let mut accepted = accepted_plan(&rt, rt.alloc())?;
-    for _ in 0..200 {
-        let Some(again) = run_again(&rt, rt.alloc(), accepted) else {
-            panic!(rt; "the run has another end, or none");
-        };
-        accepted = again;
-    }
+    let accepted = accepted_plan(&rt, rt.alloc())?;
+    assert!(rt; all_come_to_it(&rt, rt.alloc(), accepted, 200));
     Ok(())
 }
 

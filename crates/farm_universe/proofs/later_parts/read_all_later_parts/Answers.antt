@@ -3,9 +3,9 @@ use Rattle.std.specs.List.{AllZip}
 use Rattle.rayon.specs.Numbers.{nat_range}
 use Rattle.rayon.proofs.ListFacts.{IfOk-then}
 use Rattle.deb_stanza.specs.Stanza.{paragraph_at}
-use Rattle.farm_universe.specs.FarmView.{land_view, AreRecipeParts}
+use Rattle.farm_universe.specs.FarmView.{land_view, AreLaterParts}
 use Rattle.farm_universe.proofs.PartLaws.{are_parts, inside}
-use Rattle.farm_universe.proofs.recipe_parts.read_all_recipe_parts.Goals as goal
+use Rattle.farm_universe.proofs.later_parts.read_all_later_parts.Goals as goal
 
 pub collect-requires-clause-ready : goal.collect-requires-clause-ready
 collect-requires-clause-ready g c κs within =
@@ -28,8 +28,8 @@ returns g c =
     let places = h.1.1 ∙ (λ i. nat_range (start i) (end i)) in
     let called =
     subst (λ f. AllZip
-    (λ n parts. AreRecipeParts (land_view f.1.now) (paragraph_at f.2.now n) parts)
+    (λ n parts. AreLaterParts (land_view f.1.now) (paragraph_at f.2.now n) parts)
     h.1.0 h.0)
     c.map.ensures.f h.1.2 in
-    are_parts (AreRecipeParts land) ps c.args.from c.args.to c.requires.ascends v.items h.1.0 places
+    are_parts (AreLaterParts land) ps c.args.from c.args.to c.requires.ascends v.items h.1.0 places
     (rw h.2 called))
