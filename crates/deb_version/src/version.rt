@@ -16,6 +16,7 @@ use crate::grammar::{
     MAX_LENGTH, cut_into_pieces, epoch_of, has_bad_byte, has_empty_piece, start_of,
 };
 use crate::order::compare_parts;
+use deb_text::is_same_text;
 use std::alloc::{AllocError, Global};
 use std::cmp::Ordering;
 use std::marker::Model;
@@ -96,7 +97,7 @@ impl Version {
     pub fn compare(&self, other: &Version) -> Ordering
         ensures order { result ≡ text_cmp self.now other.now }
     {
-        if self.text == other.text {
+        if is_same_text(&self.text, &other.text) {
             return Ordering::Equal;
         }
         match self.epoch.cmp(&other.epoch) {
