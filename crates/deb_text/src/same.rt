@@ -7,13 +7,5 @@ ghost use Rattle.std.specs.Prelude.{◌≡◌, ◌↔◌, IsTrue};
 pub fn is_same_text(text: &[u8], other: &[u8]) -> bool
     ensures { IsTrue result ↔ (text.now ≡ other.now) }
 {
-    if text.len() != other.len() {
-        return false;
-    }
-    for place in 0..text.len() {
-        if text[place] != other[place] {
-            return false;
-        }
-    }
-    true
+    text.len() == other.len() && text.iter().zip(other).all(|(a, b)| *a == *b)
 }
