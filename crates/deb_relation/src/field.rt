@@ -13,7 +13,7 @@ ghost use Rattle.deb_relation.specs.View.{refusal_of};
 
 use crate::atom::Atom;
 use crate::error::{ALTERNATIVES, NO_ALTERNATIVE, RelationError};
-use crate::grammar::{read_name, read_qualifier, read_relation};
+use crate::grammar::{cut_relation, read_name, read_qualifier, read_relation};
 use crate::kind::Kind;
 use crate::lists::{read_archs, read_profiles};
 use crate::operator::Op;
@@ -141,6 +141,24 @@ impl Atom {
         }
         read_atom(alloc, kind, text)
     }
+
+    /// Judges one alternative of a field of a kind as [`parse`](Atom::parse) does, and keeps
+    /// nothing. The call takes no memory for a name, a qualifier and a relation.
+    ///
+    /// # Errors
+    ///
+    /// Those of [`parse`](Atom::parse). Nothing is left behind.
+    pub fn judge(alloc: Global, text: &[u8], kind: Kind) -> Result<(), RelationError>
+        ensures { Gives refusal_of (λ _. tt) result (only_judged (alternative_at kind text.now)) }
+    {
+        let text = skip_front(Class::Blank, text);
+        if text.is_empty() {
+            return Err(RelationError {
+                code: NO_ALTERNATIVE,
+            });
+        }
+        judge_atom(alloc, kind, text)
+    }
 }
 
 fn read_entries(alloc: Global, kind: Kind, text: &[u8]) -> Result<Vec<Entry>, RelationError>
@@ -231,7 +249,7 @@ fn judge_alternative(alloc: Global, kind: Kind, text: &[u8]) -> Result<(), Relat
     ensures { Gives refusal_of (λ _. tt) result (only_judged
         (traverse (alternative_at kind) (text.now ∷ []))) }
 {
-    Atom::parse(alloc, text, kind)?;
+    Atom::judge(alloc, text, kind)?;
     Ok(())
 }
 
@@ -256,7 +274,7 @@ fn judge_alternatives(alloc: Global, kind: Kind, text: &[u8]) -> Result<(), Rela
     let mut left = Some(text);
     while let Some(rest) = left {
         let (alternative, after) = next_part(b'|', rest);
-        Atom::parse(alloc, alternative, kind)?;
+        Atom::judge(alloc, alternative, kind)?;
         left = after;
     }
     Ok(())
@@ -297,6 +315,20 @@ fn read_limited(
     let name = Vec::from_slice(alloc, name)?;
     let qualifier = copy_qualifier(alloc, qualifier)?;
     Ok(Atom::new(alloc, name, qualifier, relation, archs, profiles)?)
+}
+
+/// Judges an alternative without blanks at its front.
+#[tactic(auto, unfolding(crate::specs::Field::atom_at))]
+fn judge_atom(alloc: Global, kind: Kind, text: &[u8]) -> Result<(), RelationError>
+    requires { first_is is_blank text.now ≡ false }
+    ensures { Gives refusal_of (λ _. tt) result (only_judged (atom_at kind text.now)) }
+{
+    let (_, rest) = read_name(text)?;
+    let (_, rest) = read_qualifier(rest)?;
+    let (_, rest) = cut_relation(kind, skip_front(Class::Blank, rest))?;
+    let (_, rest) = read_archs(alloc, kind, skip_front(Class::Blank, rest))?;
+    read_profiles(alloc, kind, rest)?;
+    Ok(())
 }
 
 fn copy_qualifier(alloc: Global, text: Option<&[u8]>) -> Result<Option<Vec<u8>>, AllocError>
