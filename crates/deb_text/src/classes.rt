@@ -41,7 +41,9 @@ pub fn has(class: Class, b: u8) -> bool
         Class::Solid => !matches!(b, b' ' | b'\t' | b'\n'),
         Class::Digit => b.is_ascii_digit(),
         Class::Lower => b.is_ascii_lowercase() || b.is_ascii_digit(),
-        Class::Name => matches!(b, b'a'..=b'z' | b'0'..=b'9' | b'+' | b'-' | b'.'),
+        Class::Name => {
+            b.is_ascii_lowercase() || b.is_ascii_digit() || matches!(b, b'+' | b'-' | b'.')
+        }
         Class::Qualifier => b.is_ascii_lowercase() || b.is_ascii_digit() || b == b'-',
         Class::Operator => matches!(b, b'<' | b'=' | b'>'),
         Class::Version => !matches!(b, b' ' | b'\t' | b'\n' | b')'),
