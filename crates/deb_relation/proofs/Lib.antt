@@ -1,3 +1,4 @@
+pub mod AtomLaws
 pub mod EntryLaws
 pub mod FieldLaws
 pub mod ListLaws

@@ -11,11 +11,26 @@ use Rattle.deb_text.specs.Cuts.{behind, parts_left}
 use Rattle.deb_text.specs.Steps.{◌>>=◌, traverse}
 use Rattle.deb_relation.specs.declared.error.TheConstants.{ALTERNATIVES, NO_ALTERNATIVE}
 use Rattle.deb_relation.specs.declared.kind.Kind.{Kind}
+use Rattle.deb_relation.specs.declared.operator.Op.{Op}
 use Rattle.deb_relation.specs.Grammar.{name_at, qualifier_at, relation_at}
 use Rattle.deb_relation.specs.Kinds.{has_alternatives}
 use Rattle.deb_relation.specs.Marks.{comma, bar}
 use Rattle.deb_relation.specs.Relations.{Atom, Entry, Relations}
 use Rattle.deb_relation.specs.Restrictions.{archs_at, profiles_at}
+
+-- the restrictions behind a relation, with what stands before them
+abbrev pub limited_at : Kind → List ℕ → Option (List ℕ) → Option (Op × List ℕ) → List ℕ
+    → Result Atom ℕ
+limited_at kind name qualifier relation text = do
+  archs ← archs_at kind text
+  profiles ← profiles_at kind archs.1
+  Ok (record {
+    name = name;
+    qualifier = qualifier;
+    relation = relation;
+    archs = archs.0;
+    profiles = profiles;
+  })
 
 -- the parts in their order, blanks allowed between them
 unfoldable pub atom_at : Kind → List ℕ → Result Atom ℕ
@@ -23,15 +38,7 @@ atom_at kind text = do
   name ← name_at (behind is_blank text)
   qualifier ← qualifier_at name.1
   relation ← relation_at kind (behind is_blank qualifier.1)
-  archs ← archs_at kind (behind is_blank relation.1)
-  profiles ← profiles_at kind archs.1
-  Ok (record {
-    name = name.0;
-    qualifier = qualifier.0;
-    relation = relation.0;
-    archs = archs.0;
-    profiles = profiles;
-  })
+  limited_at kind name.0 qualifier.0 relation.0 (behind is_blank relation.1)
 
 -- of blanks alone
 abbrev pub is_empty_text : List ℕ → Bool

@@ -124,6 +124,23 @@ impl Atom {
         })
     }
 
+    /// Makes an alternative of a name and a relation alone.
+    pub(crate) fn bare(name: Vec<u8>, relation: Option<(Op, Version)>) -> Atom
+        ensures { result ≡ record {
+          name = name.items;
+          qualifier = None;
+          relation = relation;
+          archs = None;
+          profiles = [];
+        } }
+    {
+        Atom {
+            name,
+            relation,
+            limits: None,
+        }
+    }
+
     /// The qualifier behind the name.
     pub fn qualifier(&self) -> Option<&[u8]>
         ensures { option_map (λ q. q.now) result ≡ self.now.qualifier }

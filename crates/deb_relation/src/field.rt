@@ -1,23 +1,25 @@
 //! How a relation field is read.
 
-ghost use Rattle.std.specs.Prelude.{◌≡◌, ◌<◌, ◌≤◌, [], ◌∷◌, length, IfNone, IfOk, IfSome, Some};
+ghost use Rattle.std.specs.Prelude.{◌≡◌, ◌<◌, ◌≤◌, [], ◌∷◌, false, length, IfNone, IfOk, IfSome, Some};
 ghost use Rattle.std.specs.List.{list_any, slice_split};
 ghost use Rattle.std.specs.Option.{option_map};
 ghost use Rattle.deb_text.specs.Answers.{Gives};
-ghost use Rattle.deb_text.specs.Bytes.{is_byte};
-ghost use Rattle.deb_text.specs.Cuts.{length_left, parts_left};
+ghost use Rattle.deb_text.specs.Bytes.{is_byte, is_blank};
+ghost use Rattle.deb_text.specs.Cuts.{first_is, length_left, parts_left};
 ghost use Rattle.deb_text.specs.Steps.{traverse};
-ghost use Rattle.deb_relation.specs.Field.{atom_at, is_empty_text, alternative_at, entry_at, entries_left, relations_at, first_relations_at, only_judged};
+ghost use Rattle.deb_relation.specs.Field.{atom_at, limited_at, is_empty_text, alternative_at, entry_at, entries_left, relations_at, first_relations_at, only_judged};
 ghost use Rattle.deb_relation.specs.Marks.{bar};
 ghost use Rattle.deb_relation.specs.View.{refusal_of};
 
 use crate::atom::Atom;
 use crate::error::{ALTERNATIVES, NO_ALTERNATIVE, RelationError};
-use crate::grammar::{read_name, read_qualifier, read_relation};
+use crate::grammar::{cut_relation, read_name, read_qualifier, read_relation};
 use crate::kind::Kind;
 use crate::lists::{read_archs, read_profiles};
+use crate::operator::Op;
 use crate::relations::{Entry, Relations};
 use deb_text::{Class, all_in, cut_at_first, next_part, skip_front};
+use deb_version::Version;
 use std::alloc::{AllocError, Global};
 
 impl Relations {
@@ -81,7 +83,11 @@ impl Entry {
     pub fn parse(alloc: Global, text: &[u8], kind: Kind) -> Result<Entry, RelationError>
         ensures { Gives refusal_of (λ entry. entry) result (entry_at kind text.now) }
     {
-        if !kind.has_alternatives() && cut_at_first(b'|', text).is_some() {
+        // most entries have one alternative
+        let Some(_) = cut_at_first(b'|', text) else {
+            return Ok(Entry::from_alternatives(read_alternative(alloc, kind, text)?));
+        };
+        if !kind.has_alternatives() {
             return Err(RelationError { code: ALTERNATIVES });
         }
         Ok(Entry::from_alternatives(read_alternatives(alloc, kind, text)?))
@@ -97,7 +103,11 @@ impl Entry {
     pub fn judge(alloc: Global, text: &[u8], kind: Kind) -> Result<(), RelationError>
         ensures { Gives refusal_of (λ _. tt) result (only_judged (entry_at kind text.now)) }
     {
-        if !kind.has_alternatives() && cut_at_first(b'|', text).is_some() {
+        // most entries have one alternative
+        let Some(_) = cut_at_first(b'|', text) else {
+            return judge_alternative(alloc, kind, text);
+        };
+        if !kind.has_alternatives() {
             return Err(RelationError { code: ALTERNATIVES });
         }
         judge_alternatives(alloc, kind, text)
@@ -123,12 +133,31 @@ impl Atom {
     pub fn parse(alloc: Global, text: &[u8], kind: Kind) -> Result<Atom, RelationError>
         ensures { Gives refusal_of (λ atom. atom) result (alternative_at kind text.now) }
     {
-        if all_in(Class::Blank, text) {
+        let text = skip_front(Class::Blank, text);
+        if text.is_empty() {
             return Err(RelationError {
                 code: NO_ALTERNATIVE,
             });
         }
         read_atom(alloc, kind, text)
+    }
+
+    /// Judges one alternative of a field of a kind as [`parse`](Atom::parse) does, and keeps
+    /// nothing. The call takes no memory for a name, a qualifier and a relation.
+    ///
+    /// # Errors
+    ///
+    /// Those of [`parse`](Atom::parse). Nothing is left behind.
+    pub fn judge(alloc: Global, text: &[u8], kind: Kind) -> Result<(), RelationError>
+        ensures { Gives refusal_of (λ _. tt) result (only_judged (alternative_at kind text.now)) }
+    {
+        let text = skip_front(Class::Blank, text);
+        if text.is_empty() {
+            return Err(RelationError {
+                code: NO_ALTERNATIVE,
+            });
+        }
+        judge_atom(alloc, kind, text)
     }
 }
 
@@ -205,12 +234,30 @@ pub fn next_entry(text: Option<&[u8]>) -> Option<(&[u8], Option<&[u8]>)>
     None
 }
 
+/// Reads the alternative of an entry that has no other.
+fn read_alternative(alloc: Global, kind: Kind, text: &[u8]) -> Result<Vec<Atom>, RelationError>
+    ensures { Gives refusal_of (λ atoms. atoms.items) result
+        (traverse (alternative_at kind) (text.now ∷ [])) }
+{
+    let alternative = Atom::parse(alloc, text, kind)?;
+    let mut alternatives = Vec::with_capacity(alloc, 1)?;
+    alternatives.push(alternative)?;
+    Ok(alternatives)
+}
+
+fn judge_alternative(alloc: Global, kind: Kind, text: &[u8]) -> Result<(), RelationError>
+    ensures { Gives refusal_of (λ _. tt) result (only_judged
+        (traverse (alternative_at kind) (text.now ∷ []))) }
+{
+    Atom::judge(alloc, text, kind)?;
+    Ok(())
+}
+
 fn read_alternatives(alloc: Global, kind: Kind, text: &[u8]) -> Result<Vec<Atom>, RelationError>
     ensures { Gives refusal_of (λ atoms. atoms.items) result
         (traverse (alternative_at kind) (slice_split (is_byte bar) text.now)) }
 {
-    // most entries have one alternative
-    let mut alternatives = Vec::with_capacity(alloc, 1)?;
+    let mut alternatives = Vec::new(alloc);
     let mut left = Some(text);
     while let Some(rest) = left {
         let (piece, after) = next_part(b'|', rest);
@@ -227,24 +274,61 @@ fn judge_alternatives(alloc: Global, kind: Kind, text: &[u8]) -> Result<(), Rela
     let mut left = Some(text);
     while let Some(rest) = left {
         let (alternative, after) = next_part(b'|', rest);
-        Atom::parse(alloc, alternative, kind)?;
+        Atom::judge(alloc, alternative, kind)?;
         left = after;
     }
     Ok(())
 }
 
+/// Reads an alternative without blanks at its front.
 #[tactic(auto, unfolding(crate::specs::Field::atom_at))]
 fn read_atom(alloc: Global, kind: Kind, text: &[u8]) -> Result<Atom, RelationError>
+    requires { first_is is_blank text.now ≡ false }
     ensures { Gives refusal_of (λ atom. atom) result (atom_at kind text.now) }
 {
-    let (name, rest) = read_name(skip_front(Class::Blank, text))?;
+    let (name, rest) = read_name(text)?;
     let (qualifier, rest) = read_qualifier(rest)?;
     let (relation, rest) = read_relation(alloc, kind, skip_front(Class::Blank, rest))?;
-    let (archs, rest) = read_archs(alloc, kind, skip_front(Class::Blank, rest))?;
+    let rest = skip_front(Class::Blank, rest);
+    // most alternatives end here
+    if qualifier.is_none() && rest.is_empty() {
+        return Ok(Atom::bare(Vec::from_slice(alloc, name)?, relation));
+    }
+    read_limited(alloc, kind, name, qualifier, relation, rest)
+}
+
+/// Reads the restrictions of an alternative, whose other parts are read, to its end.
+#[inline(never)]
+fn read_limited(
+    alloc: Global,
+    kind: Kind,
+    name: &[u8],
+    qualifier: Option<&[u8]>,
+    relation: Option<(Op, Version)>,
+    text: &[u8],
+) -> Result<Atom, RelationError>
+    ensures { Gives refusal_of (λ atom. atom) result
+        (limited_at kind name.now (option_map (λ q. q.now) qualifier.entry) relation text.now) }
+{
+    let (archs, rest) = read_archs(alloc, kind, text)?;
     let profiles = read_profiles(alloc, kind, rest)?;
     let name = Vec::from_slice(alloc, name)?;
     let qualifier = copy_qualifier(alloc, qualifier)?;
     Ok(Atom::new(alloc, name, qualifier, relation, archs, profiles)?)
+}
+
+/// Judges an alternative without blanks at its front.
+#[tactic(auto, unfolding(crate::specs::Field::atom_at))]
+fn judge_atom(alloc: Global, kind: Kind, text: &[u8]) -> Result<(), RelationError>
+    requires { first_is is_blank text.now ≡ false }
+    ensures { Gives refusal_of (λ _. tt) result (only_judged (atom_at kind text.now)) }
+{
+    let (_, rest) = read_name(text)?;
+    let (_, rest) = read_qualifier(rest)?;
+    let (_, rest) = cut_relation(kind, skip_front(Class::Blank, rest))?;
+    let (_, rest) = read_archs(alloc, kind, skip_front(Class::Blank, rest))?;
+    read_profiles(alloc, kind, rest)?;
+    Ok(())
 }
 
 fn copy_qualifier(alloc: Global, text: Option<&[u8]>) -> Result<Option<Vec<u8>>, AllocError>

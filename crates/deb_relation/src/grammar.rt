@@ -13,7 +13,7 @@ use crate::error::{BAD_NAME, BAD_OPERATOR, BAD_VERSION, NOT_CLOSED, NOT_EQUAL, R
 use crate::kind::Kind;
 use crate::operator::Op;
 use deb_text::{Class, MEMORY, begins_with, skip_front, split_front};
-use deb_version::Version;
+use deb_version::{Version, is_version};
 use std::alloc::Global;
 
 /// Tells whether bytes of names, as they are here, make a name.
@@ -114,6 +114,18 @@ fn read_version(alloc: Global, text: &[u8]) -> Result<(Version, &[u8]), Relation
     }
 }
 
+/// Cuts off a version, and copies nothing.
+#[tactic(auto, unfolding(crate::specs::Grammar::version_in))]
+fn cut_version(text: &[u8]) -> Result<(&[u8], &[u8]), RelationError>
+    ensures { Gives refusal_of (λ part. (part.0.now, part.1.now)) result (version_in text.now) }
+{
+    let (version, rest) = split_front(Class::Version, text);
+    if !is_version(version) {
+        return Err(RelationError { code: BAD_VERSION });
+    }
+    Ok((version, rest))
+}
+
 fn skip_bracket(text: &[u8]) -> Result<&[u8], RelationError>
     ensures { Gives refusal_of (λ rest. rest.now) result (closed_at text.now) }
 {
@@ -142,6 +154,29 @@ pub fn read_relation(
         [b'(', rest @ ..] => {
             let (op, rest) = read_operator(kind, skip_front(Class::Blank, rest))?;
             let (version, rest) = read_version(alloc, skip_front(Class::Blank, rest))?;
+            let rest = skip_bracket(skip_front(Class::Blank, rest))?;
+            Ok((Some((op, version)), rest))
+        }
+        _ => Ok((None, text)),
+    }
+}
+
+/// Cuts off the relation to a version as [`read_relation`] does, and copies nothing. The call takes
+/// no memory.
+///
+/// # Errors
+///
+/// Those of [`read_relation`], but for 900.
+#[tactic(auto, unfolding(crate::specs::Grammar::relation_at))]
+pub fn cut_relation(kind: Kind, text: &[u8]) -> Result<(Option<(Op, &[u8])>, &[u8]), RelationError>
+    ensures { Gives refusal_of
+        (λ part. (option_map (λ relation. (relation.0, relation.1.now)) part.0, part.1.now)) result
+        (relation_at kind text.now) }
+{
+    match text {
+        [b'(', rest @ ..] => {
+            let (op, rest) = read_operator(kind, skip_front(Class::Blank, rest))?;
+            let (version, rest) = cut_version(skip_front(Class::Blank, rest))?;
             let rest = skip_bracket(skip_front(Class::Blank, rest))?;
             Ok((Some((op, version)), rest))
         }

@@ -4,6 +4,7 @@ ghost use Rattle.std.specs.Prelude.{◌≡◌, IsTrue};
 
 use crate::atom::Atom;
 use crate::operator::Op;
+use deb_text::is_same_text;
 use deb_version::Version;
 
 fn is_same_relation(a: &Option<(Op, Version)>, b: &Option<(Op, Version)>) -> bool
@@ -11,7 +12,7 @@ fn is_same_relation(a: &Option<(Op, Version)>, b: &Option<(Op, Version)>) -> boo
 {
     match (a, b) {
         (Some((op, bound)), Some((other, version))) => {
-            op == other && bound.text() == version.text()
+            op == other && is_same_text(bound.text(), version.text())
         }
         (None, None) => true,
         _ => false,
@@ -21,7 +22,10 @@ fn is_same_relation(a: &Option<(Op, Version)>, b: &Option<(Op, Version)>) -> boo
 fn is_same_atom(a: &Atom, b: &Atom) -> bool
     ensures { IsTrue result → a.now ≡ b.now }
 {
-    a.name == b.name && is_same_relation(&a.relation, &b.relation) && a.is_bare() && b.is_bare()
+    is_same_text(&a.name, &b.name)
+        && is_same_relation(&a.relation, &b.relation)
+        && a.is_bare()
+        && b.is_bare()
 }
 
 /// Tells whether two entries are known to be the same: they have the same alternatives, none of

@@ -9,6 +9,7 @@ pub mod files;
 mod lines;
 mod numbers;
 mod pieces;
+mod same;
 mod words;
 
 pub use classes::{Class, all_in, begins_with, has};
@@ -17,4 +18,5 @@ pub use fault::{Fault, MEMORY};
 pub use lines::{Line, is_blank_line, is_comment, next_line};
 pub use numbers::{is_number, number_of, read_number};
 pub use pieces::push_pieces;
+pub use same::is_same_text;
 pub use words::{is_head, is_name, is_word, next_word};

@@ -1,6 +1,6 @@
 //! The grammar of versions: the pieces of a text, and what is wrong with them.
 
-ghost use Rattle.std.specs.Prelude.{◌≡◌, ◌≤◌, nat_lt, true, false, MatchOption, Ok, Err, if◌then◌else◌};
+ghost use Rattle.std.specs.Prelude.{◌≡◌, ◌≤◌, nat_lt, true, false, not, MatchOption, Ok, Err, if◌then◌else◌};
 ghost use Rattle.std.specs.List.{list_all};
 ghost use Rattle.deb_text.specs.Answers.{Gives};
 ghost use Rattle.deb_text.specs.Bytes.{is_digit};
@@ -97,6 +97,17 @@ pub fn epoch_of(pieces: &Pieces) -> Result<u32, VersionError>
                 code: EPOCH_TOO_LARGE,
             }),
         },
+    }
+}
+
+/// Tells whether the epoch, if there is one, is at most [`MAX_EPOCH`].
+pub fn has_small_epoch(pieces: &Pieces) -> bool
+    requires { has_bad_byte (pieces_view pieces.now) ≡ false }
+    ensures { result ≡ not (nat_lt MAX_EPOCH (epoch_number (pieces_view pieces.now))) }
+{
+    match pieces.epoch {
+        None => true,
+        Some(digits) => number_of(digits).is_some(),
     }
 }
 

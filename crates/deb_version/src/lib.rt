@@ -10,4 +10,4 @@ mod version;
 pub use error::{BAD_CHARACTER, EMPTY_PART, EPOCH_TOO_LARGE, TOO_LONG, VersionError};
 pub use grammar::{MAX_EPOCH, MAX_LENGTH};
 pub use laws::{examples_are_in_order, order_is_total, parts_are_runs, ties_mean_same};
-pub use version::Version;
+pub use version::{Version, is_version};

@@ -1,6 +1,7 @@
 //! Versions of packages.
 
 ghost use Rattle.std.specs.Prelude.{◌≡◌, Ok, IfOk, refl};
+ghost use Rattle.std.specs.Result.{is_ok};
 ghost use Rattle.std.proofs.Common.{rules};
 ghost use Rattle.std.specs.Cmp.{partial_equiv_from_equiv, po};
 ghost use Rattle.std.specs.Cmp.Rules.{comparing};
@@ -13,9 +14,10 @@ ghost use Rattle.deb_version.specs.View.{refusal_of};
 
 use crate::error::{BAD_CHARACTER, EMPTY_PART, TOO_LONG, VersionError};
 use crate::grammar::{
-    MAX_LENGTH, cut_into_pieces, epoch_of, has_bad_byte, has_empty_piece, start_of,
+    MAX_LENGTH, cut_into_pieces, epoch_of, has_bad_byte, has_empty_piece, has_small_epoch, start_of,
 };
 use crate::order::compare_parts;
+use deb_text::is_same_text;
 use std::alloc::{AllocError, Global};
 use std::cmp::Ordering;
 use std::marker::Model;
@@ -96,7 +98,7 @@ impl Version {
     pub fn compare(&self, other: &Version) -> Ordering
         ensures order { result ≡ text_cmp self.now other.now }
     {
-        if self.text == other.text {
+        if is_same_text(&self.text, &other.text) {
             return Ordering::Equal;
         }
         match self.epoch.cmp(&other.epoch) {
@@ -127,6 +129,21 @@ impl Version {
             b"0"
         }
     }
+}
+
+/// Tells whether a text is read as a version. The call takes no memory.
+#[tactic(auto, unfolding(crate::specs::Grammar::version_at))]
+pub fn is_version(text: &[u8]) -> bool
+    ensures { result ≡ is_ok (version_at text.now) }
+{
+    if text.len() > MAX_LENGTH {
+        return false;
+    }
+    let pieces = cut_into_pieces(text);
+    if has_empty_piece(&pieces) || has_bad_byte(&pieces) {
+        return false;
+    }
+    has_small_epoch(&pieces)
 }
 
 impl Clone for Version {

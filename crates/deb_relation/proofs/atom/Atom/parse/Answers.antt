@@ -1,0 +1,17 @@
+use Rattle.std.proofs.Common.{sym, ◌∙◌}
+use Rattle.deb_relation.proofs.AtomLaws.{alternative-none, alternative-some, starts}
+use Rattle.deb_relation.proofs.atom.Atom.parse.Goals as goal
+
+pub returns-then-is_empty : goal.returns-then-is_empty
+returns-then-is_empty c =
+    alternative-none c.args.kind c.args.text.now c.skip_front-text.result.now
+    c.skip_front-text.ensures (sym c.is_empty.ensures ∙ c.if-is_empty.true)
+
+pub read_atom-requires : goal.read_atom-requires
+read_atom-requires c =
+    starts c.args.kind c.args.text.now c.skip_front-text.result.now c.skip_front-text.ensures
+
+pub returns : goal.returns
+returns c =
+    rw (alternative-some c.args.kind c.args.text.now c.skip_front-text.result.now
+    c.skip_front-text.ensures (sym c.is_empty.ensures ∙ c.if-is_empty.false)) c.read_atom.ensures
