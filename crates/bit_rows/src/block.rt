@@ -42,21 +42,31 @@ pub(crate) fn find(blocks: &[Block], place: usize) -> usize
     low
 }
 
-/// Finds the same by going over the blocks from an index on.
+/// Finds the same from an index on, in steps that double: of many blocks beside as many the next
+/// one is near, and of many beside a few it is far.
 pub(crate) fn seek(blocks: &[Block], from: usize, place: usize) -> usize
     requires ascending { IsAscending 0 blocks.now }
     requires bound { from ≤ length blocks.now }
     requires below { AreBelow place (take from blocks.now) }
     ensures { StandsAt result place blocks.now }
 {
-    let mut at = from;
-    while at < blocks.len() {
-        if blocks[at].place >= place {
-            return at;
+    let (mut low, mut high) = (from, blocks.len());
+    let mut middle = from;
+    let mut step = 0usize;
+    while low < high {
+        let here = blocks[middle].place;
+        if here == place {
+            return middle;
         }
-        at += 1;
+        if here < place {
+            low = middle + 1;
+        } else {
+            high = middle;
+        }
+        middle = low + step.min((high - low) / 2);
+        step = step.saturating_mul(2).saturating_add(1);
     }
-    at
+    low
 }
 
 /// Gives a word at or behind this one such that those between them are 0, or the number of words

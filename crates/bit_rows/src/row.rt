@@ -50,6 +50,23 @@ impl<A: Allocator> Row<A> {
         })
     }
 
+    /// Makes a row of `n` words, all 0, with room for the words of so many names. It decides the
+    /// time and not the answer.
+    ///
+    /// # Errors
+    ///
+    /// [`AllocError`] where memory is refused.
+    pub fn with_room(alloc: A, n: usize, names: usize) -> Result<Row<A>, AllocError>
+        ensures words { IfOk result (λ row. row ≡ replicate n 0) }
+        ensures set { IfOk result (λ row. HasNone (variants_of row)) }
+        ensures len { IfOk result (λ row. length row ≡ n) }
+    {
+        Ok(Row {
+            count: n,
+            blocks: Vec::with_capacity(alloc, names)?,
+        })
+    }
+
     /// Gives the number of words.
     pub fn len(&self) -> usize
         ensures { result ≡ length self.now }

@@ -101,6 +101,19 @@ impl Found {
         }
     }
 
+    /// No variant, with room for so many words.
+    ///
+    /// # Errors
+    ///
+    /// [`AllocError`] where memory is refused.
+    pub fn with_room(alloc: Global, count: usize) -> Result<Found, AllocError>
+        ensures { IfOk result (λ found. found ≡ []) }
+    {
+        Ok(Found {
+            words: Vec::with_capacity(alloc, count)?,
+        })
+    }
+
     /// The variants in the order in which they were found.
     pub fn words(&self) -> &[NumberWord]
         ensures { result.now ≡ self.now }

@@ -123,6 +123,17 @@ impl NameNumbers {
     {
         &self.variants[bit as usize]
     }
+
+    /// How many entries the variants have.
+    pub fn entries(&self) -> usize {
+        let mut count = 0usize;
+        for numbers in &self.variants {
+            count = count
+                .saturating_add(numbers.pre_depends.len())
+                .saturating_add(numbers.depends.len());
+        }
+        count
+    }
 }
 
 /// The numbers of the needs of a recipe.
@@ -156,7 +167,7 @@ impl<'a> Entries<'a> {
         ensures numbers { IfOk result (λ numbers. AllZip
             (λ a n. IsNumberOf self.new (a ∷ []) n) entry.now numbers.items) }
     {
-        let mut numbers = Vec::new(alloc);
+        let mut numbers = Vec::with_capacity(alloc, entry.alternatives().len())?;
         for atom in entry.alternatives() {
             numbers.push(self.number(slice::from_ref(atom))?)?;
         }
@@ -185,7 +196,7 @@ impl<'a> Entries<'a> {
         ensures numbers { IfOk result (λ numbers. AllZip
             (IsPreNumbers self.new) field.now numbers.items) }
     {
-        let mut numbers = Vec::new(alloc);
+        let mut numbers = Vec::with_capacity(alloc, field.entries().len())?;
         for entry in field.entries() {
             numbers.push(self.pre_entry(alloc, entry)?)?;
         }
@@ -198,7 +209,7 @@ impl<'a> Entries<'a> {
         ensures numbers { IfOk result (λ numbers. AllZip
             (IsNumberOf self.new) field.now numbers.items) }
     {
-        let mut numbers = Vec::new(alloc);
+        let mut numbers = Vec::with_capacity(alloc, field.entries().len())?;
         for entry in field.entries() {
             numbers.push(self.number(entry.alternatives())?)?;
         }
@@ -235,7 +246,7 @@ impl<'a> Entries<'a> {
         ensures numbers { IfOk result
             (AreValuesOfName universe.now (AreNumbers universe.now self.new) no_numbers name) }
     {
-        let mut variants = Vec::new(alloc);
+        let mut variants = Vec::with_capacity(alloc, variant_count(universe, name) as usize)?;
         for bit in 0..variant_count(universe, name) {
             variants.push(self.variant(alloc, universe, Variant { name, bit })?)?;
         }
@@ -256,7 +267,7 @@ impl<'a> Entries<'a> {
         ensures numbers { IfOk result
             (λ numbers. AreVariantNumbers universe.now self.new numbers.items) }
     {
-        let mut names = Vec::new(alloc);
+        let mut names = Vec::with_capacity(alloc, universe.names() as usize)?;
         for name in 0..universe.names() {
             names.push(self.name(alloc, universe, name)?)?;
         }
@@ -277,7 +288,7 @@ impl<'a> Entries<'a> {
         ensures numbers { IfOk result
             (λ numbers. AreNeeds universe.now self.new numbers.items) }
     {
-        let mut recipes = Vec::new(alloc);
+        let mut recipes = Vec::with_capacity(alloc, universe.recipes() as usize)?;
         for number in 0..universe.recipes() {
             let needs = self.field(alloc, universe.recipe(number).needs())?;
             recipes.push(Needs { needs })?;

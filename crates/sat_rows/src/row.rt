@@ -65,7 +65,7 @@ pub fn row_of_found(alloc: Global, universe: &Universe, found: &Found) -> Result
         → IsRowOf universe.now p row) }
     ensures len { IfOk result (λ row. length row ≡ names universe.now) }
 {
-    let mut row = Row::new(alloc, universe.names() as usize)?;
+    let mut row = Row::with_room(alloc, universe.names() as usize, found.words().len())?;
     for found in found.words() {
         add_word(&mut row, found.number, found.word)?;
     }

@@ -8,14 +8,34 @@ ghost use Rattle.sat_rows.specs.Links.{nth_list, AreTurned};
 use crate::found::Found;
 use std::alloc::{AllocError, Global};
 
-/// So many empty lists.
-fn empty_lists(alloc: Global, count: usize) -> Result<Vec<Found>, AllocError>
-    ensures long { IfOk result (λ lists. length lists.items ≡ count) }
+/// Counts the words of a list under their numbers.
+fn count_words(counts: &mut [usize], found: &Found) {
+    for at in found.words() {
+        if let Some(count) = counts.get_mut(at.number) {
+            *count = count.saturating_add(1);
+        }
+    }
+}
+
+/// How many words lists have under each of so many numbers.
+fn counts(alloc: Global, lists: &[Found], count: usize) -> Result<Vec<usize>, AllocError>
+    ensures { IfOk result (λ counts. length counts.items ≡ count) }
+{
+    let mut counts = vec![in alloc; 0usize; count]?;
+    for place in 0..lists.len() {
+        count_words(&mut counts, &lists[place]);
+    }
+    Ok(counts)
+}
+
+/// An empty list for each count, with room for as many words: most have few, and would grow often.
+fn empty_lists(alloc: Global, counts: &[usize]) -> Result<Vec<Found>, AllocError>
+    ensures long { IfOk result (λ lists. length lists.items ≡ length counts.now) }
     ensures none { IfOk result (λ lists. (j : ℕ) → nth_list lists.items j ≡ []) }
 {
-    let mut lists = Vec::new(alloc);
-    for number in 0..count {
-        lists.push(Found::new(alloc))?;
+    let mut lists = Vec::with_capacity(alloc, counts.len())?;
+    for number in 0..counts.len() {
+        lists.push(Found::with_room(alloc, counts[number])?)?;
     }
     Ok(lists)
 }
@@ -54,7 +74,8 @@ fn put_all(lists: &mut Vec<Found>, found: &Found, number: usize) -> Result<(), A
 pub fn turned(alloc: Global, lists: &[Found], count: usize) -> Result<Vec<Found>, AllocError>
     ensures { IfOk result (λ turned. AreTurned lists.now count turned.items) }
 {
-    let mut turned = empty_lists(alloc, count)?;
+    let counts = counts(alloc, lists, count)?;
+    let mut turned = empty_lists(alloc, &counts)?;
     for number in 0..lists.len() {
         put_all(&mut turned, &lists[number], number)?;
     }

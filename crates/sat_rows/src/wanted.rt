@@ -70,7 +70,7 @@ fn wanted_name(
         → AreValuesOfName universe.now (AreNumbers universe.now entries) no_numbers name numbers.now
         → IfOk result (IsNumbered universe.now wanted entries name (variants universe.now name)) }
 {
-    let mut found = Found::new(alloc);
+    let mut found = Found::with_room(alloc, numbers.entries())?;
     for bit in 0..variant_count(universe, name) {
         note(&mut found, bit, numbers.variant(bit))?;
     }
@@ -92,7 +92,7 @@ pub fn all_wanted(
         → IfOk result (λ lists. AreNumbered universe.now wanted entries (names universe.now)
         lists.items) }
 {
-    let mut lists = Vec::new(alloc);
+    let mut lists = Vec::with_capacity(alloc, universe.names() as usize)?;
     for name in 0..universe.names() {
         lists.push(wanted_name(alloc, universe, name, &numbers[name as usize])?)?;
     }

@@ -10,7 +10,7 @@ use Rattle.sat_rows.proofs.wanted.wanted_name.Goals as goal
 
 pub loop-bit-init : goal.loop-bit-init
 loop-bit-init c entries are =
-    subst (IsNumbered c.args.universe.now wanted entries c.args.name 0) (sym c.new-found.ensures)
+    subst (IsNumbered c.args.universe.now wanted entries c.args.name 0) (sym c.in_ok-found.ensures)
     (numbered_none c.args.universe.now wanted entries c.args.name)
 
 pub loop-bit-preserved : goal.loop-bit-preserved
