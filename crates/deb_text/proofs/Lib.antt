@@ -8,7 +8,6 @@ pub mod ListLaws
 pub mod NumberLaws
 pub mod PartLaws
 pub mod PlaceLaws
-pub mod SearchLaws
 pub mod StepLaws
 pub mod TestLaws
 pub mod WordLaws

@@ -3,13 +3,16 @@
 ghost use Rattle.std.specs.Prelude.{◌≡◌, ◌+◌, ◌<◌, ◌≤◌, ◌∷◌, true, false, length, IfSome, IfNone};
 ghost use Rattle.std.specs.List.{list_any, prefix_len, slice_split};
 ghost use Rattle.std.specs.Option.{option_map};
+ghost use Rattle.memchr.specs.Find.{IsFirstByte};
 ghost use Rattle.deb_text.specs.Bytes.{is_byte};
 ghost use Rattle.deb_text.specs.Classes.{in_class};
 ghost use Rattle.deb_text.specs.Cuts.{before, after, before_last, after_last, front, behind, length_left, parts_left, trimmed, without_end};
 
 use crate::classes::{Class, has};
-use crate::search::first_place;
-use memchr::memrchr;
+use memchr::{memchr, memrchr};
+
+/// A text of fewer bytes is searched byte by byte.
+const MANY: usize = 32;
 
 /// Cuts a text at the first such byte: gives what stands before it and what stands after it.
 pub fn cut_at_first(byte: u8, text: &[u8]) -> Option<(&[u8], &[u8])>
@@ -21,6 +24,28 @@ pub fn cut_at_first(byte: u8, text: &[u8]) -> Option<(&[u8], &[u8])>
 {
     let at = first_place(byte, text)?;
     Some((&text[..at], &text[at + 1..]))
+}
+
+/// The place of the first such byte.
+fn first_place(byte: u8, text: &[u8]) -> Option<usize>
+    ensures { IsFirstByte (is_byte byte) text.now result }
+{
+    if text.len() < MANY {
+        first_place_by_bytes(byte, text)
+    } else {
+        memchr(byte, text)
+    }
+}
+
+fn first_place_by_bytes(byte: u8, text: &[u8]) -> Option<usize>
+    ensures { IsFirstByte (is_byte byte) text.now result }
+{
+    for (place, b) in text.iter().enumerate() {
+        if *b == byte {
+            return Some(place);
+        }
+    }
+    None
 }
 
 /// Cuts a text at the last such byte: gives what stands before it and what stands after it.

@@ -10,7 +10,6 @@ mod lines;
 mod numbers;
 mod pieces;
 mod same;
-mod search;
 mod words;
 
 pub use classes::{Class, all_in, begins_with, has};

@@ -4,7 +4,7 @@ ghost use Rattle.std.specs.Prelude.{◌≡◌, ◌+◌, ◌<◌, ◌≤◌, [], 
 ghost use Rattle.deb_text.specs.Lines.{lines_of, is_comment, is_blank_line};
 
 use crate::classes::{Class, all_in};
-use crate::search::first_place;
+use memchr::memchr;
 
 /// A line without its newline. Numbers count from 1, comments and blank lines too.
 #[derive(Clone, Copy, Debug)]
@@ -27,7 +27,7 @@ pub fn next_line(text: &[u8]) -> Option<(&[u8], &[u8])>
     if text[0] == b'\n' {
         return Some((&text[..0], &text[1..]));
     }
-    match first_place(b'\n', text) {
+    match memchr(b'\n', text) {
         Some(end) => Some((&text[..end], &text[end + 1..])),
         None => Some((text, &text[text.len()..])),
     }

@@ -1,5 +1,5 @@
 use Rattle.std.proofs.Common.{◌≢◌, ℕ, ◌<◌, get_or}
-use Rattle.deb_text.proofs.search.first_place_by_bytes.Given as goal
+use Rattle.deb_text.proofs.cuts.first_place_by_bytes.Given as goal
 
 -- the byte does not stand before
 abbrev pub invariant-loop-place : goal.invariant-loop-place
