@@ -26,8 +26,7 @@ pub struct Pieces<'a> {
     pub revision: Option<&'a [u8]>,
 }
 
-/// Cuts a text into its pieces. A call would cost more than the short texts that it is mostly for.
-#[inline(always)]
+/// Cuts a text into its pieces.
 pub fn cut_into_pieces(text: &[u8]) -> Pieces<'_>
     ensures { pieces_view result ≡ pieces_of text.now }
 {
@@ -67,7 +66,6 @@ pub fn has_empty_piece(pieces: &Pieces) -> bool
 }
 
 /// Tells whether a piece has a byte that it may not have.
-#[inline(always)]
 pub fn has_bad_byte(pieces: &Pieces) -> bool
     ensures { result ≡ has_bad_byte (pieces_view pieces.now) }
 {
