@@ -37,8 +37,8 @@ impl Relations {
     }
 
     /// Reads a relation field of a kind as [`parse`](Relations::parse) does, and keeps no more
-    /// than the first `most` of its entries. What stands behind them is judged, and takes the
-    /// memory of one alternative.
+    /// than the first `most` of its entries. What stands behind them is judged, and takes memory
+    /// for the restrictions of one alternative alone.
     ///
     /// # Errors
     ///
@@ -57,8 +57,8 @@ impl Relations {
     }
 
     /// Judges a relation field of a kind as [`parse`](Relations::parse) does, and keeps nothing:
-    /// a field that is judged well is read wherever memory is given. The call takes the memory of
-    /// one alternative.
+    /// a field that is judged well is read wherever memory is given. The call takes memory for the
+    /// restrictions of one alternative alone.
     ///
     /// # Errors
     ///
@@ -94,7 +94,7 @@ impl Entry {
     }
 
     /// Judges one entry of a field of a kind as [`parse`](Entry::parse) does, and keeps nothing.
-    /// The call takes the memory of one alternative.
+    /// The call takes memory for the restrictions of one alternative alone.
     ///
     /// # Errors
     ///
@@ -143,7 +143,7 @@ impl Atom {
     }
 
     /// Judges one alternative of a field of a kind as [`parse`](Atom::parse) does, and keeps
-    /// nothing. The call takes no memory for a name, a qualifier and a relation.
+    /// nothing. The call takes memory for its restrictions alone.
     ///
     /// # Errors
     ///
@@ -196,7 +196,7 @@ fn read_first(
 }
 
 /// Judges the entries of what is left of a relation field of a kind, and keeps nothing. The call
-/// takes the memory of one alternative.
+/// takes memory for the restrictions of one alternative alone.
 ///
 /// # Errors
 ///
