@@ -50,7 +50,7 @@ all_below v w (x ∷ xs) vw all =
 
 -- ---- a package above the last one
 
-not_same : (v w : Package) → is_below w v ≡ true → is_same v w ≡ false
+pub not_same : (v w : Package) → is_below w v ≡ true → is_same v w ≡ false
 not_same v w below = rw (text_cmp_total.antisymm v.version w.version, lt-less _ below) refl
 
 not_below : (v w : Package) → is_below w v ≡ true → is_below v w ≡ false

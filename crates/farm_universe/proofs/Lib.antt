@@ -19,3 +19,4 @@ pub mod AmongLaws
 pub mod OnceLaws
 pub mod PartLaws
 pub mod TablePartLaws
+pub mod WrittenLaws

@@ -3,6 +3,7 @@
 ghost use Rattle.std.specs.Prelude.{◌≡◌, ◌<◌, IfSome, IfOk, IfErr, OnOk, None, Ok, All, position, length, set, []};
 ghost use Rattle.std.specs.List.{list_any};
 ghost use Rattle.std.specs.Option.{option_map};
+ghost use Rattle.std.specs.Str.{bytes_eq};
 ghost use Rattle.deb_text.specs.Answers.{Gives};
 ghost use Rattle.deb_relation.specs.declared.kind.Kind.TheVariants.{Provide};
 ghost use Rattle.deb_relation.specs.Field.{only_judged, relations_at};
@@ -10,7 +11,7 @@ ghost use Rattle.farm_universe.specs.FarmSteps.{add_item, word_set, taken_with};
 ghost use Rattle.farm_universe.specs.ListText.{has_version, find_variant, pinned, variant_at, list_at};
 ghost use Rattle.farm_universe.specs.FarmView.{AreDifferent, AreListed, AreTableWords, IsPlace};
 ghost use Rattle.farm_model.specs.Packages.{contains, has_bit, same};
-ghost use Rattle.farm_universe.specs.TableView.{table_view, IsFit};
+ghost use Rattle.farm_universe.specs.TableView.{table_view, IsFit, Rises};
 ghost use Rattle.farm_universe.specs.View.{refusal_of};
 
 use crate::binary::Package;
@@ -34,11 +35,34 @@ fn has_version(version: &Version, binary: &Package) -> bool
     version.compare(binary.version()).is_eq()
 }
 
-/// The place of a version among the packages of a name.
+/// Tells whether two texts are the same. Versions are short.
+fn is_same_text(text: &[u8], other: &[u8]) -> bool
+    ensures { result ≡ bytes_eq text.now other.now }
+{
+    text.len() == other.len() && text.iter().eq(other.iter())
+}
+
+/// The place of the package whose version is written so.
+fn written_at(packages: &[Package], version: &Version) -> Option<usize>
+    ensures bit { result ≡ position (λ p. bytes_eq p.version version.now) packages.now }
+    ensures within { IfSome result (λ bit. bit < length packages.now) }
+{
+    packages
+        .iter()
+        .position(|binary| is_same_text(binary.version().text(), version.text()))
+}
+
+/// The place of a version among the packages of a name. A list mostly writes it as its package does,
+/// and no two of them have the same, so that the others need not be compared.
 fn bit_of(packages: &[Package], version: &Version) -> Option<usize>
+    requires { Rises packages.now }
     ensures bit { result ≡ position (has_version version.now) packages.now }
     ensures within { IfSome result (λ bit. bit < length packages.now) }
 {
+    let written = written_at(packages, version);
+    if written.is_some() {
+        return written;
+    }
     packages
         .iter()
         .position(|binary| has_version(version, binary))
@@ -210,7 +234,7 @@ pub fn read_with_words(
 
 /// The length in bytes from which words are kept while a list is read. They are as many as there
 /// are names, so in a shorter text each item is compared with those ahead of it.
-const LONG_LIST: usize = 512;
+const LONG_LIST: usize = 4096;
 
 /// Tells whether two variants are the same.
 #[tactic(auto, unfolding(farm_model::specs::Packages::same))]
