@@ -17,6 +17,7 @@ pub mod SizeLaws
 pub mod OutputLaws
 pub mod AmongLaws
 pub mod OnceLaws
+pub mod BareLaws
 pub mod PartLaws
 pub mod TablePartLaws
 pub mod WrittenLaws

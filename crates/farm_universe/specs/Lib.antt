@@ -13,6 +13,7 @@ pub mod TableView
 pub mod TableParts
 pub mod ListText
 pub mod Land
+pub mod Bare
 pub mod RecipeText
 pub mod RecipeSteps
 pub mod BaseText

@@ -3,13 +3,14 @@
 ghost use Rattle.std.specs.Prelude.{◌≡◌, ◌≤◌, true, nat_le, ◌-◌, SomeIff, OnOk, IfOk, position, length};
 ghost use Rattle.std.specs.List.{list_all, list_any, position_or_len};
 ghost use Rattle.deb_text.specs.Groups.{in_order};
+ghost use Rattle.farm_universe.specs.Bare.{AllStayWhole};
 ghost use Rattle.farm_universe.specs.Land.{reduced_package};
 ghost use Rattle.farm_universe.specs.PackagesText.{entry_count, is_below, is_same};
 ghost use Rattle.farm_universe.specs.TableView.{Rises};
 
 use crate::limits::MOST_ENTRIES;
 use crate::reduction::reduce_relations;
-use deb_profile::ArchNames;
+use deb_profile::{ArchNames, is_bare};
 use deb_relation::Relations;
 use deb_version::Version;
 use std::alloc::{AllocError, AllocFailed, Global};
@@ -32,10 +33,15 @@ pub struct Package {
     size: u64,
     essential: bool,
     relations: PackageRelations,
+    /// That the fields stay as they are in a reduction. This is found out as they are read, while
+    /// they are at hand.
+    is_whole: bool,
 }
 
 impl Model for Package {
+    ghost use Rattle.std.specs.Prelude.{◌≡◌, true};
     ghost use Rattle.farm_model.specs.Universe as universe;
+    ghost use Rattle.farm_universe.specs.Bare.{AllStayWhole};
 
     ghost Value = { universe.Package };
 
@@ -49,6 +55,8 @@ impl Model for Package {
       breaks = p.relations.breaks;
       provides = p.relations.provides;
     } };
+
+    ghost invariant = { λ p. p.is_whole ≡ true → AllStayWhole p.relations };
 }
 
 impl Package {
@@ -69,6 +77,7 @@ impl Package {
             version,
             size,
             essential,
+            is_whole: all_stay_whole(&relations),
             relations,
         }
     }
@@ -112,10 +121,13 @@ impl Package {
     /// # Errors
     ///
     /// Where memory is refused. Some of the fields are then reduced.
-    #[tactic(auto, unfolding(crate::specs::Land::reduced_package))]
+    #[tactic(auto, using(crate::proofs::BareLaws::stays_whole), unfolding(crate::specs::Land::reduced_package))]
     pub fn reduce(&mut self, alloc: Global, architectures: &ArchNames) -> Result<(), AllocError>
         ensures { IfOk result (λ _. self.new ≡ reduced_package architectures.now self.old) }
     {
+        if self.is_whole {
+            return Ok(());
+        }
         reduce_relations(alloc, &mut self.relations, architectures)
     }
 
@@ -144,6 +156,18 @@ impl Package {
             + relations.breaks.len()
             + relations.provides.len()
     }
+}
+
+/// Tells whether all fields stay as they are in a reduction: nothing in them could go.
+#[tactic(auto, unfolding(crate::specs::Land::reduced_field))]
+fn all_stay_whole(relations: &PackageRelations) -> bool
+    ensures { result ≡ true → AllStayWhole relations.now }
+{
+    is_bare(&relations.pre_depends)
+        && is_bare(&relations.depends)
+        && is_bare(&relations.conflicts)
+        && is_bare(&relations.breaks)
+        && is_bare(&relations.provides)
 }
 
 /// What is left of some room behind the entries of a field, if they fit in it.
