@@ -125,6 +125,13 @@ impl Relations {
     {
         &self.entries
     }
+
+    /// Takes the entries out.
+    pub fn into_entries(self) -> Vec<Entry>
+        ensures { result.items ≡ self }
+    {
+        self.entries
+    }
 }
 
 impl Clone for Relations {
