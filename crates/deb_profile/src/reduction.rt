@@ -120,8 +120,12 @@ pub fn reduce_entry(
     Ok(Entry::from_alternatives(left))
 }
 
-/// Strips an entry to what is left of it. One of which nothing goes stays as it is.
-fn strip_entry(
+/// Strips an entry to what [`reduce_entry`] leaves of it. One of which nothing goes stays as it is.
+///
+/// # Errors
+///
+/// Where memory is refused. Nothing is left behind.
+pub fn strip_entry(
     alloc: Global,
     entry: Entry,
     names: &ArchNames,
