@@ -47,9 +47,7 @@ fn written_at(packages: &[Package], version: &Version) -> Option<usize>
     ensures bit { result ≡ position (λ p. bytes_eq p.version version.now) packages.now }
     ensures within { IfSome result (λ bit. bit < length packages.now) }
 {
-    packages
-        .iter()
-        .position(|binary| is_same_text(binary.version().text(), version.text()))
+    packages.iter().position(|binary| is_same_text(binary.version().text(), version.text()))
 }
 
 /// The place of a version among the packages of a name. A list mostly writes it as its package does,
