@@ -118,9 +118,7 @@ fn push_reduced(
     ensures memory { IfErr result (λ e. refusal_of e ≡ None) }
 {
     let left = field.reduce(alloc, names, profiles, KEPT_ENTRIES - entries.len())?;
-    for entry in left.entries() {
-        entries.push(entry.clone()?)?;
-    }
+    entries.append(&mut left.into_entries())?;
     Ok(())
 }
 

@@ -1,4 +1,4 @@
-use Rattle.std.proofs.Common.{◌≡◌, ◌-◌, ◌++◌, List, arith, ap, ◌∙◌, take_all}
+use Rattle.std.proofs.Common.{◌-◌, ◌++◌, List, arith, ap, ◌∙◌}
 use Rattle.deb_profile.specs.Reduction.{reduced}
 use Rattle.deb_relation.specs.Relations.{Entry}
 use Rattle.farm_universe.specs.declared.limits.TheConstants.{KEPT_ENTRIES}
@@ -8,12 +8,8 @@ use Rattle.farm_universe.proofs.build.push_reduced.Goals as goal
 pub returns-clause-entries : goal.returns-clause-entries
 returns-clause-entries c =
     let given : List Entry = c.args.entries.now.items in
-    let pushed : c.loop-entry.entries.items ≡ given ++ c.in_ok-left.left =
-    c.loop-entry.invariant
-    ∙ ap (λ more. given ++ more)
-    (take_all _ _ c.loop-entry-test.false ∙ c.entries-entry-items.ensures) in
-    pushed
-    ∙ ap (λ more. given ++ more) c.in_ok-left.ensures.left
+    c.in_ok-append.ensures.items
+    ∙ ap (λ more. given ++ more) (c.into_entries.ensures ∙ c.in_ok-left.ensures.left)
     ∙ first-behind (KEPT_ENTRIES - c.len.result) given
     (reduced c.args.names.now c.args.profiles.now c.args.field.now)
     (omega (arith, c.len.ensures, c.requires))

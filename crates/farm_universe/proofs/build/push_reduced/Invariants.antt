@@ -1,6 +1,0 @@
-use Rattle.std.proofs.Common.{◌≡◌, ◌++◌, take}
-use Rattle.farm_universe.proofs.build.push_reduced.Given as goal
-
-abbrev pub invariant-loop-entry : goal.invariant-loop-entry
-invariant-loop-entry l = l.entries.items ≡ l.initial.entries.items
-    ++ take l.entry-index l.entry-items
