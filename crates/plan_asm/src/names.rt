@@ -4,6 +4,7 @@ ghost use Rattle.std.specs.Prelude.{◌≡◌, ◌<◌, [], length, All, IfOk};
 ghost use Rattle.deb_text.specs.Answers.{Gives};
 ghost use Rattle.deb_text.specs.Steps.{traverse};
 ghost use Rattle.deb_text.specs.Words.{words};
+ghost use Rattle.farm_model.specs.Chroot.{member};
 ghost use Rattle.farm_model.specs.Packages.{names};
 ghost use Rattle.plan_asm.specs.Drafts.{known_name, known_base, known_recipe, recipe_names, set_of, instruction_of};
 ghost use Rattle.plan_asm.specs.RecipeNumbers.{AreFirstPlaces};
@@ -110,12 +111,18 @@ fn finds_double(numbers: &[u32], seen: &mut [bool]) -> bool
     false
 }
 
+fn is_among(numbers: &[u32], number: u32) -> bool
+    ensures { result ≡ member numbers.now number }
+{
+    numbers.iter().any(|other| *other == number)
+}
+
 /// Tells whether a number stands twice, by comparing each with those behind it.
 fn stands_twice(numbers: &[u32]) -> bool
     ensures { result ≡ has_double numbers.now }
 {
     for i in 0..numbers.len() {
-        if numbers[i + 1..].contains(&numbers[i]) {
+        if is_among(&numbers[i + 1..], numbers[i]) {
             return true;
         }
     }
