@@ -15,7 +15,7 @@ ghost use Rattle.plan_asm.specs.View.{wording_of};
 
 use crate::error::LineError;
 use crate::form::Wording;
-use deb_profile::{ProfileSet, reduce_entry};
+use deb_profile::{ProfileSet, strip_entry};
 use deb_text::next_word;
 use farm_universe::Universe;
 use indexmap::IndexMap;
@@ -191,7 +191,7 @@ pub fn read_instruction(
         Wording::Publish(recipe) => Ok(Instruction::Publish(known_recipe(names, recipe)?)),
         Wording::Wait(entry) => {
             let none = ProfileSet::none(alloc);
-            let left = reduce_entry(alloc, &entry, universe.arch_names(), &none)?;
+            let left = strip_entry(alloc, entry, universe.arch_names(), &none)?;
             Ok(Instruction::Wait(left))
         }
         Wording::When { name, relation } => Ok(Instruction::When {
