@@ -17,6 +17,6 @@ pub mod WriteLaws
 pub mod Landings
 pub mod Noted
 pub mod PutLaws
-pub mod UnpackLaws
 pub mod PlaceLaws
 pub mod PartLaws
+pub mod WordTests

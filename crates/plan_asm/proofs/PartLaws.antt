@@ -3,7 +3,7 @@ use Rattle.std.proofs.Common.{◌≡◌, ℕ, zero, suc, ◌+◌, ◌*◌, ◌<�
 use Rattle.std.specs.Prelude.{codes, if◌then◌else◌}
 use Rattle.std.specs.List.{AllZip, range_with_len}
 use Rattle.std.specs.declared.alloc.AllocError.{AllocError}
-use Rattle.std.proofs.lemmas.List.{drop-drop}
+use Rattle.std.proofs.lemmas.List.{drop-drop, get_or-drop}
 use Rattle.deb_text.specs.Answers.{fault_at}
 use Rattle.deb_text.specs.Lines.{Line}
 use Rattle.deb_text.specs.Steps.{◌>>=◌}
@@ -11,10 +11,14 @@ use Rattle.deb_text.specs.Words.{is_head}
 use Rattle.farm_model.specs.Universe.{Universe}
 use Rattle.plan_asm.specs.declared.error.LineError.{LineError}
 use Rattle.plan_asm.specs.declared.said.Said.{Said}
+use Rattle.plan_asm.specs.declared.said.Said.TheVariants as said
+use Rattle.plan_asm.specs.declared.said.Standing.{Standing}
 use Rattle.plan_asm.specs.declared.error.TheConstants.{FILE, NO_PLAN}
 use Rattle.plan_asm.specs.Drafts.{Reading}
 use Rattle.plan_asm.specs.Parts.{Says, AreSaidByLines, IsPartSaid, ArePartsSaid, behind_head}
 use Rattle.plan_asm.specs.PlanText.{reading_of, end_of, plan_in}
+use Rattle.plan_asm.specs.Said.{InstructionSaid, said_at}
+use Rattle.plan_model.specs.declared.instructions.Instruction.{Instruction}
 
 module _ (u : Universe) where
   abbrev Answer : Type 0
@@ -45,6 +49,27 @@ module _ (u : Universe) where
   next-said (line ∷ ls) [] r lt all says = (says, tt)
   next-said (line ∷ ls) (s ∷ rs) r lt all says =
       (all.0, next-said ls rs r (omega (arith, lt)) all.1 says)
+
+  -- what a line says of those that are said
+  pub said-there : (ls : List Line) (rs : List Answer) (k : ℕ) (d : Answer) → k < length rs
+      → AreSaidByLines u ls rs → Says u (get_or ls k (0, [])) (get_or rs k d)
+  said-there ls [] k d lt all = absurd (omega (arith, lt))
+  said-there [] (r ∷ rs) k d lt all = absurd all
+  said-there (line ∷ ls) (r ∷ rs) zero d lt all = all.0
+  said-there (line ∷ ls) (r ∷ rs) (suc k) d lt all =
+      said-there ls rs k d (omega (arith, lt)) all.1
+
+  -- a line that is the same as one of these says the same instruction
+  pub says-again : (ls : List Line) (first : ℕ) (rs : List Answer) (k : ℕ) (r : Answer)
+      (text : List ℕ) (standing : Standing) (x : Instruction) → k < length rs → r ≡ get_or rs k r
+      → r ≡ Ok (said.Instruction standing (Ok x)) → (get_or ls (first + k) (0, [])).1 ≡ text
+      → AreSaidByLines u (drop first ls) rs → said_at u text ≡ Ok (InstructionSaid standing (Ok x))
+  says-again ls first rs k r text standing x lt here is same all =
+      let there = said-there (drop first ls) rs k r lt all in
+      let says : Says u (get_or ls (first + k) (0, [])) r =
+      rw (← get_or-drop first ls k (0, []), here) there in
+      subst (λ t. said_at u t ≡ Ok (InstructionSaid standing (Ok x))) same
+      (subst (Says u (get_or ls (first + k) (0, []))) is says)
 
   -- the parts that several threads read, by their numbers
   parts-from : (n a count : ℕ) (ls : List Line) (parts : List (Result (List Answer) AllocError))

@@ -14,4 +14,3 @@ pub mod Landings
 pub mod RecipeNumbers
 pub mod Said
 pub mod Parts
-pub mod Unpacks

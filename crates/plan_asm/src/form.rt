@@ -1,10 +1,11 @@
 //! A line of a plan by itself.
 
-ghost use Rattle.std.specs.Prelude.{◌≡◌};
-ghost use Rattle.std.specs.List.{list_all};
+ghost use Rattle.std.specs.Prelude.{◌≡◌, ◌||◌, not};
+ghost use Rattle.std.specs.List.{list_all, list_any};
 ghost use Rattle.deb_relation.specs.Field.{alternative_at, entry_at};
 ghost use Rattle.std.specs.Option.{option_map};
 ghost use Rattle.deb_text.specs.Answers.{Gives, refusal_code};
+ghost use Rattle.deb_text.specs.Bytes.{is_blank, is_word_byte};
 ghost use Rattle.deb_text.specs.Words.{words, is_word};
 ghost use Rattle.plan_asm.specs.declared.error.TheConstants.{BAD_LINE};
 ghost use Rattle.plan_asm.specs.Forms.{first_word, behind_word, form_at, form_by, wording_by, lane_form, end_form, else_form};
@@ -13,6 +14,7 @@ ghost use Rattle.plan_asm.specs.LineErrors.{refusal_of_line};
 ghost use Rattle.plan_asm.specs.View.{wording_of, form_of};
 
 use crate::error::LineError;
+use crate::same::is_same;
 use deb_relation::{Atom, Entry, Kind, Op, RelationError};
 use deb_text::{Class, MEMORY, is_word, next_word, read_number, skip_front, split_front};
 use deb_version::Version;
@@ -161,12 +163,7 @@ fn read_else<'a>(text: &[u8]) -> Result<Wording<'a>, LineError>
     Ok(Wording::Else)
 }
 
-/// Reads what stands behind `unpack`: a name, and perhaps a relation to a version.
-///
-/// # Errors
-///
-/// [`BadLine`](LineError::BadLine) where it is anything else. 900 where memory ran out.
-pub fn read_unpack<'a>(alloc: Global, text: &[u8]) -> Result<Wording<'a>, LineError>
+fn read_unpack<'a>(alloc: Global, text: &[u8]) -> Result<Wording<'a>, LineError>
     ensures { Gives refusal_of_line wording_of result (unpack_form text.now) }
 {
     let piece = read_piece(alloc, text)?;
@@ -208,17 +205,27 @@ fn one_word(text: &[u8]) -> Result<&[u8], LineError>
     Ok(word)
 }
 
+/// Tells whether a byte is one of `< > ! , | ( ) [ ]`: neither of a word nor a blank.
+const fn is_outside_words(b: u8) -> bool
+    ensures { result ≡ not (is_word_byte b || is_blank b) }
+{
+    matches!(
+        b,
+        b'<' | b'>' | b'!' | b',' | b'|' | b'(' | b')' | b'[' | b']'
+    )
+}
+
+fn has_outside_words(text: &[u8]) -> bool
+    ensures { result ≡ list_any (λ b. not (is_word_byte b || is_blank b)) text.now }
+{
+    text.iter().any(|b| is_outside_words(*b))
+}
+
+/// Tells whether all that stands between blanks are words. They are not cut for it.
 fn are_words(text: &[u8]) -> bool
     ensures { result ≡ list_all is_word (words text.now) }
 {
-    let mut rest = text;
-    while let Some((word, after)) = next_word(rest) {
-        if !is_word(word) {
-            return false;
-        }
-        rest = after;
-    }
-    true
+    !has_outside_words(text)
 }
 
 fn some_words(text: &[u8]) -> Result<&[u8], LineError>
@@ -234,45 +241,39 @@ fn some_words(text: &[u8]) -> Result<&[u8], LineError>
 fn read_wording<'a>(alloc: Global, word: &[u8], rest: &'a [u8]) -> Result<Wording<'a>, LineError>
     ensures { Gives refusal_of_line wording_of result (wording_by word.now rest.now) }
 {
-    if word == b"unpack".as_slice() {
+    if is_same(word, b"unpack".as_slice()) {
         read_unpack(alloc, rest)
-    } else if word == b"configure".as_slice() {
+    } else if is_same(word, b"configure".as_slice()) {
         Ok(Wording::Configure(some_words(rest)?))
-    } else if word == b"deconfigure".as_slice() {
+    } else if is_same(word, b"deconfigure".as_slice()) {
         Ok(Wording::Deconfigure(some_words(rest)?))
-    } else if word == b"remove".as_slice() {
+    } else if is_same(word, b"remove".as_slice()) {
         Ok(Wording::Remove(some_words(rest)?))
-    } else if word == b"build".as_slice() {
+    } else if is_same(word, b"build".as_slice()) {
         Ok(Wording::Build(one_word(rest)?))
-    } else if word == b"publish".as_slice() {
+    } else if is_same(word, b"publish".as_slice()) {
         Ok(Wording::Publish(one_word(rest)?))
-    } else if word == b"wait".as_slice() {
+    } else if is_same(word, b"wait".as_slice()) {
         Ok(Wording::Wait(read_entry(alloc, rest)?))
-    } else if word == b"when".as_slice() {
+    } else if is_same(word, b"when".as_slice()) {
         read_when(alloc, rest)
-    } else if word == b"else".as_slice() {
+    } else if is_same(word, b"else".as_slice()) {
         read_else(rest)
     } else {
         Err(LineError::BadLine)
     }
 }
 
-/// Reads a line by its first word, and what stands behind it.
-///
-/// # Errors
-///
-/// [`BadLine`](LineError::BadLine) where it is none of the lines that a plan has. 900 where memory
-/// ran out.
-pub fn form_by<'a>(alloc: Global, word: &[u8], rest: &'a [u8]) -> Result<Form<'a>, LineError>
+fn form_by<'a>(alloc: Global, word: &[u8], rest: &'a [u8]) -> Result<Form<'a>, LineError>
     ensures { Gives refusal_of_line form_of result (form_by word.now rest.now) }
 {
-    if word == b"lane".as_slice() {
+    if is_same(word, b"lane".as_slice()) {
         read_lane(rest)
-    } else if word == b"end".as_slice() {
+    } else if is_same(word, b"end".as_slice()) {
         read_end(rest)
-    } else if word == b"block".as_slice() {
+    } else if is_same(word, b"block".as_slice()) {
         Ok(Form::Block(one_word(rest)?))
-    } else if word == b"use".as_slice() {
+    } else if is_same(word, b"use".as_slice()) {
         Ok(Form::Use(one_word(rest)?))
     } else {
         Ok(Form::Instruction(read_wording(alloc, word, rest)?))
@@ -280,7 +281,7 @@ pub fn form_by<'a>(alloc: Global, word: &[u8], rest: &'a [u8]) -> Result<Form<'a
 }
 
 /// Takes the first word of a line, and gives what stands behind it too.
-pub fn cut_word(line: &[u8]) -> (&[u8], &[u8])
+fn cut_word(line: &[u8]) -> (&[u8], &[u8])
     ensures word { result.0.now ≡ first_word line.now }
     ensures rest { result.1.now ≡ behind_word line.now }
 {

@@ -1,6 +1,7 @@
 //! The plan of a farm: lanes of instructions, and how a text is read as a plan.
 #![tactic(auto)]
 
+mod again;
 mod assembly;
 mod blocks;
 mod copies;
@@ -16,9 +17,9 @@ mod print;
 mod reader;
 mod recipe_numbers;
 mod said;
+mod same;
 mod side;
 mod side_by_side;
-mod unpacks;
 
 pub use error::{
     BAD_LINE, FILE, LineError, MOST_INSTRUCTIONS, MOST_LANES, NAME_TAKEN, NAME_TWICE, NO_PLAN,

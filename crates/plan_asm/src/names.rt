@@ -4,6 +4,7 @@ ghost use Rattle.std.specs.Prelude.{◌≡◌, ◌<◌, [], length, All, IfOk};
 ghost use Rattle.deb_text.specs.Answers.{Gives};
 ghost use Rattle.deb_text.specs.Steps.{traverse};
 ghost use Rattle.deb_text.specs.Words.{words};
+ghost use Rattle.farm_model.specs.Chroot.{member};
 ghost use Rattle.farm_model.specs.Packages.{names};
 ghost use Rattle.plan_asm.specs.Drafts.{known_name, known_base, known_recipe, recipe_names, set_of, instruction_of};
 ghost use Rattle.plan_asm.specs.RecipeNumbers.{AreFirstPlaces};
@@ -14,7 +15,7 @@ ghost use Rattle.plan_asm.specs.View.{wording_of};
 
 use crate::error::LineError;
 use crate::form::Wording;
-use deb_profile::{ProfileSet, reduce_entry};
+use deb_profile::{ProfileSet, strip_entry};
 use deb_text::next_word;
 use farm_universe::Universe;
 use indexmap::IndexMap;
@@ -110,12 +111,18 @@ fn finds_double(numbers: &[u32], seen: &mut [bool]) -> bool
     false
 }
 
+fn is_among(numbers: &[u32], number: u32) -> bool
+    ensures { result ≡ member numbers.now number }
+{
+    numbers.iter().any(|other| *other == number)
+}
+
 /// Tells whether a number stands twice, by comparing each with those behind it.
 fn stands_twice(numbers: &[u32]) -> bool
     ensures { result ≡ has_double numbers.now }
 {
     for i in 0..numbers.len() {
-        if numbers[i + 1..].contains(&numbers[i]) {
+        if is_among(&numbers[i + 1..], numbers[i]) {
             return true;
         }
     }
@@ -184,7 +191,7 @@ pub fn read_instruction(
         Wording::Publish(recipe) => Ok(Instruction::Publish(known_recipe(names, recipe)?)),
         Wording::Wait(entry) => {
             let none = ProfileSet::none(alloc);
-            let left = reduce_entry(alloc, &entry, universe.arch_names(), &none)?;
+            let left = strip_entry(alloc, entry, universe.arch_names(), &none)?;
             Ok(Instruction::Wait(left))
         }
         Wording::When { name, relation } => Ok(Instruction::When {

@@ -180,6 +180,28 @@ fn put_back(so_far: &mut Reading, next: Reading)
     *so_far = next;
 }
 
+/// Goes on by a line that opens or ends something, which is not done where an instruction goes: what
+/// was said so far is large to move.
+fn place_anew(
+    alloc: Global,
+    universe: &Universe,
+    number: u32,
+    so_far: &mut Reading,
+    said: Said<'_>,
+) -> Result<(), LineError>
+    ensures { Gives refusal_of_line (λ _. so_far.new) result
+        (place universe.entry.now number so_far.old (said_of said.entry)) }
+{
+    let before = taken(alloc, so_far);
+    match place_section(alloc, universe, number, before, said) {
+        Ok(next) => {
+            put_back(so_far, next);
+            Ok(())
+        }
+        Err(error) => Err(error),
+    }
+}
+
 /// Goes on by what a line says. An instruction is put where it goes, and nothing else is moved for
 /// it.
 #[tactic(auto, unfolding(crate::specs::Said::place))]
@@ -196,14 +218,7 @@ fn place(
     if let Said::Instruction(standing, named) = said {
         return place_instruction(alloc, number, so_far, standing, named);
     }
-    let before = taken(alloc, so_far);
-    match place_section(alloc, universe, number, before, said) {
-        Ok(next) => {
-            put_back(so_far, next);
-            Ok(())
-        }
-        Err(error) => Err(error),
-    }
+    place_anew(alloc, universe, number, so_far, said)
 }
 
 /// Goes on by a line that was read, the first fault of the two being told.

@@ -10,7 +10,6 @@ ghost use Rattle.farm_universe.specs.Told.{in_file};
 ghost use Rattle.plan_asm.specs.Parts.{behind_head};
 ghost use Rattle.plan_asm.specs.PlanText.{take_line, reading_of};
 ghost use Rattle.plan_asm.specs.PlanText.{plan_in, plan_of};
-ghost use Rattle.plan_asm.specs.Unpacks.{AreRead};
 ghost use Rattle.plan_model.specs.Plan.{count};
 ghost use Rattle.plan_model.specs.Sound.{IsPlan};
 
@@ -21,26 +20,22 @@ use crate::placing::{Reading, outside, place_line};
 use crate::plan::Plan;
 use crate::recipe_numbers::recipe_numbers;
 use crate::said::read_line;
-use crate::unpacks::Unpacks;
 use deb_stanza::{Lines, plain_lines};
 use deb_text::{Fault, is_head};
 use farm_universe::Universe;
 use std::alloc::Global;
 
-fn take_line<'t>(
+fn take_line(
     alloc: Global,
     names: Names<'_>,
     so_far: &mut Reading,
     number: u32,
-    line: &'t [u8],
-    unpacks: &mut Unpacks<'t>,
+    line: &[u8],
 ) -> Result<(), Fault>
-    requires { AreRead names.universe.now unpacks.old }
-    ensures value { Gives refusal_of (λ _. so_far.new) result
+    ensures { Gives refusal_of (λ _. so_far.new) result
         (take_line names.entry.universe.now so_far.old (number, line.now)) }
-    ensures read { AreRead names.entry.universe.now unpacks.new }
 {
-    let read = read_line(alloc, names, line, unpacks);
+    let read = read_line(alloc, names, line);
     place_line(alloc, names.universe, number, so_far, read)
 }
 
@@ -59,16 +54,8 @@ pub fn read_rest(
     ensures { Gives refusal_of (λ next. next) result
         (steps (take_line names.entry.universe.now) so_far (drop first lines.now)) }
 {
-    let mut unpacks = Unpacks::new(alloc)?;
     for i in first..lines.count() {
-        take_line(
-            alloc,
-            names,
-            &mut so_far,
-            lines.number(i),
-            lines.line(i),
-            &mut unpacks,
-        )?;
+        take_line(alloc, names, &mut so_far, lines.number(i), lines.line(i))?;
     }
     Ok(so_far)
 }

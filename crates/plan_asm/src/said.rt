@@ -4,14 +4,12 @@ ghost use Rattle.std.specs.Prelude.{◌≡◌, ℕ, Ok, Result};
 ghost use Rattle.deb_text.specs.Answers.{Gives};
 ghost use Rattle.plan_asm.specs.LineErrors.{refusal_of_line};
 ghost use Rattle.plan_asm.specs.Said.{InstructionSaid, said_at, said_by, standing_of};
-ghost use Rattle.plan_asm.specs.Unpacks.{AreRead};
 ghost use Rattle.plan_asm.specs.View.{form_of, said_of, wording_of};
 ghost use Rattle.plan_model.specs.declared.instructions.Instruction as instruction;
 
 use crate::error::LineError;
-use crate::form::{Form, LaneHead, Wording, cut_word, form_by};
+use crate::form::{Form, LaneHead, Wording, read_form};
 use crate::names::{Names, read_instruction};
-use crate::unpacks::{Unpacks, read_unpack_line};
 use plan_model::Instruction;
 use std::alloc::Global;
 
@@ -45,23 +43,11 @@ pub type LineRead<'a> = Result<Said<'a>, LineError>;
 ///
 /// [`BadLine`](LineError::BadLine) where it is none of the lines that a plan has; or that memory
 /// ran out.
-#[tactic(auto, unfolding(crate::specs::Said::said_at, crate::specs::Forms::form_at))]
-pub fn read_line<'t>(
-    alloc: Global,
-    names: Names<'_>,
-    line: &'t [u8],
-    unpacks: &mut Unpacks<'t>,
-) -> LineRead<'t>
-    requires { AreRead names.universe.now unpacks.old }
-    ensures value { Gives refusal_of_line said_of result
-        (said_at names.entry.universe.now line.now) }
-    ensures read { AreRead names.entry.universe.now unpacks.new }
+#[tactic(auto, unfolding(crate::specs::Said::said_at))]
+pub fn read_line<'a>(alloc: Global, names: Names<'_>, line: &'a [u8]) -> LineRead<'a>
+    ensures { Gives refusal_of_line said_of result (said_at names.entry.universe.now line.now) }
 {
-    let (word, rest) = cut_word(line);
-    if word == b"unpack".as_slice() {
-        return read_unpack_line(alloc, names, rest, unpacks);
-    }
-    said_by(alloc, names, form_by(alloc, word, rest)?)
+    said_by(alloc, names, read_form(alloc, line)?)
 }
 
 /// What an instruction that stands so by its kind says, or what is wrong with its names.
@@ -69,7 +55,7 @@ pub fn read_line<'t>(
 /// # Errors
 ///
 /// That memory ran out, which is the line's own fault.
-pub fn told<'a>(standing: Standing, named: Result<Instruction, LineError>) -> LineRead<'a>
+fn told<'a>(standing: Standing, named: Result<Instruction, LineError>) -> LineRead<'a>
     ensures { (read : Result instruction.Instruction ℕ)
         → Gives refusal_of_line (λ instruction. instruction) named read
         → Gives refusal_of_line said_of result (Ok (InstructionSaid standing read)) }

@@ -10,14 +10,14 @@ ghost use Rattle.plan_asm.specs.PlanText.{plan_in, plan_of};
 ghost use Rattle.plan_model.specs.Plan.{count};
 ghost use Rattle.plan_model.specs.Sound.{IsPlan};
 
+use crate::again::{Earlier, read_next};
 use crate::assembly::Assembly;
 use crate::names::Names;
 use crate::placing::{Reading, outside, place_line};
 use crate::plan::Plan;
 use crate::reader::{check_head, read_lines, read_plan, read_rest};
 use crate::recipe_numbers::recipe_numbers;
-use crate::said::{LineRead, read_line};
-use crate::unpacks::Unpacks;
+use crate::said::LineRead;
 use deb_stanza::Lines;
 use deb_text::Fault;
 use farm_universe::Universe;
@@ -65,9 +65,9 @@ fn read_part<'t>(
 {
     let _lines = lines.count();
     let mut read = Vec::with_capacity(alloc, count)?;
-    let mut unpacks = Unpacks::new(alloc)?;
-    for i in first..first + count {
-        read.push(read_line(alloc, names, lines.line(i), &mut unpacks))?;
+    let mut earlier = Earlier::new(alloc)?;
+    for _i in first..first + count {
+        read.push(read_next(alloc, names, lines, first, &read, &mut earlier))?;
     }
     Ok(Part { lines: read })
 }

@@ -15,12 +15,11 @@ loop-i-preserved c =
     let long = length-drop first ls in
     let items = c.in_ok-push.ensures.items in
     let lt : length read < length (drop first ls) = omega (arith, count, long) in
-    let says : Says u (get_or (drop first ls) (length read) (0, [])) c.read_line.result =
-    rw (get_or-drop first ls (length read) (0, []), count, ← c.line.ensures)
-    c.read_line.ensures.value in
-    let more = length_push read c.read_line.result in
+    let says : Says u (get_or (drop first ls) (length read) (0, [])) c.read_next.result =
+    rw (get_or-drop first ls (length read) (0, []), ← c.deref.ensures.value)
+    c.read_next.ensures in
+    let more = length_push read c.read_next.result in
     record {
       count = rw items (omega (arith, count, more));
-      said = rw items (next-said u (drop first ls) read c.read_line.result lt kept.said says);
-      known = c.read_line.ensures.read;
+      said = rw items (next-said u (drop first ls) read c.read_next.result lt kept.said says);
     }
