@@ -152,6 +152,29 @@ module _ (u : Universe) (first w : Words) (n : ℕ) (is : AreWords u first) (are
                 ((may_of w).slots n)) ((may_of w).slots k) (ne_eqb k n other))
           ]
 
+-- the slot of another name
+pub slot-other : (m : May) (n k : ℕ) (s : MaySlot) → n < k → (with_slot m n s).slots k ≡ m.slots k
+slot-other m n k s lt =
+    cond-false (k == n) s (m.slots k) (ne_eqb k n (λ e. omega (arith, e, lt)))
+
+-- a name with the same three words has the same slot
+pub slot-same : (w v : Words) (n : ℕ) → slice_index w.here n ≡ slice_index v.here n
+    → slice_index w.ready n ≡ slice_index v.ready n → slice_index w.last n ≡ slice_index v.last n
+    → (may_of w).slots n ≡ (may_of v).slots n
+slot-same w v n here ready last =
+    ap (λ a. slot_of a (slice_index w.ready n) (slice_index w.last n)) here
+    ∙ ap (λ a. slot_of (slice_index v.here n) a (slice_index w.last n)) ready
+    ∙ ap (slot_of (slice_index v.here n) (slice_index v.ready n)) last
+
+phase-itself : (s : MaySlot) → is_same_phase s s ≡ true
+phase-itself MayAbsent = refl
+phase-itself (MayUnpacked current last) = refl
+phase-itself (MayConfigured current) = refl
+
+-- and so it is in one phase
+pub phase-same : (s t : MaySlot) → t ≡ s → is_same_phase s t ≡ true
+phase-same s t e = ap (is_same_phase s) e ∙ phase-itself s
+
 -- a name that is in two phases makes phases differ
 pub phases-part : (u : Universe) (first w : Words) (n : ℕ) → n < names u → {same : Bool}
     → same ≡ is_same_phase ((may_of first).slots n) ((may_of w).slots n) → same ≡ false
@@ -188,6 +211,11 @@ module _ (u : Universe) (first m : May) where
   pub below-here : (k : ℕ) → (joined_below u first k m).slots k ≡ m.slots k
   below-here k = cond-false (nat_lt k k) (joined_slot u k (first.slots k) (m.slots k)) (m.slots k)
       (le-ltb k k (omega arith))
+
+  -- and of those behind it
+  pub below-rest : (k n : ℕ) → k ≤ n → (joined_below u first k m).slots n ≡ m.slots n
+  below-rest k n ge = cond-false (nat_lt n k) (joined_slot u n (first.slots n) (m.slots n))
+      (m.slots n) (le-ltb n k ge)
 
   -- one name more
   pub below-next : (k : ℕ) (w next : May) → w ≡ joined_below u first k m
@@ -228,6 +256,46 @@ module _ (u : Universe) (first m : May) where
                     | inl lt ↦ omega (arith, lt)
                     | inr le ↦ absurd (other (omega (arith, le, ge)))
                   ]
+
+-- names that hold the same in both branches are joined as they are
+pub below-stays : (u : Universe) (first old : Words) → AreWords u old → (m : May) (from to : ℕ)
+    → from ≤ to
+    → ((n : ℕ) → from ≤ n → n < to → (may_of old).slots n ≡ (may_of first).slots n)
+    → may_of old ≡ joined_below u (may_of first) from m
+    → may_of old ≡ joined_below u (may_of first) to m
+below-stays u first old are m from to order same so_far =
+    so_far ∙ (λ i. record { slots = λ n. slot n i; cost = m.cost; built = m.built })
+  where
+    joined : (n : ℕ) → from ≤ n → n < to
+        → joined_slot u n ((may_of first).slots n) (m.slots n) ≡ m.slots n
+    joined n low high =
+        let held : (may_of old).slots n ≡ m.slots n =
+        ap (λ (v : May). v.slots n) so_far ∙ below-rest u (may_of first) m from n low in
+        let of_first : (may_of first).slots n ≡ m.slots n = sym (same n low high) ∙ held in
+        ap (λ s. joined_slot u n s (m.slots n)) of_first
+        ∙ subst (λ s. joined_slot u n s s ≡ s) held
+        (slot-once u n (slice_index old.here n) (slice_index old.ready n)
+        (slice_index old.last n) (slice_index old.both n) (are.each n))
+
+    slot : (n : ℕ) → (joined_below u (may_of first) from m).slots n
+        ≡ (joined_below u (may_of first) to m).slots n
+    slot n =
+        let both = joined_slot u n ((may_of first).slots n) (m.slots n) in
+        elim (cases_lt n from) [
+          | inl lt ↦
+              cond-true (nat_lt n from) both (m.slots n) (lt-ltb n from lt)
+              ∙ sym (cond-true (nat_lt n to) both (m.slots n)
+              (lt-ltb n to (omega (arith, lt, order))))
+          | inr low ↦
+              cond-false (nat_lt n from) both (m.slots n) (le-ltb n from low)
+              ∙ elim (cases_lt n to) [
+                | inl high ↦
+                    sym (cond-true (nat_lt n to) both (m.slots n) (lt-ltb n to high)
+                    ∙ joined n low high)
+                | inr past ↦
+                    sym (cond-false (nat_lt n to) both (m.slots n) (le-ltb n to past))
+              ]
+        ]
 
 -- what holds below a number and at it holds below the next one
 pub below-more : {P : ℕ → Type 0} (n : ℕ) → ((k : ℕ) → k < n → P k) → P n

@@ -1,15 +1,32 @@
 //! What a chroot may hold behind two branches.
 
-ghost use Rattle.std.specs.Prelude.{◌≡◌, ◌<◌, true, false, length, slice_index, IfOk};
+ghost use Rattle.std.specs.Prelude.{◌≡◌, ◌<◌, ◌≤◌, ℕ, true, false, length, slice_index, IfOk};
 ghost use Rattle.farm_model.specs.Packages.{names};
 ghost use Rattle.farm_model.specs.Universe as model;
 ghost use Rattle.plan_model.specs.Join as spec;
+ghost use Rattle.plan_model.specs.May.{May};
 ghost use Rattle.may_rows.specs.Joins.{either_last_word, joined_below, joined_rest};
 ghost use Rattle.may_rows.specs.Words.{AreWords, may_of, with_slot};
 
 use crate::state::MayHold;
+use clause_kernel::same;
 use farm_universe::Universe;
 use std::alloc::{AllocError, Global};
+
+/// How many names are compared at once: most hold the same behind both branches.
+const PART: u32 = 64;
+
+/// Tells whether two lists are known to have the same words from one name up to another.
+fn same_between(words: &[u64], others: &[u64], from: u32, to: u32) -> bool
+    requires order { from ≤ to }
+    requires words { to ≤ length words.now }
+    requires others { to ≤ length others.now }
+    ensures { result ≡ true → (n : ℕ) → from ≤ n → n < to
+        → slice_index words.now n ≡ slice_index others.now n }
+{
+    let (from, to) = (from as usize, to as usize);
+    same(&words[from..to], &others[from..to])
+}
 
 /// What may have been configured last behind both branches, or nothing where that is not known
 /// behind one.
@@ -53,18 +70,60 @@ impl MayHold {
             && (self.ready_word(name) == 0) == (first.ready_word(name) == 0)
     }
 
+    /// Tells whether the same is known to be held, from one name up to another, as at the end of
+    /// the first branch.
+    fn holds_same(&self, universe: &Universe, first: &MayHold, from: u32, to: u32) -> bool
+        requires words { AreWords universe.now self.now }
+        requires first { AreWords universe.now first.now }
+        requires order { from ≤ to }
+        requires named { to ≤ names universe.now }
+        ensures { result ≡ true → (n : ℕ) → from ≤ n → n < to
+            → (may_of self.now).slots n ≡ (may_of first.now).slots n }
+    {
+        let _names = universe.names();
+        same_between(&self.here, &first.here, from, to)
+            && same_between(&self.ready, &first.ready, from, to)
+            && same_between(&self.last, &first.last, from, to)
+    }
+
+    /// Tells whether some name from one up to another is in another phase here than at the end of
+    /// the first branch.
+    fn differs_between(&self, universe: &Universe, first: &MayHold, from: u32, to: u32) -> bool
+        requires words { AreWords universe.now self.now }
+        requires first { AreWords universe.now first.now }
+        requires order { from ≤ to }
+        requires named { to ≤ names universe.now }
+        ensures some { result ≡ true
+            → spec.phases_differ universe.now (may_of first.now) (may_of self.now) ≡ true }
+        ensures none { result ≡ false → (n : ℕ) → from ≤ n → n < to
+            → spec.is_same_phase ((may_of first.now).slots n) ((may_of self.now).slots n) ≡ true }
+    {
+        if self.holds_same(universe, first, from, to) {
+            return false;
+        }
+        for name in from..to {
+            if !self.is_same_phase(first, name) {
+                return true;
+            }
+        }
+        false
+    }
+
     /// Tells whether some name is in another phase here than at the end of the first branch.
-    #[tactic(auto, unfolding(plan_model::specs::Join::phases_differ))]
     pub fn phases_differ(&self, universe: &Universe, first: &MayHold) -> bool
         requires words { AreWords universe.now self.now }
         requires first { AreWords universe.now first.now }
         ensures { result
             ≡ spec.phases_differ universe.now (may_of first.now) (may_of self.now) }
     {
-        for name in 0..universe.names() {
-            if !self.is_same_phase(first, name) {
+        let names = universe.names();
+        let mut from = 0;
+        while from < names {
+            let to = from + PART.min(names - from);
+            if self.differs_between(universe, first, from, to) {
                 return true;
             }
+            from = to;
         }
         false
     }
@@ -104,6 +163,27 @@ fn join_built(first: &[bool], built: &mut [bool])
 }
 
 impl MayHold {
+    /// Joins what may be held, from one name up to another, with that at the end of the first
+    /// branch. A name that holds the same there stays as it is.
+    fn join_between(&mut self, universe: &Universe, first: &MayHold, from: u32, to: u32)
+        requires words { AreWords universe.now self.old }
+        requires first { AreWords universe.now first.now }
+        requires order { from ≤ to }
+        requires named { to ≤ names universe.now }
+        requires phases { (n : ℕ) → from ≤ n → n < to
+            → spec.is_same_phase ((may_of first.now).slots n) ((may_of self.old).slots n) ≡ true }
+        ensures words { AreWords universe.now self.new }
+        ensures map { (m : May) → may_of self.old ≡ joined_below universe.now (may_of first.now) from m
+            → may_of self.new ≡ joined_below universe.now (may_of first.now) to m }
+    {
+        if self.holds_same(universe, first, from, to) {
+            return;
+        }
+        for name in from..to {
+            self.join_name(universe, first, name);
+        }
+    }
+
     /// Joins what may be held of each name with that at the end of the first branch.
     fn join_slots(&mut self, universe: &Universe, first: &MayHold)
         requires words { AreWords universe.now self.old }
@@ -114,8 +194,12 @@ impl MayHold {
         ensures map { may_of self.new ≡ joined_below universe.now (may_of first.now)
             (names universe.now) (may_of self.old) }
     {
-        for name in 0..universe.names() {
-            self.join_name(universe, first, name);
+        let names = universe.names();
+        let mut from = 0;
+        while from < names {
+            let to = from + PART.min(names - from);
+            self.join_between(universe, first, from, to);
+            from = to;
         }
     }
 

@@ -46,6 +46,10 @@ pub fn some_of<T: VariantTest>(universe: &Universe, name: u32, set: u64, test: &
     ensures { result ≡ may.some_of universe.now name (word_has set)
         (λ b. T.test universe.now test.now (variant name b)) }
 {
+    if set == 0 {
+        // most names hold nothing
+        return false;
+    }
     let count = variant_count(universe, name);
     for bit in 0..count {
         if has_passing(universe, name, set, bit, test) {
