@@ -107,24 +107,6 @@ settled-look lane total ps visit xs k w p long order at here so_far v q is turn 
         turn.ready (agree-set places xs w _ k (slice_index places v) here (omega (arith, less))) in
         omega (arith, value, equal, so_far v q is turn less)
 
--- the point of place k has another place, or is none
-pub settled-pass : (lane total : ℕ) (ps : List Point) (visit : Visit) (xs : List ℕ)
-    (k w : ℕ) → slice_get visit.order.items k ≡ Some w
-    → (w < length ps → slice_index visit.places.items w ≡ k → ⊥)
-    → AreSettled lane total ps visit xs k → AreSettled lane total ps visit xs (k + 1)
-settled-pass lane total ps visit xs k w order apart so_far v q is turn lt =
-    so_far v q is turn less
-  where
-    less : slice_index visit.places.items v < k
-    less =
-        let place : (slice_index visit.places.items v ≡ k → ⊥) =
-        λ e.
-        let same : v ≡ w =
-        same_Some v w (sym turn.there ∙ ap (λ i. slice_get visit.order.items i) e ∙ order) in
-        apart (subst (λ i. i < length ps) same (slice_get_within ps v q is))
-        (ap (λ i. slice_index visit.places.items i) (sym same) ∙ e) in
-        omega (arith, lt, place)
-
 -- where those in turn and those that are late know no more than they may, these are the counts
 pub settled_greatest : (lane total : ℕ) (ps : List Point) (visit : Visit) (xs : List ℕ)
     → IsVisit ps visit → length xs ≡ length ps → IsAbove lane total ps xs

@@ -3,6 +3,7 @@
 -- counts of the outputs of one lane.
 --
 --   BuildsOnEarlier, IsInTurn  what a point builds on stands before it
+--   IsAtPlace, AreAtPlaces  a point stands in the order at its place, and all of the order do
 --   IsVisit              the points that are out of turn are listed
 --   AreSettled           those in turn that were looked at know no more than they may
 use Rattle.std.specs.Prelude.{◌≡◌, ◌⊎◌, ℕ, ◌<◌, ◌≤◌, List, length, All, Option, Some, None, slice_get, slice_index}
@@ -27,9 +28,18 @@ pub record IsInTurn (order places : List ℕ) (w : ℕ) (p : Point) : Type 0 whe
   pub there : slice_get order (slice_index places w) ≡ Some w
   pub ready : BuildsOnEarlier places (slice_index places w) p
 
--- each point has a place; it is in turn there, or listed as late
+-- the point at place k of the order is there, and has this place
+pub record IsAtPlace (order places : List ℕ) (k : ℕ) : Type 0 where
+  pub there : slice_index order k < length places
+  pub place : slice_index places (slice_index order k) ≡ k
+
+abbrev pub AreAtPlaces : List ℕ → List ℕ → Type 0
+AreAtPlaces order places = (k : ℕ) → k < length order → IsAtPlace order places k
+
+-- each point of the order stands in it once; each point is in turn there, or listed as late
 pub record IsVisit (ps : List Point) (visit : Visit) : Type 0 where
   pub long : length visit.places.items ≡ length ps
+  pub placed : AreAtPlaces visit.order.items visit.places.items
   pub each : (w : ℕ) (p : Point) → slice_get ps w ≡ Some p → Contains visit.late.items w
       ⊎ IsInTurn visit.order.items visit.places.items w p
 

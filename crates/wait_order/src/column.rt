@@ -123,12 +123,6 @@ fn look(lane: usize, total: u64, points: &[Point], visit: &Visit, x: &mut [u64],
         → AreSettled lane total points.now visit.now x.new (k + 1) }
 {
     let w = visit.order[k];
-    if w >= points.len() {
-        return;
-    }
-    if visit.places[w] != k {
-        return;
-    }
     x[w] = bound(lane, total, x, &points[w]);
 }
 

@@ -4,7 +4,7 @@ ghost use Rattle.std.specs.Prelude.{◌≡◌, ◌⊎◌, ℕ, ◌<◌, length, 
 ghost use Rattle.std.specs.List.{Contains};
 ghost use Rattle.wait_order.specs.declared.column.Point.{Point};
 ghost use Rattle.wait_order.specs.declared.column.Source.{Source};
-ghost use Rattle.wait_order.specs.Visit.{IsEarlier, BuildsOnEarlier, IsInTurn, IsVisit};
+ghost use Rattle.wait_order.specs.Visit.{IsEarlier, BuildsOnEarlier, IsInTurn, IsAtPlace, AreAtPlaces, IsVisit};
 
 use crate::column::{Point, Source};
 use std::alloc::{AllocError, Global};
@@ -155,6 +155,39 @@ fn places(alloc: Global, order: &[usize], count: usize) -> Result<Vec<usize>, Al
     Ok(places)
 }
 
+/// Tells whether the point at a place of the order is there, and has this place.
+fn is_at_place(order: &[usize], places: &[usize], k: usize) -> bool
+    requires { k < length order.now }
+    ensures { result ≡ true → IsAtPlace order.now places.now k }
+{
+    let w = order[k];
+    w < places.len() && places[w] == k
+}
+
+/// Tells whether each point of the order is there, and stands in it once.
+fn are_at_places(order: &[usize], places: &[usize]) -> bool
+    ensures { result ≡ true → AreAtPlaces order.now places.now }
+{
+    for k in 0..order.len() {
+        if !is_at_place(order, places, k) {
+            return false;
+        }
+    }
+    true
+}
+
+/// The order where each of its points stands in it once, so that a look need not ask for that; else
+/// none, which makes all points late.
+fn once_each(alloc: Global, order: Vec<usize>, places: &[usize]) -> Vec<usize>
+    ensures { AreAtPlaces result.items places.now }
+{
+    if are_at_places(&order, places) {
+        order
+    } else {
+        Vec::new(alloc)
+    }
+}
+
 /// Tells whether a point is known to stand before a place. Where there is none, the lane's
 /// beginning does.
 fn is_earlier(places: &[usize], k: usize, point: Option<usize>) -> bool
@@ -243,6 +276,7 @@ pub fn visit_of(alloc: Global, points: &[Point]) -> Result<Visit, AllocError>
 {
     let order = order(alloc, points)?;
     let places = places(alloc, &order, points.len())?;
+    let order = once_each(alloc, order, &places);
     let late = late(alloc, points, &order, &places)?;
     Ok(Visit {
         order,
