@@ -24,6 +24,9 @@ impl<'a> Model for Distinct<'a> {
     ghost view = { λ distinct. distinct.atoms.now };
 }
 
+/// How many places there are at least: one package may have very many entries.
+const LEAST_PLACES: usize = 4_096;
+
 /// The distinct entries. A contract sees their list.
 #[derive(Debug, Drop)]
 pub struct Entries<'a> {
@@ -42,7 +45,7 @@ impl<'a> Model for Entries<'a> {
 }
 
 impl<'a> Entries<'a> {
-    /// No entries, with a place for so many.
+    /// No entries, with places for so many and for some thousands.
     ///
     /// # Errors
     ///
@@ -52,7 +55,7 @@ impl<'a> Entries<'a> {
     {
         Ok(Entries {
             entries: Vec::new(alloc),
-            last: Vec::from_elem(alloc, usize::MAX, places)?,
+            last: Vec::from_elem(alloc, usize::MAX, places.max(LEAST_PLACES))?,
         })
     }
 
