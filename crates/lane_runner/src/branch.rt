@@ -16,7 +16,6 @@ use plan_verifier::Accepted;
 use word_picks::newest;
 
 /// Where a `when` at a place leads to.
-#[tactic(auto, using(crate::proofs::Onwards::behind_branch))]
 fn branch_place(lane: &Lane, place: usize, holds: bool) -> usize
     requires { place < length lane.now.instructions }
     ensures place { result ≡ branch_place lane.now place holds }

@@ -56,7 +56,6 @@ impl Runner {
     }
 
     /// Goes behind the instruction at this cost.
-    #[tactic(auto, using(crate::proofs::Onwards::behind_passed))]
     pub(crate) fn pass(&mut self, lane: &Lane, cost: u64)
         requires next { self.old.done < length lane.now.instructions }
         requires short { length lane.now.instructions ≤ MOST_INSTRUCTIONS }

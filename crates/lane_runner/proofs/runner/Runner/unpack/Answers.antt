@@ -83,3 +83,12 @@ returns-in_default-clause-running g c =
     absurd (takes_some c.args.accepted.now c.keeps.ensures c.args.self.now c.args.chroot.now _ _ _
     c.requires.running c.args.name c.args.relation.now c.requires.here c.load-word.result
     c.load-word.ensures.bounds c.newest.result picked c.in_default.is)
+
+pub returns-in_default-clause-moves : goal.returns-in_default-clause-moves
+returns-in_default-clause-moves g c =
+    let picked = subst (λ (u : Universe). c.newest.result ≡ highest_below (variants u c.args.name)
+    (λ b. word_has c.load-word.result b && is_wanted u c.args.relation.now (variant c.args.name b)))
+    c.universe-universe.ensures c.newest.ensures in
+    absurd (takes_some c.args.accepted.now c.keeps.ensures c.args.self.now c.args.chroot.now _ _ _
+    c.requires.running c.args.name c.args.relation.now c.requires.here c.load-word.result
+    c.load-word.ensures.bounds c.newest.result picked c.in_default.is)
