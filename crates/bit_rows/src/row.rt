@@ -63,7 +63,7 @@ impl<A: Allocator> Row<A> {
     {
         Ok(Row {
             count: n,
-            blocks: Vec::with_capacity(alloc, names)?,
+            blocks: Vec::with_capacity(alloc, names.min(n / BLOCK + 1))?,
         })
     }
 

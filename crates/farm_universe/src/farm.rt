@@ -17,7 +17,7 @@ use crate::limits::MOST_RECIPES;
 use crate::package_table::PackageTable;
 use crate::paragraph::Paragraph;
 use crate::recipes::{RecipeList, add_recipe};
-use crate::side_by_side::{is_short, take_part};
+use crate::side_by_side::{PART_BYTES, is_short, take_part};
 use crate::source_table::SourceTable;
 use crate::steps::{ParagraphStep, read_steps};
 use deb_stanza::Paragraphs;
@@ -26,6 +26,10 @@ use deb_text::files::FARM;
 use item_index::ItemIndex;
 use std::alloc::{AllocError, Global};
 use std::thread::Threads;
+
+/// How many bytes of recipes and base chroots threads read sooner than one does. They take longer
+/// for each byte than packages do.
+const BYTES_FOR_THREADS: usize = PART_BYTES / 16;
 
 /// What the later paragraphs say so far.
 #[derive(Drop)]
@@ -174,7 +178,7 @@ fn read_yard_side_by_side(
         (yard_of (land_view land.now) (drop 1 paragraphs.now)) }
     ensures yard { IfOk result (IsYard (land_view land.now)) }
 {
-    if is_short(paragraphs, 1) {
+    if is_short(paragraphs, 1, BYTES_FOR_THREADS) {
         return read_yard(alloc, land, paragraphs);
     }
     let mut yard = empty_yard(alloc, land)?;

@@ -41,7 +41,7 @@ pub fn put_new<V: Drop>(
         (lists groups.new.items ≡ lists groups.old.items ++ (item ∷ []) ∷ []) }
     ensures memory { IfErr result (λ e. refusal_of e ≡ None) }
 {
-    let mut group = Vec::new(alloc);
+    let mut group = Vec::with_capacity(alloc, 1)?;
     group.push(item)?;
     groups.push(group)?;
     keys.insert(key)?;

@@ -20,7 +20,7 @@ use crate::keyed::{group_at, put_new};
 use crate::limits::{MOST_ENTRIES, MOST_NAMES, MOST_SIZE, MOST_VARIANTS};
 use crate::packages::{Listed, read_package, read_packages};
 use crate::paragraph::Paragraph;
-use crate::side_by_side::{PART_BYTES, is_short, take_part};
+use crate::side_by_side::{BYTES_FOR_THREADS, PART_BYTES, is_short, take_part};
 use crate::steps::{ParagraphStep, read_steps};
 use deb_stanza::Paragraphs;
 use deb_text::Fault;
@@ -330,7 +330,7 @@ pub fn read_table_side_by_side(
     ensures read { Gives fault_of table_view result (packages_of paragraphs.now) }
     ensures fit { IfOk result (λ table. IsFit (table_view table)) }
 {
-    if is_short(paragraphs, 0) {
+    if is_short(paragraphs, 0, BYTES_FOR_THREADS) {
         return read_table(alloc, paragraphs);
     }
     let mut table = empty_table(alloc);

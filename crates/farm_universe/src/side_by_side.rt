@@ -16,15 +16,16 @@ use std::alloc::Global;
 /// are kept at a time, which bounds what is kept of a text that is over a limit.
 pub const PART_BYTES: usize = 1_048_576;
 
-/// How many bytes threads read sooner than one does: to start them for fewer would take longer.
-pub const BYTES_FOR_THREADS: usize = PART_BYTES / 16;
+/// How many bytes of packages threads read sooner than one does: to start them for fewer would take
+/// longer.
+pub const BYTES_FOR_THREADS: usize = PART_BYTES / 4;
 
-/// Tells whether the paragraphs from this one on are too short for threads.
-pub fn is_short(paragraphs: &Paragraphs, first: usize) -> bool
+/// Tells whether the paragraphs from this one on have fewer bytes than these.
+pub fn is_short(paragraphs: &Paragraphs, first: usize, bytes: usize) -> bool
     ensures some { result ≡ false → first < length paragraphs.now }
 {
     let count = paragraphs.count();
-    first >= count || paragraphs.part_end(first, BYTES_FOR_THREADS) == count
+    first >= count || paragraphs.part_end(first, bytes) == count
 }
 
 /// Puts what was read of the paragraphs from this one on behind what is read so far.

@@ -6,10 +6,9 @@ ghost use Rattle.sat_rows.specs.Links.{reaches, AreBoth, IsExclusion};
 
 use crate::entries::Entries;
 use crate::found::Found;
-use crate::index::Field;
+use crate::index::{Field, entries};
 use crate::links::Links;
 use crate::sets::all_sets;
-use crate::tables::PLACES;
 use crate::turned::turned;
 use farm_universe::{Universe, Variant};
 use item_index::ItemIndex;
@@ -70,7 +69,7 @@ impl Exclusion {
         requires { IsProviding universe.now providers.now }
         ensures { IfOk result (IsExclusion universe.now F.field) }
     {
-        let mut entries = Entries::new(alloc, universe.names() as usize * PLACES)?;
+        let mut entries = Entries::new(alloc, entries(universe, field))?;
         let noted = entries.noted(alloc, universe, field)?;
         let sets = all_sets(rt, alloc, universe, providers, &entries)?;
         exclusion_of(alloc, universe.names() as usize, noted, sets)

@@ -75,7 +75,7 @@ fn add_name<F: Field>(
 }
 
 /// How many entries a field has in all variants of a universe.
-fn entries<F: Field>(universe: &Universe, field: &F) -> usize {
+pub fn entries<F: Field>(universe: &Universe, field: &F) -> usize {
     let mut count = 0usize;
     for name in 0..universe.names() {
         for bit in 0..variant_count(universe, name) {

@@ -15,6 +15,9 @@ use rayon::prelude::*;
 use std::alloc::{AllocError, Global};
 use std::thread::Threads;
 
+/// How many entries one thread takes at least: to start another for fewer would take longer.
+const ENTRIES_AT_ONCE: usize = 64;
+
 /// The variants that satisfy each of the entries, by as many threads as there are processors.
 ///
 /// # Errors
@@ -32,7 +35,7 @@ pub fn all_sets(
 {
     let sets = (0..entries.len())
         .into_par_iter()
-        .with_min_len(1)
+        .with_min_len(ENTRIES_AT_ONCE)
         .map(
             move |number: usize| -> Result<Found, AllocError>
                 requires providers { IsProviding universe.now providers.now }

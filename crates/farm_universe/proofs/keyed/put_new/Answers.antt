@@ -15,5 +15,5 @@ returns-clause-groups g c =
       c.in_ok-push-2.ensures.items,
       lists-push c.args.groups.now.items c.push.new.self,
       c.in_ok-push.ensures.items,
-      c.new-group.ensures.items,
+      c.in_ok-group.ensures.items,
     ) refl

@@ -10,9 +10,9 @@ returns g c =
     let field = g.F.Field.field in
     let noted = c.in_ok-noted.noted.items in
     let sets = c.in_ok-sets.sets.items in
-    IfOk-weaker c.exclusion_of.result (λ x. AreBoth c.names-2.result noted sets x)
+    IfOk-weaker c.exclusion_of.result (λ x. AreBoth c.names.result noted sets x)
     (IsExclusion u field)
     (λ x both. exclusion u field c.noted.new.self noted sets x c.in_ok-noted.ensures.noted
     c.in_ok-sets.ensures
-    (subst (λ n. AreBoth n noted sets x) c.names-2.ensures.number both))
+    (subst (λ n. AreBoth n noted sets x) c.names.ensures.number both))
     c.exclusion_of.ensures
