@@ -2,7 +2,7 @@
 
 use crate::toolchain::accepted_plan;
 use farm_archive::Publication;
-use farm_executor::{FarmRun, RunFault, run_farm};
+use farm_executor::{RunFault, run_farm};
 use lane_runner::{GAVE_UP, Gate, Go, HALTED, LaneArchive, LaneStop};
 use plan_verifier::Accepted;
 use std::alloc::Global;
@@ -52,13 +52,14 @@ impl Gate for GivesUp {
     fn ring(&self) {}
 }
 
-/// What is told of a run of two lanes that a gate stopped: by which code and which lane, and the ends
-/// of both.
-#[derive(Clone, Copy, Debug, PartialEq, Eq)]
-struct Told {
+/// A run of two lanes that a gate stopped: by which code and which lane, the ends of both, and the
+/// plan.
+#[derive(Drop)]
+struct Stopped {
     code: u16,
     lane: u32,
     ends: (LaneStop, LaneStop),
+    accepted: Accepted,
 }
 
 /// The ends of two lanes.
@@ -69,35 +70,38 @@ fn both(ends: &[LaneStop]) -> Option<(LaneStop, LaneStop)> {
     }
 }
 
-/// What is told of a run that was stopped. Nothing of one that came to its end, or for which memory
-/// was refused.
-fn told_of(run: &Result<FarmRun, RunFault>) -> Option<Told> {
-    match run {
-        Err(
-            RunFault::Stopped {
+/// What a fault tells of a run that was stopped.
+fn stop_of(fault: RunFault) -> Option<Stopped> {
+    match fault {
+        RunFault::Stopped {
+            code,
+            lane,
+            ends,
+            accepted,
+        } => {
+            let ends = both(&ends)?;
+            Some(Stopped {
                 code,
                 lane,
                 ends,
-                ..
-            },
-        ) => Some(Told {
-            code: *code,
-            lane: *lane,
-            ends: both(ends)?,
-        }),
-        _ => None,
+                accepted,
+            })
+        }
+        RunFault::Memory => None,
     }
 }
 
-/// Runs the lanes over a gate that gives up there.
+/// Runs the lanes over a gate that gives up there. Nothing where the run does not stop.
 fn run_up_to(
     rt: &(impl Threads + Wait + Sync),
     alloc: Global,
+    accepted: Accepted,
     at: At,
-) -> Result<Option<Told>, Fail> {
-    let accepted = accepted_plan(rt, alloc)?;
-    let run = run_farm(rt, alloc, accepted, &GivesUp { at });
-    Ok(told_of(&run))
+) -> Option<Stopped> {
+    match run_farm(rt, alloc, accepted, &GivesUp { at }) {
+        Ok(_) => None,
+        Err(fault) => stop_of(fault),
+    }
 }
 
 /// The end of a lane that stopped by this code, ahead of this instruction.
@@ -106,7 +110,7 @@ const fn end_by(code: u16, instruction: u32) -> LaneStop {
 }
 
 /// The end of this lane and the one of the other.
-const fn ends_from(run: Told, lane: u32) -> (LaneStop, LaneStop) {
+const fn ends_from(run: &Stopped, lane: u32) -> (LaneStop, LaneStop) {
     let (first, second) = run.ends;
     if lane == 0 {
         (first, second)
@@ -116,7 +120,7 @@ const fn ends_from(run: Told, lane: u32) -> (LaneStop, LaneStop) {
 }
 
 /// Whether this lane gave up there, and the other one is at its end or was halted.
-fn has_stopped(run: Told, lane: u32, instruction: u32) -> bool {
+fn has_stopped(run: &Stopped, lane: u32, instruction: u32) -> bool {
     let (by, other) = ends_from(run, lane);
     let is_cause = run.code == GAVE_UP && run.lane == lane;
     is_cause && by == end_by(GAVE_UP, instruction) && matches!(other.code, 0 | HALTED)
@@ -129,7 +133,7 @@ const fn wait_of(lane: u32) -> u32 {
 
 /// Whether the lane that is the cause gave up at its wait, and the other one is at its end, was
 /// halted, or gave up at its own wait before it was.
-fn has_stopped_at_a_wait(run: Told) -> bool {
+fn has_stopped_at_a_wait(run: &Stopped) -> bool {
     let lane = run.lane;
     let (by, other) = ends_from(run, lane);
     let gave_up_too = other == end_by(GAVE_UP, wait_of(if lane == 0 { 1 } else { 0 }));
@@ -137,94 +141,109 @@ fn has_stopped_at_a_wait(run: Told) -> bool {
     is_cause && (gave_up_too || matches!(other.code, 0 | HALTED))
 }
 
-/// Tells whether each run over a gate that gives up at an instruction of a lane, one after the other
-/// up to its last, stops there.
-fn stops_at_all(
+/// Runs the lanes over gates that give up at the instructions of a lane, one after the other, up to
+/// its last. The plan, where each run stopped there.
+fn run_up_to_each(
     rt: &(impl Threads + Wait + Sync),
     alloc: Global,
+    accepted: Accepted,
     lane: u32,
     last: u32,
-) -> Result<bool, Fail> {
+) -> Option<Accepted> {
+    let mut accepted = accepted;
     for instruction in 1..=last {
-        let told = run_up_to(rt, alloc, At::Before { lane, instruction })?;
-        if !told.is_some_and(|told| has_stopped(told, lane, instruction)) {
-            return Ok(false);
+        let run = run_up_to(rt, alloc, accepted, At::Before { lane, instruction })?;
+        if !has_stopped(&run, lane, instruction) {
+            return None;
         }
+        accepted = run.accepted;
     }
-    Ok(true)
+    Some(accepted)
 }
 
 // The lane that gives up is the cause, and stands where it gave up; the other one is at its end, or
 // was halted.
 #[test]
 fn stops_at_each_instruction(rt: HostRuntime) -> Result<(), Fail> {
-    assert!(rt; stops_at_all(&rt, rt.alloc(), 0, 7)?);
-    assert!(rt; stops_at_all(&rt, rt.alloc(), 1, 5)?);
+    let accepted = accepted_plan(&rt, rt.alloc())?;
+    let Some(accepted) = run_up_to_each(&rt, rt.alloc(), accepted, 0, 7) else {
+        panic!(rt; "the first lane did not stop where its gate gave up");
+    };
+    assert!(rt; run_up_to_each(&rt, rt.alloc(), accepted, 1, 5).is_some());
     Ok(())
 }
 
-/// What is told where a lane gives up at an instruction and halts the other, with the ends of both.
-fn gave_up(lane: u32, first: LaneStop, second: LaneStop) -> Option<Told> {
-    Some(Told {
-        code: GAVE_UP,
-        lane,
-        ends: (first, second),
-    })
+/// Runs the lanes over a gate that gives up at an instruction of a lane: the code and the lane that
+/// are told as the cause, and the ends of both lanes.
+fn told_at(
+    rt: &(impl Threads + Wait + Sync),
+    alloc: Global,
+    accepted: Accepted,
+    lane: u32,
+    instruction: u32,
+) -> Option<(u16, u32, (LaneStop, LaneStop))> {
+    let run = run_up_to(rt, alloc, accepted, At::Before { lane, instruction })?;
+    Some((run.code, run.lane, run.ends))
 }
 
 // The second lane gives up, and halts the first one where it waits.
 #[test]
 fn halts_the_first_lane(rt: HostRuntime) -> Result<(), Fail> {
-    let at = At::Before {
-        lane: 1,
-        instruction: 3,
-    };
-    let told = gave_up(1, end_by(HALTED, 3), end_by(GAVE_UP, 3));
-    assert_eq!(rt; run_up_to(&rt, rt.alloc(), at)?, told);
+    let accepted = accepted_plan(&rt, rt.alloc())?;
+    let told = told_at(&rt, rt.alloc(), accepted, 1, 3);
+    let ends = (end_by(HALTED, 3), end_by(GAVE_UP, 3));
+    assert_eq!(rt; told, Some((GAVE_UP, 1, ends)));
     Ok(())
 }
 
 // The first lane gives up, and halts the second one where it waits.
 #[test]
 fn halts_the_second_lane(rt: HostRuntime) -> Result<(), Fail> {
-    let at = At::Before {
-        lane: 0,
-        instruction: 1,
-    };
-    let told = gave_up(0, end_by(GAVE_UP, 1), end_by(HALTED, 1));
-    assert_eq!(rt; run_up_to(&rt, rt.alloc(), at)?, told);
+    let accepted = accepted_plan(&rt, rt.alloc())?;
+    let told = told_at(&rt, rt.alloc(), accepted, 0, 1);
+    let ends = (end_by(GAVE_UP, 1), end_by(HALTED, 1));
+    assert_eq!(rt; told, Some((GAVE_UP, 0, ends)));
     Ok(())
 }
 
-/// Runs the lanes over a gate that gives up where one waits in vain, and tells whether each lane that
+/// Runs the lanes over a gate that gives up where one waits in vain. The plan, where each lane that
 /// did stands at its wait, or the run came to its end.
-fn stops_at_a_wait(rt: &(impl Threads + Wait + Sync), alloc: Global) -> Result<bool, Fail> {
-    let accepted = accepted_plan(rt, alloc)?;
-    let run = run_farm(rt, alloc, accepted, &GivesUp { at: At::AnyPause });
-    match told_of(&run) {
-        Some(told) => Ok(has_stopped_at_a_wait(told)),
-        None => Ok(run.is_ok()),
+fn run_up_to_a_wait(
+    rt: &(impl Threads + Wait + Sync),
+    alloc: Global,
+    accepted: Accepted,
+) -> Option<Accepted> {
+    match run_farm(rt, alloc, accepted, &GivesUp { at: At::AnyPause }) {
+        Ok(run) => Some(run.accepted),
+        Err(fault) => {
+            let run = stop_of(fault)?;
+            has_stopped_at_a_wait(&run).then_some(run.accepted)
+        }
     }
 }
 
 /// Tells whether each of so many runs did so.
-fn all_stop_at_a_wait(
+fn all_up_to_a_wait(
     rt: &(impl Threads + Wait + Sync),
     alloc: Global,
+    accepted: Accepted,
     times: u32,
-) -> Result<bool, Fail> {
+) -> bool {
+    let mut accepted = accepted;
     for _ in 0..times {
-        if !stops_at_a_wait(rt, alloc)? {
-            return Ok(false);
+        match run_up_to_a_wait(rt, alloc, accepted) {
+            Some(again) => accepted = again,
+            None => return false,
         }
     }
-    Ok(true)
+    true
 }
 
 // Where a lane waits in vain in a run, it gives up there; where none does, the run comes to its
 // end.
 #[test]
 fn stops_at_a_pause(rt: HostRuntime) -> Result<(), Fail> {
-    assert!(rt; all_stop_at_a_wait(&rt, rt.alloc(), 100)?);
+    let accepted = accepted_plan(&rt, rt.alloc())?;
+    assert!(rt; all_up_to_a_wait(&rt, rt.alloc(), accepted, 100));
     Ok(())
 }

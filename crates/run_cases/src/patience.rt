@@ -39,29 +39,30 @@ impl Gate for Patient {
     fn ring(&self) {}
 }
 
-/// Runs the lanes over such a gate, and tells whether the run came to its end.
-fn ends(rt: &(impl Threads + Wait + Sync), alloc: Global) -> Result<bool, Fail> {
-    let accepted = accepted_plan(rt, alloc)?;
-    let gate = Patient {
-        pauses: AtomicU64::new(0),
-    };
-    let run = run_farm(rt, alloc, accepted, &gate);
-    Ok(run.is_ok())
-}
-
-/// Tells whether each of so many runs did so.
-fn all_end(rt: &(impl Threads + Wait + Sync), alloc: Global, times: u32) -> Result<bool, Fail> {
+/// Runs the lanes over such a gate so many times, and tells whether each run came to its end.
+fn all_end(
+    rt: &(impl Threads + Wait + Sync),
+    alloc: Global,
+    accepted: Accepted,
+    times: u32,
+) -> bool {
+    let mut accepted = accepted;
     for _ in 0..times {
-        if !ends(rt, alloc)? {
-            return Ok(false);
+        let gate = Patient {
+            pauses: AtomicU64::new(0),
+        };
+        match run_farm(rt, alloc, accepted, &gate) {
+            Ok(run) => accepted = run.accepted,
+            Err(_) => return false,
         }
     }
-    Ok(true)
+    true
 }
 
 // A lane sees what the other one publishes, though nothing wakes it.
 #[test]
 fn sees_an_output_in_time(rt: HostRuntime) -> Result<(), Fail> {
-    assert!(rt; all_end(&rt, rt.alloc(), 20)?);
+    let accepted = accepted_plan(&rt, rt.alloc())?;
+    assert!(rt; all_end(&rt, rt.alloc(), accepted, 20));
     Ok(())
 }

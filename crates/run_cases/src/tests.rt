@@ -1,47 +1,51 @@
 //! Runs of the farm of examples/toolchain.
 
 use crate::toolchain::accepted_plan;
-use farm_executor::{Bell, FarmRun, RunFault, cause, run_farm};
+use farm_executor::{Bell, cause, run_farm};
 use lane_runner::LaneStop;
+use plan_verifier::Accepted;
 use std::alloc::Global;
 use std::sync::Wait;
 use std::test::Fail;
 use std::thread::Threads;
 
-/// Tells whether the lanes spent what they should, and published as often.
-fn has_come_to_it(run: &Result<FarmRun, RunFault>) -> bool {
-    match run {
-        Ok(run) => run.spent.as_slice() == [64, 14].as_slice() && run.history.len() == 3,
-        Err(_) => false,
+/// Runs the lanes to their ends, and gives back the plan where they come to what they should: what
+/// they spend, and how many publications there are.
+fn run_again(
+    rt: &(impl Threads + Wait + Sync),
+    alloc: Global,
+    accepted: Accepted,
+) -> Option<Accepted> {
+    let bell = Bell::new(rt, alloc, 2).ok()?;
+    let run = run_farm(rt, alloc, accepted, &bell).ok()?;
+    if run.spent.as_slice() != [64, 14].as_slice() || run.history.len() != 3 {
+        return None;
     }
+    Some(run.accepted)
 }
 
-/// Runs the lanes to their ends, and tells whether they came to what they should.
-fn comes_to_it(rt: &(impl Threads + Wait + Sync), alloc: Global) -> Result<bool, Fail> {
-    let bell = Bell::new(rt, alloc, 2)?;
-    let accepted = accepted_plan(rt, alloc)?;
-    let run = run_farm(rt, alloc, accepted, &bell);
-    Ok(has_come_to_it(&run))
-}
-
-/// Tells whether each of so many runs did so.
+/// Tells whether so many runs came to what they should.
 fn all_come_to_it(
     rt: &(impl Threads + Wait + Sync),
     alloc: Global,
+    accepted: Accepted,
     times: u32,
-) -> Result<bool, Fail> {
+) -> bool {
+    let mut accepted = accepted;
     for _ in 0..times {
-        if !comes_to_it(rt, alloc)? {
-            return Ok(false);
+        match run_again(rt, alloc, accepted) {
+            Some(again) => accepted = again,
+            None => return false,
         }
     }
-    Ok(true)
+    true
 }
 
 // Each of many runs comes to the same end.
 #[test]
 fn comes_to_the_same_end(rt: HostRuntime) -> Result<(), Fail> {
-    assert!(rt; all_come_to_it(&rt, rt.alloc(), 200)?);
+    let accepted = accepted_plan(&rt, rt.alloc())?;
+    assert!(rt; all_come_to_it(&rt, rt.alloc(), accepted, 200));
     Ok(())
 }
 
