@@ -29,7 +29,7 @@ use std::thread::Threads;
 
 /// How many bytes of recipes and base chroots threads read sooner than one does. They take longer
 /// for each byte than packages do.
-const BYTES_FOR_THREADS: usize = PART_BYTES / 16;
+const FARM_BYTES_FOR_THREADS: usize = PART_BYTES / 16;
 
 /// What the later paragraphs say so far.
 #[derive(Drop)]
@@ -178,7 +178,7 @@ fn read_yard_side_by_side(
         (yard_of (land_view land.now) (drop 1 paragraphs.now)) }
     ensures yard { IfOk result (IsYard (land_view land.now)) }
 {
-    if is_short(paragraphs, 1, BYTES_FOR_THREADS) {
+    if is_short(paragraphs, 1, FARM_BYTES_FOR_THREADS) {
         return read_yard(alloc, land, paragraphs);
     }
     let mut yard = empty_yard(alloc, land)?;

@@ -20,7 +20,7 @@ pub const PART_BYTES: usize = 1_048_576;
 /// longer.
 pub const BYTES_FOR_THREADS: usize = PART_BYTES / 4;
 
-/// Tells whether the paragraphs from this one on have fewer bytes than these.
+/// Tells whether a part of so many bytes that begins at this paragraph holds all that are left.
 pub fn is_short(paragraphs: &Paragraphs, first: usize, bytes: usize) -> bool
     ensures some { result ≡ false → first < length paragraphs.now }
 {

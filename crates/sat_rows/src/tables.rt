@@ -65,7 +65,7 @@ impl Model for Tables {
 }
 
 /// How many places distinct entries are looked up in, for each name of a universe.
-pub const PLACES: usize = 16;
+const PLACES: usize = 16;
 
 /// The rows of the distinct entries, and where each entry has its own.
 #[derive(Drop)]
