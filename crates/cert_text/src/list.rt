@@ -12,21 +12,21 @@ use crate::repeats::{Repeats, variant_repeated};
 use crate::spelled::Spelled;
 use bit_rows::Row;
 use deb_relation::{Entry, next_entry};
-use deb_version::Version;
+use deb_version::VersionRef;
 use farm_model::Variant;
 use farm_universe::Universe;
 use std::alloc::{AllocError, Global};
 
 /// The variant of a name with this version, however it is written.
 #[tactic(auto, unfolding(crate::specs::Rows::find_variant))]
-fn find_variant(universe: &Universe, name: &[u8], version: &Version) -> Option<Variant>
+fn find_variant(universe: &Universe, name: &[u8], version: &VersionRef) -> Option<Variant>
     ensures found { result ≡ find_variant universe.now name.now version.now }
     ensures known { IfSome result (IsOfUniverse universe.now) }
 {
     let number = universe.find(name)?;
     for bit in 0..universe.variants(number) {
         let variant = Variant { name: number, bit };
-        if version.compare(universe.version(variant)).is_eq() {
+        if version.compare(&universe.version(variant).view()).is_eq() {
             return Some(variant);
         }
     }
@@ -40,7 +40,7 @@ pub fn item_variant(universe: &Universe, item: &Entry) -> Option<Variant>
     ensures known { IfSome result (IsOfUniverse universe.now) }
 {
     let (name, version) = farm_universe::pinned(item)?;
-    find_variant(universe, name, version)
+    find_variant(universe, name, &version)
 }
 
 /// Tells whether a variant has a later name than the last one or, of the same name, a higher bit.

@@ -147,7 +147,7 @@ fn some_named_slot<T: SlotTest>(universe: &Universe, slots: &Slots, entry: &Entr
     ensures { result ≡ true → chroots.some_slot slots.now (T.test universe.now test.now) ≡ true }
 {
     for atom in entry.alternatives() {
-        if let Some(name) = universe.find(&atom.name) {
+        if let Some(name) = universe.find(atom.name()) {
             if test.passes(universe, name, slot_at(slots, name)) {
                 return true;
             }

@@ -1,5 +1,8 @@
 -- What was reduced is reduced no further, and what is bare stays as it is.
-use Rattle.std.proofs.Common.{◌≡◌, ℕ, ◌≤◌, true, false, not, ◌==◌, ◌&&◌, List, [], ◌∷◌, ◌++◌, length, refl, sym, ap, ◌∙◌, arith, inl, inr, map, filter, Option, Some, None}
+use Rattle.std.proofs.Common.{◌≡◌, ℕ, ◌≤◌, true, false, not, ◌==◌, ◌&&◌, List, [], ◌∷◌, ◌++◌, length, refl, sym, ap, ◌∙◌, arith, inl, inr, map, filter, append_assoc, Option, Some, None, Result, Ok, Err}
+use Rattle.deb_text.specs.Answers.{Fails}
+use Rattle.deb_text.specs.Steps.{◌>>=◌}
+use Rattle.deb_text.proofs.StepLaws.{fails-with}
 use Rattle.std.proofs.lemmas.Bool.{cases_Bool, and_parts}
 use Rattle.std.proofs.lemmas.List.{map-append}
 use Rattle.std.proofs.lemmas.List.Elements.{filter-append}
@@ -8,7 +11,7 @@ use Rattle.std.specs.Option.{is_none}
 use Rattle.deb_text.specs.Cuts.{is_nil}
 use Rattle.deb_relation.specs.Relations.{Item, ArchList, Atom, Entry, Relations}
 use Rattle.deb_profile.specs.Reduction.{means_nothing, qualifier_left, bare, reduced_entry, entry_left, reduced, is_bare_entry, is_bare}
-use Rattle.deb_relation.specs.Limits.{is_bare_atom}
+use Rattle.deb_relation.specs.Bare.{is_bare_atom}
 use Rattle.deb_profile.specs.Restriction.{keeps}
 
 -- a qualifier that is left stays left
@@ -128,3 +131,34 @@ pub all-bare : (entry : Entry) → false ≡ (length entry == 0)
     → list_all is_bare_atom entry ≡ is_bare_entry entry
 all-bare [] some = absurd cc
 all-bare (a ∷ atoms) some = refl
+
+-- an alternative that is bare is all that is left of it
+pub bare-one : (names active : List (List ℕ)) (atom : Atom) → is_bare_atom atom ≡ true
+    → reduced_entry names active (atom ∷ []) ≡ atom ∷ []
+bare-one names active atom is =
+    let both = bare-atom names active atom is in
+    rw (both.1, both.0) refl
+
+-- one more alternative that was read
+pub reduced-next : (names active : List (List ℕ)) (kept : Entry) (atom : Atom) (more : Entry)
+    → (kept ++ reduced_entry names active (atom ∷ [])) ++ reduced_entry names active more
+    ≡ kept ++ reduced_entry names active (atom ∷ more)
+reduced-next names active kept atom more =
+    append_assoc kept (reduced_entry names active (atom ∷ [])) (reduced_entry names active more)
+    ∙ ap (λ (left : Entry). kept ++ left) (sym (reduced-append names active (atom ∷ []) more))
+
+-- ---- what was read and then made
+
+module _ {A B F : Type 0} (make : A → B) where
+  pub made-some : (read : Result A F) (y : B) → (read >>= λ x. Ok (make x)) ≡ Ok y
+      → (x : A) × ((read ≡ Ok x) × (make x ≡ y))
+  made-some (Ok x) y is = let h : make x ≡ y = cc in (x, (refl, h))
+  made-some (Err e) y is = absurd cc
+
+  pub made-refused : {E : Type 0} (refusal : E → Option F) (e : E) (read : Result A F)
+      → Fails refusal e (read >>= λ x. Ok (make x)) → Fails refusal e read
+  made-refused refusal e read is =
+      fails-with refusal e (read >>= λ x. Ok (make x)) read (by read) is where
+        by : (r : Result A F) (d : F) → (r >>= λ x. Ok (make x)) ≡ Err d → r ≡ Err d
+        by (Ok x) d at = absurd cc
+        by (Err c) d at = let h : c ≡ d = cc in ap Err h

@@ -4,6 +4,7 @@
 --   bare names atom                 the alternative without restrictions and without a qualifier
 --                                   that means nothing
 --   reduced_entry names active e    the alternatives that stay
+--   left_of names active read       what is left of an entry that is read, or its fault
 --   reduced names active field      the entries of which some alternative stays
 --   reduced_at most names active kind text   no more than so many of them, of a field's text
 --   is_bare field                   nothing of the field can go
@@ -14,7 +15,7 @@ use Rattle.deb_text.specs.Cuts.{is_nil}
 use Rattle.deb_text.specs.Steps.{◌>>=◌}
 use Rattle.deb_relation.specs.declared.kind.Kind.{Kind}
 use Rattle.deb_relation.specs.Field.{relations_at}
-use Rattle.deb_relation.specs.Limits.{is_bare_atom}
+use Rattle.deb_relation.specs.Bare.{is_bare_atom}
 use Rattle.deb_relation.specs.Relations.{Atom, Entry, Relations}
 use Rattle.deb_profile.specs.Restriction.{is_among, keeps}
 
@@ -41,6 +42,10 @@ bare names atom = record {
 
 abbrev pub reduced_entry : List (List ℕ) → List (List ℕ) → Entry → Entry
 reduced_entry names active entry = map (bare names) (filter (keeps names active) entry)
+
+-- what is left of an entry that is read, or its fault
+abbrev pub left_of : List (List ℕ) → List (List ℕ) → Result Entry ℕ → Result Entry ℕ
+left_of names active read = read >>= λ entry. Ok (reduced_entry names active entry)
 
 -- an entry with no alternative left goes
 abbrev pub entry_left : Entry → Relations

@@ -3,10 +3,12 @@
 #![tactic(auto)]
 
 pub mod laws;
+mod reading;
 mod reduction;
 mod restriction;
 mod word_list;
 
+pub use reading::reduce_entry_text;
 pub use reduction::{is_bare, reduce, reduce_entry, reduce_text, strip_entry};
 pub use restriction::keeps;
 pub use word_list::{ArchNames, ProfileSet};

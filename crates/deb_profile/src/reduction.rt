@@ -6,9 +6,10 @@ ghost use Rattle.std.specs.Option.{option_map};
 ghost use Rattle.deb_text.specs.Answers.{Gives};
 ghost use Rattle.deb_relation.specs.View.{refusal_of};
 ghost use Rattle.deb_profile.specs.Reduction.{means_nothing, qualifier_left, bare, reduced_entry, entry_left, reduced};
-ghost use Rattle.deb_relation.specs.Limits.{is_bare_atom};
+ghost use Rattle.deb_relation.specs.Bare.{is_bare_atom};
 ghost use Rattle.deb_profile.specs.Reduction.{is_bare_entry, is_bare, reduced_at};
 
+use crate::reading::reduce_entry_text;
 use crate::restriction::keeps;
 use crate::word_list::{ArchNames, ProfileSet};
 use deb_relation::{Atom, Entry, Kind, RelationError, Relations, judge_entries, next_entry};
@@ -38,7 +39,7 @@ pub fn reduce(
 }
 
 /// Reads a relation field of a kind, and keeps what [`reduce`] leaves of it: no more than the first
-/// `most` entries. What is not kept takes the memory of one entry.
+/// `most` entries. What is not kept takes the memory of one alternative.
 ///
 /// # Errors
 ///
@@ -61,8 +62,10 @@ pub fn reduce_text(
         let Some((entry, after)) = next_entry(left) else {
             return Ok(Relations::from_entries(entries));
         };
-        let entry = Entry::parse(alloc, entry, kind)?;
-        push_left(&mut entries, strip_entry(alloc, entry, names, active)?)?;
+        push_left(
+            &mut entries,
+            reduce_entry_text(alloc, entry, kind, names, active)?,
+        )?;
         left = after;
     }
     judge_entries(alloc, left, kind)?;
@@ -114,7 +117,7 @@ pub fn reduce_entry(
     let mut left = Vec::with_capacity(alloc, entry.len())?;
     for atom in entry.alternatives() {
         if keeps(atom, names, active) {
-            left.push(bare(names, atom.clone_unrestricted()?)?)?;
+            left.push(bare(alloc, names, atom)?)?;
         }
     }
     Ok(Entry::from_alternatives(left))
@@ -136,44 +139,27 @@ pub fn strip_entry(
     if is_bare_entry(&entry) {
         return Ok(entry);
     }
-    let alternatives = entry.into_alternatives();
-    let mut left = Vec::with_capacity(alloc, alternatives.len())?;
-    for atom in alternatives {
-        push_kept(&mut left, names, active, atom)?;
-    }
-    Ok(Entry::from_alternatives(left))
+    reduce_entry(alloc, &entry, names, active)
 }
 
-fn push_kept(
-    left: &mut Vec<Atom>,
-    names: &ArchNames,
-    active: &ProfileSet,
-    atom: Atom,
-) -> Result<(), AllocError>
-    ensures { OnOk result
-        (left.new.items ≡ left.old.items ++ reduced_entry names.now active.now (atom ∷ [])) }
+/// An alternative without restrictions, and without a qualifier that means nothing.
+///
+/// # Errors
+///
+/// Where memory is refused. Nothing is left behind.
+pub(crate) fn bare(alloc: Global, names: &ArchNames, atom: &Atom) -> Result<Atom, AllocError>
+    ensures { IfOk result (λ left. left ≡ bare names.now atom.now) }
 {
-    if keeps(&atom, names, active) {
-        left.push(bare(names, atom)?)?;
-    }
-    Ok(())
+    let qualifier = qualifier_left(names, atom.qualifier());
+    Atom::unrestricted(alloc, atom.name(), qualifier, atom.relation())
 }
 
-fn bare(names: &ArchNames, atom: Atom) -> Result<Atom, AllocError>
-    ensures { IfOk result (λ left. left ≡ bare names.now atom) }
-{
-    let (name, qualifier, relation) = atom.into_parts();
-    let alloc = *name.allocator();
-    let qualifier = qualifier_left(names, qualifier);
-    Atom::new(alloc, name, qualifier, relation, None, Vec::new(alloc))
-}
-
-fn qualifier_left(names: &ArchNames, qualifier: Option<Vec<u8>>) -> Option<Vec<u8>>
-    ensures { option_map (λ q. q.items) result
-        ≡ qualifier_left names.now (option_map (λ q. q.items) qualifier) }
+fn qualifier_left<'a>(names: &ArchNames, qualifier: Option<&'a [u8]>) -> Option<&'a [u8]>
+    ensures { option_map (λ q. q.now) result
+        ≡ qualifier_left names.now (option_map (λ q. q.now) qualifier.entry) }
 {
     match qualifier {
-        Some(qualifier) if !means_nothing(names, &qualifier) => Some(qualifier),
+        Some(qualifier) if !means_nothing(names, qualifier) => Some(qualifier),
         _ => None,
     }
 }

@@ -1,8 +1,7 @@
 -- An alternative behind the blanks at its front, and one that has no restriction.
-use Rattle.std.proofs.Common.{◌≡◌, ℕ, Bool, true, false, ◌==◌, List, [], ◌∷◌, length, Option, Some, None, Result, Ok, Err, refl, sym, ap, ◌∙◌, arith, inl, inr}
+use Rattle.std.proofs.Common.{◌≡◌, ℕ, Bool, true, false, ◌==◌, List, [], ◌∷◌, length, Option, None, Result, Ok, Err, refl, sym, ap, ◌∙◌, arith, inl, inr}
 use Rattle.std.proofs.lemmas.Bool.{cases_Bool, and_right, eqb-true, eqb-false}
 use Rattle.std.specs.List.{list_any, list_all}
-use Rattle.std.specs.Option.{is_some, option_map}
 use Rattle.deb_text.specs.Answers.{Fails}
 use Rattle.deb_text.specs.Bytes.{is_byte, is_blank}
 use Rattle.deb_text.specs.Cuts.{is_nil, first_is, behind}
@@ -73,44 +72,38 @@ module _ (kind : Kind) (text rest : List ℕ) (is : rest ≡ behind is_blank tex
   starts = rw is (behind-stops is_blank text)
 
 -- with nothing behind the relation there is no restriction
-pub limited-none : (kind : Kind) (name : List ℕ) (relation : Option (Op × List ℕ))
-    → limited_at kind name None relation [] ≡ Ok (record {
+pub limited-none : (kind : Kind) (name : List ℕ) (qualifier : Option (List ℕ))
+    (relation : Option (Op × List ℕ)) → limited_at kind name qualifier relation [] ≡ Ok (record {
       name = name;
-      qualifier = None;
+      qualifier = qualifier;
       relation = relation;
       archs = None;
       profiles = [];
     })
 unfolding archs_at profiles_at lists_at
-limited-none kind name relation = rw (and_right _ false refl) refl
-
-pub none-none : {Q R : Type 0} (f : Q → R) (q : Option Q) → is_some q ≡ false
-    → option_map f q ≡ None
-none-none f None is = refl
-none-none f (Some x) is = absurd cc
+limited-none kind name qualifier relation = rw (and_right _ false refl) refl
 
 -- an alternative that ends behind its relation
-pub atom-bare : (kind : Kind) (text name behind_name front end last : List ℕ)
+pub atom-unrestricted : (kind : Kind) (text name behind_name front end last : List ℕ)
     (qualifier : Option (List ℕ)) (relation : Option (Op × List ℕ))
     → first_is is_blank text ≡ false
     → name_at text ≡ Ok (name, behind_name)
     → qualifier_at behind_name ≡ Ok (qualifier, end)
-    → qualifier ≡ None
     → relation_at kind (behind is_blank end) ≡ Ok (relation, front)
     → last ≡ behind is_blank front → (length last == 0) ≡ true
     → atom_at kind text ≡ Ok (record {
       name = name;
-      qualifier = None;
+      qualifier = qualifier;
       relation = relation;
       archs = None;
       profiles = [];
     })
 unfolding atom_at
-atom-bare kind text name behind_name front end last qualifier relation starts at_name at_qualifier
-    none at_relation is empty =
+atom-unrestricted kind text name behind_name front end last qualifier relation starts at_name
+    at_qualifier at_relation is empty =
     let ends : behind is_blank front ≡ [] = sym is ∙ nil-true last empty in
-    rw (behind-whole is_blank text starts, at_name, at_qualifier, at_relation, none, ends)
-    (limited-none kind name relation)
+    rw (behind-whole is_blank text starts, at_name, at_qualifier, at_relation, ends)
+    (limited-none kind name qualifier relation)
 
 -- ---- an entry of one alternative
 

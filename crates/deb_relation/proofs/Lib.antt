@@ -4,3 +4,4 @@ pub mod FieldLaws
 pub mod ListLaws
 pub mod ReadLaws
 pub mod SpellingLaws
+pub mod StoreLaws

@@ -1,8 +1,9 @@
 pub mod Relations
 pub mod Marks
 pub mod Kinds
-pub mod Limits
+pub mod Bare
 pub mod Grammar
+pub mod Stored
 pub mod Restrictions
 pub mod Field
 pub mod Laws

@@ -1,98 +1,96 @@
 //! One alternative of a relation.
 
-ghost use Rattle.std.specs.Prelude.{◌≡◌, [], IfOk, None, true};
+ghost use Rattle.std.specs.Prelude.{◌≡◌, [], IfOk, IfSome, None, true};
 ghost use Rattle.std.specs.Option.{option_copied, option_map};
-ghost use Rattle.deb_relation.specs.Limits.{is_bare_atom, limits_in, plain};
+ghost use Rattle.std.specs.Result.{is_ok};
+ghost use Rattle.deb_version.specs.Grammar.{version_at};
+ghost use Rattle.deb_relation.specs.Bare.{is_bare_atom, plain};
 
 use crate::operator::Op;
+use crate::relation::{copy_relation, view_relation};
 use crate::restriction::{ArchList, ProfileList};
-use deb_version::Version;
+use crate::store::{Cuts, ROOM, SMALL_BLOCK, Store, Whole, joined_in, joined_in_block};
+use deb_version::VersionRef;
 use std::alloc::{AllocError, Global};
 use std::boxed::Box;
 use std::marker::Model;
 
-/// What few alternatives have: a qualifier, or restrictions to architectures and profiles.
-#[derive(Debug, Drop)]
-struct Limits {
-    qualifier: Option<Vec<u8>>,
-    archs: Option<ArchList>,
-    profiles: Vec<ProfileList>,
-}
-
-impl Model for Limits {
-    ghost use Rattle.std.specs.Option.{option_map};
-    ghost use Rattle.deb_relation.specs.Limits as spec;
-
-    ghost Value = { spec.Limits };
-
-    ghost view = { λ limits. record {
-      qualifier = option_map (λ q. q.items) limits.qualifier;
-      archs = limits.archs;
-      profiles = limits.profiles.items;
-    } };
-}
-
-impl Clone for Limits {
-    ghost is_clone = { λ limits copy. copy ≡ limits };
-
-    fn clone(&self) -> Result<Limits, AllocError> {
-        Ok(Limits {
-            qualifier: clone_qualifier(&self.qualifier)?,
-            archs: clone_archs(&self.archs)?,
-            profiles: self.profiles.clone()?,
-        })
-    }
-}
-
 /// One alternative, `name:qualifier (op version) [architectures] <profiles> ..` (Debian Policy
-/// 7.1). A name and a relation are all that most have, so the rest stands apart.
+/// 7.1). It takes 16 bytes, and a block where its texts have more than eleven.
 #[derive(Debug, Drop)]
 pub struct Atom {
-    pub name: Vec<u8>,
-    pub relation: Option<(Op, Version)>,
-    limits: Option<Box<Limits>>,
+    pub(crate) store: Store,
 }
 
 impl Model for Atom {
     ghost use Rattle.deb_relation.specs.Relations as spec;
-    ghost use Rattle.deb_relation.specs.Limits.{limits_in};
+    ghost use Rattle.deb_relation.specs.Stored.{IsKept, kept_in};
 
     ghost Value = { spec.Atom };
 
-    ghost view = { λ atom. record {
-      name = atom.name.items;
-      qualifier = (limits_in atom.limits).qualifier;
-      relation = atom.relation;
-      archs = (limits_in atom.limits).archs;
-      profiles = (limits_in atom.limits).profiles;
-    } };
+    ghost view = { λ atom. kept_in atom.store };
+
+    ghost invariant = { λ atom. IsKept atom.store };
 }
 
-/// What an alternative has beside its name and its relation, in a block of its own where it has
-/// anything.
-fn boxed(
+/// The version of a relation, if there is one.
+fn version_of<'a>(relation: &Option<(Op, VersionRef<'a>)>) -> Option<&'a [u8]>
+    ensures text { option_map (λ v. v.now) result ≡ option_map (λ r. r.1) relation.now }
+    ensures version { IfSome relation.now (λ r. is_ok (version_at r.1) ≡ true) }
+{
+    match relation {
+        Some((_, version)) => Some(version.text()),
+        None => None,
+    }
+}
+
+/// The operator of a relation, or any where there is none.
+fn operator_of(relation: &Option<(Op, VersionRef)>) -> Op
+    ensures { IfSome relation.now (λ r. result ≡ r.0) }
+{
+    match relation {
+        Some((op, _)) => *op,
+        None => Op::Equal,
+    }
+}
+
+/// Keeps an alternative by its parts, each in a block of its own.
+fn keep_whole(
     alloc: Global,
-    qualifier: Option<Vec<u8>>,
+    name: &[u8],
+    qualifier: Option<&[u8]>,
+    relation: Option<(Op, VersionRef)>,
     archs: Option<ArchList>,
     profiles: Vec<ProfileList>,
-) -> Result<Option<Box<Limits>>, AllocError>
-    ensures { IfOk result (λ limits. limits_in limits ≡ record {
-      qualifier = option_map (λ q. q.items) qualifier;
+) -> Result<Atom, AllocError>
+    ensures { IfOk result (λ atom. atom ≡ record {
+      name = name.now;
+      qualifier = option_map (λ q. q.now) qualifier.entry;
+      relation = relation.entry;
       archs = archs;
       profiles = profiles.items;
     }) }
 {
-    if qualifier.is_none() && archs.is_none() && profiles.is_empty() {
-        return Ok(None);
+    let whole = Whole {
+        name: Vec::from_slice(alloc, name)?,
+        qualifier: copy_qualifier(alloc, qualifier)?,
+        relation: copy_relation(alloc, relation)?,
+        archs,
+        profiles,
+    };
+    Ok(Atom {
+        store: Store::Whole(Box::new(alloc, whole)?),
+    })
+}
+
+fn copy_qualifier(alloc: Global, text: Option<&[u8]>) -> Result<Option<Vec<u8>>, AllocError>
+    ensures { IfOk result
+        (λ copy. option_map (λ q. q.items) copy ≡ option_map (λ q. q.now) text.entry) }
+{
+    match text {
+        Some(text) => Ok(Some(Vec::from_slice(alloc, text)?)),
+        None => Ok(None),
     }
-    Ok(Some(Box::new(
-        alloc,
-        Limits {
-            qualifier,
-            archs,
-            profiles,
-        },
-    )?))
 }
 
 impl Atom {
@@ -103,41 +101,75 @@ impl Atom {
     /// Where memory is refused. Nothing is left behind.
     pub fn new(
         alloc: Global,
-        name: Vec<u8>,
-        qualifier: Option<Vec<u8>>,
-        relation: Option<(Op, Version)>,
+        name: &[u8],
+        qualifier: Option<&[u8]>,
+        relation: Option<(Op, VersionRef)>,
         archs: Option<ArchList>,
         profiles: Vec<ProfileList>,
     ) -> Result<Atom, AllocError>
         ensures { IfOk result (λ atom. atom ≡ record {
-          name = name.items;
-          qualifier = option_map (λ q. q.items) qualifier;
-          relation = relation;
+          name = name.now;
+          qualifier = option_map (λ q. q.now) qualifier.entry;
+          relation = relation.entry;
           archs = archs;
           profiles = profiles.items;
         }) }
     {
+        if archs.is_none() && profiles.is_empty() {
+            return Atom::unrestricted(alloc, name, qualifier, relation);
+        }
+        keep_whole(alloc, name, qualifier, relation, archs, profiles)
+    }
+
+    /// Makes an alternative that is not restricted to architectures or profiles.
+    ///
+    /// # Errors
+    ///
+    /// Where memory is refused. Nothing is left behind.
+    pub fn unrestricted(
+        alloc: Global,
+        name: &[u8],
+        qualifier: Option<&[u8]>,
+        relation: Option<(Op, VersionRef)>,
+    ) -> Result<Atom, AllocError>
+        ensures { IfOk result (λ atom. atom ≡ record {
+          name = name.now;
+          qualifier = option_map (λ q. q.now) qualifier.entry;
+          relation = relation.entry;
+          archs = None;
+          profiles = [];
+        }) }
+    {
+        let version = version_of(&relation);
+        let Some(cuts) = Cuts::of(name, qualifier, version, operator_of(&relation)) else {
+            return keep_whole(alloc, name, qualifier, relation, None, Vec::new(alloc));
+        };
+        if cuts.version_end() <= ROOM {
+            return Ok(Atom {
+                store: Store::Here(cuts, joined_in::<ROOM>(name, qualifier, version)),
+            });
+        }
+        if cuts.version_end() <= SMALL_BLOCK {
+            let text = joined_in::<SMALL_BLOCK>(name, qualifier, version);
+            return Ok(Atom {
+                store: Store::Small(cuts, Box::new(alloc, text)?),
+            });
+        }
+        let text = joined_in_block(alloc, name, qualifier, version)?;
         Ok(Atom {
-            name,
-            relation,
-            limits: boxed(alloc, qualifier, archs, profiles)?,
+            store: Store::Large(cuts, Box::new(alloc, text)?),
         })
     }
 
-    /// Makes an alternative of a name and a relation alone.
-    pub(crate) fn bare(name: Vec<u8>, relation: Option<(Op, Version)>) -> Atom
-        ensures { result ≡ record {
-          name = name.items;
-          qualifier = None;
-          relation = relation;
-          archs = None;
-          profiles = [];
-        } }
+    /// The name.
+    pub fn name(&self) -> &[u8]
+        ensures { result.now ≡ self.now.name }
     {
-        Atom {
-            name,
-            relation,
-            limits: None,
+        match &self.store {
+            Store::Here(cuts, text) => cuts.name(text),
+            Store::Small(cuts, text) => cuts.name(text.as_slice()),
+            Store::Large(cuts, text) => cuts.name(text),
+            Store::Whole(whole) => &whole.name,
         }
     }
 
@@ -145,9 +177,23 @@ impl Atom {
     pub fn qualifier(&self) -> Option<&[u8]>
         ensures { option_map (λ q. q.now) result ≡ self.now.qualifier }
     {
-        match &self.limits {
-            Some(limits) => limits.qualifier.as_deref(),
-            None => None,
+        match &self.store {
+            Store::Here(cuts, text) => cuts.qualifier(text),
+            Store::Small(cuts, text) => cuts.qualifier(text.as_slice()),
+            Store::Large(cuts, text) => cuts.qualifier(text),
+            Store::Whole(whole) => whole.qualifier.as_deref(),
+        }
+    }
+
+    /// The relation to a version, if there is one.
+    pub fn relation(&self) -> Option<(Op, VersionRef<'_>)>
+        ensures { result ≡ self.now.relation }
+    {
+        match &self.store {
+            Store::Here(cuts, text) => cuts.relation(text),
+            Store::Small(cuts, text) => cuts.relation(text.as_slice()),
+            Store::Large(cuts, text) => cuts.relation(text),
+            Store::Whole(whole) => view_relation(&whole.relation),
         }
     }
 
@@ -155,9 +201,9 @@ impl Atom {
     pub fn archs(&self) -> Option<&ArchList>
         ensures { option_copied result ≡ self.now.archs }
     {
-        match &self.limits {
-            Some(limits) => limits.archs.as_ref(),
-            None => None,
+        match &self.store {
+            Store::Whole(whole) => whole.archs.as_ref(),
+            _ => None,
         }
     }
 
@@ -165,9 +211,9 @@ impl Atom {
     pub fn profiles(&self) -> &[ProfileList]
         ensures { result.now ≡ self.now.profiles }
     {
-        match &self.limits {
-            Some(limits) => &limits.profiles,
-            None => &[],
+        match &self.store {
+            Store::Whole(whole) => &whole.profiles,
+            _ => &[],
         }
     }
 
@@ -177,59 +223,14 @@ impl Atom {
         ensures bare { result ≡ is_bare_atom self.now }
         ensures plain { result ≡ true → self.now ≡ plain self.now }
     {
-        match &self.limits {
-            Some(limits) => {
-                limits.qualifier.is_none() && limits.archs.is_none() && limits.profiles.is_empty()
+        match &self.store {
+            Store::Here(cuts, _) | Store::Small(cuts, _) | Store::Large(cuts, _) => {
+                !cuts.has_qualifier()
             }
-            None => true,
+            Store::Whole(whole) => {
+                whole.qualifier.is_none() && whole.archs.is_none() && whole.profiles.is_empty()
+            }
         }
-    }
-
-    /// Copies the name, the qualifier and the relation, and no restriction.
-    ///
-    /// # Errors
-    ///
-    /// Where memory is refused. Nothing is left behind.
-    pub fn clone_unrestricted(&self) -> Result<Atom, AllocError>
-        ensures { IfOk result (λ copy. copy ≡ record {
-          name = self.now.name;
-          qualifier = self.now.qualifier;
-          relation = self.now.relation;
-          archs = None;
-          profiles = [];
-        }) }
-    {
-        let alloc = *self.name.allocator();
-        let qualifier = match self.qualifier() {
-            Some(qualifier) => Some(Vec::from_slice(alloc, qualifier)?),
-            None => None,
-        };
-        Atom::new(
-            alloc,
-            self.name.clone()?,
-            qualifier,
-            clone_relation(&self.relation)?,
-            None,
-            Vec::new(alloc),
-        )
-    }
-
-    /// The name, the qualifier and the relation, as the caller's own.
-    pub fn into_parts(self) -> (Vec<u8>, Option<Vec<u8>>, Option<(Op, Version)>)
-        ensures name { result.0.items ≡ self.name }
-        ensures qualifier { option_map (λ q. q.items) result.1 ≡ self.qualifier }
-        ensures relation { result.2 ≡ self.relation }
-    {
-        let Atom {
-            name,
-            relation,
-            limits,
-        } = self;
-        let qualifier = match limits {
-            Some(limits) => Box::into_inner(limits).qualifier,
-            None => None,
-        };
-        (name, qualifier, relation)
     }
 }
 
@@ -237,47 +238,12 @@ impl Clone for Atom {
     ghost is_clone = { λ atom copy. copy ≡ atom };
 
     fn clone(&self) -> Result<Atom, AllocError> {
-        Ok(Atom {
-            name: self.name.clone()?,
-            relation: clone_relation(&self.relation)?,
-            limits: clone_limits(&self.limits)?,
-        })
-    }
-}
-
-fn clone_limits(limits: &Option<Box<Limits>>) -> Result<Option<Box<Limits>>, AllocError>
-    ensures { IfOk result (λ copy. limits_in copy ≡ limits_in limits.now) }
-{
-    match limits {
-        Some(limits) => Ok(Some(limits.clone()?)),
-        None => Ok(None),
-    }
-}
-
-fn clone_qualifier(qualifier: &Option<Vec<u8>>) -> Result<Option<Vec<u8>>, AllocError>
-    ensures { IfOk result
-        (λ copy. option_map (λ q. q.items) copy ≡ option_map (λ q. q.items) qualifier.now) }
-{
-    match qualifier {
-        Some(qualifier) => Ok(Some(qualifier.clone()?)),
-        None => Ok(None),
-    }
-}
-
-fn clone_relation(relation: &Option<(Op, Version)>) -> Result<Option<(Op, Version)>, AllocError>
-    ensures { IfOk result (λ copy. copy ≡ relation.now) }
-{
-    match relation {
-        Some((op, version)) => Ok(Some((*op, version.clone()?))),
-        None => Ok(None),
-    }
-}
-
-fn clone_archs(archs: &Option<ArchList>) -> Result<Option<ArchList>, AllocError>
-    ensures { IfOk result (λ copy. copy ≡ archs.now) }
-{
-    match archs {
-        Some(archs) => Ok(Some(archs.clone()?)),
-        None => Ok(None),
+        let store = match &self.store {
+            Store::Here(cuts, text) => Store::Here(*cuts, *text),
+            Store::Small(cuts, text) => Store::Small(*cuts, text.clone()?),
+            Store::Large(cuts, text) => Store::Large(*cuts, text.clone()?),
+            Store::Whole(whole) => Store::Whole(whole.clone()?),
+        };
+        Ok(Atom { store })
     }
 }

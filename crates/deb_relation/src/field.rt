@@ -13,14 +13,14 @@ ghost use Rattle.deb_relation.specs.View.{refusal_of};
 
 use crate::atom::Atom;
 use crate::error::{ALTERNATIVES, NO_ALTERNATIVE, RelationError};
-use crate::grammar::{cut_relation, read_name, read_qualifier, read_relation};
+use crate::grammar::{read_name, read_qualifier, read_relation};
 use crate::kind::Kind;
 use crate::lists::{read_archs, read_profiles};
 use crate::operator::Op;
 use crate::relations::{Entry, Relations};
 use deb_text::{Class, all_in, cut_at_first, next_part, skip_front};
-use deb_version::Version;
-use std::alloc::{AllocError, Global};
+use deb_version::VersionRef;
+use std::alloc::Global;
 
 impl Relations {
     /// Reads a relation field of a kind, which is cut at each `,` (Debian Policy 7.1). An entry of
@@ -253,11 +253,21 @@ fn judge_alternative(alloc: Global, kind: Kind, text: &[u8]) -> Result<(), Relat
     Ok(())
 }
 
+/// How many bars a text has: so many alternatives, and one more, take room at once, and no list of
+/// them is copied as it grows.
+fn bars_in(text: &[u8]) -> usize {
+    let mut count = 0usize;
+    for byte in text {
+        count = count.saturating_add(usize::from(*byte == b'|'));
+    }
+    count
+}
+
 fn read_alternatives(alloc: Global, kind: Kind, text: &[u8]) -> Result<Vec<Atom>, RelationError>
     ensures { Gives refusal_of (λ atoms. atoms.items) result
         (traverse (alternative_at kind) (slice_split (is_byte bar) text.now)) }
 {
-    let mut alternatives = Vec::new(alloc);
+    let mut alternatives = Vec::with_capacity(alloc, bars_in(text).saturating_add(1))?;
     let mut left = Some(text);
     while let Some(rest) = left {
         let (piece, after) = next_part(b'|', rest);
@@ -288,32 +298,30 @@ fn read_atom(alloc: Global, kind: Kind, text: &[u8]) -> Result<Atom, RelationErr
 {
     let (name, rest) = read_name(text)?;
     let (qualifier, rest) = read_qualifier(rest)?;
-    let (relation, rest) = read_relation(alloc, kind, skip_front(Class::Blank, rest))?;
+    let (relation, rest) = read_relation(kind, skip_front(Class::Blank, rest))?;
     let rest = skip_front(Class::Blank, rest);
     // most alternatives end here
-    if qualifier.is_none() && rest.is_empty() {
-        return Ok(Atom::bare(Vec::from_slice(alloc, name)?, relation));
+    if rest.is_empty() {
+        return Ok(Atom::unrestricted(alloc, name, qualifier, relation)?);
     }
-    read_limited(alloc, kind, name, qualifier, relation, rest)
+    read_restricted(alloc, kind, name, qualifier, relation, rest)
 }
 
 /// Reads the restrictions of an alternative, whose other parts are read, to its end.
 #[inline(never)]
-fn read_limited(
+fn read_restricted(
     alloc: Global,
     kind: Kind,
     name: &[u8],
     qualifier: Option<&[u8]>,
-    relation: Option<(Op, Version)>,
+    relation: Option<(Op, VersionRef)>,
     text: &[u8],
 ) -> Result<Atom, RelationError>
     ensures { Gives refusal_of (λ atom. atom) result
-        (limited_at kind name.now (option_map (λ q. q.now) qualifier.entry) relation text.now) }
+        (limited_at kind name.now (option_map (λ q. q.now) qualifier.entry) relation.entry text.now) }
 {
     let (archs, rest) = read_archs(alloc, kind, text)?;
     let profiles = read_profiles(alloc, kind, rest)?;
-    let name = Vec::from_slice(alloc, name)?;
-    let qualifier = copy_qualifier(alloc, qualifier)?;
     Ok(Atom::new(alloc, name, qualifier, relation, archs, profiles)?)
 }
 
@@ -325,18 +333,8 @@ fn judge_atom(alloc: Global, kind: Kind, text: &[u8]) -> Result<(), RelationErro
 {
     let (_, rest) = read_name(text)?;
     let (_, rest) = read_qualifier(rest)?;
-    let (_, rest) = cut_relation(kind, skip_front(Class::Blank, rest))?;
+    let (_, rest) = read_relation(kind, skip_front(Class::Blank, rest))?;
     let (_, rest) = read_archs(alloc, kind, skip_front(Class::Blank, rest))?;
     read_profiles(alloc, kind, rest)?;
     Ok(())
-}
-
-fn copy_qualifier(alloc: Global, text: Option<&[u8]>) -> Result<Option<Vec<u8>>, AllocError>
-    ensures { IfOk result
-        (λ copy. option_map (λ q. q.items) copy ≡ option_map (λ q. q.now) text.entry) }
-{
-    match text {
-        Some(text) => Ok(Some(Vec::from_slice(alloc, text)?)),
-        None => Ok(None),
-    }
 }

@@ -12,9 +12,8 @@ ghost use Rattle.deb_relation.specs.View.{refusal_of};
 use crate::error::{BAD_NAME, BAD_OPERATOR, BAD_VERSION, NOT_CLOSED, NOT_EQUAL, RelationError};
 use crate::kind::Kind;
 use crate::operator::Op;
-use deb_text::{Class, MEMORY, begins_with, skip_front, split_front};
-use deb_version::{Version, is_version};
-use std::alloc::Global;
+use deb_text::{Class, begins_with, skip_front, split_front};
+use deb_version::VersionRef;
 
 /// Tells whether bytes of names, as they are here, make a name.
 fn make_name(bytes: &[u8]) -> bool
@@ -98,32 +97,14 @@ fn read_operator(kind: Kind, text: &[u8]) -> Result<(Op, &[u8]), RelationError>
 }
 
 #[tactic(auto, unfolding(crate::specs::Grammar::version_in))]
-fn read_version(alloc: Global, text: &[u8]) -> Result<(Version, &[u8]), RelationError>
+fn read_version(text: &[u8]) -> Result<(VersionRef<'_>, &[u8]), RelationError>
     ensures { Gives refusal_of (λ part. (part.0, part.1.now)) result (version_in text.now) }
 {
     let (version, rest) = split_front(Class::Version, text);
-    match Version::parse(alloc, version) {
+    match VersionRef::parse(version) {
         Ok(version) => Ok((version, rest)),
-        Err(error) => {
-            if error.code == MEMORY {
-                Err(RelationError { code: MEMORY })
-            } else {
-                Err(RelationError { code: BAD_VERSION })
-            }
-        }
+        Err(_) => Err(RelationError { code: BAD_VERSION }),
     }
-}
-
-/// Cuts off a version, and copies nothing.
-#[tactic(auto, unfolding(crate::specs::Grammar::version_in))]
-fn cut_version(text: &[u8]) -> Result<(&[u8], &[u8]), RelationError>
-    ensures { Gives refusal_of (λ part. (part.0.now, part.1.now)) result (version_in text.now) }
-{
-    let (version, rest) = split_front(Class::Version, text);
-    if !is_version(version) {
-        return Err(RelationError { code: BAD_VERSION });
-    }
-    Ok((version, rest))
 }
 
 fn skip_bracket(text: &[u8]) -> Result<&[u8], RelationError>
@@ -136,47 +117,23 @@ fn skip_bracket(text: &[u8]) -> Result<&[u8], RelationError>
 }
 
 /// Reads the relation to a version, if a bracket stands at the front, and gives what stands behind
-/// it too (Debian Policy 7.1).
+/// it too (Debian Policy 7.1). The call takes no memory.
 ///
 /// # Errors
 ///
 /// In this order: [`BAD_OPERATOR`]; [`NOT_EQUAL`] in a kind that takes `=` alone; [`BAD_VERSION`];
-/// [`NOT_CLOSED`] where no bracket closes it there. 900 where memory is refused.
+/// [`NOT_CLOSED`] where no bracket closes it there.
 #[tactic(auto, unfolding(crate::specs::Grammar::relation_at))]
 pub fn read_relation(
-    alloc: Global,
     kind: Kind,
     text: &[u8],
-) -> Result<(Option<(Op, Version)>, &[u8]), RelationError>
+) -> Result<(Option<(Op, VersionRef<'_>)>, &[u8]), RelationError>
     ensures { Gives refusal_of (λ part. (part.0, part.1.now)) result (relation_at kind text.now) }
 {
     match text {
         [b'(', rest @ ..] => {
             let (op, rest) = read_operator(kind, skip_front(Class::Blank, rest))?;
-            let (version, rest) = read_version(alloc, skip_front(Class::Blank, rest))?;
-            let rest = skip_bracket(skip_front(Class::Blank, rest))?;
-            Ok((Some((op, version)), rest))
-        }
-        _ => Ok((None, text)),
-    }
-}
-
-/// Cuts off the relation to a version as [`read_relation`] does, and copies nothing. The call takes
-/// no memory.
-///
-/// # Errors
-///
-/// Those of [`read_relation`], but for 900.
-#[tactic(auto, unfolding(crate::specs::Grammar::relation_at))]
-pub fn cut_relation(kind: Kind, text: &[u8]) -> Result<(Option<(Op, &[u8])>, &[u8]), RelationError>
-    ensures { Gives refusal_of
-        (λ part. (option_map (λ relation. (relation.0, relation.1.now)) part.0, part.1.now)) result
-        (relation_at kind text.now) }
-{
-    match text {
-        [b'(', rest @ ..] => {
-            let (op, rest) = read_operator(kind, skip_front(Class::Blank, rest))?;
-            let (version, rest) = cut_version(skip_front(Class::Blank, rest))?;
+            let (version, rest) = read_version(skip_front(Class::Blank, rest))?;
             let rest = skip_bracket(skip_front(Class::Blank, rest))?;
             Ok((Some((op, version)), rest))
         }

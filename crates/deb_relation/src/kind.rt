@@ -27,7 +27,7 @@ impl Kind {
     }
 
     /// Tells whether an entry may have several alternatives.
-    pub(crate) fn has_alternatives(self) -> bool
+    pub fn has_alternatives(self) -> bool
         ensures { result ≡ has_alternatives self }
     {
         matches!(self, Kind::Need | Kind::BuildNeed)

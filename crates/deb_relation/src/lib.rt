@@ -10,10 +10,12 @@ mod kind;
 pub mod laws;
 mod lists;
 mod operator;
+mod relation;
 mod relations;
 mod restriction;
 mod same;
 mod satisfaction;
+mod store;
 mod words;
 
 pub use atom::Atom;
@@ -24,6 +26,7 @@ pub use error::{
 pub use field::{judge_entries, next_entry};
 pub use kind::Kind;
 pub use operator::Op;
+pub use relation::{copy_relation, view_relation};
 pub use relations::{Entry, Relations};
 pub use restriction::{ArchList, Item, ProfileList, Word};
 pub use same::{hash_of_entry, is_same_entry};

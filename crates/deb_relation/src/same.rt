@@ -5,10 +5,10 @@ ghost use Rattle.std.specs.Prelude.{◌≡◌, IsTrue};
 use crate::atom::Atom;
 use crate::operator::Op;
 use deb_text::is_same_text;
-use deb_version::Version;
+use deb_version::VersionRef;
 
-fn is_same_relation(a: &Option<(Op, Version)>, b: &Option<(Op, Version)>) -> bool
-    ensures { IsTrue result → a.now ≡ b.now }
+fn is_same_relation(a: Option<(Op, VersionRef)>, b: Option<(Op, VersionRef)>) -> bool
+    ensures { IsTrue result → a.entry ≡ b.entry }
 {
     match (a, b) {
         (Some((op, bound)), Some((other, version))) => {
@@ -22,8 +22,8 @@ fn is_same_relation(a: &Option<(Op, Version)>, b: &Option<(Op, Version)>) -> boo
 fn is_same_atom(a: &Atom, b: &Atom) -> bool
     ensures { IsTrue result → a.now ≡ b.now }
 {
-    is_same_text(&a.name, &b.name)
-        && is_same_relation(&a.relation, &b.relation)
+    is_same_text(a.name(), b.name())
+        && is_same_relation(a.relation(), b.relation())
         && a.is_bare()
         && b.is_bare()
 }
@@ -58,9 +58,9 @@ fn mixed(number: u64, bytes: &[u8]) -> u64 {
 pub fn hash_of_entry(atoms: &[Atom]) -> u64 {
     let mut number = 0xcbf2_9ce4_8422_2325;
     for atom in atoms {
-        number = mixed(number, &atom.name);
-        if let Some((op, bound)) = &atom.relation {
-            number = mixed(number, &[*op as u8]);
+        number = mixed(number, atom.name());
+        if let Some((op, bound)) = atom.relation() {
+            number = mixed(number, &[op as u8]);
             number = mixed(number, bound.text());
         }
     }

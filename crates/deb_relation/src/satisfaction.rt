@@ -2,14 +2,13 @@
 
 ghost use Rattle.std.specs.Prelude.{◌≡◌};
 ghost use Rattle.std.specs.List.{list_any};
-ghost use Rattle.std.specs.Option.{option_copied};
 ghost use Rattle.deb_relation.specs.Satisfaction.{admits, in_relation, is_its_own, provides_in, provides_it, is_provided, package_satisfies};
 ghost use Rattle.deb_relation.specs.View.{facts_of};
 
 use crate::atom::Atom;
 use crate::operator::Op;
 use crate::relations::{Entry, Relations};
-use deb_version::Version;
+use deb_version::{Version, VersionRef};
 use std::cmp::Ordering;
 
 /// What is known of one package.
@@ -32,11 +31,11 @@ pub fn satisfies(facts: &Facts, atom: &Atom) -> bool
 }
 
 /// Tells whether a version stands in a relation (Debian Policy 7.1). In none, each does.
-pub fn in_relation(relation: Option<&(Op, Version)>, version: &Version) -> bool
-    ensures { result ≡ in_relation (option_copied relation.entry) version.now }
+pub fn in_relation(relation: Option<(Op, VersionRef)>, version: &VersionRef) -> bool
+    ensures { result ≡ in_relation relation.entry version.now }
 {
     match relation {
-        Some((op, bound)) => admits(*op, version.compare(bound)),
+        Some((op, bound)) => admits(op, version.compare(&bound)),
         None => true,
     }
 }
@@ -44,7 +43,7 @@ pub fn in_relation(relation: Option<&(Op, Version)>, version: &Version) -> bool
 fn is_its_own(facts: &Facts, atom: &Atom) -> bool
     ensures { result ≡ is_its_own (facts_of facts.now) atom.now }
 {
-    facts.name == atom.name.as_slice() && in_relation(atom.relation.as_ref(), facts.version)
+    facts.name == atom.name() && in_relation(atom.relation(), &facts.version.view())
 }
 
 fn is_provided(provides: &Relations, atom: &Atom) -> bool
@@ -71,15 +70,15 @@ pub fn provides_it(atom: &Atom, provided: &Atom) -> bool
     ensures { result ≡ provides_it atom.now provided.now }
 {
     provided.qualifier().is_none()
-        && provided.name == atom.name
-        && provides_in(&atom.relation, &provided.relation)
+        && provided.name() == atom.name()
+        && provides_in(atom.relation(), provided.relation())
 }
 
-fn provides_in(wanted: &Option<(Op, Version)>, provided: &Option<(Op, Version)>) -> bool
-    ensures { result ≡ provides_in wanted.now provided.now }
+fn provides_in(wanted: Option<(Op, VersionRef)>, provided: Option<(Op, VersionRef)>) -> bool
+    ensures { result ≡ provides_in wanted.entry provided.entry }
 {
     match provided {
-        Some((_, version)) => in_relation(wanted.as_ref(), version),
+        Some((_, version)) => in_relation(wanted, &version),
         None => wanted.is_none(),
     }
 }

@@ -1,11 +1,13 @@
 -- The pieces of a text, by their places.
-use Rattle.std.proofs.Common.{◌≡◌, ℕ, ◌+◌, ◌-◌, ◌<◌, ◌≤◌, Bool, true, false, not, ◌||◌, ◌&&◌, List, [], ◌∷◌, length, take, drop, None, codes, unwrap_or, add-one, refl, sym, ap, ◌∙◌, arith, length-drop, drop-drop, inl, inr, Result}
+use Rattle.std.proofs.Common.{◌≡◌, ℕ, ◌+◌, ◌-◌, ◌<◌, ◌≤◌, Bool, true, false, not, ◌||◌, ◌&&◌, List, [], ◌∷◌, length, take, drop, None, codes, unwrap_or, add-one, refl, sym, ap, ◌∙◌, arith, length-drop, drop-drop, inl, inr, Result, Ok, true≢false}
+use Rattle.std.specs.Prelude.{nat_lt, Option, Some, MatchOption}
 use Rattle.std.specs.List.{list_any, slice_range}
-use Rattle.std.proofs.lemmas.Bool.{cases_Bool}
+use Rattle.std.proofs.lemmas.Bool.{cases_Bool, ltb-false}
 use Rattle.std.proofs.lemmas.List.{take_all}
 use Rattle.deb_text.specs.Cuts.{before, after, before_last, after_last, is_last}
-use Rattle.std.specs.Result.{result_unwrap_or}
-use Rattle.deb_version.specs.Grammar.{is_colon, is_hyphen, parts_at, parts_with, pieces_of, rest_of, upstream_of}
+use Rattle.std.specs.Result.{is_ok, result_unwrap_or}
+use Rattle.deb_version.specs.declared.grammar.TheConstants.{MAX_LENGTH, MAX_EPOCH}
+use Rattle.deb_version.specs.Grammar.{epoch_number, has_bad_byte, has_empty_piece, is_colon, is_hyphen, parts_at, parts_with, pieces_of, rest_of, upstream_of, version_at}
 use Rattle.deb_version.specs.Order.{Parts, revision_of}
 use Rattle.deb_version.specs.Places.{IsVersion, start_of, end_of}
 
@@ -128,6 +130,44 @@ module _ (text : List ℕ) where
         | inl is ↦ absurd (omega (arith, length-rest, last-shorter is_hyphen rest is, rw is at le))
         | inr is ↦ rw is refl
       ]
+
+-- what is known of the pieces of a text that is a version
+pub record Known (text : List ℕ) : Type 0 where
+  pub short : length text ≤ MAX_LENGTH
+  pub bytes : has_bad_byte (pieces_of text) ≡ false
+  pub small : nat_lt MAX_EPOCH (epoch_number (pieces_of text)) ≡ false
+  pub parts : version_at text ≡ Ok (parts_with (epoch_number (pieces_of text)) (pieces_of text))
+
+pub known-pieces : (text : List ℕ) → is_ok (version_at text) ≡ true → Known text
+unfolding version_at
+known-pieces text is =
+    let pieces = pieces_of text in
+    elim (cases_Bool (nat_lt MAX_LENGTH (length text))) [
+      | inl long ↦ absurd (true≢false (sym (rw long at is)))
+      | inr short ↦ elim (cases_Bool (has_empty_piece pieces)) [
+        | inl empty ↦ absurd (true≢false (sym (rw (short, empty) at is)))
+        | inr some ↦ elim (cases_Bool (has_bad_byte pieces)) [
+          | inl bad ↦ absurd (true≢false (sym (rw (short, some, bad) at is)))
+          | inr good ↦ elim (cases_Bool (nat_lt MAX_EPOCH (epoch_number pieces))) [
+            | inl large ↦ absurd (true≢false (sym (rw (short, some, good, large) at is)))
+            | inr small ↦ record {
+              short = ltb-false MAX_LENGTH (length text) short;
+              bytes = good;
+              small = small;
+              parts = rw (short, some, good, small) refl;
+            }
+          ]
+        ]
+      ]
+    ]
+
+-- the epoch that was read, where it is not too large
+pub known-epoch : (read : Option ℕ) (epoch : ℕ)
+    → MatchOption read (nat_lt MAX_EPOCH epoch ≡ true)
+    (λ n. (nat_lt MAX_EPOCH epoch ≡ false) × (n ≡ epoch))
+    → nat_lt MAX_EPOCH epoch ≡ false → unwrap_or read 0 ≡ epoch
+known-epoch None epoch is small = absurd (true≢false (sym is ∙ small))
+known-epoch (Some n) epoch is small = is.1
 
 -- the parts of a version are its pieces
 module _ (text : List ℕ) (epoch start end : ℕ) (version : IsVersion text epoch start end) where

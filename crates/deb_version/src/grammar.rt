@@ -1,15 +1,13 @@
 //! The grammar of versions: the pieces of a text, and what is wrong with them.
 
-ghost use Rattle.std.specs.Prelude.{◌≡◌, ◌≤◌, nat_lt, true, false, not, MatchOption, Ok, Err, if◌then◌else◌};
+ghost use Rattle.std.specs.Prelude.{◌≡◌, ◌≤◌, nat_lt, true, false, MatchOption};
 ghost use Rattle.std.specs.List.{list_all};
-ghost use Rattle.deb_text.specs.Answers.{Gives};
 ghost use Rattle.deb_text.specs.Bytes.{is_digit};
 ghost use Rattle.deb_text.specs.Numbers.{number};
 ghost use Rattle.deb_version.specs.Grammar.{is_revision_byte, is_upstream_byte, pieces_of, has_empty_piece, has_bad_byte, epoch_number};
 ghost use Rattle.deb_version.specs.Places.{start_of};
-ghost use Rattle.deb_version.specs.View.{refusal_of, pieces_view};
+ghost use Rattle.deb_version.specs.View.{pieces_view};
 
-use crate::error::{EPOCH_TOO_LARGE, VersionError};
 use deb_text::{Class, all_in, cut_at_first, cut_at_last};
 
 /// The longest text of a version, in bytes. The limit is this crate's own.
@@ -78,36 +76,16 @@ pub fn has_bad_byte(pieces: &Pieces) -> bool
             .is_some_and(|revision| !is_revision(revision))
 }
 
-/// Reads the epoch, which is 0 where it is absent.
-///
-/// # Errors
-///
-/// [`EPOCH_TOO_LARGE`] over [`MAX_EPOCH`].
-pub fn epoch_of(pieces: &Pieces) -> Result<u32, VersionError>
+/// The epoch, which is 0 where it is absent, unless it is over [`MAX_EPOCH`].
+pub fn epoch_of(pieces: &Pieces) -> Option<u32>
     requires { has_bad_byte (pieces_view pieces.now) ≡ false }
-    ensures { Gives refusal_of (λ n. n) result
-        (if nat_lt MAX_EPOCH (epoch_number (pieces_view pieces.now)) then Err EPOCH_TOO_LARGE
-        else Ok (epoch_number (pieces_view pieces.now))) }
+    ensures { MatchOption result (nat_lt MAX_EPOCH (epoch_number (pieces_view pieces.now)) ≡ true)
+        (λ epoch. (nat_lt MAX_EPOCH (epoch_number (pieces_view pieces.now)) ≡ false)
+        × (epoch ≡ epoch_number (pieces_view pieces.now))) }
 {
     match pieces.epoch {
-        None => Ok(0),
-        Some(digits) => match number_of(digits) {
-            Some(epoch) => Ok(epoch),
-            None => Err(VersionError {
-                code: EPOCH_TOO_LARGE,
-            }),
-        },
-    }
-}
-
-/// Tells whether the epoch, if there is one, is at most [`MAX_EPOCH`].
-pub fn has_small_epoch(pieces: &Pieces) -> bool
-    requires { has_bad_byte (pieces_view pieces.now) ≡ false }
-    ensures { result ≡ not (nat_lt MAX_EPOCH (epoch_number (pieces_view pieces.now))) }
-{
-    match pieces.epoch {
-        None => true,
-        Some(digits) => number_of(digits).is_some(),
+        None => Some(0),
+        Some(digits) => number_of(digits),
     }
 }
 

@@ -1,23 +1,17 @@
 //! Versions of packages.
 
 ghost use Rattle.std.specs.Prelude.{◌≡◌, Ok, IfOk, refl};
-ghost use Rattle.std.specs.Result.{is_ok};
 ghost use Rattle.std.proofs.Common.{rules};
 ghost use Rattle.std.specs.Cmp.{partial_equiv_from_equiv, po};
 ghost use Rattle.std.specs.Cmp.Rules.{comparing};
 ghost use Rattle.std.specs.Ordering.{as_partial_cmp, eq_by_cmp};
 ghost use Rattle.deb_version.specs.OrderLaws.{text_cmp_total, text_eq_equiv};
 ghost use Rattle.deb_version.specs.Grammar.{version_at, parts_at, text_cmp};
-ghost use Rattle.deb_version.specs.Order.{revision_of};
 ghost use Rattle.deb_text.specs.Answers.{Gives};
 ghost use Rattle.deb_version.specs.View.{refusal_of};
 
-use crate::error::{BAD_CHARACTER, EMPTY_PART, TOO_LONG, VersionError};
-use crate::grammar::{
-    MAX_LENGTH, cut_into_pieces, epoch_of, has_bad_byte, has_empty_piece, has_small_epoch, start_of,
-};
-use crate::order::compare_parts;
-use deb_text::is_same_text;
+use crate::borrowed::VersionRef;
+use crate::error::VersionError;
 use std::alloc::{AllocError, Global};
 use std::cmp::Ordering;
 use std::marker::Model;
@@ -28,11 +22,11 @@ use std::marker::Model;
 /// written: `1.0`, `1.0-0` and `0:1.0` are.
 #[derive(Debug, Drop)]
 pub struct Version {
-    text: Vec<u8>,
-    epoch: u32,
-    /// Where the upstream begins in the text, and where it ends: comparing needs no search.
-    start: u16,
-    end: u16,
+    pub(crate) text: Vec<u8>,
+    pub(crate) epoch: u32,
+    /// Where the upstream begins in the text, and where it ends.
+    pub(crate) start: u16,
+    pub(crate) end: u16,
 }
 
 impl Model for Version {
@@ -47,41 +41,28 @@ impl Model for Version {
 }
 
 impl Version {
-    /// Reads a version.
-    ///
-    /// Upstream may have letters, digits and `. + - ~`, and colons where an epoch is present; a
-    /// revision may have letters, digits and `+ . ~`. Upstream need not begin with a digit.
+    /// Reads a version as [`VersionRef::parse`] does, and copies it.
     ///
     /// # Errors
     ///
-    /// In this order: [`TOO_LONG`] over 512 bytes; [`EMPTY_PART`] where the epoch, the upstream or
-    /// the revision is there and empty; [`BAD_CHARACTER`] where one has a byte that it may not
-    /// have; [`EPOCH_TOO_LARGE`](crate::EPOCH_TOO_LARGE) over 2147483647. Last, 900 where memory
-    /// ran out. Nothing is kept then.
-    #[tactic(auto, unfolding(crate::specs::Grammar::version_at))]
+    /// Those of [`VersionRef::parse`]. Last, 900 where memory ran out. Nothing is kept then.
     pub fn parse(alloc: Global, text: &[u8]) -> Result<Version, VersionError>
         ensures parts { Gives refusal_of parts_at result (version_at text.now) }
         ensures text { IfOk result (λ version. version ≡ text.now) }
     {
-        if text.len() > MAX_LENGTH {
-            return Err(VersionError { code: TOO_LONG });
+        Ok(VersionRef::parse(text)?.to_version(alloc)?)
+    }
+
+    /// The version, whose text stays where it is.
+    pub fn view(&self) -> VersionRef<'_>
+        ensures { result ≡ self.now }
+    {
+        VersionRef {
+            text: &self.text,
+            epoch: self.epoch,
+            start: self.start,
+            end: self.end,
         }
-        let pieces = cut_into_pieces(text);
-        if has_empty_piece(&pieces) {
-            return Err(VersionError { code: EMPTY_PART });
-        }
-        if has_bad_byte(&pieces) {
-            return Err(VersionError {
-                code: BAD_CHARACTER,
-            });
-        }
-        let start = start_of(&pieces);
-        Ok(Version {
-            epoch: epoch_of(&pieces)?,
-            text: Vec::from_slice(alloc, text)?,
-            start: start as u16,
-            end: (start + pieces.upstream.len()) as u16,
-        })
     }
 
     /// The text, as it was written.
@@ -94,56 +75,11 @@ impl Version {
 
     /// Compares two versions: their epochs, then their upstreams, then their revisions. The call
     /// takes no memory.
-    #[tactic(auto, unfolding(crate::specs::Order::version_cmp))]
     pub fn compare(&self, other: &Version) -> Ordering
         ensures order { result ≡ text_cmp self.now other.now }
     {
-        if is_same_text(&self.text, &other.text) {
-            return Ordering::Equal;
-        }
-        match self.epoch.cmp(&other.epoch) {
-            Ordering::Equal => {}
-            unequal => return unequal,
-        }
-        match compare_parts(self.upstream(), other.upstream()) {
-            Ordering::Equal => {}
-            unequal => return unequal,
-        }
-        compare_parts(self.revision_or_zero(), other.revision_or_zero())
+        self.view().compare(&other.view())
     }
-
-    fn upstream(&self) -> &[u8]
-        ensures { result.now ≡ (parts_at self.now).upstream }
-    {
-        &self.text[usize::from(self.start)..usize::from(self.end)]
-    }
-
-    /// The revision, which is `0` where it is absent.
-    fn revision_or_zero(&self) -> &[u8]
-        ensures { result.now ≡ revision_of (parts_at self.now) }
-    {
-        let end = usize::from(self.end);
-        if end < self.text.len() {
-            &self.text[end + 1..]
-        } else {
-            b"0"
-        }
-    }
-}
-
-/// Tells whether a text is read as a version. The call takes no memory.
-#[tactic(auto, unfolding(crate::specs::Grammar::version_at))]
-pub fn is_version(text: &[u8]) -> bool
-    ensures { result ≡ is_ok (version_at text.now) }
-{
-    if text.len() > MAX_LENGTH {
-        return false;
-    }
-    let pieces = cut_into_pieces(text);
-    if has_empty_piece(&pieces) || has_bad_byte(&pieces) {
-        return false;
-    }
-    has_small_epoch(&pieces)
 }
 
 impl Clone for Version {

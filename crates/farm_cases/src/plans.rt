@@ -1,6 +1,7 @@
 //! A plan in a readable form.
 
 use crate::relations::{push_entry, push_relation};
+use deb_relation::view_relation;
 use farm_universe::Universe;
 use plan_asm::{Instruction, Lane, Members, Plan};
 use std::alloc::AllocError;
@@ -43,7 +44,7 @@ fn push_instruction(
     match instruction {
         Instruction::Unpack { name, relation } => {
             write!(text, "unpack {}", name_of(universe, *name).escape_ascii())?;
-            push_relation(text, relation)?;
+            push_relation(text, view_relation(relation))?;
         }
         Instruction::Configure(members) => push_members(text, universe, "configure", members)?,
         Instruction::Deconfigure(members) => push_members(text, universe, "deconfigure", members)?,
@@ -56,7 +57,7 @@ fn push_instruction(
         }
         Instruction::When { name, relation } => {
             write!(text, "when {}", name_of(universe, *name).escape_ascii())?;
-            push_relation(text, relation)?;
+            push_relation(text, view_relation(relation))?;
         }
         Instruction::Otherwise => text.push_str("else")?,
         Instruction::EndWhen => text.push_str("end")?,

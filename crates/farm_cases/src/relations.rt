@@ -5,7 +5,7 @@ ghost use Rattle.farm_model.specs.Packages.{names};
 ghost use Rattle.farm_model.specs.Sound.{IsKnown};
 
 use deb_relation::{Atom, Entry, Op, Relations};
-use deb_version::Version;
+use deb_version::VersionRef;
 use farm_universe::{Universe, Variant};
 use std::alloc::AllocError;
 
@@ -26,13 +26,13 @@ fn operator(op: Op) -> &'static str {
 /// [`AllocError`] where memory is refused. What stands behind the text then is not said.
 pub fn push_relation(
     text: &mut String,
-    relation: &Option<(Op, Version)>,
+    relation: Option<(Op, VersionRef)>,
 ) -> Result<(), AllocError> {
     if let Some((op, version)) = relation {
         write!(
             text,
             " ({} {})",
-            operator(*op),
+            operator(op),
             version.text().escape_ascii()
         )?;
     }
@@ -40,11 +40,11 @@ pub fn push_relation(
 }
 
 fn push_alternative(text: &mut String, atom: &Atom) -> Result<(), AllocError> {
-    write!(text, " {}", atom.name.escape_ascii())?;
+    write!(text, " {}", atom.name().escape_ascii())?;
     if let Some(qualifier) = atom.qualifier() {
         write!(text, ":{}", qualifier.escape_ascii())?;
     }
-    push_relation(text, &atom.relation)
+    push_relation(text, atom.relation())
 }
 
 /// An entry, as ` libgmp | libgmp:odd`.
@@ -95,7 +95,7 @@ fn passes(universe: &Universe, variant: Variant, atom: &Atom, test: Test) -> boo
 {
     match test {
         Test::Satisfies => universe.satisfies(variant, atom),
-        Test::IsWanted => universe.is_wanted(variant, atom.relation.as_ref()),
+        Test::IsWanted => universe.is_wanted(variant, atom.relation()),
     }
 }
 

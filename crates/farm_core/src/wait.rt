@@ -15,7 +15,7 @@ fn named_passes(universe: &Universe, archive: &PlainArchive, entry: &Entry) -> b
         → turn.passes universe.now (has_bit archive.now.words) entry.now ≡ true }
 {
     for atom in entry.alternatives() {
-        if let Some(name) = universe.find(&atom.name) {
+        if let Some(name) = universe.find(atom.name()) {
             if some_satisfies(universe, name, archive.word(name), entry) {
                 return true;
             }

@@ -19,10 +19,7 @@ use std::alloc::AllocError;
 fn names_it(entry: &Entry, name: &[u8]) -> bool
     ensures { result ≡ spec.names_it entry.now name.now }
 {
-    entry
-        .alternatives()
-        .iter()
-        .any(|atom| atom.name.as_slice() == name)
+    entry.alternatives().iter().any(|atom| atom.name() == name)
 }
 
 /// Tells whether some item of a list has this name.
@@ -60,7 +57,7 @@ pub fn could_meet(universe: &Universe, entry: &Entry, number: u32) -> bool
     entry
         .alternatives()
         .iter()
-        .any(|atom| goes_by(universe, number, &atom.name))
+        .any(|atom| goes_by(universe, number, atom.name()))
 }
 
 /// What may be held in a chroot ahead of an instruction, which is an unpack or not.

@@ -7,13 +7,13 @@ ghost use Rattle.farm_model.specs.Sound.{IsKnown};
 ghost use Rattle.farm_notes.specs.Items as spec;
 
 use deb_relation::Entry;
-use deb_version::Version;
+use deb_version::VersionRef;
 use farm_model::Variant;
 use farm_universe::Universe;
 
 /// The variant of a name with this version, however it is written.
 #[tactic(auto, unfolding(crate::specs::Items::find_variant))]
-fn find_variant(universe: &Universe, name: &[u8], version: &Version) -> Option<Variant>
+fn find_variant(universe: &Universe, name: &[u8], version: &VersionRef) -> Option<Variant>
     ensures found { result ≡ spec.find_variant universe.now name.now version.now }
     ensures named { IfSome result (λ v. v.name < names universe.now) }
     ensures known { IfSome result (IsKnown universe.now) }
@@ -21,7 +21,7 @@ fn find_variant(universe: &Universe, name: &[u8], version: &Version) -> Option<V
     let number = universe.find(name)?;
     for bit in 0..universe.variants(number) {
         let variant = Variant { name: number, bit };
-        if version.compare(universe.version(variant)).is_eq() {
+        if version.compare(&universe.version(variant).view()).is_eq() {
             return Some(variant);
         }
     }
@@ -36,7 +36,7 @@ pub fn item_variant(universe: &Universe, item: &Entry) -> Option<Variant>
     ensures known { IfSome result (IsKnown universe.now) }
 {
     let (name, version) = farm_universe::pinned(item)?;
-    find_variant(universe, name, version)
+    find_variant(universe, name, &version)
 }
 
 /// Gives the place of the first item that names no variant of the universe.

@@ -5,6 +5,7 @@ ghost use Rattle.plan_asm.specs.Listing.{names_text, instruction_text};
 
 use crate::relations::{push_entry, push_relation};
 use crate::variants::name_of;
+use deb_relation::view_relation;
 use deb_text::push_pieces;
 use farm_universe::Universe;
 use plan_model::Instruction;
@@ -43,7 +44,7 @@ pub fn push_instruction(
     match instruction {
         Instruction::Unpack { name, relation } => {
             push_pieces(text, &[b"unpack ", name_of(universe, *name)])?;
-            push_relation(text, relation)
+            push_relation(text, view_relation(relation))
         }
         Instruction::Configure(members) => {
             push_set(text, universe, b"configure", members.as_slice())
@@ -65,7 +66,7 @@ pub fn push_instruction(
         }
         Instruction::When { name, relation } => {
             push_pieces(text, &[b"when ", name_of(universe, *name)])?;
-            push_relation(text, relation)
+            push_relation(text, view_relation(relation))
         }
         Instruction::Otherwise => push_pieces(text, &[b"else"]),
         Instruction::EndWhen => push_pieces(text, &[b"end"]),

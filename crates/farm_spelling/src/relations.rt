@@ -5,7 +5,7 @@ ghost use Rattle.deb_relation.specs.Spelling.{operator_text, relation_text, atom
 
 use deb_relation::{Atom, Entry, Op};
 use deb_text::push_pieces;
-use deb_version::Version;
+use deb_version::VersionRef;
 use std::alloc::AllocError;
 
 fn operator_text(op: Op) -> &'static [u8]
@@ -25,13 +25,16 @@ fn operator_text(op: Op) -> &'static [u8]
 /// # Errors
 ///
 /// [`AllocError`] where memory is refused.
-pub fn push_relation(text: &mut Vec<u8>, relation: &Option<(Op, Version)>) -> Result<(), AllocError>
-    ensures { OnOk result (text.new.items ≡ text.old.items ++ relation_text relation.now) }
+pub fn push_relation(
+    text: &mut Vec<u8>,
+    relation: Option<(Op, VersionRef)>,
+) -> Result<(), AllocError>
+    ensures { OnOk result (text.new.items ≡ text.old.items ++ relation_text relation.entry) }
 {
     match relation {
         None => Ok(()),
         Some((op, version)) => {
-            push_pieces(text, &[b" (", operator_text(*op), b" "])?;
+            push_pieces(text, &[b" (", operator_text(op), b" "])?;
             push_pieces(text, &[version.text(), b")"])
         }
     }
@@ -41,11 +44,11 @@ pub fn push_relation(text: &mut Vec<u8>, relation: &Option<(Op, Version)>) -> Re
 fn push_atom(text: &mut Vec<u8>, atom: &Atom) -> Result<(), AllocError>
     ensures { OnOk result (text.new.items ≡ text.old.items ++ atom_text atom.now) }
 {
-    text.extend_from_slice(&atom.name)?;
+    text.extend_from_slice(atom.name())?;
     if let Some(qualifier) = atom.qualifier() {
         push_pieces(text, &[b":", qualifier])?;
     }
-    push_relation(text, &atom.relation)
+    push_relation(text, atom.relation())
 }
 
 fn push_more(text: &mut Vec<u8>, atoms: &[Atom]) -> Result<(), AllocError>

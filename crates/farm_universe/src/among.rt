@@ -149,7 +149,7 @@ impl<'a> Among<'a> {
         ensures { result ≡ list_any (λ m. is_another_member besides m
             && is_its_own (base.member_facts m) atom.now) self.now }
     {
-        self.any_named_at(besides, atom, self.named.listed(&atom.name))
+        self.any_named_at(besides, atom, self.named.listed(atom.name()))
     }
 
     /// Tells whether one of them, of another name than this, provides an alternative.
@@ -157,7 +157,7 @@ impl<'a> Among<'a> {
         ensures { result ≡ list_any (λ m. is_another_member besides m
             && is_provided m.binary.provides atom.now) self.now }
     {
-        self.any_provided_at(besides, atom, self.provided.listed(&atom.name))
+        self.any_provided_at(besides, atom, self.provided.listed(atom.name()))
     }
 
     /// Tells whether one of them, of another name than this, satisfies an alternative.

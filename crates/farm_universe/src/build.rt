@@ -49,7 +49,7 @@ fn read_first_source<'a>(
     let Some((name, version)) = pinned(entry) else {
         return Err(FieldFault::UnknownSource);
     };
-    match find_source(sources, name, version) {
+    match find_source(sources, name, &version) {
         Some(source) => Ok(source),
         None => Err(FieldFault::UnknownSource),
     }

@@ -18,7 +18,7 @@ use crate::binary::Package;
 use crate::error::FieldFault;
 use crate::package_table::{PackageTable, packages_at, place_of};
 use deb_relation::{Entry, Kind, Relations, next_entry};
-use deb_version::Version;
+use deb_version::VersionRef;
 use farm_model::Variant;
 use std::alloc::Global;
 
@@ -29,10 +29,10 @@ pub struct VariantList {
     pub words: Vec<u64>,
 }
 
-fn has_version(version: &Version, binary: &Package) -> bool
+fn has_version(version: &VersionRef, binary: &Package) -> bool
     ensures { result ≡ has_version version.now binary.now }
 {
-    version.compare(binary.version()).is_eq()
+    version.compare(&binary.version().view()).is_eq()
 }
 
 /// Tells whether two texts are the same. Versions are short.
@@ -43,7 +43,7 @@ fn is_same_text(text: &[u8], other: &[u8]) -> bool
 }
 
 /// The place of the package whose version is written so.
-fn written_at(packages: &[Package], version: &Version) -> Option<usize>
+fn written_at(packages: &[Package], version: &VersionRef) -> Option<usize>
     ensures bit { result ≡ position (λ p. bytes_eq p.version version.now) packages.now }
     ensures within { IfSome result (λ bit. bit < length packages.now) }
 {
@@ -52,7 +52,7 @@ fn written_at(packages: &[Package], version: &Version) -> Option<usize>
 
 /// The place of a version among the packages of a name. A list mostly writes it as its package does,
 /// and no two of them have the same, so that the others need not be compared.
-fn bit_of(packages: &[Package], version: &Version) -> Option<usize>
+fn bit_of(packages: &[Package], version: &VersionRef) -> Option<usize>
     requires { Rises packages.now }
     ensures bit { result ≡ position (has_version version.now) packages.now }
     ensures within { IfSome result (λ bit. bit < length packages.now) }
@@ -68,7 +68,7 @@ fn bit_of(packages: &[Package], version: &Version) -> Option<usize>
 
 /// The variant of a name with this version.
 #[tactic(auto, unfolding(crate::specs::ListText::find_variant))]
-fn find_variant(table: &PackageTable, name: &[u8], version: &Version) -> Option<Variant>
+fn find_variant(table: &PackageTable, name: &[u8], version: &VersionRef) -> Option<Variant>
     requires fit { IsFit (table_view table.now) }
     ensures found { result ≡ find_variant (table_view table.now) name.now version.now }
     ensures place { IfSome result (IsPlace (table_view table.now)) }
@@ -83,8 +83,8 @@ fn find_variant(table: &PackageTable, name: &[u8], version: &Version) -> Option<
 
 /// The name and the version of an item `name (= version)`.
 #[tactic(auto, unfolding(crate::specs::ListText::pinned))]
-pub fn pinned(entry: &Entry) -> Option<(&[u8], &Version)>
-    ensures { option_map (λ item. (item.0.now, item.1.now)) result ≡ pinned entry.now }
+pub fn pinned(entry: &Entry) -> Option<(&[u8], VersionRef<'_>)>
+    ensures { option_map (λ item. (item.0.now, item.1)) result ≡ pinned entry.now }
 {
     let [atom] = entry.alternatives() else {
         return None;
@@ -92,8 +92,8 @@ pub fn pinned(entry: &Entry) -> Option<(&[u8], &Version)>
     if atom.qualifier().is_some() {
         return None;
     }
-    match &atom.relation {
-        Some((_, version)) => Some((&atom.name, version)),
+    match atom.relation() {
+        Some((_, version)) => Some((atom.name(), version)),
         None => None,
     }
 }
@@ -108,7 +108,7 @@ fn read_variant(table: &PackageTable, entry: &Entry) -> Result<Variant, FieldFau
     let Some((name, version)) = pinned(entry) else {
         return Err(FieldFault::UnknownVariant);
     };
-    match find_variant(table, name, version) {
+    match find_variant(table, name, &version) {
         Some(variant) => Ok(variant),
         None => Err(FieldFault::UnknownVariant),
     }

@@ -83,8 +83,7 @@ impl<'a> Member<'a> {
     pub fn is_named(&self, atom: &Atom) -> bool
         ensures { result ≡ is_its_own (base.member_facts self.now) atom.now }
     {
-        self.name == atom.name.as_slice()
-            && in_relation(atom.relation.as_ref(), self.binary.version())
+        self.name == atom.name() && in_relation(atom.relation(), &self.binary.version().view())
     }
 
     /// Tells whether what it provides at this place provides an alternative.

@@ -23,7 +23,7 @@ use crate::steps::{ParagraphStep, read_steps};
 use deb_stanza::Paragraphs;
 use deb_text::Fault;
 use deb_text::files::SOURCES;
-use deb_version::Version;
+use deb_version::{Version, VersionRef};
 use indexmap::IndexSet;
 use std::alloc::Global;
 
@@ -37,14 +37,14 @@ pub struct SourceTable {
 }
 
 /// Tells whether a source has this version.
-fn is_of_version(version: &Version, source: &Source) -> bool
+fn is_of_version(version: &VersionRef, source: &Source) -> bool
     ensures { result ≡ is_of_version version.now source.now }
 {
-    version.compare(&source.version).is_eq()
+    version.compare(&source.version.view()).is_eq()
 }
 
 /// Tells whether one of the sources has this version.
-fn is_given(given: &[Source], version: &Version) -> bool
+fn is_given(given: &[Source], version: &VersionRef) -> bool
     ensures { result ≡ list_any (is_of_version version.now) given.now }
 {
     given.iter().any(|source| is_of_version(version, source))
@@ -56,7 +56,7 @@ fn fault_at(table: &SourceTable, at: Option<usize>, listed: &ListedSource) -> Op
     ensures { option_map code_of result
         ≡ source_code (source_view table.now) at (listed_source_view listed.now) }
 {
-    if is_given(group_at(&table.sources, at), &listed.source.version) {
+    if is_given(group_at(&table.sources, at), &listed.source.version.view()) {
         return Some(FieldFault::Twice);
     }
     if table.count >= MOST_SOURCES {
@@ -197,7 +197,11 @@ pub fn read_sources(alloc: Global, paragraphs: &Paragraphs) -> Result<SourceTabl
 
 /// The source of a name with this version.
 #[tactic(auto, unfolding(crate::specs::SourcesText::find_source))]
-pub fn find_source<'a>(table: &'a SourceTable, name: &[u8], version: &Version) -> Option<&'a Source>
+pub fn find_source<'a>(
+    table: &'a SourceTable,
+    name: &[u8],
+    version: &VersionRef,
+) -> Option<&'a Source>
     requires { IsSourceTable (source_view table.now) }
     ensures { option_map (λ source. source.now) result
         ≡ find_source (source_view table.now) name.now version.now }

@@ -26,7 +26,7 @@ use crate::texts::{
 use deb_profile::ArchNames;
 use deb_relation::{Atom, Facts, Op, in_relation, satisfies};
 use deb_text::Fault;
-use deb_version::Version;
+use deb_version::{Version, VersionRef};
 use farm_model::Variant;
 use indexmap::IndexSet;
 use std::alloc::Global;
@@ -285,11 +285,11 @@ impl Universe {
 
     /// Tells whether the version of a variant stands in a relation (Debian Policy 7.1).
     #[tactic(auto, unfolding(farm_model::specs::Packages::is_wanted))]
-    pub fn is_wanted(&self, variant: Variant, relation: Option<&(Op, Version)>) -> bool
+    pub fn is_wanted(&self, variant: Variant, relation: Option<(Op, VersionRef)>) -> bool
         requires { IsKnown self.now variant }
-        ensures { result ≡ is_wanted self.now (option_copied relation.entry) variant }
+        ensures { result ≡ is_wanted self.now relation.entry variant }
     {
-        in_relation(relation, self.version(variant))
+        in_relation(relation, &self.version(variant).view())
     }
 
     /// How many recipes there are.

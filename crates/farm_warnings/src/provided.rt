@@ -20,7 +20,7 @@ fn note_entry(alloc: Global, found: &mut WordSet, entry: &Entry) -> Result<(), A
 {
     let mut left = entry.alternatives();
     while let [atom, rest @ ..] = left {
-        found.add(alloc, &atom.name)?;
+        found.add(alloc, atom.name())?;
         left = rest;
     }
     Ok(())

@@ -48,7 +48,7 @@ fn could_meet(universe: &Universe, provided: &WordSet, entry: &Entry) -> bool
 {
     let mut left = entry.alternatives();
     while let [atom, rest @ ..] = left {
-        if goes_by(universe, provided, &atom.name) {
+        if goes_by(universe, provided, atom.name()) {
             return true;
         }
         left = rest;

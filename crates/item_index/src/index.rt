@@ -132,7 +132,7 @@ impl<O: Copy + Drop> ItemIndex<O> {
                 entry: number,
                 alternative,
             };
-            self.add(&atom.name, item)?;
+            self.add(atom.name(), item)?;
         }
         Ok(())
     }

@@ -8,7 +8,7 @@ ghost use Rattle.sat_rows.specs.Rows.{IsWordFor};
 ghost use Rattle.may_rows.specs.Picks.{AreOfArchive, IsPick};
 
 use bit_rows::newest;
-use deb_relation::Op;
+use deb_relation::{Op, view_relation};
 use deb_version::Version;
 use farm_universe::Universe;
 use sat_rows::mask;
@@ -26,7 +26,7 @@ fn from_bit(word: u64, bit: u32) -> u64
 fn wanted_word(universe: &Universe, name: u32, relation: &Option<(Op, Version)>) -> u64
     ensures { IsWordFor universe.now (is_wanted universe.now relation.now) name result }
 {
-    mask(universe, name, relation.as_ref())
+    mask(universe, name, view_relation(relation))
 }
 
 /// The variants of a name that an unpack may take, by the words of what is surely in the archive

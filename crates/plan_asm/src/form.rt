@@ -15,7 +15,7 @@ ghost use Rattle.plan_asm.specs.View.{wording_of, form_of};
 
 use crate::error::LineError;
 use crate::same::is_same;
-use deb_relation::{Atom, Entry, Kind, Op, RelationError};
+use deb_relation::{Atom, Entry, Kind, Op, RelationError, copy_relation};
 use deb_text::{Class, MEMORY, is_word, next_word, read_number, skip_front, split_front};
 use deb_version::Version;
 use std::alloc::Global;
@@ -168,8 +168,8 @@ fn read_unpack<'a>(alloc: Global, text: &[u8]) -> Result<Wording<'a>, LineError>
 {
     let piece = read_piece(alloc, text)?;
     Ok(Wording::Unpack {
-        name: piece.name,
-        relation: piece.relation,
+        name: Vec::from_slice(alloc, piece.name())?,
+        relation: copy_relation(alloc, piece.relation())?,
     })
 }
 
@@ -178,8 +178,8 @@ fn read_when<'a>(alloc: Global, text: &[u8]) -> Result<Wording<'a>, LineError>
 {
     let piece = read_piece(alloc, text)?;
     Ok(Wording::When {
-        name: piece.name,
-        relation: piece.relation,
+        name: Vec::from_slice(alloc, piece.name())?,
+        relation: copy_relation(alloc, piece.relation())?,
     })
 }
 

@@ -9,9 +9,9 @@ ghost use Rattle.plan_asm.specs.Listing.{inside_behind, instruction_lines, lane_
 
 use crate::lane::Lane;
 use crate::plan::Plan;
-use deb_relation::{Atom, Entry, Op};
+use deb_relation::{Atom, Entry, Op, view_relation};
 use deb_text::push_pieces;
-use deb_version::Version;
+use deb_version::VersionRef;
 use farm_universe::Universe;
 use plan_model::Instruction;
 use std::alloc::{AllocError, Global};
@@ -28,13 +28,13 @@ fn operator_text(op: Op) -> &'static [u8]
     }
 }
 
-fn push_relation(text: &mut Vec<u8>, relation: &Option<(Op, Version)>) -> Result<(), AllocError>
-    ensures { OnOk result (text.new.items ≡ text.old.items ++ relation_text relation.now) }
+fn push_relation(text: &mut Vec<u8>, relation: Option<(Op, VersionRef)>) -> Result<(), AllocError>
+    ensures { OnOk result (text.new.items ≡ text.old.items ++ relation_text relation.entry) }
 {
     match relation {
         None => Ok(()),
         Some((op, version)) => {
-            push_pieces(text, &[b" (", operator_text(*op), b" "])?;
+            push_pieces(text, &[b" (", operator_text(op), b" "])?;
             push_pieces(text, &[version.text(), b")"])
         }
     }
@@ -44,11 +44,11 @@ fn push_relation(text: &mut Vec<u8>, relation: &Option<(Op, Version)>) -> Result
 fn push_atom(text: &mut Vec<u8>, atom: &Atom) -> Result<(), AllocError>
     ensures { OnOk result (text.new.items ≡ text.old.items ++ atom_text atom.now) }
 {
-    text.extend_from_slice(&atom.name)?;
+    text.extend_from_slice(atom.name())?;
     if let Some(qualifier) = atom.qualifier() {
         push_pieces(text, &[b":", qualifier])?;
     }
-    push_relation(text, &atom.relation)
+    push_relation(text, atom.relation())
 }
 
 fn push_more(text: &mut Vec<u8>, atoms: &[Atom]) -> Result<(), AllocError>
@@ -125,7 +125,7 @@ fn push_instruction(
     match instruction {
         Instruction::Unpack { name, relation } => {
             push_pieces(text, &[b"unpack ", name_of(universe, *name)])?;
-            push_relation(text, relation)
+            push_relation(text, view_relation(relation))
         }
         Instruction::Configure(members) => {
             push_set(text, universe, b"configure", members.as_slice())
@@ -147,7 +147,7 @@ fn push_instruction(
         }
         Instruction::When { name, relation } => {
             push_pieces(text, &[b"when ", name_of(universe, *name)])?;
-            push_relation(text, relation)
+            push_relation(text, view_relation(relation))
         }
         Instruction::Otherwise => push_pieces(text, &[b"else"]),
         Instruction::EndWhen => push_pieces(text, &[b"end"]),

@@ -23,7 +23,7 @@ use crate::opens::{open_behind, place_before};
 use crate::origins::{Origins, find_origins};
 use bit_rows::Row;
 use cert_text::CertFault;
-use deb_relation::{Entry, Op};
+use deb_relation::{Entry, Op, view_relation};
 use deb_version::Version;
 use farm_universe::Universe;
 use plan_asm::Instruction;
@@ -105,7 +105,7 @@ fn name_row(
     ensures { IfOk result (IsRowOf universe.now (is_of universe.now name relation.now)) }
 {
     let mut row = Row::new(alloc, universe.names() as usize)?;
-    row.set_word(name as usize, mask(universe, name, relation.as_ref()))?;
+    row.set_word(name as usize, mask(universe, name, view_relation(relation)))?;
     Ok(row)
 }
 

@@ -72,7 +72,8 @@ fn spell_unrestricted(alloc: Global, kind: Kind, text: &[u8]) -> Answer {
 }
 
 fn without_restrictions(alloc: Global, atom: &Atom) -> Answer {
-    spelled_atom(alloc, &atom.clone_unrestricted()?)
+    let left = Atom::unrestricted(alloc, atom.name(), atom.qualifier(), atom.relation())?;
+    spelled_atom(alloc, &left)
 }
 
 fn spell_sizes(alloc: Global, kind: Kind, text: &[u8]) -> Answer {
@@ -101,7 +102,7 @@ fn sizes_of(alloc: Global, field: &Relations) -> Answer {
 fn push_size(answer: &mut String, entry: &Entry) -> Result<(), AllocError> {
     let alternatives = entry.len();
     let last = match entry.alternatives().last() {
-        Some(atom) => &atom.name,
+        Some(atom) => atom.name(),
         None => b"".as_slice(),
     };
     write!(answer, "{alternatives} {} ", last.escape_ascii())
@@ -115,7 +116,7 @@ fn stands_in(alloc: Global, atom: &[u8], version: &[u8]) -> Answer {
 /// Tells whether a version stands in an alternative's relation.
 fn holds_of(alloc: Global, atom: &Atom, version: &[u8]) -> Answer {
     let version = Version::parse(alloc, version)?;
-    yes_or_no(alloc, in_relation(atom.relation.as_ref(), &version))
+    yes_or_no(alloc, in_relation(atom.relation(), &version.view()))
 }
 
 fn is_satisfied(alloc: Global, row: TableRow) -> Answer {

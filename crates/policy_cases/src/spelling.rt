@@ -2,7 +2,7 @@
 
 use crate::answer::Answer;
 use deb_relation::{ArchList, Atom, Entry, Op, ProfileList, Relations};
-use deb_version::Version;
+use deb_version::VersionRef;
 use std::alloc::{AllocError, Global};
 
 fn operator(op: Op) -> &'static str {
@@ -43,7 +43,7 @@ fn push_profiles(text: &mut Vec<u8>, profiles: &ProfileList) -> Result<(), Alloc
     text.extend_from_slice(b">")
 }
 
-fn push_relation(text: &mut Vec<u8>, op: Op, version: &Version) -> Result<(), AllocError> {
+fn push_relation(text: &mut Vec<u8>, op: Op, version: &VersionRef) -> Result<(), AllocError> {
     text.extend_from_slice(b" (")?;
     text.extend_from_slice(operator(op).as_bytes())?;
     text.extend_from_slice(b" ")?;
@@ -63,13 +63,13 @@ fn push_restrictions(text: &mut Vec<u8>, atom: &Atom) -> Result<(), AllocError> 
 
 /// Adds an alternative, as `name:qualifier (op version) [architectures] <profiles> ..`.
 fn push_atom(text: &mut Vec<u8>, atom: &Atom) -> Result<(), AllocError> {
-    text.extend_from_slice(&atom.name)?;
+    text.extend_from_slice(atom.name())?;
     if let Some(qualifier) = atom.qualifier() {
         text.extend_from_slice(b":")?;
         text.extend_from_slice(qualifier)?;
     }
-    if let Some((op, version)) = &atom.relation {
-        push_relation(text, *op, version)?;
+    if let Some((op, version)) = atom.relation() {
+        push_relation(text, op, &version)?;
     }
     push_restrictions(text, atom)
 }

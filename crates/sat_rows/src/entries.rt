@@ -4,6 +4,7 @@ ghost use Rattle.std.specs.Prelude.{◌≡◌, ◌<◌, [], IfOk, IfSome, OnOk, 
 ghost use Rattle.deb_relation.specs.Relations as relations;
 ghost use Rattle.sat_rows.specs.Entries.{IsGrown};
 
+use crate::chains::Chains;
 use deb_relation::{Atom, hash_of_entry, is_same_entry};
 use std::alloc::{AllocError, Global};
 use std::marker::Model;
@@ -12,8 +13,6 @@ use std::marker::Model;
 #[derive(Debug, Drop)]
 struct Distinct<'a> {
     atoms: &'a [Atom],
-    /// The entry before it under the same number of its text, or none's.
-    before: usize,
 }
 
 impl<'a> Model for Distinct<'a> {
@@ -24,15 +23,11 @@ impl<'a> Model for Distinct<'a> {
     ghost view = { λ distinct. distinct.atoms.now };
 }
 
-/// How many places there are at least: one package may have very many entries.
-const LEAST_PLACES: usize = 4_096;
-
 /// The distinct entries. A contract sees their list.
 #[derive(Debug, Drop)]
 pub struct Entries<'a> {
     entries: Vec<Distinct<'a>>,
-    /// The last entry under each number of a text.
-    last: Vec<usize>,
+    chains: Chains,
 }
 
 impl<'a> Model for Entries<'a> {
@@ -55,7 +50,7 @@ impl<'a> Entries<'a> {
     {
         Ok(Entries {
             entries: Vec::new(alloc),
-            last: Vec::from_elem(alloc, usize::MAX, places.max(LEAST_PLACES))?,
+            chains: Chains::new(alloc, places)?,
         })
     }
 
@@ -84,7 +79,7 @@ impl<'a> Entries<'a> {
             if is_same_entry(distinct.atoms, atoms) {
                 return Some(number);
             }
-            number = distinct.before;
+            number = self.chains.before(number);
         }
         None
     }
@@ -98,18 +93,13 @@ impl<'a> Entries<'a> {
         ensures grown { OnOk result (IsGrown self.old self.new) }
         ensures number { IfOk result (λ number. slice_get self.new number ≡ Some atoms.now) }
     {
-        let place = (hash_of_entry(atoms) as usize)
-            .checked_rem(self.last.len())
-            .unwrap_or(0);
-        let before = self.last.get(place).copied().unwrap_or(usize::MAX);
-        if let Some(number) = self.find(before, atoms) {
+        let hash = hash_of_entry(atoms);
+        if let Some(number) = self.find(self.chains.last(hash), atoms) {
             return Ok(number);
         }
         let number = self.entries.len();
-        self.entries.push(Distinct { atoms, before })?;
-        if let Some(last) = self.last.get_mut(place) {
-            *last = number;
-        }
+        self.chains.push(hash)?;
+        self.entries.push(Distinct { atoms })?;
         Ok(number)
     }
 }

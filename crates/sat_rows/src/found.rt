@@ -46,7 +46,7 @@ fn item_word<F: Field, T: AtomTest>(
 fn wanted_word(universe: &Universe, atom: &Atom, name: u32) -> u64
     ensures { IsWordFor universe.now (is_wanted universe.now atom.now.relation) name result }
 {
-    mask(universe, name, atom.relation.as_ref())
+    mask(universe, name, atom.relation())
 }
 
 /// Variants of one name, as the bits of a word, under a number: that of their name, or of an entry.
@@ -234,7 +234,7 @@ impl Found {
             (λ v. is_its_own (facts universe.now v) atom.now) self.old self.new) }
     {
         let _names = universe.names();
-        if let Some(name) = universe.find(&atom.name) {
+        if let Some(name) = universe.find(atom.name()) {
             self.add(name as usize, wanted_word(universe, atom, name))?;
         }
         Ok(())
@@ -256,7 +256,7 @@ impl Found {
         }
         self.add_own(universe, atom)?;
         let test = ProvidesIt { atom };
-        self.add_listed(universe, providers, &Provides {}, &test, &atom.name)?;
+        self.add_listed(universe, providers, &Provides {}, &test, atom.name())?;
         Ok(())
     }
 

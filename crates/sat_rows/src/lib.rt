@@ -2,6 +2,7 @@
 #![tactic(auto)]
 
 mod atom_test;
+mod chains;
 mod clashes;
 mod entries;
 mod entry_rows;

@@ -1,14 +1,13 @@
 //! The variants of one name that pass a test, as a word.
 
 ghost use Rattle.std.specs.Prelude.{◌≡◌, ◌<◌, ◌≤◌, ◌-◌, ◌^◌, ◌==◌, not, ◌&&◌, ◌||◌, ℕ, true, false, nat_lt, Some};
-ghost use Rattle.std.specs.Option.{option_copied};
 ghost use Rattle.clause_kernel.specs.Rows.{word_has};
 ghost use Rattle.farm_model.specs.Packages.{variants, is_wanted};
 ghost use Rattle.sat_rows.specs.Rows.{IsWordFor};
 ghost use Rattle.sat_rows.specs.Ranges.{is_before, IsCountBefore, IsRange};
 
 use deb_relation::Op;
-use deb_version::Version;
+use deb_version::VersionRef;
 use farm_universe::relations::VariantTest;
 use farm_universe::{Universe, Variant};
 use std::cmp::Ordering;
@@ -89,7 +88,7 @@ fn is_before(order: Ordering, or_equal: bool) -> bool
 
 /// How many variants of a name are earlier than a version, or perhaps as early. They stand in the
 /// order of their versions, so a few of them are looked at.
-fn count_before(universe: &Universe, name: u32, bound: &Version, or_equal: bool) -> u32
+fn count_before(universe: &Universe, name: u32, bound: &VersionRef, or_equal: bool) -> u32
     ensures { IsCountBefore universe.now name bound.now or_equal result }
 {
     if name >= universe.names() {
@@ -100,7 +99,7 @@ fn count_before(universe: &Universe, name: u32, bound: &Version, or_equal: bool)
     while low < high {
         let bit = low + (high - low) / 2;
         let version = universe.version(Variant { name, bit });
-        if is_before(version.compare(bound), or_equal) {
+        if is_before(version.view().compare(bound), or_equal) {
             low = bit + 1;
         } else {
             high = bit;
@@ -111,7 +110,7 @@ fn count_before(universe: &Universe, name: u32, bound: &Version, or_equal: bool)
 
 /// How many variants of a name are earlier than a version, and how many are as early at most. They
 /// stand in the order of their versions, so a few of them are looked at, and one at most is equal.
-fn equal_range(universe: &Universe, name: u32, bound: &Version) -> (u32, u32)
+fn equal_range(universe: &Universe, name: u32, bound: &VersionRef) -> (u32, u32)
     ensures earlier { IsCountBefore universe.now name bound.now false result.0 }
     ensures or_equal { IsCountBefore universe.now name bound.now true result.1 }
 {
@@ -123,7 +122,7 @@ fn equal_range(universe: &Universe, name: u32, bound: &Version) -> (u32, u32)
     while low < high {
         let bit = low + (high - low) / 2;
         let version = universe.version(Variant { name, bit });
-        match version.compare(bound) {
+        match version.view().compare(bound) {
             Ordering::Less => low = bit + 1,
             Ordering::Equal => return (bit, bit + 1),
             Ordering::Greater => high = bit,
@@ -134,7 +133,7 @@ fn equal_range(universe: &Universe, name: u32, bound: &Version) -> (u32, u32)
 
 /// The first bit of the variants of a name whose version stands in a relation, and the one behind
 /// the last.
-fn range_of(universe: &Universe, name: u32, op: Op, bound: &Version) -> (u32, u32)
+fn range_of(universe: &Universe, name: u32, op: Op, bound: &VersionRef) -> (u32, u32)
     ensures { IsRange universe.now name (Some (op, bound.now)) result.0 result.1 }
 {
     match op {
@@ -154,15 +153,14 @@ fn range_of(universe: &Universe, name: u32, op: Op, bound: &Version) -> (u32, u3
 
 /// The variants of a name whose version stands in a relation (Debian Policy 7.1), as a word. In
 /// none, all do. The call takes no memory.
-pub fn mask(universe: &Universe, name: u32, relation: Option<&(Op, Version)>) -> u64
-    ensures { IsWordFor universe.now (is_wanted universe.now (option_copied relation.entry))
-        name result }
+pub fn mask(universe: &Universe, name: u32, relation: Option<(Op, VersionRef)>) -> u64
+    ensures { IsWordFor universe.now (is_wanted universe.now relation.entry) name result }
 {
     let count = variant_count(universe, name);
     match relation {
         None => bits_between(0, count),
         Some((op, bound)) => {
-            let (low, high) = range_of(universe, name, *op, bound);
+            let (low, high) = range_of(universe, name, op, &bound);
             bits_between(low, high)
         }
     }

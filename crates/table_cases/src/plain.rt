@@ -6,8 +6,7 @@ ghost use Rattle.farm_model.specs.Sound.{IsKnown};
 
 use crate::excluded::{Exclusion, excluded};
 use bit_rows::Row;
-use deb_relation::{Entry, Op, Relations};
-use deb_version::Version;
+use deb_relation::{Atom, Entry, Relations};
 use farm_universe::relations::{
     BreakersOf, ConflictsWith, IsBrokenBy, SatisfiesAtom, SatisfiesEntry, VariantTest,
     satisfies_any,
@@ -63,13 +62,13 @@ fn is_plain<T: VariantTest>(universe: &Universe, row: &Row, test: &T, but: Optio
 }
 
 /// Tells whether the mask of a relation has each version of a name that stands in it.
-fn mask_is_plain(universe: &Universe, name: u32, relation: Option<&(Op, Version)>) -> bool
+fn mask_is_plain(universe: &Universe, name: u32, atom: &Atom) -> bool
     requires { name < packages.names universe.now }
 {
-    let word = mask(universe, name, relation);
+    let word = mask(universe, name, atom.relation());
     for bit in 0..universe.variants(name) {
         let is_set = word & 1u64.checked_shl(bit).unwrap_or(0) != 0;
-        if is_set != universe.is_wanted(Variant { name, bit }, relation) {
+        if is_set != universe.is_wanted(Variant { name, bit }, atom.relation()) {
             return false;
         }
     }
@@ -80,7 +79,10 @@ fn mask_is_plain(universe: &Universe, name: u32, relation: Option<&(Op, Version)
 fn masks_are_plain(universe: &Universe, name: u32, entry: &Entry) -> bool
     requires { name < packages.names universe.now }
 {
-    entry.alternatives().iter().all(|atom| mask_is_plain(universe, name, atom.relation.as_ref()))
+    entry
+        .alternatives()
+        .iter()
+        .all(|atom| mask_is_plain(universe, name, atom))
 }
 
 /// Tells whether the rows of an entry of a variant are plain.

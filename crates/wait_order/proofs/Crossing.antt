@@ -6,7 +6,6 @@ use Rattle.std.proofs.MapsCrossing as maps
 use Rattle.deb_relation.specs.contracts.relations.Entry as Entry
 use Rattle.deb_relation.specs.contracts.relations.Relations as Relations
 use Rattle.deb_version.specs.contracts.version.Version as Version
-use Rattle.farm_universe.specs.contracts.binary.PackageRelations as PackageRelations
 use Rattle.farm_universe.specs.contracts.binary.Package as Package
 use Rattle.farm_universe.specs.contracts.recipe.Recipe as Recipe
 use Rattle.farm_universe.specs.contracts.base.Base as Base
@@ -25,12 +24,10 @@ relations_sync = let e = entry_sync in search (crosses, sendable) depth 60 fits 
 version_sync : IsSync Version.the_row
 version_sync = search (crosses, sendable) depth 60 fits 20000
 
-package_relations_sync : IsSync PackageRelations.the_row
-package_relations_sync = let r = relations_sync in search (crosses, sendable) depth 60 fits 20000
-
+-- the relations of a package stand in it as their fields do
 package_sync : IsSync Package.the_row
-package_sync = let r = package_relations_sync in let v = version_sync in search (crosses, sendable)
-    depth 60 fits 20000
+package_sync = let r = relations_sync in let v = version_sync in search (crosses, sendable) depth 60
+    fits 20000
 
 recipe_sync : IsSync Recipe.the_row
 recipe_sync = let r = relations_sync in search (crosses, sendable) depth 60 fits 20000

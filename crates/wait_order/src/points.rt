@@ -19,7 +19,7 @@ use crate::entry_sources::{Sources, all_sources, all_sources_side_by_side, named
 use crate::marks::{Mark, Marks};
 use crate::supply::{Supply, sources_of, stock_of};
 use bit_rows::Row;
-use deb_relation::Op;
+use deb_relation::{Op, view_relation};
 use deb_version::Version;
 use farm_universe::Universe;
 use plan_asm::{Instruction, Plan};
@@ -71,7 +71,7 @@ fn name_row(
     ensures { IfOk result (IsRowOf universe.now (is_of universe.now name relation.now)) }
 {
     let mut row = Row::new(alloc, universe.names() as usize)?;
-    row.set_word(name as usize, mask(universe, name, relation.as_ref()))?;
+    row.set_word(name as usize, mask(universe, name, view_relation(relation)))?;
     Ok(row)
 }
 

@@ -6,7 +6,7 @@ ghost use Rattle.farm_model.specs.Packages.{variant, variants, names, is_wanted,
 ghost use Rattle.farm_model.specs.Sound.{IsKnown};
 
 use crate::word::{variant_count, word_has};
-use deb_relation::Op;
+use deb_relation::{Op, view_relation};
 use deb_version::Version;
 use farm_universe::{Universe, Variant};
 
@@ -22,7 +22,7 @@ fn is_there(
     ensures { result
         ≡ (word_has word variant.bit && is_wanted universe.now relation.now variant) }
 {
-    word_has(word, variant.bit) && universe.is_wanted(variant, relation.as_ref())
+    word_has(word, variant.bit) && universe.is_wanted(variant, view_relation(relation))
 }
 
 /// The highest variant of a name that is in its word of the archive and in the relation of an

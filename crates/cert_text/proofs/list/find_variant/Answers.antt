@@ -10,7 +10,7 @@ returns-then-is_eq-clause-found c =
     rw (← c.in_ok-number.ensures.number)
     (sym (variant-first c.args.universe.now c.args.name.now c.args.version.now c.in_ok-number.number
     c.loop-bit.bit (omega (arith, c.variants-bit-end.ensures)) c.loop-bit.invariant
-    (rw (c.compare.ensures.order, c.version.ensures) at is)))
+    (rw (c.compare.ensures.order, c.view.ensures, c.version.ensures) at is)))
 
 pub returns-clause-found : goal.returns-clause-found
 unfolding find_variant

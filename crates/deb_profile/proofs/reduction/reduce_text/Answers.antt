@@ -1,11 +1,11 @@
-use Rattle.std.proofs.Common.{rules, ◌≡◌, ◌<◌, ◌≤◌, length, length-append, arith, refl}
+use Rattle.std.proofs.Common.{rules, ◌≡◌, ◌<◌, ◌≤◌, length, length-append, arith, refl, sym}
 use Rattle.std.proofs.lemmas.Result.{err_from_is_err_and}
 use Rattle.deb_relation.specs.Field.{entry_at, relations_at}
 use Rattle.deb_relation.specs.Relations.{Entry, Relations}
 use Rattle.deb_relation.specs.View.{refusal_of}
 use Rattle.deb_relation.proofs.FieldLaws.{kept-goes, kept-stops, kept-ends, kept-fails, kept-whole}
 use Rattle.deb_profile.specs.Reduction.{entry_left, reduced, reduced_entry, reduced_at}
-use Rattle.deb_profile.proofs.ReductionLaws.{entry_left-few}
+use Rattle.deb_profile.proofs.ReductionLaws.{entry_left-few, made-refused, made-some}
 use Rattle.deb_profile.proofs.reduction.reduce_text.Goals as goal
 
 pub loop-left-init : goal.loop-left-init
@@ -24,15 +24,17 @@ returns-in_default c =
     (λ entry. entry_left (reduced_entry names active entry)) refl (λ _ _. refl) c.args.most _ _ _
     c.loop-left.invariant.so_far c.loop-left.invariant.within c.in_default.ensures.none)
 
-pub returns-in_err-entry : goal.returns-in_err-entry
-returns-in_err-entry c =
+pub returns-in_err-reduce_entry_text : goal.returns-in_err-reduce_entry_text
+returns-in_err-reduce_entry_text c =
     let p = err_from_is_err_and c.from_residual.result c.from_residual.ensures.1 in
     let names = c.args.names.now in
     let active = c.args.active.now in
+    let refused = made-refused (reduced_entry names active) refusal_of _
+    (entry_at c.args.kind c.in-Some.entry.now) c.in_err-reduce_entry_text.ensures in
     rw (p.1, p.2)
     (kept-stops (entry_at c.args.kind) (reduced names active)
     (λ entry. entry_left (reduced_entry names active entry)) refl (λ _ _. refl) c.args.most _ _ _
-    _ _ c.in-Some.ensures.entry c.loop-left.invariant.so_far refusal_of _ c.in_err-entry.ensures)
+    _ _ c.in-Some.ensures.entry c.loop-left.invariant.so_far refusal_of _ refused)
 
 pub loop-left-preserved : goal.loop-left-preserved
 loop-left-preserved c =
@@ -42,13 +44,14 @@ loop-left-preserved c =
     let entries = c.loop-left.entries.items in
     let count : c.len.result ≡ length entries = search (rules, c.len.ensures) in
     let room : length entries < c.args.most = omega (arith, count, c.loop-left-test.true) in
-    let few = entry_left-few (reduced_entry names active c.in_ok-entry.entry) in
-    rw (c.in_ok-push_left.ensures, c.in_ok-strip_entry.ensures) (record {
-      within = rw (length-append entries (one c.in_ok-entry.entry)) (omega (arith, room, few));
+    let read = made-some (reduced_entry names active) (entry_at c.args.kind c.in-Some.entry.now) _
+    c.in_ok-reduce_entry_text.ensures in
+    let few = entry_left-few (reduced_entry names active read.0) in
+    rw (c.in_ok-push_left.ensures, sym read.1.1) (record {
+      within = rw (length-append entries (one read.0)) (omega (arith, room, few));
       so_far =
           kept-goes (entry_at c.args.kind) (reduced names active) one refl (λ _ _. refl) c.args.most
-          entries _ _ _ _ c.in-Some.ensures.entry c.loop-left.invariant.so_far _
-          c.in_ok-entry.ensures;
+          entries _ _ _ _ c.in-Some.ensures.entry c.loop-left.invariant.so_far _ read.1.0;
     })
 
 pub returns-in_err-judge_entries : goal.returns-in_err-judge_entries

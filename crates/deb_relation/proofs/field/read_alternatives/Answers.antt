@@ -7,7 +7,7 @@ use Rattle.deb_relation.proofs.field.read_alternatives.Goals as goal
 
 pub returns-in_err-parse : goal.returns-in_err-parse
 returns-in_err-parse c =
-    let p = err_from_is_err_and c.from_residual.result c.from_residual.ensures.1 in
+    let p = err_from_is_err_and c.from_residual-in_err-parse.result c.from_residual-in_err-parse.ensures.1 in
     let so_far = rw c.in-Some.is at c.loop-left.invariant in
     rw (p.1, p.2)
     (traverse-stops (alternative_at c.args.kind) refusal_of _ _ _ _ _ _

@@ -16,6 +16,7 @@ loop-low-preserved-then-is_before c =
     (cc (
       c.is_before.ensures,
       c.compare.ensures.order,
+      c.view.ensures,
       c.version-version.ensures,
       c.if-is_before.true,
     ))
@@ -29,6 +30,7 @@ loop-low-preserved c =
     (cc (
       c.is_before.ensures,
       c.compare.ensures.order,
+      c.view.ensures,
       c.version-version.ensures,
       c.if-is_before.false,
     ))

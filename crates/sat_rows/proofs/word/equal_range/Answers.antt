@@ -25,7 +25,7 @@ loop-low-preserved-in-Less c =
     let high = c.loop-low.high in
     let bit = low + (high - low) / 2 in
     let less : text_cmp (package_of u (variant n bit)).version bound ≡ Less =
-    cc (c.compare.ensures.order, c.version-version.ensures, c.in-Less.is) in
+    cc (c.compare.ensures.order, c.view.ensures, c.version-version.ensures, c.in-Less.is) in
     let from : low ≤ bit = omega arith in
     let to : bit < high = omega (arith, c.loop-low-test.true) in
     let order = c.names.ensures.kept.in_order in (
@@ -43,7 +43,7 @@ returns-in-Equal-clause-earlier c =
     let within = c.loop-low.invariant.0.within in
     equal_earlier u c.names.ensures.kept.in_order n c.args.bound.now bit
     (omega (arith, c.loop-low-test.true, within))
-    (cc (c.compare.ensures.order, c.version-version.ensures, c.in-Equal.is))
+    (cc (c.compare.ensures.order, c.view.ensures, c.version-version.ensures, c.in-Equal.is))
 
 pub returns-in-Equal-clause-or_equal : goal.returns-in-Equal-clause-or_equal
 returns-in-Equal-clause-or_equal c =
@@ -53,7 +53,7 @@ returns-in-Equal-clause-or_equal c =
     let within = c.loop-low.invariant.0.within in
     equal_or_earlier u c.names.ensures.kept.in_order n c.args.bound.now bit
     (omega (arith, c.loop-low-test.true, within))
-    (cc (c.compare.ensures.order, c.version-version.ensures, c.in-Equal.is))
+    (cc (c.compare.ensures.order, c.view.ensures, c.version-version.ensures, c.in-Equal.is))
 
 pub loop-low-preserved : goal.loop-low-preserved
 loop-low-preserved c =
@@ -64,7 +64,7 @@ loop-low-preserved c =
     let high = c.loop-low.high in
     let bit = low + (high - low) / 2 in
     let greater : text_cmp (package_of u (variant n bit)).version bound ≡ Greater =
-    cc (c.compare.ensures.order, c.version-version.ensures, c.in-Greater.is) in
+    cc (c.compare.ensures.order, c.view.ensures, c.version-version.ensures, c.in-Greater.is) in
     let from : low ≤ bit = omega arith in
     let to : bit < high = omega (arith, c.loop-low-test.true) in
     let order = c.names.ensures.kept.in_order in (

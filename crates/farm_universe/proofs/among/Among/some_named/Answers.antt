@@ -18,8 +18,7 @@ returns c =
     subst (λ ms. AreFound ms named provided) c.self.view_is c.self.invariant in
     let test : Member → Bool = λ m. is_another_member c.args.besides m
     && is_its_own (member_facts m) a in
-    let name = ap (λ (a : Atom). a.name) c.atom.view_is in
-    let text : c.deref.result.now ≡ a.name = cc (name, c.deref.ensures.value) in
+    let text : c.name.result.now ≡ a.name = c.name.ensures in
     let items : c.listed.result.now ≡ listed named a.name =
     c.listed.ensures ∙ ap (listed named) text in
     c.any_named_at.ensures ∙ ap (list_any (at_owner test ms)) items

@@ -17,8 +17,7 @@ returns c =
     subst (λ ms. AreFound ms named provided) c.self.view_is c.self.invariant in
     let test : Item ℕ → Bool =
     λ at. at_owner (λ m. is_another_member c.args.besides m && provides_at at m a) ms at in
-    let name = ap (λ (a : Atom). a.name) c.atom.view_is in
-    let text : c.deref.result.now ≡ a.name = cc (name, c.deref.ensures.value) in
+    let text : c.name.result.now ≡ a.name = c.name.ensures in
     let items : c.listed.result.now ≡ listed provided a.name =
     c.listed.ensures ∙ ap (listed provided) text in
     c.any_provided_at.ensures ∙ ap (list_any test) items

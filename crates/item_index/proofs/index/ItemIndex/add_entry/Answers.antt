@@ -17,8 +17,7 @@ loop-alternative-preserved g c =
     let lt : j < length e = omega (arith, ap length long) in
     let there = slice_get-get_or e j a lt
     ∙ ap Some (sym (c.index-atoms-alternative.is ∙ ap (λ (e : Entry). get_or e j a) long)) in
-    let name = ap (λ (a : Atom). a.name) c.atom.view_is in
-    let text : c.deref.result.now ≡ a.name = cc (name, c.deref.ensures.value) in
+    let text : c.name.result.now ≡ a.name = c.name.ensures in
     let step = c.in_ok-add.ensures in
     record {
       kept = λ text at is. step.kept text at (so_far.kept text at is);

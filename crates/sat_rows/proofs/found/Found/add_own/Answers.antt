@@ -12,8 +12,7 @@ pub returns-in_ok-add : goal.returns-in_ok-add
 returns-in_ok-add c n b =
     let u = c.args.universe.now in
     let a = c.args.atom.now in
-    let name = ap (λ (a : Atom). a.name) c.atom.view_is in
-    let text : c.deref.result.now ≡ a.name = cc (name, c.deref.ensures.value) in
+    let text : c.name.result.now ≡ a.name = c.name.ensures in
     let at : place_in bytes_eq u.names a.name ≡ Some c.in-Some.name =
     ap (place_in bytes_eq u.names) (sym text) ∙ sym c.in-Some.ensures.number in
     c.in_ok-add.ensures n b
@@ -25,8 +24,7 @@ pub returns-in_default : goal.returns-in_default
 returns-in_default c n b =
     let u = c.args.universe.now in
     let a = c.args.atom.now in
-    let name = ap (λ (a : Atom). a.name) c.atom.view_is in
-    let text : c.deref.result.now ≡ a.name = cc (name, c.deref.ensures.value) in
+    let text : c.name.result.now ≡ a.name = c.name.ensures in
     let at : place_in bytes_eq u.names a.name ≡ None =
     ap (place_in bytes_eq u.names) (sym text) ∙ sym c.in_default.ensures.number in
     sym (ap (λ x. among c.args.self.now n b || x) (own-none u c.names-names.ensures.kept a at n b)

@@ -1,7 +1,7 @@
 use Rattle.std.proofs.Common.{ap, arith}
 use Rattle.deb_version.specs.Places.{start_of, end_of}
 use Rattle.deb_version.proofs.PlaceLaws.{start-within, end-within}
-use Rattle.deb_version.proofs.version.Version.parse.Goals as goal
+use Rattle.deb_version.proofs.borrowed.VersionRef.parse.Goals as goal
 
 pub start_of-start-requires : goal.start_of-start-requires
 start_of-start-requires c =

@@ -1,0 +1,85 @@
+//! Entries of which no more is kept than is left of them.
+
+ghost use Rattle.std.specs.Prelude.{◌≡◌, [], ◌∷◌, ◌++◌, OnOk};
+ghost use Rattle.std.specs.List.{slice_split};
+ghost use Rattle.deb_text.specs.Answers.{Gives};
+ghost use Rattle.deb_text.specs.Bytes.{is_byte};
+ghost use Rattle.deb_text.specs.Steps.{traverse};
+ghost use Rattle.deb_relation.specs.Field.{alternative_at, entry_at};
+ghost use Rattle.deb_relation.specs.Marks.{bar};
+ghost use Rattle.deb_relation.specs.View.{refusal_of};
+ghost use Rattle.deb_profile.specs.Reduction.{left_of, reduced_entry};
+
+use crate::reduction::{bare, strip_entry};
+use crate::restriction::keeps;
+use crate::word_list::{ArchNames, ProfileSet};
+use deb_relation::{Atom, Entry, Kind, RelationError};
+use deb_text::next_part;
+use std::alloc::{AllocError, Global};
+
+/// Puts what is left of an alternative behind others.
+fn push_kept(
+    alloc: Global,
+    left: &mut Vec<Atom>,
+    names: &ArchNames,
+    active: &ProfileSet,
+    atom: Atom,
+) -> Result<(), AllocError>
+    ensures { OnOk result
+        (left.new.items ≡ left.old.items ++ reduced_entry names.now active.now (atom ∷ [])) }
+{
+    if atom.is_bare() {
+        left.push(atom)?;
+    } else if keeps(&atom, names, active) {
+        left.push(bare(alloc, names, &atom)?)?;
+    }
+    Ok(())
+}
+
+/// Reads alternatives, and keeps what is left of them.
+fn read_kept(
+    alloc: Global,
+    text: &[u8],
+    kind: Kind,
+    names: &ArchNames,
+    active: &ProfileSet,
+) -> Result<Vec<Atom>, RelationError>
+    ensures { Gives refusal_of (λ left. left.items) result
+        (left_of names.now active.now
+        (traverse (alternative_at kind) (slice_split (is_byte bar) text.now))) }
+{
+    let mut kept = Vec::with_capacity(alloc, 1)?;
+    let mut left = Some(text);
+    while let Some(rest) = left {
+        let (alternative, after) = next_part(b'|', rest);
+        let atom = Atom::parse(alloc, alternative, kind)?;
+        push_kept(alloc, &mut kept, names, active, atom)?;
+        left = after;
+    }
+    Ok(kept)
+}
+
+/// Reads one entry of a field of a kind, and keeps what [`reduce_entry`](crate::reduce_entry)
+/// leaves of it. What is not kept takes the memory of one alternative.
+///
+/// # Errors
+///
+/// Those of [`Entry::parse`]. Nothing is left behind.
+#[tactic(auto, unfolding(deb_relation::specs::Field::entry_at))]
+pub fn reduce_entry_text(
+    alloc: Global,
+    text: &[u8],
+    kind: Kind,
+    names: &ArchNames,
+    active: &ProfileSet,
+) -> Result<Entry, RelationError>
+    ensures { Gives refusal_of (λ left. left) result
+        (left_of names.now active.now (entry_at kind text.now)) }
+{
+    if kind.has_alternatives() {
+        let kept = read_kept(alloc, text, kind, names, active)?;
+        return Ok(Entry::from_alternatives(kept));
+    }
+    let entry = Entry::parse(alloc, text, kind)?;
+    Ok(strip_entry(alloc, entry, names, active)?)
+}
