@@ -1,14 +1,68 @@
--- A line that is kept, and a look-up in a paragraph.
-use Rattle.std.proofs.Common.{◌≡◌, ℕ, ◌+◌, ◌<◌, ◌≤◌, List, [], length, map, get_or, Some, None, refl, sym, ap, ◌∙◌, arith, inl, inr}
+-- Lines that are kept by their places, and look-ups in a paragraph.
+use Rattle.std.proofs.Common.{subst, not, false, ◌≡◌, ℕ, zero, suc, ◌+◌, ◌-◌, ◌<◌, ◌≤◌, List, [], ◌∷◌, ◌++◌, length, map, take, drop, get_or, Some, None, refl, sym, ap, ◌∙◌, arith, inl, inr}
 use Rattle.std.specs.List.{slice_range}
 use Rattle.std.proofs.lemmas.Bool.{cases_Bool}
-use Rattle.std.proofs.lemmas.List.{get_or-map, length-map}
+use Rattle.std.proofs.lemmas.List.{append_assoc, drop-drop, get_or-map, length-map, map-append}
+use Rattle.std.proofs.lemmas.Option.{slice_get_within}
+use Rattle.deb_text.specs.Lines.{lines_of, is_skipped, plain_lines}
+use Rattle.deb_text.proofs.LineLaws.{lines_kept-keeps}
+use Rattle.deb_stanza.specs.declared.plain.Place.{Place}
 use Rattle.deb_stanza.specs.declared.table.Start.{Start}
 use Rattle.deb_stanza.specs.Cut.{end_at}
 use Rattle.deb_stanza.specs.Stanza.{name_of, same_name, value_of, paragraph_at}
-use Rattle.deb_stanza.specs.View.{paragraph_of_raw, first_of_start, raw_of, texts_in, raws_in, value_named, value_among}
+use Rattle.deb_stanza.specs.View.{AreWithin, line_in, paragraph_of_raw, first_of_start, raw_of, texts_in, raws_in, value_named, value_among}
 use Rattle.deb_stanza.proofs.CutLaws.{get_or-cut, range-cons}
 use Rattle.deb_stanza.proofs.TableLaws.{length-cut, length-texts}
+
+-- ---- lines by their places
+
+module _ (text : List ℕ) where
+  pub within_next : (places : List Place) (new : Place) → AreWithin text places
+      → new.start ≤ new.end → new.end ≤ length text → AreWithin text (places ++ new ∷ [])
+  within_next [] new old order within zero at is =
+      let same : new ≡ at = cc is in
+      subst (λ (p : Place). (p.start ≤ p.end) × (p.end ≤ length text)) same (order, within)
+  within_next [] new old order within (suc i) at is =
+      absurd (omega (arith, slice_get_within (new ∷ []) (suc i) at is))
+  within_next (p ∷ ps) new old order within zero at is = old zero at is
+  within_next (p ∷ ps) new old order within (suc i) at is =
+      within_next ps new (λ k x e. old (suc k) x e) order within i at is
+
+  -- a line at the front of the rest
+  pub line_there : (rest line : List ℕ) → rest ≡ drop (length text - length rest) text
+      → line ≡ take (length line) rest
+      → slice_range text (length text - length rest) (length text - length rest + length line)
+      ≡ line
+  line_there rest line behind front =
+      let start = length text - length rest in
+      let long : start + length line - start ≡ length line = omega arith in
+      ap (λ n. take n (drop start text)) long ∙ ap (take (length line)) (sym behind) ∙ sym front
+
+  -- what stands behind that line
+  pub rest_next : (rest behind : List ℕ) → rest ≡ drop (length text - length rest) text
+      → behind ≡ drop (length rest - length behind) rest → length behind ≤ length rest
+      → length rest ≤ length text → behind ≡ drop (length text - length behind) text
+  rest_next rest behind at next shorter within =
+      let start = length text - length rest in
+      let on : start + (length rest - length behind) ≡ length text - length behind =
+      omega arith in
+      next ∙ ap (drop (length rest - length behind)) at
+      ∙ drop-drop (length rest - length behind) start text ∙ ap (λ n. drop n text) on
+
+  -- a line that is kept, and what stands behind it
+  pub kept_next : (places : List Place) (new : Place) (rest line behind : List ℕ)
+      → lines_of rest ≡ line ∷ lines_of behind → is_skipped line ≡ false
+      → slice_range text new.start new.end ≡ line
+      → map (line_in text) (places ++ new ∷ []) ++ plain_lines (new.number + 1) behind
+      ≡ map (line_in text) places ++ plain_lines new.number rest
+  kept_next places new rest line behind cut is there =
+      let before = map (line_in text) places in
+      let after = plain_lines (new.number + 1) behind in
+      ap (λ ls. ls ++ after) (map-append (line_in text) places (new ∷ []))
+      ∙ append_assoc before (line_in text new ∷ []) after
+      ∙ ap (λ l. before ++ (new.number, l) ∷ after) there
+      ∙ ap (λ ls. before ++ ls) (sym (lines_kept-keeps (λ l. not (is_skipped l)) new.number rest
+      line behind cut (ap not is)))
 
 -- ---- look-ups
 

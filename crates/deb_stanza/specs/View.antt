@@ -1,9 +1,10 @@
 -- What the tables of the code stand for.
-use Rattle.std.specs.Prelude.{ℕ, List, map, length, if◌then◌else◌, Option, Some, None}
+use Rattle.std.specs.Prelude.{◌≡◌, ℕ, ◌≤◌, List, map, length, slice_get, slice_range, if◌then◌else◌, Option, Some, None}
 use Rattle.std.specs.List.{find}
 use Rattle.std.specs.Option.{option_map}
 use Rattle.deb_text.specs.declared.lines.Line as declared
 use Rattle.deb_text.specs.Lines.{Line}
+use Rattle.deb_stanza.specs.declared.plain.Place.{Place}
 use Rattle.deb_stanza.specs.declared.table.Start.{Start}
 use Rattle.deb_stanza.specs.declared.table.Table.{Table}
 use Rattle.deb_stanza.specs.Cut.{cut, IsCut}
@@ -11,6 +12,16 @@ use Rattle.deb_stanza.specs.Stanza.{Paragraph, field_of, name_of, same_name}
 
 abbrev pub line_of : declared.Line → Line
 line_of l = (l.number, l.bytes.now)
+
+-- a line that is kept by its place in the text
+abbrev pub line_in : List ℕ → Place → Line
+line_in text at = (at.number, slice_range text at.start at.end)
+
+-- each line lies in the text
+abbrev pub AreWithin : List ℕ → List Place → Type 0
+AreWithin text places =
+    (i : ℕ) (at : Place) → slice_get places i ≡ Some at
+    → (at.start ≤ at.end) × (at.end ≤ length text)
 
 -- a paragraph whose fields are not yet taken apart
 pub record Raw : Type 0 where

@@ -4,28 +4,39 @@ ghost use Rattle.std.specs.Prelude.{◌≡◌, ◌<◌, ◌≤◌, length, map, 
 ghost use Rattle.deb_text.specs.Answers.{Gives, refusal_of};
 ghost use Rattle.deb_text.specs.Lines.{is_skipped, plain_lines};
 ghost use Rattle.deb_stanza.specs.Plain.{line_at, plain_lines_at};
-ghost use Rattle.deb_stanza.specs.View.{line_of};
+ghost use Rattle.deb_stanza.specs.View.{AreWithin, line_in};
 
 use crate::error::{MOST_BYTES, TEXT_TOO_LONG};
 use crate::fields::fault;
-use deb_text::{Fault, Line, is_blank_line, is_comment, next_line};
+use deb_text::{Fault, is_blank_line, is_comment, next_line};
 use std::alloc::{AllocError, Global};
 use std::marker::Model;
+
+/// Where a line stands in its text, up to its newline, and its number.
+#[derive(Clone, Copy, Debug)]
+struct Place {
+    start: u32,
+    end: u32,
+    number: u32,
+}
 
 /// Lines of a text, with their numbers. A contract sees the list of them.
 #[derive(Debug, Drop)]
 pub struct Lines<'a> {
-    lines: Vec<Line<'a>>,
+    text: &'a [u8],
+    places: Vec<Place>,
 }
 
 impl<'a> Model for Lines<'a> {
     ghost use Rattle.std.specs.Prelude.{List, map};
-    ghost use Rattle.deb_text.specs.Lines as text;
-    ghost use Rattle.deb_stanza.specs.View.{line_of};
+    ghost use Rattle.deb_text.specs.Lines as lines;
+    ghost use Rattle.deb_stanza.specs.View.{AreWithin, line_in};
 
-    ghost Value = { List text.Line };
+    ghost Value = { List lines.Line };
 
-    ghost view = { λ l. map line_of l.lines.items };
+    ghost view = { λ l. map (line_in l.text.now) l.places.items };
+
+    ghost invariant = { λ l. AreWithin l.text.now l.places.items };
 }
 
 impl<'a> Lines<'a> {
@@ -33,7 +44,7 @@ impl<'a> Lines<'a> {
     pub fn count(&self) -> usize
         ensures { result ≡ length self.now }
     {
-        self.lines.len()
+        self.places.len()
     }
 
     /// A line, untrimmed and without its newline. The first has the place 0.
@@ -41,7 +52,8 @@ impl<'a> Lines<'a> {
         requires { place < length self.now }
         ensures { result.now ≡ (line_at self.now place).1 }
     {
-        self.lines[place].bytes
+        let at = self.places[place];
+        &self.text[at.start as usize..at.end as usize]
     }
 
     /// The number of a line in its text, counted from 1, skipped lines too.
@@ -49,7 +61,7 @@ impl<'a> Lines<'a> {
         requires { place < length self.now }
         ensures { result ≡ (line_at self.now place).0 }
     {
-        self.lines[place].number
+        self.places[place].number
     }
 }
 
@@ -67,7 +79,8 @@ pub fn plain_lines(alloc: Global, text: &[u8]) -> Result<Lines<'_>, Fault>
         return Err(fault(0, TEXT_TOO_LONG));
     }
     Ok(Lines {
-        lines: kept_lines(alloc, text)?,
+        text,
+        places: kept_places(alloc, text)?,
     })
 }
 
@@ -77,19 +90,24 @@ fn is_skipped(line: &[u8]) -> bool
     is_comment(line) || is_blank_line(line)
 }
 
-fn kept_lines(alloc: Global, text: &[u8]) -> Result<Vec<Line<'_>>, AllocError>
+/// Where the lines of a text stand that are not skipped.
+fn kept_places(alloc: Global, text: &[u8]) -> Result<Vec<Place>, AllocError>
     requires { length text.now ≤ MOST_BYTES }
-    ensures { IfOk result (λ lines. map line_of lines.items ≡ plain_lines 1 text.now) }
+    ensures lines { IfOk result
+        (λ places. map (line_in text.now) places.items ≡ plain_lines 1 text.now) }
+    ensures within { IfOk result (λ places. AreWithin text.now places.items) }
 {
-    let mut lines = Vec::new(alloc);
+    let mut places = Vec::new(alloc);
     let mut rest = text;
     let mut number = 0;
-    while let Some((bytes, behind)) = next_line(rest) {
+    while let Some((line, behind)) = next_line(rest) {
+        let start = (text.len() - rest.len()) as u32;
+        let end = start + line.len() as u32;
         rest = behind;
         number += 1;
-        if !is_skipped(bytes) {
-            lines.push(Line { number, bytes })?;
+        if !is_skipped(line) {
+            places.push(Place { start, end, number })?;
         }
     }
-    Ok(lines)
+    Ok(places)
 }

@@ -1,6 +1,6 @@
 //! The lines of a text.
 
-ghost use Rattle.std.specs.Prelude.{◌≡◌, ◌+◌, ◌<◌, ◌≤◌, [], ◌∷◌, IfSome, IfNone, length};
+ghost use Rattle.std.specs.Prelude.{◌≡◌, ◌-◌, take, drop, ◌+◌, ◌<◌, ◌≤◌, [], ◌∷◌, IfSome, IfNone, length};
 ghost use Rattle.deb_text.specs.Lines.{lines_of, is_comment, is_blank_line};
 
 use crate::classes::{Class, all_in};
@@ -19,6 +19,9 @@ pub fn next_line(text: &[u8]) -> Option<(&[u8], &[u8])>
     ensures line { IfSome result (λ cut. lines_of text.now ≡ cut.0.now ∷ lines_of cut.1.now) }
     ensures shorter { IfSome result (λ cut. length cut.1.now < length text.now) }
     ensures within { IfSome result (λ cut. length cut.0.now + length cut.1.now ≤ length text.now) }
+    ensures front { IfSome result (λ cut. cut.0.now ≡ take (length cut.0.now) text.now) }
+    ensures behind { IfSome result
+        (λ cut. cut.1.now ≡ drop (length text.now - length cut.1.now) text.now) }
 {
     if text.is_empty() {
         return None;
