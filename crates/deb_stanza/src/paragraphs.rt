@@ -71,16 +71,17 @@ impl Paragraphs {
     }
 
     /// Where a part of the paragraphs ends, for whoever reads them part by part: behind this one,
-    /// and behind as many more as begin within `bytes` bytes of fields from its own start.
+    /// and behind as many more as begin within `bytes` bytes from its own start. A paragraph
+    /// counts as the bytes of its fields and 64 more.
     pub fn part_end(&self, first: usize, bytes: usize) -> usize
         requires { first < length self.now }
         ensures some { first < result }
         ensures within { result ≤ length self.now }
     {
         let count = self.count();
-        let start = self.table.bytes_before(first);
+        let start = self.table.weight_before(first);
         for next in first + 1..count {
-            if self.table.bytes_before(next).saturating_sub(start) >= bytes {
+            if self.table.weight_before(next).saturating_sub(start) >= bytes {
                 return next;
             }
         }

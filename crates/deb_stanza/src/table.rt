@@ -13,6 +13,9 @@ use deb_text::trim;
 use std::alloc::{AllocError, Global};
 use std::collections::BTreeSet;
 
+/// As how many bytes of fields a paragraph counts beside those that it has.
+const PARAGRAPH_WEIGHT: usize = 64;
+
 /// Where a paragraph begins: the place of its first field, and the number of its first line.
 #[derive(Clone, Copy, Debug)]
 pub struct Start {
@@ -233,16 +236,18 @@ impl Table {
         Ok(names)
     }
 
-    /// How many bytes the fields of the paragraphs before this one have.
-    pub fn bytes_before(&self, paragraph: usize) -> usize {
+    /// How much there is to read of the paragraphs before this one: the bytes of their fields, and
+    /// some for each paragraph, of which what was read takes memory too.
+    pub fn weight_before(&self, paragraph: usize) -> usize {
         let first = match self.paragraphs.get(paragraph) {
             Some(start) => start.first as usize,
             None => self.fields.len(),
         };
-        match self.fields.get(first) {
+        let bytes = match self.fields.get(first) {
             Some(start) => *start as usize,
             None => self.bytes.len(),
-        }
+        };
+        bytes.saturating_add(paragraph.saturating_mul(PARAGRAPH_WEIGHT))
     }
 
     /// The value of the field of that name in a paragraph.
