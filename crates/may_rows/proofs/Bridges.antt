@@ -270,9 +270,10 @@ module _ (u : Universe) (w : Words) (is : AreWords u w) where
       inside_is u w.ready p row is.ready_long rows
       (λ n b. ready_known u n (λ k. false) _ _ _ _ (is.each n) b)
 
-  pub both_inside_is : (p : Variant → Bool) (row : List ℕ) → IsRowOf u p row
-      → (t : Bool) → (t ≡ true) ↔ HasNameInside (variants_of w.both) (variants_of row)
+  pub both_inside_is : (p : Variant → Bool) (t : Bool)
+      → (t ≡ true) ↔ HasNameInside (variants_of w.both) (variant_passes u p)
       → t ≡ some_name_inside u w.both p
-  both_inside_is p row rows =
-      inside_is u w.both p row is.both_long rows
-      (λ n b. both_known u n (λ k. false) _ _ _ _ (is.each n) b)
+  both_inside_is p t told =
+      same_tests t _ (λ holds. inside-from u w.both p is.both_long (told.0 holds))
+      (λ holds. told.1 (inside-to u w.both p is.both_long
+      (λ n b. both_known u n (λ k. false) _ _ _ _ (is.each n) b) holds))

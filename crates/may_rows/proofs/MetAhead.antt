@@ -14,7 +14,7 @@ use Rattle.farm_model.specs.declared.types.Variant.{Variant}
 use Rattle.farm_model.specs.Packages.{variant, names, variants, pre_depends, satisfies, satisfies_entry}
 use Rattle.farm_model.proofs.BelowLaws.{some_below-or, some_below-at, some_below-found, some_below-same, every_below-at, every_below-all}
 use Rattle.plan_model.specs.May.{Bits, MayAbsent, May, all_of, is_some_of, surely_pre_meets, surely_pre_met}
-use Rattle.sat_rows.specs.Rows.{IsRowOf, IsAlternativeRow, nth_entry}
+use Rattle.sat_rows.specs.Rows.{IsRowOf, nth_entry}
 use Rattle.may_rows.specs.Words.{Words, slot_of, may_of, AreOfName, AreWords, with_slot, some_name_inside, surely_met_ahead}
 
 -- ---- tests of several things
@@ -233,12 +233,6 @@ pub entry_row_of : (t u : Universe) (v : Variant) (i : ℕ) (row : List ℕ) →
     → IsRowOf u (satisfies_entry u (nth_entry (pre_depends u v) i)) row
 entry_row_of t u v i row same is =
     subst (λ s. IsRowOf s (satisfies_entry s (nth_entry (pre_depends s v) i)) row) same is
-
-pub alternative_row_of : (t u : Universe) (v : Variant) (i j : ℕ) (row : List ℕ) → t ≡ u
-    → IsAlternativeRow t (nth_entry (pre_depends t v) i) j row
-    → IsAlternativeRow u (nth_entry (pre_depends u v) i) j row
-alternative_row_of t u v i j row same is =
-    subst (λ s. IsAlternativeRow s (nth_entry (pre_depends s v) i) j row) same is
 
 -- told by two tests, one after the other
 module _ (u : Universe) (w : Words) (e : Entry) (is : AreWords u w) (t : Bool)

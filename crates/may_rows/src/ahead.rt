@@ -10,33 +10,29 @@ ghost use Rattle.may_rows.specs.Words.{AreWords, may_of, surely_met_ahead, alter
 
 use crate::numbers::{NumberTest, some_number};
 use crate::state::MayHold;
+use deb_relation::Entry;
 use farm_universe::{Universe, Variant};
 use sat_rows::Tables;
 
-/// The alternatives of a Pre-Depends entry that some name surely meets, with what it holds and with
-/// what was configured last.
+/// The alternatives of an entry that some name surely meets, with what it holds and with what was
+/// configured last.
 #[derive(Drop)]
 struct MetAlternatives<'a> {
     tables: &'a Tables,
     state: &'a MayHold,
-    variant: Variant,
-    entry: usize,
+    entry: &'a Entry,
 }
 
 impl NumberTest for MetAlternatives<'_> {
-    ghost fits = { λ u t. (t.tables.now ≡ u) × (AreWords u t.state.now
-        × (IsKnown u t.variant × (t.entry < length (pre_depends u t.variant)))) };
+    ghost fits = { λ u t. (t.tables.now ≡ u) × AreWords u t.state.now };
 
-    ghost count = { λ u t. length (nth_entry (pre_depends u t.variant) t.entry) };
+    ghost count = { λ u t. length t.entry.now };
 
-    ghost test = { λ u t j. alternative_inside u t.state.now.both
-        (slice_get (nth_entry (pre_depends u t.variant) t.entry) j) };
+    ghost test = { λ u t j. alternative_inside u t.state.now.both (slice_get t.entry.now j) };
 
     fn passes(&self, universe: &Universe, number: usize) -> bool {
-        self.state.has_both_inside(
-            self.tables
-                .pre_alternative(self.variant, self.entry, number),
-        )
+        self.state
+            .both_satisfy(universe, self.tables, self.entry.alternative(number))
     }
 }
 
@@ -45,25 +41,19 @@ fn meets_alternative(
     universe: &Universe,
     tables: &Tables,
     state: &MayHold,
-    variant: Variant,
-    entry: usize,
+    entry: &Entry,
 ) -> bool
     requires same { tables.now ≡ universe.now }
     requires state { AreWords universe.now state.now }
-    requires known { IsKnown universe.now variant }
-    requires there { entry < length (pre_depends universe.now variant) }
-    ensures { result ≡ list_any (λ a. some_name_inside universe.now state.now.both
-        (satisfies universe.now a)) (nth_entry (pre_depends universe.now variant) entry) }
+    ensures { result ≡ list_any
+        (λ a. some_name_inside universe.now state.now.both (satisfies universe.now a)) entry.now }
 {
-    let relations = universe.relations(variant);
-    let alternatives = relations.pre_depends.entry(entry).len();
     some_number(
         universe,
-        alternatives,
+        entry.len(),
         &MetAlternatives {
             tables,
             state,
-            variant,
             entry,
         },
     )
@@ -85,8 +75,9 @@ pub fn meets_ahead(
     ensures { result ≡ surely_met_ahead universe.now (may_of state.now)
         (nth_entry (pre_depends universe.now variant) entry) }
 {
+    let alternatives = universe.relations(variant).pre_depends.entry(entry);
     state.has_ready_inside(tables.pre_depends(variant, entry))
-        || meets_alternative(universe, tables, state, variant, entry)
+        || meets_alternative(universe, tables, state, alternatives)
 }
 
 /// The Pre-Depends entries of a variant that may not be met ahead of its unpack.

@@ -2,7 +2,7 @@
 
 ghost use Rattle.std.specs.Prelude.{◌≡◌, Bool, length, slice_index};
 ghost use Rattle.deb_relation.specs.Relations.{Entry};
-ghost use Rattle.farm_model.specs.Packages.{variant, satisfies_entry};
+ghost use Rattle.farm_model.specs.Packages.{variant, satisfies, satisfies_entry};
 ghost use Rattle.farm_model.specs.declared.types.Variant.{Variant};
 ghost use Rattle.farm_model.specs.Universe.{Universe};
 ghost use Rattle.plan_model.specs.May.{some_name, may_hold, surely_met, is_surely_unpacked, is_surely_configured, is_surely_present};
@@ -11,6 +11,9 @@ ghost use Rattle.sat_rows.specs.Rows.{IsRowOf};
 ghost use Rattle.may_rows.specs.Words.{AreWords, may_of, some_name_inside};
 
 use bit_rows::Row;
+use deb_relation::Atom;
+use farm_universe::Universe;
+use sat_rows::Tables;
 use std::marker::Model;
 
 /// For each name, by number, what a chroot may hold of it: a word whose bits are variants.
@@ -155,12 +158,13 @@ impl MayHold {
     }
 
     /// Tells whether some name was configured before, and its present and its last configured
-    /// variants are all in a row.
-    pub fn has_both_inside(&self, row: &Row) -> bool
-        requires { length self.now.both ≡ length row.now }
-        ensures { (u : Universe) (p : Variant → Bool) → AreWords u self.now → IsRowOf u p row.now
-            → result ≡ some_name_inside u self.now.both p }
+    /// variants all satisfy an alternative.
+    pub fn both_satisfy(&self, universe: &Universe, tables: &Tables, atom: &Atom) -> bool
+        requires same { tables.now ≡ universe.now }
+        requires words { AreWords universe.now self.now }
+        ensures { result
+            ≡ some_name_inside universe.now self.now.both (satisfies universe.now atom.now) }
     {
-        row.is_met_by(&self.both)
+        tables.has_name_inside(universe, atom, &self.both)
     }
 }

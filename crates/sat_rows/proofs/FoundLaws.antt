@@ -127,6 +127,27 @@ module _ (u : Universe) (field : Package → Relations) (test : Atom → Bool) w
     item_has pass =
         is at.owner.bit ∙ and_from _ _ pass (eq-eqb at.owner.bit at.owner.bit refl)
 
+  -- a variant of whose field some alternative passes has an item under that alternative's name
+  pub listed_owner : (lists : List (List (Item Variant))) (name : List ℕ) → IsNaming u field lists
+      → ((a : Atom) → test a ≡ true → a.name ≡ name) → (n b : ℕ)
+      → variant_passes u some n b ≡ true
+      → (at : Item Variant) × IsIn (listed lists name) at × (at.owner ≡ variant n b)
+      × (passes_there u field test at ≡ true)
+  listed_owner lists name naming same n b pass =
+      let v = variant n b in
+      let both = and_parts (nat_lt b (variants u n)) _ pass in
+      let found = any_atom-found test (field (package_of u v)) both.1 in
+      let at : Item Variant = item v found.0 found.2 in
+      let there =
+      naming.names n b (ltb-true b (variants u n) both.0) found.0 found.1 found.4 found.2
+      found.3
+      found.5 in (
+        at,
+        subst (λ text. IsIn (listed lists text) at) (same found.3 found.7) there,
+        refl,
+        and_from _ _ both.0 (ap (alternative_passes test) found.6 ∙ found.7),
+      )
+
   -- those under a name are all, where what passes has that name
   pub finds_listed : (lists : List (List (Item Variant))) (name : List ℕ)
       (old new : List NumberWord)
@@ -138,16 +159,9 @@ module _ (u : Universe) (field : Package → Relations) (test : Atom → Bool) w
     where
       every : (n b : ℕ) → variant_passes u some n b ≡ true → among new n b ≡ true
       every n b pass =
-          let v = variant n b in
-          let both = and_parts (nat_lt b (variants u n)) _ pass in
-          let found = any_atom-found test (field (package_of u v)) both.1 in
-          let at : Item Variant = item v found.0 found.2 in
-          let there =
-          naming.names n b (ltb-true b (variants u n) both.0) found.0 found.1 found.4 found.2
-          found.3
-          found.5 in
-          has at (subst (λ text. IsIn (listed lists text) at) (same found.3 found.7) there)
-          (and_from _ _ both.0 (ap (alternative_passes test) found.6 ∙ found.7))
+          let found = listed_owner lists name naming same n b pass in
+          ap (λ (v : Variant). among new v.name v.bit) (sym found.2)
+          ∙ has found.0 found.1 found.3
 
 -- an alternative is satisfied by a variant's own name, or by an item that it provides
 module _ (u : Universe) (v : Variant) where

@@ -13,3 +13,4 @@ pub mod NoteLaws
 pub mod NameLaws
 pub mod WantedLaws
 pub mod ServedLaws
+pub mod InsideLaws

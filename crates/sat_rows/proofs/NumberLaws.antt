@@ -6,7 +6,7 @@ use Rattle.farm_model.specs.declared.types.Variant.{Variant}
 use Rattle.farm_model.specs.Universe.{Universe}
 use Rattle.farm_model.specs.Packages.{variant, pre_depends, depends}
 use Rattle.sat_rows.specs.ByVariant.{AreValuesOfName}
-use Rattle.sat_rows.specs.Entries.{IsGrown, IsNumberOf, IsPreNumbers, AreNumbers, AreVariantNumbers, PreNumbers, Numbers, no_numbers}
+use Rattle.sat_rows.specs.Entries.{IsGrown, IsNumberOf, AreNumbers, AreVariantNumbers, Numbers, no_numbers}
 
 pub grown_trans : (a b c : List Entry) → IsGrown a b → IsGrown b c → IsGrown a c
 grown_trans a b c first next n e is = next n e (first n e is)
@@ -20,21 +20,11 @@ all_zip_weaker R S on (x ∷ xs) [] all = absurd all
 all_zip_weaker R S on (x ∷ xs) (y ∷ ys) all = (on x y all.0, all_zip_weaker R S on xs ys all.1)
 
 module _ (a b : List Entry) (grown : IsGrown a b) where
-  pub pre_grown : (e : Entry) (numbers : PreNumbers) → IsPreNumbers a e numbers
-      → IsPreNumbers b e numbers
-  pre_grown e numbers is =
-      record {
-        entry = grown numbers.entry e is.entry;
-        alternatives =
-            all_zip_weaker (λ x n. IsNumberOf a (x ∷ []) n) (λ x n. IsNumberOf b (x ∷ []) n)
-            (λ x n. grown n (x ∷ [])) e numbers.alternatives is.alternatives;
-      }
-
   pub numbers_grown : (u : Universe) (v : Variant) (numbers : Numbers) → AreNumbers u a v numbers
       → AreNumbers u b v numbers
   numbers_grown u v numbers are =
       record {
-        pre_depends = all_zip_weaker (IsPreNumbers a) (IsPreNumbers b) pre_grown (pre_depends u v)
+        pre_depends = all_zip_weaker (IsNumberOf a) (IsNumberOf b) (λ e n. grown n e) (pre_depends u v)
             numbers.pre_depends are.pre_depends;
         depends = all_zip_weaker (IsNumberOf a) (IsNumberOf b) (λ e n. grown n e) (depends u v)
             numbers.depends are.depends;

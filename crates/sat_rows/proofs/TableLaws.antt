@@ -1,20 +1,19 @@
 -- What is read of the tables.
-use Rattle.std.proofs.Common.{◌≡◌, ℕ, zero, suc, ◌<◌, ◌&&◌, nat_lt, List, [], ◌∷◌, Some, length, get_or, refl, sym, ap, ◌∙◌, subst, arith}
-use Rattle.std.specs.List.{AllZip, slice_get}
-use Rattle.std.proofs.Math.Bool.{or-false}
+use Rattle.std.proofs.Common.{◌≡◌, ℕ, ◌<◌, List, [], length, get_or, refl, sym, ◌∙◌, subst, arith}
+use Rattle.std.specs.List.{AllZip}
 use Rattle.std.proofs.lemmas.List.{get_or_default}
 use Rattle.std.proofs.lemmas.Option.{slice_get_read, slice_get_within, get_or_from_slice_get}
-use Rattle.deb_relation.specs.Relations.{Atom, Entry}
+use Rattle.deb_relation.specs.Relations.{Entry}
 use Rattle.farm_model.specs.declared.types.Variant.{Variant}
 use Rattle.farm_model.specs.Universe.{Universe}
-use Rattle.farm_model.specs.Packages.{variant, variants, pre_depends, depends, recipe, satisfies, satisfies_entry}
+use Rattle.farm_model.specs.Packages.{pre_depends, depends, recipe, satisfies_entry}
 use Rattle.farm_model.specs.Sound.{IsKnown}
 use Rattle.farm_universe.proofs.PlaceLaws.{named}
 use Rattle.sat_rows.specs.ByVariant.{AreValuesOfName, AreOfEach}
-use Rattle.sat_rows.specs.Entries.{Numbers, PreNumbers, IsNumberOf, IsPreNumbers, AreNumbers, no_numbers, no_pre_numbers}
+use Rattle.sat_rows.specs.Entries.{Numbers, IsNumberOf, AreNumbers, no_numbers}
 use Rattle.sat_rows.specs.Rows.{IsRowOf, nth_entry}
 use Rattle.sat_rows.specs.Tables.{AreEntryRows}
-use Rattle.sat_rows.proofs.Pairs.{paired_within, paired_at, paired_with}
+use Rattle.sat_rows.proofs.Pairs.{paired_within, paired_at}
 
 module _ {T : Type 0} (u : Universe) (Is : Variant → T → Type 0) (none : T) (lists : List (List T))
     (all : AreOfEach u Is none lists) (v : Variant) (known : IsKnown u v) where
@@ -35,23 +34,6 @@ module _ {T : Type 0} (u : Universe) (Is : Variant → T → Type 0) (none : T) 
 
     pub value_at : Is v (get_or here v.bit none)
     value_at = name_at.each v.bit known
-
--- what stands at a place within the list
-pub read_at : (e : Entry) (j : ℕ) → j < length e → (a : Atom) × (slice_get e j ≡ Some a)
-read_at [] j lt = absurd (omega arith)
-read_at (a ∷ e) zero lt = (a, refl)
-read_at (a ∷ e) (suc j) lt = read_at e j (omega arith)
-
--- an entry with one alternative
-pub one_alternative : (u : Universe) (a : Atom) (row : List ℕ)
-    → IsRowOf u (satisfies_entry u (a ∷ [])) row → IsRowOf u (satisfies u a) row
-one_alternative u a row is =
-    record {
-      long = is.long;
-      set = λ n b.
-          is.set n b ∙ ap (λ x. nat_lt b (variants u n) && x)
-          (or-false (satisfies u a (variant n b)));
-    }
 
 module _ (u : Universe) (by_name : List (List Numbers)) (by_recipe rows : List (List ℕ))
     (kept : AreEntryRows u by_name by_recipe rows) where
@@ -97,31 +79,16 @@ module _ (u : Universe) (by_name : List (List Numbers)) (by_recipe rows : List (
 
         pub pre_within : (i : ℕ) → i < length (pre_depends u v) → i < length numbers.pre_depends
         pre_within i lt =
-            paired_within (IsPreNumbers kept.entries) (pre_depends u v) numbers.pre_depends i
+            paired_within (IsNumberOf kept.entries) (pre_depends u v) numbers.pre_depends i
             are.pre_depends lt
 
-        pub pre_numbers : (i : ℕ) (pre : PreNumbers) → i < length (pre_depends u v)
-            → pre ≡ get_or numbers.pre_depends i no_pre_numbers
-            → IsPreNumbers kept.entries (nth_entry (pre_depends u v) i) pre
-        pre_numbers i pre lt e =
-            subst (IsPreNumbers kept.entries (nth_entry (pre_depends u v) i)) (sym e)
-            (paired_at (IsPreNumbers kept.entries) (pre_depends u v) numbers.pre_depends i []
-            no_pre_numbers are.pre_depends lt)
-
-  -- the alternative of a number
-  pub alternative_within : (e : Entry) (pre : PreNumbers) (j : ℕ) → IsPreNumbers kept.entries e pre
-      → j < length e → j < length pre.alternatives
-  alternative_within e pre j is lt =
-      paired_within (λ a n. IsNumberOf kept.entries (a ∷ []) n) e pre.alternatives j is.alternatives
-      lt
-
-  pub alternative_number : (e : Entry) (pre : PreNumbers) (j n : ℕ) (a : Atom)
-      → IsPreNumbers kept.entries e pre → n ≡ get_or pre.alternatives j 0 → slice_get e j ≡ Some a
-      → IsNumberOf kept.entries (a ∷ []) n
-  alternative_number e pre j n a is at there =
-      subst (IsNumberOf kept.entries (a ∷ [])) (sym at)
-      (paired_with (λ a n. IsNumberOf kept.entries (a ∷ []) n) e pre.alternatives j a 0
-      is.alternatives there)
+        pub pre_number : (i n : ℕ) → i < length (pre_depends u v)
+            → n ≡ get_or numbers.pre_depends i 0
+            → IsNumberOf kept.entries (nth_entry (pre_depends u v) i) n
+        pre_number i n lt e =
+            subst (IsNumberOf kept.entries (nth_entry (pre_depends u v) i)) (sym e)
+            (paired_at (IsNumberOf kept.entries) (pre_depends u v) numbers.pre_depends i [] 0
+            are.pre_depends lt)
 
   module _ (r : ℕ) (lt : r < length u.recipes) where
     pub needs_within : r < length by_recipe

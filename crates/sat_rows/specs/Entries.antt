@@ -3,12 +3,11 @@
 --
 --   IsGrown            the entries keep their numbers as others come
 --   IsNumberOf         the number of an entry
---   IsPreNumbers       those of a Pre-Depends entry and of its alternatives
 --   AreNumbers         those of the entries of a variant
 --   AreVariantNumbers  those of all variants
 --   AreNeeds           those of the needs of all recipes
 --   AreRowsOf          the rows of the entries
-use Rattle.std.specs.Prelude.{◌≡◌, ℕ, ◌<◌, List, [], ◌∷◌, length, Some, slice_get, slice_index_or}
+use Rattle.std.specs.Prelude.{◌≡◌, ℕ, ◌<◌, List, [], length, Some, slice_get, slice_index_or}
 use Rattle.std.specs.List.{AllZip}
 use Rattle.deb_relation.specs.Relations.{Entry}
 use Rattle.farm_model.specs.declared.types.Variant.{Variant}
@@ -25,28 +24,16 @@ IsGrown old new = (n : ℕ) (e : Entry) → slice_get old n ≡ Some e → slice
 abbrev pub IsNumberOf : List Entry → Entry → ℕ → Type 0
 IsNumberOf entries e n = slice_get entries n ≡ Some e
 
-pub record PreNumbers : Type 0 where
-  pub entry : ℕ
-  pub alternatives : List ℕ
-
 pub record Numbers : Type 0 where
-  pub pre_depends : List PreNumbers
+  pub pre_depends : List ℕ
   pub depends : List ℕ
-
--- an alternative is numbered as an entry that has it alone
-pub record IsPreNumbers (entries : List Entry) (e : Entry) (numbers : PreNumbers) : Type 0 where
-  pub entry : IsNumberOf entries e numbers.entry
-  pub alternatives : AllZip (λ a n. IsNumberOf entries (a ∷ []) n) e numbers.alternatives
 
 pub record AreNumbers (u : Universe) (entries : List Entry) (v : Variant) (numbers : Numbers)
     : Type 0 where
-  pub pre_depends : AllZip (IsPreNumbers entries) (pre_depends u v) numbers.pre_depends
+  pub pre_depends : AllZip (IsNumberOf entries) (pre_depends u v) numbers.pre_depends
   pub depends : AllZip (IsNumberOf entries) (depends u v) numbers.depends
 
--- what is read past the last entry, and past the last variant
-abbrev pub no_pre_numbers : PreNumbers
-no_pre_numbers = record { entry = 0; alternatives = [] }
-
+-- what is read past the last variant
 abbrev pub no_numbers : Numbers
 no_numbers = record { pre_depends = []; depends = [] }
 

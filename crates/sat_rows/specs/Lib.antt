@@ -1,6 +1,7 @@
 pub mod Rows
 pub mod Ranges
 pub mod Index
+pub mod Inside
 pub mod Found
 pub mod ByVariant
 pub mod Entries

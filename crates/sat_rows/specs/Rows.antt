@@ -3,17 +3,17 @@
 --   variant_passes                the universe has the variant, and it passes
 --   IsWordFor, IsRowOf            the word of one name, and the row of all names
 --   IsSharedRow                   a row, or none where no variant passes
---   nth_entry, IsAlternativeRow   the entry of a number, and the row of an alternative
+--   nth_entry                     the entry of a number
 --   of_another_name               a test of variants of other names alone
 --   conflicts_with, broken_by, breakers_of
 --                                 the tests of Conflicts and Breaks (Debian Policy 7.3, 7.4)
-use Rattle.std.specs.Prelude.{◌≡◌, ℕ, Bool, false, not, ◌&&◌, ◌==◌, nat_lt, List, [], length, Option, Some, None, slice_get, slice_index_or}
+use Rattle.std.specs.Prelude.{◌≡◌, ℕ, Bool, false, not, ◌&&◌, ◌==◌, nat_lt, List, [], length, Option, Some, None, slice_index_or}
 use Rattle.clause_kernel.specs.Rows.{word_has}
 use Rattle.bit_rows.specs.Sets.{variants_of}
-use Rattle.deb_relation.specs.Relations.{Atom, Entry, Relations}
+use Rattle.deb_relation.specs.Relations.{Entry, Relations}
 use Rattle.farm_model.specs.declared.types.Variant.{Variant}
 use Rattle.farm_model.specs.Universe.{Universe}
-use Rattle.farm_model.specs.Packages.{variant, names, variants, satisfies, conflict, breaks}
+use Rattle.farm_model.specs.Packages.{variant, names, variants, conflict, breaks}
 
 -- the universe has the variant, and it passes
 abbrev pub variant_passes : Universe → (Variant → Bool) → ℕ → ℕ → Bool
@@ -36,11 +36,6 @@ IsSharedRow u p (Some row) = IsRowOf u p row
 -- the entry of a number; past the last one an entry without alternatives
 abbrev pub nth_entry : Relations → ℕ → Entry
 nth_entry es i = slice_index_or es i []
-
--- the row of the alternative of a number
-abbrev pub IsAlternativeRow : Universe → Entry → ℕ → List ℕ → Type 0
-IsAlternativeRow u e j row =
-    (atom : Atom) → slice_get e j ≡ Some atom → IsRowOf u (satisfies u atom) row
 
 -- the variant has another name than v, and passes
 abbrev pub of_another_name : Variant → (Variant → Bool) → Variant → Bool

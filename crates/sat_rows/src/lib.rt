@@ -10,6 +10,7 @@ mod exclusion;
 mod fields;
 mod found;
 mod index;
+mod inside;
 mod joined;
 mod links;
 mod numbers;

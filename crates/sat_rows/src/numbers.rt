@@ -1,59 +1,23 @@
 //! The numbers of the entries of each variant and of each recipe among the distinct ones.
 
-ghost use Rattle.std.specs.Prelude.{◌≡◌, ◌<◌, ◌∷◌, [], IfOk, OnOk, length, slice_index_or};
+ghost use Rattle.std.specs.Prelude.{◌≡◌, ◌<◌, IfOk, OnOk, length, slice_index_or};
 ghost use Rattle.std.specs.List.{AllZip};
 ghost use Rattle.farm_model.specs.Packages.{names, recipe};
 ghost use Rattle.farm_model.specs.Sound.{IsKnown};
-ghost use Rattle.sat_rows.specs.Entries.{IsGrown, IsNumberOf, IsPreNumbers, AreNumbers, AreVariantNumbers, AreNeeds, no_numbers, no_pre_numbers};
+ghost use Rattle.sat_rows.specs.Entries.{IsGrown, IsNumberOf, AreNumbers, AreVariantNumbers, AreNeeds, no_numbers};
 ghost use Rattle.sat_rows.specs.ByVariant.{AreValuesOfName};
 
 use crate::entries::Entries;
 use crate::word::variant_count;
-use deb_relation::{Entry, Relations};
+use deb_relation::Relations;
 use farm_universe::{Universe, Variant};
 use std::alloc::{AllocError, Global};
 use std::marker::Model;
-use std::slice;
-
-/// The numbers of a Pre-Depends entry and of each of its alternatives by itself.
-#[derive(Debug, Drop)]
-pub struct PreNumbers {
-    entry: usize,
-    alternatives: Vec<usize>,
-}
-
-impl Model for PreNumbers {
-    ghost use Rattle.sat_rows.specs.Entries as entries;
-
-    ghost Value = { entries.PreNumbers };
-
-    ghost view = { λ numbers. record {
-      entry = numbers.entry;
-      alternatives = numbers.alternatives.items;
-    } };
-}
-
-impl PreNumbers {
-    /// The number of the entry.
-    pub fn entry(&self) -> usize
-        ensures { result ≡ self.now.entry }
-    {
-        self.entry
-    }
-
-    /// The number of an alternative by itself.
-    pub fn alternative(&self, number: usize) -> usize
-        requires { number < length self.now.alternatives }
-        ensures { result ≡ slice_index_or self.now.alternatives number 0 }
-    {
-        self.alternatives[number]
-    }
-}
 
 /// The numbers of the entries of a variant.
 #[derive(Debug, Drop)]
 pub struct Numbers {
-    pre_depends: Vec<PreNumbers>,
+    pre_depends: Vec<usize>,
     depends: Vec<usize>,
 }
 
@@ -70,11 +34,11 @@ impl Model for Numbers {
 
 impl Numbers {
     /// The numbers of an entry of Pre-Depends.
-    pub fn pre_depends(&self, number: usize) -> &PreNumbers
+    pub fn pre_depends(&self, number: usize) -> usize
         requires { number < length self.now.pre_depends }
-        ensures { result.now ≡ slice_index_or self.now.pre_depends number no_pre_numbers }
+        ensures { result ≡ slice_index_or self.now.pre_depends number 0 }
     {
-        &self.pre_depends[number]
+        self.pre_depends[number]
     }
 
     /// The number of an entry of Depends.
@@ -86,7 +50,7 @@ impl Numbers {
     }
 
     /// The numbers of all entries of Pre-Depends.
-    pub fn all_pre_depends(&self) -> &[PreNumbers]
+    pub fn all_pre_depends(&self) -> &[usize]
         ensures { result.now ≡ self.now.pre_depends }
     {
         &self.pre_depends
@@ -161,48 +125,6 @@ impl Needs {
 }
 
 impl<'a> Entries<'a> {
-    /// The numbers of the alternatives of an entry, each by itself.
-    fn alternatives(&mut self, alloc: Global, entry: &'a Entry) -> Result<Vec<usize>, AllocError>
-        ensures grown { OnOk result (IsGrown self.old self.new) }
-        ensures numbers { IfOk result (λ numbers. AllZip
-            (λ a n. IsNumberOf self.new (a ∷ []) n) entry.now numbers.items) }
-    {
-        let mut numbers = Vec::with_capacity(alloc, entry.alternatives().len())?;
-        for atom in entry.alternatives() {
-            numbers.push(self.number(slice::from_ref(atom))?)?;
-        }
-        Ok(numbers)
-    }
-
-    fn pre_entry(&mut self, alloc: Global, entry: &'a Entry) -> Result<PreNumbers, AllocError>
-        ensures grown { OnOk result (IsGrown self.old self.new) }
-        ensures numbers { IfOk result (IsPreNumbers self.new entry.now) }
-    {
-        let alternatives = self.alternatives(alloc, entry)?;
-        let entry = self.number(entry.alternatives())?;
-        Ok(PreNumbers {
-            entry,
-            alternatives,
-        })
-    }
-
-    /// The numbers of the entries of a Pre-Depends field.
-    fn pre_field(
-        &mut self,
-        alloc: Global,
-        field: &'a Relations,
-    ) -> Result<Vec<PreNumbers>, AllocError>
-        ensures grown { OnOk result (IsGrown self.old self.new) }
-        ensures numbers { IfOk result (λ numbers. AllZip
-            (IsPreNumbers self.new) field.now numbers.items) }
-    {
-        let mut numbers = Vec::with_capacity(alloc, field.entries().len())?;
-        for entry in field.entries() {
-            numbers.push(self.pre_entry(alloc, entry)?)?;
-        }
-        Ok(numbers)
-    }
-
     /// The numbers of the entries of a field.
     fn field(&mut self, alloc: Global, field: &'a Relations) -> Result<Vec<usize>, AllocError>
         ensures grown { OnOk result (IsGrown self.old self.new) }
@@ -227,7 +149,7 @@ impl<'a> Entries<'a> {
         ensures numbers { IfOk result (AreNumbers universe.now self.new variant) }
     {
         let relations = universe.relations(variant);
-        let pre_depends = self.pre_field(alloc, &relations.pre_depends)?;
+        let pre_depends = self.field(alloc, &relations.pre_depends)?;
         let depends = self.field(alloc, &relations.depends)?;
         Ok(Numbers {
             pre_depends,

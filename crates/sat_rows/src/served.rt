@@ -1,7 +1,6 @@
 //! Which Depends and Pre-Depends entries the variants of each name satisfy, and who has them.
 
-ghost use Rattle.std.specs.Prelude.{◌≡◌, ◌<◌, ℕ, [], List, IfOk, length, slice_get, slice_index, slice_index_or};
-ghost use Rattle.clause_kernel.specs.Kernels.{meets};
+ghost use Rattle.std.specs.Prelude.{◌≡◌, ◌<◌, ℕ, [], List, IfOk, length, slice_get, slice_index_or};
 ghost use Rattle.deb_relation.specs.Relations.{Entry};
 ghost use Rattle.sat_rows.specs.Entries.{AreVariantNumbers};
 ghost use Rattle.sat_rows.specs.Links.{nth_list, AreSets};
@@ -12,6 +11,7 @@ use crate::joined::words_at;
 use crate::numbers::NameNumbers;
 use crate::turned::turned;
 use crate::wanted::all_wanted;
+use crate::word::{meets, word_of};
 use bit_rows::Row;
 use farm_universe::Universe;
 use std::alloc::{AllocError, Global};
@@ -44,23 +44,6 @@ fn is_unmet(rows: &[Row], number: usize, words: &[u64]) -> bool
         Some(row) => !row.is_met_by(words),
         None => false,
     }
-}
-
-/// The word of a name, 0 where there is no such name.
-fn word_of(words: &[u64], name: u32) -> u64
-    ensures { result ≡ slice_index words.now name }
-{
-    match words.get(name as usize) {
-        Some(word) => *word,
-        None => 0,
-    }
-}
-
-/// Tells whether a word has variants, and all of them are in another.
-fn meets(word: u64, other: u64) -> bool
-    ensures { result ≡ meets word other }
-{
-    word != 0 && word & other == word
 }
 
 impl Served {

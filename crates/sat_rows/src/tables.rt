@@ -6,8 +6,9 @@ ghost use Rattle.farm_model.specs.declared.types.Variant.{Variant};
 ghost use Rattle.farm_model.specs.Packages.{names, pre_depends, depends, satisfies_entry, satisfies_any};
 ghost use Rattle.farm_model.specs.Packages as packages;
 ghost use Rattle.farm_model.specs.Sound.{IsKnown};
-ghost use Rattle.sat_rows.specs.Rows.{variant_passes, IsRowOf, IsSharedRow, IsAlternativeRow, nth_entry, conflicts_with, broken_by, breakers_of};
+ghost use Rattle.sat_rows.specs.Rows.{variant_passes, IsRowOf, IsSharedRow, nth_entry, conflicts_with, broken_by, breakers_of};
 ghost use Rattle.sat_rows.specs.Index.{IsProviding};
+ghost use Rattle.sat_rows.specs.Inside.{HasInside};
 ghost use Rattle.deb_relation.specs.Relations as spec;
 ghost use Rattle.sat_rows.specs.Entries.{AreVariantNumbers, AreRowsOf};
 ghost use Rattle.sat_rows.specs.Served.{AreLong, AreServed, IsServing, IsMissed};
@@ -20,11 +21,12 @@ use crate::entry_rows::{all_entry_rows, row_of_entry};
 use crate::exclusion::Exclusion;
 use crate::found::Found;
 use crate::index::{Breaks, Conflicts, Provides, naming};
+use crate::inside::has_name_inside;
 use crate::numbers::{NameNumbers, Needs};
 use crate::served::Served;
 use crate::sets::all_sets;
 use bit_rows::Row;
-use deb_relation::Entry;
+use deb_relation::{Atom, Entry};
 use farm_universe::{Universe, Variant};
 use item_index::ItemIndex;
 use std::alloc::{AllocError, Global};
@@ -306,6 +308,16 @@ impl Tables {
         Ok(row_of_entry(alloc, universe, &self.providers, entry.alternatives())?)
     }
 
+    /// Tells whether some name has variants in the words, and all of them satisfy an alternative
+    /// (Debian Policy 7.1 and 7.5). Names that go by that of the alternative are looked at alone.
+    /// The universe is the one that the rows are about. The call takes no memory.
+    pub fn has_name_inside(&self, universe: &Universe, atom: &Atom, words: &[u64]) -> bool
+        requires { self.now ≡ universe.now }
+        ensures { IsTrue result ↔ HasInside self.now atom.now words.now }
+    {
+        has_name_inside(universe, &self.providers, atom, words)
+    }
+
     /// The variants that satisfy a Pre-Depends entry of a variant.
     pub fn pre_depends(&self, variant: Variant, number: usize) -> &Row
         requires known { IsKnown self.now variant }
@@ -315,19 +327,7 @@ impl Tables {
             result.now }
     {
         let numbers = self.names[variant.name as usize].variant(variant.bit);
-        &self.rows[numbers.pre_depends(number).entry()]
-    }
-
-    /// The variants that satisfy an alternative of a Pre-Depends entry of a variant.
-    pub fn pre_alternative(&self, variant: Variant, number: usize, alternative: usize) -> &Row
-        requires known { IsKnown self.now variant }
-        requires there { number < length (pre_depends self.now variant) }
-        requires among { alternative < length (nth_entry (pre_depends self.now variant) number) }
-        ensures { IsAlternativeRow self.now (nth_entry (pre_depends self.now variant) number)
-            alternative result.now }
-    {
-        let numbers = self.names[variant.name as usize].variant(variant.bit);
-        &self.rows[numbers.pre_depends(number).alternative(alternative)]
+        &self.rows[numbers.pre_depends(number)]
     }
 
     /// The variants that satisfy a Depends entry of a variant.

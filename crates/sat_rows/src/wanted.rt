@@ -9,19 +9,19 @@ ghost use Rattle.farm_model.specs.Packages.{names, variants};
 ghost use Rattle.farm_model.specs.Universe.{Universe};
 ghost use Rattle.sat_rows.specs.ByVariant.{AreValuesOfName};
 ghost use Rattle.sat_rows.specs.Entries as listed;
-ghost use Rattle.sat_rows.specs.Entries.{IsNumberOf, IsPreNumbers, AreNumbers, no_numbers};
+ghost use Rattle.sat_rows.specs.Entries.{IsNumberOf, AreNumbers, no_numbers};
 ghost use Rattle.sat_rows.specs.Fields.{AddsField};
 ghost use Rattle.sat_rows.specs.Links.{IsNumbered, AreNumbered};
 ghost use Rattle.sat_rows.specs.Served.{wanted, AreLong};
 
 use crate::found::Found;
-use crate::numbers::{NameNumbers, Numbers, PreNumbers};
+use crate::numbers::{NameNumbers, Numbers};
 use crate::word::{variant_count, with_bit};
 use farm_universe::Universe;
 use std::alloc::{AllocError, Global};
 
-/// Puts a bit under each number of a Depends entry.
-fn note_depends(found: &mut Found, bit: u32, numbers: &[usize]) -> Result<(), AllocError>
+/// Puts a bit under each number of an entry.
+fn note_entries(found: &mut Found, bit: u32, numbers: &[usize]) -> Result<(), AllocError>
     requires { bit < 64 }
     ensures { (entries : List Entry) (field : Relations)
         → AllZip (IsNumberOf entries) field numbers.now
@@ -33,19 +33,6 @@ fn note_depends(found: &mut Found, bit: u32, numbers: &[usize]) -> Result<(), Al
     Ok(())
 }
 
-/// The same of Pre-Depends entries.
-fn note_pre_depends(found: &mut Found, bit: u32, numbers: &[PreNumbers]) -> Result<(), AllocError>
-    requires { bit < 64 }
-    ensures { (entries : List Entry) (field : Relations)
-        → AllZip (IsPreNumbers entries) field numbers.now
-        → OnOk result (AddsField entries field bit found.old found.new) }
-{
-    for number in numbers {
-        found.add(number.entry(), with_bit(0, bit, true))?;
-    }
-    Ok(())
-}
-
 /// Puts the bit of a variant under the number of each of its entries.
 fn note(found: &mut Found, bit: u32, numbers: &Numbers) -> Result<(), AllocError>
     requires { bit < 64 }
@@ -53,8 +40,8 @@ fn note(found: &mut Found, bit: u32, numbers: &Numbers) -> Result<(), AllocError
         → AreNumbers u entries v numbers.now
         → OnOk result (AddsField entries (chroot.entries u v) bit found.old found.new) }
 {
-    note_depends(found, bit, numbers.all_depends())?;
-    note_pre_depends(found, bit, numbers.all_pre_depends())?;
+    note_entries(found, bit, numbers.all_depends())?;
+    note_entries(found, bit, numbers.all_pre_depends())?;
     Ok(())
 }
 

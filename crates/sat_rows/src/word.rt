@@ -1,6 +1,7 @@
 //! The variants of one name that pass a test, as a word.
 
-ghost use Rattle.std.specs.Prelude.{◌≡◌, ◌<◌, ◌≤◌, ◌-◌, ◌^◌, ◌==◌, not, ◌&&◌, ◌||◌, ℕ, true, false, nat_lt, Some};
+ghost use Rattle.std.specs.Prelude.{◌≡◌, ◌<◌, ◌≤◌, ◌-◌, ◌^◌, ◌==◌, not, ◌&&◌, ◌||◌, ℕ, true, false, nat_lt, slice_index, Some};
+ghost use Rattle.clause_kernel.specs.Kernels.{meets};
 ghost use Rattle.clause_kernel.specs.Rows.{word_has};
 ghost use Rattle.farm_model.specs.Packages.{variants, is_wanted};
 ghost use Rattle.sat_rows.specs.Rows.{IsWordFor};
@@ -38,6 +39,23 @@ pub fn has_bit(word: u64, bit: u32) -> bool
     ensures { result ≡ word_has word bit }
 {
     bit < 64 && word & 1 << bit != 0
+}
+
+/// The word of a name, 0 where there is no such name.
+pub fn word_of(words: &[u64], name: u32) -> u64
+    ensures { result ≡ slice_index words.now name }
+{
+    match words.get(name as usize) {
+        Some(word) => *word,
+        None => 0,
+    }
+}
+
+/// Tells whether a word has variants, and all of them are in another.
+pub fn meets(word: u64, other: u64) -> bool
+    ensures { result ≡ meets word other }
+{
+    word != 0 && word & other == word
 }
 
 /// The variants of a name that pass a test.

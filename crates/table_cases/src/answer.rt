@@ -3,17 +3,17 @@
 ghost use Rattle.std.specs.Prelude.{◌≡◌, ◌<◌};
 ghost use Rattle.farm_model.specs.Packages.{names};
 
-use crate::excluded::{Exclusion, excluded};
+use crate::asked::{Exclusion, excluded, satisfying};
 use crate::plain::first_difference;
-use crate::question::{row_asked, variant_of};
+use crate::question::{alternative_of, row_asked, variant_of};
 use bit_rows::Row;
 use case_files::TableRow;
 use farm_universe::{Universe, Variant};
 use sat_rows::Tables;
 use std::alloc::{AllocError, Global};
 
-/// Answers `compare`, `conflicts NAME VERSION`, `breaks NAME VERSION` and `broken-by NAME VERSION`,
-/// or with the row that another question asks for.
+/// Answers `compare`, `conflicts NAME VERSION`, `breaks NAME VERSION`, `broken-by NAME VERSION` and
+/// `alternative NAME VERSION NUMBER NUMBER`, or with the row that another question asks for.
 ///
 /// # Errors
 ///
@@ -31,6 +31,7 @@ pub fn answer(
         "conflicts" => excluded_text(alloc, universe, tables, Exclusion::Conflicts, row),
         "breaks" => excluded_text(alloc, universe, tables, Exclusion::Breaks, row),
         "broken-by" => excluded_text(alloc, universe, tables, Exclusion::BrokenBy, row),
+        "alternative" => alternative_text(alloc, universe, tables, row),
         _ => asked_text(alloc, universe, row_asked(universe, tables, row)),
     }
 }
@@ -49,6 +50,20 @@ fn excluded_text(
             let others = excluded(alloc, universe, tables, kind, variant)?;
             spelled(alloc, universe, &others)
         }
+        None => asked_text(alloc, universe, None),
+    }
+}
+
+fn alternative_text(
+    alloc: Global,
+    universe: &Universe,
+    tables: &Tables,
+    row: TableRow,
+) -> Result<Vec<u8>, AllocError>
+    requires { tables.now ≡ universe.now }
+{
+    match alternative_of(universe, row) {
+        Some(atom) => spelled(alloc, universe, &satisfying(alloc, universe, tables, atom)?),
         None => asked_text(alloc, universe, None),
     }
 }

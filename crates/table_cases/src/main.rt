@@ -3,7 +3,7 @@
 #![tactic(auto)]
 
 mod answer;
-mod excluded;
+mod asked;
 mod farm;
 mod plain;
 mod question;

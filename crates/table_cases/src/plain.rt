@@ -4,7 +4,7 @@ ghost use Rattle.std.specs.Prelude.{◌≡◌, ◌<◌, length};
 ghost use Rattle.farm_model.specs.Packages as packages;
 ghost use Rattle.farm_model.specs.Sound.{IsKnown};
 
-use crate::excluded::{Exclusion, excluded};
+use crate::asked::{Exclusion, excluded, satisfying};
 use bit_rows::Row;
 use deb_relation::{Atom, Entry, Relations};
 use farm_universe::relations::{
@@ -130,46 +130,50 @@ fn entries_are_plain(
             return Ok(false);
         }
     }
-    Ok(pre_entries_are_plain(universe, tables, variant))
+    pre_entries_are_plain(alloc, universe, tables, variant)
 }
 
-fn pre_entries_are_plain(universe: &Universe, tables: &Tables, variant: Variant) -> bool
+fn pre_entries_are_plain(
+    alloc: Global,
+    universe: &Universe,
+    tables: &Tables,
+    variant: Variant,
+) -> Result<bool, AllocError>
     requires same { tables.now ≡ universe.now }
     requires known { IsKnown universe.now variant }
 {
     for number in 0..universe.relations(variant).pre_depends.len() {
-        if !pre_entry_is_plain(universe, tables, variant, number) {
-            return false;
+        if !pre_entry_is_plain(alloc, universe, tables, variant, number)? {
+            return Ok(false);
         }
     }
-    true
+    Ok(true)
 }
 
-fn pre_entry_is_plain(universe: &Universe, tables: &Tables, variant: Variant, number: usize) -> bool
+fn pre_entry_is_plain(
+    alloc: Global,
+    universe: &Universe,
+    tables: &Tables,
+    variant: Variant,
+    number: usize,
+) -> Result<bool, AllocError>
     requires same { tables.now ≡ universe.now }
     requires known { IsKnown universe.now variant }
     requires there { number < length (packages.pre_depends universe.now variant) }
 {
     let entry = universe.relations(variant).pre_depends.entry(number);
-    for place in 0..entry.len() {
-        let row = tables.pre_alternative(variant, number, place);
-        if !is_plain(
-            universe,
-            row,
-            &SatisfiesAtom {
-                atom: entry.alternative(place),
-            },
-            None,
-        ) {
-            return false;
+    for atom in entry.alternatives() {
+        let row = satisfying(alloc, universe, tables, atom)?;
+        if !is_plain(universe, &row, &SatisfiesAtom { atom }, None) {
+            return Ok(false);
         }
     }
-    is_plain(
+    Ok(is_plain(
         universe,
         tables.pre_depends(variant, number),
         &SatisfiesEntry { entry },
         None,
-    )
+    ))
 }
 
 /// Tells whether the variants that a variant so excludes are those that pass.

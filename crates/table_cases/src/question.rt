@@ -1,8 +1,9 @@
-//! The row that a question asks for.
+//! The row that a question asks for:
 //!
 //!     depends NAME VERSION NUMBER                    pre-depends NAME VERSION NUMBER
-//!     alternative NAME VERSION NUMBER NUMBER         of Pre-Depends
 //!     needs RECIPE NUMBER                            clashes RECIPE
+//!
+//! and the alternative of `alternative NAME VERSION NUMBER NUMBER`, of Pre-Depends.
 
 ghost use Rattle.std.specs.Prelude.{◌≡◌, ◌<◌, length, IfSome};
 ghost use Rattle.farm_model.specs.Packages.{names};
@@ -10,6 +11,7 @@ ghost use Rattle.farm_model.specs.Sound.{IsKnown};
 
 use bit_rows::Row;
 use case_files::TableRow;
+use deb_relation::Atom;
 use deb_text::read_number;
 use farm_universe::{Universe, Variant};
 use sat_rows::Tables;
@@ -96,7 +98,6 @@ fn of_variant<'a>(
     match row.question {
         "depends" => depends(universe, tables, variant, number),
         "pre-depends" => pre_depends(universe, tables, variant, number),
-        "alternative" => alternative(universe, tables, variant, number, number_of(row.arg(3))),
         _ => None,
     }
 }
@@ -133,20 +134,10 @@ fn pre_depends<'a>(
     }
 }
 
-fn alternative<'a>(
-    universe: &Universe,
-    tables: &'a Tables,
-    variant: Variant,
-    number: usize,
-    place: usize,
-) -> Option<&'a Row>
-    requires same { tables.now ≡ universe.now }
-    requires known { IsKnown universe.now variant }
-{
-    let relations = universe.relations(variant);
-    if number < relations.pre_depends.len() && place < relations.pre_depends.entry(number).len() {
-        Some(tables.pre_alternative(variant, number, place))
-    } else {
-        None
-    }
+/// The alternative of an entry of Pre-Depends that the arguments name, if there is one.
+pub fn alternative_of<'a>(universe: &'a Universe, row: TableRow) -> Option<&'a Atom> {
+    let variant = variant_of(universe, row)?;
+    let pre_depends = &universe.relations(variant).pre_depends;
+    let entry = pre_depends.entries().get(number_of(row.arg(2)))?;
+    entry.alternatives().get(number_of(row.arg(3)))
 }

@@ -2,7 +2,6 @@ use Rattle.std.proofs.Common.{◌≡◌, ◌∙◌, ◌||◌, Some, None, ap, sy
 use Rattle.std.proofs.Math.Bool.{or-false}
 use Rattle.std.specs.Str.{bytes_eq}
 use Rattle.deb_text.specs.Groups.{place_in}
-use Rattle.deb_relation.specs.Relations.{Atom}
 use Rattle.clause_kernel.specs.Rows.{word_has}
 use Rattle.sat_rows.specs.Found.{among}
 use Rattle.sat_rows.proofs.NameLaws.{own-found, own-none}

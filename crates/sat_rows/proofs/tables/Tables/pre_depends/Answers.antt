@@ -1,9 +1,8 @@
-use Rattle.std.proofs.Common.{sym, subst, arith}
+use Rattle.std.proofs.Common.{subst, arith}
 use Rattle.sat_rows.specs.Tables.{AreKept}
 use Rattle.farm_model.specs.Packages.{pre_depends}
-use Rattle.sat_rows.specs.Entries.{IsNumberOf}
 use Rattle.sat_rows.specs.Rows.{nth_entry}
-use Rattle.sat_rows.proofs.TableLaws.{numbers_within, variant_within, pre_within, pre_numbers, row_within, row_at}
+use Rattle.sat_rows.proofs.TableLaws.{numbers_within, variant_within, pre_within, pre_number, row_within, row_at}
 use Rattle.sat_rows.proofs.tables.Tables.pre_depends.Goals as goal
 
 pub index-requires : goal.index-requires
@@ -39,7 +38,8 @@ pre_depends-requires c =
     inside.breaks
     inside.clashes.items inside.providers inside.empty inside.served) c.self.view_is
     c.self.invariant in
-    pre_within c.args.self.now inside.names.items inside.needs.items inside.rows.items kept.entries
+    pre_within c.args.self.now inside.names.items inside.needs.items inside.rows.items
+    kept.entries
     c.args.variant c.requires.known c.index.result.now c.index.ensures
     c.variant-numbers.result.now c.variant-numbers.ensures c.args.number c.requires.there
 
@@ -52,15 +52,14 @@ index-requires-2 c =
     inside.clashes.items inside.providers inside.empty inside.served) c.self.view_is
     c.self.invariant in
     let e = nth_entry (pre_depends c.args.self.now c.args.variant) c.args.number in
-    let pre = pre_numbers c.args.self.now inside.names.items inside.needs.items inside.rows.items
+    let is = pre_number c.args.self.now inside.names.items inside.needs.items inside.rows.items
     kept.entries
     c.args.variant c.requires.known c.index.result.now c.index.ensures
-    c.variant-numbers.result.now c.variant-numbers.ensures c.args.number c.pre_depends.result.now
-    c.requires.there
-    c.pre_depends.ensures in
+    c.variant-numbers.result.now c.variant-numbers.ensures c.args.number c.pre_depends.result
+    c.requires.there c.pre_depends.ensures in
     let within = row_within c.args.self.now inside.names.items inside.needs.items inside.rows.items
     kept.entries
-    e c.entry.result (subst (IsNumberOf kept.entries.entries e) (sym c.entry.ensures) pre.entry) in
+    e c.pre_depends.result is in
     omega (arith, within, inside.rows.ok)
 
 pub returns : goal.returns
@@ -72,12 +71,11 @@ returns c =
     inside.clashes.items inside.providers inside.empty inside.served) c.self.view_is
     c.self.invariant in
     let e = nth_entry (pre_depends c.args.self.now c.args.variant) c.args.number in
-    let pre = pre_numbers c.args.self.now inside.names.items inside.needs.items inside.rows.items
+    row_at c.args.self.now inside.names.items inside.needs.items inside.rows.items kept.entries
+    e c.pre_depends.result c.index-2.result.now
+    (pre_number c.args.self.now inside.names.items inside.needs.items inside.rows.items
     kept.entries
     c.args.variant c.requires.known c.index.result.now c.index.ensures
-    c.variant-numbers.result.now c.variant-numbers.ensures c.args.number c.pre_depends.result.now
-    c.requires.there
-    c.pre_depends.ensures in
-    row_at c.args.self.now inside.names.items inside.needs.items inside.rows.items kept.entries
-    e c.entry.result c.index-2.result.now
-    (subst (IsNumberOf kept.entries.entries e) (sym c.entry.ensures) pre.entry) c.index-2.ensures
+    c.variant-numbers.result.now c.variant-numbers.ensures c.args.number c.pre_depends.result
+    c.requires.there c.pre_depends.ensures)
+    c.index-2.ensures

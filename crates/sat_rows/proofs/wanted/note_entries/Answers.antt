@@ -2,7 +2,7 @@ use Rattle.std.proofs.Common.{arith}
 use Rattle.sat_rows.specs.Entries.{IsNumberOf}
 use Rattle.sat_rows.proofs.NoteLaws.{one_bit, adds_none}
 use Rattle.sat_rows.proofs.WantedLaws.{number_next, numbers_all}
-use Rattle.sat_rows.proofs.wanted.note_depends.Goals as goal
+use Rattle.sat_rows.proofs.wanted.note_entries.Goals as goal
 
 pub loop-number-init : goal.loop-number-init
 loop-number-init c entries field all = adds_none entries field c.args.bit c.args.found.now
