@@ -4,6 +4,7 @@
 ghost use Rattle.std.specs.Prelude.{◌≡◌, ◌<◌};
 ghost use Rattle.farm_model.specs.Packages.{names};
 ghost use Rattle.farm_model.specs.Sound.{IsKnown};
+ghost use Rattle.farm_model.specs.Universe.{Universe};
 
 use bit_rows::Row;
 use deb_relation::Atom;

@@ -185,8 +185,9 @@ fn excludes_plainly<T: VariantTest>(
     variant: Variant,
     test: &T,
 ) -> Result<bool, AllocError>
+    requires same { tables.now ≡ universe.now }
     requires fits { T.fits universe.now test.now }
-    requires known { IsKnown tables.now variant }
+    requires known { IsKnown universe.now variant }
 {
     let row = excluded(alloc, universe, tables, kind, variant)?;
     Ok(is_plain(universe, &row, test, Some(variant.name)))
