@@ -37,12 +37,7 @@ impl NumberTest for MetAlternatives<'_> {
 }
 
 /// Tells whether some name surely meets an alternative of the entry with both.
-fn meets_alternative(
-    universe: &Universe,
-    tables: &Tables,
-    state: &MayHold,
-    entry: &Entry,
-) -> bool
+fn meets_alternative(universe: &Universe, tables: &Tables, state: &MayHold, entry: &Entry) -> bool
     requires same { tables.now ≡ universe.now }
     requires state { AreWords universe.now state.now }
     ensures { result ≡ list_any

@@ -6,7 +6,7 @@ use Rattle.deb_stanza.proofs.plain.kept_places.Given as goal
 abbrev pub invariant-loop-line : goal.invariant-loop-line
 invariant-loop-line l = record {
   so_far : map (line_in l.text) l.places.items ++ plain_lines (l.number + 1) l.rest
-    ≡ plain_lines 1 l.text;
+      ≡ plain_lines 1 l.text;
   within : AreWithin l.text l.places.items;
   rest : l.rest ≡ drop (length l.text - length l.rest) l.text;
   in_range : l.number + length l.rest ≤ length l.text;
