@@ -6,3 +6,4 @@ pub mod PartsLaws
 pub mod StateLaws
 pub mod TableLaws
 pub mod PlainLaws
+pub mod PackedLaws

@@ -1,22 +1,16 @@
--- The names of the open paragraph, in a set.
-use Rattle.std.proofs.Common.{◌≡◌, ℕ, Bool, true, false, ◌||◌, ◌&&◌, List, [], ◌∷◌, ◌++◌, map, Option, Some, None, IfSome, Ok, Err, refl, sym, ap, subst, ◌∙◌, Ordering, inl, inr}
-use Rattle.std.specs.Global.{Vec}
-use Rattle.std.specs.BTreeSet.{BTreeSet, insert_key}
-use Rattle.std.specs.BTreeMap.{is_at}
-use Rattle.std.specs.declared.cmp.Ordering.TheVariants.{Less, Equal, Greater}
-use Rattle.std.specs.Ordering.{is_eq, nat_cmp, match_ordering}
-use Rattle.std.specs.Cmp.Lexicographic.{slice_cmp}
+-- The names of the open paragraph, in sets.
+use Rattle.std.proofs.Common.{◌≡◌, ℕ, Bool, true, false, not, ◌||◌, ◌&&◌, List, [], ◌∷◌, ◌++◌, map, Option, Some, None, IfSome, IfOk, OnOk, Result, Ok, Err, refl, sym, ap, subst, ◌∙◌, inl, inr}
 use Rattle.std.specs.List.{list_any, list_all}
-use Rattle.std.specs.Str.{bytes_eq}
-use Rattle.std.proofs.lemmas.Bool.{cases_Bool, and_parts, and_from}
+use Rattle.std.proofs.lemmas.Bool.{cases_Bool, and_parts, and_from, true≢false}
 use Rattle.std.proofs.lemmas.List.{map_push}
 use Rattle.std.proofs.lemmas.List.Folds.{list_any-append, list_all-append}
-use Rattle.std.proofs.lemmas.Map.Text.{is_eq-slice_cmp}
 use Rattle.deb_text.proofs.ListLaws.{bytes-same}
 use Rattle.deb_text.specs.Cuts.{is_nil}
 use Rattle.deb_stanza.specs.Cut.{onto_last}
-use Rattle.deb_stanza.specs.Draft.{State, last_texts, open_texts, open_names, longer, larger, with_head, lowered, has_key, HasNames, HasFieldNames, IsFitDraft, draft_state}
+use Rattle.deb_stanza.specs.Draft.{State, last_texts, open_texts, open_names, longer, larger, with_head, HasFieldNames, IsFitDraft, draft_state}
+use Rattle.deb_stanza.specs.Names.{lowered, has, HasNames}
 use Rattle.deb_stanza.specs.declared.draft.Draft.{Draft}
+use Rattle.deb_stanza.specs.declared.names.Names.{Names}
 use Rattle.deb_stanza.specs.declared.table.Start.{Start}
 use Rattle.deb_text.specs.Lines.{Line}
 use Rattle.deb_text.specs.Steps.{answer}
@@ -82,7 +76,7 @@ colons-longer more (t ∷ u ∷ us) have =
     and_from (has_colon t) (list_all has_colon (onto_last (λ t. t ++ more) (u ∷ us))) parts.0
     (colons-longer more (u ∷ us) parts.1)
 
-pub known-longer : (names : Option (BTreeSet (Vec ℕ))) (more : List ℕ) (ts : List (List ℕ))
+pub known-longer : (names : Option Names) (more : List ℕ) (ts : List (List ℕ))
     → HasFieldNames names ts → HasFieldNames names (onto_last (λ t. t ++ more) ts)
 known-longer names more ts known = record {
   names =
@@ -93,60 +87,55 @@ known-longer names more ts known = record {
 
 -- ---- a new name
 
-swap_or : (a b c : Bool) → (a || (b || c)) ≡ (b || (a || c))
-swap_or true true c = refl
-swap_or true false c = refl
-swap_or false b c = refl
+not_true : (b : Bool) → not b ≡ true → b ≡ false
+not_true true is = absurd cc
+not_true false is = refl
 
-pub push_or : (a b c : Bool) → ((a || b) || c) ≡ (b || (a || c))
-push_or true true c = refl
-push_or true false c = refl
-push_or false b c = refl
+-- no name that the set has not is among those that it has
+pub none-same : (names : Names) (given : List (List ℕ)) (name : List ℕ) → HasNames names given
+    → has names (lowered name) ≡ false → list_any (same_name name) given ≡ false
+none-same names [] name all out = refl
+none-same names (n ∷ ns) name all out =
+    let parts = and_parts (has names (lowered n)) _ all in
+    elim (cases_Bool (same_name name n)) [
+      | inl same ↦ absurd (true≢false (sym (ap (has names)
+          (bytes-same (lowered name) (lowered n) same) ∙ parts.0) ∙ out))
+      | inr other ↦ rw other (none-same names ns name parts.1 out)
+    ]
 
-twice_or : (a b : Bool) → (a || b) ≡ (a || (a || b))
-twice_or true b = refl
-twice_or false b = refl
+-- all names that it had, and one more
+pub names-more : (old new : Names) (given : List (List ℕ)) (name : List ℕ) → HasNames old given
+    → ((key : List ℕ) → has old key ≡ true → has new key ≡ true)
+    → has new (lowered name) ≡ true → HasNames new (given ++ name ∷ [])
+names-more old new [] name all kept there = and_from _ true there refl
+names-more old new (n ∷ ns) name all kept there =
+    let parts = and_parts (has old (lowered n)) _ all in
+    and_from _ _ (kept (lowered n) parts.0) (names-more old new ns name parts.1 kept there)
 
--- how the set compares its keys
-abbrev pub key_cmp : Vec ℕ → Vec ℕ → Ordering
-key_cmp a b = slice_cmp nat_cmp a.items b.items
+-- the same in front of them
+pub names-before : (old new : Names) (given : List (List ℕ)) → HasNames old given
+    → ((key : List ℕ) → has old key ≡ true → has new key ≡ true) → HasNames new given
+names-before old new [] all kept = refl
+names-before old new (n ∷ ns) all kept =
+    let parts = and_parts (has old (lowered n)) _ all in
+    and_from _ _ (kept (lowered n) parts.0) (names-before old new ns parts.1 kept)
 
-abbrev pub is_key : List ℕ → Vec ℕ → Bool
-is_key q k = bytes_eq q k.items
+-- the same of what an insertion tells
+pub told-new : {E : Type 0} (told : Result Bool E) (names : Names) (given : List (List ℕ))
+    (name : List ℕ) → HasNames names given
+    → IfOk told (λ is_new. is_new ≡ not (has names (lowered name)))
+    → IfOk told (λ is_new. is_new ≡ true → list_any (same_name name) given ≡ false)
+told-new (Err e) names given name all is = is
+told-new (Ok is_new) names given name all is =
+    λ new. none-same names given name all (not_true _ (sym is ∙ new))
 
--- equal keys pass the same tests
-same_key : (q : List ℕ) (k x : Vec ℕ) → is_eq (key_cmp k x) ≡ true → is_key q x ≡ is_key q k
-same_key q k x is =
-    ap (bytes_eq q)
-    (sym (bytes-same k.items x.items (sym (is_eq-slice_cmp k.items x.items) ∙ is)))
-
--- a set has one more key
-pub any-insert_key : (k : Vec ℕ) (q : List ℕ) (xs : List (Vec ℕ))
-    → list_any (is_key q) (insert_key key_cmp xs k) ≡ (is_key q k || list_any (is_key q) xs)
-any-insert_key k q [] = refl
-any-insert_key k q (x ∷ xs) = by (key_cmp k x) (same_key q k x) (any-insert_key k q xs) where
-  by : (o : Ordering) → (is_eq o ≡ true → is_key q x ≡ is_key q k)
-      → list_any (is_key q) (insert_key key_cmp xs k) ≡ (is_key q k || list_any (is_key q) xs)
-      → list_any (is_key q) (match_ordering o (k ∷ x ∷ xs) (x ∷ xs) (x ∷ insert_key key_cmp xs k))
-      ≡ (is_key q k || (is_key q x || list_any (is_key q) xs))
-  by Less same later = refl
-  by Equal same later = rw (same refl) (twice_or (is_key q k) (list_any (is_key q) xs))
-  by Greater same later = rw later (swap_or (is_key q x) (is_key q k) (list_any (is_key q) xs))
-
-pub any-cmp : (key : Vec ℕ) (ks : List (Vec ℕ))
-    → list_any (is_at (key_cmp key)) ks ≡ list_any (λ k. bytes_eq key.items k.items) ks
-any-cmp key [] = refl
-any-cmp key (k ∷ ks) = rw (is_eq-slice_cmp key.items k.items, any-cmp key ks) refl
-
-any-lowered : (name : List ℕ) (ns : List (List ℕ))
-    → list_any (bytes_eq (lowered name)) (map lowered ns) ≡ list_any (same_name name) ns
-any-lowered name [] = refl
-any-lowered name (n ∷ ns) = rw (any-lowered name ns) refl
-
--- the set has a name where one of these is the same
-pub has-same : (names : BTreeSet (Vec ℕ)) (given : List (List ℕ)) (name : List ℕ)
-    → HasNames names given → has_key names (lowered name) ≡ list_any (same_name name) given
-has-same names given name has = has.keys (lowered name) ∙ any-lowered name given
+pub told-names : {E : Type 0} (told : Result Bool E) (old new : Names) (given : List (List ℕ))
+    (name : List ℕ) → HasNames old given
+    → OnOk told ((key : List ℕ) → has old key ≡ true → has new key ≡ true)
+    → OnOk told (has new (lowered name) ≡ true) → OnOk told (HasNames new (given ++ name ∷ []))
+told-names (Err e) old new given name all kept there = kept
+told-names (Ok is_new) old new given name all kept there =
+    names-more old new given name all kept there
 
 -- ---- a line that begins a field
 
@@ -176,7 +165,7 @@ nil-raws bytes fields [] some = absurd cc
 nil-raws bytes fields (p ∷ ps) some = refl
 
 -- the names after such a line
-pub known-head : (d : Draft) (more : Option (BTreeSet (Vec ℕ))) (s : State) (l : Line)
+pub known-head : (d : Draft) (more : Option Names) (s : State) (l : Line)
     (name : List ℕ) → IsFitDraft d → s ≡ with_head (draft_state d) l
     → name ≡ name_of l.1 → has_colon l.1 ≡ true
     → IfSome more (λ set. HasNames set (open_names (draft_state d) ++ name ∷ []))

@@ -1,16 +1,15 @@
 -- How the reader goes from line to line. Only clauses of private functions cite this file.
 use Rattle.std.specs.Prelude.{◌≡◌, ℕ, Bool, true, false, not, List, [], ◌∷◌, ◌++◌, map, filter, length, ◌+◌, ◌<◌, ◌^◌, if◌then◌else◌, drop, Option, IfSome, Result}
 use Rattle.std.specs.List.{list_any, list_all}
-use Rattle.std.specs.Str.{bytes_eq, str_to_ascii_lowercase}
-use Rattle.std.specs.Global.{Vec}
 use Rattle.deb_text.specs.declared.fault.Fault.{Fault}
 use Rattle.deb_text.specs.Lines.{Line}
 use Rattle.deb_text.specs.Steps.{answer}
 use Rattle.deb_text.specs.Cuts.{is_nil}
-use Rattle.std.specs.BTreeSet.{BTreeSet}
 use Rattle.deb_stanza.specs.declared.draft.Draft.{Draft}
+use Rattle.deb_stanza.specs.declared.names.Names.{Names}
 use Rattle.deb_stanza.specs.declared.table.Table.{Table}
 use Rattle.deb_stanza.specs.Cut.{onto_last}
+use Rattle.deb_stanza.specs.Names.{HasNames}
 use Rattle.deb_stanza.specs.Stanza.{is_colon, name_of, separates, continues, line_refusal, told_at, first_number, texts_of, parts, open_part}
 use Rattle.deb_stanza.specs.View.{Raw, table_raws, table_texts, IsSoundTable}
 
@@ -71,22 +70,12 @@ state_of ls = record {
 
 -- ---- what the code keeps true
 
-abbrev pub lowered : List ℕ → List ℕ
-lowered name = str_to_ascii_lowercase name
-
 -- the names of the fields from this one on
 abbrev pub names_from : Table → ℕ → List (List ℕ)
 names_from t field = map name_of (drop field (table_texts t))
 
-abbrev pub has_key : BTreeSet (Vec ℕ) → List ℕ → Bool
-has_key names key = list_any (λ k. bytes_eq key k.items) names.keys
-
--- the set has these names, in small letters
-pub record HasNames (names : BTreeSet (Vec ℕ)) (given : List (List ℕ)) : Type 0 where
-  pub keys : (key : List ℕ) → has_key names key ≡ list_any (bytes_eq key) (map lowered given)
-
 -- the set, where there is one, has the names of these texts, and each text has a colon
-pub record HasFieldNames (set : Option (BTreeSet (Vec ℕ))) (texts : List (List ℕ)) : Type 0 where
+pub record HasFieldNames (set : Option Names) (texts : List (List ℕ)) : Type 0 where
   pub names : IfSome set (λ names. HasNames names (map name_of texts))
   pub colons : list_all (λ text. list_any is_colon text) texts ≡ true
 

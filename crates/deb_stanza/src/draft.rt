@@ -7,16 +7,17 @@ ghost use Rattle.deb_text.specs.Cuts.{is_nil};
 ghost use Rattle.deb_text.specs.Lines.{control_lines};
 ghost use Rattle.deb_text.specs.Steps.{answer, judged};
 ghost use Rattle.deb_stanza.specs.Cut.{onto_last};
-ghost use Rattle.deb_stanza.specs.Draft.{draft_state, HasNames, IsFitDraft, HasRoom, longer, names_from, open_names, draft_step, with_head};
+ghost use Rattle.deb_stanza.specs.Draft.{draft_state, IsFitDraft, HasRoom, longer, names_from, open_names, draft_step, with_head};
+ghost use Rattle.deb_stanza.specs.Names.{HasNames};
 ghost use Rattle.deb_stanza.specs.Stanza.{fault_of, head_fault, paragraphs_of, same_name, told_at};
 ghost use Rattle.deb_stanza.specs.View.{IsSoundTable, line_of, table_paragraphs};
 
 use crate::error::{CONTINUES_NO_FIELD, FIELD_TWICE, MOST_BYTES};
-use crate::fields::{fault, head_name, insert_name};
+use crate::fields::{fault, head_name};
+use crate::names::Names;
 use crate::table::{Table, empty_table};
 use deb_text::{Class, Fault, Line, begins_with, is_blank_line, is_comment, next_line};
 use std::alloc::{AllocError, Global};
-use std::collections::BTreeSet;
 
 /// From so many fields on, the names of a paragraph are kept in a set. Of fewer, each name is
 /// compared with a new one.
@@ -28,7 +29,7 @@ const MANY: usize = 16;
 pub struct Draft {
     pub table: Table,
     pub is_open: bool,
-    pub names: Option<BTreeSet<Vec<u8>>>,
+    pub names: Option<Names>,
 }
 
 /// A draft without paragraphs.
@@ -125,12 +126,29 @@ impl Draft {
     {
         let start = self.open_start();
         if self.names.is_none() && self.table.fields.len() - start >= MANY {
-            self.names = Some(self.table.name_set(alloc, start)?);
+            self.names = Some(self.table.names_from(alloc, start)?);
         }
         Ok(())
     }
 
-    /// Tells whether no field of the open paragraph has this name. A set of names has it then.
+    /// Puts a name into the set of names, where there is one, and tells whether it was not there.
+    fn is_put(&mut self, alloc: Global, name: &[u8]) -> Result<bool, AllocError>
+        requires fit { IsFitDraft self.old }
+        ensures new { IfOk result (λ is_new. is_new ≡ true
+            → list_any (same_name name.now) (open_names (draft_state self.old)) ≡ false) }
+        ensures names { OnOk result (IfSome self.new.names
+            (λ set. HasNames set (open_names (draft_state self.old) ++ name.now ∷ []))) }
+        ensures state { draft_state self.new ≡ draft_state self.old }
+        ensures table { self.new.table ≡ self.old.table }
+    {
+        match &mut self.names {
+            Some(names) => names.insert(alloc, name),
+            None => Ok(false),
+        }
+    }
+
+    /// Tells whether no field of the open paragraph has this name. A set of names has it then. Where
+    /// a set seems to have it already, the fields are looked at one by one.
     fn takes_name(&mut self, alloc: Global, name: &[u8]) -> Result<bool, AllocError>
         requires fit { IsFitDraft self.old }
         ensures new { IfOk result (λ is_new. is_new
@@ -140,10 +158,10 @@ impl Draft {
         ensures state { draft_state self.new ≡ draft_state self.old }
         ensures table { self.new.table ≡ self.old.table }
     {
-        match &mut self.names {
-            Some(names) => insert_name(alloc, names, name),
-            None => Ok(!self.table.has_name(self.open_start(), name)),
+        if self.is_put(alloc, name)? {
+            return Ok(true);
         }
+        Ok(!self.table.has_name(self.open_start(), name))
     }
 
     /// Takes a line that begins a field.

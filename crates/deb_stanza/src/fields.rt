@@ -1,20 +1,16 @@
 //! The lines that begin a field.
 
-ghost use Rattle.std.specs.Prelude.{◌≡◌, ℕ, List, nat_le, not, ◌&&◌, ◌||◌, [], IfNone, IfOk, IfSome, OnOk, true, false, if◌then◌else◌, Some, None};
-ghost use Rattle.std.specs.Str.{bytes_eq};
+ghost use Rattle.std.specs.Prelude.{◌≡◌, nat_le, not, ◌&&◌, [], IfNone, IfOk, IfSome, true, false, if◌then◌else◌, Some, None};
 ghost use Rattle.std.specs.List.{list_all, list_any};
 ghost use Rattle.std.specs.Option.{option_map};
 ghost use Rattle.deb_text.specs.Answers.{Gives, refusal_of, fault_at};
 ghost use Rattle.deb_text.specs.Bytes.{is_byte};
 ghost use Rattle.deb_text.specs.Cuts.{first_is, is_nil, after};
 ghost use Rattle.deb_text.specs.Steps.{answer};
-ghost use Rattle.deb_stanza.specs.Draft.{has_key, lowered};
 ghost use Rattle.deb_stanza.specs.Stanza.{is_colon, is_field_name, name_of, name_fault, told_at, same_name};
 
 use crate::error::{BAD_FIELD_NAME, NO_COLON};
 use deb_text::{Fault, Line, cut_at_first};
-use std::alloc::{AllocError, Global};
-use std::collections::BTreeSet;
 
 /// A code told at a line.
 pub fn fault(line: u32, code: u16) -> Fault
@@ -63,32 +59,6 @@ pub fn head_name(line: Line<'_>) -> Result<&[u8], Fault>
         return Err(fault(line.number, BAD_FIELD_NAME));
     }
     Ok(name)
-}
-
-/// A name in small letters.
-fn lowered_name(alloc: Global, name: &[u8]) -> Result<Vec<u8>, AllocError>
-    ensures { IfOk result (λ key. key.items ≡ lowered name.now) }
-{
-    name.iter().map(|b| b.to_ascii_lowercase()).collect(alloc)
-}
-
-/// Puts a name into a set of names in small letters, and tells whether it was not there.
-///
-/// # Errors
-///
-/// [`AllocError`] where memory is refused. What the set has then is not said.
-pub fn insert_name(
-    alloc: Global,
-    names: &mut BTreeSet<Vec<u8>>,
-    name: &[u8],
-) -> Result<bool, AllocError>
-    ensures new { IfOk result (λ is_new. is_new ≡ not (has_key names.old (lowered name.now))) }
-    ensures keys { OnOk result ((key : List ℕ) → has_key names.new key
-        ≡ bytes_eq key (lowered name.now) || has_key names.old key) }
-{
-    let key = lowered_name(alloc, name)?;
-    let is_new = names.insert(key)?;
-    Ok(is_new)
 }
 
 /// What stands before the first colon of a text, or all of it.

@@ -4,6 +4,7 @@
 mod draft;
 mod error;
 mod fields;
+mod names;
 mod paragraphs;
 mod plain;
 mod table;

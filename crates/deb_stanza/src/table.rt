@@ -4,14 +4,15 @@ ghost use Rattle.std.specs.Prelude.{◌≡◌, ◌+◌, ◌<◌, ◌≤◌, ◌^
 ghost use Rattle.std.specs.List.{list_any};
 ghost use Rattle.std.specs.Option.{option_map};
 ghost use Rattle.deb_stanza.specs.Cut.{end_at, onto_last};
-ghost use Rattle.deb_stanza.specs.Draft.{HasNames, last_texts, longer, larger, names_from};
+ghost use Rattle.deb_stanza.specs.Draft.{last_texts, longer, larger, names_from};
+ghost use Rattle.deb_stanza.specs.Names.{HasNames};
 ghost use Rattle.deb_stanza.specs.Stanza.{name_of, paragraph_at, same_name, value_of};
 ghost use Rattle.deb_stanza.specs.View.{IsSoundTable, first_of_start, own, table_paragraphs, table_raws, table_texts, value_among, value_named};
 
-use crate::fields::{behind_name, insert_name, name_part};
+use crate::fields::{behind_name, name_part};
+use crate::names::Names;
 use deb_text::trim;
 use std::alloc::{AllocError, Global};
-use std::collections::BTreeSet;
 
 /// As how many bytes of fields a paragraph counts beside those that it has.
 const PARAGRAPH_WEIGHT: usize = 64;
@@ -220,18 +221,21 @@ impl Table {
         name_part(self.text(field))
     }
 
-    /// The names of the fields from this one on, in small letters.
+    /// The names of the fields from this one on.
     ///
     /// # Errors
     ///
     /// [`AllocError`] where memory is refused.
-    pub fn name_set(&self, alloc: Global, start: usize) -> Result<BTreeSet<Vec<u8>>, AllocError>
-        requires { IsSoundTable self.now }
-        ensures { IfOk result (λ set. HasNames set (names_from self.now start)) }
+    pub fn names_from(&self, alloc: Global, start: usize) -> Result<Names, AllocError>
+        requires sound { IsSoundTable self.now }
+        requires within { start ≤ length self.now.fields.items }
+        ensures { IfOk result (λ names. HasNames names (names_from self.now start)) }
     {
-        let mut names = BTreeSet::new(alloc);
-        for field in start..self.fields.len() {
-            insert_name(alloc, &mut names, self.name(field))?;
+        let mut names = Names::new(alloc);
+        let mut field = self.fields.len();
+        while field > start {
+            field -= 1;
+            names.insert(alloc, self.name(field))?;
         }
         Ok(names)
     }

@@ -1,6 +1,7 @@
 use Rattle.std.proofs.Common.{◌≡◌, Bool, true, false, not, [], ◌∷◌, ◌++◌, IfSome, Ok, List, ℕ, sym, ap, subst, ◌∙◌}
 use Rattle.std.specs.List.{list_any}
-use Rattle.deb_stanza.specs.Draft.{State, HasNames, draft_state, open_names, with_head}
+use Rattle.deb_stanza.specs.Draft.{State, draft_state, open_names, with_head}
+use Rattle.deb_stanza.specs.Names.{HasNames}
 use Rattle.deb_stanza.specs.Stanza.{name_fault, name_of, same_name}
 use Rattle.deb_stanza.specs.View.{line_of}
 use Rattle.deb_stanza.proofs.NameLaws.{head-fine, known-head, told-ok}
