@@ -47,20 +47,6 @@ module _ {K : Type 0} (cmp : K → K → Ordering) (q : K → Ordering) where
       | inr there ↦ or_right (is_at q x) _ (later there)
     ]
 
-  -- and so does who looks for itself
-  pub found_itself : (k : K) (xs : List K) → is_eq (q k) ≡ true
-      → ((x : K) → is_eq (cmp k x) ≡ true → is_eq (q x) ≡ true)
-      → list_any (is_at q) (insert_key cmp xs k) ≡ true
-  found_itself k [] at same = or_left (is_at q k) _ at
-  found_itself k (x ∷ xs) at same =
-      by (cmp k x) refl (found_itself k xs at same) where
-        by : (o : Ordering) → cmp k x ≡ o → list_any (is_at q) (insert_key cmp xs k) ≡ true
-            → list_any (is_at q) (match_ordering o (k ∷ x ∷ xs) (x ∷ xs) (x ∷ insert_key cmp xs k))
-            ≡ true
-        by Less is later = or_left (is_at q k) _ at
-        by Equal is later = or_left (is_at q x) _ (same x (ap is_eq is))
-        by Greater is later = or_right (is_at q x) _ later
-
 -- a long name more
 abbrev pub key_cmp : Vec ℕ → Vec ℕ → Ordering
 key_cmp a b = slice_cmp nat_cmp a.items b.items
