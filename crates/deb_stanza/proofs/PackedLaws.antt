@@ -17,7 +17,7 @@ use Rattle.deb_stanza.specs.declared.names.Names.{Names}
 -- ---- the number of a name
 
 pub packed_step : (number : ℕ) (text : List ℕ) → 1 ≤ length text
-    → packed_behind (number % 2 ^ 120 * 256 + to_ascii_lowercase (get_or text 0 0))
+    → packed_behind (number % 2 ^ 120 * 128 + to_ascii_lowercase (get_or text 0 0))
     (lowered (take (length text - 1) (drop 1 text)))
     ≡ packed_behind number (lowered text)
 packed_step number [] some = absurd (omega arith)
@@ -55,7 +55,7 @@ pub kept_long : (old : Names) (long : BTreeSet (Vec ℕ)) (k : Vec ℕ)
     → long.keys ≡ insert_key key_cmp old.long.keys k → (key : List ℕ) → has old key ≡ true
     → has (record { short = old.short; middle = old.middle; long = long }) key ≡ true
 kept_long old long k is key was =
-    by (nat_lt (length key) 8) (nat_lt (length key) 16) was
+    by (nat_lt (length key) 10) (nat_lt (length key) 19) was
   where
     q : Vec ℕ → Ordering
     q x = slice_cmp nat_cmp key x.items

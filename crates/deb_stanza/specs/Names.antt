@@ -16,18 +16,18 @@ use Rattle.deb_stanza.specs.declared.names.Names.{Names}
 abbrev pub lowered : List ℕ → List ℕ
 lowered name = str_to_ascii_lowercase name
 
--- behind a number, its bytes as digits to the base 256, as far as 128 bits go
+-- behind a number, its bytes as digits to the base 128, as far as 128 bits go
 abbrev pub packed_behind : ℕ → List ℕ → ℕ
 packed_behind number [] = number
-packed_behind number (b ∷ bs) = packed_behind (number % 2 ^ 120 * 256 + b) bs
+packed_behind number (b ∷ bs) = packed_behind (number % 2 ^ 120 * 128 + b) bs
 
 abbrev pub packed : List ℕ → ℕ
 packed key = packed_behind 1 key
 
 abbrev pub has : Names → List ℕ → Bool
 has names key =
-    if nat_lt (length key) 8 then contains_by (nat_cmp (packed key % 2 ^ 64)) names.short
-    else (if nat_lt (length key) 16 then contains_by (nat_cmp (packed key)) names.middle
+    if nat_lt (length key) 10 then contains_by (nat_cmp (packed key % 2 ^ 64)) names.short
+    else (if nat_lt (length key) 19 then contains_by (nat_cmp (packed key)) names.middle
     else contains_by (λ k. slice_cmp nat_cmp key k.items) names.long)
 
 -- no other name is new

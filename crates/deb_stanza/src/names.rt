@@ -7,10 +7,10 @@ use std::alloc::{AllocError, Global};
 use std::collections::BTreeSet;
 
 /// A name of fewer bytes is kept as a number of 64 bits.
-const SHORT: usize = 8;
+const SHORT: usize = 10;
 
 /// A name of fewer bytes is kept as a number of 128 bits.
-const MIDDLE: usize = 16;
+const MIDDLE: usize = 19;
 
 /// Names in small letters, each in the set for its length: a short one takes no block of its own.
 #[derive(Drop)]
@@ -27,15 +27,15 @@ fn lowered_name(alloc: Global, name: &[u8]) -> Result<Vec<u8>, AllocError>
     name.iter().map(|b| b.to_ascii_lowercase()).collect(alloc)
 }
 
-/// The bytes of a name in small letters behind a first 1, as a number to the base 256: one name
-/// alone of fewer than 16 bytes has it.
+/// The bytes of a name in small letters behind a first 1, as digits of a number to the base 128: of
+/// the names of fewer than 19 bytes, which are ASCII, one alone has it.
 fn packed(name: &[u8]) -> u128
     ensures { result ≡ packed (lowered name.now) }
 {
     let mut number = 1u128;
     let mut left = name;
     while let [byte, rest @ ..] = left {
-        number = number % (1 << 120) * 256 + u128::from(byte.to_ascii_lowercase());
+        number = number % (1 << 120) * 128 + u128::from(byte.to_ascii_lowercase());
         left = rest;
     }
     number

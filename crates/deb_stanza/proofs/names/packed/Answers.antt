@@ -10,7 +10,7 @@ loop-left-preserved c =
     let number = c.loop-left.number in
     let low : c.from.result ≡ to_ascii_lowercase (get_or left 0 0) =
     c.from.ensures ∙ c.to_ascii_lowercase.ensures.value in
-    subst (λ b. packed_behind (number % 2 ^ 120 * 256 + b)
+    subst (λ b. packed_behind (number % 2 ^ 120 * 128 + b)
     (lowered (take (length left - 1) (drop 1 left))) ≡ packed (lowered c.args.name.now))
     (sym low) (packed_step number left c.in-len1-up.len_at_least ∙ c.loop-left.invariant)
 
