@@ -105,6 +105,23 @@ atom-unrestricted kind text name behind_name front end last qualifier relation s
     rw (behind-whole is_blank text starts, at_name, at_qualifier, at_relation, ends)
     (limited-none kind name qualifier relation)
 
+-- an alternative that is a name alone
+pub atom-name : (kind : Kind) (text name behind_name : List ℕ)
+    → first_is is_blank text ≡ false
+    → name_at text ≡ Ok (name, behind_name) → (length behind_name == 0) ≡ true
+    → atom_at kind text ≡ Ok (record {
+      name = name;
+      qualifier = None;
+      relation = None;
+      archs = None;
+      profiles = [];
+    })
+unfolding qualifier_at relation_at
+atom-name kind text name behind_name starts at_name empty =
+    let named : name_at text ≡ Ok (name, []) =
+    at_name ∙ ap (λ (end : List ℕ). Ok (name, end)) (nil-true behind_name empty) in
+    atom-unrestricted kind text name [] [] [] [] None None starts named refl refl refl refl
+
 -- ---- an entry of one alternative
 
 pub entry-one : (kind : Kind) (text : List ℕ) → list_any (is_byte bar) text ≡ false

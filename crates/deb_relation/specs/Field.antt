@@ -15,10 +15,17 @@ use Rattle.deb_relation.specs.declared.operator.Op.{Op}
 use Rattle.deb_relation.specs.Grammar.{name_at, qualifier_at, relation_at}
 use Rattle.deb_relation.specs.Kinds.{has_alternatives}
 use Rattle.deb_relation.specs.Marks.{comma, bar}
-use Rattle.deb_relation.specs.Relations.{Atom, Entry, Relations}
+use Rattle.deb_relation.specs.Relations.{Item, ArchList, Atom, Entry, Relations}
 use Rattle.deb_relation.specs.Restrictions.{archs_at, profiles_at}
 
--- the restrictions behind a relation, with what stands before them
+-- the restrictions behind a relation
+abbrev pub limits_at : Kind → List ℕ → Result (Option ArchList × List (List Item)) ℕ
+limits_at kind text = do
+  archs ← archs_at kind text
+  profiles ← profiles_at kind archs.1
+  Ok (archs.0, profiles)
+
+-- the same, with what stands before them
 abbrev pub limited_at : Kind → List ℕ → Option (List ℕ) → Option (Op × List ℕ) → List ℕ
     → Result Atom ℕ
 limited_at kind name qualifier relation text = do

@@ -7,7 +7,7 @@ ghost use Rattle.deb_text.specs.Answers.{Gives};
 ghost use Rattle.deb_text.specs.Bytes.{is_byte, is_blank};
 ghost use Rattle.deb_text.specs.Cuts.{first_is, length_left, parts_left};
 ghost use Rattle.deb_text.specs.Steps.{traverse};
-ghost use Rattle.deb_relation.specs.Field.{atom_at, limited_at, is_empty_text, alternative_at, entry_at, entries_left, relations_at, first_relations_at, only_judged};
+ghost use Rattle.deb_relation.specs.Field.{atom_at, limited_at, limits_at, is_empty_text, alternative_at, entry_at, entries_left, relations_at, first_relations_at, only_judged};
 ghost use Rattle.deb_relation.specs.Marks.{bar};
 ghost use Rattle.deb_relation.specs.View.{refusal_of};
 
@@ -256,11 +256,7 @@ fn judge_alternative(alloc: Global, kind: Kind, text: &[u8]) -> Result<(), Relat
 /// How many bars a text has: so many alternatives, and one more, take room at once, and no list of
 /// them is copied as it grows.
 fn bars_in(text: &[u8]) -> usize {
-    let mut count = 0usize;
-    for byte in text {
-        count = count.saturating_add(usize::from(*byte == b'|'));
-    }
-    count
+    text.iter().filter(|byte| **byte == b'|').count()
 }
 
 fn read_alternatives(alloc: Global, kind: Kind, text: &[u8]) -> Result<Vec<Atom>, RelationError>
@@ -297,10 +293,14 @@ fn read_atom(alloc: Global, kind: Kind, text: &[u8]) -> Result<Atom, RelationErr
     ensures { Gives refusal_of (λ atom. atom) result (atom_at kind text.now) }
 {
     let (name, rest) = read_name(text)?;
+    // most alternatives are a name alone
+    if rest.is_empty() {
+        return Ok(Atom::unrestricted(alloc, name, None, None)?);
+    }
     let (qualifier, rest) = read_qualifier(rest)?;
     let (relation, rest) = read_relation(kind, skip_front(Class::Blank, rest))?;
     let rest = skip_front(Class::Blank, rest);
-    // most alternatives end here
+    // most others end here
     if rest.is_empty() {
         return Ok(Atom::unrestricted(alloc, name, qualifier, relation)?);
     }
@@ -332,9 +332,26 @@ fn judge_atom(alloc: Global, kind: Kind, text: &[u8]) -> Result<(), RelationErro
     ensures { Gives refusal_of (λ _. tt) result (only_judged (atom_at kind text.now)) }
 {
     let (_, rest) = read_name(text)?;
+    // most alternatives are a name alone
+    if rest.is_empty() {
+        return Ok(());
+    }
     let (_, rest) = read_qualifier(rest)?;
     let (_, rest) = read_relation(kind, skip_front(Class::Blank, rest))?;
-    let (_, rest) = read_archs(alloc, kind, skip_front(Class::Blank, rest))?;
+    let rest = skip_front(Class::Blank, rest);
+    // most others end here
+    if rest.is_empty() {
+        return Ok(());
+    }
+    judge_restrictions(alloc, kind, rest)
+}
+
+/// Judges the restrictions of an alternative, to its end.
+#[inline(never)]
+fn judge_restrictions(alloc: Global, kind: Kind, text: &[u8]) -> Result<(), RelationError>
+    ensures { Gives refusal_of (λ _. tt) result (only_judged (limits_at kind text.now)) }
+{
+    let (_, rest) = read_archs(alloc, kind, text)?;
     read_profiles(alloc, kind, rest)?;
     Ok(())
 }
