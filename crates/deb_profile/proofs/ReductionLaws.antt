@@ -1,8 +1,5 @@
 -- What was reduced is reduced no further, and what is bare stays as it is.
-use Rattle.std.proofs.Common.{◌≡◌, ℕ, ◌≤◌, true, false, not, ◌==◌, ◌&&◌, List, [], ◌∷◌, ◌++◌, length, refl, sym, ap, ◌∙◌, arith, inl, inr, map, filter, append_assoc, Option, Some, None, Result, Ok, Err}
-use Rattle.deb_text.specs.Answers.{Fails}
-use Rattle.deb_text.specs.Steps.{◌>>=◌}
-use Rattle.deb_text.proofs.StepLaws.{fails-with}
+use Rattle.std.proofs.Common.{◌≡◌, ℕ, ◌≤◌, Bool, true, false, not, ◌==◌, ◌&&◌, List, [], ◌∷◌, ◌++◌, length, refl, sym, ap, ◌∙◌, arith, inl, inr, map, filter, append_assoc, if◌then◌else◌, Option, Some, None}
 use Rattle.std.proofs.lemmas.Bool.{cases_Bool, and_parts}
 use Rattle.std.proofs.lemmas.List.{map-append}
 use Rattle.std.proofs.lemmas.List.Elements.{filter-append}
@@ -10,9 +7,10 @@ use Rattle.std.specs.List.{list_all}
 use Rattle.std.specs.Option.{is_none}
 use Rattle.deb_text.specs.Cuts.{is_nil}
 use Rattle.deb_relation.specs.Relations.{Item, ArchList, Atom, Entry, Relations}
-use Rattle.deb_profile.specs.Reduction.{means_nothing, qualifier_left, bare, reduced_entry, entry_left, reduced, is_bare_entry, is_bare}
+use Rattle.deb_profile.specs.Reduction.{means_nothing, qualifier_left, bare, atoms_left, reduced_entry, entry_left, reduced, is_bare_entry, is_bare}
 use Rattle.deb_relation.specs.Bare.{is_bare_atom}
-use Rattle.deb_profile.specs.Restriction.{keeps}
+use Rattle.deb_relation.specs.Holding.{left_for, unrestricted}
+use Rattle.deb_profile.specs.Restriction.{is_among, keeps}
 
 -- a qualifier that is left stays left
 qualifier-again : (names : List (List ℕ)) (qualifier : Option (List ℕ))
@@ -88,7 +86,7 @@ module _ (names active : List (List ℕ)) where
         profiles = it;
       }) (sym p)
 
-  bare-atom : (atom : Atom) → is_bare_atom atom ≡ true
+  pub bare-atom : (atom : Atom) → is_bare_atom atom ≡ true
       → (bare names atom ≡ atom) × (keeps names active atom ≡ true)
   bare-atom atom is = by atom.qualifier atom.archs atom.profiles refl refl refl is where
     by : (qualifier : Option (List ℕ)) (archs : Option ArchList) (profiles : List (List Item))
@@ -132,33 +130,27 @@ pub all-bare : (entry : Entry) → false ≡ (length entry == 0)
 all-bare [] some = absurd cc
 all-bare (a ∷ atoms) some = refl
 
--- an alternative that is bare is all that is left of it
-pub bare-one : (names active : List (List ℕ)) (atom : Atom) → is_bare_atom atom ≡ true
-    → reduced_entry names active (atom ∷ []) ≡ atom ∷ []
-bare-one names active atom is =
-    let both = bare-atom names active atom is in
-    rw (both.1, both.0) refl
-
 -- one more alternative that was read
-pub reduced-next : (names active : List (List ℕ)) (kept : Entry) (atom : Atom) (more : Entry)
-    → (kept ++ reduced_entry names active (atom ∷ [])) ++ reduced_entry names active more
-    ≡ kept ++ reduced_entry names active (atom ∷ more)
-reduced-next names active kept atom more =
-    append_assoc kept (reduced_entry names active (atom ∷ [])) (reduced_entry names active more)
-    ∙ ap (λ (left : Entry). kept ++ left) (sym (reduced-append names active (atom ∷ []) more))
+module _ (names active : List (List ℕ)) (kept : Entry) (atom : Atom) (more : Entry) where
+  reduced-next : (kept ++ reduced_entry names active (atom ∷ [])) ++ reduced_entry names active more
+      ≡ kept ++ reduced_entry names active (atom ∷ more)
+  reduced-next =
+      append_assoc kept (reduced_entry names active (atom ∷ [])) (reduced_entry names active more)
+      ∙ ap (λ (left : Entry). kept ++ left) (sym (reduced-append names active (atom ∷ []) more))
 
--- ---- what was read and then made
+  reduced-one : atoms_left names (left_for (is_among names) (is_among active) atom)
+      ≡ reduced_entry names active (atom ∷ [])
+  reduced-one = by (keeps names active atom) where
+    by : (stays : Bool) → atoms_left names (if stays then Some (unrestricted atom) else None)
+        ≡ map (bare names) (if stays then atom ∷ [] else [])
+    by true = refl
+    by false = refl
 
-module _ {A B F : Type 0} (make : A → B) where
-  pub made-some : (read : Result A F) (y : B) → (read >>= λ x. Ok (make x)) ≡ Ok y
-      → (x : A) × ((read ≡ Ok x) × (make x ≡ y))
-  made-some (Ok x) y is = let h : make x ≡ y = cc in (x, (refl, h))
-  made-some (Err e) y is = absurd cc
-
-  pub made-refused : {E : Type 0} (refusal : E → Option F) (e : E) (read : Result A F)
-      → Fails refusal e (read >>= λ x. Ok (make x)) → Fails refusal e read
-  made-refused refusal e read is =
-      fails-with refusal e (read >>= λ x. Ok (make x)) read (by read) is where
-        by : (r : Result A F) (d : F) → (r >>= λ x. Ok (make x)) ≡ Err d → r ≡ Err d
-        by (Ok x) d at = absurd cc
-        by (Err c) d at = let h : c ≡ d = cc in ap Err h
+  pub reduced-left : (left : Option Atom)
+      → left_for (is_among names) (is_among active) atom ≡ left
+      → (kept ++ atoms_left names left) ++ reduced_entry names active more
+      ≡ kept ++ reduced_entry names active (atom ∷ more)
+  reduced-left left is =
+      ap (λ (one : Entry). (kept ++ one) ++ reduced_entry names active more)
+      (ap (atoms_left names) (sym is) ∙ reduced-one)
+      ∙ reduced-next

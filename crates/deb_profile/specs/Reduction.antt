@@ -4,6 +4,7 @@
 --   bare names atom                 the alternative without restrictions and without a qualifier
 --                                   that means nothing
 --   reduced_entry names active e    the alternatives that stay
+--   atoms_left names left           one of them, if it stays
 --   left_of names active read       what is left of an entry that is read, or its fault
 --   reduced names active field      the entries of which some alternative stays
 --   reduced_at most names active kind text   no more than so many of them, of a field's text
@@ -42,6 +43,11 @@ bare names atom = record {
 
 abbrev pub reduced_entry : List (List ℕ) → List (List ℕ) → Entry → Entry
 reduced_entry names active entry = map (bare names) (filter (keeps names active) entry)
+
+-- the same of one alternative, if it stays
+abbrev pub atoms_left : List (List ℕ) → Option Atom → Entry
+atoms_left names None = []
+atoms_left names (Some atom) = bare names atom ∷ []
 
 -- what is left of an entry that is read, or its fault
 abbrev pub left_of : List (List ℕ) → List (List ℕ) → Result Entry ℕ → Result Entry ℕ

@@ -1,6 +1,6 @@
 //! Entries of which no more is kept than is left of them.
 
-ghost use Rattle.std.specs.Prelude.{◌≡◌, [], ◌∷◌, ◌++◌, OnOk};
+ghost use Rattle.std.specs.Prelude.{◌≡◌, ◌++◌, IfOk, OnOk};
 ghost use Rattle.std.specs.List.{slice_split};
 ghost use Rattle.deb_text.specs.Answers.{Gives};
 ghost use Rattle.deb_text.specs.Bytes.{is_byte};
@@ -8,30 +8,58 @@ ghost use Rattle.deb_text.specs.Steps.{traverse};
 ghost use Rattle.deb_relation.specs.Field.{alternative_at, entry_at};
 ghost use Rattle.deb_relation.specs.Marks.{bar};
 ghost use Rattle.deb_relation.specs.View.{refusal_of};
-ghost use Rattle.deb_profile.specs.Reduction.{left_of, reduced_entry};
+ghost use Rattle.deb_profile.specs.Reduction.{atoms_left, bare, left_of};
+ghost use Rattle.deb_profile.specs.Restriction.{is_among};
 
 use crate::reduction::{bare, strip_entry};
-use crate::restriction::keeps;
 use crate::word_list::{ArchNames, ProfileSet};
-use deb_relation::{Atom, Entry, Kind, RelationError};
+use deb_relation::{Atom, Entry, Host, Kind, RelationError};
 use deb_text::next_part;
 use std::alloc::{AllocError, Global};
 
-/// Puts what is left of an alternative behind others.
+/// A farm, as restrictions are held against it.
+#[derive(Drop)]
+struct Farm<'a> {
+    names: &'a ArchNames,
+    active: &'a ProfileSet,
+}
+
+impl Host for Farm<'_> {
+    ghost is_arch = { λ farm. is_among farm.names.now };
+
+    ghost is_active = { λ farm. is_among farm.active.now };
+
+    fn matches(&self, name: &[u8]) -> bool {
+        self.names.matches(name)
+    }
+
+    fn has_profile(&self, profile: &[u8]) -> bool {
+        self.active.is_active(profile)
+    }
+}
+
+/// An alternative without restrictions, and without a qualifier that means nothing.
+fn strip(alloc: Global, names: &ArchNames, atom: Atom) -> Result<Atom, AllocError>
+    ensures { IfOk result (λ left. left ≡ bare names.now atom) }
+{
+    // most have no qualifier
+    if atom.is_bare() {
+        return Ok(atom);
+    }
+    bare(alloc, names, &atom)
+}
+
+/// Puts an alternative that stays, if one does, behind others.
 fn push_kept(
     alloc: Global,
-    left: &mut Vec<Atom>,
+    kept: &mut Vec<Atom>,
     names: &ArchNames,
-    active: &ProfileSet,
-    atom: Atom,
+    left: Option<Atom>,
 ) -> Result<(), AllocError>
-    ensures { OnOk result
-        (left.new.items ≡ left.old.items ++ reduced_entry names.now active.now (atom ∷ [])) }
+    ensures { OnOk result (kept.new.items ≡ kept.old.items ++ atoms_left names.now left) }
 {
-    if atom.is_bare() {
-        left.push(atom)?;
-    } else if keeps(&atom, names, active) {
-        left.push(bare(alloc, names, &atom)?)?;
+    if let Some(atom) = left {
+        kept.push(strip(alloc, names, atom)?)?;
     }
     Ok(())
 }
@@ -48,12 +76,13 @@ fn read_kept(
         (left_of names.now active.now
         (traverse (alternative_at kind) (slice_split (is_byte bar) text.now))) }
 {
+    let farm = Farm { names, active };
     let mut kept = Vec::with_capacity(alloc, 1)?;
     let mut left = Some(text);
     while let Some(rest) = left {
         let (alternative, after) = next_part(b'|', rest);
-        let atom = Atom::parse(alloc, alternative, kind)?;
-        push_kept(alloc, &mut kept, names, active, atom)?;
+        let atom = Atom::parse_for(alloc, alternative, kind, &farm)?;
+        push_kept(alloc, &mut kept, names, atom)?;
         left = after;
     }
     Ok(kept)

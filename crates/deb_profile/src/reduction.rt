@@ -68,7 +68,7 @@ pub fn reduce_text(
         )?;
         left = after;
     }
-    judge_entries(alloc, left, kind)?;
+    judge_entries(left, kind)?;
     Ok(Relations::from_entries(entries))
 }
 

@@ -1,9 +1,10 @@
 //! Whether an alternative is wanted for an architecture and under some build profiles.
 
 ghost use Rattle.std.specs.Prelude.{◌≡◌};
-ghost use Rattle.std.specs.List.{list_any, list_all};
+ghost use Rattle.std.specs.List.{list_any};
 ghost use Rattle.std.specs.Option.{option_copied};
-ghost use Rattle.deb_profile.specs.Restriction.{is_among, arch_holds, item_holds, profiles_hold, keeps};
+ghost use Rattle.deb_relation.specs.Holding.{archs_hold, item_holds, list_holds, profiles_hold};
+ghost use Rattle.deb_profile.specs.Restriction.{is_among, keeps};
 
 use crate::word_list::{ArchNames, ProfileSet};
 use deb_relation::{ArchList, Atom, Item, ProfileList, Word};
@@ -17,7 +18,7 @@ pub fn keeps(atom: &Atom, names: &ArchNames, active: &ProfileSet) -> bool
 }
 
 fn arch_holds(names: &ArchNames, archs: Option<&ArchList>) -> bool
-    ensures { result ≡ arch_holds names.now (option_copied archs.entry) }
+    ensures { result ≡ archs_hold (is_among names.now) (option_copied archs.entry) }
 {
     match archs {
         Some(list) => list.negated != some_matches(names, &list.names),
@@ -32,25 +33,25 @@ fn some_matches(names: &ArchNames, list: &[Word]) -> bool
 }
 
 fn profiles_hold(active: &ProfileSet, lists: &[ProfileList]) -> bool
-    ensures { result ≡ profiles_hold active.now lists.now }
+    ensures { result ≡ profiles_hold (is_among active.now) lists.now }
 {
     lists.is_empty() || some_list_holds(active, lists)
 }
 
 fn some_list_holds(active: &ProfileSet, lists: &[ProfileList]) -> bool
-    ensures { result ≡ list_any (list_all (item_holds active.now)) lists.now }
+    ensures { result ≡ list_any (list_holds (is_among active.now)) lists.now }
 {
     lists.iter().any(|list| list_holds(active, list))
 }
 
 fn list_holds(active: &ProfileSet, list: &ProfileList) -> bool
-    ensures { result ≡ list_all (item_holds active.now) list.now }
+    ensures { result ≡ list_holds (is_among active.now) list.now }
 {
     list.items().iter().all(|item| item_holds(active, item))
 }
 
 fn item_holds(active: &ProfileSet, item: &Item) -> bool
-    ensures { result ≡ item_holds active.now item.now }
+    ensures { result ≡ item_holds (is_among active.now) item.now }
 {
     item.negated != active.is_active(item.word.text())
 }

@@ -11,7 +11,7 @@ use Rattle.deb_text.proofs.StepLaws.{fails-with}
 use Rattle.deb_relation.specs.declared.error.TheConstants.{NO_ALTERNATIVE}
 use Rattle.deb_relation.specs.declared.kind.Kind.{Kind}
 use Rattle.deb_relation.specs.declared.operator.Op.{Op}
-use Rattle.deb_relation.specs.Field.{is_empty_text, atom_at, alternative_at, entry_at, limited_at, only_judged}
+use Rattle.deb_relation.specs.Field.{is_empty_text, atom_at, alternative_at, entry_at, limited_at, limits_at, only_judged}
 use Rattle.deb_relation.specs.Grammar.{name_at, qualifier_at, relation_at}
 use Rattle.deb_relation.specs.Marks.{bar}
 use Rattle.deb_relation.specs.Restrictions.{archs_at, profiles_at, lists_at}
@@ -52,7 +52,8 @@ nil-false (x ∷ xs) is = refl
 module _ (kind : Kind) (text rest : List ℕ) (is : rest ≡ behind is_blank text) where
   same-atom : atom_at kind rest ≡ atom_at kind text
   unfolding atom_at
-  same-atom = rw (is, behind-whole is_blank (behind is_blank text) (behind-stops is_blank text)) refl
+  same-atom =
+      rw (is, behind-whole is_blank (behind is_blank text) (behind-stops is_blank text)) refl
 
   pub alternative-none : (length rest == 0) ≡ true → alternative_at kind text ≡ Err NO_ALTERNATIVE
   unfolding alternative_at
@@ -72,7 +73,12 @@ module _ (kind : Kind) (text rest : List ℕ) (is : rest ≡ behind is_blank tex
   starts = rw is (behind-stops is_blank text)
 
 -- with nothing behind the relation there is no restriction
-pub limited-none : (kind : Kind) (name : List ℕ) (qualifier : Option (List ℕ))
+pub limits-none : (kind : Kind) (text : List ℕ) → (length text == 0) ≡ true
+    → limits_at kind text ≡ Ok (None, [])
+unfolding archs_at profiles_at lists_at
+limits-none kind text empty = rw (nil-true text empty, and_right _ false refl) refl
+
+limited-none : (kind : Kind) (name : List ℕ) (qualifier : Option (List ℕ))
     (relation : Option (Op × List ℕ)) → limited_at kind name qualifier relation [] ≡ Ok (record {
       name = name;
       qualifier = qualifier;

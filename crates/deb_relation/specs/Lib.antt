@@ -6,6 +6,7 @@ pub mod Grammar
 pub mod Stored
 pub mod Restrictions
 pub mod Field
+pub mod Holding
 pub mod Laws
 pub mod Satisfaction
 pub mod Spelling

@@ -12,14 +12,10 @@ ghost use Rattle.deb_relation.specs.Marks.{bar};
 ghost use Rattle.deb_relation.specs.View.{refusal_of};
 
 use crate::atom::Atom;
-use crate::error::{ALTERNATIVES, NO_ALTERNATIVE, RelationError};
-use crate::grammar::{read_name, read_qualifier, read_relation};
+use crate::error::{ALTERNATIVES, RelationError};
 use crate::kind::Kind;
-use crate::lists::{read_archs, read_profiles};
-use crate::operator::Op;
 use crate::relations::{Entry, Relations};
-use deb_text::{Class, all_in, cut_at_first, next_part, skip_front};
-use deb_version::VersionRef;
+use deb_text::{Class, all_in, cut_at_first, next_part};
 use std::alloc::Global;
 
 impl Relations {
@@ -37,8 +33,8 @@ impl Relations {
     }
 
     /// Reads a relation field of a kind as [`parse`](Relations::parse) does, and keeps no more
-    /// than the first `most` of its entries. What stands behind them is judged, and takes memory
-    /// for the restrictions of one alternative alone.
+    /// than the first `most` of its entries. What stands behind them is judged, and takes no
+    /// memory.
     ///
     /// # Errors
     ///
@@ -57,18 +53,16 @@ impl Relations {
     }
 
     /// Judges a relation field of a kind as [`parse`](Relations::parse) does, and keeps nothing:
-    /// a field that is judged well is read wherever memory is given. The call takes memory for the
-    /// restrictions of one alternative alone.
+    /// a field that is judged well is read wherever memory is given. The call takes no memory.
     ///
     /// # Errors
     ///
-    /// The first fault of [`Entry::parse`] from left to right. 900 where memory is refused.
-    /// Nothing is left behind.
+    /// The first fault of [`Entry::parse`] from left to right.
     #[tactic(auto, unfolding(crate::specs::Field::relations_at))]
-    pub fn judge(alloc: Global, text: &[u8], kind: Kind) -> Result<(), RelationError>
+    pub fn judge(_alloc: Global, text: &[u8], kind: Kind) -> Result<(), RelationError>
         ensures { Gives refusal_of (λ _. tt) result (only_judged (relations_at kind text.now)) }
     {
-        judge_entries(alloc, Some(text), kind)
+        judge_entries(Some(text), kind)
     }
 }
 
@@ -94,70 +88,23 @@ impl Entry {
     }
 
     /// Judges one entry of a field of a kind as [`parse`](Entry::parse) does, and keeps nothing.
-    /// The call takes memory for the restrictions of one alternative alone.
+    /// The call takes no memory.
     ///
     /// # Errors
     ///
-    /// Those of [`parse`](Entry::parse). Nothing is left behind.
+    /// Those of [`parse`](Entry::parse), but for 900.
     #[tactic(auto, unfolding(crate::specs::Field::entry_at))]
-    pub fn judge(alloc: Global, text: &[u8], kind: Kind) -> Result<(), RelationError>
+    pub fn judge(text: &[u8], kind: Kind) -> Result<(), RelationError>
         ensures { Gives refusal_of (λ _. tt) result (only_judged (entry_at kind text.now)) }
     {
         // most entries have one alternative
         let Some(_) = cut_at_first(b'|', text) else {
-            return judge_alternative(alloc, kind, text);
+            return judge_alternative(kind, text);
         };
         if !kind.has_alternatives() {
             return Err(RelationError { code: ALTERNATIVES });
         }
-        judge_alternatives(alloc, kind, text)
-    }
-}
-
-impl Atom {
-    /// Reads one alternative of a field of a kind (Debian Policy 7.1).
-    ///
-    /// # Errors
-    ///
-    /// The first fault by its code: [`NO_ALTERNATIVE`] for a text of blanks alone;
-    /// [`BAD_NAME`](crate::BAD_NAME) for its name and qualifier;
-    /// [`BAD_OPERATOR`](crate::BAD_OPERATOR), [`NOT_EQUAL`](crate::NOT_EQUAL),
-    /// [`BAD_VERSION`](crate::BAD_VERSION) and [`NOT_CLOSED`](crate::NOT_CLOSED) for its relation;
-    /// [`RESTRICTION`](crate::RESTRICTION), [`NOT_CLOSED`](crate::NOT_CLOSED) and
-    /// [`BAD_ARCHITECTURES`](crate::BAD_ARCHITECTURES) for its architectures, then
-    /// [`RESTRICTION`](crate::RESTRICTION), [`NOT_CLOSED`](crate::NOT_CLOSED) and
-    /// [`BAD_PROFILES`](crate::BAD_PROFILES) for its profiles; and
-    /// [`BAD_NAME`](crate::BAD_NAME) for a byte that no later part begins with. 900 where memory
-    /// is refused. Nothing is left behind.
-    #[tactic(auto, unfolding(crate::specs::Field::alternative_at))]
-    pub fn parse(alloc: Global, text: &[u8], kind: Kind) -> Result<Atom, RelationError>
-        ensures { Gives refusal_of (λ atom. atom) result (alternative_at kind text.now) }
-    {
-        let text = skip_front(Class::Blank, text);
-        if text.is_empty() {
-            return Err(RelationError {
-                code: NO_ALTERNATIVE,
-            });
-        }
-        read_atom(alloc, kind, text)
-    }
-
-    /// Judges one alternative of a field of a kind as [`parse`](Atom::parse) does, and keeps
-    /// nothing. The call takes memory for its restrictions alone.
-    ///
-    /// # Errors
-    ///
-    /// Those of [`parse`](Atom::parse). Nothing is left behind.
-    pub fn judge(alloc: Global, text: &[u8], kind: Kind) -> Result<(), RelationError>
-        ensures { Gives refusal_of (λ _. tt) result (only_judged (alternative_at kind text.now)) }
-    {
-        let text = skip_front(Class::Blank, text);
-        if text.is_empty() {
-            return Err(RelationError {
-                code: NO_ALTERNATIVE,
-            });
-        }
-        judge_atom(alloc, kind, text)
+        judge_alternatives(kind, text)
     }
 }
 
@@ -191,24 +138,23 @@ fn read_first(
         entries.push(Entry::parse(alloc, entry, kind)?)?;
         left = after;
     }
-    judge_entries(alloc, left, kind)?;
+    judge_entries(left, kind)?;
     Ok(entries)
 }
 
 /// Judges the entries of what is left of a relation field of a kind, and keeps nothing. The call
-/// takes memory for the restrictions of one alternative alone.
+/// takes no memory.
 ///
 /// # Errors
 ///
-/// The first fault of [`Entry::parse`] from left to right. 900 where memory is refused. Nothing is
-/// left behind.
-pub fn judge_entries(alloc: Global, text: Option<&[u8]>, kind: Kind) -> Result<(), RelationError>
+/// The first fault of [`Entry::parse`] from left to right.
+pub fn judge_entries(text: Option<&[u8]>, kind: Kind) -> Result<(), RelationError>
     ensures { Gives refusal_of (λ _. tt) result (only_judged
         (traverse (entry_at kind) (entries_left (option_map (λ rest. rest.now) text.entry)))) }
 {
     let mut left = text;
     while let Some((entry, after)) = next_entry(left) {
-        Entry::judge(alloc, entry, kind)?;
+        Entry::judge(entry, kind)?;
         left = after;
     }
     Ok(())
@@ -245,18 +191,22 @@ fn read_alternative(alloc: Global, kind: Kind, text: &[u8]) -> Result<Vec<Atom>,
     Ok(alternatives)
 }
 
-fn judge_alternative(alloc: Global, kind: Kind, text: &[u8]) -> Result<(), RelationError>
+fn judge_alternative(kind: Kind, text: &[u8]) -> Result<(), RelationError>
     ensures { Gives refusal_of (λ _. tt) result (only_judged
         (traverse (alternative_at kind) (text.now ∷ []))) }
 {
-    Atom::judge(alloc, text, kind)?;
+    Atom::judge(text, kind)?;
     Ok(())
 }
 
 /// How many bars a text has: so many alternatives, and one more, take room at once, and no list of
 /// them is copied as it grows.
 fn bars_in(text: &[u8]) -> usize {
-    text.iter().filter(|byte| **byte == b'|').count()
+    let mut count = 0usize;
+    for byte in text {
+        count = count.wrapping_add(usize::from(*byte == b'|'));
+    }
+    count
 }
 
 fn read_alternatives(alloc: Global, kind: Kind, text: &[u8]) -> Result<Vec<Atom>, RelationError>
@@ -273,85 +223,15 @@ fn read_alternatives(alloc: Global, kind: Kind, text: &[u8]) -> Result<Vec<Atom>
     Ok(alternatives)
 }
 
-fn judge_alternatives(alloc: Global, kind: Kind, text: &[u8]) -> Result<(), RelationError>
+fn judge_alternatives(kind: Kind, text: &[u8]) -> Result<(), RelationError>
     ensures { Gives refusal_of (λ _. tt) result (only_judged
         (traverse (alternative_at kind) (slice_split (is_byte bar) text.now))) }
 {
     let mut left = Some(text);
     while let Some(rest) = left {
         let (alternative, after) = next_part(b'|', rest);
-        Atom::judge(alloc, alternative, kind)?;
+        Atom::judge(alternative, kind)?;
         left = after;
     }
-    Ok(())
-}
-
-/// Reads an alternative without blanks at its front.
-#[tactic(auto, unfolding(crate::specs::Field::atom_at))]
-fn read_atom(alloc: Global, kind: Kind, text: &[u8]) -> Result<Atom, RelationError>
-    requires { first_is is_blank text.now ≡ false }
-    ensures { Gives refusal_of (λ atom. atom) result (atom_at kind text.now) }
-{
-    let (name, rest) = read_name(text)?;
-    // most alternatives are a name alone
-    if rest.is_empty() {
-        return Ok(Atom::unrestricted(alloc, name, None, None)?);
-    }
-    let (qualifier, rest) = read_qualifier(rest)?;
-    let (relation, rest) = read_relation(kind, skip_front(Class::Blank, rest))?;
-    let rest = skip_front(Class::Blank, rest);
-    // most others end here
-    if rest.is_empty() {
-        return Ok(Atom::unrestricted(alloc, name, qualifier, relation)?);
-    }
-    read_restricted(alloc, kind, name, qualifier, relation, rest)
-}
-
-/// Reads the restrictions of an alternative, whose other parts are read, to its end.
-#[inline(never)]
-fn read_restricted(
-    alloc: Global,
-    kind: Kind,
-    name: &[u8],
-    qualifier: Option<&[u8]>,
-    relation: Option<(Op, VersionRef)>,
-    text: &[u8],
-) -> Result<Atom, RelationError>
-    ensures { Gives refusal_of (λ atom. atom) result
-        (limited_at kind name.now (option_map (λ q. q.now) qualifier.entry) relation.entry text.now) }
-{
-    let (archs, rest) = read_archs(alloc, kind, text)?;
-    let profiles = read_profiles(alloc, kind, rest)?;
-    Ok(Atom::new(alloc, name, qualifier, relation, archs, profiles)?)
-}
-
-/// Judges an alternative without blanks at its front.
-#[tactic(auto, unfolding(crate::specs::Field::atom_at))]
-fn judge_atom(alloc: Global, kind: Kind, text: &[u8]) -> Result<(), RelationError>
-    requires { first_is is_blank text.now ≡ false }
-    ensures { Gives refusal_of (λ _. tt) result (only_judged (atom_at kind text.now)) }
-{
-    let (_, rest) = read_name(text)?;
-    // most alternatives are a name alone
-    if rest.is_empty() {
-        return Ok(());
-    }
-    let (_, rest) = read_qualifier(rest)?;
-    let (_, rest) = read_relation(kind, skip_front(Class::Blank, rest))?;
-    let rest = skip_front(Class::Blank, rest);
-    // most others end here
-    if rest.is_empty() {
-        return Ok(());
-    }
-    judge_restrictions(alloc, kind, rest)
-}
-
-/// Judges the restrictions of an alternative, to its end.
-#[inline(never)]
-fn judge_restrictions(alloc: Global, kind: Kind, text: &[u8]) -> Result<(), RelationError>
-    ensures { Gives refusal_of (λ _. tt) result (only_judged (limits_at kind text.now)) }
-{
-    let (_, rest) = read_archs(alloc, kind, text)?;
-    read_profiles(alloc, kind, rest)?;
     Ok(())
 }

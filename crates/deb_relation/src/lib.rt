@@ -2,10 +2,13 @@
 //! read, and which package satisfies one of them.
 #![tactic(auto)]
 
+mod alternative;
 mod atom;
 mod error;
 mod field;
 mod grammar;
+mod holding;
+mod host;
 mod kind;
 pub mod laws;
 mod lists;
@@ -24,6 +27,7 @@ pub use error::{
     NO_ALTERNATIVE, NOT_CLOSED, NOT_EQUAL, RESTRICTION, RelationError,
 };
 pub use field::{judge_entries, next_entry};
+pub use host::Host;
 pub use kind::Kind;
 pub use operator::Op;
 pub use relation::{copy_relation, view_relation};

@@ -28,16 +28,26 @@ impl WordRule for ArchRule {
 
     ghost meaning = { λ rule. arch_at rule.negated };
 
-    #[tactic(auto, unfolding(crate::specs::Restrictions::arch_at))]
     fn read(&self, alloc: Global, word: &[u8]) -> Result<Word, RelationError> {
-        let negated = self.negated;
-        match word {
-            [b'!', name @ ..] if negated && is_word(name) => Ok(Word::from_slice(alloc, name)?),
-            _ if !negated && is_word(word) => Ok(Word::from_slice(alloc, word)?),
-            _ => Err(RelationError {
-                code: BAD_ARCHITECTURES,
-            }),
-        }
+        Ok(Word::from_slice(alloc, arch_name(self.negated, word)?)?)
+    }
+}
+
+/// The name that a word of a list of architectures says.
+///
+/// # Errors
+///
+/// [`BAD_ARCHITECTURES`] where it says none.
+#[tactic(auto, unfolding(crate::specs::Restrictions::arch_at))]
+pub fn arch_name(negated: bool, word: &[u8]) -> Result<&[u8], RelationError>
+    ensures { Gives refusal_of (λ name. name.now) result (arch_at negated word.now) }
+{
+    match word {
+        [b'!', name @ ..] if negated && is_word(name) => Ok(name),
+        _ if !negated && is_word(word) => Ok(word),
+        _ => Err(RelationError {
+            code: BAD_ARCHITECTURES,
+        }),
     }
 }
 
@@ -101,20 +111,33 @@ impl WordRule for ItemRule {
 
     ghost meaning = { λ _. item_at };
 
-    #[tactic(auto, unfolding(crate::specs::Restrictions::item_at))]
     fn read(&self, alloc: Global, word: &[u8]) -> Result<Item, RelationError> {
-        let (negated, word) = match word {
-            [b'!', word @ ..] => (true, word),
-            _ => (false, word),
-        };
-        if !is_word(word) {
-            return Err(RelationError { code: BAD_PROFILES });
-        }
+        let (profile, negated) = profile_name(word)?;
         Ok(Item {
-            word: Word::from_slice(alloc, word)?,
+            word: Word::from_slice(alloc, profile)?,
             negated,
         })
     }
+}
+
+/// The profile that a word of a profile list says, and whether `!` stands before it.
+///
+/// # Errors
+///
+/// [`BAD_PROFILES`] where it says none.
+#[tactic(auto, unfolding(crate::specs::Restrictions::item_at))]
+pub fn profile_name(word: &[u8]) -> Result<(&[u8], bool), RelationError>
+    ensures { Gives refusal_of (λ item. record { word = item.0.now; negated = item.1 }) result
+        (item_at word.now) }
+{
+    let (negated, profile) = match word {
+        [b'!', profile @ ..] => (true, profile),
+        _ => (false, word),
+    };
+    if !is_word(profile) {
+        return Err(RelationError { code: BAD_PROFILES });
+    }
+    Ok((profile, negated))
 }
 
 #[tactic(auto, unfolding(crate::specs::Restrictions::items_in))]
@@ -136,7 +159,12 @@ fn read_list(alloc: Global, text: &[u8]) -> Result<ProfileList, RelationError>
     }
 }
 
-fn check_end(text: &[u8]) -> Result<(), RelationError>
+/// Judges what stands behind the last list of profiles.
+///
+/// # Errors
+///
+/// [`NOT_CLOSED`] where one more list begins, and [`BAD_NAME`] for another byte.
+pub fn check_end(text: &[u8]) -> Result<(), RelationError>
     ensures { Gives refusal_of (λ _. []) result (end_in (behind is_blank text.now)) }
 {
     match skip_front(Class::Blank, text) {

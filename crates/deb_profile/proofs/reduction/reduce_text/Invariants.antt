@@ -7,8 +7,8 @@ use Rattle.deb_relation.proofs.FieldLaws.{kept_on}
 use Rattle.deb_profile.specs.Reduction.{reduced, reduced_at}
 use Rattle.deb_profile.proofs.reduction.reduce_text.Given as goal
 
-abbrev pub invariant-loop-left : goal.invariant-loop-left
-invariant-loop-left l =
+abbrev pub invariant-loop-alloc : goal.invariant-loop-alloc
+invariant-loop-alloc l =
     let left = entries_left (option_map (λ rest. rest.now) l.left) in
     let read = traverse (entry_at l.kind) left in
     record {
@@ -17,5 +17,5 @@ invariant-loop-left l =
           ≡ reduced_at l.most l.names l.active l.kind l.text;
     }
 
-abbrev pub decreases-loop-left : goal.decreases-loop-left
-decreases-loop-left l = length_left (option_map (λ rest. rest.now) l.left)
+abbrev pub decreases-loop-alloc : goal.decreases-loop-alloc
+decreases-loop-alloc l = length_left (option_map (λ rest. rest.now) l.left)

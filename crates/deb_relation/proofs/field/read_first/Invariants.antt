@@ -6,8 +6,8 @@ use Rattle.deb_relation.specs.Field.{entry_at, entries_left, first_relations_at}
 use Rattle.deb_relation.proofs.FieldLaws.{kept_on}
 use Rattle.deb_relation.proofs.field.read_first.Given as goal
 
-abbrev pub invariant-loop-left : goal.invariant-loop-left
-invariant-loop-left l =
+abbrev pub invariant-loop-alloc : goal.invariant-loop-alloc
+invariant-loop-alloc l =
     let left = entries_left (option_map (λ rest. rest.now) l.left) in
     record {
       within : length l.entries.items ≤ l.most;
@@ -15,5 +15,5 @@ invariant-loop-left l =
           ≡ first_relations_at l.most l.kind l.text;
     }
 
-abbrev pub decreases-loop-left : goal.decreases-loop-left
-decreases-loop-left l = length_left (option_map (λ rest. rest.now) l.left)
+abbrev pub decreases-loop-alloc : goal.decreases-loop-alloc
+decreases-loop-alloc l = length_left (option_map (λ rest. rest.now) l.left)

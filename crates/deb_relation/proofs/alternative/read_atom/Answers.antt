@@ -1,6 +1,6 @@
 use Rattle.std.proofs.Common.{sym, ◌∙◌}
 use Rattle.deb_relation.proofs.AtomLaws.{atom-name, atom-unrestricted}
-use Rattle.deb_relation.proofs.field.read_atom.Goals as goal
+use Rattle.deb_relation.proofs.alternative.read_atom.Goals as goal
 
 pub returns-then-is_empty : goal.returns-then-is_empty
 returns-then-is_empty c =
