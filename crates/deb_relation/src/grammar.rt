@@ -131,12 +131,21 @@ pub fn read_relation(
     ensures { Gives refusal_of (λ part. (part.0, part.1.now)) result (relation_at kind text.now) }
 {
     match text {
-        [b'(', rest @ ..] => {
-            let (op, rest) = read_operator(kind, skip_front(Class::Blank, rest))?;
-            let (version, rest) = read_version(skip_front(Class::Blank, rest))?;
-            let rest = skip_bracket(skip_front(Class::Blank, rest))?;
-            Ok((Some((op, version)), rest))
-        }
+        [b'(', rest @ ..] => read_relation_in(kind, rest),
         _ => Ok((None, text)),
     }
+}
+
+/// Reads the relation to a version behind its bracket.
+#[inline(never)]
+fn read_relation_in(
+    kind: Kind,
+    text: &[u8],
+) -> Result<(Option<(Op, VersionRef<'_>)>, &[u8]), RelationError>
+    ensures { Gives refusal_of (λ part. (part.0, part.1.now)) result (relation_in kind text.now) }
+{
+    let (op, rest) = read_operator(kind, skip_front(Class::Blank, text))?;
+    let (version, rest) = read_version(skip_front(Class::Blank, rest))?;
+    let rest = skip_bracket(skip_front(Class::Blank, rest))?;
+    Ok((Some((op, version)), rest))
 }
