@@ -56,13 +56,6 @@ impl Entry {
     {
         &self.alternatives
     }
-
-    /// The alternatives in their order, as the caller's own.
-    pub fn into_alternatives(self) -> Vec<Atom>
-        ensures { result.items ≡ self }
-    {
-        self.alternatives
-    }
 }
 
 impl Clone for Entry {
