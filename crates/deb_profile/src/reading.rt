@@ -11,10 +11,10 @@ ghost use Rattle.deb_relation.specs.View.{refusal_of};
 ghost use Rattle.deb_profile.specs.Reduction.{atoms_left, bare, left_of};
 ghost use Rattle.deb_profile.specs.Restriction.{is_among};
 
-use crate::reduction::{bare, strip_entry};
+use crate::reduction::bare;
 use crate::word_list::{ArchNames, ProfileSet};
-use deb_relation::{Atom, Entry, Host, Kind, RelationError};
-use deb_text::next_part;
+use deb_relation::{ALTERNATIVES, Atom, Entry, Host, Kind, RelationError};
+use deb_text::{cut_at_first, next_part};
 use std::alloc::{AllocError, Global};
 
 /// A farm, as restrictions are held against it.
@@ -105,10 +105,9 @@ pub fn reduce_entry_text(
     ensures { Gives refusal_of (λ left. left) result
         (left_of names.now active.now (entry_at kind text.now)) }
 {
-    if kind.has_alternatives() {
-        let kept = read_kept(alloc, text, kind, names, active)?;
-        return Ok(Entry::from_alternatives(kept));
+    if !kind.has_alternatives() && cut_at_first(b'|', text).is_some() {
+        return Err(RelationError { code: ALTERNATIVES });
     }
-    let entry = Entry::parse(alloc, text, kind)?;
-    Ok(strip_entry(alloc, entry, names, active)?)
+    let kept = read_kept(alloc, text, kind, names, active)?;
+    Ok(Entry::from_alternatives(kept))
 }
