@@ -59,7 +59,7 @@ impl Relations {
     ///
     /// The first fault of [`Entry::parse`] from left to right.
     #[tactic(auto, unfolding(crate::specs::Field::relations_at))]
-    pub fn judge(_alloc: Global, text: &[u8], kind: Kind) -> Result<(), RelationError>
+    pub fn judge(text: &[u8], kind: Kind) -> Result<(), RelationError>
         ensures { Gives refusal_of (λ _. tt) result (only_judged (relations_at kind text.now)) }
     {
         judge_entries(Some(text), kind)

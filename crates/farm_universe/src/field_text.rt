@@ -43,7 +43,7 @@ impl FieldText {
     pub fn read(alloc: Global, kind: Kind, text: &[u8]) -> Result<FieldText, FieldFault>
         ensures { Gives refusal_of (λ field. field) result (relations_at kind text.now) }
     {
-        Relations::judge(alloc, text, kind)?;
+        Relations::judge(text, kind)?;
         Ok(FieldText {
             kind,
             text: Vec::from_slice(alloc, text)?,

@@ -226,7 +226,7 @@ pub fn read_with_words(
     ensures listed { IfOk result (AreListed (table_view table.now)) }
     ensures words { IfOk result (λ list. AreTableWords (table_view table.now) list.words.items) }
 {
-    Relations::judge(alloc, text, Kind::Provide)?;
+    Relations::judge(text, Kind::Provide)?;
     read_items(alloc, table, text)
 }
 
@@ -323,6 +323,6 @@ pub fn read_list(
         (list_at (table_view table.now) text.now) }
     ensures different { IfOk result (λ vs. AreDifferent (table_view table.now) vs.items) }
 {
-    Relations::judge(alloc, text, Kind::Provide)?;
+    Relations::judge(text, Kind::Provide)?;
     read_judged(alloc, table, text)
 }
