@@ -1,6 +1,6 @@
 -- What is answered about certificates, from one meaning to another, and what is said of the text of
 -- one that is not read.
-use Rattle.std.proofs.Common.{ℕ, List, inl, inr, refl, Result, Ok, Err}
+use Rattle.std.proofs.Common.{◌≡◌, ℕ, List, inl, inr, refl, Result, Ok, Err}
 use Rattle.cert_text.specs.Certificates.{Certificate}
 use Rattle.cert_text.specs.Printed.{certificate_text}
 use Rattle.cert_text.specs.declared.fault.CertFault.{CertFault}
@@ -16,7 +16,9 @@ use Rattle.plan_verifier.specs.Accepted.{AcceptedPlan}
 use Rattle.report_sink.specs.Sinks.{SinkState}
 use Rattle.farm_commands.proofs.AnswerLaws.{answered-by}
 use Rattle.farm_commands.specs.CertAnswers.{IsCertAnswered, IsTextVerdict, ShowsCert, outside_fault_of}
+use Rattle.farm_commands.specs.Answers.{IsReadFault, UnlessUnread}
 use Rattle.farm_commands.specs.declared.fault.OutsideFault.{OutsideFault}
+use Rattle.farm_commands.specs.declared.fault.OutsideFault.TheVariants as outside
 use Rattle.farm_commands.specs.declared.status.TheConstants.{FINE}
 
 -- an answer in one meaning is one in another, where each that the first allows the second does
@@ -25,6 +27,29 @@ pub certified-by : (A B : List ℕ → ℕ → Type 0) (old new : SinkState) (to
     → IsCertAnswered A old new told → IsCertAnswered B old new told
 certified-by A B old new told by (inl is) = inl (answered-by A B old new told by is)
 certified-by A B old new told by (inr cut) = inr (cut.0, cut.1, by cut.1 FINE cut.2, cut.3)
+
+-- what is answered to texts that were read
+pub unless-certified : (Names : List ℕ → Type 0) (A : List ℕ → ℕ → Type 0) (old new : SinkState)
+    (told : Result ℕ OutsideFault) → IsCertAnswered A old new told
+    → UnlessUnread Names (new ≡ old) (IsCertAnswered A old new told) told
+unless-certified Names A old new (Ok status) is = is
+unless-certified Names A old new (Err outside.WriteFailed) is = is
+unless-certified Names A old new (Err outside.CutShort) is = is
+unless-certified Names A old new (Err outside.BadSchedule) is = is
+unless-certified Names A old new (Err outside.OutOfMemory) is = is
+unless-certified Names A old new (Err (outside.CannotRead name)) (inl is) = absurd is
+unless-certified Names A old new (Err (outside.CannotRead name)) (inr cut) =
+    let differ = cut.0 in absurd cc
+
+-- what is told where they were not
+pub uncertified : (Names : List ℕ → Type 0) (A : List ℕ → ℕ → Type 0) (state : SinkState)
+    (fault : OutsideFault) → IsReadFault Names fault
+    → UnlessUnread Names (state ≡ state) (IsCertAnswered A state state (Err fault)) (Err fault)
+uncertified Names A state (outside.CannotRead name) is = (is, refl)
+uncertified Names A state outside.OutOfMemory is = inl refl
+uncertified Names A state outside.CutShort is = absurd is
+uncertified Names A state outside.BadSchedule is = absurd is
+uncertified Names A state outside.WriteFailed is = absurd is
 
 -- ---- what is written of a certificate is its answer
 

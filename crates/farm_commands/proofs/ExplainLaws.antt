@@ -1,5 +1,5 @@
 -- What explains a refusal, by its kind.
-use Rattle.std.proofs.Common.{◌≡◌, List, true, false, Err}
+use Rattle.std.proofs.Common.{◌≡◌, List, true, Err}
 use Rattle.std.proofs.lemmas.Bool.{false≢true}
 use Rattle.farm_explain.specs.Notes.{NoteFacts}
 use Rattle.farm_input.specs.Planned.{FarmPlan}

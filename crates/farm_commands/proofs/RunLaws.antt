@@ -14,9 +14,14 @@ use Rattle.lane_runner.specs.declared.run.LaneStop.{LaneStop}
 use Rattle.plan_verifier.specs.Accepted.{AcceptedPlan}
 use Rattle.report_sink.specs.Sinks.{SinkState, IsWritten}
 use Rattle.farm_commands.proofs.AnswerLaws.{answered-by}
-use Rattle.farm_commands.specs.FarmAnswers.{ComesToEnd}
+use Rattle.farm_commands.specs.Answers.{IsReadFault, UnlessUnread}
+use Rattle.farm_commands.specs.FarmAnswers.{AnswersRun, ComesToEnd, RunsTo, StopsRun}
+use Rattle.farm_commands.specs.Requests.{AreFilesRead, OnFiles, named}
 use Rattle.farm_commands.specs.Runs.{MayComeTo, TellsFault, outside_fault_line}
 use Rattle.farm_commands.specs.declared.fault.OutsideFault.{OutsideFault}
+use Rattle.farm_commands.specs.declared.fault.OutsideFault.TheVariants.{CannotRead, OutOfMemory, CutShort, BadSchedule, WriteFailed}
+use Rattle.farm_input.specs.Input.{Texts}
+use Rattle.command_line.specs.declared.request.Paths.{Paths}
 
 -- an end in one meaning is one in another
 pub comes-by : (A B : List ℕ → ℕ → Type 0) (S T : List ℕ → Type 0)
@@ -28,6 +33,31 @@ comes-by A B S T old new before after told by tells (inl is) =
     inl (answered-by A B old new told by is)
 comes-by A B S T old new before after told by tells (inr is) =
     inr (is.0, is.1, is.2, tells is.2 is.3, is.4)
+
+-- a run of texts that were read
+pub unless-ended : (Names : List ℕ → Type 0) (A : List ℕ → ℕ → Type 0) (S : List ℕ → Type 0)
+    (old new before after : SinkState) (told : Result ℕ OutsideFault)
+    → ComesToEnd A S old new before after told
+    → UnlessUnread Names (new ≡ old) (ComesToEnd A S old new before after told) told
+unless-ended Names A S old new before after (Ok status) is = is
+unless-ended Names A S old new before after (Err WriteFailed) is = is
+unless-ended Names A S old new before after (Err CutShort) is = is
+unless-ended Names A S old new before after (Err BadSchedule) is = is
+unless-ended Names A S old new before after (Err OutOfMemory) is = is
+unless-ended Names A S old new before after (Err (CannotRead name)) (inl is) = absurd is
+unless-ended Names A S old new before after (Err (CannotRead name)) (inr is) =
+    let differ = is.1 in absurd cc
+
+-- what is told where they were not
+pub unread-run : (Names : List ℕ → Type 0) (A : List ℕ → ℕ → Type 0) (S : List ℕ → Type 0)
+    (state errors : SinkState) (fault : OutsideFault) → IsReadFault Names fault
+    → UnlessUnread Names (state ≡ state)
+    (ComesToEnd A S state state errors errors (Err fault)) (Err fault)
+unread-run Names A S state errors (CannotRead name) is = (is, refl)
+unread-run Names A S state errors OutOfMemory is = inl refl
+unread-run Names A S state errors CutShort is = absurd is
+unread-run Names A S state errors BadSchedule is = absurd is
+unread-run Names A S state errors WriteFailed is = absurd is
 
 -- a gate that never gives up stops no lane
 pub never_started : (a : AcceptedPlan) (ends : List LaneStop) (code l : ℕ)
@@ -55,26 +85,54 @@ all_used a chroots spent history is l c here =
 pub asked_nothing : (r : Request) → Answer r ≡ Answer CheckInput → r ≡ CheckInput
 asked_nothing r e = cc e
 
+-- what a run comes to does not hang on the line of a fault, which is told behind it
+ended-before : (A : List ℕ → ℕ → Type 0) (S : List ℕ → Type 0)
+    (old new before after later : SinkState) (fault : OutsideFault)
+    → ComesToEnd A S old new before after (Err fault)
+    → ComesToEnd A S old new before later (Err fault)
+ended-before A S old new before after later fault (inl is) = inl is
+ended-before A S old new before after later fault (inr is) = let differ = is.1 in absurd cc
+
+module _ (held : List ℕ → Option (List ℕ)) (paths : Paths) where
+  abbrev answers : List ℕ → ℕ → Type 0
+  answers = OnFiles held paths AnswersRun
+
+  abbrev stops : List ℕ → Type 0
+  stops line = (texts : Texts) × AreFilesRead held paths texts × StopsRun texts line
+
+  runs-before : (old new before after later : SinkState) (told : Result ℕ OutsideFault)
+      → IfOk told (λ _. later ≡ after) → RunsTo held paths old new before after told
+      → RunsTo held paths old new before later told
+  runs-before old new before after later (Ok status) same (inl is) = inl is
+  runs-before old new before after later (Ok status) same (inr is) =
+      inr (
+        is.0,
+        is.1,
+        is.2,
+        is.3,
+        subst (λ end. IsWritten before end is.2) (sym same) is.4,
+      )
+  runs-before old new before after later (Err (CannotRead name)) same is = is
+  runs-before old new before after later (Err OutOfMemory) same is =
+      ended-before answers stops old new before after later OutOfMemory is
+  runs-before old new before after later (Err CutShort) same is =
+      ended-before answers stops old new before after later CutShort is
+  runs-before old new before after later (Err BadSchedule) same is =
+      ended-before answers stops old new before after later BadSchedule is
+  runs-before old new before after later (Err WriteFailed) same is =
+      ended-before answers stops old new before after later WriteFailed is
+
 module _ (words : List (List ℕ)) (held : List ℕ → Option (List ℕ)) (given : Option (List ℕ)) where
-  -- what words come to does not hang on the line of a fault, which is told behind it
+  -- the same of what words come to
   pub comes-before : (old new before after later : SinkState) (told : Result ℕ OutsideFault)
       → IfOk told (λ _. later ≡ after) → MayComeTo words held given old new before after told
       → MayComeTo words held given old new before later told
   comes-before old new before after later told same (inl comes) = inl comes
-  comes-before old new before after later told same (inr (paths, are, inl is)) =
-      inr (paths, are, inl is)
-  comes-before old new before after later told same (inr (paths, are, inr is)) =
+  comes-before old new before after later told same (inr (paths, are, runs)) =
       inr (
         paths,
         are,
-        inr (
-          is.0,
-          is.1,
-          is.2,
-          is.3,
-          subst (λ end. IsWritten before end is.2)
-              (sym (subst (λ t. IfOk t (λ _. later ≡ after)) is.1 same)) is.4,
-        ),
+        runs-before (named held given) paths old new before after later told same runs,
       )
 
 -- the line of a fault is told of the state ahead, which no fault changes

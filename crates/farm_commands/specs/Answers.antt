@@ -3,6 +3,7 @@
 --   AnswersCheck, AnswersListing, AnswersStep, AnswersStepBy
 --                                  that this text and this status are what a command answers
 --   IsAnswered                     an answer is written to a sink, and its status is told
+--   UnlessUnread                   what is so unless a file or standard input cannot be read
 --   IsReadFault                    what ends a command whose files or input cannot be read
 use Rattle.std.specs.Prelude.{◌≡◌, ◌≢◌, ℕ, ◌^◌, Bool, true, false, List, [], length, Option, Result, Ok, Err, if◌then◌else◌}
 use Rattle.std.specs.Option.{is_none}
@@ -134,9 +135,9 @@ abbrev pub no_status : ℕ
 no_status = 2 ^ 8
 
 -- Where a status is told, the text of its answer is written whole; where the sink fails, a first
--- part of it. Where the texts cannot be read, or memory is refused, nothing is written. Where
--- memory is refused behind a text, that is one which stands for no status; and a schedule that is
--- none is an answer without a text, whose status is that of wrong words.
+-- part of it. Where memory is refused, nothing is written. Where memory is refused behind a text,
+-- that is one which stands for no status; and a schedule that is none is an answer without a text,
+-- whose status is that of wrong words. Nothing is read, so no name is told that cannot be.
 abbrev pub IsAnswered : (List ℕ → ℕ → Type 0) → SinkState → SinkState → Result ℕ OutsideFault
     → Type 0
 IsAnswered Answers old new (Ok status) =
@@ -148,12 +149,22 @@ IsAnswered Answers old new (Err CutShort) =
     (text : List ℕ) × Answers text no_status × IsWritten old new text × (new.failed ≡ false)
 IsAnswered Answers old new (Err BadSchedule) = Answers [] WRONG_WORDS × (new ≡ old)
 IsAnswered Answers old new (Err OutOfMemory) = new ≡ old
-IsAnswered Answers old new (Err (CannotRead name)) = new ≡ old
+IsAnswered Answers old new (Err (CannotRead name)) = ⊥
 
--- the fault of a file or of standard input, or of memory
-abbrev pub IsReadFault : OutsideFault → Type 0
-IsReadFault (CannotRead name) = Unit {0}
-IsReadFault OutOfMemory = Unit {0}
-IsReadFault CutShort = ⊥
-IsReadFault BadSchedule = ⊥
-IsReadFault WriteFailed = ⊥
+-- where it is told that a name cannot be read, that is one of these, and nothing is written; else
+-- what is told is so
+abbrev pub UnlessUnread : (List ℕ → Type 0) → Type 0 → Type 0 → Result ℕ OutsideFault → Type 0
+UnlessUnread Names Same Else (Ok status) = Else
+UnlessUnread Names Same Else (Err (CannotRead name)) = Names name.now × Same
+UnlessUnread Names Same Else (Err OutOfMemory) = Else
+UnlessUnread Names Same Else (Err CutShort) = Else
+UnlessUnread Names Same Else (Err BadSchedule) = Else
+UnlessUnread Names Same Else (Err WriteFailed) = Else
+
+-- the fault of one of these names, of a file or standard input, or of memory
+abbrev pub IsReadFault : (List ℕ → Type 0) → OutsideFault → Type 0
+IsReadFault Names (CannotRead name) = Names name.now
+IsReadFault Names OutOfMemory = Unit {0}
+IsReadFault Names CutShort = ⊥
+IsReadFault Names BadSchedule = ⊥
+IsReadFault Names WriteFailed = ⊥

@@ -19,8 +19,8 @@ use Rattle.plan_verifier.specs.Accepted.{AcceptedPlan}
 use Rattle.plan_verifier.specs.Verdict.{IsVerdict}
 use Rattle.plan_verifier.specs.declared.refusal.Refusal.{Refusal}
 use Rattle.report_sink.specs.Sinks.{SinkState, IsWritten}
-use Rattle.farm_commands.specs.Answers.{AnswersVerdict, IsAnswered, planned_in}
-use Rattle.farm_commands.specs.Requests.{AreFilesRead, OnFiles}
+use Rattle.farm_commands.specs.Answers.{AnswersVerdict, IsAnswered, UnlessUnread, planned_in}
+use Rattle.farm_commands.specs.Requests.{AreCalled, AreFilesRead, OnFiles}
 use Rattle.farm_commands.specs.declared.fault.OutsideFault.{OutsideFault}
 use Rattle.farm_commands.specs.declared.status.TheConstants.{FINE, OUTSIDE}
 
@@ -73,6 +73,8 @@ ComesToEnd Answers Stops old new before after told =
 abbrev pub RunsTo : (List ℕ → Option (List ℕ)) → Paths → SinkState → SinkState → SinkState
     → SinkState → Result ℕ OutsideFault → Type 0
 RunsTo held paths old new before after told =
-    ComesToEnd (OnFiles held paths AnswersRun)
+    UnlessUnread (AreCalled paths) (new ≡ old)
+    (ComesToEnd (OnFiles held paths AnswersRun)
     (λ line. (texts : Texts) × AreFilesRead held paths texts × StopsRun texts line)
-    old new before after told
+    old new before after told)
+    told

@@ -1,16 +1,19 @@
 -- What requests read, and what is answered to them. The project's own rules.
 --
 --   named             the bytes that a name stands for
+--   IsCalled, IsInputName, AreCalled
+--                     what a name is called, standard input, and the names of four files, where
+--                     they cannot be read
 --   AreFilesRead      the texts of files, each up to the limit
 --   AnswersRequest    that this text and this status are what is answered to a request
 --   IsRequestAnswered what is written of the answer
-use Rattle.std.specs.Prelude.{◌≡◌, ◌≤◌, ℕ, false, List, length, take, codes, Option, IfSome, Result, if◌then◌else◌}
+use Rattle.std.specs.Prelude.{◌≡◌, ◌⊎◌, ◌≤◌, ℕ, false, List, length, take, codes, Option, IfSome, Result, if◌then◌else◌}
 use Rattle.std.specs.Str.{bytes_eq}
 use Rattle.farm_input.specs.Input.{Texts, input_texts}
 use Rattle.command_line.specs.declared.request.Paths.{Paths}
 use Rattle.command_line.specs.declared.request.Request.{Request}
 use Rattle.command_line.specs.declared.request.Request.TheVariants.{CheckInput, Check, Explain, List as ListPlan, Cert, VerifyCert, Step, StepBy}
-use Rattle.farm_commands.specs.Answers.{AnswersCheck, AnswersListing, AnswersStep, AnswersStepBy, IsAnswered}
+use Rattle.farm_commands.specs.Answers.{AnswersCheck, AnswersListing, AnswersStep, AnswersStepBy, IsAnswered, UnlessUnread}
 use Rattle.farm_commands.specs.CertAnswers.{AnswersCert, AnswersVerifyCert, IsCertAnswered}
 use Rattle.farm_commands.specs.Explanations.{AnswersExplain}
 use Rattle.report_sink.specs.Sinks.{SinkState}
@@ -20,6 +23,24 @@ use Rattle.farm_commands.specs.declared.source.TheConstants.{MOST_FILE, MOST_INP
 -- `-` stands for standard input, and any other name for its file
 abbrev pub named : (List ℕ → Option (List ℕ)) → Option (List ℕ) → List ℕ → Option (List ℕ)
 named held given name = if bytes_eq name (codes "-") then given else held name
+
+-- standard input has a name of its own
+abbrev pub IsInputName : List ℕ → Type 0
+IsInputName told = told ≡ codes "standard input"
+
+-- a name is called by itself, and `-` as standard input is
+abbrev pub IsCalled : List ℕ → List ℕ → Type 0
+IsCalled name told = told ≡ (if bytes_eq name (codes "-") then codes "standard input" else name)
+
+-- one of four files is called so
+abbrev pub AreCalled : Paths → List ℕ → Type 0
+AreCalled paths told =
+    IsCalled paths.packages.now told ⊎ IsCalled paths.sources.now told
+    ⊎ IsCalled paths.farm.now told ⊎ IsCalled paths.plan.now told
+
+-- and one more
+abbrev pub AreCalledWith : Paths → List ℕ → List ℕ → Type 0
+AreCalledWith paths name told = AreCalled paths told ⊎ IsCalled name told
 
 -- a text is the first bytes of a file, where these are known
 abbrev pub IsFileRead : Option (List ℕ) → List ℕ → Type 0
@@ -73,10 +94,28 @@ AnswersRequest held given (Step schedule paths) text status =
 AnswersRequest held given (StepBy list paths) text status =
     OnFilesAndOne (named held given) paths list.now AnswersStepBy text status
 
+-- what is read for a request is called so
+abbrev pub AreCalledFor : Request → List ℕ → Type 0
+AreCalledFor CheckInput told = IsInputName told
+AreCalledFor (Check paths json) told = AreCalled paths told
+AreCalledFor (Explain paths json) told = AreCalled paths told
+AreCalledFor (ListPlan paths number) told = AreCalled paths told
+AreCalledFor (Cert paths) told = AreCalled paths told
+AreCalledFor (VerifyCert cert paths) told = AreCalledWith paths cert.now told
+AreCalledFor (Step schedule paths) told = AreCalled paths told
+AreCalledFor (StepBy list paths) told = AreCalledWith paths list.now told
+
 -- what is written of the answer: a certificate alone may be cut by want of memory
+abbrev pub IsRequestTold : (List ℕ → Option (List ℕ)) → Option (List ℕ) → Request → SinkState
+    → SinkState → Result ℕ OutsideFault → Type 0
+IsRequestTold held given (Cert paths) old new told =
+    IsCertAnswered (AnswersRequest held given (Cert paths)) old new told
+IsRequestTold held given request old new told =
+    IsAnswered (AnswersRequest held given request) old new told
+
+-- that, or what is read for it cannot be
 abbrev pub IsRequestAnswered : (List ℕ → Option (List ℕ)) → Option (List ℕ) → Request → SinkState
     → SinkState → Result ℕ OutsideFault → Type 0
-IsRequestAnswered held given (Cert paths) old new told =
-    IsCertAnswered (AnswersRequest held given (Cert paths)) old new told
 IsRequestAnswered held given request old new told =
-    IsAnswered (AnswersRequest held given request) old new told
+    UnlessUnread (AreCalledFor request) (new ≡ old) (IsRequestTold held given request old new told)
+    told

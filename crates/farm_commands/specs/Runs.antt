@@ -9,12 +9,13 @@
 use Rattle.std.specs.Prelude.{◌≡◌, ◌⊎◌, ℕ, List, ◌++◌, length, codes, Option, Result, Ok, Err}
 use Rattle.command_line.specs.declared.request.Paths.{Paths}
 use Rattle.command_line.specs.declared.request.Request.{Request}
+use Rattle.command_line.specs.declared.request.Request.TheVariants.{CheckInput}
 use Rattle.command_line.specs.Words.{ArePathWords, IsRequestedBy}
 use Rattle.report_sink.specs.Sinks.{SinkState, IsWritten}
 use Rattle.fault_notes.specs.Escapes.{escaped}
 use Rattle.farm_commands.specs.Answers.{IsAnswered}
 use Rattle.farm_commands.specs.FarmAnswers.{RunsTo}
-use Rattle.farm_commands.specs.Requests.{IsRequestAnswered, OnInput, named}
+use Rattle.farm_commands.specs.Requests.{IsRequestAnswered, named}
 use Rattle.farm_commands.specs.declared.fault.OutsideFault.{OutsideFault}
 use Rattle.farm_commands.specs.declared.fault.OutsideFault.TheVariants.{CannotRead, OutOfMemory, CutShort, BadSchedule, WriteFailed}
 use Rattle.farm_commands.specs.declared.status.TheConstants.{FINE, OUTSIDE, WRONG_WORDS}
@@ -69,7 +70,7 @@ pub record ComesTo (words : List (List ℕ)) (held : List ℕ → Option (List �
       × IsRequestAnswered held given request old new told)
       ⊎ TellsWords old new told
   -- and no word at all asks for the verdict on standard input.
-  pub no_word : length words ≡ 0 → IsAnswered (OnInput given) old new told
+  pub no_word : length words ≡ 0 → IsRequestAnswered held given CheckInput old new told
 
 -- the same, or a run of the plan of files whose names stand among the words; before and after are
 -- the states of the error output

@@ -1,11 +1,11 @@
 //! What is answered to a request.
 
 ghost use Rattle.std.specs.Prelude.{IfErr, IfOk, OnErr, ◌≡◌};
-ghost use Rattle.farm_commands.specs.Answers.{AnswersCheck, AnswersListing, AnswersStep, AnswersStepBy, IsAnswered, IsReadFault};
+ghost use Rattle.farm_commands.specs.Answers.{AnswersCheck, AnswersListing, AnswersStep, AnswersStepBy, IsAnswered, IsReadFault, UnlessUnread};
 ghost use Rattle.farm_commands.specs.CertAnswers.{AnswersCert, AnswersVerifyCert, IsCertAnswered};
 ghost use Rattle.farm_commands.specs.Explanations.{AnswersExplain};
 ghost use Rattle.farm_input.specs.View.{texts_view};
-ghost use Rattle.farm_commands.specs.Requests.{AreFilesRead, IsRequestAnswered, OnFiles, OnFilesAndOne, OnInput, named};
+ghost use Rattle.farm_commands.specs.Requests.{AreCalled, AreCalledWith, AreFilesRead, IsInputName, IsRequestAnswered, OnFiles, OnFilesAndOne, OnInput, named};
 ghost use Rattle.farm_commands.specs.View.{texts_in_files};
 
 use crate::answers::{answer_check, answer_list, answer_numbered, answer_step, answer_step_by};
@@ -56,7 +56,7 @@ pub fn read_files<'a, F: Source>(
     ensures read { IfOk result (λ files.
         AreFilesRead (named (F.held source.now) (F.given source.now)) paths.entry
         (texts_in_files files)) }
-    ensures fault { IfErr result IsReadFault }
+    ensures fault { IfErr result (IsReadFault (AreCalled paths.entry)) }
 {
     Ok(FileTexts {
         packages: read_file(alloc, source, paths.packages)?,
@@ -73,7 +73,9 @@ fn check_input<'a, F: Source, S: Sink>(
     source: &F,
     out: &mut S,
 ) -> Result<u8, OutsideFault<'a>>
-    ensures { IsAnswered (OnInput (F.given source.now)) (S.state out.old) (S.state out.new) result }
+    ensures { UnlessUnread IsInputName (S.state out.new ≡ S.state out.old)
+        (IsAnswered (OnInput (F.given source.now)) (S.state out.old) (S.state out.new) result)
+        result }
 {
     let input = read_input(alloc, source)?;
     answer_check(rt, alloc, texts_of(&input), false, out)
@@ -88,9 +90,10 @@ fn check_files<'a, F: Source, S: Sink>(
     json: bool,
     out: &mut S,
 ) -> Result<u8, OutsideFault<'a>>
-    ensures { IsAnswered
+    ensures { UnlessUnread (AreCalled paths.entry) (S.state out.new ≡ S.state out.old)
+        (IsAnswered
         (OnFiles (named (F.held source.now) (F.given source.now)) paths.entry (AnswersCheck json))
-        (S.state out.old) (S.state out.new) result }
+        (S.state out.old) (S.state out.new) result) result }
 {
     let files = read_files(alloc, source, paths)?;
     answer_check(rt, alloc, files.texts(), json, out)
@@ -105,9 +108,10 @@ fn explain_files<'a, F: Source, S: Sink>(
     json: bool,
     out: &mut S,
 ) -> Result<u8, OutsideFault<'a>>
-    ensures { IsAnswered
+    ensures { UnlessUnread (AreCalled paths.entry) (S.state out.new ≡ S.state out.old)
+        (IsAnswered
         (OnFiles (named (F.held source.now) (F.given source.now)) paths.entry (AnswersExplain json))
-        (S.state out.old) (S.state out.new) result }
+        (S.state out.old) (S.state out.new) result) result }
 {
     let files = read_files(alloc, source, paths)?;
     answer_explain(rt, alloc, files.texts(), json, out)
@@ -138,10 +142,11 @@ fn list_files<'a, F: Source, S: Sink>(
     number: bool,
     out: &mut S,
 ) -> Result<u8, OutsideFault<'a>>
-    ensures { IsAnswered
+    ensures { UnlessUnread (AreCalled paths.entry) (S.state out.new ≡ S.state out.old)
+        (IsAnswered
         (OnFiles (named (F.held source.now) (F.given source.now)) paths.entry
         (AnswersListing number))
-        (S.state out.old) (S.state out.new) result }
+        (S.state out.old) (S.state out.new) result) result }
 {
     let files = read_files(alloc, source, paths)?;
     answer_listing(alloc, files.texts(), number, out)
@@ -156,9 +161,10 @@ fn cert_files<'a, F: Source, S: Sink, E: Sink>(
     out: &mut S,
     errors: &mut E,
 ) -> Result<u8, OutsideFault<'a>>
-    ensures answer { IsCertAnswered
+    ensures answer { UnlessUnread (AreCalled paths.entry) (S.state out.new ≡ S.state out.old)
+        (IsCertAnswered
         (OnFiles (named (F.held source.now) (F.given source.now)) paths.entry AnswersCert)
-        (S.state out.old) (S.state out.new) result }
+        (S.state out.old) (S.state out.new) result) result }
     ensures quiet { OnErr result (E.state errors.new ≡ E.state errors.old) }
 {
     let files = read_files(alloc, source, paths)?;
@@ -174,8 +180,10 @@ fn verify_files<'a, F: Source, S: Sink>(
     cert: &'a str,
     out: &mut S,
 ) -> Result<u8, OutsideFault<'a>>
-    ensures { IsAnswered (OnFilesAndOne (named (F.held source.now) (F.given source.now)) paths.entry
-        cert.entry.now AnswersVerifyCert) (S.state out.old) (S.state out.new) result }
+    ensures { UnlessUnread (AreCalledWith paths.entry cert.entry.now)
+        (S.state out.new ≡ S.state out.old)
+        (IsAnswered (OnFilesAndOne (named (F.held source.now) (F.given source.now)) paths.entry
+        cert.entry.now AnswersVerifyCert) (S.state out.old) (S.state out.new) result) result }
 {
     let files = read_files(alloc, source, paths)?;
     let read = read_file(alloc, source, cert)?;
@@ -190,10 +198,11 @@ fn step_files<'a, F: Source, S: Sink>(
     schedule: &[u32],
     out: &mut S,
 ) -> Result<u8, OutsideFault<'a>>
-    ensures { IsAnswered
+    ensures { UnlessUnread (AreCalled paths.entry) (S.state out.new ≡ S.state out.old)
+        (IsAnswered
         (OnFiles (named (F.held source.now) (F.given source.now)) paths.entry
         (AnswersStep schedule.now))
-        (S.state out.old) (S.state out.new) result }
+        (S.state out.old) (S.state out.new) result) result }
 {
     let files = read_files(alloc, source, paths)?;
     answer_step(alloc, files.texts(), schedule, out)
@@ -207,8 +216,10 @@ fn step_by_files<'a, F: Source, S: Sink>(
     list: &'a str,
     out: &mut S,
 ) -> Result<u8, OutsideFault<'a>>
-    ensures { IsAnswered (OnFilesAndOne (named (F.held source.now) (F.given source.now)) paths.entry
-        list.entry.now AnswersStepBy) (S.state out.old) (S.state out.new) result }
+    ensures { UnlessUnread (AreCalledWith paths.entry list.entry.now)
+        (S.state out.new ≡ S.state out.old)
+        (IsAnswered (OnFilesAndOne (named (F.held source.now) (F.given source.now)) paths.entry
+        list.entry.now AnswersStepBy) (S.state out.old) (S.state out.new) result) result }
 {
     let files = read_files(alloc, source, paths)?;
     let read = read_file(alloc, source, list)?;

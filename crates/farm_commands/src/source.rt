@@ -2,7 +2,7 @@
 
 ghost use Rattle.std.specs.Prelude.{◌≡◌, ◌≤◌, ℕ, List, Option, IfOk, IfErr, IfSome, Some, take, vec_len};
 ghost use Rattle.farm_commands.specs.Answers.{IsReadFault};
-ghost use Rattle.farm_commands.specs.Requests.{named};
+ghost use Rattle.farm_commands.specs.Requests.{IsCalled, IsInputName, named};
 
 use crate::fault::OutsideFault;
 use command_line::INPUT;
@@ -53,7 +53,7 @@ fn read_up_to<'a, R: Read + Drop>(
 ) -> Result<Vec<u8>, OutsideFault<'a>>
     ensures bytes { IfOk result (λ read. IfSome (R.remaining reader) (λ bytes.
         read.items ≡ take most bytes)) }
-    ensures fault { IfErr result IsReadFault }
+    ensures fault { IfErr result (IsReadFault (λ told. told ≡ name.entry.now)) }
 {
     match bounded_read::read_up_to(alloc, reader, most) {
         Ok(read) => Ok(read),
@@ -66,8 +66,8 @@ fn read_up_to<'a, R: Read + Drop>(
 ///
 /// # Errors
 ///
-/// [`OutsideFault::OutOfMemory`] where memory is refused, and [`OutsideFault::CannotRead`] where
-/// the file cannot be opened or a read fails.
+/// [`OutsideFault::OutOfMemory`] where memory is refused, and [`OutsideFault::CannotRead`] of the
+/// name where the file cannot be opened or a read fails.
 pub fn read_file<'a, S: Source>(
     alloc: Global,
     source: &S,
@@ -76,7 +76,7 @@ pub fn read_file<'a, S: Source>(
     ensures bytes { IfOk result (λ read.
         IfSome (named (S.held source.now) (S.given source.now) path.entry.now) (λ bytes.
         read.items ≡ take MOST_FILE bytes)) }
-    ensures fault { IfErr result IsReadFault }
+    ensures fault { IfErr result (IsReadFault (IsCalled path.entry.now)) }
 {
     if path.as_bytes() == INPUT.as_bytes() {
         return read_up_to(alloc, source.input(), MOST_FILE, INPUT_NAME);
@@ -98,7 +98,7 @@ pub fn read_input<'a, S: Source>(alloc: Global, source: &S) -> Result<Vec<u8>, O
     ensures bytes { IfOk result (λ read. IfSome (S.given source.now) (λ bytes.
         read.items ≡ bytes)) }
     ensures most { IfOk result (λ read. vec_len read ≤ MOST_INPUT) }
-    ensures fault { IfErr result IsReadFault }
+    ensures fault { IfErr result (IsReadFault IsInputName) }
 {
     let read = read_up_to(alloc, source.input(), MOST_INPUT + 1, INPUT_NAME)?;
     if read.len() > MOST_INPUT as usize {

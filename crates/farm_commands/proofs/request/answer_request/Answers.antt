@@ -1,6 +1,6 @@
-use Rattle.std.proofs.Common.{subst, sym}
-use Rattle.farm_commands.specs.Answers.{AnswersStep, IsAnswered}
-use Rattle.farm_commands.specs.Requests.{IsRequestAnswered, OnFiles, named}
+use Rattle.std.proofs.Common.{◌≡◌, subst, sym}
+use Rattle.farm_commands.specs.Answers.{AnswersStep, IsAnswered, UnlessUnread}
+use Rattle.farm_commands.specs.Requests.{AreCalled, IsRequestAnswered, OnFiles, named}
 use Rattle.farm_commands.proofs.request.answer_request.Goals as goal
 
 pub returns-in-Step-clause-answer : goal.returns-in-Step-clause-answer
@@ -11,6 +11,6 @@ returns-in-Step-clause-answer g c =
     let new = g.S.Sink.state c.step_files.new.out in
     subst (λ request. IsRequestAnswered held given request old new c.step_files.result)
     (sym c.in-Step.is)
-    (subst (λ lanes. IsAnswered (OnFiles (named held given) c.in-Step.paths (AnswersStep lanes)) old
-    new
-    c.step_files.result) c.deref.ensures.value c.step_files.ensures)
+    (subst (λ lanes. UnlessUnread (AreCalled c.in-Step.paths) (new ≡ old)
+    (IsAnswered (OnFiles (named held given) c.in-Step.paths (AnswersStep lanes)) old new
+    c.step_files.result) c.step_files.result) c.deref.ensures.value c.step_files.ensures)

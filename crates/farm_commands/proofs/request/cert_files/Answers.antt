@@ -1,14 +1,15 @@
 use Rattle.std.proofs.Common.{subst}
 use Rattle.farm_commands.specs.CertAnswers.{AnswersCert}
-use Rattle.farm_commands.specs.Requests.{OnFiles, named}
+use Rattle.farm_commands.specs.Requests.{AreCalled, OnFiles, named}
 use Rattle.farm_commands.specs.View.{texts_in_files}
-use Rattle.farm_commands.proofs.CertLaws.{certified-by}
+use Rattle.farm_commands.proofs.CertLaws.{certified-by, unless-certified}
 use Rattle.farm_commands.proofs.request.cert_files.Goals as goal
 use Rattle.farm_input.specs.View.{texts_view}
 
 pub returns-clause-answer : goal.returns-clause-answer
 returns-clause-answer g c =
-    certified-by (AnswersCert (texts_view c.texts.result))
+    unless-certified (AreCalled c.args.paths) _ _ _ _
+    (certified-by (AnswersCert (texts_view c.texts.result))
     (OnFiles (named (g.F.Source.held c.args.source.now) (g.F.Source.given c.args.source.now))
     c.args.paths AnswersCert) _ _ _
     (λ text status is. (
@@ -16,4 +17,4 @@ returns-clause-answer g c =
       c.in_ok-files.ensures.read,
       subst (λ texts. AnswersCert texts text status) c.texts.ensures is,
     ))
-    c.answer_cert.ensures.answer
+    c.answer_cert.ensures.answer)

@@ -1,14 +1,15 @@
 use Rattle.std.proofs.Common.{arith, false, subst}
 use Rattle.farm_commands.specs.Answers.{AnswersCheck}
-use Rattle.farm_commands.specs.Requests.{OnInput}
-use Rattle.farm_commands.proofs.AnswerLaws.{answered-by}
+use Rattle.farm_commands.specs.Requests.{IsInputName, OnInput}
+use Rattle.farm_commands.proofs.AnswerLaws.{answered-by, unless-answered}
 use Rattle.farm_commands.proofs.request.check_input.Goals as goal
 use Rattle.farm_input.specs.Input.{input_texts}
 use Rattle.farm_input.specs.View.{texts_view}
 
 pub returns : goal.returns
 returns g c =
-    answered-by (AnswersCheck false (texts_view c.texts_of.result))
+    unless-answered IsInputName _ _ _ _
+    (answered-by (AnswersCheck false (texts_view c.texts_of.result))
     (OnInput (g.F.Source.given c.args.source.now)) _ _ _
     (λ text status is. (
       c.in_ok-input.input.items,
@@ -19,4 +20,4 @@ returns g c =
       subst (λ bytes. AnswersCheck false (input_texts bytes) text status) c.deref.ensures.value
           (subst (λ texts. AnswersCheck false texts text status) c.texts_of.ensures is),
     ))
-    c.answer_check.ensures
+    c.answer_check.ensures)

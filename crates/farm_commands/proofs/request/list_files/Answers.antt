@@ -1,14 +1,15 @@
 use Rattle.std.proofs.Common.{subst}
 use Rattle.farm_commands.specs.Answers.{AnswersListing}
-use Rattle.farm_commands.specs.Requests.{OnFiles, named}
+use Rattle.farm_commands.specs.Requests.{AreCalled, named, OnFiles}
 use Rattle.farm_commands.specs.View.{texts_in_files}
-use Rattle.farm_commands.proofs.AnswerLaws.{answered-by}
+use Rattle.farm_commands.proofs.AnswerLaws.{answered-by, unless-answered}
 use Rattle.farm_commands.proofs.request.list_files.Goals as goal
 use Rattle.farm_input.specs.View.{texts_view}
 
 pub returns : goal.returns
 returns g c =
-    answered-by (AnswersListing c.args.number (texts_view c.texts.result))
+    unless-answered (AreCalled c.args.paths) _ _ _ _
+    (answered-by (AnswersListing c.args.number (texts_view c.texts.result))
     (OnFiles (named (g.F.Source.held c.args.source.now) (g.F.Source.given c.args.source.now))
     c.args.paths
     (AnswersListing c.args.number)) _ _ _
@@ -17,4 +18,4 @@ returns g c =
       c.in_ok-files.ensures.read,
       subst (λ texts. AnswersListing c.args.number texts text status) c.texts.ensures is,
     ))
-    c.answer_listing.ensures
+    c.answer_listing.ensures)

@@ -1,14 +1,15 @@
 use Rattle.std.proofs.Common.{subst}
 use Rattle.farm_commands.specs.CertAnswers.{AnswersVerifyCert}
-use Rattle.farm_commands.specs.Requests.{OnFilesAndOne, named}
+use Rattle.farm_commands.specs.Requests.{AreCalledWith, named, OnFilesAndOne}
 use Rattle.farm_commands.specs.View.{texts_in_files}
-use Rattle.farm_commands.proofs.AnswerLaws.{answered-by}
+use Rattle.farm_commands.proofs.AnswerLaws.{answered-by, unless-answered}
 use Rattle.farm_commands.proofs.request.verify_files.Goals as goal
 use Rattle.farm_input.specs.View.{texts_view}
 
 pub returns : goal.returns
 returns g c =
-    answered-by (AnswersVerifyCert c.deref.result.now (texts_view c.texts.result))
+    unless-answered (AreCalledWith c.args.paths c.args.cert.now) _ _ _ _
+    (answered-by (AnswersVerifyCert c.deref.result.now (texts_view c.texts.result))
     (OnFilesAndOne (named (g.F.Source.held c.args.source.now) (g.F.Source.given c.args.source.now))
     c.args.paths c.args.cert.now
     AnswersVerifyCert) _ _ _
@@ -24,4 +25,4 @@ returns g c =
             c.texts.ensures is),
       ),
     ))
-    c.answer_verify_cert.ensures
+    c.answer_verify_cert.ensures)
