@@ -1,7 +1,7 @@
 -- An answer, from one meaning to another.
-use Rattle.std.proofs.Common.{◌≡◌, ℕ, List, [], refl, Result, Ok, Err}
+use Rattle.std.proofs.Common.{◌≡◌, ℕ, List, [], Result, Ok, Err}
 use Rattle.report_sink.specs.Sinks.{SinkState}
-use Rattle.farm_commands.specs.Answers.{IsAnswered, IsReadFault, UnlessUnread, no_status}
+use Rattle.farm_commands.specs.Answers.{IsAnswered, UnlessUnread, no_status}
 use Rattle.farm_commands.specs.declared.fault.OutsideFault.{OutsideFault}
 use Rattle.farm_commands.specs.declared.fault.OutsideFault.TheVariants.{CannotRead, OutOfMemory, CutShort, BadSchedule, WriteFailed}
 use Rattle.farm_commands.specs.declared.status.TheConstants.{WRONG_WORDS}
@@ -27,22 +27,3 @@ unless-answered Names A old new (Err CutShort) is = is
 unless-answered Names A old new (Err BadSchedule) is = is
 unless-answered Names A old new (Err OutOfMemory) is = is
 unless-answered Names A old new (Err (CannotRead name)) is = absurd is
-
--- what is told where they were not
-pub unread : (Names : List ℕ → Type 0) (A : List ℕ → ℕ → Type 0) (state : SinkState)
-    (fault : OutsideFault) → IsReadFault Names fault
-    → UnlessUnread Names (state ≡ state) (IsAnswered A state state (Err fault)) (Err fault)
-unread Names A state (CannotRead name) is = (is, refl)
-unread Names A state OutOfMemory is = refl
-unread Names A state CutShort is = absurd is
-unread Names A state BadSchedule is = absurd is
-unread Names A state WriteFailed is = absurd is
-
--- the fault of one of some names is that of one of more
-pub fault-among : (P Q : List ℕ → Type 0) → ((name : List ℕ) → P name → Q name)
-    → (fault : OutsideFault) → IsReadFault P fault → IsReadFault Q fault
-fault-among P Q more (CannotRead name) is = more name.now is
-fault-among P Q more OutOfMemory is = is
-fault-among P Q more CutShort is = is
-fault-among P Q more BadSchedule is = is
-fault-among P Q more WriteFailed is = is

@@ -16,7 +16,7 @@ use Rattle.plan_verifier.specs.Accepted.{AcceptedPlan}
 use Rattle.report_sink.specs.Sinks.{SinkState}
 use Rattle.farm_commands.proofs.AnswerLaws.{answered-by}
 use Rattle.farm_commands.specs.CertAnswers.{IsCertAnswered, IsTextVerdict, ShowsCert, outside_fault_of}
-use Rattle.farm_commands.specs.Answers.{IsReadFault, UnlessUnread}
+use Rattle.farm_commands.specs.Answers.{UnlessUnread}
 use Rattle.farm_commands.specs.declared.fault.OutsideFault.{OutsideFault}
 use Rattle.farm_commands.specs.declared.fault.OutsideFault.TheVariants as outside
 use Rattle.farm_commands.specs.declared.status.TheConstants.{FINE}
@@ -40,16 +40,6 @@ unless-certified Names A old new (Err outside.OutOfMemory) is = is
 unless-certified Names A old new (Err (outside.CannotRead name)) (inl is) = absurd is
 unless-certified Names A old new (Err (outside.CannotRead name)) (inr cut) =
     let differ = cut.0 in absurd cc
-
--- what is told where they were not
-pub uncertified : (Names : List ℕ → Type 0) (A : List ℕ → ℕ → Type 0) (state : SinkState)
-    (fault : OutsideFault) → IsReadFault Names fault
-    → UnlessUnread Names (state ≡ state) (IsCertAnswered A state state (Err fault)) (Err fault)
-uncertified Names A state (outside.CannotRead name) is = (is, refl)
-uncertified Names A state outside.OutOfMemory is = inl refl
-uncertified Names A state outside.CutShort is = absurd is
-uncertified Names A state outside.BadSchedule is = absurd is
-uncertified Names A state outside.WriteFailed is = absurd is
 
 -- ---- what is written of a certificate is its answer
 

@@ -14,7 +14,7 @@ use Rattle.lane_runner.specs.declared.run.LaneStop.{LaneStop}
 use Rattle.plan_verifier.specs.Accepted.{AcceptedPlan}
 use Rattle.report_sink.specs.Sinks.{SinkState, IsWritten}
 use Rattle.farm_commands.proofs.AnswerLaws.{answered-by}
-use Rattle.farm_commands.specs.Answers.{IsReadFault, UnlessUnread}
+use Rattle.farm_commands.specs.Answers.{UnlessUnread}
 use Rattle.farm_commands.specs.FarmAnswers.{AnswersRun, ComesToEnd, RunsTo, StopsRun}
 use Rattle.farm_commands.specs.Requests.{AreFilesRead, OnFiles, named}
 use Rattle.farm_commands.specs.Runs.{MayComeTo, TellsFault, outside_fault_line}
@@ -47,17 +47,6 @@ unless-ended Names A S old new before after (Err OutOfMemory) is = is
 unless-ended Names A S old new before after (Err (CannotRead name)) (inl is) = absurd is
 unless-ended Names A S old new before after (Err (CannotRead name)) (inr is) =
     let differ = is.1 in absurd cc
-
--- what is told where they were not
-pub unread-run : (Names : List ℕ → Type 0) (A : List ℕ → ℕ → Type 0) (S : List ℕ → Type 0)
-    (state errors : SinkState) (fault : OutsideFault) → IsReadFault Names fault
-    → UnlessUnread Names (state ≡ state)
-    (ComesToEnd A S state state errors errors (Err fault)) (Err fault)
-unread-run Names A S state errors (CannotRead name) is = (is, refl)
-unread-run Names A S state errors OutOfMemory is = inl refl
-unread-run Names A S state errors CutShort is = absurd is
-unread-run Names A S state errors BadSchedule is = absurd is
-unread-run Names A S state errors WriteFailed is = absurd is
 
 -- a gate that never gives up stops no lane
 pub never_started : (a : AcceptedPlan) (ends : List LaneStop) (code l : ℕ)
