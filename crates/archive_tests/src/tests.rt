@@ -5,6 +5,7 @@ ghost use Rattle.std.specs.Prelude.{◌≡◌};
 
 use plan_verifier::{Accepted, check};
 use std::alloc::Global;
+use std::mem::ManuallyDrop;
 use std::test::Fail;
 use std::thread::Threads;
 use word_archive::{Closed, LaneSeats, SharedArchive};
@@ -25,7 +26,8 @@ const PLAN: &[u8] =
 const WORDS: [u64; 3] = [1, 0, 0];
 
 // The plan, accepted. What `check` promises of it is not said again here: no test asks for it, and
-// each would be proved below it.
+// each would be proved below it. A test keeps it in a `ManuallyDrop`: it goes with the test, and
+// not piece by piece at each of its ends.
 fn accepted_plan(rt: &(impl Threads + Sync), alloc: Global) -> Result<Accepted, Fail> {
     Ok(check(rt, alloc, PACKAGES, SOURCES, FARM, PLAN)?)
 }
@@ -39,10 +41,11 @@ fn closed_unused(alloc: Global, accepted: &Accepted) -> Option<Closed> {
 // It has the initial words, and nothing was published.
 #[test]
 fn opens_and_closes(rt: HostRuntime) -> Result<(), Fail> {
-    let accepted = accepted_plan(&rt, rt.alloc())?;
-    let Some(closed) = closed_unused(rt.alloc(), &accepted) else {
+    let accepted = ManuallyDrop::new(accepted_plan(&rt, rt.alloc())?);
+    let Some(closed) = closed_unused(rt.alloc(), &*accepted) else {
         panic!(rt; "memory was refused");
     };
+    let closed = ManuallyDrop::new(closed);
     assert_eq!(rt; closed.words.as_slice(), WORDS.as_slice());
     assert_eq!(rt; closed.history.len(), 0);
     Ok(())
@@ -64,9 +67,9 @@ fn seats_taken(alloc: Global, accepted: &Accepted) -> Option<[bool; 7]> {
 // A seat is taken once, until it comes back.
 #[test]
 fn takes_each_seat_once(rt: HostRuntime) -> Result<(), Fail> {
-    let accepted = accepted_plan(&rt, rt.alloc())?;
+    let accepted = ManuallyDrop::new(accepted_plan(&rt, rt.alloc())?);
     let wanted = [true, false, true, false, false, false, false];
-    assert_eq!(rt; seats_taken(rt.alloc(), &accepted), Some(wanted));
+    assert_eq!(rt; seats_taken(rt.alloc(), &*accepted), Some(wanted));
     Ok(())
 }
 
@@ -111,10 +114,11 @@ fn told_of_a_stop(
 // closed all the same.
 #[test]
 fn stops(rt: HostRuntime) -> Result<(), Fail> {
-    let accepted = accepted_plan(&rt, rt.alloc())?;
-    let Some((told, closed)) = told_of_a_stop(rt.alloc(), &accepted) else {
+    let accepted = ManuallyDrop::new(accepted_plan(&rt, rt.alloc())?);
+    let Some((told, closed)) = told_of_a_stop(rt.alloc(), &*accepted) else {
         panic!(rt; "memory was refused");
     };
+    let closed = ManuallyDrop::new(closed);
     assert_eq!(rt; told, (false, false, true, true));
     assert_eq!(rt; closed.words.as_slice(), WORDS.as_slice());
     assert_eq!(rt; closed.history.len(), 0);
@@ -161,10 +165,11 @@ fn halted_by_a_lane(alloc: Global, accepted: &Accepted) -> Option<((u64, u64, u6
 // Where one lane halts, the other is told; it loads the initial words.
 #[test]
 fn loads_and_halts(rt: HostRuntime) -> Result<(), Fail> {
-    let accepted = accepted_plan(&rt, rt.alloc())?;
-    let Some((words, told, closed)) = halted_by_a_lane(rt.alloc(), &accepted) else {
+    let accepted = ManuallyDrop::new(accepted_plan(&rt, rt.alloc())?);
+    let Some((words, told, closed)) = halted_by_a_lane(rt.alloc(), &*accepted) else {
         panic!(rt; "memory was refused, or there are not three names");
     };
+    let closed = ManuallyDrop::new(closed);
     assert_eq!(rt; words, (WORDS[0], WORDS[1], WORDS[2]));
     assert!(rt; told);
     assert_eq!(rt; closed.history.len(), 0);

@@ -5,13 +5,14 @@ ghost use Rattle.plan_model.specs.Sound.{IsSound};
 use crate::replaced::answer_replaced;
 use case_files::{Answers, Case};
 use cert_text::{CertFault, print, read};
-use deb_text::{cut_at_first, cut_at_last, read_number};
+use deb_text::{Fault, cut_at_first, cut_at_last, read_number};
 use farm_input::{Planned, read_texts, texts_of};
 use farm_report::{WriteFailed, WriteSink, verdict_text, write_cert_verdict};
 use plan_asm::Plan;
 use plan_cert::check_certificate;
 use plan_verifier::Refusal;
 use std::alloc::{AllocError, Global};
+use std::mem::ManuallyDrop;
 use std::str;
 use std::thread::Threads;
 
@@ -110,6 +111,13 @@ fn cut_certificate(input: &[u8]) -> (&[u8], &[u8]) {
     )
 }
 
+/// The refusal of a text.
+fn refusal_text(alloc: Global, fault: Fault) -> Result<Vec<u8>, AllocError> {
+    // it has nothing to be given back
+    let verdict = ManuallyDrop::new(Err(Refusal::from(fault)));
+    verdict_text(alloc, &*verdict)
+}
+
 fn answer_to(
     rt: &(impl Threads + Sync),
     alloc: Global,
@@ -120,7 +128,7 @@ fn answer_to(
     let read = read_texts(alloc, texts.packages, texts.sources, texts.farm, texts.plan);
     match read {
         Ok(planned) => answer_on_plan(rt, alloc, &planned, case.question, certificate),
-        Err(fault) => verdict_text(alloc, &Err(Refusal::from(fault))),
+        Err(fault) => refusal_text(alloc, fault),
     }
 }
 

@@ -60,11 +60,11 @@ pub fn answer_verdict<'a, S: Sink>(
 ) -> Result<u8, OutsideFault<'a>>
     ensures { IsAnswered (AnswersVerdict verdict) (S.state out.old) (S.state out.new) result }
 {
-    if matches!(&verdict, Err(Refusal::Memory)) {
-        return Err(OutsideFault::OutOfMemory);
-    }
     // The program ends with its answer: what it has read goes with it, and not piece by piece.
     let verdict = ManuallyDrop::new(verdict);
+    if matches!(&*verdict, Err(Refusal::Memory)) {
+        return Err(OutsideFault::OutOfMemory);
+    }
     write_check(out, &*verdict)?;
     Ok(status_of(verdict.is_ok()))
 }
@@ -77,10 +77,10 @@ fn answer_json<'a, S: Sink>(
 ) -> Result<u8, OutsideFault<'a>>
     ensures { IsAnswered (ShowsVerdict true verdict) (S.state out.old) (S.state out.new) result }
 {
-    if matches!(&verdict, Err(Refusal::Memory)) {
+    let verdict = ManuallyDrop::new(verdict);
+    if matches!(&*verdict, Err(Refusal::Memory)) {
         return Err(OutsideFault::OutOfMemory);
     }
-    let verdict = ManuallyDrop::new(verdict);
     let line = check_json(alloc, &*verdict)?;
     write_answer(out, &line, status_of(verdict.is_ok()))
 }

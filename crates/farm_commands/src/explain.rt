@@ -30,11 +30,16 @@ fn explain_examined(
 ) -> Result<Explanation, AllocError>
     ensures { IfOk result (IsExplained (texts_view texts.entry) (farm_in examined) lines.now) }
 {
+    // The program ends with its answer: what it has read goes with it, and not piece by piece.
+    let examined = ManuallyDrop::new(examined);
     match examined.verdict(rt, alloc) {
-        Ok(grounds) => Ok(explain_accepted(alloc, examined, grounds, lines, texts)),
+        Ok(grounds) => {
+            let examined = ManuallyDrop::into_inner(examined);
+            Ok(explain_accepted(alloc, examined, grounds, lines, texts))
+        }
         Err(refusal) => {
             let of = Explained {
-                examined: &examined,
+                examined: &*examined,
                 lines,
                 texts,
             };
@@ -101,8 +106,6 @@ pub fn answer_explain<'a, S: Sink>(
 {
     match explain_texts(rt, alloc, texts) {
         Ok(explanation) => {
-            // The program ends with its answer: what it has read goes with it, and not piece by
-            // piece.
             let explanation = ManuallyDrop::new(explanation);
             write_explanation(alloc, &*explanation, json, out)
         }

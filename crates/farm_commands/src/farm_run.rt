@@ -22,6 +22,7 @@ use plan_verifier::{Accepted, check};
 use report_sink::{Sink, write_pieces};
 use std::alloc::Global;
 use std::io::Eprint;
+use std::mem::ManuallyDrop;
 use std::sync::Wait;
 use std::thread::Threads;
 
@@ -75,10 +76,13 @@ fn run_accepted<'a, R: Threads + Wait + Eprint + Sync, S: Sink, E: Sink>(
         (S.state out.new) (E.state errors.old) (E.state errors.new) result }
     ensures quiet { OnErr result (E.state errors.new ≡ E.state errors.old) }
 {
-    let gate = Teller::new(rt, alloc, accepted.plan(), tells)?;
-    match run_farm(rt, alloc, accepted, &gate) {
-        Ok(run) => answer_end(&run, out),
-        Err(RunFault::Stopped { lane, accepted, .. }) => Ok(tell_stopped(&accepted, lane, errors)),
+    // The program ends with its answer: what it has run goes with it, and not piece by piece.
+    let accepted = ManuallyDrop::new(accepted);
+    let gate = ManuallyDrop::new(Teller::new(rt, alloc, accepted.plan(), tells)?);
+    let ran = ManuallyDrop::new(run_farm(rt, alloc, ManuallyDrop::into_inner(accepted), &*gate));
+    match &*ran {
+        Ok(run) => answer_end(run, out),
+        Err(RunFault::Stopped { lane, accepted, .. }) => Ok(tell_stopped(accepted, *lane, errors)),
         Err(RunFault::Memory) => Err(OutsideFault::OutOfMemory),
     }
 }

@@ -6,6 +6,7 @@ use farm_executor::{RunFault, run_farm};
 use lane_runner::{GAVE_UP, Gate, Go, HALTED, LaneArchive, LaneStop};
 use plan_verifier::Accepted;
 use std::alloc::Global;
+use std::mem::ManuallyDrop;
 use std::sync::Wait;
 use std::test::Fail;
 use std::thread::Threads;
@@ -52,14 +53,12 @@ impl Gate for GivesUp {
     fn ring(&self) {}
 }
 
-/// A run of two lanes that a gate stopped: by which code and which lane, the ends of both, and the
-/// plan.
-#[derive(Drop)]
+/// How a gate stopped a run of two lanes: by which code and which lane, and the ends of both.
+#[derive(Clone, Copy)]
 struct Stopped {
     code: u16,
     lane: u32,
     ends: (LaneStop, LaneStop),
-    accepted: Accepted,
 }
 
 /// The ends of two lanes.
@@ -71,20 +70,19 @@ fn both(ends: &[LaneStop]) -> Option<(LaneStop, LaneStop)> {
 }
 
 /// What a fault tells of a run that was stopped.
-fn stop_of(fault: RunFault) -> Option<Stopped> {
+fn stop_of(fault: &RunFault) -> Option<Stopped> {
     match fault {
         RunFault::Stopped {
             code,
             lane,
             ends,
-            accepted,
+            ..
         } => {
-            let ends = both(&ends)?;
+            let ends = both(ends)?;
             Some(Stopped {
-                code,
-                lane,
+                code: *code,
+                lane: *lane,
                 ends,
-                accepted,
             })
         }
         RunFault::Memory => None,
@@ -95,13 +93,15 @@ fn stop_of(fault: RunFault) -> Option<Stopped> {
 fn run_up_to(
     rt: &(impl Threads + Wait + Sync),
     alloc: Global,
-    accepted: Accepted,
     at: At,
-) -> Option<Stopped> {
-    match run_farm(rt, alloc, accepted, &GivesUp { at }) {
+) -> Result<Option<Stopped>, Fail> {
+    let accepted = accepted_plan(rt, alloc)?;
+    // what a run leaves goes with the test, and not piece by piece
+    let ran = ManuallyDrop::new(run_farm(rt, alloc, accepted, &GivesUp { at }));
+    Ok(match &*ran {
         Ok(_) => None,
         Err(fault) => stop_of(fault),
-    }
+    })
 }
 
 /// The end of a lane that stopped by this code, ahead of this instruction.
@@ -110,7 +110,7 @@ const fn end_by(code: u16, instruction: u32) -> LaneStop {
 }
 
 /// The end of this lane and the one of the other.
-const fn ends_from(run: &Stopped, lane: u32) -> (LaneStop, LaneStop) {
+const fn ends_from(run: Stopped, lane: u32) -> (LaneStop, LaneStop) {
     let (first, second) = run.ends;
     if lane == 0 {
         (first, second)
@@ -120,7 +120,7 @@ const fn ends_from(run: &Stopped, lane: u32) -> (LaneStop, LaneStop) {
 }
 
 /// Whether this lane gave up there, and the other one is at its end or was halted.
-fn has_stopped(run: &Stopped, lane: u32, instruction: u32) -> bool {
+fn has_stopped(run: Stopped, lane: u32, instruction: u32) -> bool {
     let (by, other) = ends_from(run, lane);
     let is_cause = run.code == GAVE_UP && run.lane == lane;
     is_cause && by == end_by(GAVE_UP, instruction) && matches!(other.code, 0 | HALTED)
@@ -133,7 +133,7 @@ const fn wait_of(lane: u32) -> u32 {
 
 /// Whether the lane that is the cause gave up at its wait, and the other one is at its end, was
 /// halted, or gave up at its own wait before it was.
-fn has_stopped_at_a_wait(run: &Stopped) -> bool {
+fn has_stopped_at_a_wait(run: Stopped) -> bool {
     let lane = run.lane;
     let (by, other) = ends_from(run, lane);
     let gave_up_too = other == end_by(GAVE_UP, wait_of(if lane == 0 { 1 } else { 0 }));
@@ -141,35 +141,29 @@ fn has_stopped_at_a_wait(run: &Stopped) -> bool {
     is_cause && (gave_up_too || matches!(other.code, 0 | HALTED))
 }
 
-/// Runs the lanes over gates that give up at the instructions of a lane, one after the other, up to
-/// its last. The plan, where each run stopped there.
-fn run_up_to_each(
+/// Tells whether gates that give up at the instructions of a lane, one after the other, up to its
+/// last, stop each run there.
+fn stops_at_each(
     rt: &(impl Threads + Wait + Sync),
     alloc: Global,
-    accepted: Accepted,
     lane: u32,
     last: u32,
-) -> Option<Accepted> {
-    let mut accepted = accepted;
+) -> Result<bool, Fail> {
     for instruction in 1..=last {
-        let run = run_up_to(rt, alloc, accepted, At::Before { lane, instruction })?;
-        if !has_stopped(&run, lane, instruction) {
-            return None;
+        match run_up_to(rt, alloc, At::Before { lane, instruction })? {
+            Some(run) if has_stopped(run, lane, instruction) => {}
+            _ => return Ok(false),
         }
-        accepted = run.accepted;
     }
-    Some(accepted)
+    Ok(true)
 }
 
 // The lane that gives up is the cause, and stands where it gave up; the other one is at its end, or
 // was halted.
 #[test]
 fn stops_at_each_instruction(rt: HostRuntime) -> Result<(), Fail> {
-    let accepted = accepted_plan(&rt, rt.alloc())?;
-    let Some(accepted) = run_up_to_each(&rt, rt.alloc(), accepted, 0, 7) else {
-        panic!(rt; "the first lane did not stop where its gate gave up");
-    };
-    assert!(rt; run_up_to_each(&rt, rt.alloc(), accepted, 1, 5).is_some());
+    assert!(rt; stops_at_each(&rt, rt.alloc(), 0, 7)?);
+    assert!(rt; stops_at_each(&rt, rt.alloc(), 1, 5)?);
     Ok(())
 }
 
@@ -178,19 +172,17 @@ fn stops_at_each_instruction(rt: HostRuntime) -> Result<(), Fail> {
 fn told_at(
     rt: &(impl Threads + Wait + Sync),
     alloc: Global,
-    accepted: Accepted,
     lane: u32,
     instruction: u32,
-) -> Option<(u16, u32, (LaneStop, LaneStop))> {
-    let run = run_up_to(rt, alloc, accepted, At::Before { lane, instruction })?;
-    Some((run.code, run.lane, run.ends))
+) -> Result<Option<(u16, u32, (LaneStop, LaneStop))>, Fail> {
+    let run = run_up_to(rt, alloc, At::Before { lane, instruction })?;
+    Ok(run.map(|run| (run.code, run.lane, run.ends)))
 }
 
 // The second lane gives up, and halts the first one where it waits.
 #[test]
 fn halts_the_first_lane(rt: HostRuntime) -> Result<(), Fail> {
-    let accepted = accepted_plan(&rt, rt.alloc())?;
-    let told = told_at(&rt, rt.alloc(), accepted, 1, 3);
+    let told = told_at(&rt, rt.alloc(), 1, 3)?;
     let ends = (end_by(HALTED, 3), end_by(GAVE_UP, 3));
     assert_eq!(rt; told, Some((GAVE_UP, 1, ends)));
     Ok(())
@@ -199,51 +191,41 @@ fn halts_the_first_lane(rt: HostRuntime) -> Result<(), Fail> {
 // The first lane gives up, and halts the second one where it waits.
 #[test]
 fn halts_the_second_lane(rt: HostRuntime) -> Result<(), Fail> {
-    let accepted = accepted_plan(&rt, rt.alloc())?;
-    let told = told_at(&rt, rt.alloc(), accepted, 0, 1);
+    let told = told_at(&rt, rt.alloc(), 0, 1)?;
     let ends = (end_by(GAVE_UP, 1), end_by(HALTED, 1));
     assert_eq!(rt; told, Some((GAVE_UP, 0, ends)));
     Ok(())
 }
 
-/// Runs the lanes over a gate that gives up where one waits in vain. The plan, where each lane that
+/// Runs the lanes over a gate that gives up where one waits in vain. Tells whether each lane that
 /// did stands at its wait, or the run came to its end.
-fn run_up_to_a_wait(
-    rt: &(impl Threads + Wait + Sync),
-    alloc: Global,
-    accepted: Accepted,
-) -> Option<Accepted> {
-    match run_farm(rt, alloc, accepted, &GivesUp { at: At::AnyPause }) {
-        Ok(run) => Some(run.accepted),
-        Err(fault) => {
-            let run = stop_of(fault)?;
-            has_stopped_at_a_wait(&run).then_some(run.accepted)
-        }
-    }
+fn stops_at_a_wait(rt: &(impl Threads + Wait + Sync), alloc: Global) -> Result<bool, Fail> {
+    let accepted = accepted_plan(rt, alloc)?;
+    let ran = ManuallyDrop::new(run_farm(rt, alloc, accepted, &GivesUp { at: At::AnyPause }));
+    Ok(match &*ran {
+        Ok(_) => true,
+        Err(fault) => matches!(stop_of(fault), Some(run) if has_stopped_at_a_wait(run)),
+    })
 }
 
 /// Tells whether each of so many runs did so.
-fn all_up_to_a_wait(
+fn all_stop_at_a_wait(
     rt: &(impl Threads + Wait + Sync),
     alloc: Global,
-    accepted: Accepted,
     times: u32,
-) -> bool {
-    let mut accepted = accepted;
+) -> Result<bool, Fail> {
     for _ in 0..times {
-        match run_up_to_a_wait(rt, alloc, accepted) {
-            Some(again) => accepted = again,
-            None => return false,
+        if !stops_at_a_wait(rt, alloc)? {
+            return Ok(false);
         }
     }
-    true
+    Ok(true)
 }
 
 // Where a lane waits in vain in a run, it gives up there; where none does, the run comes to its
 // end.
 #[test]
 fn stops_at_a_pause(rt: HostRuntime) -> Result<(), Fail> {
-    let accepted = accepted_plan(&rt, rt.alloc())?;
-    assert!(rt; all_up_to_a_wait(&rt, rt.alloc(), accepted, 100));
+    assert!(rt; all_stop_at_a_wait(&rt, rt.alloc(), 100)?);
     Ok(())
 }

@@ -13,6 +13,7 @@ use farm_universe::Variant;
 use lane_runner::{LaneTurns, Turn};
 use plan_verifier::Accepted;
 use std::alloc::Global;
+use std::mem::ManuallyDrop;
 use std::test::Fail;
 use word_archive::{Closed, LaneSeat, LaneSeats, SharedArchive};
 
@@ -221,10 +222,12 @@ fn closed_behind_turns(alloc: Global, accepted: &Accepted) -> Option<(usize, Clo
 // Each lane sees at once what the other one has published, and both come to their ends.
 #[test]
 fn takes_turns(rt: HostRuntime) -> Result<(), Fail> {
-    let accepted = accepted_plan(&rt, rt.alloc())?;
-    let Some((taken, closed)) = closed_behind_turns(rt.alloc(), &accepted) else {
+    // the plan goes with the test, and not piece by piece
+    let accepted = ManuallyDrop::new(accepted_plan(&rt, rt.alloc())?);
+    let Some((taken, closed)) = closed_behind_turns(rt.alloc(), &*accepted) else {
         panic!(rt; "there are no two lanes");
     };
+    let closed = ManuallyDrop::new(closed);
     assert_eq!(rt; taken, 15);
     assert_eq!(rt; closed.words.as_slice(), [1, 3, 1].as_slice());
     let wanted = [
@@ -247,10 +250,11 @@ fn closed_behind_a_draw(alloc: Global, accepted: &Accepted) -> Option<(u64, Clos
 // A lane that goes no further once it has drawn a serial has published nothing.
 #[test]
 fn stops_behind_a_draw(rt: HostRuntime) -> Result<(), Fail> {
-    let accepted = accepted_plan(&rt, rt.alloc())?;
-    let Some((serial, closed)) = closed_behind_a_draw(rt.alloc(), &accepted) else {
+    let accepted = ManuallyDrop::new(accepted_plan(&rt, rt.alloc())?);
+    let Some((serial, closed)) = closed_behind_a_draw(rt.alloc(), &*accepted) else {
         panic!(rt; "there are no two lanes");
     };
+    let closed = ManuallyDrop::new(closed);
     assert_eq!(rt; serial, 0);
     assert_eq!(rt; closed.words.as_slice(), [1, 0, 0].as_slice());
     assert_eq!(rt; closed.history.len(), 0);

@@ -5,6 +5,7 @@ use farm_executor::{Bell, FarmRun, run_farm};
 use lane_runner::{Gate, Go, LaneArchive};
 use plan_verifier::{Accepted, check};
 use std::alloc::{AllocError, Global};
+use std::mem::ManuallyDrop;
 use std::sync::{Condvar, Mutex, Wait};
 use std::test::Fail;
 use std::thread::Threads;
@@ -88,16 +89,22 @@ fn ran_backwards(run: &FarmRun) -> bool {
         && lanes.eq([7, 6, 5, 4, 3, 2, 1, 0])
 }
 
-/// Runs the lanes to their ends, each held until the next one has begun, and tells whether they
-/// did so. Nothing where the run has no end.
-fn run_in_turn(
-    rt: &(impl Threads + Wait + Sync),
+/// Runs the lanes over such a gate, and tells whether they came to their ends and did so.
+fn run_over<R: Threads + Wait + Sync>(
+    rt: &R,
     alloc: Global,
     accepted: Accepted,
-) -> Option<bool> {
-    let gate = InTurn::new(rt, alloc, 8).ok()?;
-    let run = run_farm(rt, alloc, accepted, &gate).ok()?;
-    Some(ran_backwards(&run))
+    gate: &InTurn<'_, R>,
+) -> bool {
+    // what a run leaves goes with the test, and not piece by piece
+    let ran = ManuallyDrop::new(run_farm(rt, alloc, accepted, gate));
+    matches!(&*ran, Ok(run) if ran_backwards(run))
+}
+
+/// Runs the lanes, each held until the next one has begun.
+fn run_in_turn<R: Threads + Wait + Sync>(rt: &R, alloc: Global) -> Result<bool, Fail> {
+    let gate = ManuallyDrop::new(InTurn::new(rt, alloc, 8)?);
+    Ok(run_over(rt, alloc, eight_lanes(rt, alloc)?, &*gate))
 }
 
 /// The plan, accepted: what `check` promises of it is not said again here.
@@ -113,7 +120,6 @@ fn eight_lanes(rt: &(impl Threads + Sync), alloc: Global) -> Result<Accepted, Fa
 // the first.
 #[test]
 fn each_lane_has_a_thread(rt: HostRuntime) -> Result<(), Fail> {
-    let accepted = eight_lanes(&rt, rt.alloc())?;
-    assert_eq!(rt; run_in_turn(&rt, rt.alloc(), accepted), Some(true));
+    assert!(rt; run_in_turn(&rt, rt.alloc())?);
     Ok(())
 }

@@ -6,6 +6,7 @@ use farm_executor::run_farm;
 use lane_runner::{Gate, Go, LaneArchive};
 use plan_verifier::Accepted;
 use std::alloc::Global;
+use std::mem::ManuallyDrop;
 use std::sync::Wait;
 use std::sync::atomic::{AtomicU64, Ordering};
 use std::test::Fail;
@@ -39,30 +40,30 @@ impl Gate for Patient {
     fn ring(&self) {}
 }
 
-/// Runs the lanes over such a gate so many times, and tells whether each run came to its end.
-fn all_end(
-    rt: &(impl Threads + Wait + Sync),
-    alloc: Global,
-    accepted: Accepted,
-    times: u32,
-) -> bool {
-    let mut accepted = accepted;
+/// Runs the lanes over such a gate, and tells whether the run came to its end.
+fn ends(rt: &(impl Threads + Wait + Sync), alloc: Global) -> Result<bool, Fail> {
+    let accepted = accepted_plan(rt, alloc)?;
+    let gate = Patient {
+        pauses: AtomicU64::new(0),
+    };
+    // what a run leaves goes with the test, and not piece by piece
+    let ran = ManuallyDrop::new(run_farm(rt, alloc, accepted, &gate));
+    Ok(ran.is_ok())
+}
+
+/// Tells whether each of so many runs does.
+fn all_end(rt: &(impl Threads + Wait + Sync), alloc: Global, times: u32) -> Result<bool, Fail> {
     for _ in 0..times {
-        let gate = Patient {
-            pauses: AtomicU64::new(0),
-        };
-        match run_farm(rt, alloc, accepted, &gate) {
-            Ok(run) => accepted = run.accepted,
-            Err(_) => return false,
+        if !ends(rt, alloc)? {
+            return Ok(false);
         }
     }
-    true
+    Ok(true)
 }
 
 // A lane sees what the other one publishes, though nothing wakes it.
 #[test]
 fn sees_an_output_in_time(rt: HostRuntime) -> Result<(), Fail> {
-    let accepted = accepted_plan(&rt, rt.alloc())?;
-    assert!(rt; all_end(&rt, rt.alloc(), accepted, 20));
+    assert!(rt; all_end(&rt, rt.alloc(), 20)?);
     Ok(())
 }

@@ -1,51 +1,46 @@
 //! Runs of the farm of examples/toolchain.
 
 use crate::toolchain::accepted_plan;
-use farm_executor::{Bell, cause, run_farm};
+use farm_executor::{Bell, FarmRun, cause, run_farm};
 use lane_runner::LaneStop;
-use plan_verifier::Accepted;
 use std::alloc::Global;
+use std::mem::ManuallyDrop;
 use std::sync::Wait;
 use std::test::Fail;
 use std::thread::Threads;
 
-/// Runs the lanes to their ends, and gives back the plan where they come to what they should: what
-/// they spend, and how many publications there are.
-fn run_again(
-    rt: &(impl Threads + Wait + Sync),
-    alloc: Global,
-    accepted: Accepted,
-) -> Option<Accepted> {
-    let bell = Bell::new(rt, alloc, 2).ok()?;
-    let run = run_farm(rt, alloc, accepted, &bell).ok()?;
-    if run.spent.as_slice() != [64, 14].as_slice() || run.history.len() != 3 {
-        return None;
-    }
-    Some(run.accepted)
+/// Tells whether the lanes have spent what they should, and have made three publications.
+fn has_come_to_it(run: &FarmRun) -> bool {
+    run.spent.as_slice() == [64, 14].as_slice() && run.history.len() == 3
 }
 
-/// Tells whether so many runs came to what they should.
+/// Runs the lanes to their ends, and tells whether they come to what they should.
+fn comes_to_it(rt: &(impl Threads + Wait + Sync), alloc: Global) -> Result<bool, Fail> {
+    let bell = Bell::new(rt, alloc, 2)?;
+    let accepted = accepted_plan(rt, alloc)?;
+    // what a run leaves goes with the test, and not piece by piece
+    let ran = ManuallyDrop::new(run_farm(rt, alloc, accepted, &bell));
+    Ok(matches!(&*ran, Ok(run) if has_come_to_it(run)))
+}
+
+/// Tells whether so many runs do.
 fn all_come_to_it(
     rt: &(impl Threads + Wait + Sync),
     alloc: Global,
-    accepted: Accepted,
     times: u32,
-) -> bool {
-    let mut accepted = accepted;
+) -> Result<bool, Fail> {
     for _ in 0..times {
-        match run_again(rt, alloc, accepted) {
-            Some(again) => accepted = again,
-            None => return false,
+        if !comes_to_it(rt, alloc)? {
+            return Ok(false);
         }
     }
-    true
+    Ok(true)
 }
 
 // Each of many runs comes to the same end.
 #[test]
 fn comes_to_the_same_end(rt: HostRuntime) -> Result<(), Fail> {
-    let accepted = accepted_plan(&rt, rt.alloc())?;
-    assert!(rt; all_come_to_it(&rt, rt.alloc(), accepted, 200));
+    assert!(rt; all_come_to_it(&rt, rt.alloc(), 200)?);
     Ok(())
 }
 
