@@ -13,7 +13,7 @@ ghost use Rattle.may_rows.specs.Words.{AreWords, may_of, some_name_inside};
 use bit_rows::Row;
 use deb_relation::Atom;
 use farm_universe::Universe;
-use sat_rows::Tables;
+use sat_rows::{Tables, word_of};
 use std::marker::Model;
 
 /// For each name, by number, what a chroot may hold of it: a word whose bits are variants.
@@ -51,36 +51,26 @@ impl Model for MayHold {
     } };
 }
 
-/// The word of a name, 0 where there is no such name.
-fn word_at(words: &[u64], name: u32) -> u64
-    ensures { result ≡ slice_index words.now name }
-{
-    match words.get(name as usize) {
-        Some(word) => *word,
-        None => 0,
-    }
-}
-
 impl MayHold {
     /// What may be present of a name.
     pub fn here_word(&self, name: u32) -> u64
         ensures { result ≡ slice_index self.now.here name }
     {
-        word_at(&self.here, name)
+        word_of(&self.here, name)
     }
 
     /// What may be configured of a name.
     pub fn ready_word(&self, name: u32) -> u64
         ensures { result ≡ slice_index self.now.ready name }
     {
-        word_at(&self.ready, name)
+        word_of(&self.ready, name)
     }
 
     /// What may have been configured last of a name.
     pub fn last_word(&self, name: u32) -> u64
         ensures { result ≡ slice_index self.now.last name }
     {
-        word_at(&self.last, name)
+        word_of(&self.last, name)
     }
 
     /// Tells whether a name surely holds an unpacked variant that is not configured.

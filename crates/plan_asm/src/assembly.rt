@@ -214,29 +214,18 @@ impl Assembly {
     ///
     /// # Errors
     ///
-    /// [`NameTaken`](LineError::NameTaken), or that memory ran out.
-    pub fn open_block(self, alloc: Global, line: u32, name: &[u8]) -> Result<Assembly, LineError>
-        requires { is_open self.current ≡ false }
-        ensures { Gives refusal_of_line (λ next. next) result (open_block line self name.now) }
+    /// [`NameTaken`](LineError::NameTaken), or that memory ran out. Nothing has changed then.
+    pub fn open_block(&mut self, alloc: Global, line: u32, name: &[u8]) -> Result<(), LineError>
+        requires { is_open self.old.current ≡ false }
+        ensures { Gives refusal_of_line (λ _. self.new) result
+            (open_block line self.old name.now) }
     {
-        let Assembly {
-            blocks,
-            lanes,
-            count,
-            published,
-            ..
-        } = self;
-        if blocks.has(name) {
+        if self.blocks.has(name) {
             return Err(LineError::NameTaken);
         }
         let name = Vec::from_slice(alloc, name)?;
-        Ok(Assembly {
-            blocks,
-            lanes,
-            current: Section::Block { line, name },
-            count,
-            published,
-        })
+        self.current = Section::Block { line, name };
+        Ok(())
     }
 
     /// Opens a lane where nothing is open.
@@ -244,48 +233,32 @@ impl Assembly {
     /// # Errors
     ///
     /// [`NameTaken`](LineError::NameTaken), [`OverLimit`](LineError::OverLimit), or that memory ran
-    /// out.
+    /// out. Nothing has changed then.
     pub fn open_lane(
-        self,
+        &mut self,
         alloc: Global,
         line: u32,
         name: &[u8],
         budget: u64,
         base: u32,
-    ) -> Result<Assembly, LineError>
-        requires { is_open self.current ≡ false }
-        ensures { Gives refusal_of_line (λ next. next) result
-            (open_lane line self name.now budget base) }
+    ) -> Result<(), LineError>
+        requires { is_open self.old.current ≡ false }
+        ensures { Gives refusal_of_line (λ _. self.new) result
+            (open_lane line self.old name.now budget base) }
     {
-        let Assembly {
-            blocks,
-            lanes,
-            count,
-            published,
-            ..
-        } = self;
-        if has_lane(&lanes, name) {
+        if has_lane(&self.lanes, name) {
             return Err(LineError::NameTaken);
         }
-        if lanes.len() >= MOST_LANES {
+        if self.lanes.len() >= MOST_LANES {
             return Err(LineError::OverLimit);
         }
         let lane = Lane::new(alloc, Vec::from_slice(alloc, name)?, base, budget);
-        Ok(Assembly {
-            blocks,
-            lanes,
-            current: Section::Lane { line, lane },
-            count,
-            published,
-        })
+        self.current = Section::Lane { line, lane };
+        Ok(())
     }
 
-    /// Ends the open block or lane.
-    ///
-    /// # Errors
-    ///
-    /// [`BadLine`](LineError::BadLine) where nothing is open, or that memory ran out.
-    pub fn end_open(self, alloc: Global) -> Result<Assembly, LineError>
+    /// What is said with the open block or lane ended.
+    fn ended(self, alloc: Global) -> Result<Assembly, LineError>
         ensures { Gives refusal_of_line (λ next. next) result
             (end_open self.blocks self.lanes self.current) }
     {
@@ -320,6 +293,21 @@ impl Assembly {
         }
     }
 
+    /// Ends the open block or lane.
+    ///
+    /// # Errors
+    ///
+    /// [`BadLine`](LineError::BadLine) where nothing is open, or that memory ran out. What was said
+    /// so far is forgotten then.
+    pub fn end_open(&mut self, alloc: Global) -> Result<(), LineError>
+        ensures { Gives refusal_of_line (λ _. self.new) result
+            (end_open self.old.blocks self.old.lanes self.old.current) }
+    {
+        let before = mem::replace(self, Assembly::new(alloc));
+        *self = before.ended(alloc)?;
+        Ok(())
+    }
+
     /// Puts an instruction into the open block or lane.
     ///
     /// # Errors
@@ -348,14 +336,8 @@ impl Assembly {
         }
     }
 
-    /// Puts what a block stands for into the open block or lane.
-    ///
-    /// # Errors
-    ///
-    /// [`BadLine`](LineError::BadLine) where nothing is open;
-    /// [`UnknownBlock`](LineError::UnknownBlock); [`PublishedTwice`](LineError::PublishedTwice) in
-    /// a lane; [`OverLimit`](LineError::OverLimit); or that memory ran out.
-    pub fn add_use(self, alloc: Global, block: &[u8]) -> Result<Assembly, LineError>
+    /// What is said with what a block stands for in the open block or lane.
+    fn with_use(self, alloc: Global, block: &[u8]) -> Result<Assembly, LineError>
         requires { is_open self.current ≡ true }
         ensures { Gives refusal_of_line (λ next. next) result
             (add_use self.blocks self.lanes self.current block.now) }
@@ -392,6 +374,23 @@ impl Assembly {
                 }
             }
         }
+    }
+
+    /// Puts what a block stands for into the open block or lane.
+    ///
+    /// # Errors
+    ///
+    /// [`UnknownBlock`](LineError::UnknownBlock); [`PublishedTwice`](LineError::PublishedTwice) in
+    /// a lane; [`OverLimit`](LineError::OverLimit); or that memory ran out. What was said so far is
+    /// forgotten then.
+    pub fn add_use(&mut self, alloc: Global, block: &[u8]) -> Result<(), LineError>
+        requires { is_open self.old.current ≡ true }
+        ensures { Gives refusal_of_line (λ _. self.new) result
+            (add_use self.old.blocks self.old.lanes self.old.current block.now) }
+    {
+        let before = mem::replace(self, Assembly::new(alloc));
+        *self = before.with_use(alloc, block)?;
+        Ok(())
     }
 
     /// The plan, where nothing is left open.

@@ -20,7 +20,6 @@ use farm_universe::Universe;
 use plan_model::Instruction;
 use std::alloc::Global;
 use std::marker::Model;
-use std::mem;
 
 /// What the lines of a plan say so far, and in which branch the next one stands.
 #[derive(Drop)]
@@ -52,16 +51,16 @@ pub fn outside(draft: Assembly) -> Reading
 fn take_block(
     alloc: Global,
     number: u32,
-    before: Assembly,
+    so_far: &mut Assembly,
     name: &[u8],
-) -> Result<Assembly, LineError>
-    ensures { Gives refusal_of_line (λ next. next) result
-        (take_block number before name.now) }
+) -> Result<(), LineError>
+    ensures { Gives refusal_of_line (λ _. so_far.new) result
+        (take_block number so_far.old name.now) }
 {
-    if before.is_open() {
+    if so_far.is_open() {
         return Err(LineError::BadLine);
     }
-    before.open_block(alloc, number, name)
+    so_far.open_block(alloc, number, name)
 }
 
 /// Opens a lane over the base chroot of a name, where nothing is open.
@@ -69,48 +68,45 @@ fn take_lane(
     alloc: Global,
     universe: &Universe,
     number: u32,
-    before: Assembly,
+    so_far: &mut Assembly,
     head: LaneHead<'_>,
-) -> Result<Assembly, LineError>
-    ensures { Gives refusal_of_line (λ next. next) result
-        (take_lane universe.now number before head.entry.name.now head.entry.chroot.now
+) -> Result<(), LineError>
+    ensures { Gives refusal_of_line (λ _. so_far.new) result
+        (take_lane universe.now number so_far.old head.entry.name.now head.entry.chroot.now
         head.entry.budget) }
 {
-    if before.is_open() {
+    if so_far.is_open() {
         return Err(LineError::BadLine);
     }
     let base = known_base(universe, head.chroot)?;
-    before.open_lane(alloc, number, head.name, head.budget, base)
+    so_far.open_lane(alloc, number, head.name, head.budget, base)
 }
 
 /// Puts what a block stands for into what is open, but into no branch.
-fn take_use(alloc: Global, before: Reading, name: &[u8]) -> Result<Reading, LineError>
-    ensures { Gives refusal_of_line (λ next. next) result
-        (take_use before name.now) }
+fn take_use(alloc: Global, so_far: &mut Reading, name: &[u8]) -> Result<(), LineError>
+    ensures { Gives refusal_of_line (λ _. so_far.new) result
+        (take_use so_far.old name.now) }
 {
-    let Reading { draft, side } = before;
-    if !draft.is_open() || !side.is_outside() {
+    if !so_far.draft.is_open() || !so_far.side.is_outside() {
         return Err(LineError::BadLine);
     }
-    Ok(Reading {
-        draft: draft.add_use(alloc, name)?,
-        side: Side::Outside,
-    })
+    so_far.draft.add_use(alloc, name)?;
+    so_far.side = Side::Outside;
+    Ok(())
 }
 
 /// Ends the second branch, or else the open block or lane.
-fn take_end(alloc: Global, before: Reading) -> Result<Reading, LineError>
-    ensures { Gives refusal_of_line (λ next. next) result (take_end before.draft before.side) }
+fn take_end(alloc: Global, so_far: &mut Reading) -> Result<(), LineError>
+    ensures { Gives refusal_of_line (λ _. so_far.new) result
+        (take_end so_far.old.draft so_far.old.side) }
 {
-    let Reading { mut draft, side } = before;
-    match side {
-        Side::Outside => Ok(outside(draft.end_open(alloc)?)),
-        Side::First(_) => Err(LineError::BadLine),
-        Side::Second(_) => {
-            draft.add(alloc, Instruction::EndWhen)?;
-            Ok(outside(draft))
-        }
+    match so_far.side {
+        Side::Outside => so_far.draft.end_open(alloc)?,
+        Side::First(_) => return Err(LineError::BadLine),
+        Side::Second(_) => so_far.draft.add(alloc, Instruction::EndWhen)?,
     }
+    so_far.side = Side::Outside;
+    Ok(())
 }
 
 /// Puts the instruction of the line of this number into what is open.
@@ -143,67 +139,7 @@ fn place_instruction(
     put(alloc, number, before, named?)
 }
 
-/// Goes on by a line that opens or ends something, which makes what was said so far anew.
-#[tactic(auto, unfolding(crate::specs::Said::place))]
-fn place_section(
-    alloc: Global,
-    universe: &Universe,
-    number: u32,
-    mut before: Reading,
-    said: Said<'_>,
-) -> Result<Reading, LineError>
-    ensures { Gives refusal_of_line (λ next. next) result
-        (place universe.now number before (said_of said.entry)) }
-{
-    match said {
-        Said::Block(name) => Ok(outside(take_block(alloc, number, before.draft, name)?)),
-        Said::Lane(head) => Ok(outside(take_lane(alloc, universe, number, before.draft, head)?)),
-        Said::End => take_end(alloc, before),
-        Said::Use(name) => take_use(alloc, before, name),
-        Said::Instruction(standing, named) => {
-            place_instruction(alloc, number, &mut before, standing, named)?;
-            Ok(before)
-        }
-    }
-}
-
-/// Takes what was said so far away, and leaves nothing in its place.
-fn taken(alloc: Global, so_far: &mut Reading) -> Reading
-    ensures { result ≡ so_far.old }
-{
-    mem::replace(so_far, outside(Assembly::new(alloc)))
-}
-
-fn put_back(so_far: &mut Reading, next: Reading)
-    ensures { so_far.new ≡ next }
-{
-    *so_far = next;
-}
-
-/// Goes on by a line that opens or ends something, which is not done where an instruction goes: what
-/// was said so far is large to move.
-fn place_anew(
-    alloc: Global,
-    universe: &Universe,
-    number: u32,
-    so_far: &mut Reading,
-    said: Said<'_>,
-) -> Result<(), LineError>
-    ensures { Gives refusal_of_line (λ _. so_far.new) result
-        (place universe.entry.now number so_far.old (said_of said.entry)) }
-{
-    let before = taken(alloc, so_far);
-    match place_section(alloc, universe, number, before, said) {
-        Ok(next) => {
-            put_back(so_far, next);
-            Ok(())
-        }
-        Err(error) => Err(error),
-    }
-}
-
-/// Goes on by what a line says. An instruction is put where it goes, and nothing else is moved for
-/// it.
+/// Goes on by what a line says.
 #[tactic(auto, unfolding(crate::specs::Said::place))]
 fn place(
     alloc: Global,
@@ -215,10 +151,17 @@ fn place(
     ensures { Gives refusal_of_line (λ _. so_far.new) result
         (place universe.entry.now number so_far.old (said_of said.entry)) }
 {
-    if let Said::Instruction(standing, named) = said {
-        return place_instruction(alloc, number, so_far, standing, named);
+    match said {
+        Said::Block(name) => take_block(alloc, number, &mut so_far.draft, name)?,
+        Said::Lane(head) => take_lane(alloc, universe, number, &mut so_far.draft, head)?,
+        Said::End => return take_end(alloc, so_far),
+        Said::Use(name) => return take_use(alloc, so_far, name),
+        Said::Instruction(standing, named) => {
+            return place_instruction(alloc, number, so_far, standing, named);
+        }
     }
-    place_anew(alloc, universe, number, so_far, said)
+    so_far.side = Side::Outside;
+    Ok(())
 }
 
 /// Goes on by a line that was read, the first fault of the two being told.

@@ -24,4 +24,4 @@ mod word;
 
 pub use row::entry_row;
 pub use tables::Tables;
-pub use word::mask;
+pub use word::{mask, word_of};

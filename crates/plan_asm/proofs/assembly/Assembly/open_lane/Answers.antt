@@ -3,8 +3,8 @@ use Rattle.plan_asm.proofs.AssemblyLaws.{shut, lane-opened}
 use Rattle.plan_asm.proofs.assembly.Assembly.open_lane.Goals as goal
 use Rattle.plan_model.specs.Plan.{Lane}
 
-pub invariant_of-result : goal.invariant_of-result
-invariant_of-result c =
+pub invariant_of-self : goal.invariant_of-self
+invariant_of-self c =
     let it = c.self.inside in
     let kept = shut it.blocks it.lanes.items it.count it.published.keys it.current
     (rw (← c.self.view_is) at c.requires) c.self.invariant in
