@@ -13,7 +13,7 @@ pub(crate) const BLOCK: usize = 8;
 pub(crate) const NO_WORDS: [u64; 8] = [0; 8];
 
 /// Eight words of a row, from word `8 * place` on.
-#[derive(Clone, Copy, Debug)]
+#[derive(Clone, Copy)]
 pub(crate) struct Block {
     pub(crate) place: usize,
     pub(crate) words: [u64; 8],

@@ -15,7 +15,7 @@ use std::marker::Model;
 /// Clauses see a row as its words, and as the set of the variants whose bit is set. How the words
 /// are kept is no part of the contract. Two rows that meet in one call have one length, and so have
 /// a row and a slice of words, one for each name, which stand for a set as a row's do.
-#[derive(Debug, Drop)]
+#[derive(Drop)]
 pub struct Row<A: Allocator = Global> {
     count: usize,
     blocks: Vec<Block, A>,

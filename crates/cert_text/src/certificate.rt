@@ -8,7 +8,7 @@ use bit_rows::Row;
 use std::marker::Model;
 
 /// The certificate of a plan. A contract sees the words of the rows, and the order.
-#[derive(Debug, Drop)]
+#[derive(Drop)]
 pub struct Certificate {
     rows: Vec<Vec<Row>>,
     order: Vec<u32>,

@@ -13,7 +13,7 @@ use plan_verifier::Accepted;
 use std::alloc::{AllocError, Global};
 
 /// The variants of one name that a word has, spelled as they stand behind others of a list.
-#[derive(Debug, Drop)]
+#[derive(Drop)]
 pub struct Spelled {
     pub word: u64,
     pub text: Vec<u8>,
@@ -21,7 +21,7 @@ pub struct Spelled {
 
 /// What is kept from line to line: the words of what a lane knows at a place, one for each name,
 /// and the variants of each name as they were spelled last, most often those of the next line too.
-#[derive(Debug, Drop)]
+#[derive(Drop)]
 pub struct Carried {
     pub place: usize,
     pub words: Vec<u64>,

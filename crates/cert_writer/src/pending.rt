@@ -12,7 +12,7 @@ pub const PIECE: usize = 65_536;
 
 /// The end of a text on its way to a sink, which is not written yet, and how many bytes are, or
 /// the greatest number where they are more.
-#[derive(Debug, Drop)]
+#[derive(Drop)]
 pub struct Pending {
     pub text: Vec<u8>,
     pub sent: u64,

@@ -6,7 +6,7 @@ ghost use Rattle.chroot_state.specs.Changes.{changed_slot};
 use farm_universe::Slot;
 
 /// A change of a slot.
-#[derive(Clone, Copy, Debug, PartialEq, Eq)]
+#[derive(Clone, Copy, PartialEq, Eq)]
 pub enum Change {
     /// What is unpacked is configured.
     Configure,

@@ -28,7 +28,7 @@ use std::marker::Model;
 
 /// A chroot: for each name of its universe, by number, what it holds of it. It belongs to the
 /// universe that it was opened with, and is handed that one in each call.
-#[derive(Debug, Drop)]
+#[derive(Drop)]
 pub struct Chroot {
     slots: Slots,
     base: u32,

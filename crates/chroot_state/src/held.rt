@@ -12,7 +12,7 @@ use std::marker::Model;
 
 /// What a chroot holds of each name, by number. Beside it stands a list of the names that are
 /// present, so that nobody looks at the others.
-#[derive(Debug, Drop)]
+#[derive(Drop)]
 pub struct Slots {
     slots: Vec<Slot>,
     present: Vec<u32>,

@@ -1,7 +1,7 @@
 //! How far a package is installed.
 
 /// The phase of a name in a chroot.
-#[derive(Clone, Copy, Debug, PartialEq, Eq)]
+#[derive(Clone, Copy, PartialEq, Eq)]
 pub enum Phase {
     /// Nothing of the name is present.
     Absent,

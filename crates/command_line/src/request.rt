@@ -15,7 +15,7 @@ use std::alloc::{AllocError, Global};
 use std::convert::AsStr;
 
 /// The files of the four texts of a farm, in the order of the words.
-#[derive(Clone, Copy, Debug)]
+#[derive(Clone, Copy)]
 pub struct Paths<'a> {
     pub packages: &'a str,
     pub sources: &'a str,
@@ -24,7 +24,7 @@ pub struct Paths<'a> {
 }
 
 /// What is asked of texts, and answered without waiting.
-#[derive(Debug, Drop)]
+#[derive(Drop)]
 pub enum Request<'a> {
     /// The verdict on the four texts of standard input.
     CheckInput,
@@ -63,7 +63,7 @@ pub enum Request<'a> {
 }
 
 /// What the words ask for.
-#[derive(Debug, Drop)]
+#[derive(Drop)]
 pub enum Asked<'a> {
     /// An answer to texts.
     Answer(Request<'a>),

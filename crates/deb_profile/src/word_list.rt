@@ -15,7 +15,7 @@ use std::marker::Model;
 
 /// The names of an architecture, the wildcards that match it among them, as they are written:
 /// `riscv64 any linux-any`. A contract sees their list.
-#[derive(Debug, Drop)]
+#[derive(Drop)]
 pub struct ArchNames {
     text: Vec<u8>,
 }
@@ -61,7 +61,7 @@ impl ArchNames {
 
 /// The build profiles that are active (BuildProfileSpec), as they are written. A contract sees
 /// their list.
-#[derive(Debug, Drop)]
+#[derive(Drop)]
 pub struct ProfileSet {
     text: Vec<u8>,
 }

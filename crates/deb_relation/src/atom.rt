@@ -17,7 +17,7 @@ use std::marker::Model;
 
 /// One alternative, `name:qualifier (op version) [architectures] <profiles> ..` (Debian Policy
 /// 7.1). It takes 16 bytes, and a block where its texts have more than eleven.
-#[derive(Debug, Drop)]
+#[derive(Drop)]
 pub struct Atom {
     pub(crate) store: Store,
 }

@@ -4,7 +4,7 @@ ghost use Rattle.std.specs.Prelude.{◌≡◌};
 ghost use Rattle.deb_relation.specs.Kinds.{is_provide, has_alternatives, has_restrictions};
 
 /// A kind of relation field, which says what may stand in it.
-#[derive(Clone, Copy, Debug, PartialEq, Eq)]
+#[derive(Clone, Copy, PartialEq, Eq)]
 pub enum Kind {
     /// Depends and Pre-Depends: alternatives.
     Need,

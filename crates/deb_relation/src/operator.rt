@@ -1,7 +1,7 @@
 //! The operators between versions.
 
 /// How a version has to stand to the one in a relation (Debian Policy 7.1).
-#[derive(Clone, Copy, Debug, PartialEq, Eq)]
+#[derive(Clone, Copy, PartialEq, Eq)]
 pub enum Op {
     /// `<<`, strictly earlier.
     Earlier,

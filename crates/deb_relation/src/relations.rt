@@ -7,7 +7,7 @@ use std::alloc::AllocError;
 use std::marker::Model;
 
 /// The alternatives of an entry, any of which will do. A contract sees their list.
-#[derive(Debug, Drop)]
+#[derive(Drop)]
 pub struct Entry {
     alternatives: Vec<Atom>,
 }
@@ -69,7 +69,7 @@ impl Clone for Entry {
 }
 
 /// The entries of a relation field, all of which are wanted. A contract sees their list.
-#[derive(Debug, Drop)]
+#[derive(Drop)]
 pub struct Relations {
     entries: Vec<Entry>,
 }

@@ -6,7 +6,7 @@ use std::alloc::{AllocError, Global};
 use std::marker::Model;
 
 /// A word of a list. A contract sees its bytes.
-#[derive(Debug, Drop)]
+#[derive(Drop)]
 pub struct Word {
     text: Vec<u8>,
 }
@@ -52,7 +52,7 @@ impl Clone for Word {
 }
 
 /// The architectures of an alternative, as `[amd64 i386]` or `[!hurd-i386]` (Debian Policy 7.1).
-#[derive(Debug, Drop)]
+#[derive(Drop)]
 pub struct ArchList {
     /// Each name has `!` before it.
     pub negated: bool,
@@ -79,7 +79,7 @@ impl Clone for ArchList {
 }
 
 /// A word of a profile list.
-#[derive(Debug, Drop)]
+#[derive(Drop)]
 pub struct Item {
     pub word: Word,
     /// The word has `!` before it.
@@ -106,7 +106,7 @@ impl Clone for Item {
 }
 
 /// A profile list, as `<stage1 !nocheck>` (BuildProfileSpec). A contract sees its items.
-#[derive(Debug, Drop)]
+#[derive(Drop)]
 pub struct ProfileList {
     items: Vec<Item>,
 }

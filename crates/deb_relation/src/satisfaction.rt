@@ -12,7 +12,7 @@ use deb_version::{Version, VersionRef};
 use std::cmp::Ordering;
 
 /// What is known of one package.
-#[derive(Clone, Copy, Debug)]
+#[derive(Clone, Copy)]
 pub struct Facts<'a> {
     pub name: &'a [u8],
     pub version: &'a Version,

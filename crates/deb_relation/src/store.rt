@@ -18,7 +18,7 @@ pub const ROOM: usize = 11;
 pub const SMALL_BLOCK: usize = 24;
 
 /// How many bytes each text of an alternative has, where they lie one behind the other.
-#[derive(Clone, Copy, Debug)]
+#[derive(Clone, Copy)]
 pub struct Cuts {
     pub name: u8,
     /// 0 where there is no qualifier: none is empty.
@@ -179,7 +179,7 @@ pub fn joined_in_block(
 }
 
 /// An alternative by its parts, each in a block of its own.
-#[derive(Debug, Drop)]
+#[derive(Drop)]
 pub struct Whole {
     pub name: Vec<u8>,
     pub qualifier: Option<Vec<u8>>,
@@ -204,7 +204,7 @@ impl Model for Whole {
 }
 
 /// Where an alternative is kept.
-#[derive(Debug, Drop)]
+#[derive(Drop)]
 pub enum Store {
     /// Its texts lie here, one behind the other.
     Here(Cuts, [u8; ROOM]),

@@ -13,7 +13,7 @@ use std::alloc::{AllocError, Global};
 use std::marker::Model;
 
 /// Where a line stands in its text, up to its newline, and its number.
-#[derive(Clone, Copy, Debug)]
+#[derive(Clone, Copy)]
 struct Place {
     start: u32,
     end: u32,
@@ -21,7 +21,7 @@ struct Place {
 }
 
 /// Lines of a text, with their numbers. A contract sees the list of them.
-#[derive(Debug, Drop)]
+#[derive(Drop)]
 pub struct Lines<'a> {
     text: &'a [u8],
     places: Vec<Place>,

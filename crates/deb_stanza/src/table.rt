@@ -18,7 +18,7 @@ use std::alloc::{AllocError, Global};
 const PARAGRAPH_WEIGHT: usize = 64;
 
 /// Where a paragraph begins: the place of its first field, and the number of its first line.
-#[derive(Clone, Copy, Debug)]
+#[derive(Clone, Copy)]
 pub struct Start {
     pub first: u32,
     pub line: u32,
@@ -26,7 +26,7 @@ pub struct Start {
 
 /// The fields of all paragraphs. A field's text is its line and the lines that continue it,
 /// joined by newlines; it ends where the next one begins, and so does a paragraph.
-#[derive(Debug, Drop)]
+#[derive(Drop)]
 pub struct Table {
     pub bytes: Vec<u8>,
     pub fields: Vec<u32>,

@@ -7,7 +7,7 @@ ghost use Rattle.deb_text.specs.Classes.{in_class};
 ghost use Rattle.deb_text.specs.Cuts.{first_is};
 
 /// A class of bytes.
-#[derive(Clone, Copy, Debug, PartialEq, Eq)]
+#[derive(Clone, Copy, PartialEq, Eq)]
 pub enum Class {
     /// A space or a tab.
     Space,

@@ -7,7 +7,7 @@ use crate::classes::{Class, all_in};
 use memchr::memchr;
 
 /// A line without its newline. Numbers count from 1, comments and blank lines too.
-#[derive(Clone, Copy, Debug)]
+#[derive(Clone, Copy)]
 pub struct Line<'a> {
     pub number: u32,
     pub bytes: &'a [u8],

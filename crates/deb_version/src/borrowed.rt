@@ -19,7 +19,7 @@ use std::cmp::Ordering;
 use std::marker::Model;
 
 /// A version whose text is kept elsewhere. A contract sees its text, as it does for a [`Version`].
-#[derive(Debug, Drop)]
+#[derive(Drop)]
 pub struct VersionRef<'a> {
     pub(crate) text: &'a [u8],
     pub(crate) epoch: u32,

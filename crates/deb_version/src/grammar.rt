@@ -17,7 +17,7 @@ pub const MAX_LENGTH: usize = 512;
 pub const MAX_EPOCH: u32 = 2_147_483_647;
 
 /// A text, cut at its first colon and at the last hyphen behind that.
-#[derive(Clone, Copy, Debug)]
+#[derive(Clone, Copy)]
 pub struct Pieces<'a> {
     pub epoch: Option<&'a [u8]>,
     pub upstream: &'a [u8],

@@ -20,7 +20,7 @@ use std::marker::Model;
 ///
 /// A contract sees its text. Versions that Policy takes for equal are equal, however they are
 /// written: `1.0`, `1.0-0` and `0:1.0` are.
-#[derive(Debug, Drop)]
+#[derive(Drop)]
 pub struct Version {
     pub(crate) text: Vec<u8>,
     pub(crate) epoch: u32,

@@ -16,7 +16,7 @@ use std::marker::Model;
 
 /// The archive of a farm: for each name the variants that are there, and what was published, the
 /// newest last.
-#[derive(Debug, Drop)]
+#[derive(Drop)]
 pub struct PlainArchive {
     words: Vec<u64>,
     history: Vec<Publication>,

@@ -82,7 +82,7 @@ pub fn push_relations(
 }
 
 /// What of a variant is looked at.
-#[derive(Clone, Copy, Debug, PartialEq, Eq)]
+#[derive(Clone, Copy, PartialEq, Eq)]
 pub enum Test {
     /// Whether it satisfies an alternative.
     Satisfies,

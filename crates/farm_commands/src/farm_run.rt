@@ -126,7 +126,7 @@ pub fn answer_run<'a, R: Threads + Wait + Eprint + Sync, S: Sink, E: Sink>(
 }
 
 /// The files of the texts of a run, and whether it was asked to tell of the run.
-#[derive(Clone, Copy, Debug)]
+#[derive(Clone, Copy)]
 pub struct RunFiles<'a> {
     pub paths: Paths<'a>,
     pub progress: bool,

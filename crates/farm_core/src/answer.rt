@@ -3,7 +3,7 @@
 use farm_universe::Trap;
 
 /// What a step of a lane comes to.
-#[derive(Clone, Copy, Debug, PartialEq, Eq)]
+#[derive(Clone, Copy, PartialEq, Eq)]
 pub enum Step {
     /// The lane has gone on by an instruction, or by an output of a publish.
     Moved,

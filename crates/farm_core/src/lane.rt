@@ -12,7 +12,7 @@ use std::alloc::{AllocError, Global};
 
 /// Where a lane stands: its place, how many outputs are made of the publish that it stands at, its
 /// chroot, what it has spent, and for each recipe whether it has built it.
-#[derive(Debug, Drop)]
+#[derive(Drop)]
 pub struct LaneRun {
     pub done: u32,
     pub made: usize,

@@ -14,7 +14,7 @@ use plan_asm::Plan;
 use std::alloc::{AllocError, Global};
 
 /// The event of a schedule that met a trap.
-#[derive(Clone, Copy, Debug, PartialEq, Eq)]
+#[derive(Clone, Copy, PartialEq, Eq)]
 pub struct Stop {
     /// Its number in the schedule, 1 for the first.
     pub step: usize,

@@ -3,7 +3,7 @@
 use farm_universe::{Trap, Variant};
 
 /// What a lane does at its turn. It has changed where it goes or gives, and is as it was otherwise.
-#[derive(Clone, Copy, Debug, PartialEq, Eq)]
+#[derive(Clone, Copy, PartialEq, Eq)]
 pub enum Turn {
     /// It is behind its instruction.
     Goes,

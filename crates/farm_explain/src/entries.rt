@@ -16,7 +16,7 @@ use refusal_reasons::Field;
 use std::alloc::AllocError;
 
 /// Whose entry it is.
-#[derive(Clone, Copy, Debug)]
+#[derive(Clone, Copy)]
 pub enum Owner {
     Package(Variant),
     Recipe(u32),

@@ -6,7 +6,7 @@ ghost use Rattle.farm_explain.specs.Kinds as spec;
 use refusal_reasons::Reason;
 
 /// What a note tells.
-#[derive(Clone, Copy, Debug)]
+#[derive(Clone, Copy)]
 pub enum Kind {
     /// No variant that is surely in the archive is what an unpack asks for.
     Missing,

@@ -30,7 +30,7 @@ pub struct LaneText<'a> {
 }
 
 /// Where a variant is published: the lane's number, and the instruction's, from 1.
-#[derive(Clone, Copy, Debug)]
+#[derive(Clone, Copy)]
 pub struct Publishing {
     lane: usize,
     instruction: usize,

@@ -12,7 +12,7 @@ use std::alloc::{AllocError, Global};
 
 /// An instruction that a note is about: the name of its lane, its number there from 1, its line in
 /// the plan's text with that of the `use` that brings it in, and the trap that it may meet.
-#[derive(Debug, Drop)]
+#[derive(Drop)]
 pub struct NotePlace {
     pub lane: Vec<u8>,
     pub instruction: u64,
@@ -22,7 +22,7 @@ pub struct NotePlace {
 
 /// Lines that tell one thing of a plan, of what kind they are, and the instruction that they are
 /// about, if any.
-#[derive(Debug, Drop)]
+#[derive(Drop)]
 pub struct Note {
     pub kind: Kind,
     pub place: Option<NotePlace>,

@@ -117,7 +117,7 @@ fn push_why<K: KnownWords>(
 }
 
 /// A trap that the instruction of this number, from 1, may meet.
-#[derive(Clone, Copy, Debug)]
+#[derive(Clone, Copy)]
 struct Met {
     instruction: u32,
     trap: Trap,

@@ -9,7 +9,7 @@ use itoa::Buffer;
 use std::alloc::AllocError;
 
 /// Words that stand in the lines of explanations, with the blanks beside them.
-#[derive(Clone, Copy, Debug)]
+#[derive(Clone, Copy)]
 pub enum Word {
     AtLine,
     ByUse,

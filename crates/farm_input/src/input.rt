@@ -8,7 +8,7 @@ ghost use Rattle.farm_input.specs.View.{texts_view};
 use memchr::memchr;
 
 /// The four texts that a verdict is about.
-#[derive(Clone, Copy, Debug)]
+#[derive(Clone, Copy)]
 pub struct Texts<'a> {
     pub packages: &'a [u8],
     pub sources: &'a [u8],

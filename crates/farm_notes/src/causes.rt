@@ -12,7 +12,7 @@ use farm_universe::relations::{satisfies_any, satisfies_entry};
 
 /// Why a base chroot is not settled. Members and entries are told by their places, the first being
 /// 0: of a member among the items of `Packages`, of an entry in its field.
-#[derive(Clone, Copy, Debug, PartialEq, Eq)]
+#[derive(Clone, Copy, PartialEq, Eq)]
 pub enum Cause {
     /// A member of the same name stands behind this one.
     Twice(usize),

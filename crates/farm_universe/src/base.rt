@@ -6,7 +6,7 @@ use farm_model::Variant;
 use std::marker::Model;
 
 /// A base chroot, as it is when a lane begins.
-#[derive(Debug, Drop)]
+#[derive(Drop)]
 pub struct Base {
     name: Vec<u8>,
     capacity: u64,

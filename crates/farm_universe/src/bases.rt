@@ -23,7 +23,7 @@ use farm_model::Variant;
 use std::alloc::Global;
 
 /// What a base chroot holds: its capacity in KiB, and the variants that are configured in it.
-#[derive(Debug, Drop)]
+#[derive(Drop)]
 pub struct BaseHeld {
     pub capacity: u64,
     pub packages: Vec<Variant>,

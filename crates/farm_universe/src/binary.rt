@@ -17,7 +17,7 @@ use std::alloc::{AllocError, AllocFailed, Global};
 use std::marker::Model;
 
 /// The relation fields of a package (Debian Policy 7).
-#[derive(Debug, Drop)]
+#[derive(Drop)]
 pub struct PackageRelations {
     pub pre_depends: Relations,
     pub depends: Relations,
@@ -27,7 +27,7 @@ pub struct PackageRelations {
 }
 
 /// What is known of one version of a package.
-#[derive(Debug, Drop)]
+#[derive(Drop)]
 pub struct Package {
     version: Version,
     size: u64,

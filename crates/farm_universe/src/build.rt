@@ -25,7 +25,7 @@ use farm_model::Mode;
 use std::alloc::Global;
 
 /// What a build needs, and what it excludes.
-#[derive(Debug, Drop)]
+#[derive(Drop)]
 pub struct Build {
     pub needs: Relations,
     pub clashes: Relations,

@@ -14,7 +14,7 @@ use std::marker::Model;
 
 /// A relation field as it is written, which is judged before it is kept: of the many fields that
 /// are listed, few are asked for their entries. A contract sees the entries.
-#[derive(Debug, Drop)]
+#[derive(Drop)]
 pub struct FieldText {
     kind: Kind,
     text: Vec<u8>,

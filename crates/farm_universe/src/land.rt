@@ -22,7 +22,7 @@ use deb_text::files::FARM;
 use std::alloc::{AllocError, Global};
 
 /// What the first paragraph says.
-#[derive(Debug, Drop)]
+#[derive(Drop)]
 pub struct Head {
     pub architectures: ArchNames,
     pub initial: Vec<u64>,

@@ -23,7 +23,7 @@ use farm_model::Variant;
 use std::alloc::Global;
 
 /// The variants of a list in its order, and a word for each name with their bits.
-#[derive(Debug, Drop)]
+#[derive(Drop)]
 pub struct VariantList {
     pub variants: Vec<Variant>,
     pub words: Vec<u64>,

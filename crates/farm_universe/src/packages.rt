@@ -20,7 +20,7 @@ use std::alloc::{AllocError, Global};
 use std::thread::Threads;
 
 /// What a paragraph says.
-#[derive(Debug, Drop)]
+#[derive(Drop)]
 pub struct Listed {
     pub name: Vec<u8>,
     pub binary: Package,

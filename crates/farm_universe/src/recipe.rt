@@ -7,7 +7,7 @@ use farm_model::Variant;
 use std::marker::Model;
 
 /// A build of a source: what it costs, what it needs and excludes, and what it gives.
-#[derive(Debug, Drop)]
+#[derive(Drop)]
 pub struct Recipe {
     name: Vec<u8>,
     steps: u64,

@@ -14,7 +14,7 @@ use deb_version::Version;
 use std::alloc::Global;
 
 /// What builds of a source need, or what they exclude (Debian Policy 7.7).
-#[derive(Debug, Drop)]
+#[derive(Drop)]
 pub struct BuildFields {
     /// For every build.
     pub always: FieldText,
@@ -35,7 +35,7 @@ impl BuildFields {
 }
 
 /// What is known of one version of a source package.
-#[derive(Debug, Drop)]
+#[derive(Drop)]
 pub struct Source {
     pub version: Version,
     pub needs: BuildFields,
@@ -50,7 +50,7 @@ impl Source {
 }
 
 /// What a paragraph says.
-#[derive(Debug, Drop)]
+#[derive(Drop)]
 pub struct ListedSource {
     pub name: Vec<u8>,
     pub source: Source,

@@ -5,7 +5,7 @@ ghost use Rattle.deb_stanza.specs.Stanza.{same_name};
 ghost use Rattle.farm_warnings.specs.Words.{field_name};
 
 /// A field that some paragraph of the farm text may have.
-#[derive(Clone, Copy, Debug)]
+#[derive(Clone, Copy)]
 pub enum FieldName {
     ArchitectureNames,
     Archive,

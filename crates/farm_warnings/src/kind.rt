@@ -7,7 +7,7 @@ use crate::field_name::FieldName;
 use crate::lines::ParagraphLines;
 
 /// What a paragraph describes: the first one the farm, each later one a recipe or a base chroot.
-#[derive(Clone, Copy, Debug)]
+#[derive(Clone, Copy)]
 pub enum Kind {
     Farm,
     Recipe,

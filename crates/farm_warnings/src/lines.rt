@@ -11,7 +11,7 @@ use deb_text::{Class, begins_with, cut_at_first, is_blank_line, is_comment, next
 use std::marker::Model;
 
 /// A line without its newline, with its number. Numbers count from 1, comments and blank lines too.
-#[derive(Debug, Drop)]
+#[derive(Drop)]
 pub struct Line<'a> {
     pub number: usize,
     pub bytes: &'a [u8],
@@ -73,7 +73,7 @@ fn next_control_line(before: usize, text: &[u8]) -> Option<(Line<'_>, &[u8])>
 }
 
 /// Lines of a text, those that are left. A contract sees their list.
-#[derive(Debug, Drop)]
+#[derive(Drop)]
 pub struct Lines<'a> {
     before: usize,
     text: &'a [u8],
@@ -178,7 +178,7 @@ impl<'a> Lines<'a> {
 }
 
 /// Lines of one paragraph, those that are left. A contract sees their list.
-#[derive(Debug, Drop)]
+#[derive(Drop)]
 pub struct ParagraphLines<'a> {
     lines: Lines<'a>,
 }

@@ -19,7 +19,7 @@ use std::alloc::{AllocError, Global};
 
 /// What a paragraph of the packages text lacks: an `Installed-Size`, or an architecture that the
 /// farm names.
-#[derive(Clone, Copy, Debug)]
+#[derive(Clone, Copy)]
 pub enum Lack {
     Size,
     Architecture,

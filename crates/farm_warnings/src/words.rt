@@ -8,7 +8,7 @@ use itoa::Buffer;
 use std::alloc::AllocError;
 
 /// Words that stand in the lines of warnings, with the blanks beside them.
-#[derive(Clone, Copy, Debug)]
+#[derive(Clone, Copy)]
 pub enum Word {
     FarmLine,
     PackagesLine,

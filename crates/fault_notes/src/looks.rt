@@ -6,7 +6,7 @@ ghost use Rattle.fault_notes.specs.Looks as spec;
 use deb_text::files::{FARM, PLAN};
 
 /// What a text looks like that is not what it was given as.
-#[derive(Clone, Copy, Debug, PartialEq, Eq)]
+#[derive(Clone, Copy, PartialEq, Eq)]
 pub enum Look {
     /// It begins with the byte order mark of UTF-8.
     ByteOrderMark,

@@ -9,7 +9,7 @@ use std::alloc::{AllocError, Global};
 use std::marker::Model;
 
 /// The items of one list.
-#[derive(Debug, Drop)]
+#[derive(Drop)]
 struct ItemList<O> {
     items: Vec<Item<O>>,
 }
@@ -48,7 +48,7 @@ impl<O: Copy + Drop> ItemList<O> {
 
 /// Items by name. Two names may share a list, so a list may have items of several names; who asks
 /// tests each.
-#[derive(Debug, Drop)]
+#[derive(Drop)]
 pub struct ItemIndex<O> {
     lists: Vec<ItemList<O>>,
 }

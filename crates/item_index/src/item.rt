@@ -7,7 +7,7 @@ ghost use Rattle.item_index.specs.Items.{item_of};
 use deb_relation::{Atom, Relations};
 
 /// The place of an alternative in a field of its owner.
-#[derive(Clone, Copy, Debug)]
+#[derive(Clone, Copy)]
 pub struct Item<O> {
     pub owner: O,
     /// The number of its entry.

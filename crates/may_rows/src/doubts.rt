@@ -14,7 +14,7 @@ const MOST_NAMES: usize = 64;
 
 /// What a build has to look at: the entries that one of a few names satisfies, and whether a few
 /// names are unpacked alone.
-#[derive(Debug, Drop)]
+#[derive(Drop)]
 pub struct Doubts {
     /// Whether something is known at all.
     pub(crate) known: bool,

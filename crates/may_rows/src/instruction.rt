@@ -20,7 +20,7 @@ use plan_asm::{Instruction, Lane};
 use sat_rows::Tables;
 
 /// What of one name is surely in the archive, and what may be, as words.
-#[derive(Clone, Copy, Debug)]
+#[derive(Clone, Copy)]
 pub struct ArchiveWords {
     pub known: u64,
     pub there: u64,

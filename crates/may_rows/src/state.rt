@@ -17,7 +17,7 @@ use sat_rows::{Tables, word_of};
 use std::marker::Model;
 
 /// For each name, by number, what a chroot may hold of it: a word whose bits are variants.
-#[derive(Debug, Drop)]
+#[derive(Drop)]
 pub struct MayHold {
     /// What may be present, 0 for an absent name.
     pub(crate) here: Vec<u64>,

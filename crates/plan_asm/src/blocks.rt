@@ -17,20 +17,20 @@ use std::alloc::{AllocError, Global};
 use std::marker::Model;
 
 /// A part of a block: an instruction by its place in `steps`, or a use of an earlier row.
-#[derive(Clone, Copy, Debug)]
+#[derive(Clone, Copy)]
 pub enum Part {
     Step(usize),
     Use(usize),
 }
 
 /// The parts of a block that has two at least, the last one first.
-#[derive(Debug, Drop)]
+#[derive(Drop)]
 pub struct Row {
     pub parts: Vec<Part>,
 }
 
 /// What a block stands for: one part, unless it has no instruction; and how many instructions.
-#[derive(Clone, Copy, Debug)]
+#[derive(Clone, Copy)]
 pub struct Whole {
     pub part: Option<Part>,
     pub count: usize,

@@ -12,7 +12,7 @@ use plan_model::Instruction;
 
 /// The most events to a lane's end: from here, from behind the next `else`, and from behind the
 /// next `end`.
-#[derive(Clone, Copy, Debug)]
+#[derive(Clone, Copy)]
 pub struct Ways {
     pub here: usize,
     pub past_else: usize,

@@ -21,7 +21,7 @@ use deb_version::Version;
 use std::alloc::Global;
 
 /// What the line of an instruction says, its names as they stand there.
-#[derive(Debug, Drop)]
+#[derive(Drop)]
 pub enum Wording<'a> {
     /// `unpack NAME`, perhaps with `(OP VERSION)`
     Unpack {
@@ -50,7 +50,7 @@ pub enum Wording<'a> {
 }
 
 /// What the first line of a lane says, its names as they stand there.
-#[derive(Clone, Copy, Debug)]
+#[derive(Clone, Copy)]
 pub struct LaneHead<'a> {
     pub name: &'a [u8],
     pub chroot: &'a [u8],
@@ -59,7 +59,7 @@ pub struct LaneHead<'a> {
 }
 
 /// What a line says.
-#[derive(Debug, Drop)]
+#[derive(Drop)]
 pub enum Form<'a> {
     /// `block NAME`
     Block(&'a [u8]),

@@ -9,7 +9,7 @@ use std::marker::Model;
 
 /// A lane: the base chroot that it starts in, what it may spend, and its instructions in order.
 /// A contract sees them as a record.
-#[derive(Debug, Drop)]
+#[derive(Drop)]
 pub struct Lane {
     name: Vec<u8>,
     base: u32,

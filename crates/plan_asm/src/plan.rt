@@ -8,7 +8,7 @@ use crate::lane::Lane;
 use std::marker::Model;
 
 /// A plan: its lanes in file order, and how many events it has.
-#[derive(Debug, Drop)]
+#[derive(Drop)]
 pub struct Plan {
     lanes: Vec<Lane>,
     count: usize,

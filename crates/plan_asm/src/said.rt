@@ -14,7 +14,7 @@ use plan_model::Instruction;
 use std::alloc::Global;
 
 /// Where an instruction may stand, by its kind.
-#[derive(Clone, Copy, Debug)]
+#[derive(Clone, Copy)]
 pub enum Standing {
     Anywhere,
     /// Outside of all branches.

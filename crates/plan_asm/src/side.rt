@@ -10,7 +10,7 @@ use crate::said::Standing;
 use plan_model::Instruction;
 
 /// In which branch the next line of a plan stands, with the number of the line of its `when`.
-#[derive(Clone, Copy, Debug)]
+#[derive(Clone, Copy)]
 pub enum Side {
     Outside,
     First(u32),

@@ -13,14 +13,14 @@ use plan_asm::{Instruction, Plan};
 use std::alloc::{AllocError, Global};
 
 /// A wait, by its place in the lane, or an output.
-#[derive(Clone, Copy, Debug)]
+#[derive(Clone, Copy)]
 pub enum Event {
     Pass(usize),
     Give(Variant),
 }
 
 /// The events of a lane.
-#[derive(Debug, Drop)]
+#[derive(Drop)]
 pub struct LaneEvents {
     pub events: Vec<Event>,
 }

@@ -11,13 +11,13 @@ use std::alloc::{AllocError, Global};
 use wait_order::initial_row;
 
 /// The places of a lane at which it publishes, in order.
-#[derive(Debug, Drop)]
+#[derive(Drop)]
 pub struct LanePublishes {
     pub places: Vec<usize>,
 }
 
 /// The initial archive, and the publishes of each lane.
-#[derive(Debug, Drop)]
+#[derive(Drop)]
 pub struct Origins {
     pub archive: Row,
     pub publishes: Vec<LanePublishes>,

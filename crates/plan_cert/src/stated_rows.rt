@@ -14,7 +14,7 @@ use std::snapshot::Snapshot;
 use wait_order::KnownWords;
 
 /// The places of a lane: for each the number of its row.
-#[derive(Debug, Drop)]
+#[derive(Drop)]
 pub struct LanePlaces {
     numbers: Vec<usize>,
 }

@@ -10,21 +10,21 @@ use std::alloc::{AllocError, Global};
 use std::marker::Model;
 
 /// A line by its number, or a join by its place.
-#[derive(Clone, Copy, Debug)]
+#[derive(Clone, Copy)]
 pub enum Part {
     Line(u32),
     Join(usize),
 }
 
 /// Two parts, the second behind the first.
-#[derive(Clone, Copy, Debug)]
+#[derive(Clone, Copy)]
 pub struct Pair {
     pub first: Part,
     pub second: Part,
 }
 
 /// Joins, each of parts before it. A contract sees the lines of each.
-#[derive(Debug, Drop)]
+#[derive(Drop)]
 pub struct Joins {
     pairs: Vec<Pair>,
 }

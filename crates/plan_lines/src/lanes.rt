@@ -11,7 +11,7 @@ use std::alloc::{AllocError, Global};
 use std::marker::Model;
 
 /// A lane: the line that opens it, where its instructions come from, and the line of its `end`.
-#[derive(Debug, Drop)]
+#[derive(Drop)]
 pub struct LaneLines {
     pub head: u32,
     pub origins: Vec<Origin>,

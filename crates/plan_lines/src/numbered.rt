@@ -14,7 +14,7 @@ use plan_asm::{Instruction, Lane, Plan};
 use std::alloc::{AllocError, Global};
 
 /// The numbers before a line of the listing: that of the instruction, and the line of the text.
-#[derive(Clone, Copy, Debug)]
+#[derive(Clone, Copy)]
 struct Front {
     number: Option<u64>,
     line: Option<u32>,

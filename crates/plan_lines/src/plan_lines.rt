@@ -18,7 +18,7 @@ use std::marker::Model;
 
 /// From which lines of its text a plan comes. Lanes and the places in them count from 0, and lines
 /// from 1.
-#[derive(Debug, Drop)]
+#[derive(Drop)]
 pub struct PlanLines {
     first: Option<u32>,
     lanes: Vec<LaneLines>,

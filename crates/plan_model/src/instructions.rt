@@ -9,7 +9,7 @@ use deb_version::Version;
 use std::marker::Model;
 
 /// The members of a set of packages, by the numbers of their names, as they were written.
-#[derive(Debug, Drop)]
+#[derive(Drop)]
 pub struct Members {
     names: Vec<u32>,
 }
@@ -39,7 +39,7 @@ impl Members {
 }
 
 /// One instruction of a lane. Names and recipes go by their numbers in the universe.
-#[derive(Debug, Drop)]
+#[derive(Drop)]
 pub enum Instruction {
     /// Unpacks the highest variant of the name that is in the archive and in the relation.
     Unpack {

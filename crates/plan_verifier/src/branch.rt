@@ -11,7 +11,7 @@ use std::alloc::{AllocError, Global};
 use std::mem;
 
 /// In which branch of which `when`, by its place, a lane stands, and the map that is needed again.
-#[derive(Debug, Drop)]
+#[derive(Drop)]
 pub enum Branch {
     /// In no branch.
     Outside,
@@ -22,7 +22,7 @@ pub enum Branch {
 }
 
 /// What a lane's chroot may hold at a place.
-#[derive(Debug, Drop)]
+#[derive(Drop)]
 pub struct LaneMay {
     pub here: MayHold,
     pub doubts: Doubts,

@@ -3,7 +3,7 @@
 use farm_universe::Variant;
 
 /// A field of a package that asks for others (Debian Policy 7.2).
-#[derive(Clone, Copy, Debug, PartialEq, Eq)]
+#[derive(Clone, Copy, PartialEq, Eq)]
 pub enum Field {
     PreDepends,
     Depends,
@@ -11,7 +11,7 @@ pub enum Field {
 
 /// Why an instruction may meet a trap: the first witness of the trap's test. Entries go by their
 /// places in the field, from 0.
-#[derive(Clone, Copy, Debug, PartialEq, Eq)]
+#[derive(Clone, Copy, PartialEq, Eq)]
 pub enum Reason {
     /// X1: of this name no variant that is surely in the archive is in the relation.
     Missing {

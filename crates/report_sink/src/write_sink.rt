@@ -8,7 +8,7 @@ use crate::sink::Sink;
 use std::io::{ErrorKind, Write};
 
 /// The sink over a writer: it has failed once a write of its writer has.
-#[derive(Debug, Drop)]
+#[derive(Drop)]
 pub struct WriteSink<W> {
     writer: W,
     failed: bool,

@@ -12,7 +12,7 @@ use std::test::Fail;
 use std::thread::Threads;
 
 /// Where a gate gives up.
-#[derive(Clone, Copy, Debug)]
+#[derive(Clone, Copy)]
 enum At {
     /// Ahead of an instruction of a lane.
     Before { lane: u32, instruction: u32 },

@@ -7,7 +7,7 @@ use lane_runner::{LaneArchive, LaneTurns};
 
 /// What a lane saw of its archive: the name whose word it loaded last, with the word; the serial
 /// that it drew last; and the one under which it published last.
-#[derive(Clone, Copy, Debug, PartialEq, Eq)]
+#[derive(Clone, Copy, PartialEq, Eq)]
 pub struct Seen {
     pub loaded: Option<(u32, u64)>,
     pub drawn: Option<u64>,

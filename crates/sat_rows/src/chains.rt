@@ -13,7 +13,7 @@ const LEAST_PLACES: usize = 4_096;
 const TIMES: usize = 4;
 
 /// The entries at each place, the last one first.
-#[derive(Debug, Drop)]
+#[derive(Drop)]
 pub struct Chains {
     /// The number of each entry's text.
     hashes: Vec<u64>,

@@ -10,7 +10,7 @@ use std::alloc::{AllocError, Global};
 use std::marker::Model;
 
 /// One of the entries.
-#[derive(Debug, Drop)]
+#[derive(Drop)]
 struct Distinct<'a> {
     atoms: &'a [Atom],
 }
@@ -24,7 +24,7 @@ impl<'a> Model for Distinct<'a> {
 }
 
 /// The distinct entries. A contract sees their list.
-#[derive(Debug, Drop)]
+#[derive(Drop)]
 pub struct Entries<'a> {
     entries: Vec<Distinct<'a>>,
     chains: Chains,

@@ -17,7 +17,7 @@ use std::marker::Model;
 use std::thread::Threads;
 
 /// Whom each variant names in a field, and who names it there.
-#[derive(Debug, Drop)]
+#[derive(Drop)]
 pub struct Exclusion {
     /// To whom the entries of its own field lead.
     pub declared: Links,

@@ -50,7 +50,7 @@ fn wanted_word(universe: &Universe, atom: &Atom, name: u32) -> u64
 }
 
 /// Variants of one name, as the bits of a word, under a number: that of their name, or of an entry.
-#[derive(Clone, Copy, Debug)]
+#[derive(Clone, Copy)]
 pub struct NumberWord {
     pub number: usize,
     pub word: u64,
@@ -77,7 +77,7 @@ fn shares_other(at: &NumberWord, but: u32, words: &[u64]) -> bool
 }
 
 /// Words of variants by number, perhaps more than one under a number.
-#[derive(Debug, Drop)]
+#[derive(Drop)]
 pub struct Found {
     words: Vec<NumberWord>,
 }

@@ -18,7 +18,7 @@ pub const MANY: usize = 64;
 const MOST_WORDS: usize = 1_048_576;
 
 /// To whom the variants of one name lead, by bit: all of them, or the first ones.
-#[derive(Debug, Drop)]
+#[derive(Drop)]
 pub struct Joined {
     lists: Vec<Found>,
 }

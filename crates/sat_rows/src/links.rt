@@ -13,7 +13,7 @@ use std::alloc::{AllocError, Global};
 use std::marker::Model;
 
 /// To which entries each variant leads, and to which variants each entry.
-#[derive(Debug, Drop)]
+#[derive(Drop)]
 pub struct Links {
     /// By name the numbers of the entries, each with the variants of the name.
     by_name: Vec<Found>,

@@ -15,7 +15,7 @@ use std::alloc::{AllocError, Global};
 use std::marker::Model;
 
 /// The numbers of the entries of a variant.
-#[derive(Debug, Drop)]
+#[derive(Drop)]
 pub struct Numbers {
     pre_depends: Vec<usize>,
     depends: Vec<usize>,
@@ -65,7 +65,7 @@ impl Numbers {
 }
 
 /// The numbers of the variants of one name.
-#[derive(Debug, Drop)]
+#[derive(Drop)]
 pub struct NameNumbers {
     variants: Vec<Numbers>,
 }
@@ -101,7 +101,7 @@ impl NameNumbers {
 }
 
 /// The numbers of the needs of a recipe.
-#[derive(Debug, Drop)]
+#[derive(Drop)]
 pub struct Needs {
     needs: Vec<usize>,
 }

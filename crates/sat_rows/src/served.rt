@@ -18,7 +18,7 @@ use std::alloc::{AllocError, Global};
 use std::marker::Model;
 
 /// Which entries the variants of each name satisfy, and who has each entry.
-#[derive(Debug, Drop)]
+#[derive(Drop)]
 pub struct Served {
     /// By name the numbers of the entries, each with the variants of the name that satisfy it.
     satisfied: Vec<Found>,

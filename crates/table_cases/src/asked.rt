@@ -13,7 +13,7 @@ use sat_rows::Tables;
 use std::alloc::{AllocError, Global};
 
 /// How variants of two names exclude each other.
-#[derive(Clone, Copy, Debug)]
+#[derive(Clone, Copy)]
 pub enum Exclusion {
     Conflicts,
     Breaks,

@@ -9,7 +9,7 @@ use crate::words::Word;
 use farm_explain::Kind;
 
 /// Why a lane is stuck.
-#[derive(Clone, Copy, Debug)]
+#[derive(Clone, Copy)]
 pub enum Group {
     /// No lane publishes what satisfies its entry.
     Unpublished,

@@ -17,14 +17,14 @@ use std::alloc::{AllocError, Global};
 use std::marker::Model;
 
 /// Where a variant is published: the lane's number, and the instruction's, from 1.
-#[derive(Clone, Copy, Debug)]
+#[derive(Clone, Copy)]
 pub struct Publication {
     pub lane: usize,
     pub instruction: usize,
 }
 
 /// Where the variants of a name are published.
-#[derive(Debug, Drop)]
+#[derive(Drop)]
 struct OfName {
     places: Vec<Option<Publication>>,
 }
@@ -71,7 +71,7 @@ impl OfName {
 }
 
 /// Where each variant of a universe is published first, in file order.
-#[derive(Debug, Drop)]
+#[derive(Drop)]
 pub struct Publications {
     names: Vec<OfName>,
 }

@@ -10,14 +10,14 @@ use std::alloc::{AllocError, Global};
 use std::marker::Model;
 
 /// Where an output is made: its lane, and how many outputs the lane makes before it.
-#[derive(Clone, Copy, Debug)]
+#[derive(Clone, Copy)]
 pub struct OutputPlace {
     pub lane: usize,
     pub number: usize,
 }
 
 /// The outputs of one name.
-#[derive(Debug, Drop)]
+#[derive(Drop)]
 struct PlaceList {
     places: Vec<OutputPlace>,
 }
@@ -55,7 +55,7 @@ impl PlaceList {
 }
 
 /// The outputs of a plan by name.
-#[derive(Debug, Drop)]
+#[derive(Drop)]
 pub struct ByName {
     lists: Vec<PlaceList>,
 }

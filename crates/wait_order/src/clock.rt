@@ -24,7 +24,7 @@ use std::alloc::{AllocError, Global};
 
 /// How many outputs of each lane count at a place of a lane: of its own the `own` ones that it
 /// made, of each other lane those that its last point has in `columns`.
-#[derive(Clone, Copy, Debug)]
+#[derive(Clone, Copy)]
 pub struct Clock<'k> {
     pub lane: usize,
     pub own: usize,

@@ -12,7 +12,7 @@ use std::alloc::{AllocError, Global};
 
 /// An output that a point looks for: the point whose counts hold at its publish, its lane, and its
 /// number there, from 1.
-#[derive(Clone, Copy, Debug)]
+#[derive(Clone, Copy)]
 pub struct Source {
     pub point: Option<usize>,
     pub lane: usize,
@@ -21,7 +21,7 @@ pub struct Source {
 
 /// A wait or a `when`: its lane and place, the outputs of the lane before it, the point whose
 /// counts hold ahead of it, and the outputs that it looks for.
-#[derive(Debug, Drop)]
+#[derive(Drop)]
 pub struct Point {
     pub lane: usize,
     pub place: usize,

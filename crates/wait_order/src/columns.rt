@@ -21,7 +21,7 @@ use std::thread::Threads;
 const POINTS_FOR_THREADS: usize = 512;
 
 /// How many outputs of one lane each point knows.
-#[derive(Debug, Drop)]
+#[derive(Drop)]
 pub struct Counts {
     counts: Vec<u64>,
 }

@@ -23,7 +23,7 @@ use std::thread::Threads;
 const ENTRIES_AT_ONCE: usize = 128;
 
 /// The outputs that satisfy an entry, of each lane the first.
-#[derive(Debug, Drop)]
+#[derive(Drop)]
 pub struct Sources {
     sources: Vec<Source>,
 }

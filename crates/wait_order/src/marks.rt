@@ -14,7 +14,7 @@ use std::alloc::{AllocError, Global};
 
 /// A wait or a `when`: its lane and place, how many outputs the lane has before it, and the point
 /// whose counts hold there.
-#[derive(Clone, Copy, Debug)]
+#[derive(Clone, Copy)]
 pub struct Mark {
     pub lane: usize,
     pub place: usize,
@@ -23,7 +23,7 @@ pub struct Mark {
 }
 
 /// An output of a lane, and the number of the point whose counts hold at its publish.
-#[derive(Clone, Copy, Debug)]
+#[derive(Clone, Copy)]
 pub struct Output {
     pub variant: Variant,
     pub point: Option<usize>,
@@ -38,28 +38,28 @@ pub struct LaneAt<'a> {
 }
 
 /// The points whose counts hold at a place, and ahead of the `when` that is open there.
-#[derive(Clone, Copy, Debug)]
+#[derive(Clone, Copy)]
 pub struct LastPoints {
     pub here: Option<usize>,
     pub ahead: Option<usize>,
 }
 
 /// What a lane has behind it at a place: how many outputs it made, and the point whose counts hold.
-#[derive(Clone, Copy, Debug)]
+#[derive(Clone, Copy)]
 pub struct Past {
     pub own: usize,
     pub last: Option<usize>,
 }
 
 /// The outputs of a lane in order, and what it has behind it at each of its places.
-#[derive(Debug, Drop)]
+#[derive(Drop)]
 pub struct LaneOutputs {
     pub outputs: Vec<Output>,
     pub past: Vec<Past>,
 }
 
 /// The points of a plan, lane by lane, and the outputs of each lane.
-#[derive(Debug, Drop)]
+#[derive(Drop)]
 pub struct Marks {
     pub marks: Vec<Mark>,
     pub lanes: Vec<LaneOutputs>,

@@ -122,7 +122,7 @@ fn lanes_left(alloc: Global, plan: &Plan, ats: &[Standing]) -> Result<Vec<u32>, 
 }
 
 /// The lanes of a plan where none of them goes on.
-#[derive(Debug, Drop)]
+#[derive(Drop)]
 pub struct Settled {
     /// Where each lane stands, in file order.
     pub standings: Vec<Standing>,

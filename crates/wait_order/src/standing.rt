@@ -26,7 +26,7 @@ pub struct Course<'p> {
 }
 
 /// Where a lane stands.
-#[derive(Debug, Drop)]
+#[derive(Drop)]
 pub struct Standing {
     pub place: usize,
 }

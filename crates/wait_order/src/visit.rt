@@ -11,7 +11,7 @@ use std::alloc::{AllocError, Global};
 
 /// The points in the order of the first look at them, the place of each, and those that build on a
 /// point that comes no earlier.
-#[derive(Debug, Drop)]
+#[derive(Drop)]
 pub struct Visit {
     pub order: Vec<usize>,
     pub places: Vec<usize>,
