@@ -1,13 +1,13 @@
 //! How a relation field is read.
 
-ghost use Rattle.std.specs.Prelude.{◌≡◌, ◌<◌, ◌≤◌, [], ◌∷◌, false, length, IfNone, IfOk, IfSome, Some};
-ghost use Rattle.std.specs.List.{list_any, slice_split};
+ghost use Rattle.std.specs.Prelude.{◌≡◌, ◌<◌, [], ◌∷◌, IfNone, IfSome};
+ghost use Rattle.std.specs.List.{slice_split};
 ghost use Rattle.std.specs.Option.{option_map};
 ghost use Rattle.deb_text.specs.Answers.{Gives};
-ghost use Rattle.deb_text.specs.Bytes.{is_byte, is_blank};
-ghost use Rattle.deb_text.specs.Cuts.{first_is, length_left, parts_left};
+ghost use Rattle.deb_text.specs.Bytes.{is_byte};
+ghost use Rattle.deb_text.specs.Cuts.{length_left};
 ghost use Rattle.deb_text.specs.Steps.{traverse};
-ghost use Rattle.deb_relation.specs.Field.{atom_at, limited_at, limits_at, is_empty_text, alternative_at, entry_at, entries_left, relations_at, first_relations_at, only_judged};
+ghost use Rattle.deb_relation.specs.Field.{alternative_at, entry_at, entries_left, relations_at, first_relations_at, only_judged};
 ghost use Rattle.deb_relation.specs.Marks.{bar};
 ghost use Rattle.deb_relation.specs.View.{refusal_of};
 

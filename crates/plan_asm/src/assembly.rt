@@ -214,7 +214,7 @@ impl Assembly {
     ///
     /// # Errors
     ///
-    /// [`NameTaken`](LineError::NameTaken), or that memory ran out. Nothing has changed then.
+    /// [`NameTaken`](LineError::NameTaken), or that memory ran out.
     pub fn open_block(&mut self, alloc: Global, line: u32, name: &[u8]) -> Result<(), LineError>
         requires { is_open self.old.current ≡ false }
         ensures { Gives refusal_of_line (λ _. self.new) result
@@ -233,7 +233,7 @@ impl Assembly {
     /// # Errors
     ///
     /// [`NameTaken`](LineError::NameTaken), [`OverLimit`](LineError::OverLimit), or that memory ran
-    /// out. Nothing has changed then.
+    /// out.
     pub fn open_lane(
         &mut self,
         alloc: Global,
