@@ -1,9 +1,9 @@
 #!/usr/bin/env python3
 """Answers the case files of crates/*_cases/data by the model, and tells where an answer is not the wanted one.
 
-  model/cases.py [FILE..]     all files of farm_cases, core_cases, cert_cases and command_cases where none is named
+  model/cases.py [FILE..]     all files of farm_cases and command_cases where none is named
 
-The form of a case file is said in crates/farm_cases/data/README and in the README beside each file.
+The form of a case file is said in crates/farm_cases/data/README, and of those of commands in the README beside them.
 """
 
 import re
@@ -266,14 +266,15 @@ def answer_case(crate, case):
         return None
     if crate == "command_cases":
         return on_words(case.input, case.question)
-    if crate == "cert_cases":
-        return on_certificate(*cut_certificate(case.input), case.question)
+    word, _, rest = case.question.partition(" ")
+    if word == "certificate":
+        return on_certificate(*cut_certificate(case.input), rest)
     texts = cut_input(case.input)
-    return on_schedule(texts, case.question) if crate == "core_cases" else on_farm(texts, case.question)
+    return on_schedule(texts, case.question) if word in ("step", "turns") else on_farm(texts, case.question)
 
 
 def main(names):
-    crates = ("farm_cases", "core_cases", "cert_cases", "command_cases")
+    crates = ("farm_cases", "command_cases")
     files = [Path(name) for name in names] or [it for crate in crates for it in sorted(CRATES.glob(f"{crate}/data/*.cases"))]
     same = passed_over = other = 0
     for file in files:

@@ -1,7 +1,9 @@
 //! The answers to the questions of cases.
 
+use crate::certificates::answer_on_certificate;
 use crate::plans::push_plan;
 use crate::relations::{Test, push_all_passing};
+use crate::schedules::answer_on_schedule;
 use crate::universes::push_universe;
 use crate::verdicts::verdict_answer;
 use case_files::{Answers, Case};
@@ -170,6 +172,8 @@ impl<R: Threads + Sync> Answers<R> for FarmAnswers {
         let word = str::from_utf8(word).unwrap_or("?");
         match word {
             "" | "message" | "accepted" => answer_on_verdict(rt, alloc, texts, word),
+            "certificate" => answer_on_certificate(rt, alloc, &case.input, rest),
+            "step" | "turns" => answer_on_schedule(alloc, texts, case.question),
             "texts" => cut(alloc, texts),
             "traps" => traps(alloc),
             _ => answer_on_universe(alloc, texts, word, rest),

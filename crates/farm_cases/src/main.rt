@@ -5,8 +5,14 @@
 #![tactic(auto)]
 
 mod answers;
+mod certificates;
 mod plans;
 mod relations;
+mod replaced;
+mod schedule;
+mod schedules;
+mod spelling;
+mod turns;
 mod universes;
 mod verdicts;
 

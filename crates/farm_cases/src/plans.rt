@@ -1,19 +1,11 @@
 //! A plan in a readable form.
 
 use crate::relations::{push_entry, push_relation};
+use crate::spelling::name_text;
 use deb_relation::view_relation;
 use farm_universe::Universe;
 use plan_asm::{Instruction, Lane, Members, Plan};
 use std::alloc::AllocError;
-
-/// The text of a name, which every plan of the universe has.
-fn name_of(universe: &Universe, name: u32) -> &[u8] {
-    if name < universe.names() {
-        universe.name_text(name)
-    } else {
-        b"?"
-    }
-}
 
 fn base_of(universe: &Universe, number: u32) -> &[u8] {
     if number < universe.bases() {
@@ -31,7 +23,7 @@ fn push_members(
 ) -> Result<(), AllocError> {
     text.push_str(word)?;
     for name in members.as_slice() {
-        write!(text, " {}", name_of(universe, *name).escape_ascii())?;
+        write!(text, " {}", name_text(universe, *name).escape_ascii())?;
     }
     Ok(())
 }
@@ -43,7 +35,7 @@ fn push_instruction(
 ) -> Result<(), AllocError> {
     match instruction {
         Instruction::Unpack { name, relation } => {
-            write!(text, "unpack {}", name_of(universe, *name).escape_ascii())?;
+            write!(text, "unpack {}", name_text(universe, *name).escape_ascii())?;
             push_relation(text, view_relation(relation))?;
         }
         Instruction::Configure(members) => push_members(text, universe, "configure", members)?,
@@ -56,7 +48,7 @@ fn push_instruction(
             push_entry(text, entry)?;
         }
         Instruction::When { name, relation } => {
-            write!(text, "when {}", name_of(universe, *name).escape_ascii())?;
+            write!(text, "when {}", name_text(universe, *name).escape_ascii())?;
             push_relation(text, view_relation(relation))?;
         }
         Instruction::Otherwise => text.push_str("else")?,

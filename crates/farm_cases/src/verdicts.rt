@@ -2,9 +2,11 @@
 
 use crate::plans::push_plan;
 use crate::universes::push_universe;
+use deb_text::Fault;
 use farm_report::verdict_text;
 use plan_verifier::{Accepted, Refusal};
 use std::alloc::{AllocError, Global};
+use std::mem::ManuallyDrop;
 
 /// The message of the verdict's refusal, or nothing.
 fn message(alloc: Global, verdict: &Result<Accepted, Refusal>) -> Result<Vec<u8>, AllocError> {
@@ -44,4 +46,15 @@ pub fn verdict_answer(
         "accepted" => accepted(alloc, verdict),
         _ => verdict_text(alloc, verdict),
     }
+}
+
+/// The verdict on texts of which one is refused, as it is printed: `refused 303 plan line 2`.
+///
+/// # Errors
+///
+/// [`AllocError`] where memory is refused.
+pub fn refusal_text(alloc: Global, fault: Fault) -> Result<Vec<u8>, AllocError> {
+    // it has nothing to be given back
+    let verdict = ManuallyDrop::new(Err(Refusal::from(fault)));
+    verdict_text(alloc, &*verdict)
 }

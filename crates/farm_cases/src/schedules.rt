@@ -1,4 +1,4 @@
-//! The answers to the questions of cases.
+//! What schedules of lanes come to.
 
 ghost use Rattle.std.specs.Prelude.{◌≡◌};
 ghost use Rattle.plan_model.specs.Plan.{count};
@@ -6,26 +6,14 @@ ghost use Rattle.plan_model.specs.Sound.{IsPlan};
 
 use crate::schedule::read_schedule;
 use crate::turns::push_turns;
-use case_files::{Answers, Case};
-use deb_text::{Fault, cut_at_first};
+use crate::verdicts::refusal_text;
+use deb_text::cut_at_first;
 use farm_core::{Core, run_schedule};
-use farm_input::texts_of;
+use farm_input::Texts;
 use farm_report::{WriteFailed, WriteSink, write_step};
 use farm_universe::Universe;
 use plan_asm::{Plan, assemble};
 use std::alloc::{AllocError, Global};
-
-/// The refusal of a text, as `refused 303 plan line 2`.
-fn refusal_text(alloc: Global, fault: Fault) -> Result<Vec<u8>, AllocError> {
-    let file = match fault.file {
-        1 => "packages",
-        2 => "sources",
-        3 => "farm",
-        _ => "plan",
-    };
-    let text = format!(in alloc; "refused {} {file} line {}\n", fault.code, fault.line)?;
-    Ok(text.into_bytes())
-}
 
 /// What a schedule comes to: how many events ran, or the trap, and then the state.
 fn step_text(
@@ -82,9 +70,16 @@ fn answer_on_plan(
     }
 }
 
-/// Answers a question about the farm of an input.
-fn answer_on_input(alloc: Global, input: &[u8], question: &[u8]) -> Result<Vec<u8>, AllocError> {
-    let texts = texts_of(input);
+/// Answers `step` and `turns` about the farm of four texts, or with the first fault of these.
+///
+/// # Errors
+///
+/// [`AllocError`] where memory is refused.
+pub fn answer_on_schedule(
+    alloc: Global,
+    texts: Texts,
+    question: &[u8],
+) -> Result<Vec<u8>, AllocError> {
     let universe = match Universe::read(alloc, texts.packages, texts.sources, texts.farm) {
         Ok(universe) => universe,
         Err(fault) => return refusal_text(alloc, fault),
@@ -92,15 +87,5 @@ fn answer_on_input(alloc: Global, input: &[u8], question: &[u8]) -> Result<Vec<u
     match assemble(alloc, &universe, texts.plan) {
         Ok(plan) => answer_on_plan(alloc, &universe, &plan, question),
         Err(fault) => refusal_text(alloc, fault),
-    }
-}
-
-/// The answers to the questions of cases.
-#[derive(Drop)]
-pub struct CoreAnswers;
-
-impl<R> Answers<R> for CoreAnswers {
-    fn answer_to(&self, _rt: &R, alloc: Global, case: &Case) -> Result<Vec<u8>, AllocError> {
-        answer_on_input(alloc, &case.input, case.question)
     }
 }

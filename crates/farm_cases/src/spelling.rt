@@ -1,4 +1,4 @@
-//! Names and versions, as the answers of a core spell them.
+//! Names and versions, as answers spell them.
 
 ghost use Rattle.std.specs.Prelude.{◌≡◌, true};
 ghost use Rattle.farm_model.specs.Sound.{IsKnown};

@@ -1,18 +1,16 @@
-//! The answers to the questions of cases.
+//! What certificates are answered with.
 
 ghost use Rattle.plan_model.specs.Sound.{IsSound};
 
 use crate::replaced::answer_replaced;
-use case_files::{Answers, Case};
+use crate::verdicts::refusal_text;
 use cert_text::{CertFault, print, read};
-use deb_text::{Fault, cut_at_first, cut_at_last, read_number};
+use deb_text::{cut_at_first, cut_at_last, read_number};
 use farm_input::{Planned, read_texts, texts_of};
-use farm_report::{WriteFailed, WriteSink, verdict_text, write_cert_verdict};
+use farm_report::{WriteFailed, WriteSink, write_cert_verdict};
 use plan_asm::Plan;
 use plan_cert::check_certificate;
-use plan_verifier::Refusal;
 use std::alloc::{AllocError, Global};
-use std::mem::ManuallyDrop;
 use std::str;
 use std::thread::Threads;
 
@@ -111,33 +109,23 @@ fn cut_certificate(input: &[u8]) -> (&[u8], &[u8]) {
     )
 }
 
-/// The refusal of a text.
-fn refusal_text(alloc: Global, fault: Fault) -> Result<Vec<u8>, AllocError> {
-    // it has nothing to be given back
-    let verdict = ManuallyDrop::new(Err(Refusal::from(fault)));
-    verdict_text(alloc, &*verdict)
-}
-
-fn answer_to(
+/// Answers a question about a certificate, which stands behind the farm of an input, or with the
+/// first fault of the farm's texts.
+///
+/// # Errors
+///
+/// [`AllocError`] where memory is refused.
+pub fn answer_on_certificate(
     rt: &(impl Threads + Sync),
     alloc: Global,
-    case: &Case,
+    input: &[u8],
+    question: &[u8],
 ) -> Result<Vec<u8>, AllocError> {
-    let (farm, certificate) = cut_certificate(&case.input);
+    let (farm, certificate) = cut_certificate(input);
     let texts = texts_of(farm);
     let read = read_texts(alloc, texts.packages, texts.sources, texts.farm, texts.plan);
     match read {
-        Ok(planned) => answer_on_plan(rt, alloc, &planned, case.question, certificate),
+        Ok(planned) => answer_on_plan(rt, alloc, &planned, question, certificate),
         Err(fault) => refusal_text(alloc, fault),
-    }
-}
-
-/// The answers to the questions of cases.
-#[derive(Drop)]
-pub struct CertAnswers;
-
-impl<R: Threads + Sync> Answers<R> for CertAnswers {
-    fn answer_to(&self, rt: &R, alloc: Global, case: &Case) -> Result<Vec<u8>, AllocError> {
-        answer_to(rt, alloc, case)
     }
 }

@@ -2,7 +2,7 @@
 
 ghost use Rattle.plan_model.specs.Sound.{IsSound};
 
-use crate::answers::answer_checked;
+use crate::certificates::answer_checked;
 use farm_input::Planned;
 use std::alloc::{AllocError, Global};
 use std::thread::Threads;
