@@ -69,6 +69,11 @@ pub first-more : (a b f g : Relations) → f ≡ first_entries a → g ≡ first
 first-more a b f g given more =
     more ∙ ap (λ front. first_entries (front ++ b)) given ∙ first-of-two a b
 
+pub first-three : (a b c : Relations) → {e f g h : Relations} → e ≡ [] → f ≡ first_entries (e ++ a)
+    → g ≡ first_entries (f ++ b) → h ≡ first_entries (g ++ c) → h ≡ first_entries (a ++ b ++ c)
+first-three a b c none one two three =
+    first-more (a ++ b) c _ _ (first-more a b _ _ (first-one a _ _ none one) two) three
+
 -- ---- answers that go on by what was kept
 
 module _ {A B F : Type 0} where

@@ -1,6 +1,6 @@
 use Rattle.std.proofs.Common.{◌∙◌}
 use Rattle.farm_universe.specs.RecipeText.{in_mode}
-use Rattle.farm_universe.proofs.FirstLaws.{first-few, first-one, first-more}
+use Rattle.farm_universe.proofs.FirstLaws.{first-few, first-one, first-more, first-three}
 use Rattle.farm_universe.proofs.build.reduce_in_mode.Goals as goal
 
 pub push_reduced-requires-in-Full : goal.push_reduced-requires-in-Full
@@ -21,11 +21,8 @@ unfolding in_mode
 returns-in_ok-push_reduced-in-Full-2-clause-left c =
     rw c.in-Full.is
     (c.from_entries.ensures
-    ∙ first-more _ _ _ _
-    (first-more _ _ _ _
-    (first-one _ _ _ c.new-entries.ensures.items c.in_ok-push_reduced.ensures.entries)
-    c.in_ok-push_reduced-in-Full.ensures.entries)
-    c.in_ok-push_reduced-in-Full-2.ensures.entries)
+    ∙ first-three _ _ _ c.new-entries.ensures.items c.in_ok-push_reduced.ensures.entries
+    c.in_ok-push_reduced-in-Full.ensures.entries c.in_ok-push_reduced-in-Full-2.ensures.entries)
 
 pub returns-in_ok-push_reduced-in-Arch-clause-left :
     goal.returns-in_ok-push_reduced-in-Arch-clause-left

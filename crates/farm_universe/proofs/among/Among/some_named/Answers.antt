@@ -1,6 +1,5 @@
 use Rattle.std.proofs.Common.{◌≡◌, ◌∙◌, ◌&&◌, Bool, ap, subst}
 use Rattle.std.specs.List.{list_any}
-use Rattle.deb_relation.specs.Relations.{Atom}
 use Rattle.deb_relation.specs.Satisfaction.{is_its_own}
 use Rattle.item_index.specs.Items.{listed}
 use Rattle.farm_universe.specs.Among.{is_another_member, at_owner, AreFound}

@@ -1,6 +1,5 @@
 use Rattle.std.proofs.Common.{◌≡◌, ◌∙◌, ◌&&◌, ℕ, Bool, ap, subst}
 use Rattle.std.specs.List.{list_any}
-use Rattle.deb_relation.specs.Relations.{Atom}
 use Rattle.item_index.specs.declared.item.Item.{Item}
 use Rattle.item_index.specs.Items.{listed}
 use Rattle.farm_universe.specs.Among.{is_another_member, provides_at, at_owner, AreFound}
