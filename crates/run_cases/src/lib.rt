@@ -1,7 +1,10 @@
-//! Tests of whole runs, over one archive: a thread for each lane of a plan and a gate, lanes that
-//! take turns in one thread, or a schedule.
+//! Tests of the shared archive of a plan, opened and closed with seats that come back, and of whole
+//! runs over one: a thread for each lane of a plan and a gate, lanes that take turns in one thread,
+//! or a schedule.
 #![tactic(auto)]
 
+#[cfg(test)]
+mod archive;
 #[cfg(test)]
 mod giving_up;
 #[cfg(test)]
