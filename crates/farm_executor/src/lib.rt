@@ -1,4 +1,4 @@
-//! A whole farm: each lane of an accepted plan in a thread of its own.
+//! Runs of an accepted plan: a whole farm, with a thread for each lane, or a schedule.
 #![tactic(auto)]
 
 mod base;
@@ -11,6 +11,7 @@ mod link;
 mod outcomes;
 mod providers;
 mod run;
+mod schedule;
 mod scope;
 mod turns;
 
@@ -22,5 +23,6 @@ pub use lanes::{EndOf, LaneEnd, LaneJob, Setting, Started};
 pub use link::Link;
 pub use providers::Providers;
 pub use run::{FarmRun, RunFault, run_farm};
+pub use schedule::accepted_schedule;
 pub use scope::{Prepared, in_scope, run_lanes};
 pub use turns::lanes_in_turns;

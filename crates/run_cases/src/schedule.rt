@@ -1,7 +1,7 @@
 //! A schedule of the accepted farm of examples/toolchain.
 
 use crate::toolchain::accepted_plan;
-use accepted_runs::accepted_schedule;
+use farm_executor::accepted_schedule;
 use std::mem::ManuallyDrop;
 use std::test::Fail;
 

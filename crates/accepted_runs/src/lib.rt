@@ -1,6 +1,0 @@
-//! Runs of accepted plans.
-#![tactic(auto)]
-
-mod schedule;
-
-pub use schedule::accepted_schedule;
