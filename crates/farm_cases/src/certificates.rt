@@ -3,7 +3,7 @@
 ghost use Rattle.plan_model.specs.Sound.{IsSound};
 
 use crate::replaced::answer_replaced;
-use crate::verdicts::refusal_text;
+use crate::verdicts::fault_line;
 use cert_text::{CertFault, print, read};
 use deb_text::{cut_at_first, cut_at_last, read_number};
 use farm_input::{Planned, read_texts, texts_of};
@@ -126,6 +126,6 @@ pub fn answer_on_certificate(
     let read = read_texts(alloc, texts.packages, texts.sources, texts.farm, texts.plan);
     match read {
         Ok(planned) => answer_on_plan(rt, alloc, &planned, question, certificate),
-        Err(fault) => refusal_text(alloc, fault),
+        Err(fault) => fault_line(alloc, fault),
     }
 }

@@ -6,7 +6,7 @@ ghost use Rattle.plan_model.specs.Sound.{IsPlan};
 
 use crate::schedule::read_schedule;
 use crate::turns::push_turns;
-use crate::verdicts::refusal_text;
+use crate::verdicts::fault_line;
 use deb_text::cut_at_first;
 use farm_core::{Core, run_schedule};
 use farm_input::Texts;
@@ -82,10 +82,10 @@ pub fn answer_on_schedule(
 ) -> Result<Vec<u8>, AllocError> {
     let universe = match Universe::read(alloc, texts.packages, texts.sources, texts.farm) {
         Ok(universe) => universe,
-        Err(fault) => return refusal_text(alloc, fault),
+        Err(fault) => return fault_line(alloc, fault),
     };
     match assemble(alloc, &universe, texts.plan) {
         Ok(plan) => answer_on_plan(alloc, &universe, &plan, question),
-        Err(fault) => refusal_text(alloc, fault),
+        Err(fault) => fault_line(alloc, fault),
     }
 }

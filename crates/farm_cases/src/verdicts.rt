@@ -3,10 +3,9 @@
 use crate::plans::push_plan;
 use crate::universes::push_universe;
 use deb_text::Fault;
-use farm_report::verdict_text;
+use farm_report::{WriteFailed, WriteSink, refusal_text, write_check};
 use plan_verifier::{Accepted, Refusal};
 use std::alloc::{AllocError, Global};
-use std::mem::ManuallyDrop;
 
 /// The message of the verdict's refusal, or nothing.
 fn message(alloc: Global, verdict: &Result<Accepted, Refusal>) -> Result<Vec<u8>, AllocError> {
@@ -28,6 +27,15 @@ fn accepted(alloc: Global, verdict: &Result<Accepted, Refusal>) -> Result<Vec<u8
     match verdict {
         Ok(accepted) => accepted_text(alloc, accepted),
         Err(_) => Ok(Vec::new(alloc)),
+    }
+}
+
+/// The verdict as it is printed.
+fn verdict_text(alloc: Global, verdict: &Result<Accepted, Refusal>) -> Result<Vec<u8>, AllocError> {
+    let mut out = WriteSink::new(Vec::new(alloc));
+    match write_check(&mut out, verdict) {
+        Ok(()) => Ok(out.into_inner()),
+        Err(WriteFailed) => Err(AllocError),
     }
 }
 
@@ -53,8 +61,6 @@ pub fn verdict_answer(
 /// # Errors
 ///
 /// [`AllocError`] where memory is refused.
-pub fn refusal_text(alloc: Global, fault: Fault) -> Result<Vec<u8>, AllocError> {
-    // it has nothing to be given back
-    let verdict = ManuallyDrop::new(Err(Refusal::from(fault)));
-    verdict_text(alloc, &*verdict)
+pub fn fault_line(alloc: Global, fault: Fault) -> Result<Vec<u8>, AllocError> {
+    refusal_text(alloc, &Refusal::from(fault))
 }

@@ -25,23 +25,15 @@ use crate::note::{Note, note_place};
 use crate::parting::{end_behind, push_parting};
 use crate::place::push_where;
 use crate::reasons::push_reason;
-use farm_report::verdict_text;
+use farm_report::refusal_text;
 use farm_universe::Trap;
 use plan_asm::Instruction;
 use plan_lines::PlanLines;
 use plan_verifier::walk::{walk, walk_to};
-use plan_verifier::{Accepted, LaneMay, Refusal, Stage, WalkError};
+use plan_verifier::{LaneMay, Refusal, Stage, WalkError};
 use refusal_reasons::{Reason, reason};
 use std::alloc::{AllocError, Global};
 use wait_order::KnownWords;
-
-/// The line of a refusal.
-fn refusal_line(alloc: Global, refusal: Refusal) -> Result<Vec<u8>, AllocError>
-    ensures { IfOk result (λ text. text.items ≡ refusal_text refusal) }
-{
-    let verdict: Result<Accepted, Refusal> = Err(refusal);
-    verdict_text(alloc, &verdict)
-}
 
 /// What of a name is surely in the archive, as a word; nothing for a number that is none's.
 fn missing_word<K: KnownWords>(stage: &Stage<'_, K>, number: usize, place: usize, name: u32) -> u64
@@ -145,7 +137,7 @@ fn trap_head<K: KnownWords>(
         trap: met.trap,
     };
     let place = met.instruction as usize - 1;
-    let mut text = refusal_line(alloc, refusal)?;
+    let mut text = refusal_text(alloc, &refusal)?;
     push_where(&mut text, stage.universe, stage.plan, lines, number, place)?;
     Ok(text)
 }
@@ -270,7 +262,7 @@ fn uneven_head<K: KnownWords>(
         instruction,
     };
     let place = instruction as usize - 1;
-    let mut text = refusal_line(alloc, refusal)?;
+    let mut text = refusal_text(alloc, &refusal)?;
     push_where(&mut text, stage.universe, stage.plan, lines, number, place)?;
     Ok(text)
 }

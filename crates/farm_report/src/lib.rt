@@ -15,4 +15,4 @@ pub use finished::write_run;
 pub use lane_names::lane_name;
 pub use report_sink::{Sink, SinkFailed, WRITE_FAILED, WriteFailed, WriteSink, write_text};
 pub use step::write_step;
-pub use verdict::{verdict_text, write_check};
+pub use verdict::{refusal_text, write_check};

@@ -94,19 +94,16 @@ pub fn write_check<S: Sink>(
     }
 }
 
-/// Gives the lines of a verdict.
+/// Gives the line of a refusal.
 ///
 /// # Errors
 ///
 /// [`AllocError`] where memory is refused.
-pub fn verdict_text(
-    alloc: Global,
-    verdict: &Result<Accepted, Refusal>,
-) -> Result<Vec<u8>, AllocError>
-    ensures { IfOk result (λ text. text.items ≡ spec.verdict_text verdict.now) }
+pub fn refusal_text(alloc: Global, refusal: &Refusal) -> Result<Vec<u8>, AllocError>
+    ensures { IfOk result (λ text. text.items ≡ spec.refusal_text refusal.now) }
 {
     let mut out = WriteSink::new(Vec::new(alloc));
-    match write_check(&mut out, verdict) {
+    match write_refusal(&mut out, refusal) {
         Ok(()) => Ok(out.into_inner()),
         Err(WriteFailed) => Err(AllocError),
     }
