@@ -9,5 +9,8 @@ mod row;
 mod word;
 
 pub use laws::rows_are_sets;
-pub use row::Row;
+use std::alloc::Global;
 pub use word::newest;
+
+/// A row with room for one block in itself, since most rows have no more.
+pub type Row<A = Global> = row::Row<1, A>;

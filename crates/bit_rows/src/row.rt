@@ -1,27 +1,30 @@
 //! A row of words, and what it does with other rows.
 
-ghost use Rattle.std.specs.Prelude.{◌≡◌, ◌<◌, ◌≤◌, ◌↔◌, IsTrue, IfOk, OnOk, OnErr, length, replicate, slice_index, slice_set};
+ghost use Rattle.std.specs.Prelude.{◌≡◌, ◌<◌, ◌≤◌, ◌↔◌, IsTrue, IsOk, IfOk, OnOk, OnErr, length, replicate, slice_index, slice_set};
 ghost use Rattle.clause_kernel.specs.Kernels.{shares_bit, meets, lies_in, hits, met, within, same_rows, joined, common, remaining};
-ghost use Rattle.bit_rows.specs.Sets.{variants_of, HasNone, HasSomeAt, HasAllAt, IsMetAt, IsWordOf, IsSubset, HaveSame, HaveCommon, HasNameInside, IsUnion, IsIntersection, IsDifference, ReplacesName, AddsVariant, HasNoneFrom};
+ghost use Rattle.bit_rows.specs.Sets.{variants_of, HasNone, HasSomeAt, HasAllAt, IsMetAt, IsWordOf, IsSubset, HaveSame, HaveCommon, HasNameInside, IsUnion, IsIntersection, IsDifference, ReplacesName, AddsVariant, HasNoneFrom, HasNoWordApart};
 
 use crate::block::{BLOCK, Block, are_same, find, put, skip_to, words_there};
 use crate::change::{Keeps, TakesOut, change_each, join_each};
 use crate::meet::{IsMet, LeavesBit, SharesBit, has_each, some_met, some_piece_met};
-use std::alloc::{AllocError, Allocator, Global};
+use smallvec::SmallVec;
+use std::alloc::{AllocError, Allocator};
 use std::marker::Model;
 
 /// A set of variants as a list of words, one for each name.
 ///
 /// Clauses see a row as its words, and as the set of the variants whose bit is set. How the words
 /// are kept is no part of the contract. Two rows that meet in one call have one length, and so have
-/// a row and a slice of words, one for each name, which stand for a set as a row's do.
+/// a row and a slice of words, one for each name, which stand for a set as a row's do. `N` blocks
+/// of eight words that are not all 0 have room in the row itself; where there are more, all lie in
+/// memory.
 #[derive(Drop)]
-pub struct Row<A: Allocator = Global> {
+pub struct Row<const N: usize, A: Allocator + Copy> {
     count: usize,
-    blocks: Vec<Block, A>,
+    blocks: SmallVec<Block, N, A>,
 }
 
-impl<A: Allocator> Model for Row<A> {
+impl<const N: usize, A: Allocator + Copy> Model for Row<N, A> {
     ghost use Rattle.std.specs.Prelude.{List, ℕ};
 
     ghost Value = { List ℕ };
@@ -33,20 +36,21 @@ impl<A: Allocator> Model for Row<A> {
     ghost invariant = { λ row. AreRowBlocks row.count row.blocks.items };
 }
 
-impl<A: Allocator> Row<A> {
+impl<const N: usize, A: Allocator + Copy> Row<N, A> {
     /// Makes a row of `n` words, all 0.
     ///
     /// # Errors
     ///
-    /// [`AllocError`] where memory is refused.
-    pub fn new(alloc: A, n: usize) -> Result<Row<A>, AllocError>
+    /// None: it asks for no memory.
+    pub fn new(alloc: A, n: usize) -> Result<Row<N, A>, AllocError>
         ensures words { IfOk result (λ row. row ≡ replicate n 0) }
         ensures set { IfOk result (λ row. HasNone (variants_of row)) }
         ensures len { IfOk result (λ row. length row ≡ n) }
+        ensures succeeds { IsOk result }
     {
         Ok(Row {
             count: n,
-            blocks: Vec::new(alloc),
+            blocks: SmallVec::new(alloc),
         })
     }
 
@@ -55,15 +59,16 @@ impl<A: Allocator> Row<A> {
     ///
     /// # Errors
     ///
-    /// [`AllocError`] where memory is refused.
-    pub fn with_room(alloc: A, n: usize, names: usize) -> Result<Row<A>, AllocError>
+    /// [`AllocError`] where memory is refused. For at most `N` names none is asked for.
+    pub fn with_room(alloc: A, n: usize, names: usize) -> Result<Row<N, A>, AllocError>
         ensures words { IfOk result (λ row. row ≡ replicate n 0) }
         ensures set { IfOk result (λ row. HasNone (variants_of row)) }
         ensures len { IfOk result (λ row. length row ≡ n) }
+        ensures short { names ≤ N → IsOk result }
     {
         Ok(Row {
             count: n,
-            blocks: Vec::with_capacity(alloc, names.min(n / BLOCK + 1))?,
+            blocks: SmallVec::with_capacity(alloc, names.min(n / BLOCK + 1))?,
         })
     }
 
@@ -110,7 +115,8 @@ impl<A: Allocator> Row<A> {
     ///
     /// # Errors
     ///
-    /// [`AllocError`] where memory is refused. The row is then as it was.
+    /// [`AllocError`] where memory is refused. The row is then as it was. None is asked for where
+    /// all words that are not 0, and this one, lie in one block.
     pub fn set_word(&mut self, name: usize, word: u64) -> Result<(), AllocError>
         requires { name < length self.old }
         ensures words { OnOk result (self.new ≡ slice_set self.old name word) }
@@ -118,6 +124,7 @@ impl<A: Allocator> Row<A> {
             (ReplacesName (variants_of self.old) name word (variants_of self.new)) }
         ensures len { length self.new ≡ length self.old }
         ensures unchanged { OnErr result (self.new ≡ self.old) }
+        ensures short { 0 < N → HasNoWordApart self.old name → IsOk result }
     {
         let place = name / BLOCK;
         let at = find(&self.blocks, place);
@@ -130,7 +137,8 @@ impl<A: Allocator> Row<A> {
     ///
     /// # Errors
     ///
-    /// [`AllocError`] where memory is refused. The row is then as it was.
+    /// [`AllocError`] where memory is refused. The row is then as it was. None is asked for where
+    /// all words that are not 0, and this one, lie in one block.
     pub fn set_bit(&mut self, name: usize, bit: u32) -> Result<(), AllocError>
         requires named { name < length self.old }
         requires within { bit < 64 }
@@ -138,6 +146,7 @@ impl<A: Allocator> Row<A> {
             (AddsVariant (variants_of self.old) name bit (variants_of self.new)) }
         ensures len { length self.new ≡ length self.old }
         ensures unchanged { OnErr result (self.new ≡ self.old) }
+        ensures short { 0 < N → HasNoWordApart self.old name → IsOk result }
     {
         let word = self.word(name);
         self.set_word(name, word | 1 << bit)?;
@@ -149,7 +158,7 @@ impl<A: Allocator> Row<A> {
     /// # Errors
     ///
     /// [`AllocError`] where memory is refused. The row is then as it was.
-    pub fn or_into(&mut self, other: &Row<A>) -> Result<(), AllocError>
+    pub fn or_into(&mut self, other: &Row<N, A>) -> Result<(), AllocError>
         requires { length self.old ≡ length other.now }
         ensures words { OnOk result (self.new ≡ joined self.old other.now) }
         ensures set { OnOk result
@@ -161,29 +170,29 @@ impl<A: Allocator> Row<A> {
     }
 
     /// Keeps the variants that another row has too.
-    pub fn and_into(&mut self, other: &Row<A>)
+    pub fn and_into(&mut self, other: &Row<N, A>)
         requires { length self.old ≡ length other.now }
         ensures words { self.new ≡ common self.old other.now }
         ensures set { IsIntersection (variants_of self.old) (variants_of other.now)
             (variants_of self.new) }
         ensures len { length self.new ≡ length self.old }
     {
-        change_each::<Keeps, A>(&mut self.blocks, &other.blocks);
+        change_each::<Keeps, N, A>(&mut self.blocks, &other.blocks);
     }
 
     /// Takes the variants of another row out.
-    pub fn take_out(&mut self, other: &Row<A>)
+    pub fn take_out(&mut self, other: &Row<N, A>)
         requires { length self.old ≡ length other.now }
         ensures words { self.new ≡ remaining self.old other.now }
         ensures set { IsDifference (variants_of self.old) (variants_of other.now)
             (variants_of self.new) }
         ensures len { length self.new ≡ length self.old }
     {
-        change_each::<TakesOut, A>(&mut self.blocks, &other.blocks);
+        change_each::<TakesOut, N, A>(&mut self.blocks, &other.blocks);
     }
 
     /// Tells whether some variant is in both rows.
-    pub fn hits(&self, other: &Row<A>) -> bool
+    pub fn hits(&self, other: &Row<N, A>) -> bool
         requires { length self.now ≡ length other.now }
         ensures test { result ≡ hits self.now other.now }
         ensures set { IsTrue result ↔ HaveCommon (variants_of self.now) (variants_of other.now) }
@@ -192,7 +201,7 @@ impl<A: Allocator> Row<A> {
     }
 
     /// Tells whether some name has variants here, and all of them in the other row.
-    pub fn met(&self, other: &Row<A>) -> bool
+    pub fn met(&self, other: &Row<N, A>) -> bool
         requires { length self.now ≡ length other.now }
         ensures test { result ≡ met self.now other.now }
         ensures set { IsTrue result ↔ HasNameInside (variants_of self.now) (variants_of other.now) }
@@ -201,7 +210,7 @@ impl<A: Allocator> Row<A> {
     }
 
     /// Tells whether each variant of this row is in the other.
-    pub fn within(&self, other: &Row<A>) -> bool
+    pub fn within(&self, other: &Row<N, A>) -> bool
         requires { length self.now ≡ length other.now }
         ensures test { result ≡ within self.now other.now }
         ensures set { IsTrue result ↔ IsSubset (variants_of self.now) (variants_of other.now) }
@@ -210,7 +219,7 @@ impl<A: Allocator> Row<A> {
     }
 
     /// Tells whether both rows have the same words, and so the same variants.
-    pub fn same(&self, other: &Row<A>) -> bool
+    pub fn same(&self, other: &Row<N, A>) -> bool
         requires { length self.now ≡ length other.now }
         ensures test { result ≡ same_rows self.now other.now }
         ensures equal { IsTrue result ↔ (self.now ≡ other.now) }
@@ -274,10 +283,10 @@ impl<A: Allocator> Row<A> {
     }
 }
 
-impl<A: Allocator + Clone> Clone for Row<A> {
+impl<const N: usize, A: Allocator + Copy> Clone for Row<N, A> {
     ghost is_clone = { λ row copy. copy ≡ row };
 
-    fn clone(&self) -> Result<Row<A>, AllocError> {
+    fn clone(&self) -> Result<Row<N, A>, AllocError> {
         Ok(Row {
             count: self.count,
             blocks: self.blocks.clone()?,

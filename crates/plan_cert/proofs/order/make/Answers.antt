@@ -13,22 +13,19 @@ use Rattle.plan_cert.specs.Events.{order_item_of, IsEvent, IsMade}
 use Rattle.plan_cert.proofs.EventLaws.{made-pass, made-give}
 use Rattle.plan_cert.proofs.order.make.Goals as goal
 
-pub set_bit-requires-clause-named : goal.set_bit-requires-clause-named
-set_bit-requires-clause-named c =
+pub set_bit-requires : goal.set_bit-requires
+set_bit-requires c =
     let known : IsEvent c.args.claim.universe.now c.args.claim.plan.now.lanes c.args.number
     (Event.Give c.in-Give.output) =
     subst (IsEvent c.args.claim.universe.now c.args.claim.plan.now.lanes c.args.number) c.in-Give.is
     c.requires.event in
-    let there = named c.args.claim.universe.now c.in-Give.output.name c.in-Give.output.bit known in
-    omega (arith, there, c.requires.archive)
-
-pub set_bit-requires-clause-within : goal.set_bit-requires-clause-within
-set_bit-requires-clause-within c =
-    let known : IsEvent c.args.claim.universe.now c.args.claim.plan.now.lanes c.args.number
-    (Event.Give c.in-Give.output) =
-    subst (IsEvent c.args.claim.universe.now c.args.claim.plan.now.lanes c.args.number) c.in-Give.is
-    c.requires.event in
-    omega (arith, known, c.requires.sound.few c.in-Give.output.name)
+    let there = named c.args.claim.universe.now c.in-Give.output.name c.in-Give.output.bit known in (
+      omega arith,
+      (
+        omega (arith, there, c.requires.archive),
+        omega (arith, known, c.requires.sound.few c.in-Give.output.name),
+      ),
+    )
 
 pub returns-in_ok-row-in-Pass : goal.returns-in_ok-row-in-Pass
 returns-in_ok-row-in-Pass c =

@@ -21,9 +21,9 @@ loop-n-init c = (
       (λ v. sym (or-false (test v))) is,
 )
 
-pub set_bit-requires-clause-named : goal.set_bit-requires-clause-named
+pub set_bit-requires : goal.set_bit-requires
 unfolding none
-set_bit-requires-clause-named c =
+set_bit-requires c =
     let outs = c.as_slice-outputs.result.now in
     let known =
     known_at c.args.known.lanes.now c.args.lane c.loop-n.n c.index-known-lane.result outs none
@@ -31,18 +31,17 @@ set_bit-requires-clause-named c =
     (omega (arith, c.loop-n-test.true, c.min-limit.ensures)) in
     let there =
     named c.args.known.universe.now (get_or outs c.loop-n.n none).variant.name
-    (get_or outs c.loop-n.n none).variant.bit known in
-    omega (arith, there, c.loop-n.invariant.0)
-
-pub set_bit-requires-clause-within : goal.set_bit-requires-clause-within
-unfolding none
-set_bit-requires-clause-within c =
-    let outs = c.as_slice-outputs.result.now in
-    let known =
-    known_at c.args.known.lanes.now c.args.lane c.loop-n.n c.index-known-lane.result outs none
-    c.as_slice-outputs.ensures.value c.requires.lane c.args.known.universe.now c.args.known.known
-    (omega (arith, c.loop-n-test.true, c.min-limit.ensures)) in
-    omega (arith, known, c.args.known.sound.few (get_or outs c.loop-n.n none).variant.name)
+    (get_or outs c.loop-n.n none).variant.bit known in (
+      omega arith,
+      (
+        omega (arith, there, c.loop-n.invariant.0),
+        omega (
+          arith,
+          known,
+          c.args.known.sound.few (get_or outs c.loop-n.n none).variant.name,
+        ),
+      ),
+    )
 
 pub loop-n-preserved : goal.loop-n-preserved
 unfolding none
