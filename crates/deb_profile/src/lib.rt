@@ -8,7 +8,6 @@ mod reduction;
 mod restriction;
 mod word_list;
 
-pub use reading::reduce_entry_text;
-pub use reduction::{is_bare, reduce, reduce_entry, reduce_text, strip_entry};
+pub use reduction::{is_bare, reduce, reduce_text, strip_entry};
 pub use restriction::keeps;
 pub use word_list::{ArchNames, ProfileSet};

@@ -35,4 +35,3 @@ pub use relations::{Entry, Relations};
 pub use restriction::{ArchList, Item, ProfileList, Word};
 pub use same::{hash_of_entry, is_same_entry};
 pub use satisfaction::{Facts, in_relation, provides_it, satisfies};
-pub use words::{WordRule, read_words};

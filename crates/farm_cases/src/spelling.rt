@@ -4,7 +4,6 @@ ghost use Rattle.std.specs.Prelude.{◌≡◌, true};
 ghost use Rattle.farm_model.specs.Sound.{IsKnown};
 
 use farm_universe::{Universe, Variant};
-use plan_asm::Plan;
 use std::alloc::AllocError;
 
 fn is_known(universe: &Universe, variant: Variant) -> bool
@@ -27,15 +26,6 @@ pub fn push_version(
         write!(text, "{}", universe.version(variant).text().escape_ascii())
     } else {
         text.push_str("?")
-    }
-}
-
-/// The name of a lane.
-pub fn lane_name(plan: &Plan, lane: u32) -> &[u8] {
-    if (lane as usize) < plan.lanes() {
-        plan.lane(lane as usize).name()
-    } else {
-        b"?"
     }
 }
 

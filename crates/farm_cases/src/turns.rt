@@ -2,10 +2,11 @@
 
 ghost use Rattle.std.specs.Prelude.{◌<◌, length};
 
-use crate::spelling::{lane_name, name_text, push_version};
+use crate::spelling::{name_text, push_version};
 use chroot_state::Chroot;
 use farm_core::{Core, Step};
 use farm_universe::Universe;
+use plan_asm::lane_name;
 use std::alloc::AllocError;
 
 fn push_step(text: &mut String, step: Step) -> Result<(), AllocError> {
@@ -41,7 +42,11 @@ fn push_last(
 fn push_lane(text: &mut String, core: &Core, lane: u32) -> Result<(), AllocError>
     requires { lane < length core.now.plan.lanes }
 {
-    writeln!(text, "lane {}", lane_name(core.plan(), lane).escape_ascii())?;
+    writeln!(
+        text,
+        "lane {}",
+        lane_name(core.plan(), lane as usize).escape_ascii()
+    )?;
     for name in 0..core.universe().names() {
         push_last(text, core.universe(), core.chroot(lane), name)?;
     }

@@ -2,10 +2,8 @@
 
 use farm_archive::Publication;
 use farm_executor::Bell;
-use farm_report::lane_name;
-use farm_spelling::{name_of, version_of};
 use lane_runner::{Gate, Go, LaneArchive};
-use plan_asm::Plan;
+use plan_asm::{Plan, lane_name, name_of, version_of};
 use plan_verifier::Accepted;
 use std::alloc::{AllocError, Global};
 use std::io::Eprint;
@@ -84,7 +82,7 @@ impl<R: Wait + Eprint> Teller<'_, R> {
             variant,
         } = publication;
         let universe = accepted.universe();
-        let lane = lane_name(accepted.plan(), lane).escape_ascii();
+        let lane = lane_name(accepted.plan(), lane as usize).escape_ascii();
         let name = name_of(universe, variant.name).escape_ascii();
         let version = version_of(universe, variant).escape_ascii();
         let _lanes = self.lanes.lock(self.rt);

@@ -14,7 +14,7 @@ use Rattle.farm_model.specs.declared.types.Variant.{Variant}
 use Rattle.farm_model.specs.Below.{some_below}
 use Rattle.farm_model.specs.Universe.{Universe}
 use Rattle.farm_model.specs.Packages.{variant, variants, package_of, recipe, satisfies_entry, satisfies_any}
-use Rattle.farm_spelling.specs.Variants.{variant_text}
+use Rattle.plan_asm.specs.Variants.{variant_text}
 use Rattle.plan_asm.specs.Listing.{name_of_number, instruction_text}
 use Rattle.plan_lines.specs.declared.origin.Origin.{Origin}
 use Rattle.plan_lines.specs.Origins.{LaneLines}

@@ -15,7 +15,7 @@ use Rattle.farm_model.specs.Below.{some_below}
 use Rattle.farm_model.specs.Universe.{Universe}
 use Rattle.farm_model.specs.Packages.{names, variant, variants, package_of, satisfies_entry}
 use Rattle.farm_model.specs.declared.types.Variant.{Variant}
-use Rattle.farm_spelling.specs.Variants.{version_of}
+use Rattle.plan_asm.specs.Variants.{version_of}
 use Rattle.farm_explain.specs.declared.words.Word.{Word}
 use Rattle.farm_explain.specs.Words.{word_text}
 use Rattle.plan_asm.specs.Listing.{name_of_number}

@@ -10,9 +10,9 @@ use crate::held::{push_ahead, push_unmet};
 use crate::words::Word;
 use deb_relation::{Entry, Relations};
 use deb_text::push_pieces;
-use farm_spelling::name_of;
 use farm_universe::{Universe, Variant};
 use may_rows::{MayHold, variant_count};
+use plan_asm::name_of;
 use std::alloc::AllocError;
 
 /// Tells whether an alternative of an entry has this name.

@@ -10,8 +10,8 @@ use crate::could_meet::{ChrootText, push_could_meet};
 use crate::words::Word;
 use deb_relation::{Entry, Relations};
 use deb_text::push_pieces;
-use farm_spelling::{push_entry, push_variant};
 use farm_universe::{Universe, Variant};
+use plan_asm::{push_entry, push_variant};
 use refusal_reasons::Field;
 use std::alloc::AllocError;
 

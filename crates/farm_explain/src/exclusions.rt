@@ -12,9 +12,9 @@ use crate::entries::{Owner, push_entry_line};
 use crate::words::Word;
 use deb_relation::{Entry, Relations};
 use deb_text::push_pieces;
-use farm_spelling::push_variant;
 use farm_universe::relations::{satisfies_any, satisfies_entry};
 use farm_universe::{Universe, Variant};
+use plan_asm::push_variant;
 use std::alloc::AllocError;
 
 /// The first entry that a variant satisfies.

@@ -10,10 +10,10 @@ ghost use Rattle.farm_explain.specs.Texts as spec;
 use crate::words::Word;
 use deb_relation::Entry;
 use deb_text::push_pieces;
-use farm_spelling::{name_of, version_of};
 use farm_universe::relations::satisfies_entry;
 use farm_universe::{Universe, Variant};
 use may_rows::{MayHold, has_bit, variant_count};
+use plan_asm::{name_of, version_of};
 use std::alloc::AllocError;
 
 /// The version of a variant, where it is in the set.

@@ -13,10 +13,9 @@ use crate::held::has_some;
 use crate::place::push_at;
 use crate::words::Word;
 use deb_text::push_pieces;
-use farm_spelling::{name_of, push_variant};
 use farm_universe::{Universe, Variant};
 use may_rows::{has_bit, variant_count};
-use plan_asm::{Instruction, Plan};
+use plan_asm::{Instruction, Plan, lane_name, name_of, push_variant};
 use plan_lines::PlanLines;
 use std::alloc::AllocError;
 
@@ -91,17 +90,6 @@ fn publication(universe: &Universe, plan: &Plan, variant: Variant) -> Option<Pub
         }
     }
     None
-}
-
-/// The name of a lane; nothing for a number that is none's.
-fn lane_name(plan: &Plan, number: usize) -> &[u8]
-    ensures { result.now ≡ (lane plan.now.lanes number).name }
-{
-    if number < plan.lanes() {
-        plan.lane(number).name()
-    } else {
-        b""
-    }
 }
 
 /// That the lane itself publishes a variant later.

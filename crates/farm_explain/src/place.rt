@@ -7,9 +7,8 @@ ghost use Rattle.farm_explain.specs.ReasonText as spec;
 
 use crate::words::{Word, push_count};
 use deb_text::push_pieces;
-use farm_spelling::push_instruction;
 use farm_universe::Universe;
-use plan_asm::{Instruction, Plan};
+use plan_asm::{Instruction, Plan, push_instruction};
 use plan_lines::{Origin, PlanLines};
 use std::alloc::AllocError;
 

@@ -11,7 +11,4 @@ mod notes;
 mod parts;
 
 pub use answer::{Texts, farm_note};
-pub use causes::{Cause, unsettled_cause};
-pub use items::{first_taken, first_unknown, item_variant};
 pub use limits::index_note;
-pub use lines::item_line;

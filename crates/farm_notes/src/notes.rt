@@ -11,9 +11,9 @@ use crate::lines::item_line;
 use deb_relation::Entry;
 use deb_text::push_pieces;
 use farm_model::Variant;
-use farm_spelling::push_entry;
 use farm_universe::Universe;
 use itoa::Buffer;
+use plan_asm::push_entry;
 use std::alloc::AllocError;
 
 /// A list of variants of the farm text: its items, its field, and the first line of its paragraph.

@@ -4,10 +4,9 @@ ghost use Rattle.std.specs.Prelude.{◌≡◌, is_err};
 ghost use Rattle.farm_report.specs.CertText as spec;
 ghost use Rattle.report_sink.specs.Sinks.{IsWritten};
 
-use crate::lane_names::lane_name;
 use crate::lines::{write_memory, write_refused_at, write_row, write_unsafe};
 use cert_text::{BAD_ORDER, BAD_TEXT, CertFault, NOT_JUSTIFIED, UNEVEN, UNSAFE};
-use plan_asm::Plan;
+use plan_asm::{Plan, lane_name};
 use report_sink::{Sink, WriteFailed, write_text};
 
 fn write_fault<S: Sink>(out: &mut S, plan: &Plan, fault: CertFault) -> Result<(), WriteFailed>
@@ -18,18 +17,23 @@ fn write_fault<S: Sink>(out: &mut S, plan: &Plan, fault: CertFault) -> Result<()
     match fault {
         CertFault::Text { line } => write_refused_at(out, BAD_TEXT, b"line", line as u64),
         CertFault::Row { lane, instruction } => {
-            write_row(out, NOT_JUSTIFIED, lane_name(plan, lane), instruction)
+            write_row(
+                out,
+                NOT_JUSTIFIED,
+                lane_name(plan, lane as usize),
+                instruction,
+            )
         }
         CertFault::Unsafe {
             lane,
             instruction,
             trap,
         } => {
-            let name = lane_name(plan, lane);
+            let name = lane_name(plan, lane as usize);
             write_unsafe(out, UNSAFE, name, instruction, trap.text().as_bytes())
         }
         CertFault::Uneven { lane, instruction } => {
-            write_row(out, UNEVEN, lane_name(plan, lane), instruction)
+            write_row(out, UNEVEN, lane_name(plan, lane as usize), instruction)
         }
         CertFault::Order { item } => write_refused_at(out, BAD_ORDER, b"item", item),
         CertFault::Memory => write_memory(out),

@@ -3,7 +3,6 @@
 
 mod cert;
 mod finished;
-mod lane_names;
 mod lines;
 mod state;
 mod state_lines;
@@ -12,7 +11,6 @@ mod verdict;
 
 pub use cert::write_cert_verdict;
 pub use finished::write_run;
-pub use lane_names::lane_name;
 pub use report_sink::{Sink, SinkFailed, WRITE_FAILED, WriteFailed, WriteSink, write_text};
 pub use step::write_step;
 pub use verdict::{refusal_text, write_check};

@@ -9,13 +9,11 @@ ghost use Rattle.plan_model.specs.Plan.{lane};
 ghost use Rattle.plan_model.specs.Run.{lane_state};
 ghost use Rattle.report_sink.specs.Sinks.{IsWritten};
 
-use crate::lane_names::lane_name;
 use crate::state_lines::{write_at, write_published, write_variant};
 use chroot_state::{Chroot, Phase};
 use farm_core::{Core, Publication};
-use farm_spelling::{name_of, version_of};
 use farm_universe::Universe;
-use plan_asm::Plan;
+use plan_asm::{Plan, lane_name, name_of, version_of};
 use report_sink::{Sink, WriteFailed, whether_written};
 
 fn write_publication<S: Sink>(
@@ -29,7 +27,7 @@ fn write_publication<S: Sink>(
     ensures told { is_err result ≡ (S.state out.new).failed }
 {
     let variant = publication.variant;
-    let lane = lane_name(plan, publication.lane);
+    let lane = lane_name(plan, publication.lane as usize);
     let name = name_of(universe, variant.name);
     let version = version_of(universe, variant);
     write_published(out, publication.serial, lane, name, version)
@@ -132,7 +130,7 @@ fn write_lane_state<S: Sink>(out: &mut S, core: &Core<'_>, number: u32) -> Resul
         (lane_state core.now.state number)) }
     ensures told { is_err result ≡ (S.state out.new).failed }
 {
-    let name = lane_name(core.plan(), number);
+    let name = lane_name(core.plan(), number as usize);
     let (done, spent) = (u64::from(core.done(number)), core.spent(number));
     let chroot = core.chroot(number);
     write_lane_lines(out, core.universe(), name, done, spent, chroot)

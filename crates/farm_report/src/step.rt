@@ -4,12 +4,11 @@ ghost use Rattle.std.specs.Prelude.{◌≡◌, is_err};
 ghost use Rattle.farm_report.specs.StateText as spec;
 ghost use Rattle.report_sink.specs.Sinks.{IsWritten};
 
-use crate::lane_names::lane_name;
 use crate::lines::write_counted;
 use crate::state::write_state;
 use crate::state_lines::write_trap;
 use farm_core::{Outcome, Stop};
-use plan_asm::Plan;
+use plan_asm::{Plan, lane_name};
 use report_sink::{Sink, WriteFailed};
 
 /// How a schedule of this length ended.
@@ -25,7 +24,7 @@ fn write_end<S: Sink>(
 {
     match stop {
         Some(stop) => {
-            let lane = lane_name(plan, stop.lane);
+            let lane = lane_name(plan, stop.lane as usize);
             let trap = stop.trap.text().as_bytes();
             write_trap(out, stop.step, lane, stop.instruction, trap)
         }

@@ -9,7 +9,5 @@ mod places;
 mod sentences;
 
 pub use escapes::write_escaped;
-pub use looks::{Look, is_looked_at, look_of};
 pub use notes::write_fault_note;
-pub use places::{file_name, line_at};
-pub use sentences::sentence;
+pub use places::file_name;

@@ -29,3 +29,4 @@ pub use past::go_past;
 pub use sets::{has_bit, variant_count};
 pub use space::greatest_size;
 pub use state::MayHold;
+pub use withdraw::remove_members;

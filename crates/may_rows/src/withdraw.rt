@@ -43,7 +43,7 @@ pub(crate) fn withdraw_members(state: &mut MayHold, members: &[u32])
 }
 
 /// Takes all that is present of the members away.
-pub(crate) fn remove_members(universe: &Universe, state: &mut MayHold, members: &[u32])
+pub fn remove_members(universe: &Universe, state: &mut MayHold, members: &[u32])
     requires words { AreWords universe.now state.old }
     requires members { IsNameSet universe.now members.now }
     ensures words { AreWords universe.now state.new }

@@ -20,3 +20,4 @@ pub mod PutLaws
 pub mod PlaceLaws
 pub mod PartLaws
 pub mod WordTests
+mod VariantLaws

@@ -14,3 +14,4 @@ pub mod Landings
 pub mod RecipeNumbers
 pub mod Said
 pub mod Parts
+pub mod Variants

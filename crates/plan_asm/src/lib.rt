@@ -8,6 +8,7 @@ mod copies;
 mod error;
 mod events;
 mod form;
+mod instructions;
 mod landing;
 mod lane;
 mod names;
@@ -16,19 +17,24 @@ mod plan;
 mod print;
 mod reader;
 mod recipe_numbers;
+mod relations;
 mod said;
 mod same;
 mod side;
 mod side_by_side;
+mod variants;
 
 pub use error::{
     BAD_LINE, FILE, LineError, MOST_INSTRUCTIONS, MOST_LANES, NAME_TAKEN, NAME_TWICE, NO_PLAN,
     OVER_LIMIT, PUBLISHED_TWICE, UNCLOSED, UNKNOWN_BLOCK, UNKNOWN_NAME,
 };
 pub use form::{Form, LaneHead, Wording, read_form};
+pub use instructions::push_instruction;
 pub use lane::Lane;
-pub use plan::Plan;
+pub use plan::{Plan, lane_name};
 pub use plan_model::{Instruction, Members};
-pub use print::listing;
+pub use print::{inside_behind, listing, margin, push_lane_line};
 pub use reader::assemble;
+pub use relations::{push_entry, push_relation};
 pub use side_by_side::assemble_side_by_side;
+pub use variants::{name_of, push_variant, version_of};

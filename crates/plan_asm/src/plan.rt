@@ -57,3 +57,14 @@ impl Plan {
         self.count
     }
 }
+
+/// The name of a lane; nothing for a number past the last.
+pub fn lane_name(plan: &Plan, number: usize) -> &[u8]
+    ensures { result.now ≡ (lane plan.now.lanes number).name }
+{
+    if number < plan.lanes() {
+        plan.lane(number).name()
+    } else {
+        b""
+    }
+}

@@ -1,16 +1,14 @@
 //! The listing of a plan with the lines of its text.
 
 ghost use Rattle.std.specs.Prelude.{◌≡◌, ◌++◌, ◌+◌, ◌<◌, false, None, Some, IfOk, OnOk};
-ghost use Rattle.farm_model.specs.Packages.{base};
 ghost use Rattle.plan_asm.specs.Listing.{margin, inside_behind, instruction_line, lane_line};
 ghost use Rattle.plan_lines.specs.Numbered.{number_text, numbers_before, line_of_place, numbered_lines};
 ghost use Rattle.plan_lines.specs.Numbered.{numbered_lane, numbered_listing_of};
 
 use crate::plan_lines::PlanLines;
 use deb_text::push_pieces;
-use farm_spelling::push_instruction;
 use farm_universe::Universe;
-use plan_asm::{Instruction, Lane, Plan};
+use plan_asm::{Instruction, Lane, Plan, inside_behind, margin, push_instruction, push_lane_line};
 use std::alloc::{AllocError, Global};
 
 /// The numbers before a line of the listing: that of the instruction, and the line of the text.
@@ -47,41 +45,6 @@ fn push_front(alloc: Global, text: &mut Vec<u8>, before: Front) -> Result<(), Al
 {
     push_number(alloc, text, before.number)?;
     push_number(alloc, text, widen(before.line))
-}
-
-/// The spaces in front of an instruction.
-fn margin(inside: bool, instruction: &Instruction) -> &'static [u8]
-    ensures { result.now ≡ margin inside instruction.now }
-{
-    match instruction {
-        Instruction::Otherwise | Instruction::EndWhen => b"  ",
-        Instruction::Unpack { .. }
-        | Instruction::Configure(_)
-        | Instruction::Deconfigure(_)
-        | Instruction::Remove(_)
-        | Instruction::Build(_)
-        | Instruction::Publish(_)
-        | Instruction::Wait(_)
-        | Instruction::When { .. } => { if inside { b"    " } else { b"  " } }
-    }
-}
-
-/// Tells whether the instruction behind this one stands inside a branch.
-fn inside_behind(inside: bool, instruction: &Instruction) -> bool
-    ensures { result ≡ inside_behind inside instruction.now }
-{
-    match instruction {
-        Instruction::When { .. } => true,
-        Instruction::EndWhen => false,
-        Instruction::Unpack { .. }
-        | Instruction::Configure(_)
-        | Instruction::Deconfigure(_)
-        | Instruction::Remove(_)
-        | Instruction::Build(_)
-        | Instruction::Publish(_)
-        | Instruction::Wait(_)
-        | Instruction::Otherwise => inside,
-    }
 }
 
 /// An instruction behind its numbers.
@@ -134,42 +97,6 @@ fn push_lines(
         inside = inside_behind(inside, instruction);
     }
     Ok(())
-}
-
-/// The name of a base chroot; nothing for a number that is none.
-#[tactic(auto, unfolding(farm_model::specs::Packages::base))]
-fn chroot_name(universe: &Universe, number: u32) -> &[u8]
-    ensures { result.now ≡ (base universe.now number).name }
-{
-    if number < universe.bases() {
-        universe.base(number).name()
-    } else {
-        b""
-    }
-}
-
-fn push_lane_line(
-    alloc: Global,
-    text: &mut Vec<u8>,
-    universe: &Universe,
-    lane: &Lane,
-) -> Result<(), AllocError>
-    ensures { OnOk result (text.new.items ≡ text.old.items ++ lane_line universe.now lane.now) }
-{
-    let budget = format!(in alloc; "{}", lane.budget())?;
-    let chroot = chroot_name(universe, lane.base());
-    push_pieces(
-        text,
-        &[
-            b"lane ",
-            lane.name(),
-            b" chroot ",
-            chroot,
-            b" budget ",
-            budget.as_bytes(),
-            b"\n",
-        ],
-    )
 }
 
 /// The lane of a number.

@@ -28,4 +28,4 @@ pub use ready::{Ready, read_ready};
 pub use refusal::{Refusal, STUCK, UNEVEN, UNSAFE};
 pub use stage::Stage;
 pub use verdict::check;
-pub use walk::WalkError;
+pub use walk::{WalkError, words_at};

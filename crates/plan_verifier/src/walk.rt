@@ -60,7 +60,7 @@ impl<T: Drop> From<AllocFailed<T>> for WalkError {
 
 /// What of the name that an instruction unpacks, if it does, is surely in the archive at its place,
 /// and what may be.
-pub(crate) fn words_at<K: KnownWords>(
+pub fn words_at<K: KnownWords>(
     stage: &Stage<'_, K>,
     number: usize,
     place: usize,

@@ -9,20 +9,8 @@ ghost use Rattle.may_rows.specs.Configures.{slots_after};
 ghost use Rattle.may_rows.specs.Words.{AreWords, may_of, with_slot};
 
 use farm_universe::Universe;
-use may_rows::MayHold;
+use may_rows::{MayHold, remove_members};
 use std::alloc::AllocError;
-
-/// Puts the members away.
-fn remove_members(universe: &Universe, state: &mut MayHold, members: &[u32])
-    requires words { AreWords universe.now state.old }
-    requires members { IsNameSet universe.now members.now }
-    ensures words { AreWords universe.now state.new }
-    ensures map { may_of state.new ≡ slots_after (λ s. MayAbsent) (may_of state.old) members.now }
-{
-    for place in 0..members.len() {
-        state.put(universe, members[place], 0, 0, 0);
-    }
-}
 
 /// What may be held without the members.
 ///

@@ -19,6 +19,7 @@ mod types;
 mod unpack;
 mod withdraw;
 
+pub use changed::without;
 pub use entries::{entry_count, entry_row};
 pub use plan::reason;
 pub use types::{Field, Reason};

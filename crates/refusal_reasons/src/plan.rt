@@ -17,48 +17,9 @@ use crate::types::Reason;
 use farm_universe::Trap;
 use may_rows::ArchiveWords;
 use plan_asm::Instruction;
-use plan_verifier::{LaneMay, Stage};
+use plan_verifier::{LaneMay, Stage, words_at};
 use std::alloc::{AllocError, Global};
 use wait_order::KnownWords;
-
-/// What of the name that an instruction unpacks, if it does, is surely in the archive at its place,
-/// and what may be.
-fn words_at<K: KnownWords>(
-    stage: &Stage<'_, K>,
-    number: usize,
-    place: usize,
-    instruction: &Instruction,
-) -> ArchiveWords
-    requires stage { IsStage stage.now.universe.now stage.now.plan.now.lanes
-        stage.now.tables.now stage.now.outputs.now (K.known stage.now.known.now) }
-    requires instruction { IsInstruction stage.now.universe.now instruction.now }
-    requires lane { number < length stage.now.plan.now.lanes }
-    requires place { place ≤ length (lane stage.now.plan.now.lanes number).instructions }
-    ensures words { AreWordsFor stage.now.universe.now
-        ((K.known stage.now.known.now).rows number place)
-        (possible stage.now.universe.now stage.now.plan.now.lanes number place) instruction.now
-        result }
-    ensures known_there { (b : ℕ) → word_has result.known b ≡ true
-        → word_has result.there b ≡ true }
-{
-    match instruction {
-        Instruction::Unpack { name, .. } => ArchiveWords {
-            known: stage.known.word(stage.universe, number, place, *name),
-            there: stage
-                .outputs
-                .possible_word(stage.universe, number, place, *name),
-        },
-        Instruction::Configure(_)
-        | Instruction::Deconfigure(_)
-        | Instruction::Remove(_)
-        | Instruction::Build(_)
-        | Instruction::Publish(_)
-        | Instruction::Wait(_)
-        | Instruction::When { .. }
-        | Instruction::Otherwise
-        | Instruction::EndWhen => ArchiveWords { known: 0, there: 0 },
-    }
-}
 
 /// Why the instruction at a place of a lane may meet a trap: the first witness of the trap's test,
 /// where there is one. `may` is what may be held at the place, as [`plan_verifier::walk::walk_to`]

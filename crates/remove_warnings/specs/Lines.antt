@@ -10,7 +10,7 @@ use Rattle.deb_relation.specs.Relations.{Entry}
 use Rattle.deb_relation.specs.Spelling.{entry_text}
 use Rattle.farm_model.specs.declared.types.Variant.{Variant}
 use Rattle.farm_model.specs.Universe.{Universe}
-use Rattle.farm_spelling.specs.Variants.{variant_text}
+use Rattle.plan_asm.specs.Variants.{variant_text}
 use Rattle.farm_explain.specs.LaneNotes.{first_hazard}
 use Rattle.farm_explain.specs.ReasonText.{place_text, field_word}
 use Rattle.farm_explain.specs.Texts.{text_below}

@@ -14,10 +14,9 @@ ghost use Rattle.remove_warnings.specs.Left as spec;
 ghost use Rattle.remove_warnings.specs.Parts.{IsSearch};
 
 use crate::losing::{Search, loses};
-use crate::without::without;
 use farm_universe::{Universe, Variant};
 use may_rows::{MayHold, has_bit, variant_count};
-use refusal_reasons::{Field, Reason, entry_count, entry_row};
+use refusal_reasons::{Field, Reason, entry_count, entry_row, without};
 use sat_rows::Tables;
 use std::alloc::AllocError;
 

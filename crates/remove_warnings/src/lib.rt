@@ -7,6 +7,5 @@ mod notes;
 mod place;
 mod text;
 mod walk;
-mod without;
 
 pub use notes::left_notes;

@@ -18,7 +18,7 @@ use Rattle.farm_model.specs.declared.types.Variant.{Variant}
 use Rattle.farm_model.specs.Below.{some_below}
 use Rattle.farm_model.specs.Packages.{names, variant, variants}
 use Rattle.farm_model.specs.Universe.{Universe}
-use Rattle.farm_spelling.specs.Variants.{variant_text}
+use Rattle.plan_asm.specs.Variants.{variant_text}
 use Rattle.plan_lines.specs.Origins.{LaneLines}
 use Rattle.plan_model.specs.Plan.{Plan, lane}
 use Rattle.refusal_reasons.specs.First.{first_below}

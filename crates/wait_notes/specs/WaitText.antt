@@ -13,7 +13,7 @@ use Rattle.farm_explain.specs.ReasonText.{first_publication}
 use Rattle.farm_model.specs.declared.types.Variant.{Variant}
 use Rattle.farm_model.specs.Packages.{initial}
 use Rattle.farm_model.specs.Universe.{Universe}
-use Rattle.farm_spelling.specs.Variants.{variant_text}
+use Rattle.plan_asm.specs.Variants.{variant_text}
 use Rattle.plan_lines.specs.Origins.{LaneLines}
 use Rattle.plan_model.specs.Plan.{Plan, lane}
 use Rattle.wait_notes.specs.declared.words.Word.{Word}

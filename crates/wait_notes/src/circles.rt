@@ -6,11 +6,10 @@ ghost use Rattle.wait_notes.specs.StuckText as spec;
 ghost use Rattle.wait_notes.specs.Waiting.{next_lane_of};
 
 use crate::groups::{step, way_back};
-use crate::lane::lane_name;
 use crate::words::Word;
 use deb_text::push_pieces;
 use farm_explain::{Kind, Note};
-use plan_asm::Plan;
+use plan_asm::{Plan, lane_name};
 use std::alloc::{AllocError, Global};
 
 /// The name of a lane, where there is one.

@@ -16,17 +16,6 @@ pub struct LaneOf<'a> {
     pub number: usize,
 }
 
-/// The name of a lane; nothing for a number that is none's.
-pub fn lane_name(plan: &Plan, number: usize) -> &[u8]
-    ensures { result.now ≡ (lane plan.now.lanes number).name }
-{
-    if number < plan.lanes() {
-        plan.lane(number).name()
-    } else {
-        b""
-    }
-}
-
 /// The number of the instruction at a place of a lane, from 1.
 pub fn number_at(plan: &Plan, number: usize, place: usize) -> u64
     requires lane { number < length plan.now.lanes }

@@ -8,16 +8,16 @@ ghost use Rattle.farm_model.specs.Packages.{names, variant};
 ghost use Rattle.wait_notes.specs.Places.{IsTableOf, publication_place};
 ghost use Rattle.wait_notes.specs.StuckText as spec;
 
-use crate::lane::{LaneOf, lane_name};
+use crate::lane::LaneOf;
 use crate::publications::Publication;
 use crate::words::Word;
 use deb_relation::Entry;
 use deb_text::push_pieces;
 use farm_explain::could_meet::{could_meet, some_could_meet};
 use farm_explain::push_at;
-use farm_spelling::push_variant;
 use farm_universe::{Universe, Variant};
 use may_rows::variant_count;
+use plan_asm::{lane_name, push_variant};
 use plan_lines::PlanLines;
 use std::alloc::AllocError;
 

@@ -12,7 +12,7 @@ ghost use Rattle.wait_notes.specs.Waiting.{awaited, next_lane_of};
 
 use crate::circles::push_circle;
 use crate::groups::{Group, group_kind, group_word, stands_in};
-use crate::lane::{LaneOf, lane_name, number_at};
+use crate::lane::{LaneOf, number_at};
 use crate::publications::Publications;
 use crate::satisfying::satisfying;
 use crate::sources::push_sources;
@@ -22,7 +22,7 @@ use deb_relation::Entry;
 use deb_text::push_pieces;
 use farm_explain::{Note, note_place, push_where};
 use farm_universe::Universe;
-use plan_asm::Plan;
+use plan_asm::{Plan, lane_name};
 use plan_lines::PlanLines;
 use plan_verifier::Stage;
 use sat_rows::Tables;

@@ -1,8 +1,8 @@
-//! Names and variants. A number that is none's has no name, and no version.
+//! Names and variants. A number past the last has no name and no version.
 
 ghost use Rattle.std.specs.Prelude.{◌≡◌, ◌++◌, OnOk};
 ghost use Rattle.plan_asm.specs.Listing.{name_of_number};
-ghost use Rattle.farm_spelling.specs.Variants.{version_of, variant_text};
+ghost use Rattle.plan_asm.specs.Variants.{version_of, variant_text};
 
 use deb_text::push_pieces;
 use farm_universe::{Universe, Variant};
@@ -31,7 +31,7 @@ pub fn version_of(universe: &Universe, variant: Variant) -> &[u8]
     }
 }
 
-/// Puts `NAME (= VERSION)` behind a text.
+/// Appends `NAME (= VERSION)` to a text.
 ///
 /// # Errors
 ///

@@ -20,7 +20,7 @@ fn operator_text(op: Op) -> &'static [u8]
     }
 }
 
-/// Puts ` (OP VERSION)` behind a text, or nothing where there is no relation.
+/// Appends ` (OP VERSION)` to a text, or nothing where there is no relation.
 ///
 /// # Errors
 ///
@@ -61,7 +61,7 @@ fn push_more(text: &mut Vec<u8>, atoms: &[Atom]) -> Result<(), AllocError>
     Ok(())
 }
 
-/// Puts an entry behind a text, its alternatives joined by ` | `.
+/// Appends an entry to a text, its alternatives joined by ` | `.
 ///
 /// # Errors
 ///

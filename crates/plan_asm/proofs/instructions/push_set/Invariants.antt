@@ -1,6 +1,6 @@
 use Rattle.std.proofs.Common.{◌≡◌, ◌++◌, drop}
 use Rattle.plan_asm.specs.Listing.{names_text}
-use Rattle.plan_asm.proofs.print.push_set.Given as goal
+use Rattle.plan_asm.proofs.instructions.push_set.Given as goal
 
 abbrev pub invariant-loop-i : goal.invariant-loop-i
 invariant-loop-i l =

@@ -1,7 +1,7 @@
 use Rattle.std.proofs.Common.{◌≤◌, [], length, sym, arith}
 use Rattle.std.proofs.lemmas.List.{get_or_past}
 use Rattle.farm_model.specs.Packages.{names}
-use Rattle.plan_asm.proofs.print.name_of.Goals as goal
+use Rattle.plan_asm.proofs.variants.name_of.Goals as goal
 
 pub returns-else-name-names : goal.returns-else-name-names
 unfolding names

@@ -1,8 +1,8 @@
 use Rattle.std.proofs.Common.{◌≤◌, arith, sym}
 use Rattle.farm_model.specs.Packages.{names, variants}
-use Rattle.farm_spelling.proofs.VariantLaws.{not_named, not_known}
-use Rattle.farm_spelling.proofs.variants.version_of.Goals as goal
-use Rattle.farm_spelling.proofs.variants.version_of.Goals.{else-variant-names-via-then-variant-names+else-variant-variants, else-variant-names-via-else-variant-names}
+use Rattle.plan_asm.proofs.VariantLaws.{not_named, not_known}
+use Rattle.plan_asm.proofs.variants.version_of.Goals as goal
+use Rattle.plan_asm.proofs.variants.version_of.Goals.{else-variant-names-via-then-variant-names+else-variant-variants, else-variant-names-via-else-variant-names}
 
 pub returns-else-variant-names : goal.returns-else-variant-names
 returns-else-variant-names c =

@@ -1,4 +1,4 @@
-//! Instructions as the listing of a plan spells them.
+//! Instructions, as the listing of a plan spells them.
 
 ghost use Rattle.std.specs.Prelude.{◌≡◌, ◌++◌, OnOk};
 ghost use Rattle.plan_asm.specs.Listing.{names_text, instruction_text};
@@ -27,7 +27,7 @@ fn push_set(
     Ok(())
 }
 
-/// Puts an instruction behind a text, as the listing has it, without its margin.
+/// Appends an instruction to a text, as the listing has it, without its margin.
 ///
 /// # Errors
 ///

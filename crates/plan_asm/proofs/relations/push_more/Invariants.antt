@@ -1,6 +1,6 @@
 use Rattle.std.proofs.Common.{◌≡◌, ◌++◌, drop}
 use Rattle.deb_relation.specs.Spelling.{more_text}
-use Rattle.farm_spelling.proofs.relations.push_more.Given as goal
+use Rattle.plan_asm.proofs.relations.push_more.Given as goal
 
 abbrev pub invariant-loop-atom : goal.invariant-loop-atom
 invariant-loop-atom l =
