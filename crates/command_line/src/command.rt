@@ -95,6 +95,7 @@ fn described<'a>(alloc: Global) -> Result<Command<'a>, AllocError> {
     let program = Command::new(alloc, PORTFARM)
         .bin_name(PORTFARM)?
         .version(help::VERSION)
+        .long_version(help::LONG_VERSION)
         .about(help::PORTFARM)
         .after_long_help(help::PORTFARM_MORE);
     Ok(program)
@@ -104,9 +105,7 @@ fn described<'a>(alloc: Global) -> Result<Command<'a>, AllocError> {
 fn program<'a>(alloc: Global) -> Result<Command<'a>, AllocError> {
     let program = described(alloc)?
         .no_binary_name(true)
-        .propagate_version(true)
-        .subcommand_required(true)
-        .disable_help_subcommand(true);
+        .subcommand_required(true);
     Ok(program)
 }
 

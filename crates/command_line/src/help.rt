@@ -1,40 +1,47 @@
-//! What the help of the commands says.
+//! What the help of the commands says, within 80 columns.
 
-/// The version of the program.
-pub const VERSION: &str = "0.1.0";
+/// The version of the program, which is that of the changelog.
+pub const VERSION: &str = "0.2.0";
+
+/// What `--version` says behind the name. Only a proved program stays as a file.
+pub const LONG_VERSION: &str = "\
+0.2.0
+proved and built with rattle-kit-13f, logic dac8208d650f15bf";
 
 /// What the program is for, in a line.
 pub const PORTFARM: &str = "\
-Checks plans that rebuild a Debian port on its build farm, before anything is built";
+Checks plans that rebuild a Debian port, before anything is built";
 
 /// What the help of the program says behind it.
 pub const PORTFARM_MORE: &str = "\
-A plan has lanes of instructions, each over one chroot, which share one archive that only grows.
+A plan has lanes of instructions, each over one chroot, which share one archive
+that only grows.
 
-With no word at all, portfarm reads the four texts from standard input, divided by the first three
-lines that are exactly `%%`, and answers as `check` does. `-` in place of the name of one file is
-standard input.
+With no word at all, portfarm reads the four texts from standard input, divided
+by the first three lines that are exactly `%%`, and answers as `check` does. `-`
+in place of the name of one file is standard input.
 
 Example:
   portfarm check packages sources farm plan
 
 Status:
-  0  accepted, listed, certified, stepped without a trap, finished, or help shown
+  0  accepted, listed, certified, stepped without a trap, finished, or help
   1  refused or trapped: the answer tells where and why
-  2  wrong words, or a schedule that is none
-  3  a file cannot be read, memory ran out, a lane cannot be started, or the answer cannot be
-     written";
+  2  wrong words, or a schedule that is not one
+  3  a file cannot be read, out of memory, a lane cannot be started, or the
+     answer cannot be written";
 
 /// What `check` does, in a line.
 pub const CHECK: &str = "\
-Tells whether the plan is safe in whatever order its lanes take turns";
+Tells whether the plan is safe in every order of turns";
 
 /// What the help of `check` says behind that line.
 pub const CHECK_MORE: &str = "\
-The answer is `accepted`, how many lanes and events there are, and what each lane costs at most; or
-one line with the first thing that may go wrong, as `refused 401 lane a instruction 3 X7 Depends`,
-`refused 402 lanes a b` for lanes that would wait for ever, or `refused 302 plan line 4`. With
-`--json` it is one JSON object on a line.
+The answer is `accepted`, how many lanes and events there are, and what each
+lane costs at most; or one line with the first thing that may go wrong, as
+`refused 401 lane a instruction 3 X7 Depends`, `refused 402 lanes a b` for lanes
+that would wait forever, or `refused 302 plan line 4`. With `--json` it is one
+JSON object on a line.
 
 Example:
   portfarm check packages sources farm plan
@@ -43,34 +50,35 @@ Status: 0 accepted, 1 refused, 2 wrong words, 3 nothing could be answered";
 
 /// What `explain` does, in a line.
 pub const EXPLAIN: &str = "\
-Tells whether the plan is safe, and for a person why it is not";
+Checks the plan and explains the answer";
 
 /// What the help of `explain` says behind that line.
 pub const EXPLAIN_MORE: &str = "\
-The answer is that of `check`, and where the plan is refused, why. For a fault of a text these are the
-line and what was expected there. For an instruction that may go wrong they are its line in the plan
-and the first reason; and the same for each further lane that has one. With `--json` it is one JSON
-object on a line, in which `reasons` is a list of objects and `warnings` one of lines.
+The answer is that of `check`, and where the plan is refused, why. For a fault of
+a text these are the line and what was expected there. For an instruction that
+may go wrong they are its line in the plan and the first reason; and the same
+for each further lane that has one. With `--json` it is one JSON object on a
+line, in which `reasons` is a list of objects and `warnings` one of lines.
 
 Example:
   portfarm explain packages sources farm plan
 
-Status: 0 accepted, 1 refused, 2 wrong words, 3 nothing could be answered, or memory ran out behind
-the verdict";
+Status: 0 accepted, 1 refused, 2 wrong words, 3 nothing could be answered, or
+out of memory after the verdict";
 
 /// What `list` does, in a line.
 pub const LIST: &str = "\
-Prints the plan with its blocks expanded, one instruction a line";
+Prints the plan with its blocks expanded, an instruction a line";
 
 /// What the help of `list` says behind that line.
 pub const LIST_MORE: &str = "\
-The answer is a plan that means the same, and that can be checked in place of the given one. The plan
-need not be safe. Where a text cannot be read, the answer is its first fault, as
-`refused 303 plan line 2`.
+The answer is a plan that means the same, and that can be checked in place of
+the given one. The plan need not be safe. Where a text cannot be read, the
+answer is its first fault, as `refused 303 plan line 2`.
 
-With `--number` two numbers stand before each line: that of the instruction in its lane, as refusals
-tell it, and that of the line of the plan that it comes from. A line that is no instruction has `-` in
-place of the first.
+With `--number` two numbers stand before each line: that of the instruction in
+its lane, as refusals tell it, and that of the line of the plan that it comes
+from. A line that is not an instruction has `-` in place of the first.
 
 Example:
   portfarm list packages sources farm plan > plan.expanded
@@ -79,14 +87,15 @@ Status: 0 listed, 1 refused, 2 wrong words, 3 nothing could be answered";
 
 /// What `cert` does, in a line.
 pub const CERT: &str = "\
-Prints a certificate of the plan, by which anyone can check that it is safe";
+Prints a certificate, by which anyone can check the plan";
 
 /// What the help of `cert` says behind that line.
 pub const CERT_MORE: &str = "\
-The answer is the certificate of a plan that `check` accepts: `cert 1`, then a line for what each lane
-knows of the archive behind each of its waits and publishes, and then an order in which all of them
-can be made. `verify-cert` checks it without having to find it. Where `check` refuses the plan, the
-answer is that refusal.
+The answer is the certificate of a plan that `check` accepts: `cert 1`, then a
+line for what each lane knows of the archive after each of its waits and
+publishes, and then an order in which all of them can be made. `verify-cert`
+checks it without having to find it. Where `check` refuses the plan, the answer
+is that refusal.
 
 Example:
   portfarm cert packages sources farm plan > cert
@@ -95,18 +104,20 @@ Status: 0 certified, 1 refused, 2 wrong words, 3 nothing could be answered";
 
 /// What `verify-cert` does, in a line.
 pub const VERIFY_CERT: &str = "\
-Tells whether a certificate shows that the plan is safe, whoever made it";
+Tells whether a certificate shows that the plan is safe";
 
 /// What the help of `verify-cert` says behind that line.
 pub const VERIFY_CERT_MORE: &str = "\
-A certificate says what each lane knows of the archive behind each of its waits and publishes, and an
-order in which all of them can be made. It is checked by itself, and what it says is not trusted. The
-answer is `certified`: the plan is then safe in whatever order its lanes take turns. Or it is one line
-with the first fault: `refused 451 line 3` for a text that is no certificate of this plan,
-`refused 452 lane b instruction 5` where a lane need not know what it says,
-`refused 453 lane b instruction 2 X1 Missing` for an instruction that may trap as far as it tells, or
-`refused 454 item 2` for an item of its order that cannot be made. Where another text cannot be read,
-the answer is its first fault, as `refused 303 plan line 2`.
+A certificate says what each lane knows of the archive after each of its waits
+and publishes, and an order in which all of them can be made. It is checked by
+itself, and what it says is not trusted. The answer is `certified`: the plan is
+then safe in whatever order its lanes take turns. Or it is one line with the
+first fault: `refused 451 line 3` for a text that is no certificate of this
+plan, `refused 452 lane b instruction 5` where a lane need not know what it
+says, `refused 453 lane b instruction 2 X1 Missing` for an instruction that may
+trap as far as it tells, or `refused 454 item 2` for an item of its order that
+cannot be made. Where another text cannot be read, the answer is its first
+fault, as `refused 303 plan line 2`.
 
 Example:
   portfarm verify-cert packages sources farm plan cert
@@ -115,69 +126,71 @@ Status: 0 certified, 1 refused, 2 wrong words, 3 nothing could be answered";
 
 /// What `step` does, in a line.
 pub const STEP: &str = "\
-Lets lanes take turns in a given order, and shows what has come of it";
+Lets lanes take turns in a given order, and shows the result";
 
 /// What the help of `step` says behind that line.
 pub const STEP_MORE: &str = "\
-Each turn takes one instruction of its lane, or one output of a publish; a lane that waits in vain
-or has finished stays as it is. The answer is `ran` and the number of turns, or the first trap with
-its place in the schedule; then what was published, and of each lane how far it is, what it spent,
-and what its chroot holds. The plan need not be safe. Where a text cannot be read, the answer is its
+Each turn takes one instruction of its lane, or one output of a publish; a lane
+that waits in vain or has finished stays as it is. The answer is `ran` and the
+number of turns, or the first trap with its place in the schedule; then what was
+published, and of each lane how far it is, what it spent, and what its chroot
+holds. The plan need not be safe. Where a text cannot be read, the answer is its
 first fault.
 
-Behind `@` stands the name of a file that has the schedule: lanes by their numbers or names, with
-commas, blanks or newlines between them. Each must be a lane of the plan.
+After `@` comes the name of a file that has the schedule: lanes by their numbers
+or names, with commas, blanks or newlines between them. Each must be a lane of
+the plan.
 
 Example, in which the first lane takes two turns and then the second one:
   portfarm step --schedule 0,0,1 packages sources farm plan
 
-Status: 0 stepped without a trap, 1 trapped or refused, 2 wrong words or a schedule that is none,
-3 nothing could be answered";
+Status: 0 stepped without a trap, 1 trapped or refused, 2 wrong words or a
+schedule that is not one, 3 nothing could be answered";
 
 /// What `run` does, in a line.
 pub const RUN: &str = "\
-Checks the plan and runs it: each lane in a thread of its own, over one archive";
+Runs an accepted plan, each lane in a thread of its own";
 
 /// What the help of `run` says behind that line.
 pub const RUN_MORE: &str = "\
-Where `check` refuses the plan, the answer is that refusal, and nothing is run. Else each lane takes
-its instructions in its own thread, and a lane that waits sleeps until another has published what it
-waits for. Once all have ended, the answer is `finished`, what was published in the order in which it
-came into the archive, and of each lane what it spent and what its chroot holds. A build is an
-instruction with declared outputs here: no package is built, and no file is written. On a terminal,
-or with `--progress`, the error output tells meanwhile of each publication and of each lane that
-begins to wait.
+Where `check` refuses the plan, the answer is that refusal, and nothing is run.
+Else each lane takes its instructions in its own thread, and a lane that waits
+sleeps until another has published what it waits for. Once all have ended, the
+answer is `finished`, what was published in the order in which it came into the
+archive, and of each lane what it spent and what its chroot holds. A build is an
+instruction with declared outputs here: no package is built, and no file is
+written. On a terminal, or with `--progress`, the error output tells meanwhile
+of each publication and of each lane that begins to wait.
 
 Example:
   portfarm run packages sources farm plan
 
-Status: 0 finished, 1 refused, 2 wrong words, 3 nothing could be answered, or a lane could not be
-started";
+Status: 0 finished, 1 refused, 2 wrong words, 3 nothing could be answered, or a
+lane could not be started";
 
 /// What the Packages index is, in a line.
-pub const PACKAGES: &str = "Packages index: the packages, with their versions, sizes and relations";
+pub const PACKAGES: &str = "Packages index: versions, sizes and relations";
 
 /// What the Sources index is, in a line.
-pub const SOURCES: &str = "Sources index: what each source package needs to be built";
+pub const SOURCES: &str = "Sources index: what each source needs to be built";
 
 /// What the farm description is, in a line.
-pub const FARM: &str = "The farm: its architecture, its archive, recipes of builds, and chroots";
+pub const FARM: &str = "The farm: architecture, archive, recipes, chroots";
 
 /// What the plan is, in a line.
-pub const PLAN: &str = "The plan: lanes of instructions, and blocks that they use";
+pub const PLAN: &str = "The plan: lanes of instructions, and blocks";
 
 /// What the certificate is, in a line.
 pub const CERTIFICATE: &str = "The certificate of the plan, as `cert` prints it";
 
 /// What `--progress` does, in a line.
-pub const PROGRESS: &str = "Tell on the error output what is published, and which lanes wait";
+pub const PROGRESS: &str = "Tell of publications and waits on the error output";
 
 /// What `--number` does, in a line.
-pub const NUMBER: &str = "Put before each line its instruction's number, and its line in the plan";
+pub const NUMBER: &str = "Put the number and the plan's line before each line";
 
 /// What `--json` does, in a line.
 pub const JSON: &str = "Answer with one JSON object on a line";
 
 /// What `--schedule` does, in a line.
-pub const SCHEDULE: &str = "\
-Lanes in the order of their turns, as 0,0,1: 0 is the first lane; or @FILE, a file that has them";
+pub const SCHEDULE: &str = "Lanes in the order of turns, as 0,0,1; or @FILE";
