@@ -18,7 +18,7 @@ use Rattle.plan_model.specs.May.{May}
 use Rattle.plan_model.specs.Risk.{unpack_risk, risk}
 use Rattle.plan_model.specs.MayAt.{may_unpack, may_after, Maps, maps_behind, maps_behind_some, maps_at, may_at}
 use Rattle.plan_model.specs.Safety.{IsSafeUnder}
-use Rattle.farm_laws.proofs.Safe.{Agrees, place_paid}
+use Rattle.farm_laws.specs.Agrees.{place_paid, Agrees}
 use Rattle.farm_laws.proofs.Whole.{safe_at, Holds, holds_step, never_trapped}
 
 cost_unpack : (u : Universe) (there : Variant → Bool) (of : Lane) (m : May) (name : ℕ)

@@ -26,6 +26,7 @@ use Rattle.plan_model.specs.Risk.{candidates, unpack_risk, publish_risks, risk, 
 use Rattle.plan_model.specs.Join.{phases_differ, joined_may}
 use Rattle.plan_model.specs.Safety.{parts_of}
 use Rattle.plan_model.specs.MayAt.{may_unpack, may_after, Maps, maps_behind, maps_behind_some, maps_at, may_at, may_be_configured, may_be_deconfigured}
+use Rattle.farm_laws.specs.Agrees.{place_paid, Agrees, AgreesAfter}
 use Rattle.farm_laws.proofs.Slots.{configured_allowed, deconfigured_allowed}
 use Rattle.farm_laws.proofs.Branches.{is_inner, IsStand, landed, else_behind}
 use Rattle.farm_laws.proofs.Joins.{allows_left, allows_right, both_built-each, both_built-long}
@@ -66,11 +67,6 @@ candidate_found u known there may name wanted h in_there in_may e =
             (le-leb h found.0 (best.highest h top.below here));
       },
     )
-
--- the place up to which what a lane has spent counts
-abbrev pub place_paid : ℕ → ℕ → ℕ
-place_paid done zero = done
-place_paid done (suc made) = suc done
 
 -- a lane keeps to a map
 pub record Fits (u : Universe) (m : May) (st : LaneState) : Type 0 where
@@ -122,24 +118,9 @@ built_too xs ys r k long each e =
     ]
 
 module _ (u : Universe) (p : Plan) (rows : Rows) where
-  -- a lane keeps to its may map; what it has spent counts up to behind a publish that it has begun
-  pub record Agrees (l : ℕ) (st : LaneState) : Type 0 where
-    pub allows : AllowsAll u (may_at u p rows l st.done) st.chroot
-    pub spent : st.spent ≤ (may_at u p rows l (place_paid st.done st.made)).cost
-    pub long : length (may_at u p rows l st.done).built ≤ length st.built
-    pub built : (r : ℕ) → was_built (may_at u p rows l st.done).built r ≡ true
-        → was_built st.built r ≡ true
-
-  abbrev pub AgreesAfter : ℕ → Turn → Type 0
-  AgreesAfter l (Goes next) = Agrees l next
-  AgreesAfter l (Gives next v) = Agrees l next
-  AgreesAfter l Waits = Unit {0}
-  AgreesAfter l Ends = Unit {0}
-  AgreesAfter l (Fails t) = ⊥
-
-  unless_agrees : (l : ℕ) (o : Option Trap) (m : Turn) → o ≡ None → AgreesAfter l m
-      → AgreesAfter l (unless o m)
-  unless_agrees l o m e h = subst (λ t. AgreesAfter l (unless t m)) (sym e) h
+  unless_agrees : (l : ℕ) (o : Option Trap) (m : Turn) → o ≡ None → AgreesAfter u p rows l m
+      → AgreesAfter u p rows l (unless o m)
+  unless_agrees l o m e h = subst (λ t. AgreesAfter u p rows l (unless t m)) (sym e) h
 
   -- the branches of lane l leave each name in one phase
   abbrev pub Joins : ℕ → Type 0
@@ -207,7 +188,8 @@ module _ (u : Universe) (p : Plan) (rows : Rows) where
         (subst FitsAt (sym found.place) (subst (λ m. Fits u m st) (sym there) fits))
 
   module _ (l : ℕ) (st : LaneState) (there : Variant → Bool)
-      (branched : IsBranched (lane p l).instructions) (joins : Joins l) (agrees : Agrees l st) where
+      (branched : IsBranched (lane p l).instructions) (joins : Joins l)
+      (agrees : Agrees u p rows l st) where
     abbrev here : May
     here = may_at u p rows l st.done
 
@@ -237,9 +219,9 @@ module _ (u : Universe) (p : Plan) (rows : Rows) where
     }
 
     agrees_at : (next : LaneState) (k : ℕ) → next.done ≡ k → next.made ≡ 0
-        → Fits u (may_at u p rows l k) next → Agrees l next
+        → Fits u (may_at u p rows l k) next → Agrees u p rows l next
     agrees_at next k e z fits =
-        subst (λ j. Fits u (may_at u p rows l j) next → Agrees l next) e
+        subst (λ j. Fits u (may_at u p rows l j) next → Agrees u p rows l next) e
         (λ f. record {
           allows = f.allows;
           spent = subst (λ m. next.spent ≤ (may_at u p rows l (place_paid next.done m)).cost)
@@ -252,7 +234,7 @@ module _ (u : Universe) (p : Plan) (rows : Rows) where
     lands_at : (x : Instruction) (next : LaneState) → IsStand (Some x)
         → instruction_at p l st.done ≡ Some x → next.done ≡ next_place (lane p l) st.done
         → next.made ≡ 0 → Fits u (may_after u (rows l st.done) may_be here x) next
-        → Agrees l next
+        → Agrees u p rows l next
     lands_at x next s e place z fits =
         agrees_at next _ place z (fits_lands l next branched joins (suc st.done)
         (subst (λ m. Fits u m next) (sym (next_map x s e)) fits))
@@ -262,7 +244,7 @@ module _ (u : Universe) (p : Plan) (rows : Rows) where
         → AllowsAll u (may_after u (rows l st.done) may_be here x) c
         → st.spent + cost ≤ (may_after u (rows l st.done) may_be here x).cost
         → (may_after u (rows l st.done) may_be here x).built ≡ here.built
-        → Agrees l (past (lane p l) st cost c)
+        → Agrees u p rows l (past (lane p l) st cost c)
     past_agrees x cost c s e a b same =
         lands_at x (past (lane p l) st cost c) s e refl refl
         (record {
@@ -281,7 +263,7 @@ module _ (u : Universe) (p : Plan) (rows : Rows) where
         → IsCandidate u there may_be name wanted h b
         → first_trap (unpack_risks u (lane p l) here name (candidates u may_be name wanted h))
         ≡ None
-        → AgreesAfter l (unpacks u (lane p l) st name (newest u there name wanted))
+        → AgreesAfter u p rows l (unpacks u (lane p l) st name (newest u there name wanted))
     unpack_agrees name wanted h b e z top is safe =
         let cur = candidates u may_be name wanted h in
         let covers = unpack_covers u here st.chroot agrees.allows (lane p l) st.spent name cur b
@@ -308,7 +290,7 @@ module _ (u : Universe) (p : Plan) (rows : Rows) where
         → ((v : Variant) → rows l st.done v ≡ true → there v ≡ true)
         → ((v : Variant) → there v ≡ true → may_be v ≡ true)
         → unpack_risk u may_be (lane p l) here name wanted o ≡ None
-        → AgreesAfter l (unpacks u (lane p l) st name (newest u there name wanted))
+        → AgreesAfter u p rows l (unpacks u (lane p l) st name (newest u there name wanted))
     unpack_case name wanted None top e z below above safe = absurd (none-some _ (sym safe))
     unpack_case name wanted (Some h) top e z below above safe =
         let found = candidate_found u (rows l st.done) there may_be name wanted h below above top in
@@ -316,7 +298,7 @@ module _ (u : Universe) (p : Plan) (rows : Rows) where
 
     configure_agrees : (ms : List ℕ) → instruction_at p l st.done ≡ Some (Configure ms)
         → st.made ≡ 0 → first_trap (configure_risks u (lane p l) here ms) ≡ None
-        → AgreesAfter l (turn_of u there (lane p l) st (Some (Configure ms)))
+        → AgreesAfter u p rows l (turn_of u there (lane p l) st (Some (Configure ms)))
     configure_agrees ms e z safe =
         let low = spent_here z in
         unless_agrees l _ (Goes (past (lane p l) st (length ms) (configured st.chroot ms)))
@@ -328,7 +310,7 @@ module _ (u : Universe) (p : Plan) (rows : Rows) where
 
     deconfigure_agrees : (ms : List ℕ) → instruction_at p l st.done ≡ Some (Deconfigure ms)
         → st.made ≡ 0 → first_trap (deconfigure_risks u (lane p l) here ms) ≡ None
-        → AgreesAfter l (turn_of u there (lane p l) st (Some (Deconfigure ms)))
+        → AgreesAfter u p rows l (turn_of u there (lane p l) st (Some (Deconfigure ms)))
     deconfigure_agrees ms e z safe =
         let low = spent_here z in
         unless_agrees l _ (Goes (past (lane p l) st (length ms) (deconfigured st.chroot ms)))
@@ -340,7 +322,7 @@ module _ (u : Universe) (p : Plan) (rows : Rows) where
 
     remove_agrees : (ms : List ℕ) → instruction_at p l st.done ≡ Some (Remove ms) → st.made ≡ 0
         → first_trap (remove_risks u (lane p l) here ms) ≡ None
-        → AgreesAfter l (turn_of u there (lane p l) st (Some (Remove ms)))
+        → AgreesAfter u p rows l (turn_of u there (lane p l) st (Some (Remove ms)))
     remove_agrees ms e z safe =
         let low = spent_here z in
         unless_agrees l _ (Goes (past (lane p l) st (length ms) (removed st.chroot ms)))
@@ -351,7 +333,7 @@ module _ (u : Universe) (p : Plan) (rows : Rows) where
 
     build_agrees : (r : ℕ) → instruction_at p l st.done ≡ Some (Build r) → st.made ≡ 0
         → first_trap (build_risks u (lane p l) here (recipe u r)) ≡ None
-        → AgreesAfter l (turn_of u there (lane p l) st (Some (Build r)))
+        → AgreesAfter u p rows l (turn_of u there (lane p l) st (Some (Build r)))
     build_agrees r e z safe =
         let low = spent_here z in
         unless_agrees l _ (Goes (past_build (lane p l) st (recipe u r).steps r))
@@ -383,7 +365,7 @@ module _ (u : Universe) (p : Plan) (rows : Rows) where
 
     given_agrees : (r : ℕ) (cost : ℕ) → instruction_at p l st.done ≡ Some (Publish r)
         → st.spent + cost ≤ (may_at u p rows l (suc st.done)).cost
-        → Agrees l (given (lane p l) (length (outputs u r)) st cost)
+        → Agrees u p rows l (given (lane p l) (length (outputs u r)) st cost)
     given_agrees r cost e paid =
         elim (cases_lt (suc st.made) (length (outputs u r))) [
           | inl lt ↦ rw (lt-ltb (suc st.made) (length (outputs u r)) lt)
@@ -423,7 +405,7 @@ module _ (u : Universe) (p : Plan) (rows : Rows) where
 
     publishes_agrees : (r : ℕ) (o : Option Variant) → instruction_at p l st.done ≡ Some (Publish r)
         → first_trap (publish_risks u (lane p l) here r) ≡ None
-        → AgreesAfter l (publishes u (lane p l) st r o)
+        → AgreesAfter u p rows l (publishes u (lane p l) st r o)
     publishes_agrees r None e safe = tt
     publishes_agrees r (Some v) e safe =
         unless_agrees l _ (Gives (given (lane p l) (length (outputs u r)) st
@@ -431,7 +413,7 @@ module _ (u : Universe) (p : Plan) (rows : Rows) where
         (given_agrees r _ e (paid_agrees r e st.made refl))
 
     wait_agrees : (entry : Entry) → instruction_at p l st.done ≡ Some (Wait entry) → st.made ≡ 0
-        → AgreesAfter l (turn_of u there (lane p l) st (Some (Wait entry)))
+        → AgreesAfter u p rows l (turn_of u there (lane p l) st (Some (Wait entry)))
     wait_agrees entry e z =
         elim (cases_Bool (passes u there entry)) [
           | inl passed ↦ let low = spent_here z in
@@ -442,7 +424,7 @@ module _ (u : Universe) (p : Plan) (rows : Rows) where
 
     when_agrees : (name : ℕ) (wanted : Option (Op × List ℕ))
         → instruction_at p l st.done ≡ Some (When name wanted) → st.made ≡ 0
-        → (holds : Bool) → Agrees l (past_when (lane p l) st holds)
+        → (holds : Bool) → Agrees u p rows l (past_when (lane p l) st holds)
     when_agrees name wanted e z true =
         let fits = fits_here z in
         lands_at (When name wanted) (past_when (lane p l) st true) tt e refl refl
@@ -469,7 +451,7 @@ module _ (u : Universe) (p : Plan) (rows : Rows) where
         → ((v : Variant) → rows l st.done v ≡ true → there v ≡ true)
         → (st.made ≡ 0 → (v : Variant) → there v ≡ true → may_be v ≡ true)
         → risk u (lane p l) (rows l st.done) may_be here x ≡ None
-        → AgreesAfter l (turn_of u there (lane p l) st (Some x))
+        → AgreesAfter u p rows l (turn_of u there (lane p l) st (Some x))
     turn_agrees (Unpack name wanted) e lt below above safe =
         let z : st.made ≡ 0 = omega arith in
         unpack_case name wanted (newest u (rows l st.done) name wanted) refl e z below

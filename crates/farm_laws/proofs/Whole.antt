@@ -29,7 +29,8 @@ use Rattle.farm_laws.proofs.Steps.{turn_at, After, step_keeps, run_keeps}
 use Rattle.farm_laws.proofs.EventsLeft.{put_each, state_at_start}
 use Rattle.farm_laws.proofs.Archive.{publishing-zero}
 use Rattle.farm_laws.proofs.KnownRows.{ArchiveHolds, possible_at_zero, archive_stays, archive_at_start}
-use Rattle.farm_laws.proofs.Safe.{variants_name, Joins, Agrees, AgreesAfter, turn_agrees}
+use Rattle.farm_laws.specs.Agrees.{Agrees, AgreesAfter}
+use Rattle.farm_laws.proofs.Safe.{variants_name, Joins, turn_agrees}
 
 find_some : {X : Type 0} (p : X → Bool) (P : X → Type 0) (xs : List X) (x : X) → All P xs
     → find p xs ≡ Some x → (p x ≡ true) × P x

@@ -13,7 +13,8 @@ use Rattle.plan_model.specs.Plan.{Plan, lane, instruction_at}
 use Rattle.plan_model.specs.Turn.{LaneState, turn_of}
 use Rattle.plan_model.specs.Known.{Rows, possible}
 use Rattle.farm_laws.specs.EventsLeft.{InPlace, StandsAt}
-use Rattle.farm_laws.proofs.Safe.{Agrees, AgreesAfter, turn_agrees}
+use Rattle.farm_laws.specs.Agrees.{Agrees, AgreesAfter}
+use Rattle.farm_laws.proofs.Safe.{turn_agrees}
 use Rattle.farm_laws.proofs.Whole.{joins_at, safe_at}
 use Rattle.verdict_laws.proofs.Unions.{known_are_possible}
 use Rattle.archive_laws.proofs.OneWord.{each_word_decides}

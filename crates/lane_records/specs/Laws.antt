@@ -11,7 +11,7 @@ use Rattle.farm_model.specs.declared.types.Variant.{Variant}
 use Rattle.farm_model.specs.Universe.{Universe}
 use Rattle.farm_model.specs.Packages.{variant, names, word_has}
 use Rattle.farm_laws.specs.EventsLeft.{InPlace}
-use Rattle.farm_laws.proofs.Safe.{Agrees, AgreesAfter}
+use Rattle.farm_laws.specs.Agrees.{Agrees, AgreesAfter}
 use Rattle.plan_model.specs.declared.instructions.Instruction.{Instruction}
 use Rattle.plan_model.specs.declared.instructions.Instruction.TheVariants.{Unpack, When}
 use Rattle.plan_model.specs.Known.{Rows, possible}

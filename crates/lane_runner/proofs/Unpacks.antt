@@ -6,7 +6,7 @@ use Rattle.std.proofs.lemmas.Bool.{eq-eqb, cond-true}
 use Rattle.chroot_state.specs.Held.{Held, IsHeld}
 use Rattle.deb_relation.specs.declared.operator.Op.{Op}
 use Rattle.farm_laws.specs.EventsLeft.{InPlace}
-use Rattle.farm_laws.proofs.Safe.{Agrees, AgreesAfter}
+use Rattle.farm_laws.specs.Agrees.{Agrees, AgreesAfter}
 use Rattle.farm_model.specs.declared.types.Trap.{Trap}
 use Rattle.farm_model.specs.Below.{highest_below}
 use Rattle.farm_model.specs.Packages.{variant, variants, is_wanted, word_has}
