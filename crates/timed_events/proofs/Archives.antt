@@ -105,7 +105,7 @@ behind-more u events x v =
     (is_given x.output v))
 
 -- a lane that rests, rests over less too
-not_stuck : (turn : Turn) → NotStuck turn → rests turn ≡ true → ⊥
+pub not_stuck : (turn : Turn) → NotStuck turn → rests turn ≡ true → ⊥
 not_stuck (Goes next) h e = false≢true e
 not_stuck (Gives next v) h e = false≢true e
 not_stuck Waits h e = h

@@ -47,6 +47,7 @@ timed-more u p events before e x later t =
       run = t.run;
       place = t.place;
       free = t.free;
+      later = t.later;
       rested = λ m from to. subst (λ there. rests (turn_over u p t.state e.lane there) ≡ true)
           (same m (omega (arith, to))) (t.rested m from to);
       takes = subst (λ there. Takes e (lane_state t.state e.lane)

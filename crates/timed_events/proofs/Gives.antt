@@ -73,6 +73,7 @@ module _ (u : Universe) (p : Plan) (events : List Event) (s : State) (clocks : L
     event = record {
       lane = l;
       place = (lane_state s l).done;
+      free = c.free;
       begin = c.next;
       end = c.next + 1;
       output = Some v;
@@ -98,10 +99,11 @@ module _ (u : Universe) (p : Plan) (events : List Event) (s : State) (clocks : L
       state = s;
       run = t.run;
       place = refl;
-      free = omega (arith, own.free, own.ahead);
+      free = own.free;
+      later = own.ahead;
       rested = λ m from to. subst (λ a. rests (turn_over u p s l a) ≡ true)
           (sym (same_at m (omega (arith, to))))
-          (own.rested awake m (omega (arith, own.free, from)) to);
+          (own.rested awake m from to);
       takes = subst (Takes event (lane_state s l)) (sym (any_gives (archive_at u all c.next)))
           (refl, omega arith);
     }

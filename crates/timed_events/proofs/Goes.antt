@@ -60,6 +60,7 @@ module _ (u : Universe) (p : Plan) (events : List Event) (s : State) (clocks : L
     event = record {
       lane = l;
       place = (lane_state s l).done;
+      free = c.free;
       begin = c.next;
       end = c.next + (next.spent - (lane_state s l).spent);
       output = None;
@@ -89,9 +90,10 @@ module _ (u : Universe) (p : Plan) (events : List Event) (s : State) (clocks : L
       state = s;
       run = t.run;
       place = refl;
-      free = omega (arith, own.free, own.ahead);
+      free = own.free;
+      later = own.ahead;
       rested = λ m from to. subst (λ a. rests (turn_over u p s l a) ≡ true) (sym (same_at m))
-          (own.rested awake m (omega (arith, own.free, from)) to);
+          (own.rested awake m from to);
       takes =
           let is_turn : turn_over u p s l (archive_at u all c.next) ≡ Goes next =
           ap (turn_over u p s l) there ∙ goes in

@@ -7,3 +7,7 @@ pub mod Rests
 pub mod Begins
 pub mod Work
 pub mod Moves
+pub mod Loops
+pub mod Plays
+pub mod Waited
+pub mod Ahead

@@ -92,6 +92,7 @@ module _ (u : Universe) (p : Plan) (sound : IsSound u p) (events : List Event) (
   event_of end output = record {
     lane = l;
     place = (lane_state s l).done;
+    free = c.free;
     begin = c.next;
     end = end;
     output = output;

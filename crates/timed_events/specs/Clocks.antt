@@ -7,8 +7,9 @@
 --   IsTiming        what is known of all
 --   StaysOver       whether a lane that rests still does, with one variant more
 --   IsWoken, AreWoken  lanes that were asleep, behind an output
+--   IsFirst, FoundTo  the lane that has the next event, among the first n lanes
 --   awake_of, work_left  how many lanes are awake; what is still to be tried at most
-use Rattle.std.specs.Prelude.{◌≡◌, ℕ, suc, max, ◌+◌, ◌-◌, ◌*◌, ◌^◌, ◌<◌, ◌≤◌, Bool, true, false, ◌||◌, ◌⊎◌, List, [], ◌∷◌, length, map, Some, slice_get, if◌then◌else◌, All}
+use Rattle.std.specs.Prelude.{Option, None, ◌≡◌, ℕ, suc, max, ◌+◌, ◌-◌, ◌*◌, ◌^◌, ◌<◌, ◌≤◌, Bool, true, false, ◌||◌, ◌⊎◌, List, [], ◌∷◌, length, map, Some, slice_get, if◌then◌else◌, All}
 use Rattle.std.specs.List.{list_any}
 use Rattle.farm_model.specs.declared.types.Variant.{Variant}
 use Rattle.farm_model.specs.Universe.{Universe}
@@ -80,6 +81,21 @@ pub record AreWoken (u : Universe) (p : Plan) (s : State) (v : Variant) (time n 
   pub each : (l : ℕ) (c : Clock) → slice_get new l ≡ Some c → (d : Clock)
       × (slice_get old l ≡ Some d) × (l < n → IsWoken u p s v time l d c)
       × (n ≤ l → c ≡ d)
+
+-- the lane is awake, and of the first n lanes no other that is awake has an event before its next
+pub record IsFirst (p : Plan) (s : State) (clocks : List Clock) (l n : ℕ) : Type 0 where
+  pub clock : Clock
+  pub is : slice_get clocks l ≡ Some clock
+  pub within : l < n
+  pub awake : clock.awake ≡ true
+  pub first : (k : ℕ) (d : Clock) → k < n → slice_get clocks k ≡ Some d → d.awake ≡ true
+      → moment_of p s l clock.next ≤ moment_of p s k d.next
+
+-- it is that lane, or none of them is awake
+abbrev pub FoundTo : Plan → State → List Clock → ℕ → Option ℕ → Type 0
+FoundTo p s clocks n None = (k : ℕ) (d : Clock) → k < n → slice_get clocks k ≡ Some d
+    → d.awake ≡ false
+FoundTo p s clocks n (Some l) = IsFirst p s clocks l n
 
 -- how many lanes are awake
 abbrev pub awake_of : List Clock → ℕ

@@ -1,2 +1,3 @@
 pub mod Timed
 pub mod Clocks
+pub mod Path

@@ -8,14 +8,14 @@
 --   takes             how long an event takes, and what it gives
 --   IsTimed           the times of one event, behind those before it
 --   IsTimedRun        a run of all lanes to their ends, whose events are timed
-use Rattle.std.specs.Prelude.{◌≡◌, ℕ, suc, ◌+◌, ◌-◌, ◌<◌, ◌≤◌, Bool, true, false, ◌||◌, ◌&&◌, ◌==◌, nat_le, List, map, take, fold, Option, Some, None, slice_get, if◌then◌else◌, All}
+use Rattle.std.specs.Prelude.{◌≡◌, ℕ, suc, ◌+◌, ◌-◌, ◌<◌, ◌≤◌, ◌⊎◌, Bool, true, false, ◌||◌, ◌&&◌, ◌==◌, nat_le, List, [], map, take, fold, Option, Some, None, slice_get, if◌then◌else◌, All}
 use Rattle.std.specs.List.{list_any}
 use Rattle.farm_model.specs.declared.types.Variant.{Variant}
 use Rattle.farm_model.specs.Universe.{Universe}
 use Rattle.farm_model.specs.Packages.{same, initial}
 use Rattle.plan_model.specs.Plan.{Plan, lane, instruction_at}
 use Rattle.plan_model.specs.Turn.{LaneState, Turn, Goes, Gives, Waits, Ends, turn_of}
-use Rattle.plan_model.specs.Run.{State, start, lane_state, Run, is_finished}
+use Rattle.plan_model.specs.Run.{State, start, lane_state, Run, is_finished, result_of}
 use Rattle.timed_events.specs.declared.event.Event.{Event}
 
 -- the output is this variant
@@ -57,12 +57,13 @@ pub record IsTimed (u : Universe) (p : Plan) (events before : List Event) (e : E
   pub run : Run u p (start u p) (map (λ (x : Event). x.lane) before) state
   -- it is of the instruction at which its lane stands;
   pub place : e.place ≡ (lane_state state e.lane).done
-  -- it begins at the first moment from the end of the lane's last event on
-  pub free : free_at e.lane before ≤ e.begin
-  -- at which the lane does not rest, over the archive at that moment,
-  pub rested : (m : ℕ) → free_at e.lane before ≤ m → m < e.begin
+  -- from the end of the lane's last event on its lane is free,
+  pub free : e.free ≡ free_at e.lane before
+  pub later : e.free ≤ e.begin
+  -- and it begins at the first moment at which the lane does not rest, over the archive then;
+  pub rested : (m : ℕ) → e.free ≤ m → m < e.begin
       → rests (turn_over u p state e.lane (archive_at u events m)) ≡ true
-  -- and takes as long as what the lane then does.
+  -- it takes as long as what the lane then does.
   pub takes : Takes e (lane_state state e.lane)
       (turn_over u p state e.lane (archive_at u events e.begin))
 
@@ -71,13 +72,22 @@ abbrev pub AreTimed : Universe → Plan → List Event → Type 0
 AreTimed u p events = (k : ℕ) (e : Event) → slice_get events k ≡ Some e
     → IsTimed u p events (take k events) e
 
+-- an event ends then, if there is any
+abbrev pub IsReached : List Event → ℕ → Type 0
+IsReached events end = ((events ≡ []) × (end ≡ 0))
+    ⊎ ((k : ℕ) × (e : Event) × (slice_get events k ≡ Some e) × (e.end ≡ end))
+
 -- The timed run:
 pub record IsTimedRun (u : Universe) (p : Plan) (events : List Event) (end : ℕ) : Type 0 where
   -- its events, one after another, lead all lanes to their ends;
   pub last : State
   pub run : Run u p (start u p) (map (λ (x : Event). x.lane) events) last
   pub finished : is_finished p last ≡ true
+  -- as a schedule they meet no trap;
+  pub schedule : result_of u p (map (λ (x : Event). x.lane) events)
+      ≡ record { state = last; stop = None }
   -- each is timed;
   pub timed : AreTimed u p events
   -- and the run ends when the last of them does.
   pub greatest : All (λ (e : Event). e.end ≤ end) events
+  pub reached : IsReached events end
