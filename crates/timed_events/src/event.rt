@@ -7,7 +7,7 @@ use farm_model::Variant;
 #[derive(Clone, Copy, Debug, PartialEq, Eq)]
 pub struct Event {
     /// The number of the lane, 0 for the first.
-    pub lane: u32,
+    pub lane: usize,
     /// How many instructions of the lane stand before it.
     pub place: u32,
     /// When the event before it in its lane ended, 0 for the first. Until it begins the lane waits.
