@@ -6,9 +6,12 @@
   model/portfarm.py list --number PACKAGES SOURCES FARM PLAN
   model/portfarm.py verify-cert PACKAGES SOURCES FARM PLAN CERT
   model/portfarm.py step --schedule LIST|@FILE PACKAGES SOURCES FARM PLAN
+  model/portfarm.py timeline [--json|--bars|--full] PACKAGES SOURCES FARM PLAN
+  model/portfarm.py graph [--json] PACKAGES SOURCES FARM PLAN
   model/portfarm.py                   the verdict on the four texts of standard input, divided by lines `%%`
 
-It is slow, it shares no code with the crates, and the texts of wrong words are its own.
+It is slow, it shares no code with the crates, and the texts of wrong words are its own. `timeline`, the timed run of RULES,
+section 14, and `graph` are commands of the model alone.
 """
 
 import sys
@@ -19,10 +22,18 @@ from explain import Note, left_lines, stuck_notes, unsafe_notes, waits_notes
 from farm_warnings import warnings
 from fault_notes import fault_lines
 from json_answers import json_line, lines_of, reasons_of, verdict_members
+from plan_graph import graph_lines, graph_members
 from plans import listing, numbered, read_plan
 from texts import DIGITS, FILES, Fault
+from timeline import TimedRun, json_members, text_lines
 from universe import read_universe
 from verdict import judge
+
+COMMANDS = ("check", "explain", "list", "cert", "verify-cert", "step", "timeline", "graph")
+OPTIONS = {
+    "list": ["--number"], "check": ["--json"], "explain": ["--json"], "timeline": ["--json", "--bars", "--full"],
+    "graph": ["--json"],
+}
 
 
 def cut_input(text):
@@ -85,6 +96,22 @@ def refused(command, texts, more, fault):
     return [json_line(verdict_members(written) | told)]
 
 
+def timed(command, universe, plan, more):
+    """The lines of the timed run of an accepted plan, or of its graph."""
+    run = TimedRun(universe, plan)
+    if command == "graph":
+        return [json_line(graph_members(plan, run))] if more == "--json" else list(graph_lines(plan, run))
+    if more == "--json":
+        return [json_line(json_members(run))]
+    return list(text_lines(run, more == "--bars", more == "--full"))
+
+
+def stuck_graph(plan, written, more):
+    """The graph of a plan whose lanes would wait for ever, their circle in bold."""
+    stuck = written[0].split(" ")[3:]
+    return [json_line(graph_members(plan, None, stuck))] if more == "--json" else list(graph_lines(plan, None, stuck))
+
+
 def answer(command, texts, more=None):
     """The lines that a command writes, and its status."""
     try:
@@ -108,6 +135,10 @@ def answer(command, texts, more=None):
         return [line], 0 if is_one else 1
     written, accepts, rows, order = judge(universe, plan)
     status = 0 if accepts else 1
+    if command in ("timeline", "graph") and accepts:
+        return timed(command, universe, plan, more), status
+    if command == "graph" and written[0].startswith("refused 402"):
+        return stuck_graph(plan, written, more), status
     if command == "cert" and accepts:
         written = certificates.certificate(universe, plan, rows, order)
     if command == "check" and more == "--json":
@@ -144,10 +175,10 @@ def main(words):
             if more is None:
                 print("portfarm: bad schedule", file=sys.stderr)
                 return 2
-        elif rest[:1] == [{"list": "--number", "check": "--json", "explain": "--json"}.get(command)]:
+        elif rest and rest[0] in OPTIONS.get(command, ()):
             more, rest = rest[0], rest[1:]
         paths = 5 if command == "verify-cert" or by_file else 4
-        if command not in ("check", "explain", "list", "cert", "verify-cert", "step") or len(rest) != paths:
+        if command not in COMMANDS or len(rest) != paths:
             print(__doc__, file=sys.stderr)
             return 2
         found = [text_of(path) for path in rest]

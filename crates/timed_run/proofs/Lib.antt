@@ -1,0 +1,4 @@
+pub mod Ends
+pub mod Advanced
+pub mod Nearer
+pub mod Begun

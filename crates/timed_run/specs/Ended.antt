@@ -1,0 +1,14 @@
+-- A timed run whose lanes have all ended.
+use Rattle.std.specs.Prelude.{◌≡◌, true, List, map}
+use Rattle.farm_model.specs.Universe.{Universe}
+use Rattle.plan_model.specs.Plan.{Plan}
+use Rattle.plan_model.specs.Run.{State, start, Run, is_finished}
+use Rattle.timed_events.specs.declared.event.Event.{Event}
+use Rattle.timed_events.specs.Timed.{AreTimed}
+
+-- these events lead all lanes to their ends, and each is timed
+pub record IsEnded (u : Universe) (p : Plan) (events : List Event) : Type 0 where
+  pub last : State
+  pub run : Run u p (start u p) (map (λ (e : Event). e.lane) events) last
+  pub finished : is_finished p last ≡ true
+  pub timed : AreTimed u p events

@@ -1,0 +1,91 @@
+//! Which lane has the next event.
+
+ghost use Rattle.std.specs.Prelude.{◌≡◌, ◌<◌, ◌≤◌, ◌*◌, ◌+◌, ◌^◌, ℕ, true, Some, None, length, slice_get, nat_lt};
+ghost use Rattle.timed_events.specs.Clocks.{moment_of, FoundTo};
+ghost use Rattle.timed_events.specs.declared.clock.Clock.{Clock};
+ghost use Rattle.timed_run.specs.Moments.{number_of};
+
+use crate::farm::Farm;
+use timed_events::Clock;
+
+/// When an event counts: its time, and whether it begins or ends there. What ends comes first.
+#[derive(Clone, Copy)]
+pub struct Moment {
+    time: u128,
+    begins: bool,
+}
+
+/// Tells whether a moment is before another.
+fn is_before(a: Moment, b: Moment) -> bool
+    ensures { result ≡ nat_lt (number_of a) (number_of b) }
+{
+    a.time < b.time || (a.time == b.time && !a.begins && b.begins)
+}
+
+/// The moment of a lane's next event: an output counts when it ends, anything else when it begins.
+fn next_moment<F: Farm>(farm: &F, lane: usize, time: u128) -> Moment
+    requires there { lane < length (F.plan farm.now) }
+    requires fits { time + 1 < 2 ^ 128 }
+    ensures { number_of result ≡ moment_of (F.plan farm.now) (F.state farm.now) lane time }
+{
+    if farm.gives(lane) {
+        Moment {
+            time: time + 1,
+            begins: false,
+        }
+    } else {
+        Moment { time, begins: true }
+    }
+}
+
+/// Tells whether a lane has its next event before another, if there is another.
+fn is_earlier<F: Farm>(farm: &F, clocks: &[Clock], lane: usize, other: Option<usize>) -> bool
+    requires long { length clocks.now ≡ length (F.plan farm.now) }
+    requires there { lane < length clocks.now }
+    requires other { (l : ℕ) → other ≡ Some l → l < length clocks.now }
+    requires fit { (l : ℕ) (c : Clock) → slice_get clocks.now l ≡ Some c → c.next + 1 < 2 ^ 128 }
+    ensures none { other ≡ None → result ≡ true }
+    ensures some { (l : ℕ) (c d : Clock) → other ≡ Some l → slice_get clocks.now lane ≡ Some c
+        → slice_get clocks.now l ≡ Some d
+        → result ≡ nat_lt (moment_of (F.plan farm.now) (F.state farm.now) lane c.next)
+        (moment_of (F.plan farm.now) (F.state farm.now) l d.next) }
+{
+    match other {
+        None => true,
+        Some(other) => is_before(
+            next_moment(farm, lane, clocks[lane].next),
+            next_moment(farm, other, clocks[other].next),
+        ),
+    }
+}
+
+/// The lane that has the next event among those before this one and this one.
+fn nearer<F: Farm>(farm: &F, clocks: &[Clock], lane: usize, found: Option<usize>) -> Option<usize>
+    requires long { length clocks.now ≡ length (F.plan farm.now) }
+    requires there { lane < length clocks.now }
+    requires fit { (l : ℕ) (c : Clock) → slice_get clocks.now l ≡ Some c → c.next + 1 < 2 ^ 128 }
+    requires found { FoundTo (F.plan farm.now) (F.state farm.now) clocks.now lane found }
+    ensures { FoundTo (F.plan farm.now) (F.state farm.now) clocks.now (lane + 1) result }
+{
+    if !clocks[lane].awake {
+        return found;
+    }
+    if is_earlier(farm, clocks, lane, found) {
+        return Some(lane);
+    }
+    found
+}
+
+/// The lane that is awake and has the next event, the first in file order where several have it at
+/// one moment.
+pub fn earliest<F: Farm>(farm: &F, clocks: &[Clock]) -> Option<usize>
+    requires long { length clocks.now ≡ length (F.plan farm.now) }
+    requires fit { (l : ℕ) (c : Clock) → slice_get clocks.now l ≡ Some c → c.next + 1 < 2 ^ 128 }
+    ensures { FoundTo (F.plan farm.now) (F.state farm.now) clocks.now (length clocks.now) result }
+{
+    let mut found: Option<usize> = None;
+    for lane in 0..clocks.len() {
+        found = nearer(farm, clocks, lane, found);
+    }
+    found
+}

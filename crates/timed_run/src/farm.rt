@@ -1,0 +1,61 @@
+//! A farm at work, as a timed run asks of it.
+
+ghost use Rattle.std.specs.Prelude.{◌≡◌, ◌<◌, true, false, length, slice_get};
+ghost use Rattle.std.specs.Option.{option_map};
+ghost use Rattle.farm_model.specs.Universe.{Universe};
+ghost use Rattle.farm_model.specs.Sound.{IsKnown};
+ghost use Rattle.plan_model.specs.Plan.{Plan, instruction_at};
+ghost use Rattle.plan_model.specs.Run as run;
+ghost use Rattle.plan_model.specs.Run.{State, Publication, Moved, lane_state};
+ghost use Rattle.plan_model.specs.World.{is_publish};
+ghost use Rattle.timed_events.specs.Clocks.{StaysOver};
+
+use farm_model::Variant;
+
+/// A farm at work. A contract sees its universe, its plan, and the state that it has come to.
+pub trait Farm {
+    ghost universe: { Self → Universe };
+
+    ghost plan: { Self → Plan };
+
+    ghost state: { Self → State };
+
+    /// Takes the turn of a lane, and tells whether the lane has gone on.
+    fn step(&mut self, lane: usize) -> bool
+        ensures universe { universe self.new ≡ universe self.old }
+        ensures plan { plan self.new ≡ plan self.old }
+        ensures moved { result ≡ true → run.step (universe self.old) (plan self.old)
+            (state self.old) lane ≡ Moved (state self.new) }
+        ensures stayed { result ≡ false → state self.new ≡ state self.old }
+        ensures unmoved { result ≡ false → (next : State) → run.step (universe self.old)
+            (plan self.old) (state self.old) lane ≡ Moved next → ⊥ };
+
+    /// The place of a lane, the number of instructions before it.
+    fn done(&self, lane: usize) -> u32
+        ensures { result ≡ (lane_state (state self.now) lane).done };
+
+    /// What a lane has spent.
+    fn spent(&self, lane: usize) -> u64
+        ensures { result ≡ (lane_state (state self.now) lane).spent };
+
+    /// How many variants were published.
+    fn published(&self) -> usize
+        ensures { result ≡ length (state self.now).published };
+
+    /// What was published behind so many publications, if there is more.
+    fn output_behind(&self, published: usize) -> Option<Variant>
+        ensures { result ≡ option_map (λ (q : Publication). q.variant)
+            (slice_get (state self.now).published published) };
+
+    /// Tells whether the next event of a lane is an output.
+    fn gives(&self, lane: usize) -> bool
+        requires { lane < length (plan self.now) }
+        ensures { result ≡ is_publish
+            (instruction_at (plan self.now) lane (lane_state (state self.now) lane).done) };
+
+    /// Tells whether a lane stands at a wait that a variant does not satisfy.
+    fn stays(&self, lane: usize, variant: Variant) -> bool
+        requires { lane < length (plan self.now) }
+        ensures { result ≡ true → StaysOver (universe self.now) (plan self.now)
+            (state self.now) lane variant };
+}

@@ -1,0 +1,86 @@
+//! The timed run of a safe plan.
+
+ghost use Rattle.std.specs.Prelude.{◌≡◌, ◌<◌, ◌≤◌, ◌^◌, All, IfOk, OnOk, length};
+ghost use Rattle.plan_model.specs.Plan.{count};
+ghost use Rattle.plan_model.specs.Promise.{IsSafe};
+ghost use Rattle.plan_model.specs.Run.{start};
+ghost use Rattle.plan_model.specs.Sound.{IsSound};
+ghost use Rattle.timed_events.specs.Clocks.{IsTiming};
+ghost use Rattle.timed_events.specs.Timed.{IsTimedRun, IsReached};
+ghost use Rattle.timed_events.specs.declared.event.Event.{Event};
+ghost use Rattle.timed_run.specs.Ended.{IsEnded};
+
+use crate::advance::advance;
+use crate::earliest::earliest;
+use crate::farm::Farm;
+use std::alloc::{AllocError, Global};
+use timed_events::{Clock, Event};
+
+/// The timed run of a plan. Times are in steps from its beginning.
+#[derive(Drop)]
+pub struct TimedRun {
+    /// The events in the order in which they came: an output by when it ended, anything else by when
+    /// it began, outputs first where both are at one time, and then by lanes in file order.
+    pub events: Vec<Event>,
+    /// When the last event ends.
+    pub end: u128,
+}
+
+/// Takes one event after another until all lanes have ended.
+fn play<F: Farm>(
+    farm: &mut F,
+    clocks: &mut Vec<Clock>,
+    events: &mut Vec<Event>,
+) -> Result<(), AllocError>
+    requires sound { IsSound (F.universe farm.old) (F.plan farm.old) }
+    requires safe { IsSafe (F.universe farm.old) (F.plan farm.old) }
+    requires counted { count (F.universe farm.old) (F.plan farm.old) < 2 ^ 64 }
+    requires timing { IsTiming (F.universe farm.old) (F.plan farm.old) events.old.items
+        (F.state farm.old) clocks.old.items }
+    ensures { OnOk result
+        (IsEnded (F.universe farm.old) (F.plan farm.old) events.new.items) }
+{
+    while let Some(lane) = earliest(farm, clocks) {
+        advance(farm, clocks, events, lane)?;
+    }
+    Ok(())
+}
+
+/// The greatest end of these events, 0 where there is none.
+fn last_end(events: &[Event]) -> u128
+    ensures greatest { All (λ (e : Event). e.end ≤ result) events.now }
+    ensures reached { IsReached events.now result }
+{
+    let mut end = 0;
+    for event in events {
+        end = event.end.max(end);
+    }
+    end
+}
+
+/// The timed run of a safe plan, by a farm of so many lanes at its beginning: each event takes its
+/// cost in steps as time, each lane goes on as soon as it can, and all come to their ends.
+///
+/// # Errors
+///
+/// [`AllocError`] where memory is refused.
+pub fn timed_run<F: Farm>(alloc: Global, farm: &mut F, lanes: usize) -> Result<TimedRun, AllocError>
+    requires sound { IsSound (F.universe farm.old) (F.plan farm.old) }
+    requires safe { IsSafe (F.universe farm.old) (F.plan farm.old) }
+    requires counted { count (F.universe farm.old) (F.plan farm.old) < 2 ^ 64 }
+    requires begins { F.state farm.old ≡ start (F.universe farm.old) (F.plan farm.old) }
+    requires lanes { lanes ≡ length (F.plan farm.old) }
+    ensures { IfOk result (λ run. IsTimedRun (F.universe farm.old) (F.plan farm.old)
+        run.events.items run.end) }
+{
+    let fresh = Clock {
+        free: 0,
+        next: 0,
+        awake: true,
+    };
+    let mut clocks = vec![in alloc; fresh; lanes]?;
+    let mut events = Vec::new(alloc);
+    play(farm, &mut clocks, &mut events)?;
+    let end = last_end(&events);
+    Ok(TimedRun { events, end })
+}
