@@ -32,7 +32,7 @@ fn push_set(
 /// # Errors
 ///
 /// [`AllocError`] where memory is refused.
-#[tactic(auto, unfolding(plan_asm::specs::Listing::instruction_text))]
+#[tactic(auto, unfolding(crate::specs::Listing::instruction_text))]
 pub fn push_instruction(
     text: &mut Vec<u8>,
     universe: &Universe,
