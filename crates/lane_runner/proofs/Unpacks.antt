@@ -125,7 +125,8 @@ module _ (u : Universe) (p : Plan) (rows : Rows) (sound : IsSound u p) (ann : Is
                 built = on.built;
                 agrees = subst (Agrees u p rows w.lane) (sym is) free_and_safe.1;
                 there = place;
-                on_way = ap (ready_in u p w.lane) (is ∙ sym moved);
+                turns = 0;
+                came = is ∙ sym moved;
                 from = subst (λ (s : LaneState). InPlace u of.instructions s.done s.made)
                     (sym moved)
                     place;
