@@ -9,6 +9,7 @@ use Rattle.plan_model.specs.Turn.{LaneState, Turn, Goes, Gives, Waits, Ends, Fai
 use Rattle.farm_laws.proofs.Archive.{take_some}
 use Rattle.timed_events.specs.declared.event.Event.{Event}
 use Rattle.timed_events.specs.Timed.{archive_at, free_at, turn_over, Takes, IsTimed}
+use Rattle.timed_events.specs.Path.{NoneFrom}
 use Rattle.timed_events.proofs.Events.{free_here, free_other}
 
 -- no event ends before it begins, and an output ends one step later
@@ -26,11 +27,6 @@ pub timed-time : (u : Universe) (p : Plan) (events before : List Event) (e : Eve
     → (e.begin ≤ e.end) × ((v : Variant) → e.output ≡ Some v → e.begin < e.end)
 timed-time u p events before e t = takes-time e (lane_state t.state e.lane)
     (turn_over u p t.state e.lane (archive_at u events e.begin)) t.takes
-
--- none of the events from j to k is of the lane
-abbrev pub NoneFrom : List Event → ℕ → ℕ → ℕ → Type 0
-NoneFrom events l j k = (i : ℕ) (e : Event) → j ≤ i → i < k → slice_get events i ≡ Some e
-    → e.lane ≡ l → ⊥
 
 -- what is read past the last event
 abbrev no_event : Event

@@ -11,3 +11,4 @@ pub mod Loops
 pub mod Plays
 pub mod Waited
 pub mod Ahead
+pub mod Chains

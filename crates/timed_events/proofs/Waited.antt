@@ -158,10 +158,12 @@ waited-for u p events k e t lt =
       by.2,
       by.3 ∙ next,
       record {
-        entry = wait.entry;
-        waits = ap (instruction_at p e.lane) t.place ∙ wait.is;
         output = v.0;
         gives = given-is by.1.output v.0 by.4;
-        meets = v.3;
+        waits = record {
+          entry = wait.entry;
+          waits = ap (instruction_at p e.lane) t.place ∙ wait.is;
+          meets = v.3;
+        };
       },
     )

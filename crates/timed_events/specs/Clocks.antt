@@ -1,7 +1,7 @@
 -- A timed run on its way: the events so far, and where each lane stands in time.
 --
---   moment_of       the moment of a lane's next event: twice the time, and one more where it is no
---                   output, so that of one time outputs come first
+--   moment_of       the moment of a lane's next event: twice the time at which an output ends, and
+--                   one more than twice that at which anything else begins
 --   IsPast          the moment of an event has come
 --   IsClock         what is known of a lane
 --   IsTiming        what is known of all

@@ -5,7 +5,8 @@
 --   archive_at        the archive at a moment
 --   free_at           when a lane's last event so far ends
 --   turn_over, rests  what a lane would do over an archive; whether it stays where it is
---   takes             how long an event takes, and what it gives
+--   Takes             how long an event takes, and what it gives
+--   IsReached         the end of a run is that of one of its events
 --   IsTimed           the times of one event, behind those before it
 --   IsTimedRun        a run of all lanes to their ends, whose events are timed
 use Rattle.std.specs.Prelude.{◌≡◌, ℕ, suc, ◌+◌, ◌-◌, ◌<◌, ◌≤◌, ◌⊎◌, Bool, true, false, ◌||◌, ◌&&◌, ◌==◌, nat_le, List, [], map, take, fold, Option, Some, None, slice_get, if◌then◌else◌, All}

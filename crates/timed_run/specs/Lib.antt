@@ -1,2 +1,3 @@
 pub mod Moments
 pub mod Ended
+pub mod Links

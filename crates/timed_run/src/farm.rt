@@ -9,6 +9,7 @@ ghost use Rattle.plan_model.specs.Run as run;
 ghost use Rattle.plan_model.specs.Run.{State, Publication, Moved, lane_state};
 ghost use Rattle.plan_model.specs.World.{is_publish};
 ghost use Rattle.timed_events.specs.Clocks.{StaysOver};
+ghost use Rattle.timed_events.specs.Path.{WaitsFor};
 
 use farm_model::Variant;
 
@@ -58,4 +59,12 @@ pub trait Farm {
         requires { lane < length (plan self.now) }
         ensures { result ≡ true → StaysOver (universe self.now) (plan self.now)
             (state self.now) lane variant };
+
+    /// Tells whether an instruction of a lane is a wait that a variant satisfies.
+    fn lets_pass(&self, lane: usize, place: u32, variant: Variant) -> bool
+        requires { IsKnown (universe self.now) variant }
+        ensures passes { result ≡ true
+            → WaitsFor (universe self.now) (plan self.now) lane place variant }
+        ensures waits { result ≡ false
+            → WaitsFor (universe self.now) (plan self.now) lane place variant → ⊥ };
 }

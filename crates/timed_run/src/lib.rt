@@ -4,9 +4,11 @@
 mod advance;
 mod earliest;
 mod farm;
+mod path;
 mod run;
 mod wake;
 
 pub use farm::Farm;
+pub use path::critical_path;
 pub use run::{TimedRun, timed_run};
 pub use timed_events::Event;
