@@ -18,7 +18,7 @@ from portfarm import FILES, answer, cut_input, read_schedule
 from relations import NEED, read_field
 from texts import Fault
 from universe import read_universe
-from verdict import count
+from verdict import Rows, count
 
 CRATES = Path(__file__).resolve().parent.parent / "crates"
 # What these ask for is the parser's own text, or how an output fails: no rule of a farm.
@@ -110,6 +110,18 @@ def plan_lines(universe, plan):
     return written
 
 
+def known_lines(universe, plan):
+    """The words of what each lane knows at each place."""
+    rows, written = Rows(universe, plan), []
+    rows.make_greatest()
+    for lane, known in zip(plan, rows.known):
+        written.append(f"lane {printable(lane.name)}")
+        for place, row in enumerate(known):
+            words = [sum(2**bit for bit, it in enumerate(of) if it in row) for of in universe.variants.values()]
+            written.append(f"  {place}: " + " ".join(map(str, words)))
+    return written
+
+
 def passing(universe, field, test):
     try:
         entries = read_field(field, NEED)
@@ -152,11 +164,13 @@ def on_farm(texts, question):
         return [f'{file} "{printable(texts[file])}"' for file in FILES]
     if word == "traps":
         return [f"{trap} {text}" for trap, text in TRAPS.items()]
-    if word == "accepted" and answer("check", texts)[1]:
+    if word in ("accepted", "made", "known") and answer("check", texts)[1]:
         return []
+    if word == "made":
+        return answer("cert", texts)[0]
     try:
         universe = read_universe(texts)
-        if word in ("plan", "listing", "accepted"):
+        if word in ("plan", "listing", "accepted", "known"):
             plan = read_plan(universe, texts["plan"])
     except Fault as fault:
         return [f"code {fault.code} at line {fault.line} of file {FILES.index(fault.file) + 1}"]
@@ -165,6 +179,7 @@ def on_farm(texts, question):
         "plan": lambda: plan_lines(universe, plan),
         "accepted": lambda: universe_lines(universe) + plan_lines(universe, plan),
         "listing": lambda: answer("list", texts)[0],
+        "known": lambda: known_lines(universe, plan),
         "find": lambda: [str(list(universe.variants).index(rest)) if rest in universe.variants else "none"],
         "satisfies": lambda: passing(universe, rest, lambda variant, it: variant.is_one(it)),
         "wanted": lambda: passing(universe, rest, lambda variant, it: it.in_relation(variant.version)),

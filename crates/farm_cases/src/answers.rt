@@ -158,7 +158,7 @@ fn answer_on_verdict(
         texts.farm,
         texts.plan,
     );
-    verdict_answer(alloc, word, &verdict)
+    verdict_answer(rt, alloc, word, &verdict)
 }
 
 /// The answers to the questions of cases.
@@ -171,7 +171,9 @@ impl<R: Threads + Sync> Answers<R> for FarmAnswers {
         let (word, rest) = cut_at_first(b' ', case.question).unwrap_or((case.question, b""));
         let word = str::from_utf8(word).unwrap_or("?");
         match word {
-            "" | "message" | "accepted" => answer_on_verdict(rt, alloc, texts, word),
+            "" | "message" | "accepted" | "made" | "known" => answer_on_verdict(
+                rt, alloc, texts, word,
+            ),
             "certificate" => answer_on_certificate(rt, alloc, &case.input, rest),
             "step" | "turns" => answer_on_schedule(alloc, texts, case.question),
             "texts" => cut(alloc, texts),

@@ -6,6 +6,7 @@
 
 mod answers;
 mod certificates;
+mod made;
 mod plans;
 mod relations;
 mod replaced;

@@ -1,11 +1,13 @@
 //! What is told of a verdict.
 
+use crate::made::{known_text, made_text};
 use crate::plans::push_plan;
 use crate::universes::push_universe;
 use deb_text::Fault;
 use farm_report::{WriteFailed, WriteSink, refusal_text, write_check};
 use plan_verifier::{Accepted, Refusal};
 use std::alloc::{AllocError, Global};
+use std::thread::Threads;
 
 /// The message of the verdict's refusal, or nothing.
 fn message(alloc: Global, verdict: &Result<Accepted, Refusal>) -> Result<Vec<u8>, AllocError> {
@@ -30,6 +32,26 @@ fn accepted(alloc: Global, verdict: &Result<Accepted, Refusal>) -> Result<Vec<u8
     }
 }
 
+/// The certificate that is made of an accepted plan, or nothing.
+fn made(alloc: Global, verdict: &Result<Accepted, Refusal>) -> Result<Vec<u8>, AllocError> {
+    match verdict {
+        Ok(accepted) => made_text(alloc, accepted),
+        Err(_) => Ok(Vec::new(alloc)),
+    }
+}
+
+/// What the lanes of an accepted plan know at each place, or nothing.
+fn known(
+    rt: &(impl Threads + Sync),
+    alloc: Global,
+    verdict: &Result<Accepted, Refusal>,
+) -> Result<Vec<u8>, AllocError> {
+    match verdict {
+        Ok(accepted) => known_text(rt, alloc, accepted),
+        Err(_) => Ok(Vec::new(alloc)),
+    }
+}
+
 /// The verdict as it is printed.
 fn verdict_text(alloc: Global, verdict: &Result<Accepted, Refusal>) -> Result<Vec<u8>, AllocError> {
     let mut out = WriteSink::new(Vec::new(alloc));
@@ -39,12 +61,13 @@ fn verdict_text(alloc: Global, verdict: &Result<Accepted, Refusal>) -> Result<Ve
     }
 }
 
-/// Answers `message` and `accepted`, or with the verdict as it is printed.
+/// Answers `message`, `accepted`, `made` and `known`, or with the verdict as it is printed.
 ///
 /// # Errors
 ///
 /// [`AllocError`] where memory is refused.
 pub fn verdict_answer(
+    rt: &(impl Threads + Sync),
     alloc: Global,
     word: &str,
     verdict: &Result<Accepted, Refusal>,
@@ -52,6 +75,8 @@ pub fn verdict_answer(
     match word {
         "message" => message(alloc, verdict),
         "accepted" => accepted(alloc, verdict),
+        "made" => made(alloc, verdict),
+        "known" => known(rt, alloc, verdict),
         _ => verdict_text(alloc, verdict),
     }
 }

@@ -55,6 +55,7 @@ never_started a ends code l is = elim is.cause [
   | inl because ↦ record {
     long = is.long;
     codes = is.codes;
+    unnamed = is.unnamed;
     cause = inl (refl, because.1);
     gave_up = is.gave_up;
   }

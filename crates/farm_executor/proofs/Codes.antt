@@ -1,5 +1,5 @@
 -- Where no lane is a cause, all lanes came to their ends.
-use Rattle.std.proofs.Common.{◌≡◌, inl, inr, ℕ, ◌<◌, true, List, length, Some, slice_get, sym, ap, ◌∙◌, arith}
+use Rattle.std.proofs.Common.{◌≡◌, ◌⊎◌, inl, inr, ℕ, ◌<◌, true, List, length, Some, slice_get, sym, ap, ◌∙◌, arith}
 use Rattle.std.proofs.lemmas.Bool.{false≢true}
 use Rattle.std.proofs.lemmas.Option.{same_Some, slice_get_within}
 use Rattle.chroot_state.specs.Held.{Held}
@@ -64,19 +64,28 @@ module _ (a : AcceptedPlan) (gives_up : Type 0) (stops : List LaneStop) (chroots
   stopped_run code l cause = record {
     long = played.lanes.long;
     codes = λ k e at. (ended_so k e at).0;
+    unnamed = λ k e at code. (ended_so k e at).2 code;
     cause = cause;
     gave_up = λ k e at. (ended_so k e at).1;
   }
     where
       lane_ended : (k : ℕ) (e : LaneStop) → slice_get stops k ≡ Some e → (o : OfLane k)
           → IsEndCode e.code × (e.code ≡ GAVE_UP → gives_up)
+          × ((e.code ≡ 0) ⊎ (e.code ≡ NOT_STARTED) → e.instruction ≡ 0)
       lane_ended k e at o =
           let r = played.lanes.each k e o.chroot o.steps o.told at o.chroot_at o.steps_at
-          o.told_at in
-          (r.end.code, λ up. (r.end.gave_up up).0)
+          o.told_at in (
+            r.end.code,
+            λ up. (r.end.gave_up up).0,
+            λ code. elim code [
+              | inl ended ↦ r.end.whole ended
+              | inr never ↦ r.end.unbegun never
+            ],
+          )
 
       ended_so : (k : ℕ) (e : LaneStop) → slice_get stops k ≡ Some e
           → IsEndCode e.code × (e.code ≡ GAVE_UP → gives_up)
+          × ((e.code ≡ 0) ⊎ (e.code ≡ NOT_STARTED) → e.instruction ≡ 0)
       ended_so k e at =
           let lt = slice_get_within stops k e at in
           lane_ended k e at (of_lane k (omega (arith, lt, played.lanes.long)))

@@ -56,6 +56,9 @@ pub record IsStoppedRun (a : AcceptedPlan) (gives_up : Type 0) (ends : List Lane
   -- each lane has an end;
   pub long : length ends ≡ length a.plan
   pub codes : (k : ℕ) (e : LaneStop) → slice_get ends k ≡ Some e → IsEndCode e.code
+  -- an end names an instruction where its lane stopped ahead of one, by 501 or 502;
+  pub unnamed : (k : ℕ) (e : LaneStop) → slice_get ends k ≡ Some e
+      → (e.code ≡ 0) ⊎ (e.code ≡ NOT_STARTED) → e.instruction ≡ 0
   -- this lane is the cause, by its code;
   pub cause : IsCause ends code l
   -- and a lane gave up only where the gate may.

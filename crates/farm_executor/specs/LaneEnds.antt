@@ -30,6 +30,9 @@ pub record IsEndOf (a : AcceptedPlan) (gives_up : Type 0) (l : ℕ) (c0 : Held) 
   pub held : IsHeld a.universe c
   pub code : (stop.code ≡ 0) ⊎ ((stop.code ≡ GAVE_UP)
       ⊎ ((stop.code ≡ HALTED) ⊎ (stop.code ≡ NOT_STARTED)))
+  -- with 0 and with 503 no instruction is named;
+  pub whole : stop.code ≡ 0 → stop.instruction ≡ 0
+  pub unbegun : stop.code ≡ NOT_STARTED → stop.instruction ≡ 0
   -- with 0 it is at its end, with this chroot and this cost;
   pub ended : stop.code ≡ 0 → IsEnded a.universe a.plan l spent c r × (r.halted ≡ false)
   -- with 501 its gate gave up, and it has halted the archive;

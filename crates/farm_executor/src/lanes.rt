@@ -35,6 +35,7 @@ pub struct LaneEnd<E> {
 /// The end of a lane that never started.
 fn never<E: LaneArchive>(job: LaneJob<E>) -> LaneEnd<E>
     ensures code { result.stop.code ≡ NOT_STARTED }
+    ensures instruction { result.stop.instruction ≡ 0 }
     ensures chroot { result.chroot ≡ job.chroot }
     ensures end { result.end ≡ job.end }
 {

@@ -8,6 +8,7 @@ use plan_verifier::Accepted;
 use std::alloc::Global;
 use std::mem::ManuallyDrop;
 use std::sync::Wait;
+use std::sync::atomic::{AtomicU64, Ordering};
 use std::test::Fail;
 use std::thread::Threads;
 
@@ -16,13 +17,41 @@ use std::thread::Threads;
 enum At {
     /// Ahead of an instruction of a lane.
     Before { lane: u32, instruction: u32 },
-    /// Where a lane waits in vain.
-    AnyPause,
+    /// Where a lane waits in vain, once the other one is held ahead of its instruction of this
+    /// number, until the bell rings: so the wait can't pass.
+    Pause { lane: u32, held: u32 },
 }
+
+// How often a lane that is held looks whether the bell has rung.
+const MOST: u64 = 1_000_000;
 
 #[derive(Drop)]
 struct GivesUp {
     at: At,
+    held: AtomicU64,
+    rings: AtomicU64,
+}
+
+impl GivesUp {
+    fn new(at: At) -> GivesUp {
+        GivesUp {
+            at,
+            held: AtomicU64::new(0),
+            rings: AtomicU64::new(0),
+        }
+    }
+
+    /// Holds a lane until the bell has rung, but not for ever.
+    fn hold(&self) -> Go {
+        self.held.fetch_add(1, Ordering::SeqCst);
+        for _ in 0..MOST {
+            if self.rings.load(Ordering::SeqCst) > 0 {
+                return Go::Continue;
+            }
+            std::thread::yield_now();
+        }
+        Go::GiveUp
+    }
 }
 
 impl Gate for GivesUp {
@@ -34,14 +63,17 @@ impl Gate for GivesUp {
                 lane: l,
                 instruction: i,
             } if l == lane && i == instruction => Go::GiveUp,
+            At::Pause { lane: l, held } if l != lane && held == instruction => self.hold(),
             _ => Go::Continue,
         }
     }
 
-    fn pause(&self, _lane: u32, _instruction: u32) -> Go {
+    fn pause(&self, lane: u32, _instruction: u32) -> Go {
         match self.at {
-            At::AnyPause => Go::GiveUp,
-            At::Before { .. } => {
+            At::Pause { lane: l, .. } if l == lane && self.held.load(Ordering::SeqCst) > 0 => {
+                Go::GiveUp
+            }
+            _ => {
                 std::thread::yield_now();
                 Go::Continue
             }
@@ -50,7 +82,9 @@ impl Gate for GivesUp {
 
     fn published<A: LaneArchive>(&self, _accepted: &Accepted, _end: &A, _output: Publication) {}
 
-    fn ring(&self) {}
+    fn ring(&self) {
+        self.rings.fetch_add(1, Ordering::SeqCst);
+    }
 }
 
 /// How a gate stopped a run of two lanes: by which code and which lane, and the ends of both.
@@ -97,7 +131,7 @@ fn run_up_to(
 ) -> Result<Option<Stopped>, Fail> {
     let accepted = accepted_plan(rt, alloc)?;
     // what a run leaves goes with the test, and not piece by piece
-    let ran = ManuallyDrop::new(run_farm(rt, alloc, accepted, &GivesUp { at }));
+    let ran = ManuallyDrop::new(run_farm(rt, alloc, accepted, &GivesUp::new(at)));
     Ok(match &*ran {
         Ok(_) => None,
         Err(fault) => stop_of(fault),
@@ -126,21 +160,6 @@ fn has_stopped(run: Stopped, lane: u32, instruction: u32) -> bool {
     is_cause && by == end_by(GAVE_UP, instruction) && matches!(other.code, 0 | HALTED)
 }
 
-/// The number of the instruction at which a lane waits.
-const fn wait_of(lane: u32) -> u32 {
-    if lane == 0 { 3 } else { 1 }
-}
-
-/// Whether the lane that is the cause gave up at its wait, and the other one is at its end, was
-/// halted, or gave up at its own wait before it was.
-fn has_stopped_at_a_wait(run: Stopped) -> bool {
-    let lane = run.lane;
-    let (by, other) = ends_from(run, lane);
-    let gave_up_too = other == end_by(GAVE_UP, wait_of(if lane == 0 { 1 } else { 0 }));
-    let is_cause = run.code == GAVE_UP && by == end_by(GAVE_UP, wait_of(lane));
-    is_cause && (gave_up_too || matches!(other.code, 0 | HALTED))
-}
-
 /// Tells whether gates that give up at the instructions of a lane, one after the other, up to its
 /// last, stop each run there.
 fn stops_at_each(
@@ -167,22 +186,31 @@ fn stops_at_each_instruction(rt: HostRuntime) -> Result<(), Fail> {
     Ok(())
 }
 
-/// Runs the lanes over a gate that gives up at an instruction of a lane: the code and the lane that
-/// are told as the cause, and the ends of both lanes.
+/// Runs the lanes over a gate that gives up there: the code and the lane that are told as the cause,
+/// and the ends of both lanes.
 fn told_at(
     rt: &(impl Threads + Wait + Sync),
     alloc: Global,
-    lane: u32,
-    instruction: u32,
+    at: At,
 ) -> Result<Option<(u16, u32, (LaneStop, LaneStop))>, Fail> {
-    let run = run_up_to(rt, alloc, At::Before { lane, instruction })?;
+    let run = run_up_to(rt, alloc, at)?;
     Ok(run.map(|run| (run.code, run.lane, run.ends)))
+}
+
+/// Ahead of an instruction of a lane.
+const fn before(lane: u32, instruction: u32) -> At {
+    At::Before { lane, instruction }
+}
+
+/// At the wait of a lane, with the other one held there.
+const fn pause(lane: u32, held: u32) -> At {
+    At::Pause { lane, held }
 }
 
 // The second lane gives up, and halts the first one where it waits.
 #[test]
 fn halts_the_first_lane(rt: HostRuntime) -> Result<(), Fail> {
-    let told = told_at(&rt, rt.alloc(), 1, 3)?;
+    let told = told_at(&rt, rt.alloc(), before(1, 3))?;
     let ends = (end_by(HALTED, 3), end_by(GAVE_UP, 3));
     assert_eq!(rt; told, Some((GAVE_UP, 1, ends)));
     Ok(())
@@ -191,41 +219,27 @@ fn halts_the_first_lane(rt: HostRuntime) -> Result<(), Fail> {
 // The first lane gives up, and halts the second one where it waits.
 #[test]
 fn halts_the_second_lane(rt: HostRuntime) -> Result<(), Fail> {
-    let told = told_at(&rt, rt.alloc(), 0, 1)?;
+    let told = told_at(&rt, rt.alloc(), before(0, 1))?;
     let ends = (end_by(GAVE_UP, 1), end_by(HALTED, 1));
     assert_eq!(rt; told, Some((GAVE_UP, 0, ends)));
     Ok(())
 }
 
-/// Runs the lanes over a gate that gives up where one waits in vain. Tells whether each lane that
-/// did stands at its wait, or the run came to its end.
-fn stops_at_a_wait(rt: &(impl Threads + Wait + Sync), alloc: Global) -> Result<bool, Fail> {
-    let accepted = accepted_plan(rt, alloc)?;
-    let ran = ManuallyDrop::new(run_farm(rt, alloc, accepted, &GivesUp { at: At::AnyPause }));
-    Ok(match &*ran {
-        Ok(_) => true,
-        Err(fault) => matches!(stop_of(fault), Some(run) if has_stopped_at_a_wait(run)),
-    })
-}
-
-/// Tells whether each of so many runs did so.
-fn all_stop_at_a_wait(
-    rt: &(impl Threads + Wait + Sync),
-    alloc: Global,
-    times: u32,
-) -> Result<bool, Fail> {
-    for _ in 0..times {
-        if !stops_at_a_wait(rt, alloc)? {
-            return Ok(false);
-        }
-    }
-    Ok(true)
-}
-
-// Where a lane waits in vain in a run, it gives up there; where none does, the run comes to its
-// end.
+// The first lane waits in vain where the second one is held ahead of its publish, and gives up. The
+// second one is then halted there.
 #[test]
-fn stops_at_a_pause(rt: HostRuntime) -> Result<(), Fail> {
-    assert!(rt; all_stop_at_a_wait(&rt, rt.alloc(), 100)?);
+fn gives_up_at_its_wait(rt: HostRuntime) -> Result<(), Fail> {
+    let told = told_at(&rt, rt.alloc(), pause(0, 5))?;
+    let ends = (end_by(GAVE_UP, 3), end_by(HALTED, 5));
+    assert_eq!(rt; told, Some((GAVE_UP, 0, ends)));
+    Ok(())
+}
+
+// So does the second lane, where the first one is held ahead of its publish.
+#[test]
+fn gives_up_at_the_other_wait(rt: HostRuntime) -> Result<(), Fail> {
+    let told = told_at(&rt, rt.alloc(), pause(1, 2))?;
+    let ends = (end_by(HALTED, 2), end_by(GAVE_UP, 1));
+    assert_eq!(rt; told, Some((GAVE_UP, 1, ends)));
     Ok(())
 }

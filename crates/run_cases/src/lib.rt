@@ -6,6 +6,8 @@
 #[cfg(test)]
 mod archive;
 #[cfg(test)]
+mod branches;
+#[cfg(test)]
 mod giving_up;
 #[cfg(test)]
 mod in_turns;
@@ -15,6 +17,8 @@ mod many_lanes;
 mod patience;
 #[cfg(test)]
 mod schedule;
+#[cfg(test)]
+mod side_by_side;
 #[cfg(test)]
 mod tests;
 #[cfg(test)]

@@ -22,8 +22,8 @@ const FARM: &[u8] =
 const PLAN: &[u8] =
     b"plan 1\nlane a chroot root budget 10\n  wait p1\n  unpack p1\n  configure p1\n  build r0\n  publish r0\nend\nlane b chroot root budget 10\n  wait p2\n  unpack p2\n  configure p2\n  build r1\n  publish r1\nend\nlane c chroot root budget 10\n  wait p3\n  unpack p3\n  configure p3\n  build r2\n  publish r2\nend\nlane d chroot root budget 10\n  wait p4\n  unpack p4\n  configure p4\n  build r3\n  publish r3\nend\nlane e chroot root budget 10\n  wait p5\n  unpack p5\n  configure p5\n  build r4\n  publish r4\nend\nlane f chroot root budget 10\n  wait p6\n  unpack p6\n  configure p6\n  build r5\n  publish r5\nend\nlane g chroot root budget 10\n  wait p7\n  unpack p7\n  configure p7\n  build r6\n  publish r6\nend\nlane h chroot root budget 10\n  build r7\n  publish r7\nend\n";
 
-/// A gate that holds a lane ahead of its first instruction until the next lane has begun: no run
-/// ends over it where lanes run one after another, in file order or on one thread.
+/// A gate that holds a lane ahead of each of its instructions until the next lane has begun: no run
+/// ends over it where lanes run one after another in file order.
 #[derive(Drop)]
 struct InTurn<'a, R: Wait> {
     rt: &'a R,

@@ -1,16 +1,17 @@
 -- The base seat takes another in.
-use Rattle.std.proofs.Common.{Bool, List, Some, [], ap, cond, eqb, inl, inr, length, refl, set, slice_get, subst, sym, ℕ, ⊎_elim, ◌++◌, ◌<◌, ◌∙◌, ◌∷◌, ◌≡◌, ◌≢◌, ◌≤◌, ◌⊎◌}
+use Rattle.std.proofs.Common.{Bool, List, Some, [], ap, cond, eqb, inl, inr, length, refl, set, slice_get, subst, sym, true, ℕ, ⊎_elim, ◌++◌, ◌<◌, ◌∙◌, ◌∷◌, ◌≡◌, ◌≢◌, ◌≤◌, ◌⊎◌}
 use Rattle.std.proofs.lemmas.Option.{slice_get_within}
-use Rattle.std.proofs.lemmas.Bool.{cases_lt, eq-eqb, ne_eqb, false≢true}
-use mathlib.Core.Option.{some}
+use Rattle.std.proofs.lemmas.Bool.{cases_eq, cases_lt, eq-eqb, ne_eqb, false≢true}
+use mathlib.Core.Option.{some, some-injective}
 use lib.ListN.{get_elem?}
 use Rattle.atomic_table.proofs.Lists.{at_set}
 use Rattle.atomic_table.specs.Table.{Joins}
 use Rattle.plan_model.specs.Plan.{lane}
 use Rattle.lane_records.specs.Records.{Record, blank}
 use Rattle.plan_verifier.specs.Accepted.{AcceptedPlan}
-use Rattle.word_archive.specs.Rule.{AllBelow, Entries, Fits, KeepsRule}
+use Rattle.word_archive.specs.Rule.{AllBelow, Entries, Fits, HasLane, KeepsRule, StandsIn}
 use Rattle.word_archive.specs.Views.{SeatView, base_view, joined_view, spent}
+use Rattle.word_archive.proofs.Placed.{among_first, among_second, put_else, put_here, stays_in}
 
 -- who has the lanes of a seat once they went to another
 abbrev taken_over : (ℕ → ℕ) → ℕ → ℕ → ℕ → ℕ
@@ -99,6 +100,8 @@ joins p id next stopped mine other w s h at apart there =
           (λ (q : (j ≢ id) × (get_elem? s.views j ≡ some u)). other_fits j u t.0 (h.fits j u q.1))
           (at_set s.views id j both u t.1))
           (at_set (set s.views id both) other j spent u e);
+      placed = λ l in_plan. placed_at l (h.placed l in_plan) (λ b. apart (theirs.first b
+          ∙ sym (fit.first refl)));
     }
   where
     base_fits : Entries h.owner h.records id mine
@@ -122,6 +125,43 @@ joins p id next stopped mine other w s h at apart there =
       );
       first = λ _. zeroth;
     }
+
+    both_has : (l : ℕ) → HasLane l (base_view p next stopped mine)
+        → HasLane l (joined_view (base_view p next stopped mine) w)
+    both_has l (inl among) = inl (among_first l mine w.mine among)
+    both_has l (inr rest) = inr rest
+
+    theirs_has : (l : ℕ) → (w.base ≡ true → ⊥) → HasLane l w
+        → HasLane l (joined_view (base_view p next stopped mine) w)
+    theirs_has l no_base (inl among) = inl (among_second l mine w.mine among)
+    theirs_has l no_base (inr rest) = absurd (no_base rest.0)
+
+    placed_at : (l : ℕ) → StandsIn s.views (h.owner l) l → (w.base ≡ true → ⊥)
+        → StandsIn (set (set s.views id (joined_view (base_view p next stopped mine) w)) other
+        spent) (taken_over h.owner other id l) l
+    placed_at l stood no_base =
+        let v = base_view p next stopped mine in
+        let both = joined_view v w in
+        let vs = set s.views id both in
+        elim (cases_eq (h.owner l) other) [
+          | inl is ↦
+              let same = some-injective stood.0 w (sym stood.1 ∙ (ap (get_elem? s.views) is
+              ∙ (sym (put_else s.views id other both apart) ∙ there))) in (
+                both,
+                ap (get_elem? (set vs other spent)) (over_here h.owner other id l is)
+                    ∙ (put_else vs other id spent (λ q. apart (sym q))
+                    ∙ put_here s.views id v both at),
+                theirs_has l no_base (subst (HasLane l) same stood.2),
+              )
+          | inr n ↦
+              let stands = stays_in vs other w spent (h.owner l) l there
+              (λ is has. absurd (n is))
+              (stays_in s.views id v both (h.owner l) l at (λ is has. both_has l has) stood) in (
+                stands.0,
+                ap (get_elem? (set vs other spent)) (over_else h.owner other id l n) ∙ stands.1,
+                stands.2,
+              )
+        ]
 
     other_fits : (j : ℕ) (u : SeatView) → j ≢ other → Fits p h.owner h.records h.stopped j u
         → Fits p (taken_over h.owner other id) h.records h.stopped j u

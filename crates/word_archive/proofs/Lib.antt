@@ -1,5 +1,6 @@
 pub mod Lists
 pub mod WordBits
+pub mod Placed
 pub mod Moves
 pub mod SerialsKept
 pub mod SerialsFit

@@ -11,6 +11,7 @@ use Rattle.plan_verifier.specs.Accepted.{AcceptedPlan}
 use Rattle.word_archive.specs.Rule.{AreWordsOf, Entries, Fits, Keeps, shown_world}
 use Rattle.word_archive.specs.Views.{SeatView, lane_view}
 use Rattle.word_archive.proofs.Lists.{get_set, get_set_other}
+use Rattle.word_archive.proofs.Placed.{stays_in}
 
 -- the records of a view that does not have the lane
 entries_kept : (owner : ℕ → ℕ) (records : List Record) (id l : ℕ) (r : Record)
@@ -49,6 +50,8 @@ lane_moves p words words' views id l r r' h at stands =
           }))
           (λ (t : (j ≢ id) × (get_elem? views j ≡ some v)). other j v t.0 (h.fits j v t.1) owned)
           (at_set views id j w v e);
+      placed = λ k lt. stays_in views id (lane_view p l r) w (h.owner k) k at (λ is has. has)
+          (h.placed k (omega (arith, lt, length-set h.records l r')));
     }
   where
     other : (j : ℕ) (v : SeatView) → j ≢ id → Fits p h.owner h.records h.stopped j v

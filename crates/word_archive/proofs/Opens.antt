@@ -1,6 +1,6 @@
 -- The archive at its beginning.
 use Rattle.std.proofs.lemmas.Bool.{false≢true}
-use Rattle.std.proofs.Common.{List, Some, [], ap, arith, false, get_or, length, length-append, map, refl, slice_get, subst, suc, sym, take, true, zero, ℕ, ⊎_elim, ◌++◌, ◌+◌, ◌<◌, ◌∙◌, ◌∷◌, ◌≡◌, ◌≤◌}
+use Rattle.std.proofs.Common.{List, Some, [], ap, arith, false, get_or, inr, length, length-append, map, refl, slice_get, subst, suc, sym, take, true, zero, ℕ, ⊎_elim, ◌++◌, ◌+◌, ◌<◌, ◌∙◌, ◌∷◌, ◌≡◌, ◌≤◌}
 use Rattle.std.proofs.lemmas.Bool.Decides.{nat_tests}
 use Rattle.std.proofs.lemmas.List.{length-map}
 use Rattle.std.specs.Int.{bit_at}
@@ -136,6 +136,7 @@ opens S a words sound is =
             (start_is_reached u a.plan sound);
       };
       fits = one;
+      placed = λ l lt. (base_view a 0 false [], refl, inr (refl, omega arith));
     })
   where
     u : Universe

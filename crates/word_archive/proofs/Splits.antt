@@ -1,6 +1,6 @@
 -- The next lane's seat is split false≢true the base seat.
 use Rattle.std.proofs.Common.{Bool, List, Some, [], ap, arith, cond, eqb, inl, inr, length, refl, set, slice_get, subst, suc, sym, zero, ℕ, ⊎_elim, ◌++◌, ◌<◌, ◌∙◌, ◌∷◌, ◌≡◌, ◌≢◌, ◌≤◌, ◌⊎◌}
-use Rattle.std.proofs.lemmas.Bool.{eq-eqb, ne_eqb, false≢true}
+use Rattle.std.proofs.lemmas.Bool.{cases_eq, eq-eqb, ne_eqb, false≢true}
 use mathlib.Core.Option.{some, some-injective, some-ne-none}
 use lib.ListN.{get_elem?}
 use Rattle.atomic_table.proofs.Lists.{at_set}
@@ -8,8 +8,9 @@ use Rattle.atomic_table.specs.Table.{Splits}
 use Rattle.plan_model.specs.Plan.{lane}
 use Rattle.lane_records.specs.Records.{Record, blank}
 use Rattle.plan_verifier.specs.Accepted.{AcceptedPlan}
-use Rattle.word_archive.specs.Rule.{AllBelow, Entries, Fits, KeepsRule}
+use Rattle.word_archive.specs.Rule.{AllBelow, Entries, Fits, HasLane, KeepsRule, StandsIn}
 use Rattle.word_archive.specs.Views.{SeatView, base_view, split_left, split_right}
+use Rattle.word_archive.proofs.Placed.{last_here, stays_in, still_here}
 
 -- who has a lane once it went to another seat
 abbrev given : (ℕ → ℕ) → ℕ → ℕ → ℕ → ℕ
@@ -82,6 +83,7 @@ splits p id next stopped mine lt s h at =
             first = λ b. absurd (false≢true b);
           }))
           (at_end (set s.views id (split_left v)) (split_right v) u j e);
+      placed = λ l in_plan. placed_at new l (h.placed l in_plan) refl;
     }
   where
     base_fits : (fit : Fits p h.owner h.records h.stopped id (base_view p next stopped mine))
@@ -120,6 +122,36 @@ splits p id next stopped mine lt s h at =
       );
       first = f.first;
     }
+
+    -- a lane that was not split off yet is above the one that is
+    left_has : (l : ℕ) → l ≢ next → HasLane l (base_view p next stopped mine)
+        → HasLane l (split_left (base_view p next stopped mine))
+    left_has l apart (inl among) = inl among
+    left_has l apart (inr rest) = let ge = rest.1 in inr (refl, omega (arith, ge, apart))
+
+    placed_at : (new l : ℕ) → StandsIn s.views (h.owner l) l
+        → new ≡ length (set s.views id (split_left (base_view p next stopped mine)))
+        → StandsIn (set s.views id (split_left (base_view p next stopped mine))
+        ++ split_right (base_view p next stopped mine) ∷ []) (given h.owner next new l) l
+    placed_at new l stood is =
+        let v = base_view p next stopped mine in
+        let vs = set s.views id (split_left v) in
+        elim (cases_eq l next) [
+          | inl same ↦ (
+            split_right v,
+            ap (get_elem? (vs ++ split_right v ∷ []))
+                (ap (given h.owner next new) same ∙ (given_here h.owner next new ∙ is))
+                ∙ last_here vs (split_right v),
+            inl (inl (sym same)),
+          )
+          | inr apart ↦ let stands = stays_in s.views id v (split_left v) (h.owner l) l at
+              (λ k has. left_has l apart has) stood in (
+                stands.0,
+                ap (get_elem? (vs ++ split_right v ∷ [])) (given_else h.owner next new l apart)
+                    ∙ still_here vs (split_right v ∷ []) (h.owner l) stands.0 stands.1,
+                stands.2,
+              )
+        ]
 
     at_end : (vs : List SeatView) (a u : SeatView) (j : ℕ) → get_elem? (vs ++ a ∷ []) j ≡ some u
         → (get_elem? vs j ≡ some u) ⊎ ((j ≡ length vs) × (a ≡ u))

@@ -12,6 +12,7 @@ use Rattle.word_archive.specs.Rule.{AreWordsOf, Fits, Keeps, KeepsRule}
 use Rattle.word_archive.specs.Serials.{IsSerials}
 use Rattle.word_archive.specs.Steps.{Stopped}
 use Rattle.word_archive.specs.Views.{SeatView, base_view}
+use Rattle.word_archive.proofs.Placed.{stays_in}
 use Rattle.word_archive.proofs.HaltWord.{is_set, other_words, reached_after, words_after}
 
 -- the halt word set by the base seat
@@ -49,6 +50,8 @@ stops_one a slots id next stopped mine s h homes at small =
           (λ (t : (j ≢ id) × (get_elem? s.views j ≡ some v)). other_fits j v t.0
           (h.fits j v t.1) (fit.first refl))
           (at_set s.views id j w v e);
+      placed = λ k lt. stays_in s.views id (base_view a next stopped mine) w (h.owner k) k at
+          (λ is has. has) (h.placed k lt);
     } in
     (w, keeps, tt, kept, refl)
   where

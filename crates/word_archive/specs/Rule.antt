@@ -4,6 +4,7 @@
 --   IsHalted                  the halt word is set exactly where some seat has halted
 --   AreWordsOf                the words are those of these records: they show a reachable state
 --   Entries, Fits             the records that stand in a view
+--   HasLane, StandsIn         a lane's record stands in a view, and in that of a seat
 --   Keeps, KeepsRule          the rule
 use Rattle.std.specs.Prelude.{◌≡◌, ◌≢◌, ◌↔◌, ◌⊎◌, ℕ, ◌+◌, ◌<◌, ◌≤◌, Bool, true, List, [], ◌∷◌, Some, map, take, length, slice_get, slice_index}
 use mathlib.Core.Option.{some}
@@ -81,6 +82,20 @@ pub record Fits (a : AcceptedPlan) (owner : ℕ
   -- and is the first one.
   pub first : v.base ≡ true → id ≡ 0
 
+-- lane l's record is in the list
+abbrev pub IsAmong : ℕ → List (ℕ × Record) → Type 0
+IsAmong l [] = ⊥
+IsAmong l (e ∷ es) = (e.0 ≡ l) ⊎ IsAmong l es
+
+-- the view has lane l's record, or is the base seat's and has the lane itself, which was not split
+-- off
+abbrev pub HasLane : ℕ → SeatView → Type 0
+HasLane l v = IsAmong l v.mine ⊎ ((v.base ≡ true) × (v.next ≤ l))
+
+-- so does the view of this number
+abbrev pub StandsIn : List SeatView → (id l : ℕ) → Type 0
+StandsIn views id l = (v : SeatView) × (get_elem? views id ≡ some v) × HasLane l v
+
 -- Each lane's record stands in one view, and the words are those of the records.
 pub record Keeps (a : AcceptedPlan) (words : List ℕ) (views : List SeatView) : Type 0 where
   pub records : List Record
@@ -89,6 +104,8 @@ pub record Keeps (a : AcceptedPlan) (words : List ℕ) (views : List SeatView) :
   pub stands : AreWordsOf a words records stopped
   pub fits : (id : ℕ) (v : SeatView) → get_elem? views id ≡ some v
       → Fits a owner records stopped id v
+  -- a lane's record stands in its owner's view, and by the above in no other
+  pub placed : (l : ℕ) → l < length records → StandsIn views (owner l) l
 
 abbrev pub KeepsRule : {S : Type 0} → AcceptedPlan → State S SeatView → Type 0
 KeepsRule a s = Keeps a s.words s.views
