@@ -3,7 +3,7 @@
 use crate::machine::{Parts, parts_of};
 use crate::members::member_line;
 use crate::outputs::{Failure, Manner};
-use crate::runs::{Run, push_cut, push_heads, push_run, run_on, words_of};
+use crate::runs::{Run, push_cut, push_heads, push_run, run_on, run_quietly, words_of};
 use case_files::Case;
 use deb_text::cut_at_first;
 use std::alloc::{AllocError, Global};
@@ -23,6 +23,18 @@ fn run_text(
 ) -> Result<Vec<u8>, AllocError> {
     let mut text = Vec::new(alloc);
     push_run(&mut text, &run_on(rt, alloc, parts, words, output, errors))?;
+    Ok(text)
+}
+
+/// What words come to where nothing may wait.
+fn quiet_text(
+    rt: &(impl Threads + Sync),
+    alloc: Global,
+    parts: &Parts,
+    words: &[&str],
+) -> Result<Vec<u8>, AllocError> {
+    let mut text = Vec::new(alloc);
+    push_run(&mut text, &run_quietly(rt, alloc, parts, words))?;
     Ok(text)
 }
 
@@ -91,8 +103,8 @@ fn cut_text(alloc: Global, run: &Run, whole: &[u8]) -> Result<Vec<u8>, AllocErro
     Ok(text)
 }
 
-/// Answers `run`, `narrow`, `mute`, `member`, `heads`, `failing` and `stuck`, each with the words
-/// to run.
+/// Answers `run`, `quiet`, `narrow`, `mute`, `member`, `heads`, `failing` and `stuck`, each with
+/// the words to run.
 fn answer_on(
     rt: &(impl Threads + Wait + Eprint + Sync),
     alloc: Global,
@@ -104,6 +116,7 @@ fn answer_on(
     let mute = Manner::stops_after(0, Failure::Error);
     match question {
         "run" => run_text(rt, alloc, parts, words, whole, whole),
+        "quiet" => quiet_text(rt, alloc, parts, words),
         "narrow" => run_text(rt, alloc, parts, words, narrow, narrow),
         "mute" => run_text(rt, alloc, parts, words, whole, mute),
         "member" => member_text(rt, alloc, parts, words),

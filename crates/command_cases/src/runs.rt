@@ -3,7 +3,7 @@
 use crate::machine::{Machine, Parts};
 use crate::outputs::{Manner, Output};
 use deb_text::next_line;
-use farm_commands::run_words;
+use farm_commands::{quiet_words, run_words};
 use report_sink::{Sink, WriteSink};
 use std::alloc::{AllocError, Global};
 use std::io::Eprint;
@@ -50,6 +50,24 @@ pub fn run_on(
     let mut out = WriteSink::new(Output::new(alloc, output));
     let mut told = WriteSink::new(Output::new(alloc, errors));
     let status = run_words(rt, alloc, words, &Machine { parts }, &mut out, &mut told);
+    Run {
+        status,
+        is_cut: out.has_failed(),
+        output: out.into_inner().into_taken(),
+        errors: told.into_inner().into_taken(),
+    }
+}
+
+/// Runs the program on a machine without leave to wait.
+pub fn run_quietly(
+    rt: &(impl Threads + Sync),
+    alloc: Global,
+    parts: &Parts,
+    words: &[&str],
+) -> Run {
+    let mut out = WriteSink::new(Output::new(alloc, Manner::WHOLE));
+    let mut told = WriteSink::new(Output::new(alloc, Manner::WHOLE));
+    let status = quiet_words(rt, alloc, words, &Machine { parts }, &mut out, &mut told);
     Run {
         status,
         is_cut: out.has_failed(),
