@@ -84,7 +84,7 @@ fn walks_beside_order(
 {
     join(
         rt,
-        || -> Result<Vec<u64>, Refusal>
+        move || -> Result<Vec<u64>, Refusal>
             requires sound { IsSound universe.now plan.now.lanes }
             requires tables { tables.now ≡ universe.now }
             requires of_universe { known.now.universe ≡ universe.now }
