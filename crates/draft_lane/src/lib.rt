@@ -1,0 +1,16 @@
+//! The lines of a lane, by which its chroot comes to hold what is wanted.
+#![tactic(auto)]
+
+mod chroot;
+mod clear;
+mod configure;
+mod lane;
+mod marks;
+mod published;
+mod reach;
+mod tests_of;
+
+pub use lane::{Lane, Saved, Step};
+pub use marks::Marks;
+pub use published::Published;
+pub use reach::Stop;
