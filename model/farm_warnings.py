@@ -45,7 +45,7 @@ def unknown_fields(farm):
 
 def unasked_profiles(universe, recipes):
     """The profiles of recipes that no build relation of a source names."""
-    relations = [fields for sources in universe.sources.values() for _, fields in sources]
+    relations = [fields for sources in universe.sources.values() for _, fields, _ in sources]
     entries = [entry for fields in relations for field in fields.values() for entry in field]
     asked = {word for entry in entries for it in entry for items in it.profiles for word, _ in items}
     for fields in recipes:

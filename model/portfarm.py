@@ -8,16 +8,20 @@
   model/portfarm.py step --schedule LIST|@FILE PACKAGES SOURCES FARM PLAN
   model/portfarm.py timeline [--json|--bars|--full] PACKAGES SOURCES FARM PLAN
   model/portfarm.py graph [--json] PACKAGES SOURCES FARM PLAN
+  model/portfarm.py draft [--partial] --lanes N PACKAGES SOURCES FARM
+  model/portfarm.py draft [--partial] [--rest] PACKAGES SOURCES FARM SKETCH
   model/portfarm.py                   the verdict on the four texts of standard input, divided by lines `%%`
 
 It is slow, it shares no code with the crates, and the texts of wrong words are its own. `timeline`, the timed run of RULES,
-section 14, and `graph` are commands of the model alone.
+section 14, `graph` and `draft` (RULES, section 15) are commands of the model alone.
 """
 
 import sys
 
 import certificates
 from core import step
+from draft_order import Refused
+from drafts import draft
 from explain import Note, left_lines, stuck_notes, unsafe_notes, waits_notes
 from farm_warnings import warnings
 from fault_notes import fault_lines
@@ -155,6 +159,38 @@ def answer(command, texts, more=None):
     return [*head, *(line for note in notes for line in note.lines), *odd], status
 
 
+def drafted(texts, lanes, flags):
+    """The lines of a plan that is drafted, or of a refusal; its status; and the lines on what was left out."""
+    try:
+        universe = read_universe(texts)
+        given = {"takes_rest": "--rest" in flags, "is_partial": "--partial" in flags}
+        plan, told = draft(universe, texts["plan"] if lanes is None else None, lanes or 0, **given)
+    except Fault as fault:
+        return refused("draft", texts, None, fault), 1, []
+    except Refused as refusal:
+        return refusal.lines, 1, []
+    return plan, 0, told
+
+
+def draft_words(words):
+    """Answers the words behind `draft`, and gives the status."""
+    flags, lanes = set(), None
+    while words[:1] and words[0].startswith("--"):
+        flags.add(words.pop(0))
+        if "--lanes" in flags and lanes is None:
+            lanes = words.pop(0) if words else ""
+    is_number = lanes is None or lanes.isdigit() and 1 <= int(lanes) <= 64
+    is_known = flags <= {"--partial", "--rest" if lanes is None else "--lanes"}
+    if not is_number or not is_known or len(words) != (4 if lanes is None else 3):
+        print(__doc__, file=sys.stderr)
+        return 2
+    texts = dict(zip(FILES, map(text_of, words)))
+    lines_, status, told = drafted(texts, None if lanes is None else int(lanes), flags)
+    sys.stderr.write("".join(f"{line}\n" for line in told))
+    sys.stdout.buffer.write("".join(f"{line}\n" for line in lines_).encode("latin-1"))
+    return status
+
+
 def text_of(path):
     with open(path, "rb") as file:
         return file.read().decode("latin-1")
@@ -163,6 +199,8 @@ def text_of(path):
 def main(words):
     """Answers the words of a command line, and gives the status."""
     more = None
+    if words[:1] == ["draft"]:
+        return draft_words(words[1:])
     if not words:
         command, texts = "check", cut_input(sys.stdin.buffer.read().decode("latin-1"))
     else:

@@ -59,9 +59,12 @@ class Variant:
 
 
 class Recipe:
-    def __init__(self, name, steps, scratch, needs, clashes, outputs):
+    """A build. `written` has the needs as the source has them, each with its field and its restrictions."""
+
+    def __init__(self, name, steps, scratch, needs, clashes, outputs, written):
         self.name, self.steps, self.scratch = name, steps, scratch
         self.needs, self.clashes, self.outputs = needs, clashes, outputs
+        self.written = written
 
 
 class Chroot:
@@ -157,9 +160,9 @@ def read_source(universe, paragraph, _place):
     version = Version(required(paragraph, "Version"))
     relations = read_relations(paragraph, BUILD_RELATIONS)
     same = universe.sources.setdefault(name, [])
-    if any(version.compare(other) == 0 for other, _ in same):
+    if any(version.compare(other) == 0 for other, _, _ in same):
         raise Fault(203)
-    same.append((version, relations))
+    same.append((version, relations, {field: paragraph.get(field) or "" for field, _ in BUILD_RELATIONS}))
     if sum(map(len, universe.sources.values())) > SOURCES:
         raise Fault(210, about="over the limit of 4,096 sources")
 
@@ -200,15 +203,15 @@ def read_head(universe, paragraph):
 
 
 def read_source_item(universe, paragraph):
-    """The build relations of a recipe's source."""
+    """The build relations of a recipe's source, and the texts of their fields."""
     items = read_field(required(paragraph, "Source"), PROVIDE)
     about = item_text(paragraph, "Source", 0, items[0][0]) if items else None
     if len(items) != 1 or items[0][0].version is None or items[0][0].qualifier is not None:
         raise Fault(206, about=about)
     [[item]] = items
-    for version, relations in universe.sources.get(item.name, []):
+    for version, relations, fields in universe.sources.get(item.name, []):
         if version.compare(item.version) == 0:
-            return relations
+            return relations, fields
     raise Fault(206, about=about)
 
 
@@ -229,7 +232,7 @@ def read_recipe(universe, paragraph):
     name = read_name(required(paragraph, "Recipe"))
     if name in universe.recipes:
         raise Fault(203)
-    relations = read_source_item(universe, paragraph)
+    relations, fields = read_source_item(universe, paragraph)
     mode = paragraph.get("Mode")
     mode = "full" if mode is None else mode
     if mode not in MODES:
@@ -247,7 +250,13 @@ def read_recipe(universe, paragraph):
         ]
         for field in ("Build-Depends", "Build-Conflicts")
     )
-    universe.recipes[name] = Recipe(name, steps, scratch, needs, clashes, outputs)
+    written = [
+        f"{field}: {' '.join(text.split())}"
+        for field in ("Build-Depends" + part for part in MODES[mode])
+        for text, entry in zip(filter(str.strip, fields[field].split(",")), relations[field])
+        if reduce_field([entry], universe.architectures, profiles)
+    ]
+    universe.recipes[name] = Recipe(name, steps, scratch, needs, clashes, outputs, written)
     universe.build_entries += len(needs) + len(clashes)
     if len(universe.recipes) > RECIPES:
         raise Fault(210, about="over the limit of 1,024 recipes")
