@@ -54,11 +54,11 @@ Checks the plan and explains the answer";
 
 /// What the help of `explain` says behind that line.
 pub const EXPLAIN_MORE: &str = "\
-The answer is that of `check`, and where the plan is refused, why. For a fault of
-a text these are the line and what was expected there. For an instruction that
-may go wrong they are its line in the plan and the first reason; and the same
-for each further lane that has one. With `--json` it is one JSON object on a
-line, in which `reasons` is a list of objects and `warnings` one of lines.
+The answer is that of `check`, and where the plan is refused, why. For a fault
+of a text these are the line and what was expected there. For an instruction
+that may go wrong they are its line in the plan and the first reason; and the
+same for each further lane that has one. With `--json` it is one JSON object on
+a line, in which `reasons` is a list of objects and `warnings` one of lines.
 
 Example:
   portfarm explain packages sources farm plan
