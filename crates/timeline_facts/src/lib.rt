@@ -1,0 +1,15 @@
+//! What a timed run shows: the times of its lanes, what each wait waits for, and how much later a build could end.
+#![tactic(auto)]
+
+mod causes;
+mod counts;
+mod facts;
+mod givers;
+mod lanes;
+mod slack;
+mod timed_plan;
+
+pub use counts::push_count;
+pub use facts::Facts;
+pub use lanes::{LaneFacts, LaneTime};
+pub use timed_plan::{TimedPlan, waited};

@@ -1,0 +1,6 @@
+//! The timed run of a plan as JSON.
+#![tactic(auto)]
+
+mod answer;
+
+pub use answer::timeline_json;
