@@ -2,5 +2,13 @@
 #![tactic(auto)]
 
 mod answer;
+mod bars;
+mod best;
+mod bounds;
+mod builds;
+mod critical_path;
+mod lane_lines;
+mod marks;
+mod story;
 
 pub use answer::{Layout, timeline_text};
