@@ -2,5 +2,8 @@
 #![tactic(auto)]
 
 mod answer;
+mod events;
+mod members;
+mod verbs;
 
 pub use answer::timeline_json;
