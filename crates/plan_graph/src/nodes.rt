@@ -89,9 +89,8 @@ fn add_lane(
 /// Fills each place that has none with what is behind it.
 fn fill(places: &mut Vec<Option<usize>>) {
     let mut next = None;
-    let mut place = places.len();
-    while place > 0 {
-        place -= 1;
+    for step in 0..places.len() {
+        let place = places.len() - 1 - step;
         if places[place].is_some() {
             next = places[place];
         } else {

@@ -32,9 +32,8 @@ pub(crate) fn slacks(
     causes: &[Option<usize>],
 ) -> Result<Vec<u128>, AllocError> {
     let mut latest = vec![in alloc; end; events.len()]?;
-    let mut number = events.len();
-    while number > 0 {
-        number -= 1;
+    for step in 0..events.len() {
+        let number = events.len() - 1 - step;
         let event = &events[number];
         let last = latest.get(number).copied().unwrap_or(end);
         let begin = last.saturating_sub(event.end.saturating_sub(event.begin));
