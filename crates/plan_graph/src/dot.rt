@@ -170,7 +170,7 @@ pub fn plan_dot(alloc: Global, drawn: &DrawnPlan<'_>) -> Result<Vec<u8>, AllocEr
     let mut text = Vec::new(alloc);
     push_pieces(
         &mut text,
-        &[b"digraph plan {\n  rankdir=LR;\n  node [shape=box];\n"],
+        &[b"digraph plan {\n  rankdir=LR;\n  newrank=true;\n  node [shape=box];\n"],
     )?;
     push_lanes(&mut text, drawn, &graph)?;
     for edge in graph.edges.as_slice() {
