@@ -53,7 +53,7 @@ fn push_mark(text: &mut Vec<u8>, frame: &Frame, time: u128) -> Result<(), AllocE
 pub(crate) fn push_scale(text: &mut Vec<u8>, frame: &Frame, end: u128) -> Result<(), AllocError> {
     let step = step_of(end);
     let mut time = 0u128;
-    for _ in 0..=PARTS {
+    for _ in 0..PARTS + 1 {
         if time > end {
             return Ok(());
         }
