@@ -5,8 +5,8 @@ ghost use Rattle.command_line.specs.Words.{ArePathWords, IsAskedBy, IsRefusedFor
 
 use crate::among::{are_words, ends_word, is_word};
 use crate::command::{
-    CERT, CERTIFICATE, CHECK, EXPLAIN, FARM, INPUT, JSON, LIST, NUMBER, PACKAGES, PLAN, PROGRESS,
-    RUN, SCHEDULE, SOURCES, STEP, VERIFY_CERT, portfarm,
+    BARS, CERT, CERTIFICATE, CHECK, EXPLAIN, FARM, FULL, GRAPH, INPUT, JSON, LIST, NUMBER,
+    PACKAGES, PLAN, PROGRESS, RUN, SCHEDULE, SOURCES, STEP, SVG, TIMELINE, VERIFY_CERT, portfarm,
 };
 use crate::schedule::{ScheduleFault, read_schedule};
 use clap::error::ErrorKind;
@@ -21,6 +21,19 @@ pub struct Paths<'a> {
     pub sources: &'a str,
     pub farm: &'a str,
     pub plan: &'a str,
+}
+
+/// How a timeline is shown.
+#[derive(Clone, Copy)]
+pub enum TimelineForm {
+    /// As lines, with the longest waits of each lane.
+    Lines,
+    /// As lines, with a bar for each lane.
+    Bars,
+    /// As one JSON object.
+    Json,
+    /// As a picture.
+    Svg,
 }
 
 /// What is asked of texts, and answered without waiting.
@@ -59,6 +72,17 @@ pub enum Request<'a> {
     StepBy {
         list: &'a str,
         paths: Paths<'a>,
+    },
+    /// The timed run of a plan; how it is shown; and whether its critical path is shown whole.
+    Timeline {
+        paths: Paths<'a>,
+        form: TimelineForm,
+        full: bool,
+    },
+    /// The builds of a plan and the waits between them; and whether that is told as JSON.
+    Graph {
+        paths: Paths<'a>,
+        json: bool,
     },
 }
 
@@ -181,6 +205,19 @@ fn verify_of<'a, S: AsStr>(
     Ok(Request::VerifyCert { cert, paths })
 }
 
+/// How a timeline is to be shown; the parser lets one option alone stand for that.
+fn form_of(matches: &ArgMatches<'_>) -> TimelineForm {
+    if matches.get_flag(JSON) {
+        TimelineForm::Json
+    } else if matches.get_flag(SVG) {
+        TimelineForm::Svg
+    } else if matches.get_flag(BARS) {
+        TimelineForm::Bars
+    } else {
+        TimelineForm::Lines
+    }
+}
+
 fn request_of<'a, S: AsStr>(
     alloc: Global,
     words: &'a [S],
@@ -208,6 +245,15 @@ fn request_of<'a, S: AsStr>(
         CERT => Ok(Request::Cert(paths)),
         VERIFY_CERT => verify_of(alloc, words, word_of(matches, CERTIFICATE), paths),
         STEP => step_of(alloc, words, word_of(matches, SCHEDULE), paths),
+        TIMELINE => Ok(Request::Timeline {
+            paths,
+            form: form_of(matches),
+            full: matches.get_flag(FULL),
+        }),
+        GRAPH => Ok(Request::Graph {
+            paths,
+            json: matches.get_flag(JSON),
+        }),
         _ => Err(no_command(alloc)),
     }
 }

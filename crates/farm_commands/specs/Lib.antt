@@ -2,6 +2,7 @@ pub mod Answers
 pub mod CertAnswers
 pub mod Explanations
 pub mod FarmAnswers
+pub mod Pictures
 pub mod Requests
 pub mod Runs
 pub mod Turns

@@ -1,7 +1,10 @@
 //! What a timed run shows.
 
+ghost use Rattle.std.specs.Prelude.{IfOk, length};
+ghost use Rattle.timeline_facts.specs.LaneTimes.{AreLanes};
+
 use crate::causes::causes;
-use crate::lanes::{LaneFacts, by_lanes};
+use crate::lanes::{LaneFacts, before_in_lane, lanes_of};
 use crate::slack::slacks;
 use crate::timed_plan::TimedPlan;
 use std::alloc::{AllocError, Global};
@@ -21,11 +24,15 @@ impl Facts {
     /// # Errors
     ///
     /// [`AllocError`] where memory is refused.
-    pub fn of(alloc: Global, run: &TimedPlan<'_>) -> Result<Facts, AllocError> {
-        let lanes = by_lanes(alloc, run)?;
+    pub fn of(alloc: Global, run: &TimedPlan<'_>) -> Result<Facts, AllocError>
+        ensures { IfOk result (λ facts. AreLanes run.now.events.now
+            (length run.now.plan.now.lanes) facts.lanes.items) }
+    {
+        let count = run.plan.lanes();
+        let lanes = lanes_of(alloc, run.events, count)?;
+        let before = before_in_lane(alloc, run.events, count)?;
         let causes = causes(alloc, run)?;
-        let slacks = slacks(alloc, run.events, run.end, &lanes.before, &causes)?;
-        let lanes = lanes.lanes;
+        let slacks = slacks(alloc, run.events, run.end, &before, &causes)?;
         Ok(Facts {
             lanes,
             causes,

@@ -1,6 +1,9 @@
-//! The times of lanes.
+//! The lanes of a timed run.
 
-use crate::timed_plan::{TimedPlan, waited};
+ghost use Rattle.std.specs.Prelude.{◌≡◌, IfOk};
+ghost use Rattle.timeline_facts.specs.LaneTimes.{lane_time, time_with, AreLanes};
+
+use crate::timed_plan::waited;
 use std::alloc::{AllocError, Global};
 use timed_events::Event;
 
@@ -20,8 +23,13 @@ pub struct LaneFacts {
     pub events: Vec<usize>,
 }
 
-/// The times of a lane behind one more event of it.
-fn behind(time: LaneTime, event: &Event) -> LaneTime {
+/// The times of a lane behind one event more, of whatever lane.
+fn with_event(time: LaneTime, lane: usize, event: &Event) -> LaneTime
+    ensures { result ≡ time_with lane time event.now }
+{
+    if event.lane != lane {
+        return time;
+    }
     let took = event.end.saturating_sub(event.begin);
     LaneTime {
         end: event.end,
@@ -30,55 +38,75 @@ fn behind(time: LaneTime, event: &Event) -> LaneTime {
     }
 }
 
-/// Puts an event behind those of its lane, and tells which one was the last before it.
-fn put_event(
-    lanes: &mut Vec<LaneFacts>,
-    number: usize,
-    event: &Event,
-) -> Result<Option<usize>, AllocError> {
-    let Some(lane) = lanes.get_mut(event.lane) else {
-        return Ok(None);
-    };
-    let before = lane.events.last().copied();
-    lane.time = behind(lane.time, event);
-    lane.events.push(number)?;
-    Ok(before)
-}
-
-/// Lanes without events.
-fn no_lanes(alloc: Global, count: usize) -> Result<Vec<LaneFacts>, AllocError> {
-    let mut lanes = Vec::new(alloc);
-    let time = LaneTime {
+/// The times of a lane in a run.
+fn time_of(events: &[Event], lane: usize) -> LaneTime
+    ensures { result ≡ lane_time lane events.now }
+{
+    let mut time = LaneTime {
         end: 0,
         busy: 0,
         idle: 0,
     };
-    for _ in 0..count {
-        lanes.push(LaneFacts {
-            time,
-            events: Vec::new(alloc),
-        })?;
+    for event in events {
+        time = with_event(time, lane, event);
     }
-    Ok(lanes)
+    time
 }
 
-/// The lanes of a timed run in file order, and by event that before it in its lane.
-#[derive(Drop)]
-pub(crate) struct Lanes {
-    pub(crate) lanes: Vec<LaneFacts>,
-    pub(crate) before: Vec<Option<usize>>,
+/// The numbers of the events of a lane.
+fn events_of(alloc: Global, events: &[Event], lane: usize) -> Result<Vec<usize>, AllocError> {
+    let mut numbers = Vec::new(alloc);
+    for number in 0..events.len() {
+        if events[number].lane == lane {
+            numbers.push(number)?;
+        }
+    }
+    Ok(numbers)
 }
 
-/// Takes a timed run apart by its lanes.
+/// So many lanes of a run, in their order.
 ///
 /// # Errors
 ///
 /// [`AllocError`] where memory is refused.
-pub(crate) fn by_lanes(alloc: Global, run: &TimedPlan<'_>) -> Result<Lanes, AllocError> {
-    let mut lanes = no_lanes(alloc, run.plan.lanes())?;
-    let mut before = Vec::new(alloc);
-    for number in 0..run.events.len() {
-        before.push(put_event(&mut lanes, number, &run.events[number])?)?;
+pub(crate) fn lanes_of(
+    alloc: Global,
+    events: &[Event],
+    count: usize,
+) -> Result<Vec<LaneFacts>, AllocError>
+    ensures { IfOk result (λ lanes. AreLanes events.now count lanes.items) }
+{
+    let mut lanes = Vec::new(alloc);
+    for lane in 0..count {
+        let time = time_of(events, lane);
+        let events = events_of(alloc, events, lane)?;
+        lanes.push(LaneFacts { time, events })?;
     }
-    Ok(Lanes { lanes, before })
+    Ok(lanes)
+}
+
+/// Notes an event as the last one of its lane, and tells which one was that before.
+fn note_last(last: &mut Vec<Option<usize>>, number: usize, event: &Event) -> Option<usize> {
+    let place = last.get_mut(event.lane)?;
+    let before = *place;
+    *place = Some(number);
+    before
+}
+
+/// By event: the number of that before it in its lane, where there are so many lanes.
+///
+/// # Errors
+///
+/// [`AllocError`] where memory is refused.
+pub(crate) fn before_in_lane(
+    alloc: Global,
+    events: &[Event],
+    count: usize,
+) -> Result<Vec<Option<usize>>, AllocError> {
+    let mut last = vec![in alloc; None; count]?;
+    let mut before = Vec::new(alloc);
+    for number in 0..events.len() {
+        before.push(note_last(&mut last, number, &events[number]))?;
+    }
+    Ok(before)
 }

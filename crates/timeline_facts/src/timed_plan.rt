@@ -1,5 +1,7 @@
 //! A timed run, with the plan that it is of.
 
+ghost use Rattle.std.specs.Prelude.{◌≡◌, ◌-◌};
+
 use farm_universe::Universe;
 use plan_asm::{Instruction, Plan};
 use timed_events::Event;
@@ -18,7 +20,9 @@ pub struct TimedPlan<'a> {
 }
 
 /// How long the lane of an event waited before it.
-pub fn waited(event: &Event) -> u128 {
+pub fn waited(event: &Event) -> u128
+    ensures { result ≡ event.now.begin - event.now.free }
+{
     event.begin.saturating_sub(event.free)
 }
 

@@ -9,6 +9,9 @@ use timeline_facts::push_count;
 /// How many parts the scale has, about.
 const PARTS: u128 = 8;
 
+/// How many marks it has at most.
+const MOST_MARKS: usize = 9;
+
 /// The smallest of these that is not below a number: it, twice and five times it.
 fn rounded(power: u128, least: u128) -> Option<u128> {
     for factor in [1u128, 2, 5] {
@@ -53,7 +56,7 @@ fn push_mark(text: &mut Vec<u8>, frame: &Frame, time: u128) -> Result<(), AllocE
 pub(crate) fn push_scale(text: &mut Vec<u8>, frame: &Frame, end: u128) -> Result<(), AllocError> {
     let step = step_of(end);
     let mut time = 0u128;
-    for _ in 0..=PARTS {
+    for _ in 0..MOST_MARKS {
         if time > end {
             return Ok(());
         }
