@@ -59,7 +59,9 @@ impl Gate for GivesUp {
 
     fn before(&self, place: Place<'_>) -> Go {
         let Place {
-            lane, instruction, ..
+            lane,
+            instruction,
+            ..
         } = place;
         match self.at {
             At::Before {

@@ -35,6 +35,11 @@ fn output(serial: u64, lane: u32, name: u32, bit: u32) -> Publication {
     }
 }
 
+/// An unpack of a variant.
+fn unpacked(name: u32, bit: u32) -> Turn {
+    Turn::Unpacked(Variant { name, bit })
+}
+
 /// A lane with its seat.
 type Lane<'a, 'p> = LaneTurns<'a, Link<'a, 'p>>;
 
