@@ -27,6 +27,9 @@ pub const STEP: &str = "step";
 /// The command `run`.
 pub const RUN: &str = "run";
 
+/// The command `draft`.
+pub const DRAFT: &str = "draft";
+
 /// The parameter with the name of the Packages index.
 pub const PACKAGES: &str = "packages";
 
@@ -41,6 +44,18 @@ pub const PLAN: &str = "plan";
 
 /// The parameter with the name of the certificate.
 pub const CERTIFICATE: &str = "certificate";
+
+/// The parameter with the name of the sketch.
+pub const SKETCH: &str = "sketch";
+
+/// The option `--lanes`.
+pub const LANES: &str = "lanes";
+
+/// The option `--rest`.
+pub const REST: &str = "rest";
+
+/// The option `--partial`.
+pub const PARTIAL: &str = "partial";
 
 /// The option `--schedule`.
 pub const SCHEDULE: &str = "schedule";
@@ -74,8 +89,8 @@ fn schedule<'a>(alloc: Global) -> Arg<'a> {
         .help(help::SCHEDULE)
 }
 
-/// A command over the files of the four texts.
-fn on_files<'a>(
+/// A command over the files of a farm.
+fn on_farm<'a>(
     alloc: Global,
     name: &'a str,
     about: &'a str,
@@ -86,8 +101,17 @@ fn on_files<'a>(
         .after_long_help(more)
         .arg(file(alloc, PACKAGES, "PACKAGES", help::PACKAGES))?
         .arg(file(alloc, SOURCES, "SOURCES", help::SOURCES))?
-        .arg(file(alloc, FARM, "FARM", help::FARM))?
-        .arg(file(alloc, PLAN, "PLAN", help::PLAN))
+        .arg(file(alloc, FARM, "FARM", help::FARM))
+}
+
+/// A command over the files of the four texts.
+fn on_files<'a>(
+    alloc: Global,
+    name: &'a str,
+    about: &'a str,
+    more: &'a str,
+) -> Result<Command<'a>, AllocError> {
+    on_farm(alloc, name, about, more)?.arg(file(alloc, PLAN, "PLAN", help::PLAN))
 }
 
 /// The program's name, version and help.
@@ -143,6 +167,25 @@ fn run<'a>(alloc: Global) -> Result<Command<'a>, AllocError> {
     on_files(alloc, RUN, help::RUN, help::RUN_MORE)?.arg(flag(alloc, PROGRESS, help::PROGRESS))
 }
 
+/// What `draft` is to go by: a sketch, or a number of lanes in place of it.
+fn with_sketch<'a>(alloc: Global, command: Command<'a>) -> Result<Command<'a>, AllocError> {
+    let sketch = Arg::new(alloc, SKETCH).value_name("SKETCH");
+    let sketch = sketch.required_unless_present(LANES)?;
+    let lanes = Arg::new(alloc, LANES).long(LANES).value_name("N");
+    let lanes = lanes.conflicts_with(SKETCH)?.conflicts_with(REST)?;
+    command
+        .arg(sketch.help(help::SKETCH))?
+        .arg(lanes.help(help::LANES))
+}
+
+/// The command that drafts a plan.
+fn draft<'a>(alloc: Global) -> Result<Command<'a>, AllocError> {
+    let command = on_farm(alloc, DRAFT, help::DRAFT, help::DRAFT_MORE)?;
+    with_sketch(alloc, command)?
+        .arg(flag(alloc, REST, help::REST))?
+        .arg(flag(alloc, PARTIAL, help::PARTIAL))
+}
+
 /// A command that tells the verdict, as text or as JSON.
 fn verdict<'a>(
     alloc: Global,
@@ -174,5 +217,6 @@ pub fn portfarm<'a>(alloc: Global) -> Result<Command<'a>, AllocError> {
     let program = program.subcommand(list(alloc)?)?;
     let program = program.subcommand(verify_cert(alloc)?)?;
     let program = program.subcommand(step(alloc)?)?;
-    program.subcommand(run(alloc)?)
+    let program = program.subcommand(run(alloc)?)?;
+    program.subcommand(draft(alloc)?)
 }
