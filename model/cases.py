@@ -245,11 +245,12 @@ def on_words(machine, question):
     files["-"] = files[""]
     if words[:1] == ["draft"]:
         return None if word != "run" or broken else on_draft(files, words[1:])
-    json = "--json" if "--json" in words[1:] else None
-    words = [it for it in words if it and it != json]
+    options = [it for it in words[1:] if it in ("--json", "--bars", "--full")]
+    words = [it for it in words if it and it not in options]
     schedule = words.pop(2) if words[:2] == ["step", "--schedule"] and len(words) > 2 else None
     paths = [it for it in words[1:] if it != "--schedule"]
-    wanted = {"check": 4, "explain": 4, "list": 4, "cert": 4, "verify-cert": 5, "step": 4}.get(words[0] if words else "")
+    four = ("check", "explain", "list", "cert", "step", "timeline", "graph")
+    wanted = (dict.fromkeys(four, 4) | {"verify-cert": 5}).get(words[0] if words else "")
     if word not in ("run", "member") or broken or not all(name in files for name in paths) or words and len(paths) != wanted:
         return None
     if paths.count("-") > 1:
@@ -257,7 +258,7 @@ def on_words(machine, question):
     if not words:
         written, status = answer("check", cut_input(files[""]))
     else:
-        more = files[paths[4]] if words[0] == "verify-cert" else json
+        more = files[paths[4]] if words[0] == "verify-cert" else " ".join(options) or None
         if words[0] == "step":
             more = read_schedule("" if schedule in (None, '""') else schedule)
             if schedule is None or more is None:

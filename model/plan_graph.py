@@ -67,6 +67,7 @@ def graph_lines(plan, run, stuck=()):
     bold = {(it.lane.name, it.it.recipe.name) for it in run.path() if it.it.verb == "build"} if run else set()
     yield "digraph plan {"
     yield "  rankdir=LR;"
+    yield "  newrank=true;"
     yield "  node [shape=box];"
     for number, lane in enumerate(plan):
         yield f"  subgraph cluster_{number} {{"

@@ -6,14 +6,14 @@
   model/portfarm.py list --number PACKAGES SOURCES FARM PLAN
   model/portfarm.py verify-cert PACKAGES SOURCES FARM PLAN CERT
   model/portfarm.py step --schedule LIST|@FILE PACKAGES SOURCES FARM PLAN
-  model/portfarm.py timeline [--json|--bars|--full] PACKAGES SOURCES FARM PLAN
+  model/portfarm.py timeline [--json|--bars] [--full] PACKAGES SOURCES FARM PLAN
   model/portfarm.py graph [--json] PACKAGES SOURCES FARM PLAN
   model/portfarm.py draft [--partial] --lanes N PACKAGES SOURCES FARM
   model/portfarm.py draft [--partial] [--rest] PACKAGES SOURCES FARM SKETCH
   model/portfarm.py                   the verdict on the four texts of standard input, divided by lines `%%`
 
-It is slow, it shares no code with the crates, and the texts of wrong words are its own. `timeline`, the timed run of RULES,
-section 14, and `graph` are commands of the model alone.
+It is slow, it shares no code with the crates, and the texts of wrong words are its own. `timeline --svg` is a command of the
+program alone.
 """
 
 import sys
@@ -94,7 +94,7 @@ def refused(command, texts, more, fault):
     """What a command writes of a fault of a text."""
     written = [f"refused {fault.code} {fault.file} line {fault.line}"]
     notes = list(fault_lines(texts, fault)) if command == "explain" else []
-    if more != "--json":
+    if "--json" not in (more or ""):
         return [*written, *notes]
     told = {"reasons": reasons_of([Note("text", notes)]), "warnings": []} if command == "explain" else {}
     return [json_line(verdict_members(written) | told)]
@@ -102,12 +102,12 @@ def refused(command, texts, more, fault):
 
 def timed(command, universe, plan, more):
     """The lines of the timed run of an accepted plan, or of its graph."""
-    run = TimedRun(universe, plan)
+    run, flags = TimedRun(universe, plan), (more or "").split()
     if command == "graph":
-        return [json_line(graph_members(plan, run))] if more == "--json" else list(graph_lines(plan, run))
-    if more == "--json":
+        return [json_line(graph_members(plan, run))] if flags else list(graph_lines(plan, run))
+    if "--json" in flags:
         return [json_line(json_members(run))]
-    return list(text_lines(run, more == "--bars", more == "--full"))
+    return list(text_lines(run, "--bars" in flags, "--full" in flags))
 
 
 def stuck_graph(plan, written, more):
@@ -145,7 +145,7 @@ def answer(command, texts, more=None):
         return stuck_graph(plan, written, more), status
     if command == "cert" and accepts:
         written = certificates.certificate(universe, plan, rows, order)
-    if command == "check" and more == "--json":
+    if command in ("check", "timeline", "graph") and "--json" in (more or ""):
         written = [json_line(verdict_members(written))]
     if command != "explain":
         return written, status
@@ -222,8 +222,8 @@ def main(words):
             if more is None:
                 print("portfarm: bad schedule", file=sys.stderr)
                 return 2
-        elif rest and rest[0] in OPTIONS.get(command, ()):
-            more, rest = rest[0], rest[1:]
+        while rest and rest[0] in OPTIONS.get(command, ()):
+            more, rest = f"{more} {rest[0]}" if more else rest[0], rest[1:]
         paths = 5 if command == "verify-cert" or by_file else 4
         if command not in COMMANDS or len(rest) != paths:
             print(__doc__, file=sys.stderr)

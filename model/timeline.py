@@ -71,10 +71,12 @@ class TimedRun:
         return self.of_lane[number][-1].end if self.of_lane[number] else 0
 
     def first_passing(self, entry):
-        """The first output that satisfies an entry, or None where the archive had a variant from the start."""
+        """The output that satisfies an entry first, of those that do so at one moment the last one in the order of the
+        run; or None where the archive had a variant from the start."""
         if any(variant.satisfies(entry) for variant in self.universe.archive):
             return None
-        return next(event for event in self.events if event.output and event.output.satisfies(entry))
+        found = [event for event in self.events if event.output and event.output.satisfies(entry)]
+        return [event for event in found if event.end == found[0].end][-1]
 
     def find_slack(self):
         """How much later each event could end, all else going on as it does, and the run not end later."""

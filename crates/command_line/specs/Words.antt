@@ -15,7 +15,7 @@ use Rattle.command_line.specs.declared.request.Asked.TheVariants.{Answer, Run}
 use Rattle.command_line.specs.declared.request.FarmPaths.{FarmPaths}
 use Rattle.command_line.specs.declared.request.Paths.{Paths}
 use Rattle.command_line.specs.declared.request.Request.{Request}
-use Rattle.command_line.specs.declared.request.Request.TheVariants.{CheckInput, Check, Explain, List as ListPlan, Cert, VerifyCert, Step, StepBy, Draft, DraftLanes}
+use Rattle.command_line.specs.declared.request.Request.TheVariants.{CheckInput, Check, Explain, List as ListPlan, Cert, VerifyCert, Step, StepBy, Timeline, Graph, Draft, DraftLanes}
 use Rattle.command_line.specs.declared.request.WordsFault.{WordsFault}
 use Rattle.command_line.specs.declared.request.WordsFault.TheVariants.{Help, Wrong, BadSchedule, Memory}
 use Rattle.command_line.specs.declared.schedule.ScheduleFault.{ScheduleFault}
@@ -57,6 +57,8 @@ IsRequestedBy words (VerifyCert cert paths) = IsWord words cert.now × ArePathWo
 IsRequestedBy words (Step schedule paths) =
     HasSchedule words schedule.items × ArePathWords words paths
 IsRequestedBy words (StepBy list paths) = EndsWord words list.now × ArePathWords words paths
+IsRequestedBy words (Timeline paths form full) = ArePathWords words paths
+IsRequestedBy words (Graph paths json) = ArePathWords words paths
 IsRequestedBy words (Draft paths rest partial) = ArePathWords words paths
 IsRequestedBy words (DraftLanes paths lanes partial) =
     HasNumber words lanes × AreFarmWords words paths

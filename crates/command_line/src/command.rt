@@ -27,6 +27,12 @@ pub const STEP: &str = "step";
 /// The command `run`.
 pub const RUN: &str = "run";
 
+/// The command `timeline`.
+pub const TIMELINE: &str = "timeline";
+
+/// The command `graph`.
+pub const GRAPH: &str = "graph";
+
 /// The command `draft`.
 pub const DRAFT: &str = "draft";
 
@@ -68,6 +74,15 @@ pub const NUMBER: &str = "number";
 
 /// The option `--json`.
 pub const JSON: &str = "json";
+
+/// The option `--svg`.
+pub const SVG: &str = "svg";
+
+/// The option `--bars`.
+pub const BARS: &str = "bars";
+
+/// The option `--full`.
+pub const FULL: &str = "full";
 
 /// What stands for standard input in place of the name of a file.
 pub const INPUT: &str = "-";
@@ -186,8 +201,25 @@ fn draft<'a>(alloc: Global) -> Result<Command<'a>, AllocError> {
         .arg(flag(alloc, PARTIAL, help::PARTIAL))
 }
 
-/// A command that tells the verdict, as text or as JSON.
-fn verdict<'a>(
+/// The ways to show a timeline, of which one alone may be asked for.
+fn with_forms<'a>(alloc: Global, command: Command<'a>) -> Result<Command<'a>, AllocError> {
+    let json = flag(alloc, JSON, help::JSON).conflicts_with(SVG)?;
+    let json = json.conflicts_with(BARS)?;
+    let svg = flag(alloc, SVG, help::SVG).conflicts_with(BARS)?;
+    let command = command.arg(json)?;
+    let command = command.arg(svg)?;
+    command.arg(flag(alloc, BARS, help::BARS))
+}
+
+/// The command that tells how long the plan takes.
+fn timeline<'a>(alloc: Global) -> Result<Command<'a>, AllocError> {
+    let command = on_files(alloc, TIMELINE, help::TIMELINE, help::TIMELINE_MORE)?;
+    let command = with_forms(alloc, command)?;
+    command.arg(flag(alloc, FULL, help::FULL))
+}
+
+/// A command with an answer that can be JSON.
+fn or_json<'a>(
     alloc: Global,
     name: &'a str,
     about: &'a str,
@@ -199,12 +231,19 @@ fn verdict<'a>(
 /// The program with the commands that judge the plan.
 fn with_verdicts<'a>(alloc: Global) -> Result<Command<'a>, AllocError> {
     let program = program(alloc)?;
-    let check = verdict(alloc, CHECK, help::CHECK, help::CHECK_MORE)?;
+    let check = or_json(alloc, CHECK, help::CHECK, help::CHECK_MORE)?;
     let program = program.subcommand(check)?;
-    let explain = verdict(alloc, EXPLAIN, help::EXPLAIN, help::EXPLAIN_MORE)?;
+    let explain = or_json(alloc, EXPLAIN, help::EXPLAIN, help::EXPLAIN_MORE)?;
     let program = program.subcommand(explain)?;
     let cert = on_files(alloc, CERT, help::CERT, help::CERT_MORE)?;
     program.subcommand(cert)
+}
+
+/// The program with the commands that show the plan, behind those that it has.
+fn with_pictures<'a>(alloc: Global, program: Command<'a>) -> Result<Command<'a>, AllocError> {
+    let program = program.subcommand(timeline(alloc)?)?;
+    let graph = or_json(alloc, GRAPH, help::GRAPH, help::GRAPH_MORE)?;
+    program.subcommand(graph)
 }
 
 /// The commands of the program, whose words begin behind its name.
@@ -218,5 +257,6 @@ pub fn portfarm<'a>(alloc: Global) -> Result<Command<'a>, AllocError> {
     let program = program.subcommand(verify_cert(alloc)?)?;
     let program = program.subcommand(step(alloc)?)?;
     let program = program.subcommand(run(alloc)?)?;
+    let program = with_pictures(alloc, program)?;
     program.subcommand(draft(alloc)?)
 }

@@ -25,7 +25,8 @@ Example:
   portfarm check packages sources farm plan
 
 Status:
-  0  accepted, listed, certified, stepped without a trap, finished, or help
+  0  accepted, listed, certified, stepped without a trap, finished, shown, or
+     help
   1  refused or trapped: the answer tells where and why
   2  wrong words, or a schedule that is not one
   3  a file cannot be read, out of memory, a lane cannot be started, or the
@@ -168,6 +169,49 @@ Example:
 Status: 0 finished, 1 refused, 2 wrong words, 3 nothing could be answered, or a
 lane could not be started";
 
+/// What `timeline` does, in a line.
+pub const TIMELINE: &str = "\
+Tells how long the plan takes, and what holds it up";
+
+/// What the help of `timeline` says behind that line.
+pub const TIMELINE_MORE: &str = "\
+Where `check` refuses the plan, the answer is that refusal. Else each
+instruction takes its cost in steps as time, each output of a publish takes one,
+and each lane goes on as soon as it can. The answer tells when the plan ends;
+for each lane when it ends and how long it is busy and idle; its longest idle
+stretches and what it waits for there; the critical path, which is the chain of
+instructions and waits that the end hangs on; what no plan of these builds can
+be shorter than; and the builds with the least slack, which have to be shorter,
+or to begin sooner, for the plan to end sooner.
+
+With `--bars` there is a bar for each lane in place of the idle stretches: `#`
+for builds, `=` for other instructions, `.` for waits. A critical path of more
+than forty lines is shortened in the middle, unless `--full` is given.
+
+Example:
+  portfarm timeline --svg packages sources farm plan > plan.svg
+
+Status: 0 shown, 1 refused, 2 wrong words, 3 nothing could be answered";
+
+/// What `graph` does, in a line.
+pub const GRAPH: &str = "\
+Draws the builds of the plan and the waits between them";
+
+/// What the help of `graph` says behind that line.
+pub const GRAPH_MORE: &str = "\
+The answer is a graph for `dot` of graphviz: a box for each build with its
+publish, a cluster for each lane, and an edge for each wait, from the publish
+that it waits for to the build behind it; dashed where another variant may let
+the wait pass too, grey where the lane does not have to wait in the timed run of
+`timeline`. The critical path is bold. Where lanes would wait forever, the
+waits that hold each other up are bold instead, and the status is 1. Any other
+plan that `check` refuses is answered by that refusal.
+
+Example:
+  portfarm graph packages sources farm plan | dot -Tsvg > plan.svg
+
+Status: 0 drawn, 1 refused, 2 wrong words, 3 nothing could be answered";
+
 /// What `draft` does, in a line.
 pub const DRAFT: &str = "\
 Drafts a plan that `check` accepts, from lanes and builds alone";
@@ -226,6 +270,15 @@ pub const NUMBER: &str = "Put the number and the plan's line before each line";
 
 /// What `--json` does, in a line.
 pub const JSON: &str = "Answer with one JSON object on a line";
+
+/// What `--svg` does, in a line.
+pub const SVG: &str = "Answer with a picture for a browser";
+
+/// What `--bars` does, in a line.
+pub const BARS: &str = "Show a bar for each lane in place of its idle stretches";
+
+/// What `--full` does, in a line.
+pub const FULL: &str = "Show the whole critical path";
 
 /// What `--schedule` does, in a line.
 pub const SCHEDULE: &str = "Lanes in the order of turns, as 0,0,1; or @FILE";

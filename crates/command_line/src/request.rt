@@ -5,8 +5,9 @@ ghost use Rattle.command_line.specs.Words.{AreFarmWords, ArePathWords, IsAskedBy
 
 use crate::among::{are_farm_words, are_words, ends_word, is_word};
 use crate::command::{
-    CERT, CERTIFICATE, CHECK, DRAFT, EXPLAIN, FARM, INPUT, JSON, LANES, LIST, NUMBER, PACKAGES,
-    PARTIAL, PLAN, PROGRESS, REST, RUN, SCHEDULE, SKETCH, SOURCES, STEP, VERIFY_CERT, portfarm,
+    BARS, CERT, CERTIFICATE, CHECK, DRAFT, EXPLAIN, FARM, FULL, GRAPH, INPUT, JSON, LANES, LIST,
+    NUMBER, PACKAGES, PARTIAL, PLAN, PROGRESS, REST, RUN, SCHEDULE, SKETCH, SOURCES, STEP, SVG,
+    TIMELINE, VERIFY_CERT, portfarm,
 };
 use crate::schedule::{ScheduleFault, read_lane, read_schedule};
 use clap::error::ErrorKind;
@@ -21,6 +22,19 @@ pub struct Paths<'a> {
     pub sources: &'a str,
     pub farm: &'a str,
     pub plan: &'a str,
+}
+
+/// How a timeline is shown.
+#[derive(Clone, Copy)]
+pub enum TimelineForm {
+    /// As lines, with the longest waits of each lane.
+    Lines,
+    /// As lines, with a bar for each lane.
+    Bars,
+    /// As one JSON object.
+    Json,
+    /// As a picture.
+    Svg,
 }
 
 /// The files of a farm without a plan, in the order of the words.
@@ -70,6 +84,17 @@ pub enum Request<'a> {
     StepBy {
         list: &'a str,
         paths: Paths<'a>,
+    },
+    /// The timed run of a plan; how it is shown; and whether its critical path is shown whole.
+    Timeline {
+        paths: Paths<'a>,
+        form: TimelineForm,
+        full: bool,
+    },
+    /// The builds of a plan and the waits between them; and whether that is told as JSON.
+    Graph {
+        paths: Paths<'a>,
+        json: bool,
     },
     /// A plan by a sketch, which stands in place of the plan; whether the other recipes are built
     /// too, and whether what cannot be built is left out.
@@ -205,6 +230,19 @@ fn verify_of<'a, S: AsStr>(
     Ok(Request::VerifyCert { cert, paths })
 }
 
+/// How a timeline is to be shown; the parser lets one option alone stand for that.
+fn form_of(matches: &ArgMatches<'_>) -> TimelineForm {
+    if matches.get_flag(JSON) {
+        TimelineForm::Json
+    } else if matches.get_flag(SVG) {
+        TimelineForm::Svg
+    } else if matches.get_flag(BARS) {
+        TimelineForm::Bars
+    } else {
+        TimelineForm::Lines
+    }
+}
+
 fn request_of<'a, S: AsStr>(
     alloc: Global,
     words: &'a [S],
@@ -232,6 +270,15 @@ fn request_of<'a, S: AsStr>(
         CERT => Ok(Request::Cert(paths)),
         VERIFY_CERT => verify_of(alloc, words, word_of(matches, CERTIFICATE), paths),
         STEP => step_of(alloc, words, word_of(matches, SCHEDULE), paths),
+        TIMELINE => Ok(Request::Timeline {
+            paths,
+            form: form_of(matches),
+            full: matches.get_flag(FULL),
+        }),
+        GRAPH => Ok(Request::Graph {
+            paths,
+            json: matches.get_flag(JSON),
+        }),
         _ => Err(no_command(alloc)),
     }
 }

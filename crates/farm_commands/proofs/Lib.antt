@@ -3,3 +3,4 @@ pub mod CertLaws
 pub mod ReadLaws
 mod RunLaws
 pub mod ExplainLaws
+mod PictureLaws

@@ -3,6 +3,7 @@ pub mod CertAnswers
 pub mod Drafts
 pub mod Explanations
 pub mod FarmAnswers
+pub mod Pictures
 pub mod Requests
 pub mod Runs
 pub mod Turns

@@ -14,11 +14,12 @@ use Rattle.farm_input.specs.Input.{Texts, input_texts}
 use Rattle.command_line.specs.declared.request.FarmPaths.{FarmPaths}
 use Rattle.command_line.specs.declared.request.Paths.{Paths}
 use Rattle.command_line.specs.declared.request.Request.{Request}
-use Rattle.command_line.specs.declared.request.Request.TheVariants.{CheckInput, Check, Explain, List as ListPlan, Cert, VerifyCert, Step, StepBy, Draft, DraftLanes}
+use Rattle.command_line.specs.declared.request.Request.TheVariants.{CheckInput, Check, Explain, List as ListPlan, Cert, VerifyCert, Step, StepBy, Timeline, Graph, Draft, DraftLanes}
 use Rattle.farm_commands.specs.Answers.{AnswersCheck, AnswersListing, AnswersStep, AnswersStepBy, IsAnswered, UnlessUnread}
 use Rattle.farm_commands.specs.CertAnswers.{AnswersCert, AnswersVerifyCert, IsCertAnswered}
 use Rattle.farm_commands.specs.Drafts.{AnswersDraft, AnswersLanes}
 use Rattle.farm_commands.specs.Explanations.{AnswersExplain}
+use Rattle.farm_commands.specs.Pictures.{AnswersGraph, AnswersTimeline, is_json}
 use Rattle.report_sink.specs.Sinks.{SinkState}
 use Rattle.farm_commands.specs.declared.fault.OutsideFault.{OutsideFault}
 use Rattle.farm_commands.specs.declared.source.TheConstants.{MOST_FILE, MOST_INPUT}
@@ -115,6 +116,10 @@ AnswersRequest held given (Step schedule paths) text status =
     OnFiles (named held given) paths (AnswersStep schedule.items) text status
 AnswersRequest held given (StepBy list paths) text status =
     OnFilesAndOne (named held given) paths list.now AnswersStepBy text status
+AnswersRequest held given (Timeline paths form full) text status =
+    OnFiles (named held given) paths (AnswersTimeline (is_json form)) text status
+AnswersRequest held given (Graph paths json) text status =
+    OnFiles (named held given) paths (AnswersGraph json) text status
 AnswersRequest held given (Draft paths rest partial) text status =
     OnFiles (named held given) paths (AnswersDraft rest partial) text status
 AnswersRequest held given (DraftLanes paths lanes partial) text status =
@@ -130,6 +135,8 @@ AreCalledFor (Cert paths) told = AreCalled paths told
 AreCalledFor (VerifyCert cert paths) told = AreCalledWith paths cert.now told
 AreCalledFor (Step schedule paths) told = AreCalled paths told
 AreCalledFor (StepBy list paths) told = AreCalledWith paths list.now told
+AreCalledFor (Timeline paths form full) told = AreCalled paths told
+AreCalledFor (Graph paths json) told = AreCalled paths told
 AreCalledFor (Draft paths rest partial) told = AreCalled paths told
 AreCalledFor (DraftLanes paths lanes partial) told = AreFarmCalled paths told
 

@@ -86,7 +86,11 @@ fn answer_json<'a, S: Sink>(
 }
 
 /// Answers with a verdict, as JSON or not. Want of memory is none.
-fn show_verdict<'a, S: Sink>(
+///
+/// # Errors
+///
+/// As those of [`answer_verdict`], and want of memory for the JSON too.
+pub fn show_verdict<'a, S: Sink>(
     alloc: Global,
     verdict: Result<Accepted, Refusal>,
     json: bool,

@@ -9,12 +9,14 @@ mod explain;
 mod explanation;
 mod farm_run;
 mod fault;
+mod graph;
 mod request;
 mod run;
 mod source;
 mod status;
 mod teller;
 mod text_faults;
+mod timeline;
 mod told;
 mod turns;
 

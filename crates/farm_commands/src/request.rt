@@ -4,6 +4,7 @@ ghost use Rattle.std.specs.Prelude.{IfErr, IfOk, OnErr, ◌≡◌};
 ghost use Rattle.farm_commands.specs.Answers.{AnswersCheck, AnswersListing, AnswersStep, AnswersStepBy, IsAnswered, IsReadFault, UnlessUnread};
 ghost use Rattle.farm_commands.specs.CertAnswers.{AnswersCert, AnswersVerifyCert, IsCertAnswered};
 ghost use Rattle.farm_commands.specs.Explanations.{AnswersExplain};
+ghost use Rattle.farm_commands.specs.Pictures.{AnswersGraph, AnswersTimeline, is_json};
 ghost use Rattle.farm_input.specs.View.{texts_view};
 ghost use Rattle.farm_commands.specs.Requests.{AreCalled, AreCalledWith, AreFilesRead, IsInputName, IsRequestAnswered, OnFiles, OnFilesAndOne, OnInput, named};
 ghost use Rattle.farm_commands.specs.View.{texts_in_files};
@@ -13,7 +14,9 @@ use crate::certificates::{answer_cert, answer_verify_cert};
 use crate::draft::{ByNumber, BySketch, draft_files, draft_lanes};
 use crate::explain::answer_explain;
 use crate::fault::OutsideFault;
+use crate::graph::answer_graph;
 use crate::source::{Source, read_file, read_input};
+use crate::timeline::{Shape, answer_timeline};
 use command_line::{Paths, Request};
 use farm_input::{Texts, texts_of};
 use report_sink::Sink;
@@ -227,6 +230,43 @@ fn step_by_files<'a, F: Source, S: Sink>(
     answer_step_by(alloc, files.texts(), &read, out)
 }
 
+/// The timed run of the plan of files.
+fn timeline_files<'a, F: Source, S: Sink>(
+    rt: &(impl Threads + Sync),
+    alloc: Global,
+    source: &F,
+    paths: Paths<'a>,
+    shape: Shape,
+    out: &mut S,
+) -> Result<u8, OutsideFault<'a>>
+    ensures { UnlessUnread (AreCalled paths.entry) (S.state out.new ≡ S.state out.old)
+        (IsAnswered
+        (OnFiles (named (F.held source.now) (F.given source.now)) paths.entry
+        (AnswersTimeline (is_json shape.form)))
+        (S.state out.old) (S.state out.new) result) result }
+{
+    let files = read_files(alloc, source, paths)?;
+    answer_timeline(rt, alloc, files.texts(), shape, out)
+}
+
+/// The plan of files as a graph.
+fn graph_files<'a, F: Source, S: Sink>(
+    rt: &(impl Threads + Sync),
+    alloc: Global,
+    source: &F,
+    paths: Paths<'a>,
+    json: bool,
+    out: &mut S,
+) -> Result<u8, OutsideFault<'a>>
+    ensures { UnlessUnread (AreCalled paths.entry) (S.state out.new ≡ S.state out.old)
+        (IsAnswered
+        (OnFiles (named (F.held source.now) (F.given source.now)) paths.entry (AnswersGraph json))
+        (S.state out.old) (S.state out.new) result) result }
+{
+    let files = read_files(alloc, source, paths)?;
+    answer_graph(rt, alloc, files.texts(), json, out)
+}
+
 /// Reads the texts that a request is about, all before the first is looked at, writes the answer to
 /// them, and gives its status: 0, or 1 for a refusal or a trap. The error output says where a
 /// certificate is longer than a text may be.
@@ -260,6 +300,10 @@ pub fn answer_request<'a, F: Source, S: Sink, E: Sink>(
         Request::VerifyCert { cert, paths } => { verify_files(rt, alloc, source, paths, cert, out) }
         Request::Step { schedule, paths } => step_files(alloc, source, paths, &schedule, out),
         Request::StepBy { list, paths } => step_by_files(alloc, source, paths, list, out),
+        Request::Timeline { paths, form, full } => {
+            timeline_files(rt, alloc, source, paths, Shape { form, full }, out)
+        }
+        Request::Graph { paths, json } => graph_files(rt, alloc, source, paths, json, out),
         Request::Draft {
             paths,
             rest,

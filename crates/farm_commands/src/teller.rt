@@ -2,7 +2,7 @@
 
 use farm_archive::Publication;
 use farm_executor::Bell;
-use lane_runner::{Gate, Go, LaneArchive};
+use lane_runner::{Gate, Go, LaneArchive, Place};
 use plan_asm::{Plan, lane_name, name_of, version_of};
 use plan_verifier::Accepted;
 use std::alloc::{AllocError, Global};
@@ -95,8 +95,8 @@ impl<R: Wait + Eprint> Teller<'_, R> {
 impl<R: Wait + Eprint> Gate for Teller<'_, R> {
     ghost may_give_up = { λ _. ⊥ };
 
-    fn before(&self, lane: u32, instruction: u32) -> Go {
-        self.bell.before(lane, instruction)
+    fn before(&self, place: Place<'_>) -> Go {
+        self.bell.before(place)
     }
 
     fn pause(&self, lane: u32, instruction: u32) -> Go {

@@ -15,14 +15,10 @@ mod schedule;
 mod scope;
 mod turns;
 
-pub use base::{Base, BaseSeat};
 pub use bell::Bell;
-pub use causes::{NOT_STARTED, cause};
-pub use judged::Judged;
-pub use lanes::{EndOf, LaneEnd, LaneJob, Setting, Started};
+pub use causes::cause;
 pub use link::Link;
 pub use providers::Providers;
 pub use run::{FarmRun, RunFault, run_farm};
 pub use schedule::accepted_schedule;
-pub use scope::{Prepared, in_scope, run_lanes};
 pub use turns::lanes_in_turns;

@@ -1,5 +1,5 @@
 -- Archive steps of a runner of an accepted plan, as the calls of its end tell them.
-use Rattle.std.proofs.Common.{◌≡◌, ◌⊎◌, ℕ, suc, ◌+◌, ◌<◌, ◌≤◌, Bool, true, false, ◌&&◌, List, length, Option, Some, None, slice_get, sym, ap, subst, ◌∙◌}
+use Rattle.std.proofs.Common.{◌≡◌, ◌⊎◌, ℕ, suc, ◌+◌, ◌<◌, ◌≤◌, Bool, true, false, ◌&&◌, List, length, Option, Some, None, slice_get, get_or-set_same, refl, sym, ap, subst, ◌∙◌}
 use Rattle.std.specs.Option.{is_some}
 use Rattle.std.proofs.lemmas.Option.{slice_get_within}
 use Rattle.archive_laws.specs.LaneMoves.{outputs_made}
@@ -8,7 +8,9 @@ use Rattle.deb_relation.specs.declared.operator.Op.{Op}
 use Rattle.deb_relation.specs.Relations.{Entry}
 use Rattle.farm_archive.specs.declared.publication.Publication.{Publication}
 use Rattle.farm_model.specs.declared.types.Variant.{Variant}
+use Rattle.farm_model.specs.declared.types.Slot.TheVariants.{Absent}
 use Rattle.farm_model.specs.Below.{highest_below}
+use Rattle.farm_model.specs.Chroot.{slot, last_of}
 use Rattle.farm_model.specs.Packages.{base, outputs, variant, variants, is_wanted, word_has}
 use Rattle.farm_model.specs.Traps.{first_trap, unpack_traps, unpacked}
 use Rattle.farm_model.specs.Universe.{Universe}
@@ -21,11 +23,11 @@ use Rattle.plan_model.specs.Plan.{lane, instruction_at, capacity, unpack_cost}
 use Rattle.plan_verifier.proofs.Promises.{annotation}
 use Rattle.plan_model.specs.Turn.{LaneState, first_only}
 use Rattle.plan_verifier.specs.Accepted.{AcceptedPlan, IsAccepted, known_rows}
-use Rattle.lane_runner.specs.Calls.{IsRunning, IsLastOutput}
+use Rattle.lane_runner.specs.Calls.{IsRunning, IsLastOutput, IsPicked, IsBranched}
 use Rattle.lane_runner.specs.OnWay.{gone_to, passed, given_one, branch_place, CanPass}
 use Rattle.lane_runner.specs.declared.runner.Runner.{Runner}
-use Rattle.lane_runner.proofs.Unpacks.{some_newest, unpack_free, unpack_goes}
-use Rattle.lane_runner.proofs.Whens.{when_goes}
+use Rattle.lane_runner.proofs.Unpacks.{some_newest, unpack_free, unpack_recorded, unpack_goes}
+use Rattle.lane_runner.proofs.Whens.{when_goes, when_recorded}
 use Rattle.lane_runner.proofs.Waits.{one_word, waits_on, passes_on}
 use Rattle.lane_runner.proofs.Publishes.{given_lane, output_left, output_next, one_drawn, output_paid, publishes_on, is_last}
 
@@ -99,6 +101,53 @@ module _ (a : AcceptedPlan) (accepted : IsAccepted a) (w : Runner) (c : Held) (b
             (ap (λ (x : Held). x.slots) d_is) (ap (λ (x : Held). x.base) d_is) held
             (loaded a b w.lane l run.about_is run.lane_is name found r q q_is);
       }
+
+      -- it is what the unpack has picked
+      pub picks : (d : Held) (q : Record)
+          → d ≡ with_slots u c (unpacked c.slots (variant name k))
+          → q ≡ after_load b.universe b.plan l name found r
+          → IsPicked a w.lane (suc w.done) d q (variant name k)
+      picks d q d_is q_is = record {
+        place = w.done;
+        number_is = refl;
+        wanted = wanted;
+        here = here;
+        word = found;
+        highest = sym some ∙ picked;
+        last = last_of (slot c.slots name);
+        holds =
+            ap (λ (x : Held). slot x.slots name) d_is
+            ∙ get_or-set_same c.slots name _ Absent (subst (λ n. name < n)
+            (sym run.on.held.slots.long)
+            (accepted.sound.plan.instructions w.lane w.done _ run.on.in_plan here));
+        recorded =
+            unpack_recorded u a.plan (known_rows a) accepted.sound (annotation a accepted) w c r
+            run.on name wanted here found within o picked k some d q
+            (ap (λ (x : Held). x.slots) d_is)
+            (loaded a b w.lane l run.about_is run.lane_is name found r q q_is);
+      }
+
+  -- a `when` of the runner: where its record stands
+  pub branched : (name : ℕ) (wanted : Option (Op × List ℕ))
+      → instruction_at a.plan w.lane w.done ≡ Some (When name wanted) → (found : ℕ)
+      → IsInBounds b.universe b.plan (known_rows b) l r.at name found → (holds : Bool)
+      → holds ≡ is_some (highest_below (variants u name)
+      (λ k. word_has found k && is_wanted u wanted (variant name k)))
+      → (q : Record) → q ≡ after_load b.universe b.plan l name found r
+      → IsBranched a w.lane (suc w.done) q holds
+  branched name wanted here found bounds holds is q q_is = record {
+    place = w.done;
+    number_is = refl;
+    name = name;
+    wanted = wanted;
+    here = here;
+    word = found;
+    found = is;
+    recorded =
+        when_recorded u a.plan (known_rows a) accepted.sound (annotation a accepted) w c r run.on
+        name wanted here found (bounded a b w.lane l run.about_is run.lane_is name found r bounds)
+        holds is q (loaded a b w.lane l run.about_is run.lane_is name found r q q_is);
+  }
 
   -- a `when` of the runner
   pub branches : (name : ℕ) (wanted : Option (Op × List ℕ))

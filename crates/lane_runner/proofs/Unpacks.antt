@@ -101,6 +101,13 @@ module _ (u : Universe) (p : Plan) (rows : Rows) (sound : IsSound u p) (ann : Is
           ∙ (cond-true (name == name) _ r.at (eq-eqb name name refl)
           ∙ ap (λ (t : Turn). goes_on r.at t (λ n. n)) turn_is))
 
+      -- its record has the chroot behind it
+      pub unpack_recorded : (d : Held) (q : Record) → d.slots ≡ unpacked c.slots (variant name b)
+          → q ≡ after_load u p w.lane name found r → q.at.chroot ≡ d.slots
+      unpack_recorded d q slots q_is =
+          ap (λ (x : Record). x.at.chroot) q_is
+          ∙ (ap (λ (s : LaneState). s.chroot) moved ∙ sym slots)
+
       -- and the runner that takes it is behind the unpack
       pub unpack_goes : (v : Runner) (d : Held) (q : Record)
           → v ≡ passed of w (unpack_cost u (variant name b))

@@ -4,17 +4,28 @@
 --   IsSameEnd       the end is of the same archive, plan and lane
 --   IsRunning       a runner is on the way of the end's lane
 --   HasKept         nothing has halted meanwhile
+--   IsAhead         a lane at an instruction
+--   IsPicked        what an unpack of the lane has picked
+--   IsBranched      into which branch a `when` of the lane has led
 --   IsLastOutput    what the lane has published last
-use Rattle.std.specs.Prelude.{◌≡◌, ℕ, suc, Some, slice_get}
+use Rattle.std.specs.Option.{is_some}
+use Rattle.std.specs.Prelude.{◌≡◌, ℕ, suc, ◌<◌, ◌&&◌, Bool, List, length, Option, Some, slice_get}
 use Rattle.archive_laws.specs.LaneMoves.{outputs_made}
 use Rattle.atomic_table.specs.Seated.{TableId}
-use Rattle.chroot_state.specs.Held.{Held}
+use Rattle.chroot_state.specs.Held.{Held, IsHeld}
+use Rattle.deb_relation.specs.declared.operator.Op.{Op}
 use Rattle.farm_archive.specs.declared.publication.Publication.{Publication}
+use Rattle.farm_model.specs.declared.types.Slot.TheVariants.{Unpacked}
+use Rattle.farm_model.specs.declared.types.Variant.{Variant}
+use Rattle.farm_model.specs.Below.{highest_below}
+use Rattle.farm_model.specs.Chroot.{slot}
+use Rattle.farm_model.specs.Packages.{variant, variants, is_wanted, word_has}
 use Rattle.farm_model.specs.Universe.{Universe}
 use Rattle.lane_records.specs.Records.{Record}
-use Rattle.plan_model.specs.Plan.{Plan, lane, lane_outputs}
+use Rattle.plan_model.specs.declared.instructions.Instruction.TheVariants.{Unpack, When}
+use Rattle.plan_model.specs.Plan.{Plan, lane, lane_outputs, instruction_at}
 use Rattle.plan_verifier.specs.Accepted.{AcceptedPlan, known_rows}
-use Rattle.lane_runner.specs.OnWay.{IsOnWay}
+use Rattle.lane_runner.specs.OnWay.{branch_place, IsOnWay}
 use Rattle.lane_runner.specs.declared.runner.Runner.{Runner}
 
 pub record IsSameEnd (home : TableId) (a : AcceptedPlan) (l : ℕ) (home' : TableId)
@@ -45,3 +56,42 @@ pub record IsLastOutput (u : Universe) (p : Plan) (l : ℕ) (r : Record) (h : Pu
   pub variant : slice_get (lane_outputs u (lane p l)) number ≡ Some h.variant
   -- and has the serial that the lane drew for it.
   pub serial : slice_get r.serials number ≡ Some h.serial
+
+-- The lane stands ahead of the instruction of this number, counted from 1, in this chroot:
+pub record IsAhead (a : AcceptedPlan) (c : Held) (l number : ℕ) : Type 0 where
+  pub in_plan : l < length a.plan
+  pub place : ℕ
+  pub number_is : number ≡ suc place
+  pub there : place < length (lane a.plan l).instructions
+  pub held : IsHeld a.universe c
+
+-- The variant is what the unpack of this number has picked:
+pub record IsPicked (a : AcceptedPlan) (l number : ℕ) (c : Held) (r : Record) (v : Variant)
+    : Type 0 where
+  -- the unpack asks for its name,
+  pub place : ℕ
+  pub number_is : number ≡ suc place
+  pub wanted : Option (Op × List ℕ)
+  pub here : instruction_at a.plan l place ≡ Some (Unpack v.name wanted)
+  -- it is the highest one in the relation in the word that the lane loaded,
+  pub word : ℕ
+  pub highest : Some v.bit ≡ highest_below (variants a.universe v.name)
+      (λ b. word_has word b && is_wanted a.universe wanted (variant v.name b))
+  -- and the lane's chroot holds it now, unpacked, as its record has it.
+  pub last : Option ℕ
+  pub holds : slot c.slots v.name ≡ Unpacked v.bit last
+  pub recorded : r.at.chroot ≡ c.slots
+
+-- The `when` of this number has led to the branch:
+pub record IsBranched (a : AcceptedPlan) (l number : ℕ) (r : Record) (holds : Bool) : Type 0 where
+  pub place : ℕ
+  pub number_is : number ≡ suc place
+  pub name : ℕ
+  pub wanted : Option (Op × List ℕ)
+  pub here : instruction_at a.plan l place ≡ Some (When name wanted)
+  -- the first one where the word that the lane loaded has a variant in the relation,
+  pub word : ℕ
+  pub found : holds ≡ is_some (highest_below (variants a.universe name)
+      (λ b. word_has word b && is_wanted a.universe wanted (variant name b)))
+  -- and there its record stands.
+  pub recorded : r.at.done ≡ branch_place (lane a.plan l) place holds

@@ -1,7 +1,7 @@
 //! A `when`, over one load.
 
-ghost use Rattle.std.specs.Prelude.{◌≡◌, ◌<◌, ◌≤◌, Some, length};
-ghost use Rattle.lane_runner.specs.Calls.{HasKept, IsRunning, IsSameEnd};
+ghost use Rattle.std.specs.Prelude.{◌≡◌, ◌<◌, ◌≤◌, suc, Some, length};
+ghost use Rattle.lane_runner.specs.Calls.{HasKept, IsBranched, IsRunning, IsSameEnd};
 ghost use Rattle.lane_runner.specs.OnWay.{branch_place};
 ghost use Rattle.plan_model.specs.declared.instructions.Instruction.TheVariants.{When};
 ghost use Rattle.plan_model.specs.Plan.{instruction_at};
@@ -30,7 +30,7 @@ fn branch_place(lane: &Lane, place: usize, holds: bool) -> usize
 
 impl Runner {
     /// Goes into the first branch where the archive has a variant of a name in the relation, else
-    /// into the second one.
+    /// into the second one, and tells whether it is the first.
     pub(crate) fn branch<A: LaneArchive>(
         &mut self,
         accepted: &Accepted,
@@ -38,7 +38,7 @@ impl Runner {
         archive: &mut A,
         name: u32,
         relation: &Option<(Op, Version)>,
-    )
+    ) -> bool
         requires running { IsRunning accepted.now self.old chroot.now (A.about archive.old)
             (A.lane archive.old) (A.log archive.old) }
         requires here { instruction_at accepted.now.plan self.old.lane self.old.done
@@ -49,6 +49,8 @@ impl Runner {
         ensures running { IsRunning accepted.now self.new chroot.now (A.about archive.new)
             (A.lane archive.new) (A.log archive.new) }
         ensures moves { self.old.done < self.new.done }
+        ensures branched { IsBranched accepted.now self.old.lane (suc self.old.done)
+            (A.log archive.new) result }
     {
         accepted.keeps();
         let universe = accepted.universe();
@@ -56,5 +58,6 @@ impl Runner {
         let holds = newest(universe, word, name, relation).is_some();
         let lane = lane_of(accepted, self.lane);
         self.go_to(branch_place(lane, self.done as usize, holds));
+        holds
     }
 }

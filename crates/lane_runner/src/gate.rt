@@ -1,11 +1,13 @@
 //! Where a lane's thread stops and waits.
 
 ghost use Rattle.std.specs.Prelude.{◌≡◌};
-ghost use Rattle.lane_runner.specs.Calls.{IsLastOutput};
+ghost use Rattle.lane_runner.specs.Calls.{IsAhead, IsBranched, IsLastOutput, IsPicked};
 ghost use Rattle.lane_runner.specs.declared.gate.Go.TheVariants.{GiveUp};
 
 use crate::archive::LaneArchive;
+use chroot_state::Chroot;
 use farm_archive::Publication;
+use farm_universe::Variant;
 use plan_verifier::Accepted;
 
 /// What a gate tells a lane.
@@ -17,6 +19,16 @@ pub enum Go {
     GiveUp,
 }
 
+/// A lane at one of its instructions, with its chroot. Lanes are numbered from 0 in file order, the
+/// instructions of a lane from 1.
+#[derive(Clone, Copy)]
+pub struct Place<'a> {
+    pub accepted: &'a Accepted,
+    pub chroot: &'a Chroot,
+    pub lane: u32,
+    pub instruction: u32,
+}
+
 /// Where a lane's thread stops and waits. The lanes of a run share one gate. Lanes are numbered
 /// from 0 in file order, the instructions of a lane from 1.
 pub trait Gate {
@@ -25,8 +37,25 @@ pub trait Gate {
 
     /// Is called ahead of each instruction that the lane stands at, so never of an `else` or an
     /// `end`, and may wait: for a build outside this program, say.
-    fn before(&self, lane: u32, instruction: u32) -> Go
+    fn before(&self, place: Place<'_>) -> Go
+        requires ahead { IsAhead place.accepted.now place.chroot.now place.lane place.instruction }
         ensures { result ≡ GiveUp → may_give_up self.now };
+
+    /// Is told of each pick of an unpack by its lane: the chroot is the one behind the unpack. May
+    /// wait, for the unpack of that very version outside this program.
+    fn unpacked<A: LaneArchive>(&self, place: Place<'_>, end: &A, variant: Variant) -> Go
+        requires picked { IsPicked place.accepted.now place.lane place.instruction place.chroot.now
+            (A.log end.now) variant }
+        ensures { result ≡ GiveUp → may_give_up self.now }
+    {
+        Go::Continue
+    }
+
+    /// Is told of each `when` by its lane: whether it goes on in the first branch.
+    fn branched<A: LaneArchive>(&self, place: Place<'_>, end: &A, holds: bool)
+        requires branched { IsBranched place.accepted.now place.lane place.instruction
+            (A.log end.now) holds }
+    {}
 
     /// Is called where nothing in the archive lets a lane pass its wait. It may wait until
     /// something was published since the lane's last call of `before` or `pause`.

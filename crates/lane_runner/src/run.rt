@@ -1,6 +1,6 @@
 //! A whole lane.
 
-ghost use Rattle.std.specs.Prelude.{◌≡◌, ◌⊎◌, ◌<◌, ◌+◌, true, false, IfOk, IfErr, length};
+ghost use Rattle.std.specs.Prelude.{◌≡◌, ◌⊎◌, ◌<◌, ◌≤◌, ◌+◌, true, false, IfOk, IfErr, length};
 ghost use Rattle.chroot_state.specs.Held.{IsHeld, opened};
 ghost use Rattle.lane_records.specs.Records.{after_halt};
 ghost use Rattle.lane_runner.specs.Calls.{IsSameEnd};
@@ -11,7 +11,7 @@ ghost use Rattle.plan_model.specs.Plan as plan;
 ghost use Rattle.plan_verifier.specs.Accepted.{known_rows};
 
 use crate::archive::LaneArchive;
-use crate::gate::{Gate, Go};
+use crate::gate::{Gate, Go, Place};
 use crate::runner::Runner;
 use crate::turn::Turn;
 use chroot_state::Chroot;
@@ -33,7 +33,7 @@ pub struct LaneStop {
 
 /// Halts the archive, and wakes the lanes that pause.
 fn give_up<A: LaneArchive, G: Gate>(archive: &mut A, gate: &G, done: u32) -> LaneStop
-    requires { done < MOST_INSTRUCTIONS }
+    requires { done ≤ MOST_INSTRUCTIONS }
     ensures same { IsSameEnd (A.home archive.old) (A.about archive.old) (A.lane archive.old)
         (A.home archive.new) (A.about archive.new) (A.lane archive.new) }
     ensures log { A.log archive.new ≡ after_halt (A.log archive.old) }
@@ -88,7 +88,14 @@ pub fn run_lane<A: LaneArchive, G: Gate>(
         if runner.has_ended(accepted) {
             return Ok(runner.spent);
         }
-        if !begun && gate.before(lane, runner.done + 1) == Go::GiveUp {
+        let instruction = runner.done + 1;
+        let place = Place {
+            accepted,
+            chroot,
+            lane,
+            instruction,
+        };
+        if !begun && gate.before(place) == Go::GiveUp {
             return Err(give_up(archive, gate, runner.done));
         }
         if archive.halted() {
@@ -99,6 +106,28 @@ pub fn run_lane<A: LaneArchive, G: Gate>(
         }
         match runner.turn(accepted, chroot, archive) {
             Turn::Moved => begun = false,
+            Turn::Unpacked(variant) => {
+                begun = false;
+                let place = Place {
+                    accepted,
+                    chroot,
+                    lane,
+                    instruction,
+                };
+                if gate.unpacked(place, archive, variant) == Go::GiveUp {
+                    return Err(give_up(archive, gate, runner.done));
+                }
+            }
+            Turn::Branched(holds) => {
+                begun = false;
+                let place = Place {
+                    accepted,
+                    chroot,
+                    lane,
+                    instruction,
+                };
+                gate.branched(place, archive, holds);
+            }
             Turn::Published(publication) => {
                 gate.published(accepted, archive, publication);
                 begun = runner.made > 0;

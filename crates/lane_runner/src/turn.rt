@@ -1,12 +1,13 @@
 //! One turn of a lane.
 
-ghost use Rattle.std.specs.Prelude.{◌≡◌, ◌<◌, ◌≤◌, ◌++◌, ◌∷◌, [], ℕ, true, false, Some, length};
+ghost use Rattle.std.specs.Prelude.{◌≡◌, ◌<◌, ◌≤◌, ◌++◌, ◌∷◌, [], ℕ, suc, Bool, true, false, Some, length};
 ghost use Rattle.deb_relation.specs.Relations.{Entry};
 ghost use Rattle.farm_archive.specs.declared.publication.Publication as publication;
 ghost use Rattle.lane_records.specs.Records.{Record};
-ghost use Rattle.lane_runner.specs.Calls.{HasKept, IsLastOutput, IsRunning, IsSameEnd};
+ghost use Rattle.farm_model.specs.declared.types.Variant as variant;
+ghost use Rattle.lane_runner.specs.Calls.{HasKept, IsBranched, IsLastOutput, IsPicked, IsRunning, IsSameEnd};
 ghost use Rattle.lane_runner.specs.OnWay.{IsOnWay};
-ghost use Rattle.lane_runner.specs.declared.turn.Turn.TheVariants.{Moved, Published, Waits};
+ghost use Rattle.lane_runner.specs.declared.turn.Turn.TheVariants.{Moved, Unpacked, Branched, Published, Waits};
 ghost use Rattle.plan_asm.specs.declared.error.TheConstants.{MOST_INSTRUCTIONS};
 ghost use Rattle.plan_model.specs.Plan.{instruction_at, lane};
 ghost use Rattle.plan_model.specs.declared.instructions.Instruction.TheVariants.{Wait};
@@ -17,14 +18,19 @@ use crate::archive::LaneArchive;
 use crate::runner::{Runner, lane_of};
 use chroot_state::Chroot;
 use farm_archive::Publication;
+use farm_universe::Variant;
 use plan_asm::Instruction;
 use plan_verifier::Accepted;
 
 /// What a lane did at its turn.
 #[derive(Clone, Copy, Debug, PartialEq, Eq)]
 pub enum Turn {
-    /// It is behind its instruction, or in a branch of it.
+    /// It is behind its instruction.
     Moved,
+    /// It has unpacked this.
+    Unpacked(Variant),
+    /// It is in a branch of its `when`, the first one or not.
+    Branched(bool),
     /// It has published this, an output of the publish that it stood at.
     Published(Publication),
     /// It waits for the archive.
@@ -100,14 +106,21 @@ impl Runner {
         ensures drawn { (h : publication.Publication) → result ≡ Published h
             → (A.log archive.new).serials ≡ (A.log archive.old).serials ++ h.serial ∷ [] }
         ensures moved { result ≡ Moved → self.old.done < self.new.done }
+        ensures picked { (v : variant.Variant) → result ≡ Unpacked v
+            → (self.old.done < self.new.done) × (self.new.done ≤ MOST_INSTRUCTIONS)
+            × IsPicked accepted.now self.old.lane (suc self.old.done) chroot.new
+            (A.log archive.new) v }
+        ensures branched { (holds : Bool) → result ≡ Branched holds
+            → (self.old.done < self.new.done)
+            × IsBranched accepted.now self.old.lane (suc self.old.done) (A.log archive.new)
+            holds }
         ensures waits { result ≡ Waits → (self.new ≡ self.old) × ((entry : Entry)
             × (instruction_at accepted.now.plan self.old.lane self.old.done ≡ Some (Wait entry))) }
     {
         let instruction = &lane_of(accepted, self.lane).instructions()[self.done as usize];
         match instruction {
             Instruction::Unpack { name, relation } => {
-                self.unpack(accepted, chroot, archive, *name, relation);
-                Turn::Moved
+                Turn::Unpacked(self.unpack(accepted, chroot, archive, *name, relation))
             }
             Instruction::Publish(recipe) => {
                 Turn::Published(self.publish(accepted, chroot, archive, *recipe))
@@ -120,8 +133,7 @@ impl Runner {
                 }
             }
             Instruction::When { name, relation } => {
-                self.branch(accepted, chroot, archive, *name, relation);
-                Turn::Moved
+                Turn::Branched(self.branch(accepted, chroot, archive, *name, relation))
             }
             _ => {
                 self.local(accepted, chroot, instruction);

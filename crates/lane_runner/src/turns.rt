@@ -1,13 +1,14 @@
 //! A lane that takes its turns one by one.
 
-ghost use Rattle.std.specs.Prelude.{◌≡◌, ◌<◌, ◌++◌, ◌∷◌, [], ℕ, None, Some, IfSome, IsSome, length};
+ghost use Rattle.std.specs.Prelude.{◌≡◌, ◌<◌, ◌++◌, ◌∷◌, [], ℕ, suc, Bool, None, Some, IfSome, IsSome, length};
 ghost use Rattle.chroot_state.specs.Held.{IsHeld, opened};
 ghost use Rattle.deb_relation.specs.Relations.{Entry};
 ghost use Rattle.farm_archive.specs.declared.publication.Publication as publication;
 ghost use Rattle.lane_records.specs.Records.{after_draw};
-ghost use Rattle.lane_runner.specs.Calls.{HasKept, IsLastOutput, IsRunning, IsSameEnd};
+ghost use Rattle.farm_model.specs.declared.types.Variant as variant;
+ghost use Rattle.lane_runner.specs.Calls.{HasKept, IsBranched, IsLastOutput, IsPicked, IsRunning, IsSameEnd};
 ghost use Rattle.lane_runner.specs.OnWay.{IsEnded, IsFresh};
-ghost use Rattle.lane_runner.specs.declared.turn.Turn.TheVariants.{Moved, Published, Waits};
+ghost use Rattle.lane_runner.specs.declared.turn.Turn.TheVariants.{Moved, Unpacked, Branched, Published, Waits};
 ghost use Rattle.plan_model.specs.declared.instructions.Instruction.TheVariants.{Publish, Wait};
 ghost use Rattle.plan_model.specs.Plan as plan;
 ghost use Rattle.plan_model.specs.Plan.{instruction_at};
@@ -71,6 +72,14 @@ impl<'a, E: LaneArchive + Drop> LaneTurns<'a, E> {
         ensures drawn { (h : publication.Publication) → result ≡ Some (Published h)
             → (E.log self.new.end).serials ≡ (E.log self.old.end).serials ++ h.serial ∷ [] }
         ensures moved { result ≡ Some Moved → self.old.runner.done < self.new.runner.done }
+        ensures picked { (v : variant.Variant) → result ≡ Some (Unpacked v)
+            → (self.old.runner.done < self.new.runner.done)
+            × IsPicked self.new.accepted.now self.old.runner.lane (suc self.old.runner.done)
+            self.new.chroot (E.log self.new.end) v }
+        ensures branched { (holds : Bool) → result ≡ Some (Branched holds)
+            → (self.old.runner.done < self.new.runner.done)
+            × IsBranched self.new.accepted.now self.old.runner.lane (suc self.old.runner.done)
+            (E.log self.new.end) holds }
         ensures waits { result ≡ Some Waits → (self.new.runner ≡ self.old.runner)
             × ((entry : Entry) × (instruction_at self.old.accepted.now.plan self.old.runner.lane
             self.old.runner.done ≡ Some (Wait entry))) }

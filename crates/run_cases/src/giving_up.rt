@@ -3,7 +3,7 @@
 use crate::toolchain::accepted_plan;
 use farm_archive::Publication;
 use farm_executor::{RunFault, run_farm};
-use lane_runner::{GAVE_UP, Gate, Go, HALTED, LaneArchive, LaneStop};
+use lane_runner::{GAVE_UP, Gate, Go, HALTED, LaneArchive, LaneStop, Place};
 use plan_verifier::Accepted;
 use std::alloc::Global;
 use std::mem::ManuallyDrop;
@@ -57,7 +57,10 @@ impl GivesUp {
 impl Gate for GivesUp {
     ghost may_give_up = { λ _. Unit {0} };
 
-    fn before(&self, lane: u32, instruction: u32) -> Go {
+    fn before(&self, place: Place<'_>) -> Go {
+        let Place {
+            lane, instruction, ..
+        } = place;
         match self.at {
             At::Before {
                 lane: l,

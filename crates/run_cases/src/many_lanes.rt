@@ -2,7 +2,7 @@
 
 use farm_archive::Publication;
 use farm_executor::{Bell, FarmRun, run_farm};
-use lane_runner::{Gate, Go, LaneArchive};
+use lane_runner::{Gate, Go, LaneArchive, Place};
 use plan_verifier::{Accepted, check};
 use std::alloc::{AllocError, Global};
 use std::mem::ManuallyDrop;
@@ -58,14 +58,15 @@ fn waits_for_next(begun: &Vec<bool>, lane: u32) -> bool {
 impl<R: Wait> Gate for InTurn<'_, R> {
     ghost may_give_up = { λ _. Unit {0} };
 
-    fn before(&self, lane: u32, instruction: u32) -> Go {
+    fn before(&self, place: Place<'_>) -> Go {
+        let lane = place.lane;
         let mut begun = self.begun.lock(self.rt);
         begin(&mut begun, lane);
         self.changed.notify_all();
         let _begun = self
             .changed
             .wait_while(self.rt, begun, |begun| waits_for_next(begun, lane));
-        self.bell.before(lane, instruction)
+        self.bell.before(place)
     }
 
     fn pause(&self, lane: u32, instruction: u32) -> Go {

@@ -3,7 +3,7 @@
 use crate::toolchain::accepted_plan;
 use farm_archive::Publication;
 use farm_executor::run_farm;
-use lane_runner::{Gate, Go, LaneArchive};
+use lane_runner::{Gate, Go, LaneArchive, Place};
 use plan_verifier::Accepted;
 use std::alloc::Global;
 use std::mem::ManuallyDrop;
@@ -23,7 +23,7 @@ struct Patient {
 impl Gate for Patient {
     ghost may_give_up = { λ _. Unit {0} };
 
-    fn before(&self, _lane: u32, _instruction: u32) -> Go {
+    fn before(&self, _place: Place<'_>) -> Go {
         Go::Continue
     }
 

@@ -2,7 +2,7 @@
 
 use farm_archive::Publication;
 use farm_executor::{FarmRun, run_farm};
-use lane_runner::{Gate, Go, LaneArchive};
+use lane_runner::{Gate, Go, LaneArchive, Place};
 use plan_verifier::{Accepted, check};
 use std::alloc::Global;
 use std::mem::ManuallyDrop;
@@ -50,8 +50,8 @@ impl Together {
 impl Gate for Together {
     ghost may_give_up = { λ _. Unit {0} };
 
-    fn before(&self, _lane: u32, instruction: u32) -> Go {
-        let come = self.come_to(instruction);
+    fn before(&self, place: Place<'_>) -> Go {
+        let come = self.come_to(place.instruction);
         come.fetch_add(1, Ordering::SeqCst);
         for _ in 0..MOST {
             if come.load(Ordering::SeqCst) >= LANES {

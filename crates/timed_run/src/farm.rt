@@ -33,10 +33,12 @@ pub trait Farm {
 
     /// The place of a lane, the number of instructions before it.
     fn done(&self, lane: usize) -> u32
+        requires { lane < length (plan self.now) }
         ensures { result ≡ (lane_state (state self.now) lane).done };
 
     /// What a lane has spent.
     fn spent(&self, lane: usize) -> u64
+        requires { lane < length (plan self.now) }
         ensures { result ≡ (lane_state (state self.now) lane).spent };
 
     /// How many variants were published.

@@ -37,7 +37,9 @@ fn play<F: Farm>(
     requires counted { count (F.universe farm.old) (F.plan farm.old) < 2 ^ 64 }
     requires timing { IsTiming (F.universe farm.old) (F.plan farm.old) events.old.items
         (F.state farm.old) clocks.old.items }
-    ensures { OnOk result
+    ensures universe { F.universe farm.new ≡ F.universe farm.old }
+    ensures plan { F.plan farm.new ≡ F.plan farm.old }
+    ensures ended { OnOk result
         (IsEnded (F.universe farm.old) (F.plan farm.old) events.new.items) }
 {
     while let Some(lane) = earliest(farm, clocks) {
@@ -70,7 +72,9 @@ pub fn timed_run<F: Farm>(alloc: Global, farm: &mut F, lanes: usize) -> Result<T
     requires counted { count (F.universe farm.old) (F.plan farm.old) < 2 ^ 64 }
     requires begins { F.state farm.old ≡ start (F.universe farm.old) (F.plan farm.old) }
     requires lanes { lanes ≡ length (F.plan farm.old) }
-    ensures { IfOk result (λ run. IsTimedRun (F.universe farm.old) (F.plan farm.old)
+    ensures universe { F.universe farm.new ≡ F.universe farm.old }
+    ensures plan { F.plan farm.new ≡ F.plan farm.old }
+    ensures run { IfOk result (λ run. IsTimedRun (F.universe farm.old) (F.plan farm.old)
         run.events.items run.end) }
 {
     let fresh = Clock {

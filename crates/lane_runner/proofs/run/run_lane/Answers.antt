@@ -1,6 +1,8 @@
-use Rattle.std.proofs.Common.{refl, ap, subst}
+use Rattle.std.proofs.Common.{◌≡◌, suc, ◌+◌, ◌<◌, length, refl, ap, subst, arith}
+use Rattle.lane_runner.specs.Calls.{IsBranched, IsPicked}
 use Rattle.lane_runner.specs.OnWay.{IsEnded}
 use Rattle.lane_runner.specs.declared.runner.Runner.{Runner}
+use Rattle.plan_model.specs.Plan.{lane}
 use Rattle.plan_verifier.specs.Accepted.{known_rows}
 use Rattle.lane_runner.proofs.Ends.{ends}
 use Rattle.lane_runner.proofs.run.run_lane.Goals as goal
@@ -31,3 +33,50 @@ returns-then-has_ended-clause-ended g c =
 pub published-requires-clause-there : goal.published-requires-clause-there
 published-requires-clause-there g c =
     c.turn.ensures.last c.in-Published.publication c.in-Published.is
+
+pub before-requires : goal.before-requires
+before-requires g c =
+    let w = c.loop.runner in
+    record {
+      ahead = record {
+        in_plan = c.requires.lane;
+        place = w.done;
+        number_is = omega arith;
+        there = subst (λ l. w.done < length (lane c.args.accepted.now.plan l).instructions)
+            c.loop.invariant.number
+            (c.has_ended.ensures.left c.if-has_ended.false);
+        held = c.loop.invariant.running.on.held;
+      };
+    }
+
+pub unpacked-requires : goal.unpacked-requires
+unpacked-requires g c =
+    let w = c.loop.runner in
+    let next : suc w.done ≡ w.done + 1 = omega arith in
+    record {
+      picked = subst (λ n. IsPicked c.args.accepted.now c.args.lane n c.turn.new.chroot
+          (g.A.LaneArchive.log c.turn.new.archive) c.in-Unpacked.variant)
+          next
+          (subst (λ l. IsPicked c.args.accepted.now l (suc w.done) c.turn.new.chroot
+          (g.A.LaneArchive.log c.turn.new.archive) c.in-Unpacked.variant)
+          c.loop.invariant.number
+          (c.turn.ensures.picked c.in-Unpacked.variant c.in-Unpacked.is).2);
+    }
+
+pub give_up-requires-then-eq-2 : goal.give_up-requires-then-eq-2
+give_up-requires-then-eq-2 g c = (c.turn.ensures.picked c.in-Unpacked.variant c.in-Unpacked.is).1
+
+pub branched-requires : goal.branched-requires
+branched-requires g c =
+    let w = c.loop.runner in
+    let next : suc w.done ≡ w.done + 1 = omega arith in
+    let holds = c.in-Branched.holds in
+    record {
+      branched = subst (λ n. IsBranched c.args.accepted.now c.args.lane n
+          (g.A.LaneArchive.log c.turn.new.archive) holds)
+          next
+          (subst (λ l. IsBranched c.args.accepted.now l (suc w.done)
+          (g.A.LaneArchive.log c.turn.new.archive) holds)
+          c.loop.invariant.number
+          (c.turn.ensures.branched holds c.in-Branched.is).1);
+    }

@@ -11,8 +11,8 @@ earliest-requires-clause-fit g c l d at =
     (subst (λ cs. slice_get cs l ≡ Some d) c.deref.ensures.value at) in
     omega (arith, wide)
 
-pub returns : goal.returns
-returns g c =
+pub returns-clause-ended : goal.returns-clause-ended
+returns-clause-ended g c =
     ended-all (g.F.Farm.universe c.args.farm.now) (g.F.Farm.plan c.args.farm.now)
     c.requires.sound c.requires.safe c.loop-lane.events.items (g.F.Farm.state c.loop-lane.farm)
     c.loop-lane.clocks.items c.loop-lane.invariant.timing

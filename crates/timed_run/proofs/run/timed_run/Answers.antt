@@ -17,10 +17,10 @@ play-requires-clause-timing g c =
     (begun (g.F.Farm.universe c.args.farm.now) (g.F.Farm.plan c.args.farm.now) c.args.lanes
     c.in_ok-clocks.clocks.items all c.requires.lanes))
 
-pub returns : goal.returns
-returns g c =
+pub returns-clause-run : goal.returns-clause-run
+returns-clause-run g c =
     timed (g.F.Farm.universe c.args.farm.now) (g.F.Farm.plan c.args.farm.now)
-    c.play.new.events.items c.last_end-end.result c.in_ok-play.ensures
+    c.play.new.events.items c.last_end-end.result c.in_ok-play.ensures.ended
     (subst (All (λ (e : Event). e.end ≤ c.last_end-end.result)) c.deref.ensures.value
     c.last_end-end.ensures.greatest)
     (subst (λ es. IsReached es c.last_end-end.result) c.deref.ensures.value

@@ -12,3 +12,10 @@ returns-then-has_ended-clause-ended g c = λ none.
 
 pub returns-clause-last : goal.returns-clause-last
 returns-clause-last g c = λ h is. c.turn.ensures.last h (same_Some _ _ is)
+
+pub returns-clause-picked : goal.returns-clause-picked
+returns-clause-picked g c = λ v is.
+    let p = c.turn.ensures.picked v (same_Some _ _ is) in (p.0, p.2)
+
+pub returns-clause-branched : goal.returns-clause-branched
+returns-clause-branched g c = λ holds is. c.turn.ensures.branched holds (same_Some _ _ is)

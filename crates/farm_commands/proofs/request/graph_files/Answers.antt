@@ -1,0 +1,20 @@
+use Rattle.std.proofs.Common.{subst}
+use Rattle.farm_commands.specs.Pictures.{AnswersGraph}
+use Rattle.farm_commands.specs.Requests.{AreCalled, named, OnFiles}
+use Rattle.farm_commands.specs.View.{texts_in_files}
+use Rattle.farm_commands.proofs.AnswerLaws.{answered-by, unless-answered}
+use Rattle.farm_commands.proofs.request.graph_files.Goals as goal
+use Rattle.farm_input.specs.View.{texts_view}
+
+pub returns : goal.returns
+returns g c =
+    unless-answered (AreCalled c.args.paths) _ _ _ _
+    (answered-by (AnswersGraph c.args.json (texts_view c.texts.result))
+    (OnFiles (named (g.F.Source.held c.args.source.now) (g.F.Source.given c.args.source.now))
+    c.args.paths (AnswersGraph c.args.json)) _ _ _
+    (λ text status is. (
+      texts_in_files c.in_ok-files.files,
+      c.in_ok-files.ensures.read,
+      subst (λ texts. AnswersGraph c.args.json texts text status) c.texts.ensures is,
+    ))
+    c.answer_graph.ensures)

@@ -1,0 +1,98 @@
+//! The core at work, as a timed run asks of it.
+
+ghost use Rattle.std.specs.Prelude.{◌≡◌, IfOk};
+ghost use Rattle.plan_model.specs.Plan.{count};
+ghost use Rattle.plan_model.specs.Run.{start};
+ghost use Rattle.plan_model.specs.Sound.{IsPlan};
+
+use crate::waits::{instruction_at, rests_behind, waits_for};
+use farm_core::{Core, Step};
+use farm_universe::{Universe, Variant};
+use plan_asm::{Instruction, Plan};
+use std::alloc::{AllocError, Global};
+use timed_run::Farm;
+
+/// The core of a farm, whose lanes take their turns in a timed run.
+#[derive(Drop)]
+pub struct AtWork<'a> {
+    core: Core<'a>,
+}
+
+impl<'a> AtWork<'a> {
+    /// Puts each lane of a plan at its beginning.
+    ///
+    /// # Errors
+    ///
+    /// Where memory is refused. Nothing is left behind.
+    pub fn open(
+        alloc: Global,
+        universe: &'a Universe,
+        plan: &'a Plan,
+    ) -> Result<AtWork<'a>, AllocError>
+        requires plan { IsPlan universe.now plan.now.lanes }
+        requires counted { plan.now.count ≡ count universe.now plan.now.lanes }
+        ensures universe { IfOk result (λ w. w.core.universe ≡ universe.now) }
+        ensures plan { IfOk result (λ w. w.core.plan ≡ plan.now) }
+        ensures state { IfOk result (λ w. w.core.state ≡ start universe.now plan.now.lanes) }
+    {
+        let core = Core::open(alloc, universe, plan)?;
+        Ok(AtWork { core })
+    }
+}
+
+impl Farm for AtWork<'_> {
+    ghost universe = { λ w. w.core.universe };
+
+    ghost plan = { λ w. w.core.plan.lanes };
+
+    ghost state = { λ w. w.core.state };
+
+    fn step(&mut self, lane: usize) -> bool {
+        if lane >= self.core.plan().lanes() {
+            return false;
+        }
+        matches!(self.core.step(lane as u32), Step::Moved)
+    }
+
+    fn done(&self, lane: usize) -> u32 {
+        let _lanes = self.core.plan().lanes();
+        self.core.done(lane as u32)
+    }
+
+    fn spent(&self, lane: usize) -> u64 {
+        let _lanes = self.core.plan().lanes();
+        self.core.spent(lane as u32)
+    }
+
+    fn published(&self) -> usize {
+        self.core.history().len()
+    }
+
+    fn output_behind(&self, published: usize) -> Option<Variant> {
+        match self.core.history().get(published) {
+            Some(publication) => Some(publication.variant),
+            None => None,
+        }
+    }
+
+    fn gives(&self, lane: usize) -> bool {
+        match instruction_at(self.core.plan(), lane, self.done(lane)) {
+            Some(instruction) => matches!(instruction, Instruction::Publish(_)),
+            None => false,
+        }
+    }
+
+    fn stays(&self, lane: usize, variant: Variant) -> bool {
+        rests_behind(
+            self.core.universe(),
+            self.core.plan(),
+            lane,
+            self.done(lane),
+            variant,
+        )
+    }
+
+    fn lets_pass(&self, lane: usize, place: u32, variant: Variant) -> bool {
+        waits_for(self.core.universe(), self.core.plan(), lane, place, variant)
+    }
+}

@@ -1,0 +1,2 @@
+mod LaneLists
+mod Times

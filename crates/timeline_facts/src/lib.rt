@@ -1,0 +1,17 @@
+//! What a timed run shows: the times of its lanes, what each wait waits for, and how much later a build could end.
+#![tactic(auto)]
+
+mod archive;
+mod causes;
+mod counts;
+mod facts;
+mod givers;
+mod lanes;
+mod slack;
+mod timed_plan;
+
+pub use counts::push_count;
+pub use facts::Facts;
+pub use givers::{Giver, Givers};
+pub use lanes::{LaneFacts, LaneTime};
+pub use timed_plan::{TimedPlan, waited};

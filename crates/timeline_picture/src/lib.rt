@@ -1,0 +1,16 @@
+//! The timed run of a plan as a picture for a browser.
+#![tactic(auto)]
+
+mod arrows;
+mod bars;
+mod drawing;
+mod frame;
+mod legend;
+mod pieces;
+mod scale;
+mod style;
+mod svg;
+mod titles;
+mod xml;
+
+pub use svg::timeline_svg;

@@ -1,0 +1,14 @@
+//! The timed run of a plan in lines of text.
+#![tactic(auto)]
+
+mod answer;
+mod bars;
+mod best;
+mod bounds;
+mod builds;
+mod critical_path;
+mod lane_lines;
+mod marks;
+mod story;
+
+pub use answer::{Layout, timeline_text};
