@@ -14,7 +14,7 @@ import certificates
 from core import TRAPS, Farm, step
 from json_answers import member_line
 from plans import read_plan
-from portfarm import FILES, answer, cut_input, read_schedule
+from portfarm import FILES, answer, cut_input, drafted, read_draft_words, read_schedule
 from relations import NEED, read_field
 from texts import Fault
 from universe import read_universe
@@ -243,6 +243,8 @@ def on_words(machine, question):
         else:
             files[current] += line
     files["-"] = files[""]
+    if words[:1] == ["draft"]:
+        return None if word != "run" or broken else on_draft(files, words[1:])
     options = [it for it in words[1:] if it in ("--json", "--bars", "--full")]
     words = [it for it in words if it and it not in options]
     schedule = words.pop(2) if words[:2] == ["step", "--schedule"] and len(words) > 2 else None
@@ -265,6 +267,17 @@ def on_words(machine, question):
     if path is not None:
         written = [member_line(written, path)]
     return [f"status {status}", *(f"| {line}" for line in written)]
+
+
+def on_draft(files, words):
+    """What `draft` answers to files, on both outputs; None for words or files that the model does not judge."""
+    read = read_draft_words(words)
+    if read is None or read[2].count("-") > 1 or not all(name in files for name in read[2]):
+        return None
+    flags, lanes, paths = read
+    texts = dict(zip(FILES, (files[name] for name in paths)))
+    written, status, told = drafted(texts, lanes, flags)
+    return [f"status {status}", *(f"| {line}" for line in written), *(f"! {line}" for line in told)]
 
 
 def cut_certificate(text):

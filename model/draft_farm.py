@@ -40,8 +40,11 @@ class DraftFarm:
         return self.universe.variants[variant.name]
 
     def satisfying(self, alternative):
-        own = [it for it in reversed(self.universe.variants.get(alternative.name, [])) if it.is_one(alternative)]
-        others = [it for it in self._providers.get(alternative.name, []) if it.is_one(alternative)]
+        if alternative.qualifier is not None:
+            return []
+        same = reversed(self.universe.variants.get(alternative.name, []))
+        own = [it for it in same if alternative.in_relation(it.version)]
+        others = [it for it in self._providers.get(alternative.name, []) if it.provides(alternative)]
         return list(dict.fromkeys(own + others))
 
     def meets(self, entry):

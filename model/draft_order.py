@@ -89,8 +89,9 @@ class Reasons:
     def lines(self):
         graph, told, lines = {}, [], []
         for recipe in self.stuck:
+            held = None
             for held in self.order.bases(recipe):
-                rank = lambda it: self.farm.giver.get(it) in self.stuck  # noqa: E731
+                rank = lambda it, held=held: (it not in held and it.is_essential, self.farm.giver.get(it) in self.stuck)  # noqa: E731
                 found, _ = look(self.farm, recipe, held, held, self.every, rank)
                 if found is not None:
                     graph[recipe] = self.edges(recipe, held, found)
@@ -138,6 +139,8 @@ class Reasons:
 
     def never(self, recipe, held):
         lines = [f"refused 801 recipe {recipe.name}"]
+        if held is None:
+            return [*lines, "  the plan has no lane"]
         for entry in recipe.needs:
             if self.is_hopeless(entry, held, recipe.clashes):
                 return [*lines, self.need(recipe, entry), *self.chain(entry, held, set())]

@@ -12,8 +12,8 @@
   model/portfarm.py draft [--partial] [--rest] PACKAGES SOURCES FARM SKETCH
   model/portfarm.py                   the verdict on the four texts of standard input, divided by lines `%%`
 
-It is slow, it shares no code with the crates, and the texts of wrong words are its own. `draft` (RULES, section 15) is a
-command of the model alone, and `timeline --svg` one of the program alone.
+It is slow, it shares no code with the crates, and the texts of wrong words are its own. `timeline --svg` is a command of the
+program alone.
 """
 
 import sys
@@ -172,9 +172,9 @@ def drafted(texts, lanes, flags):
     return plan, 0, told
 
 
-def draft_words(words):
-    """Answers the words behind `draft`, and gives the status."""
-    flags, lanes = set(), None
+def read_draft_words(words):
+    """The flags, the number of lanes or None, and the paths of the words behind `draft`; None where they are wrong."""
+    flags, lanes, words = set(), None, list(words)
     while words[:1] and words[0].startswith("--"):
         flags.add(words.pop(0))
         if "--lanes" in flags and lanes is None:
@@ -182,10 +182,19 @@ def draft_words(words):
     is_number = lanes is None or lanes.isdigit() and 1 <= int(lanes) <= 64
     is_known = flags <= {"--partial", "--rest" if lanes is None else "--lanes"}
     if not is_number or not is_known or len(words) != (4 if lanes is None else 3):
+        return None
+    return flags, None if lanes is None else int(lanes), words
+
+
+def draft_words(words):
+    """Answers the words behind `draft`, and gives the status."""
+    read = read_draft_words(words)
+    if read is None:
         print(__doc__, file=sys.stderr)
         return 2
-    texts = dict(zip(FILES, map(text_of, words)))
-    lines_, status, told = drafted(texts, None if lanes is None else int(lanes), flags)
+    flags, lanes, paths = read
+    texts = dict(zip(FILES, map(text_of, paths)))
+    lines_, status, told = drafted(texts, lanes, flags)
     sys.stderr.write("".join(f"{line}\n" for line in told))
     sys.stdout.buffer.write("".join(f"{line}\n" for line in lines_).encode("latin-1"))
     return status

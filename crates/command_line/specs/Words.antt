@@ -4,6 +4,7 @@
 --   IsWord words text          a word is this text
 --   EndsWord words text        a word ends with this text, as `--schedule=0,1` with `0,1`
 --   ArePathWords words paths   the names of the four files are words
+--   AreFarmWords words paths   the names of the three files of a farm are
 --   IsAskedBy words asked      what is asked for has its names and its schedule from the words
 --   IsRefusedFor words fault   a bad schedule comes from the words, and is none
 use Rattle.std.specs.Prelude.{◌≡◌, ℕ, true, ◌==◌, List, [], Ok, Err}
@@ -11,13 +12,14 @@ use Rattle.std.specs.List.{ends_with, list_any}
 use Rattle.std.specs.Str.{bytes_eq}
 use Rattle.command_line.specs.declared.request.Asked.{Asked}
 use Rattle.command_line.specs.declared.request.Asked.TheVariants.{Answer, Run}
+use Rattle.command_line.specs.declared.request.FarmPaths.{FarmPaths}
 use Rattle.command_line.specs.declared.request.Paths.{Paths}
 use Rattle.command_line.specs.declared.request.Request.{Request}
-use Rattle.command_line.specs.declared.request.Request.TheVariants.{CheckInput, Check, Explain, List as ListPlan, Cert, VerifyCert, Step, StepBy, Timeline, Graph}
+use Rattle.command_line.specs.declared.request.Request.TheVariants.{CheckInput, Check, Explain, List as ListPlan, Cert, VerifyCert, Step, StepBy, Timeline, Graph, Draft, DraftLanes}
 use Rattle.command_line.specs.declared.request.WordsFault.{WordsFault}
 use Rattle.command_line.specs.declared.request.WordsFault.TheVariants.{Help, Wrong, BadSchedule, Memory}
 use Rattle.command_line.specs.declared.schedule.ScheduleFault.{ScheduleFault}
-use Rattle.command_line.specs.Schedule.{schedule_of}
+use Rattle.command_line.specs.Schedule.{lane_at, schedule_of}
 
 abbrev pub IsWord : List (List ℕ) → List ℕ → Type 0
 IsWord words text = list_any (λ word. bytes_eq word text) words ≡ true
@@ -30,6 +32,15 @@ pub record ArePathWords (words : List (List ℕ)) (paths : Paths) : Type 0 where
   pub sources : IsWord words paths.sources.now
   pub farm : IsWord words paths.farm.now
   pub plan : IsWord words paths.plan.now
+
+pub record AreFarmWords (words : List (List ℕ)) (paths : FarmPaths) : Type 0 where
+  pub packages : IsWord words paths.packages.now
+  pub sources : IsWord words paths.sources.now
+  pub farm : IsWord words paths.farm.now
+
+-- a word ends with a text that is this number
+abbrev pub HasNumber : List (List ℕ) → ℕ → Type 0
+HasNumber words number = (text : List ℕ) × EndsWord words text × (lane_at text ≡ Ok number)
 
 -- a word ends with a text that is this schedule
 abbrev pub HasSchedule : List (List ℕ) → List ℕ → Type 0
@@ -48,6 +59,9 @@ IsRequestedBy words (Step schedule paths) =
 IsRequestedBy words (StepBy list paths) = EndsWord words list.now × ArePathWords words paths
 IsRequestedBy words (Timeline paths form full) = ArePathWords words paths
 IsRequestedBy words (Graph paths json) = ArePathWords words paths
+IsRequestedBy words (Draft paths rest partial) = ArePathWords words paths
+IsRequestedBy words (DraftLanes paths lanes partial) =
+    HasNumber words lanes × AreFarmWords words paths
 
 abbrev pub IsAskedBy : List (List ℕ) → Asked → Type 0
 IsAskedBy words (Answer request) = IsRequestedBy words request

@@ -3,9 +3,9 @@
 ghost use Rattle.std.specs.Prelude.{◌≡◌, ◌==◌, map, true};
 ghost use Rattle.std.specs.List.{ends_with, list_any};
 ghost use Rattle.std.specs.Str.{bytes_eq};
-ghost use Rattle.command_line.specs.Words.{ArePathWords, EndsWord, IsWord};
+ghost use Rattle.command_line.specs.Words.{AreFarmWords, ArePathWords, EndsWord, IsWord};
 
-use crate::request::Paths;
+use crate::request::{FarmPaths, Paths};
 use std::convert::AsStr;
 
 /// Tells whether a word is this text.
@@ -39,4 +39,17 @@ pub fn are_words<S: AsStr>(words: &[S], paths: Paths<'_>) -> bool
         return false;
     }
     is_word(words, paths.plan)
+}
+
+/// Tells whether the names of the three files are words.
+pub fn are_farm_words<S: AsStr>(words: &[S], paths: FarmPaths<'_>) -> bool
+    ensures { result ≡ true → AreFarmWords (map S.text words.now) paths.entry }
+{
+    if !is_word(words, paths.packages) {
+        return false;
+    }
+    if !is_word(words, paths.sources) {
+        return false;
+    }
+    is_word(words, paths.farm)
 }

@@ -33,6 +33,9 @@ pub const TIMELINE: &str = "timeline";
 /// The command `graph`.
 pub const GRAPH: &str = "graph";
 
+/// The command `draft`.
+pub const DRAFT: &str = "draft";
+
 /// The parameter with the name of the Packages index.
 pub const PACKAGES: &str = "packages";
 
@@ -47,6 +50,18 @@ pub const PLAN: &str = "plan";
 
 /// The parameter with the name of the certificate.
 pub const CERTIFICATE: &str = "certificate";
+
+/// The parameter with the name of the sketch.
+pub const SKETCH: &str = "sketch";
+
+/// The option `--lanes`.
+pub const LANES: &str = "lanes";
+
+/// The option `--rest`.
+pub const REST: &str = "rest";
+
+/// The option `--partial`.
+pub const PARTIAL: &str = "partial";
 
 /// The option `--schedule`.
 pub const SCHEDULE: &str = "schedule";
@@ -89,8 +104,8 @@ fn schedule<'a>(alloc: Global) -> Arg<'a> {
         .help(help::SCHEDULE)
 }
 
-/// A command over the files of the four texts.
-fn on_files<'a>(
+/// A command over the files of a farm.
+fn on_farm<'a>(
     alloc: Global,
     name: &'a str,
     about: &'a str,
@@ -101,8 +116,17 @@ fn on_files<'a>(
         .after_long_help(more)
         .arg(file(alloc, PACKAGES, "PACKAGES", help::PACKAGES))?
         .arg(file(alloc, SOURCES, "SOURCES", help::SOURCES))?
-        .arg(file(alloc, FARM, "FARM", help::FARM))?
-        .arg(file(alloc, PLAN, "PLAN", help::PLAN))
+        .arg(file(alloc, FARM, "FARM", help::FARM))
+}
+
+/// A command over the files of the four texts.
+fn on_files<'a>(
+    alloc: Global,
+    name: &'a str,
+    about: &'a str,
+    more: &'a str,
+) -> Result<Command<'a>, AllocError> {
+    on_farm(alloc, name, about, more)?.arg(file(alloc, PLAN, "PLAN", help::PLAN))
 }
 
 /// The program's name, version and help.
@@ -156,6 +180,25 @@ fn step<'a>(alloc: Global) -> Result<Command<'a>, AllocError> {
 /// The command that runs the lanes.
 fn run<'a>(alloc: Global) -> Result<Command<'a>, AllocError> {
     on_files(alloc, RUN, help::RUN, help::RUN_MORE)?.arg(flag(alloc, PROGRESS, help::PROGRESS))
+}
+
+/// What `draft` is to go by: a sketch, or a number of lanes in place of it.
+fn with_sketch<'a>(alloc: Global, command: Command<'a>) -> Result<Command<'a>, AllocError> {
+    let sketch = Arg::new(alloc, SKETCH).value_name("SKETCH");
+    let sketch = sketch.required_unless_present(LANES)?;
+    let lanes = Arg::new(alloc, LANES).long(LANES).value_name("N");
+    let lanes = lanes.conflicts_with(SKETCH)?.conflicts_with(REST)?;
+    command
+        .arg(sketch.help(help::SKETCH))?
+        .arg(lanes.help(help::LANES))
+}
+
+/// The command that drafts a plan.
+fn draft<'a>(alloc: Global) -> Result<Command<'a>, AllocError> {
+    let command = on_farm(alloc, DRAFT, help::DRAFT, help::DRAFT_MORE)?;
+    with_sketch(alloc, command)?
+        .arg(flag(alloc, REST, help::REST))?
+        .arg(flag(alloc, PARTIAL, help::PARTIAL))
 }
 
 /// The ways to show a timeline, of which one alone may be asked for.
@@ -214,5 +257,6 @@ pub fn portfarm<'a>(alloc: Global) -> Result<Command<'a>, AllocError> {
     let program = program.subcommand(verify_cert(alloc)?)?;
     let program = program.subcommand(step(alloc)?)?;
     let program = program.subcommand(run(alloc)?)?;
-    with_pictures(alloc, program)
+    let program = with_pictures(alloc, program)?;
+    program.subcommand(draft(alloc)?)
 }

@@ -212,6 +212,29 @@ Example:
 
 Status: 0 drawn, 1 refused, 2 wrong words, 3 nothing could be answered";
 
+/// What `draft` does, in a line.
+pub const DRAFT: &str = "\
+Drafts a plan that `check` accepts, from lanes and builds alone";
+
+/// What the help of `draft` says behind that line.
+pub const DRAFT_MORE: &str = "\
+The answer is a plan, with what has to be unpacked, configured, removed and
+waited for around each build. A sketch is a plan that leaves out all but its
+`lane`, `build` and `end` lines; a whole plan is one too. Its lanes are kept,
+and each builds what it builds there, in that order. With `--lanes` in place of
+it, every recipe of the farm is built in some lane, and lanes have what budget
+they need. The plan is checked before it is printed.
+
+Where a recipe cannot be built, the answer is why: `refused 801 recipe R` and
+the first need that nothing can meet, or `refused 802 recipes R S ..` and a
+circle of builds. With `--partial` such recipes are left out, and the error
+output says so.
+
+Example:
+  portfarm draft --lanes 4 packages sources farm > plan
+
+Status: 0 drafted, 1 refused, 2 wrong words, 3 nothing could be answered";
+
 /// What the Packages index is, in a line.
 pub const PACKAGES: &str = "Packages index: versions, sizes and relations";
 
@@ -226,6 +249,18 @@ pub const PLAN: &str = "The plan: lanes of instructions, and blocks";
 
 /// What the certificate is, in a line.
 pub const CERTIFICATE: &str = "The certificate of the plan, as `cert` prints it";
+
+/// What the sketch is, in a line.
+pub const SKETCH: &str = "A plan of which lanes and builds are taken alone";
+
+/// What `--lanes` does, in a line.
+pub const LANES: &str = "Build all recipes in so many lanes, 1 to 64";
+
+/// What `--rest` does, in a line.
+pub const REST: &str = "Build the recipes too that the sketch does not";
+
+/// What `--partial` does, in a line.
+pub const PARTIAL: &str = "Leave out what cannot be built";
 
 /// What `--progress` does, in a line.
 pub const PROGRESS: &str = "Tell of publications and waits on the error output";

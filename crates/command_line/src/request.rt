@@ -1,14 +1,15 @@
 //! What the words ask for.
 
 ghost use Rattle.std.specs.Prelude.{◌≡◌, ℕ, List, IfErr, IfOk, IsOkAnd, length, map};
-ghost use Rattle.command_line.specs.Words.{ArePathWords, IsAskedBy, IsRefusedFor, IsRequestedBy};
+ghost use Rattle.command_line.specs.Words.{AreFarmWords, ArePathWords, IsAskedBy, IsRefusedFor, IsRequestedBy};
 
-use crate::among::{are_words, ends_word, is_word};
+use crate::among::{are_farm_words, are_words, ends_word, is_word};
 use crate::command::{
-    BARS, CERT, CERTIFICATE, CHECK, EXPLAIN, FARM, FULL, GRAPH, INPUT, JSON, LIST, NUMBER,
-    PACKAGES, PLAN, PROGRESS, RUN, SCHEDULE, SOURCES, STEP, SVG, TIMELINE, VERIFY_CERT, portfarm,
+    BARS, CERT, CERTIFICATE, CHECK, DRAFT, EXPLAIN, FARM, FULL, GRAPH, INPUT, JSON, LANES, LIST,
+    NUMBER, PACKAGES, PARTIAL, PLAN, PROGRESS, REST, RUN, SCHEDULE, SKETCH, SOURCES, STEP, SVG,
+    TIMELINE, VERIFY_CERT, portfarm,
 };
-use crate::schedule::{ScheduleFault, read_schedule};
+use crate::schedule::{ScheduleFault, read_lane, read_schedule};
 use clap::error::ErrorKind;
 use clap::{ArgMatches, Error};
 use std::alloc::{AllocError, Global};
@@ -35,6 +36,17 @@ pub enum TimelineForm {
     /// As a picture.
     Svg,
 }
+
+/// The files of a farm without a plan, in the order of the words.
+#[derive(Clone, Copy)]
+pub struct FarmPaths<'a> {
+    pub packages: &'a str,
+    pub sources: &'a str,
+    pub farm: &'a str,
+}
+
+/// The most lanes that a plan is drafted for.
+const MOST_LANES: u32 = 64;
 
 /// What is asked of texts, and answered without waiting.
 #[derive(Drop)]
@@ -83,6 +95,19 @@ pub enum Request<'a> {
     Graph {
         paths: Paths<'a>,
         json: bool,
+    },
+    /// A plan by a sketch, which stands in place of the plan; whether the other recipes are built
+    /// too, and whether what cannot be built is left out.
+    Draft {
+        paths: Paths<'a>,
+        rest: bool,
+        partial: bool,
+    },
+    /// A plan of so many lanes, and whether what cannot be built is left out.
+    DraftLanes {
+        paths: FarmPaths<'a>,
+        lanes: u32,
+        partial: bool,
     },
 }
 
@@ -258,6 +283,86 @@ fn request_of<'a, S: AsStr>(
     }
 }
 
+/// What `draft` asks for by a sketch.
+fn sketch_of<'a, S: AsStr>(
+    alloc: Global,
+    words: &'a [S],
+    matches: &ArgMatches<'a>,
+) -> Result<Asked<'a>, WordsFault>
+    ensures asked { IfOk result (IsAskedBy (map S.text words.entry.now)) }
+    ensures refused { IfErr result (IsRefusedFor (map S.text words.entry.now)) }
+{
+    let paths = Paths {
+        plan: word_of(matches, SKETCH),
+        ..paths_of(matches)
+    };
+    if asks_twice(&paths, "") {
+        return Err(wrong(alloc, "error: `-` can stand for one file alone\n"));
+    }
+    if !are_words(words, paths) {
+        return Err(not_there(alloc));
+    }
+    Ok(Asked::Answer(Request::Draft {
+        paths,
+        rest: matches.get_flag(REST),
+        partial: matches.get_flag(PARTIAL),
+    }))
+}
+
+/// What `draft` asks for by a number of lanes.
+fn lanes_of<'a, S: AsStr>(
+    alloc: Global,
+    words: &'a [S],
+    number: &'a str,
+    paths: FarmPaths<'a>,
+    partial: bool,
+) -> Result<Asked<'a>, WordsFault>
+    requires paths { AreFarmWords (map S.text words.now) paths }
+    ensures asked { IfOk result (IsAskedBy (map S.text words.entry.now)) }
+    ensures refused { IfErr result (IsRefusedFor (map S.text words.entry.now)) }
+{
+    if !ends_word(words, number) {
+        return Err(not_there(alloc));
+    }
+    match read_lane(number.as_bytes()) {
+        Ok(lanes) if lanes >= 1 && lanes <= MOST_LANES => {
+            Ok(Asked::Answer(Request::DraftLanes {
+                paths,
+                lanes,
+                partial,
+            }))
+        }
+        _ => Err(wrong(alloc, "error: `--lanes` takes a number from 1 to 64\n")),
+    }
+}
+
+/// What `draft` asks for.
+fn draft_of<'a, S: AsStr>(
+    alloc: Global,
+    words: &'a [S],
+    matches: &ArgMatches<'a>,
+) -> Result<Asked<'a>, WordsFault>
+    ensures asked { IfOk result (IsAskedBy (map S.text words.entry.now)) }
+    ensures refused { IfErr result (IsRefusedFor (map S.text words.entry.now)) }
+{
+    let Some(number) = matches.get_str(LANES) else {
+        return sketch_of(alloc, words, matches);
+    };
+    let paths = FarmPaths {
+        packages: word_of(matches, PACKAGES),
+        sources: word_of(matches, SOURCES),
+        farm: word_of(matches, FARM),
+    };
+    let names = [paths.packages, paths.sources, paths.farm];
+    if names.iter().filter(|name| **name == INPUT).count() > 1 {
+        return Err(wrong(alloc, "error: `-` can stand for one file alone\n"));
+    }
+    if !are_farm_words(words, paths) {
+        return Err(not_there(alloc));
+    }
+    lanes_of(alloc, words, number, paths, matches.get_flag(PARTIAL))
+}
+
 /// What a command and its words ask for.
 fn asked_of<'a, S: AsStr>(
     alloc: Global,
@@ -329,6 +434,7 @@ pub fn read_words<'a, S: AsStr>(alloc: Global, words: &'a [S]) -> Result<Asked<'
         Err(error) => return Err(fault_of(alloc, error)),
     };
     match matches.subcommand() {
+        Some((DRAFT, matches)) => draft_of(alloc, words, matches),
         Some((command, matches)) => asked_of(alloc, words, command, matches),
         None => Err(no_command(alloc)),
     }

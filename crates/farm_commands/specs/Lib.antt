@@ -1,5 +1,6 @@
 pub mod Answers
 pub mod CertAnswers
+pub mod Drafts
 pub mod Explanations
 pub mod FarmAnswers
 pub mod Pictures

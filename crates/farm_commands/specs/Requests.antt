@@ -5,16 +5,19 @@
 --                     what a name is called, standard input, and the names of four files, where
 --                     they cannot be read
 --   AreFilesRead      the texts of files, each up to the limit
+--   AreFarmFilesRead  the same of a farm without a plan
 --   AnswersRequest    that this text and this status are what is answered to a request
 --   IsRequestAnswered what is written of the answer
 use Rattle.std.specs.Prelude.{◌≡◌, ◌⊎◌, ◌≤◌, ℕ, false, List, length, take, codes, Option, IfSome, Result, if◌then◌else◌}
 use Rattle.std.specs.Str.{bytes_eq}
 use Rattle.farm_input.specs.Input.{Texts, input_texts}
+use Rattle.command_line.specs.declared.request.FarmPaths.{FarmPaths}
 use Rattle.command_line.specs.declared.request.Paths.{Paths}
 use Rattle.command_line.specs.declared.request.Request.{Request}
-use Rattle.command_line.specs.declared.request.Request.TheVariants.{CheckInput, Check, Explain, List as ListPlan, Cert, VerifyCert, Step, StepBy, Timeline, Graph}
+use Rattle.command_line.specs.declared.request.Request.TheVariants.{CheckInput, Check, Explain, List as ListPlan, Cert, VerifyCert, Step, StepBy, Timeline, Graph, Draft, DraftLanes}
 use Rattle.farm_commands.specs.Answers.{AnswersCheck, AnswersListing, AnswersStep, AnswersStepBy, IsAnswered, UnlessUnread}
 use Rattle.farm_commands.specs.CertAnswers.{AnswersCert, AnswersVerifyCert, IsCertAnswered}
+use Rattle.farm_commands.specs.Drafts.{AnswersDraft, AnswersLanes}
 use Rattle.farm_commands.specs.Explanations.{AnswersExplain}
 use Rattle.farm_commands.specs.Pictures.{AnswersGraph, AnswersTimeline, is_json}
 use Rattle.report_sink.specs.Sinks.{SinkState}
@@ -43,6 +46,12 @@ AreCalled paths told =
 abbrev pub AreCalledWith : Paths → List ℕ → List ℕ → Type 0
 AreCalledWith paths name told = AreCalled paths told ⊎ IsCalled name told
 
+-- one of the files of a farm
+abbrev pub AreFarmCalled : FarmPaths → List ℕ → Type 0
+AreFarmCalled paths told =
+    IsCalled paths.packages.now told ⊎ IsCalled paths.sources.now told
+    ⊎ IsCalled paths.farm.now told
+
 -- a text is the first bytes of a file, where these are known
 abbrev pub IsFileRead : Option (List ℕ) → List ℕ → Type 0
 IsFileRead known text = IfSome known (λ bytes. text ≡ take MOST_FILE bytes)
@@ -54,6 +63,13 @@ pub record AreFilesRead (held : List ℕ → Option (List ℕ)) (paths : Paths) 
   pub sources : IsFileRead (held paths.sources.now) texts.sources
   pub farm : IsFileRead (held paths.farm.now) texts.farm
   pub plan : IsFileRead (held paths.plan.now) texts.plan
+
+-- each text of a farm is that of its file
+pub record AreFarmFilesRead (held : List ℕ → Option (List ℕ)) (paths : FarmPaths) (texts : Texts)
+    : Type 0 where
+  pub packages : IsFileRead (held paths.packages.now) texts.packages
+  pub sources : IsFileRead (held paths.sources.now) texts.sources
+  pub farm : IsFileRead (held paths.farm.now) texts.farm
 
 -- the whole of standard input, where it is known, and not over the limit
 abbrev pub IsInput : Option (List ℕ) → List ℕ → Type 0
@@ -69,6 +85,12 @@ abbrev pub OnFiles : (List ℕ → Option (List ℕ)) → Paths → (Texts → L
     → Type 0
 OnFiles held paths Answers text status =
     (texts : Texts) × AreFilesRead held paths texts × Answers texts text status
+
+-- what is answered to the texts of the files of a farm
+abbrev pub OnFarmFiles : (List ℕ → Option (List ℕ)) → FarmPaths → (Texts → List ℕ → ℕ → Type 0)
+    → List ℕ → ℕ → Type 0
+OnFarmFiles held paths Answers text status =
+    (texts : Texts) × AreFarmFilesRead held paths texts × Answers texts text status
 
 -- what is answered to the texts of these files, and to that of one more
 abbrev pub OnFilesAndOne : (List ℕ → Option (List ℕ)) → Paths → List ℕ
@@ -98,6 +120,10 @@ AnswersRequest held given (Timeline paths form full) text status =
     OnFiles (named held given) paths (AnswersTimeline (is_json form)) text status
 AnswersRequest held given (Graph paths json) text status =
     OnFiles (named held given) paths (AnswersGraph json) text status
+AnswersRequest held given (Draft paths rest partial) text status =
+    OnFiles (named held given) paths (AnswersDraft rest partial) text status
+AnswersRequest held given (DraftLanes paths lanes partial) text status =
+    OnFarmFiles (named held given) paths (AnswersLanes lanes partial) text status
 
 -- what is read for a request is called so
 abbrev pub AreCalledFor : Request → List ℕ → Type 0
@@ -111,6 +137,8 @@ AreCalledFor (Step schedule paths) told = AreCalled paths told
 AreCalledFor (StepBy list paths) told = AreCalledWith paths list.now told
 AreCalledFor (Timeline paths form full) told = AreCalled paths told
 AreCalledFor (Graph paths json) told = AreCalled paths told
+AreCalledFor (Draft paths rest partial) told = AreCalled paths told
+AreCalledFor (DraftLanes paths lanes partial) told = AreFarmCalled paths told
 
 -- what is written of the answer: a certificate alone may be cut by want of memory
 abbrev pub IsRequestTold : (List ℕ → Option (List ℕ)) → Option (List ℕ) → Request → SinkState

@@ -1,4 +1,6 @@
 -- What the types of the crate stand for.
+use Rattle.std.specs.Prelude.{[]}
+use Rattle.farm_commands.specs.declared.draft.FarmFiles.{FarmFiles}
 use Rattle.farm_commands.specs.declared.request.FileTexts.{FileTexts}
 use Rattle.farm_input.specs.Input.{Texts}
 
@@ -8,4 +10,12 @@ texts_in_files files = record {
   sources = files.sources.items;
   farm = files.farm.items;
   plan = files.plan.items;
+}
+
+abbrev pub farm_in_files : FarmFiles → Texts
+farm_in_files files = record {
+  packages = files.packages.items;
+  sources = files.sources.items;
+  farm = files.farm.items;
+  plan = [];
 }

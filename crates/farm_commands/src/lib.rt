@@ -3,6 +3,7 @@
 
 mod answers;
 mod certificates;
+mod draft;
 mod errors;
 mod explain;
 mod explanation;

@@ -11,6 +11,7 @@ ghost use Rattle.farm_commands.specs.View.{texts_in_files};
 
 use crate::answers::{answer_check, answer_list, answer_numbered, answer_step, answer_step_by};
 use crate::certificates::{answer_cert, answer_verify_cert};
+use crate::draft::{ByNumber, BySketch, draft_files, draft_lanes};
 use crate::explain::answer_explain;
 use crate::fault::OutsideFault;
 use crate::graph::answer_graph;
@@ -303,5 +304,29 @@ pub fn answer_request<'a, F: Source, S: Sink, E: Sink>(
             timeline_files(rt, alloc, source, paths, Shape { form, full }, out)
         }
         Request::Graph { paths, json } => graph_files(rt, alloc, source, paths, json, out),
+        Request::Draft {
+            paths,
+            rest,
+            partial,
+        } => {
+            let of = BySketch {
+                paths,
+                rest,
+                partial,
+            };
+            draft_files(rt, alloc, source, of, out, errors)
+        }
+        Request::DraftLanes {
+            paths,
+            lanes,
+            partial,
+        } => {
+            let of = ByNumber {
+                paths,
+                lanes,
+                partial,
+            };
+            draft_lanes(rt, alloc, source, of, out, errors)
+        }
     }
 }

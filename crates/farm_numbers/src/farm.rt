@@ -29,9 +29,12 @@ pub struct RecipeFacts {
 /// The entries of all variants and recipes, by number.
 #[derive(Drop)]
 pub struct Entries {
-    /// By entry: who meets it. Those of its first alternative come first, and of each alternative
-    /// those of its own name, the highest version first, before those that provide it.
+    /// Who meets an entry, once for all that are written alike. Those of its first alternative come
+    /// first, and of each alternative those of its own name, the highest version first, before those
+    /// that provide it.
     pub meets: Lists,
+    /// By entry: the number of its list.
+    pub list: Vec<usize>,
     /// By entry: it has one alternative alone.
     pub is_only: Vec<bool>,
     /// By variant: its entries, those of Pre-Depends first, and how many are of Pre-Depends.
@@ -93,7 +96,7 @@ impl FarmNumbers {
 
     /// How many entries there are.
     pub fn entries(&self) -> usize {
-        self.entries.meets.len()
+        self.entries.list.len()
     }
 
     /// How many recipes there are.
@@ -155,7 +158,9 @@ impl FarmNumbers {
     /// Who meets an entry: those of its first alternative first, and of each alternative those of
     /// its own name, the highest version first, before those that provide it.
     pub fn meets(&self, entry: usize) -> &[usize] {
-        self.entries.meets.of(entry)
+        self.entries
+            .meets
+            .of(at(&self.entries.list, entry, usize::MAX))
     }
 
     /// Tells whether an entry has one alternative alone.

@@ -1,0 +1,14 @@
+//! Why no plan is drafted, in lines.
+#![tactic(auto)]
+
+mod about;
+mod chain;
+mod circle;
+mod refused;
+mod stuck;
+mod through;
+mod written;
+
+pub use about::About;
+pub use refused::{left_out_note, length_note, no_chroot_note, overrun_note, refusal_note};
+pub use stuck::stuck_note;

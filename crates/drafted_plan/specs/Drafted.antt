@@ -1,0 +1,56 @@
+-- What is promised of a drafted plan. The project's own rules.
+--
+--   IsDrafted       a text is a plan that is accepted, and is what was wanted
+--   Answers         what is answered where this is wanted
+--   AnswersSketch   the same of a sketch, or of the first fault of the texts
+--   AnswersNumber   the same of a number of lanes
+use Rattle.std.specs.Prelude.{◌≡◌, ⊥, ℕ, Bool, false, List, [], Result, Ok, Err}
+use Rattle.deb_text.specs.declared.fault.Fault.{Fault}
+use Rattle.draft_wish.specs.Follows.{Follows}
+use Rattle.draft_wish.specs.Wanted.{Wanted}
+use Rattle.farm_input.specs.Input.{Texts}
+use Rattle.farm_input.specs.Planned.{FarmPlan, planned_of}
+use Rattle.farm_model.specs.Universe.{Universe}
+use Rattle.plan_model.specs.Promise.{IsSafe}
+use Rattle.plan_verifier.specs.Accepted.{AcceptedPlan}
+use Rattle.plan_verifier.specs.Verdict.{IsVerdict}
+use Rattle.drafted_plan.specs.declared.drafted.Drafted.{Drafted}
+use Rattle.drafted_plan.specs.declared.drafted.Drafted.TheVariants.{Plan as PlanText, Refused, Wrong, Failed}
+use Rattle.drafted_plan.specs.Wanted.{by_sketch, by_number}
+
+-- Of a text that is drafted over packages, sources and a farm, some recipes being left out:
+pub record IsDrafted (texts : Texts) (w : Wanted) (left text : List ℕ) : Type 0 where
+  pub accepted : AcceptedPlan
+  -- it is accepted, as a check of these four texts accepts it,
+  pub verdict : IsVerdict (planned_of texts.packages texts.sources texts.farm text) (Ok accepted)
+  -- so that no interleaving of its lanes goes wrong;
+  pub safe : IsSafe accepted.universe accepted.plan
+  -- it is what was wanted, but for what is left out.
+  pub follows : Follows w left accepted.plan
+
+-- a plan of which something is left out only where that is asked for; of a refusal nothing is said
+abbrev pub Answers : Texts → Bool → Wanted → Drafted → Type 0
+Answers texts partial w (PlanText text left told) =
+    IsDrafted texts w left.items text.items × (partial ≡ false → left.items ≡ [])
+Answers texts partial w (Refused lines) = Unit {0}
+Answers texts partial w (Wrong fault) = ⊥
+Answers texts partial w Failed = Unit {0}
+
+-- no plan where the texts have a fault, and that is the first
+abbrev pub AnswersFault : Fault → Drafted → Type 0
+AnswersFault fault (PlanText text left told) = ⊥
+AnswersFault fault (Refused lines) = Unit {0}
+AnswersFault fault (Wrong told) = told ≡ fault
+AnswersFault fault Failed = ⊥
+
+-- what is answered to a sketch, which is the last of the texts
+abbrev pub AnswersSketch : Texts → (rest partial : Bool) → Result FarmPlan Fault → Drafted → Type 0
+AnswersSketch texts rest partial (Ok of) told =
+    Answers texts partial (by_sketch rest of.universe of.plan) told
+AnswersSketch texts rest partial (Err fault) told = AnswersFault fault told
+
+-- what is answered to a number of lanes
+abbrev pub AnswersNumber : Texts → (lanes : ℕ) → (partial : Bool) → Result Universe Fault → Drafted
+    → Type 0
+AnswersNumber texts lanes partial (Ok u) told = Answers texts partial (by_number u lanes) told
+AnswersNumber texts lanes partial (Err fault) told = AnswersFault fault told

@@ -1,0 +1,216 @@
+//! A plan is looked for, written, and judged.
+
+ghost use Rattle.std.specs.Prelude.{◌≡◌, IfOk, Some};
+ghost use Rattle.deb_text.specs.Answers.{refusal_of};
+ghost use Rattle.drafted_plan.specs.declared.drafted.Drafted.TheVariants.{Wrong};
+ghost use Rattle.drafted_plan.specs.Drafted.{Answers, AnswersSketch, AnswersNumber};
+ghost use Rattle.farm_input.specs.Planned.{planned_of};
+ghost use Rattle.farm_input.specs.View.{texts_view};
+ghost use Rattle.farm_universe.specs.UniverseText.{universe_of};
+
+use crate::lanes::parts_of;
+use crate::looked::{Lanes, Looked, look};
+use crate::plan_text::plan_text;
+use crate::wanted::{by_number, by_sketch};
+use crate::wish::{recipes_of, wish_of};
+use deb_text::Fault;
+use draft_notes::{About, no_chroot_note};
+use draft_wish::{Wanted, follows};
+use farm_input::Texts;
+use farm_numbering::numbers_of;
+use farm_universe::Universe;
+use plan_asm::assemble;
+use plan_verifier::{Refusal, check};
+use std::alloc::{AllocError, Global};
+use std::thread::Threads;
+
+/// What drafting comes to.
+#[derive(Drop)]
+pub enum Drafted {
+    /// The text of a plan that is accepted and is what was wanted, but for these recipes, which are
+    /// left out; and lines on these.
+    Plan {
+        text: Vec<u8>,
+        left: Vec<u32>,
+        told: Vec<u8>,
+    },
+    /// There is no plan, as these lines say.
+    Refused(Vec<u8>),
+    /// The texts have a fault.
+    Wrong(Fault),
+    /// A plan was drafted that is not accepted, or is not what was wanted: a fault of the program.
+    Failed,
+}
+
+/// What is answered with.
+#[derive(Drop)]
+enum Written {
+    /// The text of a plan, which recipes are left out, and lines on these.
+    Plan(Vec<u8>, Vec<u32>, Vec<u8>),
+    Refused(Vec<u8>),
+    Nothing,
+}
+
+/// The text of the lanes that were found.
+fn write_found(about: &About<'_>, found: Lanes) -> Result<Written, AllocError> {
+    match plan_text(about, &found)? {
+        Ok(text) => {
+            let left = recipes_of(about.alloc, &found.left)?;
+            let Lanes { told, .. } = found;
+            Ok(Written::Plan(text, left, told))
+        }
+        Err(lines) => Ok(Written::Refused(lines)),
+    }
+}
+
+/// Looks for a plan, and writes it.
+fn write(
+    alloc: Global,
+    texts: Texts<'_>,
+    universe: &Universe,
+    wanted: &Wanted,
+    is_partial: bool,
+) -> Result<Written, AllocError> {
+    let numbers = numbers_of(alloc, universe)?;
+    let about = About {
+        alloc,
+        universe,
+        numbers: &numbers,
+        texts,
+        lanes: &wanted.lanes,
+    };
+    match look(&about, wish_of(alloc, wanted)?, is_partial)? {
+        Looked::Found(found) => write_found(&about, found),
+        Looked::Refused(lines) => Ok(Written::Refused(lines)),
+        Looked::Nothing => Ok(Written::Nothing),
+    }
+}
+
+/// Judges the text of a plan.
+fn judge(
+    rt: &(impl Threads + Sync),
+    alloc: Global,
+    texts: Texts<'_>,
+    wanted: &Wanted,
+    is_partial: bool,
+    plan: (Vec<u8>, Vec<u32>, Vec<u8>),
+) -> Result<Drafted, AllocError>
+    ensures { IfOk result (Answers (texts_view texts.entry) is_partial wanted.now) }
+{
+    let (text, left, told) = plan;
+    if !is_partial && !left.is_empty() {
+        return Ok(Drafted::Failed);
+    }
+    match check(rt, alloc, texts.packages, texts.sources, texts.farm, &text) {
+        Ok(accepted) => {
+            let parts = parts_of(alloc, accepted.plan())?;
+            if follows(alloc, wanted, &left, &parts)? {
+                Ok(Drafted::Plan { text, left, told })
+            } else {
+                Ok(Drafted::Failed)
+            }
+        }
+        Err(Refusal::Memory) => Err(AllocError),
+        Err(_) => Ok(Drafted::Failed),
+    }
+}
+
+/// Looks for a plan, writes it, and judges it.
+fn answer(
+    rt: &(impl Threads + Sync),
+    alloc: Global,
+    texts: Texts<'_>,
+    universe: &Universe,
+    wanted: &Wanted,
+    is_partial: bool,
+) -> Result<Drafted, AllocError>
+    ensures { IfOk result (Answers (texts_view texts.entry) is_partial wanted.now) }
+{
+    match write(alloc, texts, universe, wanted, is_partial)? {
+        Written::Plan(text, left, told) => {
+            judge(rt, alloc, texts, wanted, is_partial, (text, left, told))
+        }
+        Written::Refused(lines) => Ok(Drafted::Refused(lines)),
+        Written::Nothing => Ok(Drafted::Failed),
+    }
+}
+
+/// That the texts have a fault. Want of memory is none.
+fn wrong(fault: Fault) -> Result<Drafted, AllocError>
+    ensures { IfOk result (λ drafted. (drafted ≡ Wrong fault)
+        × (refusal_of fault ≡ Some fault)) }
+{
+    if fault == Fault::MEMORY {
+        return Err(AllocError);
+    }
+    Ok(Drafted::Wrong(fault))
+}
+
+/// Drafts a plan by a sketch, which is the last of the texts: it has the lanes of the sketch, and
+/// each builds what the sketch builds there. With `takes_rest` all other recipes are built in some
+/// lane. With `is_partial` what is in the way is left out.
+///
+/// The plan is accepted by [`check`], and is what was wanted.
+///
+/// # Errors
+///
+/// [`AllocError`] where memory is refused.
+#[tactic(auto, unfolding(farm_input::specs::Planned::planned_of))]
+pub fn draft_by_sketch(
+    rt: &(impl Threads + Sync),
+    alloc: Global,
+    texts: Texts<'_>,
+    takes_rest: bool,
+    is_partial: bool,
+) -> Result<Drafted, AllocError>
+    ensures { IfOk result (AnswersSketch (texts_view texts.entry) takes_rest is_partial
+        (planned_of texts.entry.packages.now texts.entry.sources.now texts.entry.farm.now
+        texts.entry.plan.now)) }
+{
+    let read = Universe::read_side_by_side(rt, alloc, texts.packages, texts.sources, texts.farm);
+    let universe = match read {
+        Ok(universe) => universe,
+        Err(fault) => return wrong(fault),
+    };
+    if universe.bases() == 0 {
+        return Ok(Drafted::Refused(no_chroot_note(alloc)?));
+    }
+    match assemble(alloc, &universe, texts.plan) {
+        Ok(plan) => {
+            let wanted = by_sketch(alloc, &universe, &plan, takes_rest)?;
+            answer(rt, alloc, texts, &universe, &wanted, is_partial)
+        }
+        Err(fault) => wrong(fault),
+    }
+}
+
+/// Drafts a plan of so many lanes over the base chroots in turn, in which every recipe of the farm
+/// is built. With `is_partial` what is in the way is left out. The last of the texts is not looked
+/// at.
+///
+/// The plan is accepted by [`check`], and is what was wanted.
+///
+/// # Errors
+///
+/// [`AllocError`] where memory is refused.
+pub fn draft_by_number(
+    rt: &(impl Threads + Sync),
+    alloc: Global,
+    texts: Texts<'_>,
+    lanes: u32,
+    is_partial: bool,
+) -> Result<Drafted, AllocError>
+    ensures { IfOk result (AnswersNumber (texts_view texts.entry) lanes is_partial
+        (universe_of texts.entry.packages.now texts.entry.sources.now texts.entry.farm.now)) }
+{
+    let read = Universe::read_side_by_side(rt, alloc, texts.packages, texts.sources, texts.farm);
+    let universe = match read {
+        Ok(universe) => universe,
+        Err(fault) => return wrong(fault),
+    };
+    if universe.bases() == 0 {
+        return Ok(Drafted::Refused(no_chroot_note(alloc)?));
+    }
+    let wanted = by_number(alloc, &universe, lanes)?;
+    answer(rt, alloc, texts, &universe, &wanted, is_partial)
+}

@@ -1,0 +1,28 @@
+//! The lanes of a plan, as they are looked at.
+
+ghost use Rattle.std.specs.Prelude.{◌≡◌, IfOk};
+
+use draft_wish::LaneParts;
+use plan_asm::Plan;
+use std::alloc::{AllocError, Global};
+
+/// The parts of a plan's lanes.
+///
+/// # Errors
+///
+/// [`AllocError`] where memory is refused.
+pub(crate) fn parts_of<'a>(alloc: Global, plan: &'a Plan) -> Result<Vec<LaneParts<'a>>, AllocError>
+    ensures { IfOk result (λ parts. parts.items ≡ plan.now.lanes) }
+{
+    let mut parts = Vec::new(alloc);
+    for number in 0..plan.lanes() {
+        let lane = plan.lane(number);
+        parts.push(LaneParts {
+            name: lane.name(),
+            base: lane.base(),
+            budget: lane.budget(),
+            instructions: lane.instructions(),
+        })?;
+    }
+    Ok(parts)
+}
