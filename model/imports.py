@@ -40,7 +40,11 @@ def is_given(words, architectures, profiles, mode):
     """Whether a line of a Package-List names a package that a build gives: its words."""
     if len(words) < 4 or words[1] != "deb":
         return False
-    marks = dict(word.split("=", 1) for word in words[4:] if "=" in word)
+    marks = {}
+    for mark in words[4:]:
+        key, sign, value = mark.partition("=")
+        if sign:
+            marks.setdefault(key, value)
     places = marks.get("arch", "any").split(",")
     is_for_all = places == ["all"]
     if mode == ("arch" if is_for_all else "indep"):

@@ -10,10 +10,24 @@ PRIORITIES = ["required", "important", "standard", "optional", "extra"]
 
 
 class Unread:
-    """A paragraph of an index that is not yet read, with its lines as they stand."""
+    """A paragraph of an index that is not yet read, and all lines between the blank ones round it as they stand."""
 
     def __init__(self, paragraph, raw):
         self.paragraph, self.raw = paragraph, raw
+
+
+def is_blank(line):
+    return line.strip(" \t") == ""
+
+
+def block(contents, paragraph):
+    """The lines round a paragraph up to the next blank ones, comments among them."""
+    first, last = paragraph.line - 1, paragraph.last
+    while first > 0 and not is_blank(contents[first - 1]):
+        first -= 1
+    while last < len(contents) and not is_blank(contents[last]):
+        last += 1
+    return "\n".join(contents[first:last])
 
 
 def cut_index(text, file):
@@ -22,7 +36,7 @@ def cut_index(text, file):
         raise Fault(105, 0, file)
     contents = lines(text)
     for paragraph in each_paragraph(contents, file):
-        yield Unread(paragraph, "\n".join(contents[paragraph.line - 1 : paragraph.last]))
+        yield Unread(paragraph, block(contents, paragraph))
 
 
 def leading_name(text):
