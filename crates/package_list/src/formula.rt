@@ -8,6 +8,7 @@ ghost use Rattle.deb_relation.specs.Holding.{item_holds};
 ghost use Rattle.package_list.specs.Given.{formula_holds, item_of};
 
 use deb_profile::ProfileSet;
+use deb_text::next_part;
 
 /// Tells whether a profile is active; with `!`, whether it is not.
 fn term_holds(term: &[u8], active: &ProfileSet) -> bool
@@ -24,12 +25,28 @@ fn all_hold(terms: &[u8], active: &ProfileSet) -> bool
     ensures { result ≡ list_all (λ term. item_holds (is_among active.now) (item_of term))
         (slice_split (is_byte 43) terms.now) }
 {
-    terms.split(|b| *b == b'+').all(|term| term_holds(term, active))
+    let mut left = Some(terms);
+    while let Some(rest) = left {
+        let (term, after) = next_part(b'+', rest);
+        if !term_holds(term, active) {
+            return false;
+        }
+        left = after;
+    }
+    true
 }
 
 /// Tells whether the terms of one part between `,` hold.
 pub fn formula_holds(formula: &[u8], active: &ProfileSet) -> bool
     ensures { result ≡ formula_holds (is_among active.now) formula.now }
 {
-    formula.split(|b| *b == b',').any(|terms| all_hold(terms, active))
+    let mut left = Some(formula);
+    while let Some(rest) = left {
+        let (terms, after) = next_part(b',', rest);
+        if all_hold(terms, active) {
+            return true;
+        }
+        left = after;
+    }
+    false
 }

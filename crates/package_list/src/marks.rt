@@ -10,7 +10,7 @@ ghost use Rattle.package_list.specs.Given.{fits_place, is_made, mark_in, marks_m
 
 use crate::formula::formula_holds;
 use deb_profile::{ArchNames, ProfileSet};
-use deb_text::{cut_at_first, next_word};
+use deb_text::{cut_at_first, next_part, next_word};
 use farm_model::Mode;
 
 /// What an architecture of all architectures is written as.
@@ -39,11 +39,26 @@ fn places(marks: &[u8]) -> &[u8]
     mark(marks, b"arch").unwrap_or(b"any")
 }
 
-/// Tells whether a place is one of the architecture's.
+/// Tells whether one of the places between `,` is the architecture's.
+fn has_place(places: &[u8], names: &ArchNames) -> bool
+    ensures { result ≡ list_any (is_among names.now) (slice_split (is_byte 44) places.now) }
+{
+    let mut left = Some(places);
+    while let Some(rest) = left {
+        let (place, after) = next_part(b',', rest);
+        if names.matches(place) {
+            return true;
+        }
+        left = after;
+    }
+    false
+}
+
+/// Tells whether a package of these places is one of the architecture's.
 fn fits_place(places: &[u8], names: &ArchNames) -> bool
     ensures { result ≡ fits_place (is_among names.now) places.now }
 {
-    places == ALL || places.split(|b| *b == b',').any(|place| names.matches(place))
+    places == ALL || has_place(places, names)
 }
 
 /// Tells whether builds of a mode make packages of all architectures, or else of one.

@@ -43,6 +43,7 @@ fn given_name<'a>(row: &'a [u8], build: &Build) -> Option<&'a [u8]>
 /// # Errors
 ///
 /// [`AllocError`] where memory is refused.
+#[tactic(auto, unfolding(crate::specs::Given::names_given))]
 pub fn given_names<'a>(
     alloc: Global,
     list: &'a [u8],

@@ -1,0 +1,5 @@
+pub mod Chroot
+pub mod Fields
+pub mod Head
+pub mod Lists
+pub mod Recipe
