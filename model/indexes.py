@@ -77,14 +77,15 @@ class Candidate(Variant):
 
 
 def best(entry, named, providing):
-    """Of the first alternative that something satisfies: the name itself, or else of the providers the one with the
-    highest Priority, then the first name; in each the highest version."""
+    """Of the first alternative that something satisfies: the name itself, or else of the providers those with the highest
+    Priority, of these the first name; in each the highest version."""
     for alternative in entry:
-        for among in (named, providing):
-            fitting = [it for it in among(alternative.name) if it.is_one(alternative)]
-            if fitting:
-                first = min(fitting, key=lambda it: (it.name != alternative.name, it.rank, it.name)).name
-                return max((it for it in fitting if it.name == first), key=lambda it: by_order(it.version))
+        own = [it for it in named(alternative.name) if it.is_one(alternative)]
+        others = [] if own else [it for it in providing(alternative.name) if it.is_one(alternative)]
+        first = min(others, key=lambda it: (it.rank, it.name), default=None)
+        equal = [it for it in others if (it.rank, it.name) == (first.rank, first.name)]
+        if own or equal:
+            return max(own or equal, key=lambda it: by_order(it.version))
     return None
 
 
