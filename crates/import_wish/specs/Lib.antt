@@ -3,3 +3,4 @@ pub mod Fields
 pub mod Head
 pub mod Lists
 pub mod Recipe
+pub mod Wish

@@ -7,8 +7,10 @@ mod fields;
 mod head;
 mod lists;
 mod recipe;
+mod wish;
 
 pub use chroot::{MOST_CAPACITY, WishedChroot, read_chroot};
 pub use error::{NO_OUTPUT, TWICE, UNKNOWN_OUTPUT, UNKNOWN_SOURCE};
 pub use head::{Head, read_head};
 pub use recipe::{MOST_SIZE, Way, WishedRecipe, WishedSource, read_recipe};
+pub use wish::{Wish, WishItems, read_wish};

@@ -6,6 +6,7 @@ mod given;
 mod relations;
 mod source;
 
+pub use fields::{MOST_SIZE, read_version};
 pub use given::{Given, read_given};
 pub use relations::{GivenRelations, MOST_ENTRIES};
 pub use source::GivenSource;
