@@ -10,13 +10,15 @@
   model/portfarm.py graph [--json] PACKAGES SOURCES FARM PLAN
   model/portfarm.py draft [--partial] --lanes N PACKAGES SOURCES FARM
   model/portfarm.py draft [--partial] [--rest] PACKAGES SOURCES FARM SKETCH
+  model/portfarm.py import [--force] [--archive INDEX].. --packages INDEX.. --sources INDEX.. WISH DIR
   model/portfarm.py                   the verdict on the four texts of standard input, divided by lines `%%`
 
 It is slow, it shares no code with the crates, and the texts of wrong words are its own. `timeline --svg` is a command of the
-program alone.
+program alone, `import` one of the model alone.
 """
 
 import sys
+from pathlib import Path
 
 import certificates
 from core import step
@@ -25,6 +27,8 @@ from drafts import draft
 from explain import Note, left_lines, stuck_notes, unsafe_notes, waits_notes
 from farm_warnings import warnings
 from fault_notes import fault_lines
+from imports import HEAD, make_texts
+from imports import Refused as NotMade
 from json_answers import json_line, lines_of, reasons_of, verdict_members
 from plan_graph import graph_lines, graph_members
 from plans import listing, numbered, read_plan
@@ -201,8 +205,62 @@ def draft_words(words):
 
 
 def text_of(path):
+    if path == "-":
+        return sys.stdin.buffer.read().decode("latin-1")
     with open(path, "rb") as file:
         return file.read().decode("latin-1")
+
+
+def told_import(wish, given):
+    """The texts that are made, or None; the lines that tell of them or of a refusal; the status."""
+    try:
+        texts, told = make_texts(wish, given["--archive"], given["--packages"], given["--sources"])
+    except Fault as fault:
+        return None, [f"refused {fault.code} {fault.file} line {fault.line}"], 1
+    except NotMade as refusal:
+        return None, refusal.lines, 1
+    return texts, told, 0
+
+
+def kept_file(folder, name):
+    """Whether a file stands there that import has not made."""
+    path = folder / name
+    return path.exists() and not path.read_bytes().startswith(HEAD.encode())
+
+
+def write_texts(folder, texts):
+    """Writes each text to a file beside its own, and gives it its name then."""
+    folder.mkdir(parents=True, exist_ok=True)
+    for name, text in texts.items():
+        beside = folder / f"{name}.new"
+        beside.write_bytes(text.encode("latin-1"))
+        beside.replace(folder / name)
+
+
+def import_words(words):
+    """Answers the words behind `import`, and gives the status."""
+    given, rest, force = {"--archive": [], "--packages": [], "--sources": []}, [], False
+    while words:
+        word = words.pop(0)
+        if word in given and words:
+            given[word].append((words[0], text_of(words.pop(0))))
+        elif word == "--force":
+            force = True
+        else:
+            rest.append(word)
+    if len(rest) != 2 or not given["--packages"] or not given["--sources"]:
+        print(__doc__, file=sys.stderr)
+        return 2
+    texts, told, status = told_import(text_of(rest[0]), given)
+    folder = Path(rest[1])
+    kept = [name for name in texts or () if not force and kept_file(folder, name)]
+    if kept:
+        print(f"portfarm: {folder / kept[0]}: not made by portfarm import; --force replaces it", file=sys.stderr)
+        return 3
+    if texts is not None:
+        write_texts(folder, texts)
+    sys.stdout.buffer.write("".join(f"{line}\n" for line in told).encode("latin-1"))
+    return status
 
 
 def main(words):
@@ -210,6 +268,8 @@ def main(words):
     more = None
     if words[:1] == ["draft"]:
         return draft_words(words[1:])
+    if words[:1] == ["import"]:
+        return import_words(words[1:])
     if not words:
         command, texts = "check", cut_input(sys.stdin.buffer.read().decode("latin-1"))
     else:

@@ -60,10 +60,11 @@ def is_field_name(text):
 
 
 class Paragraph:
-    """The fields of a paragraph, by their names in small letters, with the lines that they stand at, and its first line."""
+    """The fields of a paragraph, by their names in small letters, with the lines that they stand at, and its first and last
+    lines."""
 
     def __init__(self, line):
-        self.line, self.fields, self.places = line, {}, {}
+        self.line, self.last, self.fields, self.places = line, line, {}, {}
 
     def get(self, name):
         value = self.fields.get(name.lower())
@@ -85,13 +86,21 @@ def paragraphs(text, file):
     """The paragraphs of a control text (deb-control(5)), or its first fault."""
     if len(text) > TEXT_LIMIT:
         raise Fault(105, 0, file)
-    found, current, field = [], None, None
-    for line, content in enumerate(lines(text), 1):
+    return list(each_paragraph(lines(text), file))
+
+
+def each_paragraph(contents, file):
+    """The paragraphs of these lines, each once its last line is read, or the first fault."""
+    current, field = None, None
+    for line, content in enumerate(contents, 1):
         if content.startswith("#"):
             continue
         if content.strip(" \t") == "":
+            if current is not None:
+                yield current
             current, field = None, None
-        elif content[0] in " \t":
+            continue
+        if content[0] in " \t":
             if field is None:
                 raise Fault(101, line, file)
             field.append(content)
@@ -104,10 +113,11 @@ def paragraphs(text, file):
                 raise Fault(103, line, file)
             if current is None:
                 current = Paragraph(line)
-                found.append(current)
             key = "".join(chr(ord(byte) + 32) if "A" <= byte <= "Z" else byte for byte in name)
             if key in current.fields:
                 raise Fault(104, line, file)
             field, current.places[key] = [value], [line]
             current.fields[key] = field
-    return found
+        current.last = line
+    if current is not None:
+        yield current

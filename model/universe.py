@@ -133,31 +133,40 @@ def read_relations(paragraph, fields):
     return {field: read_field(paragraph.get(field) or "", kind) for field, kind in fields}
 
 
-def read_package(universe, paragraph, _place):
+def read_variant(paragraph):
+    """The variant of a paragraph."""
     name = read_name(required(paragraph, "Package"))
     version = Version(required(paragraph, "Version"))
     size = paragraph.get("Installed-Size")
     size = read_number("0" if size is None else size, LARGEST)
     is_essential = read_flag(paragraph.get("Essential"))
-    relations = read_relations(paragraph, RELATIONS)
-    if universe.find(name, version):
+    return Variant(name, version, size, is_essential, read_relations(paragraph, RELATIONS))
+
+
+def read_package(universe, paragraph, _place):
+    variant = read_variant(paragraph)
+    if universe.find(variant.name, variant.version):
         raise Fault(203)
-    same = universe.variants.setdefault(name, [])
-    same.append(Variant(name, version, size, is_essential, relations))
+    same = universe.variants.setdefault(variant.name, [])
+    same.append(variant)
     same.sort(key=cmp_to_key(lambda one, other: one.version.compare(other.version)))
     if len(same) > VARIANTS:
         raise Fault(204)
-    universe.entries += sum(map(len, relations.values()))
+    universe.entries += sum(map(len, variant.relations.values()))
     if len(universe.variants) > NAMES:
         raise Fault(210, about="over the limit of 4,096 names")
     if universe.entries > ENTRIES:
         raise Fault(210, about="over the limit of 65,536 relation entries of all packages")
 
 
-def read_source(universe, paragraph, _place):
+def read_source_head(paragraph):
+    """The name and the version of a source."""
     name = paragraph.get("Package")
-    name = read_name(required(paragraph, "Source") if name is None else name)
-    version = Version(required(paragraph, "Version"))
+    return read_name(required(paragraph, "Source") if name is None else name), Version(required(paragraph, "Version"))
+
+
+def read_source(universe, paragraph, _place):
+    name, version = read_source_head(paragraph)
     relations = read_relations(paragraph, BUILD_RELATIONS)
     same = universe.sources.setdefault(name, [])
     if any(version.compare(other) == 0 for other, _, _ in same):

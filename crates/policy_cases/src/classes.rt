@@ -1,6 +1,7 @@
 //! Questions about classes of bytes.
 
 use crate::answer::{Answer, Refusal, text, two_texts, yes_or_no};
+use crate::architectures;
 use case_files::TableRow;
 use deb_text::{Class, all_in, begins_with, has, skip_front, split_front};
 use std::alloc::Global;
@@ -32,7 +33,7 @@ fn class_of(word: &str) -> Option<Class> {
 pub fn answer(alloc: Global, row: TableRow) -> Answer {
     match class_of(row.word(0)) {
         Some(class) => of_class(alloc, row.question, class, row.arg(1)),
-        None => Err(Refusal::NoQuestion),
+        None => architectures::answer(alloc, row),
     }
 }
 

@@ -3,6 +3,7 @@
 #![tactic(auto)]
 
 mod answer;
+mod architectures;
 mod classes;
 mod fields;
 mod profiles;

@@ -1,0 +1,10 @@
+//! The fields of one paragraph of control data: names, numbers, and values that may be absent.
+#![tactic(auto)]
+
+mod error;
+mod fields;
+mod paragraph;
+
+pub use error::{ABSENT, BAD_VALUE};
+pub use fields::{or_text, read_name, read_number_in};
+pub use paragraph::Paragraph;

@@ -1,0 +1,6 @@
+pub mod Chroot
+pub mod Fields
+pub mod Head
+pub mod Lists
+pub mod Recipe
+pub mod Wish

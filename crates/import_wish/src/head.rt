@@ -1,0 +1,90 @@
+//! The first paragraph of a wish.
+
+ghost use Rattle.deb_text.specs.Answers.{Gives};
+ghost use Rattle.deb_text.specs.Cuts.{is_nil};
+ghost use Rattle.deb_text.specs.Words.{words};
+ghost use Rattle.std.specs.Prelude.{◌≡◌};
+ghost use Rattle.std.specs.Option.{option_map};
+ghost use Rattle.deb_relation.specs.View.{refusal_of};
+ghost use Rattle.import_wish.specs.Head.{archive_in, architectures_at, head_at, head_view, profiles_at};
+
+use crate::fields::{read_mode, read_words};
+use control_fields::{ABSENT, Paragraph, or_text};
+use deb_relation::{Kind, RelationError, Relations};
+use deb_text::next_word;
+use farm_model::Mode;
+use std::alloc::Global;
+
+/// What a wish says of all recipes: the names of the architecture as words, what is in the archive
+/// at the beginning, if that is said, and the profiles and the mode of recipes that have none of
+/// their own.
+#[derive(Drop)]
+pub struct Head<'a> {
+    pub architectures: Vec<u8>,
+    pub archive: Option<Relations>,
+    pub profiles: &'a [u8],
+    pub mode: Mode,
+}
+
+fn has_no_word(text: &[u8]) -> bool
+    ensures { result ≡ is_nil (words text.now) }
+{
+    next_word(text).is_none()
+}
+
+/// Reads the names of the architecture, of which there is one at least.
+#[tactic(auto, unfolding(crate::specs::Head::architectures_at))]
+fn read_architectures(alloc: Global, paragraph: &Paragraph) -> Result<Vec<u8>, RelationError>
+    ensures { Gives refusal_of (λ names. words names.items) result
+        (architectures_at paragraph.now) }
+{
+    let names = read_words(alloc, paragraph.needed(b"Architecture-Names")?)?;
+    if has_no_word(&names) {
+        return Err(RelationError { code: ABSENT });
+    }
+    Ok(names)
+}
+
+/// Reads entries that may be absent.
+#[tactic(auto, unfolding(crate::specs::Head::archive_in))]
+fn read_archive(alloc: Global, value: Option<&[u8]>) -> Result<Option<Relations>, RelationError>
+    ensures { Gives refusal_of (λ archive. archive) result
+        (archive_in (option_map (λ v. v.now) value.entry)) }
+{
+    match value {
+        Some(text) => Ok(Some(Relations::parse(alloc, text, Kind::Need)?)),
+        None => Ok(None),
+    }
+}
+
+/// The text of the profiles of recipes that have none of their own.
+#[tactic(auto, unfolding(crate::specs::Head::profiles_at))]
+fn read_profiles<'a>(alloc: Global, paragraph: &Paragraph<'a>) -> Result<&'a [u8], RelationError>
+    ensures { Gives refusal_of (λ text. text.now) result (profiles_at paragraph.now) }
+{
+    let text = or_text(paragraph.field(b"Profiles"), b"");
+    let _words = read_words(alloc, text)?;
+    Ok(text)
+}
+
+/// Reads the first paragraph of a wish.
+///
+/// # Errors
+///
+/// 201 where it names no architecture, 131 where a name or a profile is no word, those of relation
+/// fields, 202 where the mode is none.
+#[tactic(auto, unfolding(crate::specs::Head::head_at))]
+pub fn read_head<'a>(alloc: Global, paragraph: &Paragraph<'a>) -> Result<Head<'a>, RelationError>
+    ensures { Gives refusal_of head_view result (head_at paragraph.now) }
+{
+    let architectures = read_architectures(alloc, paragraph)?;
+    let archive = read_archive(alloc, paragraph.field(b"Archive"))?;
+    let profiles = read_profiles(alloc, paragraph)?;
+    let mode = read_mode(paragraph.field(b"Mode"), Mode::Full)?;
+    Ok(Head {
+        architectures,
+        archive,
+        profiles,
+        mode,
+    })
+}

@@ -1,0 +1,8 @@
+//! Which package of an index meets an entry of a relation field best.
+#![tactic(auto)]
+
+mod best;
+mod order;
+
+pub use best::{best_for, is_fitting};
+pub use order::comes_before;

@@ -1,0 +1,4 @@
+pub mod Given
+pub mod Relations
+pub mod Source
+pub mod Version

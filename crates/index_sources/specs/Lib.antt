@@ -1,0 +1,3 @@
+pub mod Files
+pub mod Needs
+pub mod Source

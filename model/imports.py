@@ -1,0 +1,338 @@
+"""The texts of a farm, made of a wish and of whole indexes."""
+
+from indexes import PackagesIndex, Pool, SourcesIndex
+from relations import Alternative, reduce_field
+from texts import TEXT_LIMIT
+from universe import CHROOTS, ENTRIES, LARGEST, MODES, NAMES, RECIPES, SOURCES, read_universe
+from versions import Version, by_order
+from wishes import Wish
+
+HEAD = "# made by portfarm import\n"
+LIMITS = {
+    "names": NAMES, "variants": None, "sources": SOURCES, "recipes": RECIPES, "base chroots": CHROOTS,
+    "bytes of a text": TEXT_LIMIT, "relation entries": ENTRIES,
+}
+VERSIONED = ["pre-depends", "depends", "conflicts", "breaks", "provides"]
+SHOWN = 10
+
+
+class Refused(Exception):
+    """The lines of a refusal."""
+
+    def __init__(self, *lines):
+        super().__init__(*lines)
+        self.lines = list(lines)
+
+
+def shown(entry):
+    return " | ".join(map(str, entry))
+
+
+def formula_holds(formula, profiles):
+    """Whether `a+!b,c` of a Package-List holds under profiles, as `<a !b> <c>` does."""
+    for terms in formula.split(","):
+        if all((term.removeprefix("!") in profiles) != term.startswith("!") for term in terms.split("+")):
+            return True
+    return False
+
+
+def is_given(words, architectures, profiles, mode):
+    """Whether a line of a Package-List names a package that a build gives: its words."""
+    if len(words) < 4 or words[1] != "deb":
+        return False
+    marks = {}
+    for mark in words[4:]:
+        key, sign, value = mark.partition("=")
+        if sign:
+            marks.setdefault(key, value)
+    places = marks.get("arch", "any").split(",")
+    is_for_all = places == ["all"]
+    if mode == ("arch" if is_for_all else "indep"):
+        return False
+    if not is_for_all and not any(place in architectures for place in places):
+        return False
+    return "profile" not in marks or formula_holds(marks["profile"], profiles)
+
+
+def listed(source, architectures, profiles, mode):
+    """The names that a source's Package-List gives; None where it has none."""
+    text = source.paragraph.get("Package-List")
+    if text is None:
+        return None
+    rows = [row.split() for row in text.split("\n")]
+    return [row[0] for row in rows if is_given(row, architectures, profiles, mode)]
+
+
+def cut_count(text):
+    """What stands before `+bN` at the end of a version, and N, which is 0 where it has none."""
+    stem, plus, count = text.rpartition("+b")
+    is_count = plus and count and set(count) <= set("0123456789")
+    return (stem, int(count)) if is_count else (text, 0)
+
+
+class Build:
+    """A recipe of the wish with its source and what it gives. `stem` is the version of the source whose packages stand in for
+    those of the one that is built, where the index has none of that; `again` counts the builds of this version before."""
+
+    def __init__(self, wish, architectures, index, sources):
+        self.wish, self.name, self.again, self.stem, self.notes = wish, wish.name, 0, None, []
+        fitting = [it for it in sources.versions(wish.source) if wish.version is None or wish.version.compare(it.version) == 0]
+        if not fitting:
+            raise Refused(f"refused 702 wish line {wish.line}", f"  no source {wish.source_text} in the Sources indexes")
+        made = index.made(wish.source)
+        here = self.choose(fitting, made)
+        given = listed(self.source, architectures, wish.profiles, wish.mode)
+        given = sorted(here) if given is None else given
+        self.outputs = [here[name] for name in self.chosen(given, here) if name in here]
+        if not self.outputs:
+            line = f"  the Packages indexes have nothing that recipe {self.name} gives"
+            raise Refused(f"refused 704 wish line {wish.line}", line)
+        relations = (self.source.relations["Build-Depends" + part] for part in MODES[wish.mode])
+        self.needs = [entry for own in relations for entry in reduce_field(own, architectures, wish.profiles)]
+
+    def choose(self, fitting, made):
+        """Chooses the source, and gives what the index has of it by name."""
+        for source in fitting:
+            for version, here in made:
+                if version.compare(source.version) == 0:
+                    self.source = source
+                    return here
+        self.source = fitting[0]
+        if not made:
+            return {}
+        version, here = made[0]
+        self.stem = version.text
+        self.notes.append(f"recipe {self.name}: its packages are those of source {self.source.name} (= {self.stem})")
+        return here
+
+    def chosen(self, given, here):
+        for name in self.wish.outputs or []:
+            if name not in given or name not in here:
+                raise Refused(f"refused 703 wish line {self.wish.line}", f"  recipe {self.name} does not give {name}")
+        return given if self.wish.outputs is None else self.wish.outputs
+
+    def version_of(self, it):
+        """The version under which the build gives a variant: that of the source that is built, where the variant is of
+        another one, and as a further build of it, where it is one."""
+        stem, count = cut_count(it.version.text)
+        if self.stem == stem:
+            stem, count = self.source.version.text, 0
+        elif not self.again:
+            return it.version.text
+        return f"{stem}+b{count + self.again}" if self.again else stem
+
+    def is_taken(self, taken):
+        return any(taken.find(it.name, Version(self.version_of(it))) for it in self.outputs)
+
+    def written(self, it):
+        """The paragraph of an output: as it stands, or with its new version, and that version where it speaks of packages of
+        the same build."""
+        version = self.version_of(it)
+        if version == it.version.text:
+            return it.raw
+        sisters = {other.name: (other.version.text, self.version_of(other)) for other in self.outputs}
+        rows, field = [], None
+        for row in it.raw.split("\n"):
+            if row[0] not in " \t#":
+                field = row.partition(":")[0].lower()
+            if field == "version":
+                row = row.replace(it.version.text, version, 1) if row[0] != "#" else row
+            elif field in VERSIONED and row[0] != "#":
+                row = renamed(row, sisters, self.stem is not None)
+            rows.append(row)
+        return "\n".join(rows)
+
+    def steps(self):
+        return min(100 + self.source.kib(), LARGEST) if self.wish.steps is None else self.wish.steps
+
+    def scratch(self):
+        estimate = 16 * self.source.kib() + 2 * sum(it.size for it in self.outputs)
+        return min(estimate, LARGEST) if self.wish.scratch is None else self.wish.scratch
+
+
+def renamed(row, sisters, is_any_operator):
+    """A line of a relation field with the new versions of its sisters: behind `=` alone, or behind each operator."""
+    made, at = "", 0
+    while (bracket := row.find("(", at)) >= 0 and (end := row.find(")", bracket)) >= 0:
+        before, inside = row[at:bracket], row[bracket + 1 : end]
+        name = before.replace(",", " ").replace("|", " ").split()[-1:]
+        version = inside.strip(" \t<=>")
+        operator = inside.strip(" \t").removesuffix(version).strip(" \t")
+        old, new = sisters.get(name[0].partition(":")[0], (None, None)) if name else (None, None)
+        if version == old and (operator == "=" or is_any_operator):
+            inside = inside.replace(old, new, 1)
+        made += f"{before}({inside})"
+        at = end + 1
+    return made + row[at:]
+
+
+class Import:
+    """What is taken of the indexes for a wish."""
+
+    def __init__(self, wish, archive, target, sources):
+        self.wish, self.archive, self.target = wish, archive, target
+        self.architectures = wish.architectures
+        self.builds = [Build(it, self.architectures, target, sources) for it in wish.recipes]
+        self.sources = sources
+        self.given = Pool(it for build in self.builds for it in build.outputs)
+        self.begin, self.unmet = Pool(), {}
+        self.chroots = [(it, self.chroot(it)) for it in wish.chroots]
+        if wish.archive is not None:
+            self.close([(entry, "Archive") for entry in reduce_field(wish.archive, self.architectures)], True)
+        needs = [(entry, f"recipe {build.name} Build-Depends") for build in self.builds for entry in build.needs]
+        self.close(needs, wish.archive is None)
+        self.count_builds()
+
+    def count_builds(self):
+        """Where the archive or an earlier build has a version of what a build gives, the build gives further ones."""
+        taken = Pool(self.begin.members)
+        for build in self.builds:
+            while build.is_taken(taken):
+                build.again += 1
+            for it in build.outputs:
+                taken.add(Renumbered(it, Version(build.version_of(it))))
+
+    def close(self, entries, from_archive):
+        """Takes the best that meets each entry, and what that needs: of the archive's index where that is allowed, and of
+        what the builds give. `entries` are pairs of an entry and who has it. What is taken does not depend on their order."""
+        seen = set()
+        for entry, who in entries:  # grows while it is gone through
+            if shown(entry) in seen:
+                continue
+            seen.add(shown(entry))
+            there, given = self.archive.best(entry) if from_archive else None, self.given.best(entry)
+            if there is not None:
+                self.begin.add(there)
+            elif given is None and self.begin.best(entry) is None:
+                self.unmet.setdefault(shown(entry), (entry, who))
+            for it in (there, given):
+                if it is not None:
+                    entries.extend((need, str(it)) for need in it.needs())
+
+    def chroot(self, wished):
+        """The variants of a base chroot, which the archive has too."""
+        members = Pool()
+        essential = [[Alternative(name)] for name in sorted(self.archive.essential)]
+        entries = essential + reduce_field(wished.packages, self.architectures)
+        for entry in entries:  # grows while it is gone through
+            it = self.archive.best(entry)
+            if it is None:
+                line = f"  the archive's index has nothing that meets {shown(entry)}"
+                raise Refused(f"refused 705 chroot {wished.name}", line)
+            if members.find(it.name, it.version) is None:
+                members.add(it)
+                self.begin.add(it)
+                entries.extend(it.needs())
+        found = members.in_order()
+        for one, other in zip(found, found[1:]):
+            if one.name == other.name:
+                raise Refused(f"refused 705 chroot {wished.name}", f"  two versions of {one.name} are wanted")
+        return found
+
+    def packages(self):
+        """Name, version and paragraph of each variant, in order."""
+        found = [(it.name, it.version, it.raw) for it in self.begin.members]
+        found += [(it.name, Version(build.version_of(it)), build.written(it)) for build in self.builds for it in build.outputs]
+        return sorted(found, key=lambda row: (row[0], by_order(row[1])))
+
+    def chosen_sources(self):
+        found = []
+        for build in self.builds:
+            if build.source not in found:
+                found.append(build.source)
+        return sorted(found, key=lambda it: (it.name, by_order(it.version)))
+
+    def farm(self):
+        """The farm text."""
+        rows = [f"Architecture-Names: {' '.join(self.architectures)}", f"Archive: {items(map(str, self.begin.in_order()))}"]
+        for build in self.builds:
+            rows += ["", f"Recipe: {build.name}", f"Source: {build.source.name} (= {build.source.version.text})"]
+            rows += [f"Mode: {build.wish.mode}"] if build.wish.mode != "full" else []
+            rows += [f"Profiles: {' '.join(build.wish.profiles)}"] if build.wish.profiles else []
+            outputs = items(f"{it.name} (= {build.version_of(it)})" for it in build.outputs)
+            rows += [f"Steps: {build.steps()}", f"Scratch: {build.scratch()}", f"Outputs: {outputs}"]
+        for wished, members in self.chroots:
+            rows += ["", f"Chroot: {wished.name}", f"Capacity: {wished.capacity}", f"Packages: {items(map(str, members))}"]
+        return "".join(f"{row}\n" for row in rows)
+
+    def counts(self, packages, sources):
+        given = [it for build in self.builds for it in build.outputs]
+        rows = self.packages()
+        return {
+            "names": len({name for name, _, _ in rows}), "variants": len(rows), "sources": len(self.chosen_sources()),
+            "recipes": len(self.builds), "base chroots": len(self.chroots), "bytes of a text": max(len(packages), len(sources)),
+            "relation entries": sum(it.entries for it in [*self.begin.members, *given]),
+        }
+
+    def notes(self):
+        """What is odd: needs that nothing meets, and which source would give what meets them."""
+        yield from self.wish.notes
+        for build in self.builds:
+            yield from build.notes
+        for entry, who in self.unmet.values():
+            it = self.target.best(entry) or self.archive.best(entry)
+            giver = "" if it is None else f"; source {it.source} gives {it}"
+            yield f"{who}: {shown(entry)} is met by nothing{giver}"
+        found = self.archive.unreadable + (self.target.unreadable if self.target is not self.archive else [])
+        found += self.sources.unreadable
+        if found:
+            yield f"{len(found)} paragraphs that were looked at cannot be read and are passed over, first {found[0]}"
+
+    def shares(self):
+        """Of each build how many names it takes that no other build and no chroot takes, how many it takes, and its name."""
+        base = {it.name for _, members in self.chroots for it in members}
+        taken = [self.names_taken(build) for build in self.builds]
+        count = {}
+        for name in (name for names in taken for name in names):
+            count[name] = count.get(name, 0) + 1
+        owns = (sum(count[name] == 1 and name not in base for name in names) for names in taken)
+        return sorted(zip(owns, map(len, taken), (build.name for build in self.builds)), reverse=True)
+
+    def names_taken(self, build):
+        names, todo, seen = {it.name for it in build.outputs}, list(build.needs), set()
+        for entry in todo:  # grows while it is gone through
+            if shown(entry) in seen:
+                continue
+            seen.add(shown(entry))
+            for it in (self.archive.best(entry), self.given.best(entry)):
+                if it is not None and (self.begin.find(it.name, it.version) or it in build.outputs):
+                    names.add(it.name)
+                    todo += it.needs()
+        return names
+
+
+class Renumbered:
+    """A variant under another version, for a pool."""
+
+    def __init__(self, it, version):
+        self.name, self.version, self.relations = it.name, version, it.relations
+
+
+def items(rows):
+    return ",\n ".join(rows)
+
+
+def check_limits(made, counts):
+    over = [what for what, most in LIMITS.items() if most is not None and counts[what] > most]
+    if over:
+        rows = [f"  {what}: {counts[what]}, at most {LIMITS[what]}" for what in over]
+        for own, whole, name in made.shares()[:SHOWN]:
+            rows.append(f"  recipe {name} needs {whole} names, {own} that nothing else needs")
+        raise Refused("refused 710 wish line 0", *rows)
+
+
+def make_texts(wish_text, archive, packages, sources):
+    """The three texts, and the lines that tell of them; Refused, or Fault. The indexes are pairs of a name and a text."""
+    wish = Wish(wish_text)
+    target = PackagesIndex(packages, wish.architectures)
+    own = PackagesIndex(archive, wish.architectures) if archive else target
+    made = Import(wish, own, target, SourcesIndex(sources))
+    packages = "".join(f"{raw}\n\n" for _, _, raw in made.packages())
+    sources = "".join(f"{it.raw}\n\n" for it in made.chosen_sources())
+    counts = made.counts(packages, sources)
+    check_limits(made, counts)
+    texts = {"packages": HEAD + packages, "sources": HEAD + sources, "farm": HEAD + made.farm()}
+    read_universe(texts)
+    limits = {what: "" if most is None else f" of {most}" for what, most in LIMITS.items()}
+    told = [f"{what} {count}{limits[what]}" for what, count in counts.items()]
+    return texts, [*told, *(f"note: {note}" for note in made.notes())]
