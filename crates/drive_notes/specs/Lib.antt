@@ -1,0 +1,4 @@
+pub mod LaneNotes
+pub mod Onward
+pub mod Follow
+pub mod Following
