@@ -2,3 +2,4 @@ pub mod LaneNotes
 pub mod Onward
 pub mod Follow
 pub mod Following
+pub mod Laws

@@ -3,8 +3,10 @@
 
 mod follow;
 mod journal;
+mod laws;
 mod notes;
 mod steps;
 
 pub use journal::{ReplayFault, replay};
+pub use laws::replay_is_a_run;
 pub use notes::{NOTHING, Note, Notes};
