@@ -1,0 +1,2 @@
+pub mod LaneDesks
+pub mod Laws

@@ -1,0 +1,5 @@
+pub mod LaneNotes
+pub mod Onward
+pub mod Follow
+pub mod Following
+pub mod Laws
