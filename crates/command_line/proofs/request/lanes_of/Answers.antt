@@ -6,16 +6,15 @@ pub returns-then-not-ends_word-clause-refused : goal.returns-then-not-ends_word-
 returns-then-not-ends_word-clause-refused g c = c.not_there.ensures _
 
 pub returns-in-Ok-clause-asked : goal.returns-in-Ok-clause-asked
-returns-in-Ok-clause-asked g c =
-    (
-      (
-        c.args.number.now,
-        ends-word g.S.AsStr.text c.args.words.now c.args.number.now
-            (sym c.ends_word.ensures ∙ c.if-not-ends_word.false),
-        search rules,
-      ),
-      c.requires.paths,
-    )
+returns-in-Ok-clause-asked g c = (
+  (
+    c.args.number.now,
+    ends-word g.S.AsStr.text c.args.words.now c.args.number.now
+        (sym c.ends_word.ensures ∙ c.if-not-ends_word.false),
+    search rules,
+  ),
+  c.requires.paths,
+)
 
 pub returns-in_default-clause-refused : goal.returns-in_default-clause-refused
 returns-in_default-clause-refused g c = c.wrong.ensures _
