@@ -12,10 +12,13 @@ use Rattle.farm_model.specs.Chroot.{member}
 use Rattle.farm_model.specs.Universe.{Universe}
 use Rattle.plan_model.specs.Plan.{Plan}
 
+-- no lane is named for a recipe
+abbrev pub is_free : List WantedLane → ℕ → Bool
+is_free lanes r = not (list_any (λ w. member w.builds r) lanes)
+
 -- of so many recipes those that no lane is named for
 abbrev pub rest_of : ℕ → List WantedLane → List ℕ
-rest_of count lanes =
-    filter (λ r. not (list_any (λ w. member w.builds r) lanes)) (range_with_len 0 count)
+rest_of count lanes = filter (is_free lanes) (range_with_len 0 count)
 
 -- the lanes of a plan with their builds, and the others in any lane where that is asked for
 abbrev pub by_sketch : Bool → Universe → Plan → Wanted

@@ -1,6 +1,6 @@
 //! What is wanted, by a sketch or by a number of lanes.
 
-ghost use Rattle.std.specs.Prelude.{◌≡◌, IfOk, length, map, ◌<◌};
+ghost use Rattle.std.specs.Prelude.{◌≡◌, ◌++◌, ◌∷◌, [], IfOk, OnOk, if◌then◌else◌, length, map, ◌<◌};
 ghost use Rattle.std.specs.List.{list_any, range_with_len};
 ghost use Rattle.farm_model.specs.Chroot.{member};
 ghost use Rattle.drafted_plan.specs.Wanted as spec;
@@ -18,15 +18,24 @@ fn is_named(lanes: &[WantedLane], recipe: u32) -> bool
     lanes.iter().any(|lane| lane.builds.contains(&recipe))
 }
 
+/// Puts a recipe behind others, unless some lane is named for it.
+fn push_free(rest: &mut Vec<u32>, lanes: &[WantedLane], recipe: u32) -> Result<(), AllocError>
+    ensures { OnOk result (rest.new.items ≡ rest.old.items
+        ++ (if spec.is_free lanes.now recipe then recipe ∷ [] else [])) }
+{
+    if !is_named(lanes, recipe) {
+        rest.push(recipe)?;
+    }
+    Ok(())
+}
+
 /// The recipes, of so many, that no lane is named for.
 fn rest_of(alloc: Global, count: u32, lanes: &[WantedLane]) -> Result<Vec<u32>, AllocError>
     ensures { IfOk result (λ rest. rest.items ≡ spec.rest_of count lanes.now) }
 {
     let mut rest = Vec::new(alloc);
     for recipe in 0..count {
-        if !is_named(lanes, recipe) {
-            rest.push(recipe)?;
-        }
+        push_free(&mut rest, lanes, recipe)?;
     }
     Ok(rest)
 }
@@ -77,7 +86,8 @@ fn numbered_lanes(alloc: Global, count: u32, bases: u32) -> Result<Vec<WantedLan
 {
     let mut lanes = Vec::new(alloc);
     for number in 0..count {
-        lanes.push(numbered_lane(alloc, number, bases)?)?;
+        let lane = numbered_lane(alloc, number, bases)?;
+        lanes.push(lane)?;
     }
     Ok(lanes)
 }
