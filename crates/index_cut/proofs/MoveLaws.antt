@@ -2,7 +2,7 @@
 --
 --   move k line, moved k fault    the same, k lines further on
 use Rattle.std.proofs.Common.{◌≡◌, ℕ, ◌+◌, ◌<◌, ◌≤◌, nat_lt, Bool, true, not, List, [], ◌∷◌, ◌++◌, length, map, filter, Option, Some, None, refl, sym, ap, ◌∙◌, inl, inr, arith}
-use Rattle.std.specs.List.{list_all, flat_map, enumerate_from}
+use Rattle.std.specs.List.{list_all, flat_map, enumerate_from, onto_first}
 use Rattle.std.specs.Option.{option_map}
 use Rattle.std.proofs.lemmas.Bool.{cases_Bool, and_parts, ltb-true, ltb-false}
 use Rattle.std.proofs.lemmas.List.{map-append}
@@ -11,7 +11,8 @@ use Rattle.deb_text.specs.Answers.{fault_at}
 use Rattle.deb_text.specs.Cuts.{is_nil}
 use Rattle.deb_text.specs.Lines.{Line, lines_of, is_comment, control_lines}
 use Rattle.deb_text.specs.Steps.{or_else}
-use Rattle.deb_stanza.specs.Stanza.{name_of, separates, continues, continuation, field_text, texts_of, line_refusal, told_at}
+use Rattle.deb_stanza.specs.Stanza.{name_of, field_of, separates, continues, continuation, field_text, texts_of, parts, paragraph_of, paragraphs_of, line_refusal, told_at}
+use Rattle.index_cut.specs.Index.{fields_of}
 use Rattle.index_cut.proofs.FaultLaws.{fault_by, open_with, faults_from}
 
 abbrev pub move : ℕ → Line → Line
@@ -121,6 +122,44 @@ faults-move k (l ∷ ls) held =
     (ap (λ o. faults_from o (map (move k) ls)) (open-move k held l)
     ∙ faults-move k ls (open_with held l))
     ∙ or_else-move k (fault_by held l) (faults_from (open_with held l) ls)
+
+-- ---- their fields
+
+onto-move : (k : ℕ) (l : Line) (ps : List (List Line))
+    → onto_first (move k l) (map (map (move k)) ps) ≡ map (map (move k)) (onto_first l ps)
+onto-move k l [] = refl
+onto-move k l (q ∷ qs) = refl
+
+parts-move : (k : ℕ) (ls : List Line) → parts (map (move k) ls) ≡ map (map (move k)) (parts ls)
+parts-move k [] = refl
+parts-move k (l ∷ ls) =
+    elim (cases_Bool (separates l)) [
+      | inl is ↦ rw is (ap (λ (ps : List (List Line)). [] ∷ ps) (parts-move k ls))
+      | inr is ↦ rw is (ap (onto_first (move k l)) (parts-move k ls) ∙ onto-move k l (parts ls))
+    ]
+
+some-move : (k : ℕ) (ps : List (List Line))
+    → filter (λ part. not (is_nil part)) (map (map (move k)) ps)
+    ≡ map (map (move k)) (filter (λ part. not (is_nil part)) ps)
+some-move k [] = refl
+some-move k ([] ∷ ps) = some-move k ps
+some-move k ((l ∷ ls) ∷ ps) =
+    ap (λ (qs : List (List Line)). map (move k) (l ∷ ls) ∷ qs) (some-move k ps)
+
+made-move : (k : ℕ) (ps : List (List Line))
+    → fields_of (map paragraph_of (map (map (move k)) ps)) ≡ fields_of (map paragraph_of ps)
+made-move k [] = refl
+made-move k (q ∷ qs) =
+    ap (λ texts. map field_of texts ∷ fields_of (map paragraph_of (map (map (move k)) qs)))
+    (texts-move k q)
+    ∙ ap (λ rest. map field_of (texts_of q) ∷ rest) (made-move k qs)
+
+pub fields-move : (k : ℕ) (ls : List Line)
+    → fields_of (paragraphs_of (map (move k) ls)) ≡ fields_of (paragraphs_of ls)
+fields-move k ls =
+    ap (λ ps. fields_of (map paragraph_of (filter (λ part. not (is_nil part)) ps))) (parts-move k ls)
+    ∙ ap (λ ps. fields_of (map paragraph_of ps)) (some-move k (parts ls))
+    ∙ made-move k (filter (λ part. not (is_nil part)) (parts ls))
 
 -- ---- a fault is told at one of the lines
 

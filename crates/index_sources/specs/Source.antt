@@ -1,7 +1,7 @@
 -- The name and the version of a source, which Sources indexes call Package and Version.
 --
 --   source_at p    what a paragraph says
-use Rattle.std.specs.Prelude.{ℕ, List, codes, Option, Some, None, Result, Ok, ok_or}
+use Rattle.std.specs.Prelude.{ℕ, List, codes, Result, Ok, ok_or}
 use Rattle.deb_text.specs.Steps.{◌>>=◌, or_else}
 use Rattle.deb_stanza.specs.Stanza.{Paragraph, value_of}
 use Rattle.control_fields.specs.declared.error.TheConstants.{ABSENT}
