@@ -1,0 +1,54 @@
+-- The head of a journal. The project's own format.
+--
+--   head_text           the lines ahead of the run's: of each text its SHA-256 digest, in hex digits
+--   Finding             what the text of a journal is to a run of four texts
+--   finding             it by that text and the head that these texts give
+use Rattle.std.specs.Prelude.{ℕ, suc, List, [], ◌∷◌, codes, drop, length, nat_eq, if◌then◌else◌}
+use Rattle.std.specs.List.{concat, starts_with}
+use Rattle.std.specs.Str.{bytes_eq}
+use Rattle.deb_text.specs.Lines.{lines_of}
+use Rattle.deb_text.specs.Words.{words}
+use Rattle.drive_journal.specs.Entries.{whole}
+use Rattle.hex.specs.Hex.{encode_lower}
+use Rattle.sha2.specs.Sha256.{sha256}
+
+abbrev pub sum_line : List ℕ → List ℕ → List ℕ
+sum_line name text = concat (name ∷ codes " " ∷ encode_lower (sha256 text) ∷ codes "\n" ∷ [])
+
+abbrev pub head_text : List ℕ → List ℕ → List ℕ → List ℕ → List ℕ
+head_text packages sources farm plan =
+    concat (codes "journal 1\n" ∷ sum_line (codes "packages") packages
+    ∷ sum_line (codes "sources") sources ∷ sum_line (codes "farm") farm
+    ∷ sum_line (codes "plan") plan ∷ [])
+
+-- nothing was asked by then; the name of its run, and the lines of its entries; or this line of it
+-- does not fit, the first being 1
+pub data Finding : Type 0 where
+  IsFresh : Finding
+  IsKnown : List ℕ → List (List ℕ) → Finding
+  IsMisfit : ℕ → Finding
+
+-- the first of these lines that differ; they are numbered from n on
+abbrev pub first_other : ℕ → List (List ℕ) → List (List ℕ) → ℕ
+first_other n (line ∷ lines) (wanted ∷ more) =
+    if bytes_eq line wanted then first_other (suc n) lines more else n
+first_other n [] _ = n
+first_other n (line ∷ lines) [] = n
+
+-- by the words of the line `run RUN`
+abbrev pub run_by : List (List ℕ) → List (List ℕ) → Finding
+run_by entries (verb ∷ run ∷ []) =
+    if bytes_eq verb (codes "run") then IsKnown run entries else IsMisfit 6
+run_by entries _ = IsMisfit 6
+
+-- by what stands behind the head
+abbrev pub run_in : List (List ℕ) → Finding
+run_in [] = IsFresh
+run_in (line ∷ lines) = run_by lines (words line)
+
+-- a text that was torn within its head is a first part of it
+unfoldable pub finding : List ℕ → List ℕ → Finding
+finding head text =
+    if starts_with nat_eq (whole text) head then run_in (lines_of (drop (length head) (whole text)))
+    else if starts_with nat_eq head text then IsFresh
+    else IsMisfit (first_other 1 (lines_of text) (lines_of head))

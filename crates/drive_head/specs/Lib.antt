@@ -1,0 +1,2 @@
+pub mod HeadText
+pub mod Finding

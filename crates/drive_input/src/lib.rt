@@ -1,0 +1,6 @@
+//! What is heard of a driver, line by line.
+#![tactic(auto)]
+
+mod input;
+
+pub use input::{Heard, Input};
