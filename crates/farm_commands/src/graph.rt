@@ -8,6 +8,8 @@ ghost use Rattle.farm_commands.specs.declared.status.TheConstants as status;
 ghost use Rattle.farm_input.specs.View.{texts_view};
 ghost use Rattle.plan_model.specs.Plan.{count};
 ghost use Rattle.plan_model.specs.Sound.{IsSound};
+ghost use Rattle.timed_events.specs.Path.{IsCriticalPath};
+ghost use Rattle.timed_events.specs.Timed.{IsTimedRun};
 
 use crate::answers::{show_verdict, write_answer};
 use crate::fault::OutsideFault;
@@ -20,7 +22,7 @@ use report_sink::Sink;
 use std::alloc::{AllocError, Global};
 use std::mem::ManuallyDrop;
 use std::thread::Threads;
-use timed_farm::accepted_timed_run;
+use timed_farm::{PlanTime, accepted_timed_run};
 
 /// Gives a plan as a graph, as JSON or not.
 fn drawn(alloc: Global, plan: &DrawnPlan<'_>, json: bool) -> Result<Vec<u8>, AllocError> {
@@ -29,6 +31,43 @@ fn drawn(alloc: Global, plan: &DrawnPlan<'_>, json: bool) -> Result<Vec<u8>, All
     } else {
         plan_dot(alloc, plan)
     }
+}
+
+/// Gives an accepted plan with its timed run as a graph, as JSON or not.
+fn drawn_run<'x>(
+    alloc: Global,
+    accepted: &'x Accepted,
+    time: &'x PlanTime,
+    json: bool,
+) -> Result<Vec<u8>, AllocError>
+    requires run { IsTimedRun accepted.now.universe accepted.now.plan time.now.run.events.items
+        time.now.run.end }
+    requires path { IsCriticalPath accepted.now.universe accepted.now.plan
+        time.now.run.events.items time.now.run.end time.now.path.items }
+{
+    let plan = DrawnPlan {
+        universe: accepted.universe(),
+        plan: accepted.plan(),
+        run: Some(timed_plan(accepted, time)),
+        stuck: &[],
+    };
+    drawn(alloc, &plan, json)
+}
+
+/// Gives a plan as a graph whose lanes of these names are stuck, as JSON or not.
+fn drawn_stuck<'x>(
+    alloc: Global,
+    examined: &'x Examined,
+    lanes: &'x [Vec<u8>],
+    json: bool,
+) -> Result<Vec<u8>, AllocError> {
+    let plan = DrawnPlan {
+        universe: examined.universe(),
+        plan: examined.plan(),
+        run: None,
+        stuck: lanes,
+    };
+    drawn(alloc, &plan, json)
 }
 
 /// Answers with an accepted plan as a graph.
@@ -41,14 +80,7 @@ fn draw_accepted<'a, S: Sink>(
     ensures { IsAnswered (IsStatus status.FINE) (S.state out.old) (S.state out.new) result }
 {
     let time = accepted_timed_run(alloc, accepted)?;
-    let run = timed_plan(accepted, &time);
-    let plan = DrawnPlan {
-        universe: accepted.universe(),
-        plan: accepted.plan(),
-        run: Some(&run),
-        stuck: &[],
-    };
-    let text = drawn(alloc, &plan, json)?;
+    let text = drawn_run(alloc, accepted, &time, json)?;
     write_answer(out, &text, FINE)
 }
 
@@ -62,13 +94,7 @@ fn draw_stuck<'a, S: Sink>(
 ) -> Result<u8, OutsideFault<'a>>
     ensures { IsAnswered (IsStatus status.REFUSED) (S.state out.old) (S.state out.new) result }
 {
-    let plan = DrawnPlan {
-        universe: examined.universe(),
-        plan: examined.plan(),
-        run: None,
-        stuck: lanes,
-    };
-    let text = drawn(alloc, &plan, json)?;
+    let text = drawn_stuck(alloc, examined, lanes, json)?;
     write_answer(out, &text, REFUSED)
 }
 

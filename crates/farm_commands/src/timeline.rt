@@ -55,10 +55,10 @@ pub fn timed_plan<'a>(accepted: &'a Accepted, time: &'a PlanTime) -> TimedPlan<'
 }
 
 /// Gives the timed run of an accepted plan as it is to be shown.
-fn shown(
+fn shown<'x>(
     alloc: Global,
-    accepted: &Accepted,
-    time: &PlanTime,
+    accepted: &'x Accepted,
+    time: &'x PlanTime,
     lines: &PlanLines,
     shape: Shape,
 ) -> Result<Vec<u8>, AllocError>

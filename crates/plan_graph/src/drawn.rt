@@ -10,7 +10,7 @@ pub struct DrawnPlan<'a> {
     pub universe: &'a Universe,
     pub plan: &'a Plan,
     /// Its timed run, where it has one.
-    pub run: Option<&'a TimedPlan<'a>>,
+    pub run: Option<TimedPlan<'a>>,
     /// The names of the lanes that would wait for ever.
     pub stuck: &'a [Vec<u8>],
 }

@@ -110,7 +110,7 @@ impl Marks {
             nodes: vec![in alloc; false; nodes.nodes.len()]?,
             stuck,
         };
-        if let Some(run) = drawn.run {
+        if let Some(run) = &drawn.run {
             marks.note_run(run, nodes);
         }
         Ok(marks)
