@@ -4,7 +4,7 @@
 --   Answers         what is answered where this is wanted
 --   AnswersSketch   the same of a sketch, or of the first fault of the texts
 --   AnswersNumber   the same of a number of lanes
-use Rattle.std.specs.Prelude.{◌≡◌, ⊥, ℕ, Bool, false, List, [], Result, Ok, Err}
+use Rattle.std.specs.Prelude.{◌≡◌, ℕ, Bool, false, List, [], Result, Ok, Err}
 use Rattle.deb_text.specs.declared.fault.Fault.{Fault}
 use Rattle.draft_wish.specs.Follows.{Follows}
 use Rattle.draft_wish.specs.Wanted.{Wanted}

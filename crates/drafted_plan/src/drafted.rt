@@ -1,9 +1,10 @@
 //! A plan is looked for, written, and judged.
 
-ghost use Rattle.std.specs.Prelude.{◌≡◌, IfOk, Some};
+ghost use Rattle.std.specs.Prelude.{◌≡◌, IfOk, IsTrue, Some};
 ghost use Rattle.deb_text.specs.Answers.{refusal_of};
 ghost use Rattle.drafted_plan.specs.declared.drafted.Drafted.TheVariants.{Wrong};
-ghost use Rattle.drafted_plan.specs.Drafted.{Answers, AnswersSketch, AnswersNumber};
+ghost use Rattle.draft_wish.specs.Follows.{Follows};
+ghost use Rattle.drafted_plan.specs.Drafted.{Answers, AnswersSketch, AnswersNumber, IsDrafted};
 ghost use Rattle.farm_input.specs.Planned.{planned_of};
 ghost use Rattle.farm_input.specs.View.{texts_view};
 ghost use Rattle.farm_universe.specs.UniverseText.{universe_of};
@@ -20,8 +21,9 @@ use farm_input::Texts;
 use farm_numbering::numbers_of;
 use farm_universe::Universe;
 use plan_asm::assemble;
-use plan_verifier::{Refusal, check};
+use plan_verifier::{Accepted, Refusal, check};
 use std::alloc::{AllocError, Global};
+use std::mem::ManuallyDrop;
 use std::thread::Threads;
 
 /// What drafting comes to.
@@ -86,7 +88,48 @@ fn write(
     }
 }
 
-/// Judges the text of a plan.
+/// Tells whether an accepted plan is what was wanted.
+fn is_wanted(
+    alloc: Global,
+    wanted: &Wanted,
+    left: &[u32],
+    accepted: &Accepted,
+) -> Result<bool, AllocError>
+    ensures { IfOk result (λ b. IsTrue b → Follows wanted.now left.now accepted.now.plan) }
+{
+    let parts = parts_of(alloc, accepted.plan())?;
+    follows(alloc, wanted, left, &parts)
+}
+
+/// Tells whether a text is a plan that is accepted, and is what was wanted.
+fn stands(
+    rt: &(impl Threads + Sync),
+    alloc: Global,
+    texts: Texts<'_>,
+    wanted: &Wanted,
+    left: &[u32],
+    text: &[u8],
+) -> Result<bool, AllocError>
+    ensures { IfOk result
+        (λ b. IsTrue b → IsDrafted (texts_view texts.entry) wanted.now left.now text.now) }
+{
+    // The program ends with its answer: what was judged goes with it, and not piece by piece.
+    let verdict = ManuallyDrop::new(check(
+        rt,
+        alloc,
+        texts.packages,
+        texts.sources,
+        texts.farm,
+        text,
+    ));
+    match &*verdict {
+        Ok(accepted) => is_wanted(alloc, wanted, left, accepted),
+        Err(Refusal::Memory) => Err(AllocError),
+        Err(_) => Ok(false),
+    }
+}
+
+/// Judges the text of a plan, of which some recipes are left out.
 fn judge(
     rt: &(impl Threads + Sync),
     alloc: Global,
@@ -101,17 +144,10 @@ fn judge(
     if !is_partial && !left.is_empty() {
         return Ok(Drafted::Failed);
     }
-    match check(rt, alloc, texts.packages, texts.sources, texts.farm, &text) {
-        Ok(accepted) => {
-            let parts = parts_of(alloc, accepted.plan())?;
-            if follows(alloc, wanted, &left, &parts)? {
-                Ok(Drafted::Plan { text, left, told })
-            } else {
-                Ok(Drafted::Failed)
-            }
-        }
-        Err(Refusal::Memory) => Err(AllocError),
-        Err(_) => Ok(Drafted::Failed),
+    if stands(rt, alloc, texts, wanted, &left, &text)? {
+        Ok(Drafted::Plan { text, left, told })
+    } else {
+        Ok(Drafted::Failed)
     }
 }
 
@@ -168,17 +204,18 @@ pub fn draft_by_sketch(
         texts.entry.plan.now)) }
 {
     let read = Universe::read_side_by_side(rt, alloc, texts.packages, texts.sources, texts.farm);
-    let universe = match read {
-        Ok(universe) => universe,
+    let kept = match read {
+        Ok(universe) => ManuallyDrop::new(universe),
         Err(fault) => return wrong(fault),
     };
+    let universe = &*kept;
     if universe.bases() == 0 {
         return Ok(Drafted::Refused(no_chroot_note(alloc)?));
     }
-    match assemble(alloc, &universe, texts.plan) {
+    match assemble(alloc, universe, texts.plan) {
         Ok(plan) => {
-            let wanted = by_sketch(alloc, &universe, &plan, takes_rest)?;
-            answer(rt, alloc, texts, &universe, &wanted, is_partial)
+            let wanted = by_sketch(alloc, universe, &plan, takes_rest)?;
+            answer(rt, alloc, texts, universe, &wanted, is_partial)
         }
         Err(fault) => wrong(fault),
     }
@@ -204,13 +241,14 @@ pub fn draft_by_number(
         (universe_of texts.entry.packages.now texts.entry.sources.now texts.entry.farm.now)) }
 {
     let read = Universe::read_side_by_side(rt, alloc, texts.packages, texts.sources, texts.farm);
-    let universe = match read {
-        Ok(universe) => universe,
+    let kept = match read {
+        Ok(universe) => ManuallyDrop::new(universe),
         Err(fault) => return wrong(fault),
     };
+    let universe = &*kept;
     if universe.bases() == 0 {
         return Ok(Drafted::Refused(no_chroot_note(alloc)?));
     }
-    let wanted = by_number(alloc, &universe, lanes)?;
-    answer(rt, alloc, texts, &universe, &wanted, is_partial)
+    let wanted = by_number(alloc, universe, lanes)?;
+    answer(rt, alloc, texts, universe, &wanted, is_partial)
 }
