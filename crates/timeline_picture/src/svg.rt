@@ -60,8 +60,9 @@ pub fn timeline_svg(alloc: Global, run: &TimedPlan<'_>) -> Result<Vec<u8>, Alloc
     let mut text = Vec::new(alloc);
     push_head(&mut text, &frame, run.end)?;
     push_scale(&mut text, &frame, run.end)?;
-    push_lanes(alloc, &mut text, &drawing)?;
+    // the arrows that nothing hangs on go behind the bars
     push_arrows(&mut text, &drawing, false)?;
+    push_lanes(alloc, &mut text, &drawing)?;
     push_arrows(&mut text, &drawing, true)?;
     push_legend(&mut text, &frame)?;
     push_pieces(&mut text, &[b"</svg>\n"])?;

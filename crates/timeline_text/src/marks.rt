@@ -80,6 +80,8 @@ pub(crate) fn add_span(shares: &mut Vec<Share>, span: Span, total: u128) {
         if high <= low {
             return;
         }
-        shares[part].add(span.mark, high - low);
+        if let Some(share) = shares.get_mut(part) {
+            share.add(span.mark, high - low);
+        }
     }
 }
