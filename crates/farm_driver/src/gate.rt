@@ -1,0 +1,373 @@
+//! The gate of a run that a driver carries out.
+
+use crate::known::Known;
+use crate::office::{Fault, Journal, Office, Phase, Reply};
+use crate::question::{Asked, Question, instruction_at, write_question};
+use drive_input::Input;
+use drive_journal::Said;
+use drive_notes::Note;
+use farm_archive::Publication;
+use farm_universe::Variant;
+use lane_runner::{Gate, Go, LaneArchive, Place};
+use plan_asm::{Instruction, name_of, version_of};
+use plan_verifier::Accepted;
+use report_sink::Sink;
+use std::alloc::{AllocError, Global};
+use std::io::BufRead;
+use std::sync::{Condvar, Mutex, Wait};
+
+/// A gate at which each lane waits until a driver outside of this program has done what the lane is
+/// to do next. It asks by lines on its output, and hears by lines of its input; the lanes that wait
+/// take turns as readers. What was asked and done goes into a journal, and what an earlier journal
+/// notes as done is not asked again: lanes pass there in the journal's order, so that they pick
+/// what they had picked.
+#[derive(Drop)]
+pub struct DriverGate<'a, R: Wait, I: BufRead + Drop, S: Sink + Drop, J: Journal + Drop> {
+    rt: &'a R,
+    known: Known,
+    office: Mutex<Office<S, J>>,
+    changed: Condvar,
+    input: Mutex<Input<I>>,
+}
+
+/// Whether a lane has asked, or is at its turn, and else why not.
+#[derive(Clone, Copy, PartialEq, Eq)]
+enum Begun {
+    Yes,
+    Stopping,
+    Halted,
+}
+
+impl<'a, R: Wait, I: BufRead + Drop, S: Sink + Drop, J: Journal + Drop> DriverGate<'a, R, I, S, J> {
+    /// A gate over these streams.
+    ///
+    /// # Errors
+    ///
+    /// [`AllocError`] where memory is refused.
+    pub fn new(
+        rt: &'a R,
+        alloc: Global,
+        known: Known,
+        input: Input<I>,
+        out: S,
+        journal: J,
+    ) -> Result<DriverGate<'a, R, I, S, J>, AllocError> {
+        let office = Office::new(alloc, known.lanes.as_slice(), &known.notes, out, journal)?;
+        Ok(DriverGate {
+            rt,
+            known,
+            office: Mutex::new(office),
+            changed: Condvar::new(),
+            input: Mutex::new(input),
+        })
+    }
+
+    /// What stopped the run from outside of the plan.
+    pub fn fault(&self) -> Option<Fault> {
+        self.office.lock(self.rt).fault
+    }
+}
+
+impl<R: Wait, I: BufRead + Drop, S: Sink + Drop, J: Journal + Drop> DriverGate<'_, R, I, S, J> {
+    /// One lane gives up and halts the archive; each other waits until that is done.
+    fn give_up(&self, lane: u32) -> Go {
+        let mut office = self.office.lock(self.rt);
+        let is_cause = office.elect(lane);
+        self.changed.notify_all();
+        if is_cause {
+            return Go::GiveUp;
+        }
+        let _office = self
+            .changed
+            .wait_while(self.rt, office, |office| office.phase != Phase::Halted);
+        Go::Continue
+    }
+
+    /// Waits for the archive's turn, and takes it for so many tellings.
+    fn turn_at(&self, lane: u32, note: Note, tellings: usize) -> Begun {
+        let office = self.office.lock(self.rt);
+        let mut office = self
+            .changed
+            .wait_while(self.rt, office, |office| office.must_wait(note));
+        match office.phase {
+            Phase::Halted => Begun::Halted,
+            Phase::Stopping if note.rank.is_none() => Begun::Stopping,
+            _ => {
+                office.begin_turn(lane, tellings, note.rank);
+                Begun::Yes
+            }
+        }
+    }
+
+    fn take_turn(&self, lane: u32, note: Note, tellings: usize) -> Go {
+        match self.turn_at(lane, note, tellings) {
+            Begun::Stopping => self.give_up(lane),
+            _ => Go::Continue,
+        }
+    }
+
+    /// Ends a lane's turn at the archive.
+    fn end_turn(&self, lane: u32) {
+        self.office.lock(self.rt).end_turn(lane);
+        self.changed.notify_all();
+    }
+
+    fn fail(&self, fault: Fault) {
+        self.office.lock(self.rt).fail(fault);
+        self.changed.notify_all();
+    }
+
+    /// Writes the entry of a question, unless it was asked in an earlier run, and tells whether it
+    /// is kept.
+    fn is_noted(&self, office: &mut Office<S, J>, question: Question<'_>) -> bool {
+        if question.note.asked {
+            return true;
+        }
+        let universe = question.place.accepted.universe();
+        let said = match question.asked {
+            Asked::Unpack(variant) => Said::Picked {
+                name: name_of(universe, variant.name),
+                version: version_of(universe, variant),
+            },
+            _ => Said::Asked,
+        };
+        office.note(self.known.lane(question.place.lane), question.number, said)
+    }
+
+    /// Puts a question: the entry of the journal first, and then the line.
+    fn put(&self, office: &mut Office<S, J>, question: Question<'_>) -> Begun {
+        let lane = question.place.lane;
+        if !self.is_noted(office, question) || !office.ask(lane, question.number) {
+            return Begun::Stopping;
+        }
+        if write_question(&mut office.out, &self.known, question).is_err() {
+            office.withdraw(lane);
+            office.fail(Fault::WriteFailed);
+            return Begun::Stopping;
+        }
+        Begun::Yes
+    }
+
+    /// Puts a question once all that was made before is made again.
+    fn begin(&self, question: Question<'_>) -> Begun {
+        let office = self.office.lock(self.rt);
+        let mut office = self
+            .changed
+            .wait_while(self.rt, office, |office| office.must_hold());
+        match office.phase {
+            Phase::Open => self.put(&mut office, question),
+            Phase::Stopping => Begun::Stopping,
+            Phase::Halted => Begun::Halted,
+        }
+    }
+
+    /// The reply to what a lane has asked, or that it is to read.
+    fn listen(&self, lane: u32) -> Reply {
+        let office = self.office.lock(self.rt);
+        let mut office = self
+            .changed
+            .wait_while(self.rt, office, |office| office.must_listen(lane));
+        office.reply(lane)
+    }
+
+    /// Reads one line of the driver, and wakes the lane that it is for.
+    fn read(&self, accepted: &Accepted) {
+        let heard = self.input.lock(self.rt).next(accepted.plan());
+        self.office.lock(self.rt).hear(heard);
+        self.changed.notify_all();
+    }
+
+    /// Waits for the answer to what a lane has asked: whether it is done.
+    fn is_done(&self, accepted: &Accepted, lane: u32) -> bool {
+        for _ in self.rt.forever() {
+            match self.listen(lane) {
+                Reply::Done => return true,
+                Reply::Failed | Reply::None => return false,
+                Reply::Read => self.read(accepted),
+            }
+        }
+        false
+    }
+
+    /// Notes that it is done: of a publish with the archive's turn, for so many outputs. Tells
+    /// whether that is kept.
+    fn note_done(&self, lane: u32, number: u32, outputs: usize) -> bool {
+        let office = self.office.lock(self.rt);
+        let mut office = self.changed.wait_while(
+            self.rt,
+            office,
+            |office| outputs > 0 && office.has_no_turn(),
+        );
+        if outputs > 0 {
+            office.begin_turn(lane, outputs, None);
+        }
+        if number == 0 {
+            office.open(lane);
+        }
+        office.note(self.known.lane(lane), number, Said::Done)
+    }
+
+    /// What comes of a question that was put or not.
+    fn end(&self, question: Question<'_>, begun: Begun, outputs: usize) -> Go {
+        let lane = question.place.lane;
+        match begun {
+            Begun::Halted => Go::Continue,
+            Begun::Stopping => self.give_up(lane),
+            Begun::Yes => {
+                if self.is_done(question.place.accepted, lane)
+                    && self.note_done(lane, question.number, outputs)
+                {
+                    Go::Continue
+                } else {
+                    self.give_up(lane)
+                }
+            }
+        }
+    }
+
+    /// Asks for what is not done, and waits until it is.
+    fn ask(&self, question: Question<'_>, outputs: usize) -> Go {
+        if question.note.done {
+            return Go::Continue;
+        }
+        let begun = self.begin(question);
+        self.end(question, begun, outputs)
+    }
+
+    /// Notes that a lane looks, and tells whether its chroot is there.
+    fn is_open(&self, lane: u32) -> bool {
+        let mut office = self.office.lock(self.rt);
+        office.see(lane);
+        office.is_open(lane)
+    }
+
+    /// Asks for the lane's chroot, unless that is there.
+    fn open(&self, place: Place<'_>) -> Go {
+        if self.is_open(place.lane) {
+            return Go::Continue;
+        }
+        let question = Question {
+            place,
+            number: 0,
+            note: self.known.notes.of(place.lane, 0),
+            asked: Asked::Chroot,
+        };
+        self.ask(question, 0)
+    }
+
+    /// What is noted of a lane's instruction.
+    fn note_of(&self, place: Place<'_>) -> Note {
+        self.known
+            .notes
+            .of(place.lane, u64::from(place.instruction))
+    }
+
+    /// Asks for what the lane's instruction says.
+    fn ask_here(&self, place: Place<'_>, note: Note, outputs: usize) -> Go {
+        let question = Question {
+            place,
+            number: place.instruction,
+            note,
+            asked: Asked::Instruction,
+        };
+        self.ask(question, outputs)
+    }
+
+    /// Asks for an unpack whose pick is new: its entry is written before the turn ends.
+    fn ask_new(&self, question: Question<'_>) -> Go {
+        let begun = self.begin(question);
+        self.end_turn(question.place.lane);
+        self.end(question, begun, 0)
+    }
+
+    fn note_branch(&self, place: Place<'_>, holds: bool) {
+        let lane = self.known.lane(place.lane);
+        let mut office = self.office.lock(self.rt);
+        if office.phase != Phase::Halted {
+            let _kept = office.note(lane, place.instruction, Said::Branched(holds));
+        }
+    }
+
+    fn before_instruction(&self, place: Place<'_>) -> Go {
+        let note = self.note_of(place);
+        match instruction_at(place) {
+            None | Some(Instruction::Wait(_)) => Go::Continue,
+            Some(Instruction::Unpack { .. } | Instruction::When { .. }) => {
+                self.take_turn(place.lane, note, 1)
+            }
+            Some(Instruction::Publish(recipe)) => {
+                let outputs = place.accepted.universe().outputs(*recipe).len();
+                if note.done {
+                    return self.take_turn(place.lane, note, outputs);
+                }
+                self.ask_here(place, note, outputs)
+            }
+            Some(_) => self.ask_here(place, note, 0),
+        }
+    }
+}
+
+impl<R: Wait, I: BufRead + Drop, S: Sink + Drop, J: Journal + Drop> Gate
+    for DriverGate<'_, R, I, S, J> {
+    ghost may_give_up = { λ _. Unit {0} };
+
+    fn before(&self, place: Place<'_>) -> Go {
+        match self.open(place) {
+            Go::GiveUp => Go::GiveUp,
+            Go::Continue => self.before_instruction(place),
+        }
+    }
+
+    fn unpacked<A: LaneArchive>(&self, place: Place<'_>, _end: &A, variant: Variant) -> Go {
+        let note = self.note_of(place);
+        let question = Question {
+            place,
+            number: place.instruction,
+            note,
+            asked: Asked::Unpack(variant),
+        };
+        let Some(pick) = note.pick else {
+            return self.ask_new(question);
+        };
+        if pick != variant.bit {
+            self.fail(Fault::JournalMisfit);
+        }
+        self.end_turn(place.lane);
+        self.ask(question, 0)
+    }
+
+    fn branched<A: LaneArchive>(&self, place: Place<'_>, _end: &A, holds: bool) {
+        match self.note_of(place).branch {
+            None => self.note_branch(place, holds),
+            Some(noted) => {
+                if noted != holds {
+                    self.fail(Fault::JournalMisfit);
+                }
+            }
+        }
+        self.end_turn(place.lane);
+    }
+
+    fn pause(&self, lane: u32, _instruction: u32) -> Go {
+        let office = self.office.lock(self.rt);
+        let mut office = self
+            .changed
+            .wait_while(self.rt, office, |office| office.is_still(lane));
+        office.see(lane);
+        Go::Continue
+    }
+
+    fn published<A: LaneArchive>(&self, _accepted: &Accepted, _end: &A, output: Publication) {
+        let mut office = self.office.lock(self.rt);
+        office.end_turn(output.lane);
+        office.ring();
+        self.changed.notify_all();
+    }
+
+    fn ring(&self) {
+        let mut office = self.office.lock(self.rt);
+        office.phase = Phase::Halted;
+        office.ring();
+        self.changed.notify_all();
+    }
+}

@@ -1,0 +1,312 @@
+//! What a gate keeps under its lock.
+
+use crate::known::LaneWords;
+use drive_desk::{Desk, Request};
+use drive_input::Heard;
+use drive_journal::{Entry, Said, write_entry};
+use drive_notes::{Note, Notes};
+use drive_words::Answer;
+use report_sink::Sink;
+use std::alloc::{AllocError, Global};
+
+/// Where a journal goes: a sink whose entries can be kept for good.
+pub trait Journal: Sink {
+    /// Tells whether all that was written stays, even if the machine goes down.
+    fn keep(&mut self) -> bool;
+}
+
+/// How far a run is from its stop.
+#[derive(Clone, Copy, PartialEq, Eq)]
+pub enum Phase {
+    /// The driver is asked.
+    Open,
+    /// Nothing more is asked; a lane gives up at what it would ask next.
+    Stopping,
+    /// A lane has halted the archive.
+    Halted,
+}
+
+/// What ends a run from outside of the plan.
+#[derive(Clone, Copy, PartialEq, Eq)]
+pub enum Fault {
+    /// The output took nothing.
+    WriteFailed,
+    /// An entry of the journal was not kept.
+    JournalFailed,
+    /// The journal is not of this run.
+    JournalMisfit,
+    /// A line of the driver is no answer.
+    BadAnswer,
+}
+
+/// The lane that is between a look at the archive, or a change of it, and its telling; how many
+/// tellings are to come; and the rank that the event is noted with.
+#[derive(Clone, Copy)]
+struct ArchiveTurn {
+    lane: u32,
+    left: usize,
+    rank: Option<u64>,
+}
+
+/// What comes of a request that a lane waits for.
+#[derive(Clone, Copy, PartialEq, Eq)]
+pub enum Reply {
+    Done,
+    Failed,
+    /// None comes: the driver says nothing more.
+    None,
+    /// The lane is to read the driver's next line.
+    Read,
+}
+
+/// Whether the chroot of a lane was opened, and how often the bell had rung when the lane last
+/// looked.
+#[derive(Clone, Copy)]
+struct Seat {
+    is_open: bool,
+    seen: u64,
+}
+
+/// What a gate keeps under its lock.
+#[derive(Drop)]
+pub struct Office<S, J> {
+    pub out: S,
+    pub journal: J,
+    pub phase: Phase,
+    pub fault: Option<Fault>,
+    desk: Desk,
+    seats: Vec<Seat>,
+    has_ended: bool,
+    is_reading: bool,
+    cause: Option<u32>,
+    turn: Option<ArchiveTurn>,
+    next_rank: u64,
+    ranks: u64,
+    rings: u64,
+}
+
+/// The desks and the seats of lanes.
+fn places_of(alloc: Global, lanes: &[LaneWords]) -> Result<(Desk, Vec<Seat>), AllocError> {
+    let mut least = Vec::new(alloc);
+    let mut seats = Vec::new(alloc);
+    for lane in lanes {
+        least.push(lane.least)?;
+        let is_open = lane.least > 0;
+        seats.push(Seat { is_open, seen: 0 })?;
+    }
+    let desk = Desk::new(alloc, least.as_slice())?;
+    Ok((desk, seats))
+}
+
+impl<S: Sink + Drop, J: Journal + Drop> Office<S, J> {
+    /// An office for these lanes.
+    ///
+    /// # Errors
+    ///
+    /// [`AllocError`] where memory is refused.
+    pub fn new(
+        alloc: Global,
+        lanes: &[LaneWords],
+        notes: &Notes,
+        out: S,
+        journal: J,
+    ) -> Result<Office<S, J>, AllocError> {
+        let (desk, seats) = places_of(alloc, lanes)?;
+        Ok(Office {
+            out,
+            journal,
+            phase: Phase::Open,
+            fault: None,
+            desk,
+            seats,
+            has_ended: false,
+            is_reading: false,
+            cause: None,
+            turn: None,
+            next_rank: 0,
+            ranks: notes.ranks(),
+            rings: 0,
+        })
+    }
+
+    // ---- chroots, and the bell
+
+    /// Tells whether the chroot of a lane was opened.
+    pub fn is_open(&self, lane: u32) -> bool {
+        match self.seats.get(lane as usize) {
+            Some(seat) => seat.is_open,
+            None => false,
+        }
+    }
+
+    /// Notes that the chroot of a lane was opened.
+    pub fn open(&mut self, lane: u32) {
+        if let Some(seat) = self.seats.get_mut(lane as usize) {
+            seat.is_open = true;
+        }
+    }
+
+    /// Notes how often the bell has rung by now.
+    pub fn see(&mut self, lane: u32) {
+        let rings = self.rings;
+        if let Some(seat) = self.seats.get_mut(lane as usize) {
+            seat.seen = rings;
+        }
+    }
+
+    /// Tells whether a lane is to wait for the bell.
+    pub fn is_still(&self, lane: u32) -> bool {
+        match self.seats.get(lane as usize) {
+            Some(seat) => seat.seen == self.rings && self.phase != Phase::Halted,
+            None => false,
+        }
+    }
+
+    pub fn ring(&mut self) {
+        self.rings = self.rings.wrapping_add(1);
+    }
+
+    // ---- stopping
+
+    /// Nothing more is to be asked.
+    pub fn stop(&mut self) {
+        if self.phase == Phase::Open {
+            self.phase = Phase::Stopping;
+        }
+    }
+
+    /// Stops for a fault: nothing more is read either.
+    pub fn fail(&mut self, fault: Fault) {
+        if self.fault.is_none() {
+            self.fault = Some(fault);
+        }
+        self.has_ended = true;
+        self.stop();
+    }
+
+    /// Tells whether this lane is the one that gives up.
+    pub fn elect(&mut self, lane: u32) -> bool {
+        self.stop();
+        match self.cause {
+            Some(cause) => cause == lane,
+            None => {
+                self.cause = Some(lane);
+                true
+            }
+        }
+    }
+
+    // ---- the archive's turn
+
+    /// Tells whether a lane is to wait ahead of an event: until nobody is at another one, and all
+    /// that was made before it is made again.
+    pub fn must_wait(&self, note: Note) -> bool {
+        let is_due = self.turn.is_none() && self.next_rank == note.rank.unwrap_or(self.ranks);
+        match self.phase {
+            Phase::Open => !is_due,
+            Phase::Stopping => !is_due && note.rank.is_some(),
+            Phase::Halted => false,
+        }
+    }
+
+    /// Tells whether what is new is to wait until all that was made before is made again.
+    pub fn must_hold(&self) -> bool {
+        self.phase == Phase::Open && self.next_rank != self.ranks
+    }
+
+    /// Tells whether a lane that has published is to wait for the archive's turn.
+    pub fn has_no_turn(&self) -> bool {
+        self.turn.is_some() && self.phase != Phase::Halted
+    }
+
+    /// Gives the turn to a lane, for so many tellings of an event of this rank.
+    pub fn begin_turn(&mut self, lane: u32, left: usize, rank: Option<u64>) {
+        self.turn = Some(ArchiveTurn { lane, left, rank });
+    }
+
+    /// Ends the turn of a lane with its last telling.
+    pub fn end_turn(&mut self, lane: u32) {
+        let Some(turn) = self.turn else {
+            return;
+        };
+        if turn.lane != lane {
+            return;
+        }
+        if turn.left > 1 {
+            self.begin_turn(lane, turn.left - 1, turn.rank);
+            return;
+        }
+        self.turn = None;
+        if turn.rank == Some(self.next_rank) {
+            self.next_rank = self.next_rank.wrapping_add(1);
+        }
+    }
+
+    // ---- asking
+
+    /// Writes an entry to the journal, and tells whether it is kept.
+    pub fn note(&mut self, lane: &[u8], number: u32, said: Said<'_>) -> bool {
+        let number = u64::from(number);
+        let written = write_entry(&mut self.journal, Entry { lane, number, said }).is_ok();
+        if written && self.journal.keep() {
+            return true;
+        }
+        self.fail(Fault::JournalFailed);
+        false
+    }
+
+    /// Notes that a lane asks, if it may, and tells whether it is so.
+    pub fn ask(&mut self, lane: u32, number: u32) -> bool {
+        self.desk.ask(lane, number)
+    }
+
+    /// Notes that a lane waits no more for what it has asked.
+    pub fn withdraw(&mut self, lane: u32) {
+        self.desk.withdraw(lane);
+    }
+
+    /// Tells whether a lane is to wait while another one reads.
+    pub fn must_listen(&self, lane: u32) -> bool {
+        let is_answered = matches!(self.desk.request(lane), Request::Answered { .. });
+        !is_answered && !self.has_ended && self.is_reading
+    }
+
+    /// The reply to what a lane has asked.
+    pub fn reply(&mut self, lane: u32) -> Reply {
+        match self.desk.take(lane) {
+            Some(true) => Reply::Done,
+            Some(false) => Reply::Failed,
+            None if self.has_ended => {
+                self.desk.withdraw(lane);
+                Reply::None
+            }
+            None => {
+                self.is_reading = true;
+                Reply::Read
+            }
+        }
+    }
+
+    /// Gives an answer to the lane that has asked. Where none has, it is passed over.
+    fn give(&mut self, lane: u32, number: u64, done: bool) {
+        if self.desk.post(lane, number, done) && !done {
+            let _is_cause = self.elect(lane);
+        }
+    }
+
+    /// Takes what was heard of the driver.
+    pub fn hear(&mut self, heard: Heard) {
+        self.is_reading = false;
+        match heard {
+            Heard::End => {
+                self.has_ended = true;
+                self.stop();
+            }
+            Heard::Line(Answer::Done { lane, number }) => self.give(lane, number, true),
+            Heard::Line(Answer::Failed { lane, number }) => self.give(lane, number, false),
+            Heard::Line(Answer::Stop) => self.stop(),
+            Heard::Line(Answer::Nothing) => {}
+            Heard::Line(Answer::Bad) => self.fail(Fault::BadAnswer),
+        }
+    }
+}
