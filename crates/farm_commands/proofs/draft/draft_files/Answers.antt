@@ -18,9 +18,11 @@ returns-clause-answer g c =
     (λ text status is. (
       texts_in_files c.in_ok-files.files,
       c.in_ok-files.ensures.read,
-      drafted,
-      subst (λ texts. AnswersSketch texts of.rest of.partial (planned_in texts) drafted)
-          c.texts.ensures c.in_ok-drafted.ensures,
-      is,
+      (
+        drafted,
+        subst (λ texts. AnswersSketch texts of.rest of.partial (planned_in texts) drafted)
+            c.texts.ensures c.in_ok-drafted.ensures,
+        is,
+      ),
     ))
     c.tell_drafted.ensures.answer)

@@ -18,10 +18,12 @@ returns-clause-answer g c =
     (λ text status is. (
       farm_in_files c.in_ok-files.files,
       c.in_ok-files.ensures.read,
-      drafted,
-      subst (λ texts. AnswersNumber texts of.lanes of.partial
-          (universe_of texts.packages texts.sources texts.farm) drafted)
-          c.texts.ensures c.in_ok-drafted.ensures,
-      is,
+      (
+        drafted,
+        subst (λ texts. AnswersNumber texts of.lanes of.partial
+            (universe_of texts.packages texts.sources texts.farm) drafted)
+            c.texts.ensures c.in_ok-drafted.ensures,
+        is,
+      ),
     ))
     c.tell_drafted.ensures.answer)
