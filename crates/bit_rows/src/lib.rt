@@ -1,4 +1,8 @@
 //! Sets of variants as rows of words: one word for each name, its bits that name's variants.
+//!
+//! Proved: each call, by the words of a row and by the set of variants that it stands for; a
+//! refused growth leaves the row as it was, and a row of one block asks for no memory. Not proved:
+//! how far `Row::skip` goes, and how fast a call is.
 #![tactic(auto)]
 
 mod block;

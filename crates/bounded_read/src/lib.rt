@@ -1,4 +1,7 @@
 //! The bytes of a reader up to a bound, put behind each other piece by piece.
+//!
+//! Proved: of a reader whose bytes are known `read_up_to` gives the first of them, up to the bound.
+//! Not proved: that it fails only where the reader or memory does.
 #![tactic(auto)]
 
 ghost use Rattle.std.specs.Prelude.{◌≡◌, ◌<◌, ◌++◌, false, take, length, IfOk, OnOk, IfSome};

@@ -1,4 +1,6 @@
 //! Cases that stand in files, and whether each has the answer that is wanted.
+//!
+//! Nothing is proved but that it is safe and ends.
 #![tactic(auto)]
 
 mod cases;

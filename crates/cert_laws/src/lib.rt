@@ -1,4 +1,8 @@
 //! The laws that what is printed of a certificate is read again as that certificate.
+//!
+//! Proved, over universes and plans that were read: the text of each certificate stands for that
+//! certificate, where it is no longer than a text may be (`certificate_is_read_again`); so do the
+//! line of a row and that of an item of the order.
 #![tactic(auto)]
 
 ghost use Rattle.cert_laws.specs.Laws.{UniverseIsSpelled, RowIsReadAgain, KnownLineIsReadAgain, OrderLineIsReadAgain, CertificateIsReadAgain};

@@ -1,4 +1,9 @@
 //! Laws of clocks: known rows as counts of each lane's outputs.
+//!
+//! Proved: clocks that keep to the inclusions have rows that do (`clocks_keep_rows`), such rows lie
+//! within those of their clocks (`rows_have_clocks`), and the greatest clocks have the greatest
+//! rows (`greatest_clocks_are_greatest`). That the greatest clocks are found is proved in
+//! wait_order.
 #![tactic(auto)]
 
 ghost use Rattle.clock_laws.specs.Clocks.{ClocksKeepRows, OutputsAreUnique, RowsHaveClocks, GreatestClocksAreGreatest};

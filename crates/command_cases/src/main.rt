@@ -2,6 +2,9 @@
 //! wanted one.
 //!
 //! The files are named by the program's words. What a file looks like is said in data/README.
+//!
+//! Nothing is proved but that it is safe. The gate runs it over data/, answered by hand and by the
+//! model, and compares what it prints with stdout.
 #![tactic(auto)]
 
 mod answers;

@@ -1,4 +1,9 @@
 //! Control data: the paragraphs of a text and their fields, as Debian Policy 5.1 has them.
+//!
+//! Proved: `Paragraphs::read` and `plain_lines` give exactly the paragraphs or lines of a text, or
+//! its first fault with its line (105, then 101 to 104), memory apart; `field`, `count` and
+//! `line_of` are their definitions. Not proved: how fast a text is read, and what memory the names
+//! of a long paragraph take.
 #![tactic(auto)]
 
 mod draft;

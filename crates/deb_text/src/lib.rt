@@ -1,5 +1,9 @@
 //! What the readers of control data share: faults, byte classes, cuts, lines, words, numbers and
 //! pieces.
+//!
+//! Proved: each call is its definition: lines, cuts, words, names and numbers of 1 to 15 digits;
+//! `next_line`, `next_part` and `next_word` give what comes first, and what is left is shorter;
+//! what is appended is exactly the pieces. Not proved: that a call succeeds where there is memory.
 #![tactic(auto)]
 
 mod classes;

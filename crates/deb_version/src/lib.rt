@@ -1,4 +1,9 @@
 //! Versions of Debian packages: their grammar and their order.
+//!
+//! Proved: a text is read exactly where the grammar has it, or refused with its first fault (111 to
+//! 114); `compare`, `==` and `Ord` are the order of Policy 5.6.12, which is total and has no ties
+//! but between equal epochs, words and numbers. Only tested: that dpkg orders the same
+//! (policy_cases).
 #![tactic(auto)]
 
 mod borrowed;

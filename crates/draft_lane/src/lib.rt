@@ -1,4 +1,7 @@
 //! The lines of a lane, by which its chroot comes to hold what is wanted.
+//!
+//! Nothing is proved but that it is safe and ends. What it writes is judged elsewhere, by
+//! draft_wish and plan_verifier.
 #![tactic(auto)]
 
 mod chroot;

@@ -1,4 +1,7 @@
 //! What is wanted of a plan, and whether a plan is what was wanted.
+//!
+//! Proved: `sketch_of` gives exactly what the lanes of a plan are a sketch of; where `follows` says
+//! yes, the plan is what was wanted (`Follows`). Not proved: that it says yes of every such plan.
 #![tactic(auto)]
 
 mod following;

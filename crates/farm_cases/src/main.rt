@@ -2,6 +2,9 @@
 //! one.
 //!
 //! The files are named by the program's words. What a file looks like is said in data/README.
+//!
+//! Nothing is proved but that it is safe and ends. The gate runs it over data/, answered by hand,
+//! by the model and by an independent program, and compares what it prints with stdout.
 #![tactic(auto)]
 
 mod answers;

@@ -1,4 +1,9 @@
 //! What portfarm's commands read, and what they answer.
+//!
+//! Proved, over files, readers and sinks whose bytes are known: a command answers exactly the text
+//! of its definition, with its status, or a first part where the sink fails; a fault outside of the
+//! texts is exactly its line (`run_words`, `quiet_words`). Not proved: which words ask for which
+//! command, and that `run_words` returns where it runs lanes.
 #![tactic(auto)]
 
 mod answers;

@@ -1,4 +1,8 @@
 //! Why a plan is refused, for a person and for a script: notes, with the texts of reasons.
+//!
+//! Proved: `unsafe_notes` gives exactly the notes of the first unsafe instruction of each lane,
+//! memory apart; laws say that they have the text, that it begins with the line of the refusal, and
+//! that each note has a reason.
 #![tactic(auto)]
 
 pub mod could_meet;

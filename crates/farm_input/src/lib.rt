@@ -1,4 +1,8 @@
 //! The four texts of a farm: cut from standard input, and read as a universe and a plan.
+//!
+//! Proved: `texts_of` cuts standard input into exactly the four texts; `read_texts` gives exactly
+//! the universe and the plan that they stand for, or their first fault, memory apart
+//! (`planned_of`).
 #![tactic(auto)]
 
 mod input;

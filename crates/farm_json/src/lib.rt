@@ -1,4 +1,7 @@
 //! Verdicts as JSON: the line of a verdict, and of a verdict with the notes that explain it.
+//!
+//! Proved: the line of a verdict, and of a verdict with its notes and warnings, is exactly the one
+//! that the definitions give, memory apart (`check_line`, `explain_line`).
 #![tactic(auto)]
 
 mod answers;

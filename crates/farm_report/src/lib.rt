@@ -1,4 +1,7 @@
 //! The texts of answers, written to a sink.
+//!
+//! Proved: each call writes exactly its text (`verdict_text`, `step_text`, `cert_text`,
+//! `run_text`), or a first part of it where the sink has failed, and says whether it has.
 #![tactic(auto)]
 
 mod cert;

@@ -1,4 +1,9 @@
 //! The universe of a port's farm: its packages, recipes, base chroots and initial archive.
+//!
+//! Proved: `Universe::read` and `read_side_by_side` give exactly the universe of three texts, or
+//! their first fault with its file and line, memory apart (`universe_of`); each reader of a
+//! universe is its definition, and each universe keeps what the laws ask (`IsKept`). Not proved:
+//! how many threads read, how fast, and what memory a text takes.
 #![tactic(auto)]
 
 mod among;

@@ -1,4 +1,6 @@
 //! What is odd in the texts of a farm and refuses no plan: warnings, a line each.
+//!
+//! Proved: `warnings` gives exactly the text of its definition, memory apart (`warnings_text`).
 #![tactic(auto)]
 
 mod answer;

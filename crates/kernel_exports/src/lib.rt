@@ -1,5 +1,7 @@
 //! The kernels as C functions, for the benchmark. A row is passed as a pointer and a length. The
 //! rows of one call have one length; nothing checks that a caller in C sees to it.
+//!
+//! Proved: each function is that of the kernel's definition for two rows of one length.
 #![tactic(auto)]
 
 ghost use Rattle.std.specs.Prelude.{◌≡◌, length};

@@ -1,4 +1,9 @@
 //! What a chroot may hold, as rows of words, and what an instruction does to it.
+//!
+//! Proved: `step` gives the first trap that an instruction may meet, or the may map after it, for
+//! any rows where what is known is possible (`answer`); `MayHold::of_base`, `join` and
+//! `phases_differ` are their definitions; `Doubts` miss nothing that may be unmet. Not proved: that
+//! doubts are few, which only costs time.
 #![tactic(auto)]
 
 mod ahead;

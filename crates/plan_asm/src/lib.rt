@@ -1,4 +1,9 @@
 //! The plan of a farm: lanes of instructions, and how a text is read as a plan.
+//!
+//! Proved: `assemble` and `assemble_side_by_side` give exactly the plan of a text, or its first
+//! fault with its line, memory apart (`plan_of`); such a plan keeps what the laws ask (`IsPlan`)
+//! and has its count of events; `listing`, and what appends a line of it, give exactly its text.
+//! Not proved: how many threads read, how fast, and what memory a text takes.
 #![tactic(auto)]
 
 mod again;

@@ -1,4 +1,9 @@
 //! Certificates: made of accepted plans, and checked by themselves.
+//!
+//! Proved: a certificate that passes, whoever made it, means that its plan is safe in every
+//! interleaving (`safe`: `IsSafe`); of another the answer is exactly its first fault (`verdict`);
+//! the certificate that is made of an accepted plan passes, and has exactly its greatest rows and
+//! its order. Memory apart.
 #![tactic(auto)]
 
 mod checker;

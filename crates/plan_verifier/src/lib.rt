@@ -1,4 +1,10 @@
 //! The verdict on a plan: it is accepted with a promise, or refused with its first cause.
+//!
+//! Proved: what `check` accepts is safe in every interleaving (`safe`: `IsSafe`), and its answer is
+//! the one that the rules give: the first fault of the texts, the first unsafe instruction, the
+//! stuck lanes, or an acceptance, memory apart (`verdict`). `Accepted` holds the promise in its
+//! type; a refused plan has no annotation with an order (`refusals_are_right`). Not proved: that a
+//! refused plan would fail in some run, and how fast a check is.
 #![tactic(auto)]
 
 mod accepted;

@@ -1,4 +1,9 @@
 //! The program: connects the commands with the words, the files and the streams of the machine.
+//!
+//! Proved: that it is safe. What it answers is in the contract of `run_words` of farm_commands,
+//! which of a machine's files and streams says only which statuses there are, since no contract
+//! knows their bytes (`held` and `given` are `None`). That these are the files and streams of its
+//! words is only tested.
 #![tactic(auto)]
 
 use farm_commands::{OUTSIDE, Source, WRONG_WORDS, run_words};

@@ -1,4 +1,7 @@
 //! Why an instruction may meet a trap: the first witness, in the order of the rules.
+//!
+//! Proved: `reason` gives exactly the first witness of the trap's test (`told`), and there is one
+//! wherever the trap may be met (`there`).
 #![tactic(auto)]
 
 mod ahead;

@@ -1,4 +1,9 @@
 //! Which variants of a universe satisfy which entries, and which exclude each other, as rows.
+//!
+//! Proved: each row of `Tables` has exactly the variants that satisfy its entry (`IsRowOf`),
+//! however many threads made it; whether words have a variant that conflicts, breaks or is broken,
+//! and what they miss, is answered exactly. Not proved: that equal entries share a row, how fast,
+//! and what memory rows take.
 #![tactic(auto)]
 
 mod atom_test;

@@ -1,4 +1,7 @@
 //! The timed run of a safe plan: when each event begins and ends.
+//!
+//! Proved: `timed_run` gives a run of the plan's definition (`IsTimedRun`) and `critical_path` a
+//! chain from time 0 to its end (`IsCriticalPath`), memory apart. Not proved: how fast they are.
 #![tactic(auto)]
 
 mod advance;

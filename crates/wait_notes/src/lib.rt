@@ -1,4 +1,7 @@
 //! What the waits of a plan wait for, for a person: of an accepted plan, and of one that is stuck.
+//!
+//! Proved: `waits_notes` gives exactly the notes of the waits of a plan, and `stuck_notes` notes of
+//! the places where the lanes stand once none goes on (`ShowsStuck`), memory apart.
 #![tactic(auto)]
 
 mod circles;

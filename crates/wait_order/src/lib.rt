@@ -1,4 +1,9 @@
 //! What the lanes of a plan know of the archive at each place, and an order of their waits.
+//!
+//! Proved: `knowledge` and `knowledge_side_by_side` find the greatest known rows (`IsGreatest`),
+//! and `Known` and `Outputs` answer exactly for each place; `order` gives an order of the waits, or
+//! exactly the stuck lanes; `settle` says where all lanes stand once none goes on. Not proved: how
+//! fast, and how many threads help.
 #![tactic(auto)]
 
 mod by_name;

@@ -1,4 +1,7 @@
 //! What one word of the archive gives: the variant that an unpack takes, and whether a wait passes.
+//!
+//! Proved: `newest` is the highest wanted variant in the word, and `some_satisfies` says exactly
+//! whether one in it satisfies the entry.
 #![tactic(auto)]
 
 mod pick;
