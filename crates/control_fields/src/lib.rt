@@ -1,4 +1,6 @@
 //! The fields of one paragraph of control data: names, numbers, and values that may be absent.
+//!
+//! Proved: what each field says, or its fault (`name_at`, `number_up_to`), memory apart.
 #![tactic(auto)]
 
 mod error;

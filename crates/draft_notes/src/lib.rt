@@ -1,4 +1,6 @@
 //! Why no plan is drafted, in lines.
+//!
+//! Nothing is proved but that it is safe and ends; command_cases and the model hold the lines.
 #![tactic(auto)]
 
 mod about;

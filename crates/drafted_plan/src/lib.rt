@@ -1,4 +1,8 @@
 //! Plans that are drafted: written, and judged before they are given out.
+//!
+//! Proved: a text that is given out is accepted by `check` on the four texts, and has the lanes and
+//! builds that are wanted (`AnswersSketch`, `AnswersNumber`). Not proved: that there is no plan
+//! where none is given.
 #![tactic(auto)]
 
 mod comments;

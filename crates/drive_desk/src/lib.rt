@@ -1,4 +1,8 @@
 //! Which lane of a run has asked for what, and which answer has come for it.
+//!
+//! Proved: each call leaves exactly the desks that are defined; an answer reaches the lane that
+//! asked under its number alone, a lane has one request at most, and what is done is not asked
+//! again.
 #![tactic(auto)]
 
 mod desk;

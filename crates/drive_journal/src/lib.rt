@@ -1,4 +1,8 @@
 //! The entries of a journal of a run that builds: how they are written and read.
+//!
+//! Proved: the line of an entry (`noted_text`), and what a line says (`noted_of`); a line that was
+//! written is read again, and the whole lines of a text that was cut off anywhere are the first of
+//! its whole lines.
 #![tactic(auto)]
 
 mod entry;

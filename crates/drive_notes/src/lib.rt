@@ -1,4 +1,7 @@
 //! What a journal notes of the instructions of a plan, where the core can follow it.
+//!
+//! Proved: a journal is followed exactly, or refused at the first line that the core cannot follow
+//! (`followed_by`); what is noted is of a state that a run reaches.
 #![tactic(auto)]
 
 mod follow;

@@ -1,4 +1,7 @@
 //! The gate by which a driver outside of this program does what the lanes of a run do.
+//!
+//! Proved: it is safe and may give up, as a `Gate`. Nothing is proved of turns, ranks and waking,
+//! nor of the order of a journal's entry and its line.
 #![tactic(auto)]
 
 mod gate;

@@ -1,4 +1,7 @@
 //! The plain numbers of a farm, made of its universe.
+//!
+//! Nothing is proved but that it is safe and ends. What is drafted of these numbers is judged
+//! elsewhere, by draft_wish and plan_verifier.
 #![tactic(auto)]
 
 mod builds;

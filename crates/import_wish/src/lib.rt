@@ -1,4 +1,7 @@
 //! The wish of an import: a farm text that leaves out what the indexes say.
+//!
+//! Proved: what a wish says, or the first fault of a paragraph at its line (`wish_at`), memory
+//! apart.
 #![tactic(auto)]
 
 mod chroot;

@@ -1,4 +1,6 @@
 //! Which package of an index meets an entry of a relation field best.
+//!
+//! Proved: of packages the best that meets an entry (`best_for`).
 #![tactic(auto)]
 
 mod best;

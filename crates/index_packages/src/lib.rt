@@ -1,4 +1,6 @@
 //! What is kept of the paragraphs of Packages indexes.
+//!
+//! Proved: what is kept of a paragraph, or its first fault (`given_at`), memory apart.
 #![tactic(auto)]
 
 mod fields;

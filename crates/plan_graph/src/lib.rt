@@ -1,4 +1,7 @@
 //! The builds of a plan as a graph, joined by its waits.
+//!
+//! Nothing is proved but that it is safe and ends; command_cases and the model hold nodes and
+//! edges.
 #![tactic(auto)]
 
 mod dot;

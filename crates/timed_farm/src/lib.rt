@@ -1,4 +1,7 @@
 //! The timed run of an accepted plan, and its critical path.
+//!
+//! Proved: `accepted_timed_run` gives the timed run of an accepted plan (`IsTimedRun`) and its
+//! critical path (`IsCriticalPath`), memory apart. Not proved: how fast it is.
 #![tactic(auto)]
 
 mod accepted;

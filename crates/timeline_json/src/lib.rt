@@ -1,4 +1,6 @@
 //! The timed run of a plan as JSON.
+//!
+//! Nothing is proved but that it is safe and ends; command_cases and the model hold the members.
 #![tactic(auto)]
 
 mod answer;

@@ -1,4 +1,6 @@
 //! The timed run of a plan as a picture for a browser.
+//!
+//! Nothing is proved but that it is safe and ends. How the picture looks was seen in a browser.
 #![tactic(auto)]
 
 mod arrows;

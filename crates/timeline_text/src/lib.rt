@@ -1,4 +1,6 @@
 //! The timed run of a plan in lines of text.
+//!
+//! Nothing is proved but that it is safe and ends; command_cases and the model hold the lines.
 #![tactic(auto)]
 
 mod answer;
