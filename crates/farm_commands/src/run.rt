@@ -3,12 +3,8 @@
 ghost use Rattle.std.specs.Prelude.{◌≡◌, ℕ, IfOk, Result, OnErr, map};
 ghost use Rattle.farm_commands.specs.Runs.{ComesTo, MayComeTo, TellsFault, TellsWords, status_told};
 
-use crate::errors::{say, tell};
-use crate::farm_run::{RunFiles, run_files};
-use crate::fault::OutsideFault;
+use farm_answers::{FINE, OutsideFault, RunFiles, Source, WRONG_WORDS, run_files, say, tell};
 use crate::request::answer_request;
-use crate::source::Source;
-use crate::status::{FINE, WRONG_WORDS};
 use command_line::{Asked, WordsFault, read_words};
 use report_sink::{Sink, write_text};
 use std::alloc::Global;
