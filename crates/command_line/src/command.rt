@@ -182,33 +182,61 @@ fn run<'a>(alloc: Global) -> Result<Command<'a>, AllocError> {
     on_files(alloc, RUN, help::RUN, help::RUN_MORE)?.arg(flag(alloc, PROGRESS, help::PROGRESS))
 }
 
-/// What `draft` is to go by: a sketch, or a number of lanes in place of it.
+/// A sketch, which a plan is drafted by where no number of lanes is given.
+fn sketch<'a>(alloc: Global) -> Result<Arg<'a>, AllocError> {
+    Arg::new(alloc, SKETCH)
+        .value_name("SKETCH")
+        .help(help::SKETCH)
+        .required_unless_present(LANES)
+}
+
+/// A number of lanes, in place of a sketch.
+fn lanes<'a>(alloc: Global) -> Result<Arg<'a>, AllocError> {
+    Arg::new(alloc, LANES)
+        .long(LANES)
+        .value_name("N")
+        .help(help::LANES)
+        .conflicts_with(SKETCH)?
+        .conflicts_with(REST)
+}
+
+/// What `draft` is to go by.
 fn with_sketch<'a>(alloc: Global, command: Command<'a>) -> Result<Command<'a>, AllocError> {
-    let sketch = Arg::new(alloc, SKETCH).value_name("SKETCH");
-    let sketch = sketch.required_unless_present(LANES)?;
-    let lanes = Arg::new(alloc, LANES).long(LANES).value_name("N");
-    let lanes = lanes.conflicts_with(SKETCH)?.conflicts_with(REST)?;
-    command
-        .arg(sketch.help(help::SKETCH))?
-        .arg(lanes.help(help::LANES))
+    with(with(command, sketch(alloc))?, lanes(alloc))
 }
 
 /// The command that drafts a plan.
 fn draft<'a>(alloc: Global) -> Result<Command<'a>, AllocError> {
     let command = on_farm(alloc, DRAFT, help::DRAFT, help::DRAFT_MORE)?;
-    with_sketch(alloc, command)?
-        .arg(flag(alloc, REST, help::REST))?
-        .arg(flag(alloc, PARTIAL, help::PARTIAL))
+    let command = with_sketch(alloc, command)?;
+    let command = command.arg(flag(alloc, REST, help::REST))?;
+    command.arg(flag(alloc, PARTIAL, help::PARTIAL))
+}
+
+/// A timeline as JSON, and as nothing else.
+fn json_form<'a>(alloc: Global) -> Result<Arg<'a>, AllocError> {
+    flag(alloc, JSON, help::JSON)
+        .conflicts_with(SVG)?
+        .conflicts_with(BARS)
+}
+
+/// A timeline as a picture, and not with bars.
+fn svg_form<'a>(alloc: Global) -> Result<Arg<'a>, AllocError> {
+    flag(alloc, SVG, help::SVG).conflicts_with(BARS)
+}
+
+/// The command with one word more.
+fn with<'a>(
+    command: Command<'a>,
+    word: Result<Arg<'a>, AllocError>,
+) -> Result<Command<'a>, AllocError> {
+    command.arg(word?)
 }
 
 /// The ways to show a timeline, of which one alone may be asked for.
 fn with_forms<'a>(alloc: Global, command: Command<'a>) -> Result<Command<'a>, AllocError> {
-    let json = flag(alloc, JSON, help::JSON).conflicts_with(SVG)?;
-    let json = json.conflicts_with(BARS)?;
-    let svg = flag(alloc, SVG, help::SVG).conflicts_with(BARS)?;
-    let command = command.arg(json)?;
-    let command = command.arg(svg)?;
-    command.arg(flag(alloc, BARS, help::BARS))
+    let command = with(command, json_form(alloc))?;
+    with(command, svg_form(alloc))?.arg(flag(alloc, BARS, help::BARS))
 }
 
 /// The command that tells how long the plan takes.
@@ -228,22 +256,35 @@ fn or_json<'a>(
     on_files(alloc, name, about, more)?.arg(flag(alloc, JSON, help::JSON))
 }
 
+/// The program with one command more.
+fn and<'a>(
+    program: Command<'a>,
+    command: Result<Command<'a>, AllocError>,
+) -> Result<Command<'a>, AllocError> {
+    program.subcommand(command?)
+}
+
 /// The program with the commands that judge the plan.
 fn with_verdicts<'a>(alloc: Global) -> Result<Command<'a>, AllocError> {
     let program = program(alloc)?;
-    let check = or_json(alloc, CHECK, help::CHECK, help::CHECK_MORE)?;
-    let program = program.subcommand(check)?;
-    let explain = or_json(alloc, EXPLAIN, help::EXPLAIN, help::EXPLAIN_MORE)?;
-    let program = program.subcommand(explain)?;
-    let cert = on_files(alloc, CERT, help::CERT, help::CERT_MORE)?;
-    program.subcommand(cert)
+    let program = and(
+        program,
+        or_json(alloc, CHECK, help::CHECK, help::CHECK_MORE),
+    )?;
+    let program = and(
+        program,
+        or_json(alloc, EXPLAIN, help::EXPLAIN, help::EXPLAIN_MORE),
+    )?;
+    and(program, on_files(alloc, CERT, help::CERT, help::CERT_MORE))
 }
 
 /// The program with the commands that show the plan, behind those that it has.
 fn with_pictures<'a>(alloc: Global, program: Command<'a>) -> Result<Command<'a>, AllocError> {
-    let program = program.subcommand(timeline(alloc)?)?;
-    let graph = or_json(alloc, GRAPH, help::GRAPH, help::GRAPH_MORE)?;
-    program.subcommand(graph)
+    let program = and(program, timeline(alloc))?;
+    and(
+        program,
+        or_json(alloc, GRAPH, help::GRAPH, help::GRAPH_MORE),
+    )
 }
 
 /// The commands of the program, whose words begin behind its name.
@@ -253,10 +294,10 @@ fn with_pictures<'a>(alloc: Global, program: Command<'a>) -> Result<Command<'a>,
 /// [`AllocError`] where memory is refused.
 pub fn portfarm<'a>(alloc: Global) -> Result<Command<'a>, AllocError> {
     let program = with_verdicts(alloc)?;
-    let program = program.subcommand(list(alloc)?)?;
-    let program = program.subcommand(verify_cert(alloc)?)?;
-    let program = program.subcommand(step(alloc)?)?;
-    let program = program.subcommand(run(alloc)?)?;
+    let program = and(program, list(alloc))?;
+    let program = and(program, verify_cert(alloc))?;
+    let program = and(program, step(alloc))?;
+    let program = and(program, run(alloc))?;
     let program = with_pictures(alloc, program)?;
-    program.subcommand(draft(alloc)?)
+    and(program, draft(alloc))
 }

@@ -16,7 +16,7 @@ use Rattle.farm_answers.specs.declared.status.TheConstants.{FINE, OUTSIDE, REFUS
 -- a plan, or lines on why there is none; a fault of the texts is told as a verdict tells it; and of
 -- a plan that does not stand nothing
 abbrev pub TellsDraft : Drafted → List ℕ → ℕ → Type 0
-TellsDraft (PlanText plan left told) text status = (text ≡ plan.items) × (status ≡ FINE)
+TellsDraft (PlanText plan left told end) text status = (text ≡ plan.items) × (status ≡ FINE)
 TellsDraft (Refused lines) text status = (text ≡ lines.items) × (status ≡ REFUSED)
 TellsDraft (Wrong fault) text status = TellsVerdict (Err (Text fault)) text status
 TellsDraft Failed text status = (text ≡ []) × (status ≡ OUTSIDE)

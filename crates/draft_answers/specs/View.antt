@@ -10,4 +10,3 @@ farm_in_files files = record {
   farm = files.farm.items;
   plan = [];
 }
-

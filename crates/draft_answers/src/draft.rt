@@ -7,9 +7,12 @@ ghost use Rattle.farm_answers.specs.Files.{AreCalled, AreFarmCalled, AreFarmFile
 ghost use Rattle.draft_answers.specs.View.{farm_in_files};
 ghost use Rattle.farm_input.specs.View.{texts_view};
 
-use farm_answers::{FINE, OUTSIDE, OutsideFault, REFUSED, Source, answer_verdict, read_file, read_files, say, write_answer};
 use command_line::{FarmPaths, Paths};
 use drafted_plan::{Drafted, draft_by_number, draft_by_sketch};
+use farm_answers::{
+    FINE, OUTSIDE, OutsideFault, REFUSED, Source, answer_verdict, read_file, read_files, say,
+    write_answer,
+};
 use farm_input::Texts;
 use plan_verifier::Refusal;
 use report_sink::Sink;

@@ -17,28 +17,38 @@ use Rattle.plan_verifier.specs.Verdict.{IsVerdict}
 use Rattle.drafted_plan.specs.declared.drafted.Drafted.{Drafted}
 use Rattle.drafted_plan.specs.declared.drafted.Drafted.TheVariants.{Plan as PlanText, Refused, Wrong, Failed}
 use Rattle.drafted_plan.specs.Wanted.{by_sketch, by_number}
+use Rattle.timed_events.specs.declared.event.Event.{Event}
+use Rattle.timed_events.specs.Timed.{IsTimedRun}
 
 -- Of a text that is drafted over packages, sources and a farm, some recipes being left out:
-pub record IsDrafted (texts : Texts) (w : Wanted) (left text : List ℕ) : Type 0 where
+pub record IsDrafted (texts : Texts) (w : Wanted) (left text : List ℕ) (end : ℕ) : Type 0 where
   pub accepted : AcceptedPlan
   -- it is accepted, as a check of these four texts accepts it,
   pub verdict : IsVerdict (planned_of texts.packages texts.sources texts.farm text) (Ok accepted)
   -- so that no interleaving of its lanes goes wrong;
   pub safe : IsSafe accepted.universe accepted.plan
-  -- it is what was wanted, but for what is left out.
+  -- it is what was wanted, but for what is left out;
   pub follows : Follows w left accepted.plan
+  -- and this is when its timed run ends.
+  pub events : List Event
+  pub time : IsTimedRun accepted.universe accepted.plan events end
+
+-- of an accepted plan that is what was wanted, when its timed run ends
+abbrev pub IsEnd : Wanted → List ℕ → AcceptedPlan → ℕ → Type 0
+IsEnd w left a end =
+    Follows w left a.plan × (events : List Event) × IsTimedRun a.universe a.plan events end
 
 -- a plan of which something is left out only where that is asked for; of a refusal nothing is said
 abbrev pub Answers : Texts → Bool → Wanted → Drafted → Type 0
-Answers texts partial w (PlanText text left told) =
-    IsDrafted texts w left.items text.items × (partial ≡ false → left.items ≡ [])
+Answers texts partial w (PlanText text left told end) =
+    IsDrafted texts w left.items text.items end × (partial ≡ false → left.items ≡ [])
 Answers texts partial w (Refused lines) = Unit {0}
 Answers texts partial w (Wrong fault) = ⊥
 Answers texts partial w Failed = Unit {0}
 
 -- no plan where the texts have a fault, and that is the first
 abbrev pub AnswersFault : Fault → Drafted → Type 0
-AnswersFault fault (PlanText text left told) = ⊥
+AnswersFault fault (PlanText text left told end) = ⊥
 AnswersFault fault (Refused lines) = Unit {0}
 AnswersFault fault (Wrong told) = told ≡ fault
 AnswersFault fault Failed = ⊥

@@ -5,7 +5,9 @@ use deb_text::push_pieces;
 use draft_lane::Step;
 use draft_notes::About;
 use itoa::Buffer;
-use std::alloc::AllocError;
+use memchr::{memchr, memrchr};
+use std::alloc::{AllocError, Global};
+use std::test::Fail;
 
 /// How many recipes lanes build, and the one of these that is published last.
 fn builds_of(found: &Lanes) -> (usize, Option<usize>) {
@@ -81,4 +83,26 @@ pub(crate) fn push_comments(
         push_pieces(text, &[b" ", about.recipe_name(*recipe)])?;
     }
     push_pieces(text, &[b"\n"])
+}
+
+/// A plan's text with another makespan in its first line, of which it is the last word.
+///
+/// # Errors
+///
+/// [`AllocError`] where memory is refused.
+pub(crate) fn with_makespan(alloc: Global, text: &[u8], end: u128) -> Result<Vec<u8>, AllocError> {
+    let line = memchr(b'\n', text).unwrap_or(text.len());
+    let word = memrchr(b' ', &text[..line]).unwrap_or(line);
+    let mut digits = Buffer::new();
+    let end = digits.format(end).as_bytes();
+    let mut timed = Vec::new(alloc);
+    push_pieces(&mut timed, &[&text[..word], b" ", end, &text[line..]])?;
+    Ok(timed)
+}
+
+#[test]
+fn makespans_are_replaced(rt: HostRuntime) -> Result<(), Fail> {
+    let timed = with_makespan(rt.alloc(), b"# 2 builds, makespan 70\nplan 1\n", 9)?;
+    assert_eq!(rt; timed.as_slice(), b"# 2 builds, makespan 9\nplan 1\n");
+    Ok(())
 }

@@ -1,14 +1,15 @@
 //! A plan is looked for, written, and judged.
 
-ghost use Rattle.std.specs.Prelude.{◌≡◌, IfOk, IsTrue, Some};
+ghost use Rattle.std.specs.Prelude.{◌≡◌, IfOk, IfSome, IsTrue, Some};
 ghost use Rattle.deb_text.specs.Answers.{refusal_of};
 ghost use Rattle.drafted_plan.specs.declared.drafted.Drafted.TheVariants.{Wrong};
 ghost use Rattle.draft_wish.specs.Follows.{Follows};
-ghost use Rattle.drafted_plan.specs.Drafted.{Answers, AnswersSketch, AnswersNumber, IsDrafted};
+ghost use Rattle.drafted_plan.specs.Drafted.{Answers, AnswersSketch, AnswersNumber, IsDrafted, IsEnd};
 ghost use Rattle.farm_input.specs.Planned.{planned_of};
 ghost use Rattle.farm_input.specs.View.{texts_view};
 ghost use Rattle.farm_universe.specs.UniverseText.{universe_of};
 
+use crate::comments::with_makespan;
 use crate::lanes::parts_of;
 use crate::looked::{Lanes, Looked, look};
 use crate::plan_text::plan_text;
@@ -25,16 +26,18 @@ use plan_verifier::{Accepted, Refusal, check};
 use std::alloc::{AllocError, Global};
 use std::mem::ManuallyDrop;
 use std::thread::Threads;
+use timed_farm::accepted_timed_run;
 
 /// What drafting comes to.
 #[derive(Drop)]
 pub enum Drafted {
     /// The text of a plan that is accepted and is what was wanted, but for these recipes, which are
-    /// left out; and lines on these.
+    /// left out; lines on these; and when the timed run of the plan ends.
     Plan {
         text: Vec<u8>,
         left: Vec<u32>,
         told: Vec<u8>,
+        end: u128,
     },
     /// There is no plan, as these lines say.
     Refused(Vec<u8>),
@@ -101,17 +104,33 @@ fn is_wanted(
     follows(alloc, wanted, left, &parts)
 }
 
-/// Tells whether a text is a plan that is accepted, and is what was wanted.
-fn stands(
+/// When the timed run of an accepted plan ends, where it is what was wanted.
+fn end_of(
+    alloc: Global,
+    wanted: &Wanted,
+    left: &[u32],
+    accepted: &Accepted,
+) -> Result<Option<u128>, AllocError>
+    ensures { IfOk result (λ end. IfSome end (IsEnd wanted.now left.now accepted.now)) }
+{
+    if !is_wanted(alloc, wanted, left, accepted)? {
+        return Ok(None);
+    }
+    let time = ManuallyDrop::new(accepted_timed_run(alloc, accepted)?);
+    Ok(Some(time.run.end))
+}
+
+/// When the timed run of a text ends, where it is a plan that is accepted and is what was wanted.
+fn judged(
     rt: &(impl Threads + Sync),
     alloc: Global,
     texts: Texts<'_>,
     wanted: &Wanted,
     left: &[u32],
     text: &[u8],
-) -> Result<bool, AllocError>
-    ensures { IfOk result
-        (λ b. IsTrue b → IsDrafted (texts_view texts.entry) wanted.now left.now text.now) }
+) -> Result<Option<u128>, AllocError>
+    ensures { IfOk result (λ end.
+        IfSome end (IsDrafted (texts_view texts.entry) wanted.now left.now text.now)) }
 {
     // The program ends with its answer: what was judged goes with it, and not piece by piece.
     let verdict = ManuallyDrop::new(check(
@@ -123,9 +142,36 @@ fn stands(
         text,
     ));
     match &*verdict {
-        Ok(accepted) => is_wanted(alloc, wanted, left, accepted),
+        Ok(accepted) => end_of(alloc, wanted, left, accepted),
         Err(Refusal::Memory) => Err(AllocError),
-        Err(_) => Ok(false),
+        Err(_) => Ok(None),
+    }
+}
+
+/// The text of a plan with the end of its timed run in its first line; that text and that end, where
+/// the plan is accepted and is what was wanted. The search has a clock of its own: where it was
+/// right, the text stays as it is, and else the other one is judged again.
+fn timed(
+    rt: &(impl Threads + Sync),
+    alloc: Global,
+    texts: Texts<'_>,
+    wanted: &Wanted,
+    left: &[u32],
+    text: Vec<u8>,
+) -> Result<Option<(Vec<u8>, u128)>, AllocError>
+    ensures { IfOk result (λ timed. IfSome timed (λ pair.
+        IsDrafted (texts_view texts.entry) wanted.now left.now pair.0.items pair.1)) }
+{
+    let Some(end) = judged(rt, alloc, texts, wanted, left, &text)? else {
+        return Ok(None);
+    };
+    let other = with_makespan(alloc, &text, end)?;
+    if other == text {
+        return Ok(Some((text, end)));
+    }
+    match judged(rt, alloc, texts, wanted, left, &other)? {
+        Some(end) => Ok(Some((other, end))),
+        None => Ok(None),
     }
 }
 
@@ -144,10 +190,16 @@ fn judge(
     if !is_partial && !left.is_empty() {
         return Ok(Drafted::Failed);
     }
-    if stands(rt, alloc, texts, wanted, &left, &text)? {
-        Ok(Drafted::Plan { text, left, told })
-    } else {
-        Ok(Drafted::Failed)
+    match timed(rt, alloc, texts, wanted, &left, text)? {
+        Some((text, end)) => {
+            Ok(Drafted::Plan {
+                text,
+                left,
+                told,
+                end,
+            })
+        }
+        None => Ok(Drafted::Failed),
     }
 }
 

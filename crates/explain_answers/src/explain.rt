@@ -9,10 +9,10 @@ ghost use Rattle.farm_input.specs.View.{texts_view};
 ghost use Rattle.plan_model.specs.Plan.{count};
 ghost use Rattle.plan_model.specs.Sound.{IsSound};
 
-use farm_answers::OutsideFault;
 use crate::explanation::{Explained, Explanation, explain_accepted, explain_refused};
 use crate::text_faults::explain_fault;
 use crate::told::write_explanation;
+use farm_answers::OutsideFault;
 use farm_input::{Planned, Texts, read_texts};
 use plan_lines::PlanLines;
 use plan_verifier::Examined;

@@ -11,8 +11,8 @@ ghost use Rattle.farm_json.specs.Verdicts.{check_line};
 ghost use Rattle.farm_report.specs.VerdictText.{verdict_text};
 ghost use Rattle.report_sink.specs.Sinks.{IsWritten};
 
-use farm_answers::{OutsideFault, status_of, write_answer};
 use crate::explanation::{Explanation, Notes, is_hazard};
+use farm_answers::{OutsideFault, status_of, write_answer};
 use farm_explain::Note;
 use farm_json::{check_json, explain_json};
 use farm_report::write_check;

@@ -3,9 +3,9 @@
 ghost use Rattle.std.specs.Prelude.{◌≡◌, ℕ, IfOk, Result, OnErr, map};
 ghost use Rattle.farm_commands.specs.Runs.{ComesTo, MayComeTo, TellsFault, TellsWords, status_told};
 
-use farm_answers::{FINE, OutsideFault, RunFiles, Source, WRONG_WORDS, run_files, say, tell};
 use crate::request::answer_request;
 use command_line::{Asked, WordsFault, read_words};
+use farm_answers::{FINE, OutsideFault, RunFiles, Source, WRONG_WORDS, run_files, say, tell};
 use report_sink::{Sink, write_text};
 use std::alloc::Global;
 use std::convert::AsStr;

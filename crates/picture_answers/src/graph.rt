@@ -11,8 +11,8 @@ ghost use Rattle.plan_model.specs.Sound.{IsSound};
 ghost use Rattle.timed_events.specs.Path.{IsCriticalPath};
 ghost use Rattle.timed_events.specs.Timed.{IsTimedRun};
 
-use farm_answers::{FINE, OutsideFault, REFUSED, show_verdict, write_answer};
 use crate::timeline::timed_plan;
+use farm_answers::{FINE, OutsideFault, REFUSED, show_verdict, write_answer};
 use farm_input::{Planned, Texts, read_texts};
 use plan_graph::{DrawnPlan, plan_dot, plan_graph_json};
 use plan_verifier::{Accepted, Examined, Refusal};

@@ -9,8 +9,8 @@ ghost use Rattle.farm_input.specs.View.{texts_view};
 ghost use Rattle.timed_events.specs.Path.{IsCriticalPath};
 ghost use Rattle.timed_events.specs.Timed.{IsTimedRun};
 
-use farm_answers::{FINE, OutsideFault, show_verdict, write_answer};
 use command_line::TimelineForm;
+use farm_answers::{FINE, OutsideFault, show_verdict, write_answer};
 use farm_input::Texts;
 use plan_lines::PlanLines;
 use plan_verifier::{Accepted, check};
