@@ -1,21 +1,27 @@
 -- What the turn makes of a farm at work that a lane of its list has taken.
 use Rattle.std.proofs.Common.{◌≡◌, ℕ, ◌+◌, ◌<◌, ◌≤◌, List, length, Some, slice_get, slice_set, sym, subst, arith, get_or}
+use Rattle.std.specs.Prelude.{◌≢◌}
 use Rattle.farm_model.specs.declared.types.Variant.{Variant}
 use Rattle.farm_model.specs.declared.types.Trap.{Trap}
 use Rattle.farm_model.specs.Universe.{Universe}
 use Rattle.farm_model.specs.Packages.{has_bit}
 use Rattle.plan_model.specs.Plan.{Lane, Plan, lane}
+use Rattle.plan_model.specs.Run as run
+use Rattle.plan_model.specs.Run.{step}
+use Rattle.plan_model.specs.Turn as turn
 use Rattle.plan_model.specs.Turn.{turn_of}
 use Rattle.farm_archive.specs.Kept.{Kept, with_publication}
 use Rattle.farm_core.specs.Lanes.{shown, IsRun}
-use Rattle.farm_core.specs.Turns.{IsTurn}
-use Rattle.farm_core.specs.Farm.{IsCore}
+use Rattle.farm_core.specs.Turns.{IsTurn, MeetsNone}
+use Rattle.farm_core.specs.Farm.{IsCore, state_of}
 use Rattle.farm_core.specs.Steps.{IsStepped}
 use Rattle.farm_core.specs.declared.answer.Step.TheVariants.{Moved, Blocked, Finished, Trapped}
 use Rattle.farm_core.specs.declared.lane.LaneRun.{LaneRun}
+use Rattle.farm_core.specs.declared.traps.Traps.{Traps}
+use Rattle.farm_core.specs.declared.traps.Traps.TheVariants.{Unmet}
 use Rattle.farm_core.specs.declared.turn.Turn.{Turn}
 use Rattle.farm_core.specs.declared.turn.Turn.TheVariants.{Goes, Gives, Waits, Ends, Fails}
-use Rattle.farm_core.proofs.Stepped.{read, in_lane, goes, gives, waits, ends, fails, sleeps, room_there, output_known, output_named}
+use Rattle.farm_core.proofs.Stepped.{read, in_lane, turn_free, goes, gives, waits, ends, fails, sleeps, room_there, output_known, output_named}
 
 -- the lane was read from the list and its plan by its number
 module _ (u : Universe) (p : Plan) (lanes : List LaneRun) (kept : Kept)
@@ -31,6 +37,15 @@ module _ (u : Universe) (p : Plan) (lanes : List LaneRun) (kept : Kept)
 
   pub run_of : IsRun u of r
   run_of = subst (λ (o : Lane). IsRun u o r) (sym of_is) (core.each l r at_l)
+
+  pub free_of : (traps : Traps) → (traps ≡ Unmet → (trap : Trap)
+      → step u p (state_of lanes kept) l ≢ run.Trapped trap)
+      → MeetsNone traps (turn_of u (has_bit kept.words) of (shown r)
+      (slice_get of.instructions r.done))
+  free_of traps free is trap =
+      subst (λ (o : Lane). turn_of u (has_bit kept.words) o (shown r)
+      (slice_get o.instructions r.done) ≢ turn.Fails trap) (sym of_is)
+      (turn_free u p lanes kept core l r at_l (free is) trap)
 
   pub after_goes : (new : LaneRun) → TookTurn new Goes → r.waited ≤ length kept.history
       → IsStepped u p l lanes kept (slice_set lanes l new) kept Moved

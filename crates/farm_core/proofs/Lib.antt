@@ -5,3 +5,4 @@ pub mod Events
 pub mod Opened
 pub mod Views
 pub mod Played
+pub mod Picked

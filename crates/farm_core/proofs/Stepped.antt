@@ -1,6 +1,6 @@
 -- What a turn of a lane makes of a farm at work, by its number in the plan.
 use Rattle.std.proofs.Common.{◌≡◌, ℕ, zero, suc, ◌+◌, ◌<◌, ◌≤◌, inl, inr, List, [], ◌∷◌, ◌++◌, length, map, Some, slice_get, slice_set, refl, sym, ap, ◌∙◌, subst, arith, length-set, length-append, get_or, get_or-set_same}
-use Rattle.std.specs.Prelude.{nat_lt}
+use Rattle.std.specs.Prelude.{◌≢◌, nat_lt}
 use Rattle.std.proofs.lemmas.Bool.{cond-true, lt-ltb, cases_eq}
 use Rattle.std.proofs.lemmas.List.{map-set, map_push, get_or-map, set-get_or}
 use Rattle.std.proofs.lemmas.Option.{same_Some, slice_get_within, slice_get-get_or, slice_get_read, get_or_from_slice_get}
@@ -86,6 +86,11 @@ module _ (u : Universe) (p : Plan) (lanes : List LaneRun) (kept : Kept)
       (instruction_at p l (lane_state s l).done))) words
       ∙ ap (λ (st : LaneState). outcome s l (turn_of u (has_bit kept.words) (lane p l) st
       (instruction_at p l st.done))) lane_shown)
+
+  -- a step that meets no trap is a turn that meets none
+  pub turn_free : ((trap : Trap) → step u p (state_of lanes kept) l ≢ run.Trapped trap)
+      → (trap : Trap) → turn_here ≢ turn.Fails trap
+  turn_free free trap fails = free trap (step_is ∙ ap (outcome (state_of lanes kept) l) fails)
 
   each_put : (new : LaneRun) → IsRun u (lane p l) new → (k : ℕ) (x : LaneRun)
       → slice_get (slice_set lanes l new) k ≡ Some x → IsRun u (lane p k) x

@@ -1,5 +1,6 @@
 -- Turns that an instruction on the chroot makes of a lane.
-use Rattle.std.proofs.Common.{◌≡◌, ℕ, Bool, true, false, List, Some, None, refl, sym, ap, ◌∙◌, subst, length-set}
+use Rattle.std.proofs.Common.{◌≡◌, ℕ, Bool, true, false, List, Option, Some, None, refl, sym, ap, ◌∙◌, subst, length-set}
+use Rattle.std.specs.Prelude.{◌≢◌}
 use Rattle.std.specs.Vec.{with_item}
 use Rattle.farm_model.specs.declared.types.Trap.{Trap}
 use Rattle.farm_model.specs.declared.types.Trap.TheVariants.{OverBudget}
@@ -12,8 +13,10 @@ use Rattle.plan_model.specs.Turn as turn
 use Rattle.plan_model.specs.Turn.{LaneState, past, past_build, unless, over_budget, unless_trapped}
 use Rattle.chroot_state.specs.Held.{Held, IsHeld, room, with_slots}
 use Rattle.farm_core.specs.Lanes.{shown, passed, IsRun}
-use Rattle.farm_core.specs.Turns.{IsTurn}
+use Rattle.farm_core.specs.Turns.{IsTurn, MeetsNone}
 use Rattle.farm_core.specs.declared.lane.LaneRun.{LaneRun}
+use Rattle.farm_core.specs.declared.traps.Traps.{Traps}
+use Rattle.farm_core.specs.declared.traps.Traps.TheVariants.{Unmet}
 use Rattle.farm_core.specs.declared.turn.Turn.TheVariants.{Goes, Fails}
 
 module _ (of : Lane) (st : LaneState) (cost : ℕ) (traps : List (Bool × Trap)) (next : turn.Turn)
@@ -27,6 +30,17 @@ module _ (of : Lane) (st : LaneState) (cost : ℕ) (traps : List (Bool × Trap))
         → unless_trapped of st cost traps next ≡ unless (first_trap traps) next
     unfolding first_trap
     then_first within = rw within refl
+
+    unless_none : (o : Option Trap) → ((trap : Trap) → unless o next ≢ turn.Fails trap)
+        → o ≡ None
+    unless_none None free = refl
+    unless_none (Some trap) free = absurd (free trap refl)
+
+    untrapped : over_budget of st cost ≡ false
+        → ((trap : Trap) → unless_trapped of st cost traps next ≢ turn.Fails trap)
+        → first_trap traps ≡ None
+    untrapped within free = unless_none (first_trap traps)
+        (λ trap is. free trap (then_first within ∙ is))
 
 module _ (u : Universe) (of : Lane) (r : LaneRun) (run : IsRun u of r) (cost : ℕ)
     (traps : List (Bool × Trap)) (paid : ℕ) (is_cost : paid ≡ cost) where
@@ -43,6 +57,13 @@ module _ (u : Universe) (of : Lane) (r : LaneRun) (run : IsRun u of r) (cost : �
     kept = refl;
     waited = refl;
   }
+
+  -- a lane whose turn meets no trap
+  pub free : (next : turn.Turn) (b : Bool) → b ≡ over_budget of (shown r) paid → b ≡ false
+      → (tests : Traps) → MeetsNone tests (unless_trapped of (shown r) cost traps next)
+      → tests ≡ Unmet → first_trap traps ≡ None
+  free next b test within tests none is =
+      untrapped of (shown r) cost traps next (paid_test b test within) (none is)
 
   -- a lane whose chroot answers a trap, and stays
   pub trapped : (next : turn.Turn) (b : Bool) → b ≡ over_budget of (shown r) paid → b ≡ false

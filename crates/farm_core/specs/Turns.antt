@@ -1,14 +1,18 @@
 -- What a turn of a lane of the core says.
 --
 --   turn_told    the turn that an answer tells, where the lane is then in this state
+--   MeetsNone    where traps are not tested, the turn meets none
 --   IsTurn       the answer tells this turn, and the lane is then in its state
-use Rattle.std.specs.Prelude.{◌≡◌}
+use Rattle.std.specs.Prelude.{◌≡◌, ◌≢◌}
+use Rattle.farm_model.specs.declared.types.Trap.{Trap}
 use Rattle.farm_model.specs.Universe.{Universe}
 use Rattle.plan_model.specs.Plan.{Lane}
 use Rattle.plan_model.specs.Turn as turn
 use Rattle.plan_model.specs.Turn.{LaneState}
 use Rattle.farm_core.specs.Lanes.{shown, IsRun}
 use Rattle.farm_core.specs.declared.lane.LaneRun.{LaneRun}
+use Rattle.farm_core.specs.declared.traps.Traps.{Traps}
+use Rattle.farm_core.specs.declared.traps.Traps.TheVariants.{Unmet}
 use Rattle.farm_core.specs.declared.turn.Turn.{Turn}
 use Rattle.farm_core.specs.declared.turn.Turn.TheVariants.{Goes, Gives, Waits, Ends, Fails}
 
@@ -18,6 +22,10 @@ turn_told (Gives v) next = turn.Gives next v
 turn_told Waits next = turn.Waits
 turn_told Ends next = turn.Ends
 turn_told (Fails trap) next = turn.Fails trap
+
+-- where traps are not tested, the turn meets none
+abbrev pub MeetsNone : Traps → turn.Turn → Type 0
+MeetsNone traps is = traps ≡ Unmet → (trap : Trap) → is ≢ turn.Fails trap
 
 -- a lane that does not go on is as it was
 abbrev pub IsUnmoved : Turn → LaneState → LaneState → Type 0

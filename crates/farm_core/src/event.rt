@@ -1,11 +1,15 @@
 //! The turn of a lane of a farm at work.
 
-ghost use Rattle.std.specs.Prelude.{◌<◌, length};
-ghost use Rattle.farm_core.specs.Farm.{IsCore};
+ghost use Rattle.std.specs.Prelude.{◌≡◌, ◌≢◌, ◌<◌, length};
+ghost use Rattle.farm_core.specs.Farm.{IsCore, state_of};
 ghost use Rattle.farm_core.specs.Steps.{IsStepped};
+ghost use Rattle.farm_core.specs.declared.traps.Traps.TheVariants.{Unmet};
+ghost use Rattle.farm_model.specs.declared.types.Trap.{Trap};
+ghost use Rattle.plan_model.specs.Run.{step, Trapped};
 
 use crate::answer::Step;
 use crate::lane::LaneRun;
+use crate::traps::Traps;
 use crate::turn::Turn;
 use farm_archive::PlainArchive;
 use farm_universe::Universe;
@@ -19,9 +23,13 @@ pub fn take_turn(
     lanes: &mut Vec<LaneRun>,
     archive: &mut PlainArchive,
     lane: u32,
+    traps: Traps,
 ) -> Step
     requires there { lane < length plan.now.lanes }
     requires core { IsCore universe.now plan.now.lanes lanes.old.items archive.old }
+    requires free { traps ≡ Unmet → (trap : Trap)
+        → step universe.now plan.now.lanes (state_of lanes.old.items archive.old) lane
+        ≢ Trapped trap }
     ensures { IsStepped universe.now plan.now.lanes lane lanes.old.items archive.old
         lanes.new.items archive.new result }
 {
@@ -32,7 +40,7 @@ pub fn take_turn(
     if run.waited > published {
         return Step::Blocked;
     }
-    match run.turn(universe, archive, of) {
+    match run.turn(universe, archive, of, traps) {
         Turn::Goes => Step::Moved,
         Turn::Gives(output) => {
             archive.publish(lane, output);

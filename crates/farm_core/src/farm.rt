@@ -1,16 +1,19 @@
 //! A farm at work.
 
-ghost use Rattle.std.specs.Prelude.{◌≡◌, ◌<◌, IfOk, length};
+ghost use Rattle.std.specs.Prelude.{◌≡◌, ◌≢◌, ◌<◌, IfOk, length};
 ghost use Rattle.chroot_state.specs.Held.{IsHeld};
 ghost use Rattle.farm_archive.specs.Kept.{numbered};
 ghost use Rattle.farm_core.specs.Farm.{AreOpened, with_state, chroot_in, step_told, state_after};
+ghost use Rattle.farm_core.specs.declared.traps.Traps.TheVariants.{Unmet};
+ghost use Rattle.farm_model.specs.declared.types.Trap.{Trap};
 ghost use Rattle.plan_model.specs.Plan.{count};
-ghost use Rattle.plan_model.specs.Run.{start, step, is_finished, lane_state};
+ghost use Rattle.plan_model.specs.Run.{start, step, is_finished, lane_state, Trapped};
 ghost use Rattle.plan_model.specs.Sound.{IsPlan};
 
 use crate::answer::Step;
 use crate::event::take_turn;
 use crate::lane::LaneRun;
+use crate::traps::Traps;
 use chroot_state::Chroot;
 use farm_archive::{PlainArchive, Publication};
 use farm_universe::Universe;
@@ -93,6 +96,32 @@ impl<'a> Core<'a> {
             (state_after self.old.state
             (step self.old.universe self.old.plan.lanes self.old.state lane)) }
     {
+        self.take(lane, Traps::Tested)
+    }
+
+    /// Takes the turn of a lane that meets no trap, and tests for none. Else as [`Core::step`].
+    pub fn step_untested(&mut self, lane: u32) -> Step
+        requires free { (trap : Trap)
+            → step self.old.universe self.old.plan.lanes self.old.state lane ≢ Trapped trap }
+        ensures told { result
+            ≡ step_told (step self.old.universe self.old.plan.lanes self.old.state lane) }
+        ensures after { self.new ≡ with_state self.old
+            (state_after self.old.state
+            (step self.old.universe self.old.plan.lanes self.old.state lane)) }
+    {
+        self.take(lane, Traps::Unmet)
+    }
+
+    /// Takes the turn of a lane.
+    fn take(&mut self, lane: u32, traps: Traps) -> Step
+        requires free { traps ≡ Unmet → (trap : Trap)
+            → step self.old.universe self.old.plan.lanes self.old.state lane ≢ Trapped trap }
+        ensures told { result
+            ≡ step_told (step self.old.universe self.old.plan.lanes self.old.state lane) }
+        ensures after { self.new ≡ with_state self.old
+            (state_after self.old.state
+            (step self.old.universe self.old.plan.lanes self.old.state lane)) }
+    {
         if lane as usize >= self.plan.lanes() {
             return Step::Unknown;
         }
@@ -102,6 +131,7 @@ impl<'a> Core<'a> {
             &mut self.lanes,
             &mut self.archive,
             lane,
+            traps,
         )
     }
 

@@ -2,7 +2,7 @@
 
 ghost use Rattle.std.specs.Prelude.{◌<◌, ◌≤◌, All, length};
 ghost use Rattle.farm_core.specs.Lanes.{IsRun, shown};
-ghost use Rattle.farm_core.specs.Turns.{IsTurn};
+ghost use Rattle.farm_core.specs.Turns.{IsTurn, MeetsNone};
 ghost use Rattle.plan_asm.specs.declared.error.TheConstants.{MOST_INSTRUCTIONS};
 ghost use Rattle.plan_model.specs.declared.instructions.Instruction.TheVariants.{Build, Configure, Deconfigure, Remove};
 ghost use Rattle.farm_model.specs.Packages.{names};
@@ -12,17 +12,25 @@ ghost use Rattle.plan_model.specs.World.{nothing};
 
 use crate::charge::size_cost;
 use crate::lane::LaneRun;
+use crate::traps::Traps;
 use crate::turn::Turn;
 use farm_universe::{Trap, Universe, Variant};
 use plan_asm::Lane;
 
 impl LaneRun {
     /// Unpacks a variant of the archive.
-    pub fn unpack(&mut self, universe: &Universe, lane: &Lane, variant: Variant) -> Turn
+    pub fn unpack(
+        &mut self,
+        universe: &Universe,
+        lane: &Lane,
+        variant: Variant,
+        traps: Traps,
+    ) -> Turn
         requires run { IsRun universe.now lane.now self.old }
         requires next { self.old.done < length lane.now.instructions }
         requires short { length lane.now.instructions ≤ MOST_INSTRUCTIONS }
         requires known { IsKnown universe.now variant }
+        requires free { MeetsNone traps (unpacks universe.now lane.now (shown self.old) variant.name (Some variant.bit)) }
         ensures { IsTurn universe.now lane.now self.old self.new result
             (unpacks universe.now lane.now (shown self.old) variant.name (Some variant.bit)) }
     {
@@ -30,7 +38,7 @@ impl LaneRun {
         if self.is_over(lane, cost) {
             return Turn::Fails(Trap::OverBudget); // X14
         }
-        if let Err(trap) = self.chroot.unpack(universe, variant) {
+        if let Err(trap) = traps.unpack(&mut self.chroot, universe, variant) {
             return Turn::Fails(trap);
         }
         self.pass(lane, cost);
@@ -38,11 +46,19 @@ impl LaneRun {
     }
 
     /// Configures the members of a set.
-    pub fn configure(&mut self, universe: &Universe, lane: &Lane, members: &[u32]) -> Turn
+    pub fn configure(
+        &mut self,
+        universe: &Universe,
+        lane: &Lane,
+        members: &[u32],
+        traps: Traps,
+    ) -> Turn
         requires run { IsRun universe.now lane.now self.old }
         requires next { self.old.done < length lane.now.instructions }
         requires short { length lane.now.instructions ≤ MOST_INSTRUCTIONS }
         requires named { All (λ m. m < names universe.now) members.now }
+        requires free { MeetsNone traps (turn_of universe.now nothing lane.now (shown self.old)
+            (Some (Configure members.now))) }
         ensures { IsTurn universe.now lane.now self.old self.new result
             (turn_of universe.now nothing lane.now (shown self.old)
             (Some (Configure members.now))) }
@@ -51,7 +67,7 @@ impl LaneRun {
         if self.is_over(lane, cost) {
             return Turn::Fails(Trap::OverBudget); // X14
         }
-        if let Err(trap) = self.chroot.configure(universe, members) {
+        if let Err(trap) = traps.configure(&mut self.chroot, universe, members) {
             return Turn::Fails(trap);
         }
         self.pass(lane, cost);
@@ -59,11 +75,19 @@ impl LaneRun {
     }
 
     /// Takes the members of a set back to unpacked.
-    pub fn deconfigure(&mut self, universe: &Universe, lane: &Lane, members: &[u32]) -> Turn
+    pub fn deconfigure(
+        &mut self,
+        universe: &Universe,
+        lane: &Lane,
+        members: &[u32],
+        traps: Traps,
+    ) -> Turn
         requires run { IsRun universe.now lane.now self.old }
         requires next { self.old.done < length lane.now.instructions }
         requires short { length lane.now.instructions ≤ MOST_INSTRUCTIONS }
         requires named { All (λ m. m < names universe.now) members.now }
+        requires free { MeetsNone traps (turn_of universe.now nothing lane.now (shown self.old)
+            (Some (Deconfigure members.now))) }
         ensures { IsTurn universe.now lane.now self.old self.new result
             (turn_of universe.now nothing lane.now (shown self.old)
             (Some (Deconfigure members.now))) }
@@ -72,7 +96,7 @@ impl LaneRun {
         if self.is_over(lane, cost) {
             return Turn::Fails(Trap::OverBudget); // X14
         }
-        if let Err(trap) = self.chroot.deconfigure(universe, members) {
+        if let Err(trap) = traps.deconfigure(&mut self.chroot, universe, members) {
             return Turn::Fails(trap);
         }
         self.pass(lane, cost);
@@ -80,11 +104,18 @@ impl LaneRun {
     }
 
     /// Removes the members of a set.
-    pub fn remove(&mut self, universe: &Universe, lane: &Lane, members: &[u32]) -> Turn
+    pub fn remove(
+        &mut self,
+        universe: &Universe,
+        lane: &Lane,
+        members: &[u32],
+        traps: Traps,
+    ) -> Turn
         requires run { IsRun universe.now lane.now self.old }
         requires next { self.old.done < length lane.now.instructions }
         requires short { length lane.now.instructions ≤ MOST_INSTRUCTIONS }
         requires named { All (λ m. m < names universe.now) members.now }
+        requires free { MeetsNone traps (turn_of universe.now nothing lane.now (shown self.old) (Some (Remove members.now))) }
         ensures { IsTurn universe.now lane.now self.old self.new result
             (turn_of universe.now nothing lane.now (shown self.old) (Some (Remove members.now))) }
     {
@@ -92,7 +123,7 @@ impl LaneRun {
         if self.is_over(lane, cost) {
             return Turn::Fails(Trap::OverBudget); // X14
         }
-        if let Err(trap) = self.chroot.remove(universe, members) {
+        if let Err(trap) = traps.remove(&mut self.chroot, universe, members) {
             return Turn::Fails(trap);
         }
         self.pass(lane, cost);
@@ -100,11 +131,12 @@ impl LaneRun {
     }
 
     /// Builds a recipe in the chroot, which stays as it is.
-    pub fn build(&mut self, universe: &Universe, lane: &Lane, recipe: u32) -> Turn
+    pub fn build(&mut self, universe: &Universe, lane: &Lane, recipe: u32, traps: Traps) -> Turn
         requires run { IsRun universe.now lane.now self.old }
         requires next { self.old.done < length lane.now.instructions }
         requires short { length lane.now.instructions ≤ MOST_INSTRUCTIONS }
         requires known { recipe < length universe.now.recipes }
+        requires free { MeetsNone traps (turn_of universe.now nothing lane.now (shown self.old) (Some (Build recipe))) }
         ensures { IsTurn universe.now lane.now self.old self.new result
             (turn_of universe.now nothing lane.now (shown self.old) (Some (Build recipe))) }
     {
@@ -112,7 +144,7 @@ impl LaneRun {
         if self.is_over(lane, cost) {
             return Turn::Fails(Trap::OverBudget); // X14
         }
-        if let Err(trap) = self.chroot.can_build(universe, recipe) {
+        if let Err(trap) = traps.can_build(&self.chroot, universe, recipe) {
             return Turn::Fails(trap);
         }
         self.pass(lane, cost);

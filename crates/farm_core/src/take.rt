@@ -2,16 +2,18 @@
 
 ghost use Rattle.std.specs.Prelude.{◌≡◌, ◌<◌, ◌≤◌, ℕ, Some, length, slice_get};
 ghost use Rattle.farm_core.specs.Lanes.{IsRun, shown};
-ghost use Rattle.farm_core.specs.Turns.{IsTurn};
-ghost use Rattle.farm_model.specs.Packages.{names, has_bit};
+ghost use Rattle.farm_core.specs.Turns.{IsTurn, MeetsNone};
+ghost use Rattle.farm_model.specs.Packages.{names, has_bit, variant};
+ghost use Rattle.farm_model.specs.Sound.{IsKnown};
 ghost use Rattle.plan_asm.specs.declared.error.TheConstants.{MOST_INSTRUCTIONS};
 ghost use Rattle.plan_model.specs.declared.instructions.Instruction.{Instruction};
-ghost use Rattle.plan_model.specs.declared.instructions.Instruction.TheVariants.{Unpack, Wait, When};
+ghost use Rattle.plan_model.specs.declared.instructions.Instruction.TheVariants.{Wait, When};
 ghost use Rattle.plan_model.specs.Sound.{IsInstruction};
-ghost use Rattle.plan_model.specs.Turn.{turn_of};
+ghost use Rattle.plan_model.specs.Turn.{turn_of, unpacks};
 
 use crate::lane::LaneRun;
 use crate::pick::{has_wanted, newest};
+use crate::traps::Traps;
 use crate::turn::Turn;
 use crate::wait::passes;
 use deb_relation::{Entry, Op};
@@ -21,25 +23,25 @@ use farm_universe::{Trap, Universe, Variant};
 use plan_asm::{Instruction, Lane};
 
 impl LaneRun {
-    /// Unpacks the highest variant of a name that is in the archive and in the relation.
-    fn unpack_newest(
+    /// Unpacks what an unpack of a name has found, if it has found something.
+    fn unpack_found(
         &mut self,
         universe: &Universe,
-        archive: &PlainArchive,
         lane: &Lane,
         name: u32,
-        relation: &Option<(Op, Version)>,
+        found: Option<u32>,
+        traps: Traps,
     ) -> Turn
         requires run { IsRun universe.now lane.now self.old }
         requires next { self.old.done < length lane.now.instructions }
         requires short { length lane.now.instructions ≤ MOST_INSTRUCTIONS }
-        requires named { name < names universe.now }
+        requires known { (b : ℕ) → found ≡ Some b → IsKnown universe.now (variant name b) }
+        requires free { MeetsNone traps (unpacks universe.now lane.now (shown self.old) name found) }
         ensures { IsTurn universe.now lane.now self.old self.new result
-            (turn_of universe.now (has_bit archive.now.words) lane.now (shown self.old)
-            (Some (Unpack name relation.now))) }
+            (unpacks universe.now lane.now (shown self.old) name found) }
     {
-        match newest(universe, archive, name, relation) {
-            Some(bit) => self.unpack(universe, lane, Variant { name, bit }),
+        match found {
+            Some(bit) => self.unpack(universe, lane, Variant { name, bit }, traps),
             None => Turn::Fails(Trap::Missing), // X1
         }
     }
@@ -103,27 +105,31 @@ impl LaneRun {
         archive: &PlainArchive,
         lane: &Lane,
         instruction: &Instruction,
+        traps: Traps,
     ) -> Turn
         requires run { IsRun universe.now lane.now self.old }
         requires next { self.old.done < length lane.now.instructions }
         requires short { length lane.now.instructions ≤ MOST_INSTRUCTIONS }
         requires known { IsInstruction universe.now instruction.now }
+        requires free { MeetsNone traps (turn_of universe.now (has_bit archive.now.words) lane.now
+            (shown self.old) (Some instruction.now)) }
         ensures { IsTurn universe.now lane.now self.old self.new result
             (turn_of universe.now (has_bit archive.now.words) lane.now (shown self.old)
             (Some instruction.now)) }
     {
         match instruction {
             Instruction::Unpack { name, relation } => {
-                self.unpack_newest(universe, archive, lane, *name, relation)
+                let found = newest(universe, archive, *name, relation);
+                self.unpack_found(universe, lane, *name, found, traps)
             }
             Instruction::Configure(members) => {
-                self.configure(universe, lane, members.as_slice())
+                self.configure(universe, lane, members.as_slice(), traps)
             }
             Instruction::Deconfigure(members) => {
-                self.deconfigure(universe, lane, members.as_slice())
+                self.deconfigure(universe, lane, members.as_slice(), traps)
             }
-            Instruction::Remove(members) => self.remove(universe, lane, members.as_slice()),
-            Instruction::Build(recipe) => self.build(universe, lane, *recipe),
+            Instruction::Remove(members) => self.remove(universe, lane, members.as_slice(), traps),
+            Instruction::Build(recipe) => self.build(universe, lane, *recipe, traps),
             Instruction::Publish(recipe) => self.publish(universe, lane, *recipe),
             Instruction::Wait(entry) => self.wait(universe, archive, lane, entry),
             Instruction::When { name, relation } => {
@@ -134,17 +140,25 @@ impl LaneRun {
     }
 
     /// Takes the lane's turn, over what is in the archive.
-    pub fn turn(&mut self, universe: &Universe, archive: &PlainArchive, lane: &Lane) -> Turn
+    pub fn turn(
+        &mut self,
+        universe: &Universe,
+        archive: &PlainArchive,
+        lane: &Lane,
+        traps: Traps,
+    ) -> Turn
         requires run { IsRun universe.now lane.now self.old }
         requires short { length lane.now.instructions ≤ MOST_INSTRUCTIONS }
         requires known { (i : ℕ) (x : Instruction)
             → slice_get lane.now.instructions i ≡ Some x → IsInstruction universe.now x }
+        requires free { MeetsNone traps (turn_of universe.now (has_bit archive.now.words) lane.now
+            (shown self.old) (slice_get lane.now.instructions self.old.done)) }
         ensures { IsTurn universe.now lane.now self.old self.new result
             (turn_of universe.now (has_bit archive.now.words) lane.now (shown self.old)
             (slice_get lane.now.instructions self.old.done)) }
     {
         match lane.instructions().get(self.done as usize) {
-            Some(instruction) => self.take(universe, archive, lane, instruction),
+            Some(instruction) => self.take(universe, archive, lane, instruction, traps),
             None => Turn::Ends,
         }
     }

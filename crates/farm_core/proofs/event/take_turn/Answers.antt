@@ -1,7 +1,7 @@
 use Rattle.std.proofs.Common.{◌∙◌, ◌+◌, ap, arith, length}
 use Rattle.std.proofs.lemmas.List.{get_or_default}
 use Rattle.plan_asm.proofs.Counts.{lane-short}
-use Rattle.farm_core.proofs.Events.{run_of, after_goes, given_named, given_bit, given_room, after_gives, after_waits, after_ends, after_fails, after_sleep}
+use Rattle.farm_core.proofs.Events.{run_of, free_of, after_goes, given_named, given_bit, given_room, after_gives, after_waits, after_ends, after_fails, after_sleep}
 use Rattle.farm_core.proofs.event.take_turn.Goals as goal
 
 pub turn-requires-clause-run : goal.turn-requires-clause-run
@@ -16,6 +16,13 @@ turn-requires-clause-short c =
     (c.lane-of.ensures
     ∙ get_or_default c.args.plan.now.lanes c.args.lane _ c.lane-of.result.now c.requires.there) in
     omega (arith, short, c.lanes-lanes.ensures.limits.instructions)
+
+pub turn-requires-clause-free : goal.turn-requires-clause-free
+turn-requires-clause-free c =
+    free_of c.args.universe.now c.args.plan.now.lanes c.args.lanes.now.items
+    c.args.archive.now c.requires.core c.args.lane c.index_mut-run.result.now c.requires.there
+    c.index_mut-run.ensures.value c.lane-of.result.now c.lane-of.ensures c.args.traps
+    c.requires.free
 
 pub publish-requires-clause-named : goal.publish-requires-clause-named
 publish-requires-clause-named c =

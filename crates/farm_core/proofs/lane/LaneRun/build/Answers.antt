@@ -3,7 +3,7 @@ use Rattle.farm_model.specs.Packages.{recipe}
 use Rattle.farm_model.specs.Traps.{first_trap, build_traps}
 use Rattle.farm_model.specs.Universe.{Recipe}
 use Rattle.plan_model.specs.Plan.{capacity, build_cost}
-use Rattle.farm_core.proofs.Taken.{over, trapped, built_on, room_is}
+use Rattle.farm_core.proofs.Taken.{over, free, trapped, built_on, room_is}
 use Rattle.farm_core.proofs.lane.LaneRun.build.Goals as goal
 
 pub returns-then-is_over : goal.returns-then-is_over
@@ -15,6 +15,18 @@ returns-then-is_over c =
     (recipe u c.args.recipe))
     c.steps-cost.result (c.steps-cost.ensures ∙ ap (λ (r : Recipe). r.steps) c.recipe.ensures) _
     c.is_over.result c.is_over.ensures.over c.if-is_over.true
+
+pub can_build-requires-clause-free : goal.can_build-requires-clause-free
+can_build-requires-clause-free c = λ is.
+    let u = c.args.universe.now in
+    let of = c.args.lane.now in
+    let slots = c.args.self.now.chroot.slots in
+    ap (λ room. first_trap (build_traps u room slots (recipe u c.args.recipe)))
+    (room_is u of c.args.self.now c.requires.run)
+    ∙ free u of c.args.self.now c.requires.run (build_cost (recipe u c.args.recipe))
+    (build_traps u (capacity u of) slots (recipe u c.args.recipe))
+    c.steps-cost.result (c.steps-cost.ensures ∙ ap (λ (r : Recipe). r.steps) c.recipe.ensures) _
+    c.is_over.result c.is_over.ensures.over c.if-is_over.false c.args.traps c.requires.free is
 
 pub returns-in-Err : goal.returns-in-Err
 returns-in-Err c =

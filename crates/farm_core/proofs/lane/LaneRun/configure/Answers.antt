@@ -1,6 +1,6 @@
 use Rattle.std.proofs.Common.{refl, length}
 use Rattle.farm_model.specs.Traps.{configure_traps, configured}
-use Rattle.farm_core.proofs.Taken.{over, trapped, gone}
+use Rattle.farm_core.proofs.Taken.{over, free, trapped, gone}
 use Rattle.farm_core.proofs.lane.LaneRun.configure.Goals as goal
 
 pub returns-then-is_over : goal.returns-then-is_over
@@ -10,13 +10,21 @@ returns-then-is_over c =
     (configure_traps c.args.universe.now c.args.self.now.chroot.slots c.args.members.now)
     (length c.args.members.now) refl _ c.is_over.result c.is_over.ensures.over c.if-is_over.true
 
+pub configure-requires-clause-free : goal.configure-requires-clause-free
+configure-requires-clause-free c =
+    free c.args.universe.now c.args.lane.now c.args.self.now c.requires.run
+    (length c.args.members.now)
+    (configure_traps c.args.universe.now c.args.self.now.chroot.slots c.args.members.now)
+    (length c.args.members.now) refl _ c.is_over.result c.is_over.ensures.over c.if-is_over.false
+    c.args.traps c.requires.free
+
 pub returns-in-Err : goal.returns-in-Err
 returns-in-Err c =
     trapped c.args.universe.now c.args.lane.now c.args.self.now c.requires.run
     (length c.args.members.now)
     (configure_traps c.args.universe.now c.args.self.now.chroot.slots c.args.members.now)
     (length c.args.members.now) refl _ c.is_over.result c.is_over.ensures.over c.if-is_over.false
-    c.configure.new.self c.in-Err.trap c.in-Err.ensures.trap c.in-Err.ensures.err
+    c.configure.new.chroot c.in-Err.trap c.in-Err.ensures.trap c.in-Err.ensures.err
 
 pub returns : goal.returns
 returns c =
@@ -25,5 +33,5 @@ returns c =
     (configure_traps c.args.universe.now c.args.self.now.chroot.slots c.args.members.now)
     (length c.args.members.now) refl
     (configured c.args.self.now.chroot.slots c.args.members.now) c.is_over.result
-    c.is_over.ensures.over c.if-is_over.false c.configure.new.self c.in_default.ensures.trap
+    c.is_over.ensures.over c.if-is_over.false c.configure.new.chroot c.in_default.ensures.trap
     c.in_default.ensures.ok c.configure.ensures.held c.pass.new.self c.pass.ensures

@@ -1,7 +1,7 @@
 use Rattle.std.proofs.Common.{ap, ◌∙◌}
 use Rattle.farm_model.specs.Traps.{first_trap, unpack_traps, unpacked}
 use Rattle.plan_model.specs.Plan.{capacity, size_cost, unpack_cost}
-use Rattle.farm_core.proofs.Taken.{over, trapped, gone, room_is}
+use Rattle.farm_core.proofs.Taken.{over, free, trapped, gone, room_is}
 use Rattle.farm_core.proofs.lane.LaneRun.unpack.Goals as goal
 
 pub returns-then-is_over : goal.returns-then-is_over
@@ -13,6 +13,18 @@ returns-then-is_over c =
     c.size_cost-cost.result (c.size_cost-cost.ensures ∙ ap size_cost c.size.ensures) _
     c.is_over.result c.is_over.ensures.over c.if-is_over.true
 
+pub unpack-requires-clause-free : goal.unpack-requires-clause-free
+unpack-requires-clause-free c = λ is.
+    let u = c.args.universe.now in
+    let of = c.args.lane.now in
+    let slots = c.args.self.now.chroot.slots in
+    ap (λ room. first_trap (unpack_traps u room slots c.args.variant))
+    (room_is u of c.args.self.now c.requires.run)
+    ∙ free u of c.args.self.now c.requires.run (unpack_cost u c.args.variant)
+    (unpack_traps u (capacity u of) slots c.args.variant)
+    c.size_cost-cost.result (c.size_cost-cost.ensures ∙ ap size_cost c.size.ensures) _
+    c.is_over.result c.is_over.ensures.over c.if-is_over.false c.args.traps c.requires.free is
+
 pub returns-in-Err : goal.returns-in-Err
 returns-in-Err c =
     let u = c.args.universe.now in
@@ -21,7 +33,7 @@ returns-in-Err c =
     trapped u of c.args.self.now c.requires.run (unpack_cost u c.args.variant)
     (unpack_traps u (capacity u of) slots c.args.variant)
     c.size_cost-cost.result (c.size_cost-cost.ensures ∙ ap size_cost c.size.ensures) _
-    c.is_over.result c.is_over.ensures.over c.if-is_over.false c.unpack.new.self c.in-Err.trap
+    c.is_over.result c.is_over.ensures.over c.if-is_over.false c.unpack.new.chroot c.in-Err.trap
     (c.in-Err.ensures.trap
     ∙ ap (λ room. first_trap (unpack_traps u room slots c.args.variant))
     (room_is u of c.args.self.now c.requires.run))
@@ -36,7 +48,7 @@ returns c =
     (unpack_traps u (capacity u of) slots c.args.variant)
     c.size_cost-cost.result (c.size_cost-cost.ensures ∙ ap size_cost c.size.ensures)
     (unpacked slots c.args.variant) c.is_over.result c.is_over.ensures.over c.if-is_over.false
-    c.unpack.new.self
+    c.unpack.new.chroot
     (c.in_default.ensures.trap
     ∙ ap (λ room. first_trap (unpack_traps u room slots c.args.variant))
     (room_is u of c.args.self.now c.requires.run))

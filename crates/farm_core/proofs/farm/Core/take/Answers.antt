@@ -2,7 +2,7 @@ use Rattle.std.proofs.Common.{sym, ap, subst, arith, length, ◌≤◌}
 use Rattle.plan_asm.specs.CountedPlan.{CountedPlan}
 use Rattle.farm_core.specs.Farm.{Farm, step_told, state_after, with_state}
 use Rattle.farm_core.proofs.Views.{unknown}
-use Rattle.farm_core.proofs.farm.Core.step.Goals as goal
+use Rattle.farm_core.proofs.farm.Core.take.Goals as goal
 
 pub returns-then-lane-lanes-clause-told : goal.returns-then-lane-lanes-clause-told
 returns-then-lane-lanes-clause-told c =
