@@ -51,7 +51,7 @@ impl Farm for AtWork<'_> {
         if lane >= self.core.plan().lanes() {
             return false;
         }
-        matches!(self.core.step(lane as u32), Step::Moved)
+        matches!(self.core.step_untested(lane as u32), Step::Moved)
     }
 
     fn done(&self, lane: usize) -> u32 {
