@@ -1,12 +1,14 @@
 -- A timed run that goes on by an event, and one that has ended.
 use Rattle.std.proofs.Common.{◌≡◌, ℕ, ◌+◌, ◌-◌, ◌^◌, ◌<◌, ◌≤◌, true, false, List, [], ◌∷◌, ◌++◌, length, map, Option, Some, None, slice_get, slice_set, get_or, refl, sym, ap, ◌∙◌, subst, arith, length-set}
+use Rattle.std.specs.Prelude.{◌≢◌}
 use Rattle.std.specs.Option.{option_map}
 use Rattle.std.proofs.lemmas.Option.{none-some, same_Some, slice_get_read, slice_get_within}
+use Rattle.farm_model.specs.declared.types.Trap.{Trap}
 use Rattle.farm_model.specs.declared.types.Variant.{Variant}
 use Rattle.farm_model.specs.Universe.{Universe}
 use Rattle.plan_model.specs.Plan.{Plan, count}
 use Rattle.plan_model.specs.Promise.{IsSafe}
-use Rattle.plan_model.specs.Run.{Publication, State, start, lane_state, Moved, step}
+use Rattle.plan_model.specs.Run.{Publication, State, start, lane_state, Moved, Trapped, step}
 use Rattle.plan_model.specs.Sound.{IsSound}
 use Rattle.timed_events.specs.declared.clock.Clock.{Clock}
 use Rattle.timed_events.specs.declared.event.Event.{Event}
@@ -29,6 +31,10 @@ module _ (u : Universe) (p : Plan) (sound : IsSound u p) (safe : IsSafe u p)
     room few l c at =
         let bound = timing-bounded u p events s clocks t safe in
         let small = (t.each l c at).small in omega (arith, few, bound, small)
+
+    -- no lane meets a trap
+    pub free : (l : ℕ) (trap : Trap) → step u p s l ≢ Trapped trap
+    free = safe.no_trap (map (λ (e : Event). e.lane) events) s t.run
 
     -- no lane is awake
     pub ended-all : FoundTo p s clocks (length clocks) None → IsEnded u p events
@@ -72,8 +78,7 @@ module _ (u : Universe) (p : Plan) (sound : IsSound u p) (safe : IsSafe u p)
       sleeps after stays unmoved =
           subst (λ x. IsTiming u p events x (slice_set clocks l asleep)) (sym stays)
           (timing-rests u p events s clocks t l c at
-          (unmoved_rests u p s l in_plan
-          (λ trap. safe.no_trap (map (λ (e : Event). e.lane) events) s t.run l trap) unmoved))
+          (unmoved_rests u p s l in_plan (free l) unmoved))
 
       pub sleeps-less : work_left (count u p) events (slice_set clocks l asleep)
           < work_left (count u p) events clocks

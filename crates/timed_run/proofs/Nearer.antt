@@ -1,32 +1,27 @@
 -- The lane that has the next event, among one lane more.
-use Rattle.std.proofs.Common.{◌≡◌, ℕ, ◌+◌, ◌<◌, ◌≤◌, Bool, true, false, List, length, Option, Some, None, slice_get, refl, sym, ◌∙◌, arith}
-use Rattle.std.specs.Prelude.{nat_lt}
-use Rattle.std.proofs.lemmas.Bool.{false≢true, ltb-true, ltb-false}
-use Rattle.std.proofs.lemmas.Option.{same_Some, slice_get_within}
+use Rattle.std.proofs.Common.{◌≡◌, ℕ, ◌+◌, ◌<◌, ◌≤◌, Bool, true, false, List, Option, Some, None, slice_get, refl, sym, ap, ◌∙◌, subst, arith}
+use Rattle.std.specs.Prelude.{not, nat_lt}
+use Rattle.std.proofs.lemmas.Bool.{false≢true, not-false, ltb-true, ltb-false}
+use Rattle.std.proofs.lemmas.Option.{none-some, same_Some}
 use Rattle.plan_model.specs.Plan.{Plan}
 use Rattle.plan_model.specs.Run.{State}
 use Rattle.timed_events.specs.declared.clock.Clock.{Clock}
 use Rattle.timed_events.specs.Clocks.{moment_of, FoundTo}
 use Rattle.timed_events.proofs.Loops.{found-here, found-still}
-
--- a lane that was found is one
-pub found_within : (p : Plan) (s : State) (clocks : List Clock) (n : ℕ) (found : Option ℕ)
-    → FoundTo p s clocks n found → (l : ℕ) → found ≡ Some l → l < length clocks
-found_within p s clocks n None f l e = cc
-found_within p s clocks n (Some k) f l e =
-    let same : k ≡ l = same_Some k l e in
-    let within = slice_get_within clocks k f.clock f.is in omega (arith, same, within)
+use Rattle.timed_run.specs.Moments.{number_of, lane_of, IsNextTo}
+use Rattle.timed_run.specs.declared.earliest.Moment.{Moment}
+use Rattle.timed_run.specs.declared.earliest.Next.{Next}
 
 module _ (p : Plan) (s : State) (clocks : List Clock) (n : ℕ) (c : Clock)
     (at : slice_get clocks n ≡ Some c) (found : Option ℕ) (f : FoundTo p s clocks n found) where
-  pub asleep : c.awake ≡ false → FoundTo p s clocks (n + 1) found
+  asleep : c.awake ≡ false → FoundTo p s clocks (n + 1) found
   asleep down = found-still p s clocks n c at found f (λ up. absurd (false≢true (sym down ∙ up)))
 
   module _ (up : c.awake ≡ true) (earlier : Bool) (none : found ≡ None → earlier ≡ true)
       (some : (l : ℕ) (x d : Clock) → found ≡ Some l → slice_get clocks n ≡ Some x
       → slice_get clocks l ≡ Some d
       → earlier ≡ nat_lt (moment_of p s n x.next) (moment_of p s l d.next)) where
-    pub here : earlier ≡ true → FoundTo p s clocks (n + 1) (Some n)
+    here : earlier ≡ true → FoundTo p s clocks (n + 1) (Some n)
     here before = found-here p s clocks n c at found f up
         (λ l d e there. ltb-true (moment_of p s n c.next) (moment_of p s l d.next)
         (sym (some l c d e at there) ∙ before))
@@ -42,5 +37,68 @@ module _ (p : Plan) (s : State) (clocks : List Clock) (n : ℕ) (c : Clock)
           (sym (some l c d e at there) ∙ late),
     )
 
-    pub still : earlier ≡ false → FoundTo p s clocks (n + 1) found
+    still : earlier ≡ false → FoundTo p s clocks (n + 1) found
     still late = found-still p s clocks n c at found f (λ _. which found refl late)
+
+-- the same, with the moment of the lane that was found
+module _ (p : Plan) (s : State) (clocks : List Clock) (n : ℕ) (c : Clock)
+    (at : slice_get clocks n ≡ Some c) (found : Option Next) (f : IsNextTo p s clocks n found)
+  where
+    pub next-asleep : c.awake ≡ false → IsNextTo p s clocks (n + 1) found
+    next-asleep down = record {
+      lane = asleep p s clocks n c at (lane_of found) f.lane down;
+      moment = f.moment;
+    }
+
+    module _ (not-down : not c.awake ≡ false) (m : Moment) (is : number_of m ≡ moment_of p s n c.next)
+        (earlier : Bool) (none : found ≡ None → earlier ≡ true)
+        (some : (next : Next) → found ≡ Some next
+        → earlier ≡ nat_lt (number_of m) (number_of next.moment)) where
+      up : c.awake ≡ true
+      up = not-false c.awake not-down
+
+      lane-none : (o : Option Next) → found ≡ o → lane_of o ≡ None → earlier ≡ true
+      lane-none None e left = none e
+      lane-none (Some next) e left = absurd (none-some next.lane (sym left))
+
+      lane-some : (o : Option Next) → found ≡ o → (l : ℕ) (x d : Clock) → lane_of o ≡ Some l
+          → slice_get clocks n ≡ Some x → slice_get clocks l ≡ Some d
+          → earlier ≡ nat_lt (moment_of p s n x.next) (moment_of p s l d.next)
+      lane-some None e l x d there at_n at_l = absurd (none-some l there)
+      lane-some (Some next) e l x d there at_n at_l =
+          let is_l : next.lane ≡ l = same_Some next.lane l there in
+          let is_c : c ≡ x = same_Some c x (sym at ∙ at_n) in
+          let at_next : slice_get clocks next.lane ≡ Some d =
+          ap (slice_get clocks) is_l ∙ at_l in
+          some next e
+          ∙ (ap (λ k. nat_lt k (number_of next.moment))
+          (is ∙ ap (λ (y : Clock). moment_of p s n y.next) is_c)
+          ∙ ap (nat_lt (moment_of p s n x.next))
+          (f.moment next d e at_next ∙ ap (λ k. moment_of p s k d.next) is_l))
+
+      pub next-here : earlier ≡ true
+          → IsNextTo p s clocks (n + 1) (Some (record { lane = n; moment = m }))
+      next-here before = record {
+        lane = here p s clocks n c at (lane_of found) f.lane up earlier
+            (lane-none found refl) (lane-some found refl) before;
+        moment = λ next d e there.
+            let is_next : record { lane = n; moment = m } ≡ next = same_Some _ next e in
+            subst (λ (x : Next). slice_get clocks x.lane ≡ Some d
+            → number_of x.moment ≡ moment_of p s x.lane d.next) is_next
+            (λ at_n. is ∙ ap (λ (y : Clock). moment_of p s n y.next) (same_Some c d (sym at ∙ at_n)))
+            there;
+      }
+
+      pub next-still : earlier ≡ false → IsNextTo p s clocks (n + 1) found
+      next-still late = record {
+        lane = still p s clocks n c at (lane_of found) f.lane up earlier
+            (lane-none found refl) (lane-some found refl) late;
+        moment = f.moment;
+      }
+
+-- none of no lanes, and the lane of what was found of all
+pub next-none : (p : Plan) (s : State) (clocks : List Clock) → IsNextTo p s clocks 0 None
+next-none p s clocks = record {
+  lane = λ k d lt. absurd (omega (arith, lt));
+  moment = λ next c e. absurd (none-some next e);
+}

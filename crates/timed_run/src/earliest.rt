@@ -1,9 +1,10 @@
 //! Which lane has the next event.
 
-ghost use Rattle.std.specs.Prelude.{◌≡◌, ◌<◌, ◌≤◌, ◌*◌, ◌+◌, ◌^◌, ℕ, true, Some, None, length, slice_get, nat_lt};
+ghost use Rattle.std.specs.Prelude.{◌≡◌, ◌<◌, ◌+◌, ◌^◌, ℕ, true, Some, None, length, slice_get, nat_lt};
 ghost use Rattle.timed_events.specs.Clocks.{moment_of, FoundTo};
 ghost use Rattle.timed_events.specs.declared.clock.Clock.{Clock};
-ghost use Rattle.timed_run.specs.Moments.{number_of};
+ghost use Rattle.timed_run.specs.Moments.{number_of, IsNextTo};
+ghost use Rattle.timed_run.specs.declared.earliest.Next.{Next};
 
 use crate::farm::Farm;
 use timed_events::Clock;
@@ -38,40 +39,40 @@ fn next_moment<F: Farm>(farm: &F, lane: usize, time: u128) -> Moment
     }
 }
 
-/// Tells whether a lane has its next event before another, if there is another.
-fn is_earlier<F: Farm>(farm: &F, clocks: &[Clock], lane: usize, other: Option<usize>) -> bool
-    requires long { length clocks.now ≡ length (F.plan farm.now) }
-    requires there { lane < length clocks.now }
-    requires other { (l : ℕ) → other ≡ Some l → l < length clocks.now }
-    requires fit { (l : ℕ) (c : Clock) → slice_get clocks.now l ≡ Some c → c.next + 1 < 2 ^ 128 }
+/// A lane with the moment of its next event.
+#[derive(Clone, Copy)]
+struct Next {
+    lane: usize,
+    moment: Moment,
+}
+
+/// Tells whether a moment is before that of another lane, if there is another.
+fn is_earlier(moment: Moment, other: Option<Next>) -> bool
     ensures none { other ≡ None → result ≡ true }
-    ensures some { (l : ℕ) (c d : Clock) → other ≡ Some l → slice_get clocks.now lane ≡ Some c
-        → slice_get clocks.now l ≡ Some d
-        → result ≡ nat_lt (moment_of (F.plan farm.now) (F.state farm.now) lane c.next)
-        (moment_of (F.plan farm.now) (F.state farm.now) l d.next) }
+    ensures some { (next : Next) → other ≡ Some next
+        → result ≡ nat_lt (number_of moment) (number_of next.moment) }
 {
     match other {
         None => true,
-        Some(other) => is_before(
-            next_moment(farm, lane, clocks[lane].next),
-            next_moment(farm, other, clocks[other].next),
-        ),
+        Some(other) => is_before(moment, other.moment),
     }
 }
 
 /// The lane that has the next event among those before this one and this one.
-fn nearer<F: Farm>(farm: &F, clocks: &[Clock], lane: usize, found: Option<usize>) -> Option<usize>
+fn nearer<F: Farm>(farm: &F, clocks: &[Clock], lane: usize, found: Option<Next>) -> Option<Next>
     requires long { length clocks.now ≡ length (F.plan farm.now) }
     requires there { lane < length clocks.now }
     requires fit { (l : ℕ) (c : Clock) → slice_get clocks.now l ≡ Some c → c.next + 1 < 2 ^ 128 }
-    requires found { FoundTo (F.plan farm.now) (F.state farm.now) clocks.now lane found }
-    ensures { FoundTo (F.plan farm.now) (F.state farm.now) clocks.now (lane + 1) result }
+    requires found { IsNextTo (F.plan farm.now) (F.state farm.now) clocks.now lane found }
+    ensures { IsNextTo (F.plan farm.now) (F.state farm.now) clocks.now (lane + 1) result }
 {
-    if !clocks[lane].awake {
+    let clock = clocks[lane];
+    if !clock.awake {
         return found;
     }
-    if is_earlier(farm, clocks, lane, found) {
-        return Some(lane);
+    let moment = next_moment(farm, lane, clock.next);
+    if is_earlier(moment, found) {
+        return Some(Next { lane, moment });
     }
     found
 }
@@ -83,9 +84,12 @@ pub fn earliest<F: Farm>(farm: &F, clocks: &[Clock]) -> Option<usize>
     requires fit { (l : ℕ) (c : Clock) → slice_get clocks.now l ≡ Some c → c.next + 1 < 2 ^ 128 }
     ensures { FoundTo (F.plan farm.now) (F.state farm.now) clocks.now (length clocks.now) result }
 {
-    let mut found: Option<usize> = None;
+    let mut found: Option<Next> = None;
     for lane in 0..clocks.len() {
         found = nearer(farm, clocks, lane, found);
     }
-    found
+    match found {
+        Some(next) => Some(next.lane),
+        None => None,
+    }
 }

@@ -1,12 +1,13 @@
 //! A farm at work, as a timed run asks of it.
 
-ghost use Rattle.std.specs.Prelude.{◌≡◌, ◌<◌, true, false, length, slice_get};
+ghost use Rattle.std.specs.Prelude.{◌≡◌, ◌≢◌, ◌<◌, true, false, length, slice_get};
 ghost use Rattle.std.specs.Option.{option_map};
+ghost use Rattle.farm_model.specs.declared.types.Trap.{Trap};
 ghost use Rattle.farm_model.specs.Universe.{Universe};
 ghost use Rattle.farm_model.specs.Sound.{IsKnown};
 ghost use Rattle.plan_model.specs.Plan.{Plan, instruction_at};
 ghost use Rattle.plan_model.specs.Run as run;
-ghost use Rattle.plan_model.specs.Run.{State, Publication, Moved, lane_state};
+ghost use Rattle.plan_model.specs.Run.{State, Publication, Moved, Trapped, lane_state};
 ghost use Rattle.plan_model.specs.World.{is_publish};
 ghost use Rattle.timed_events.specs.Clocks.{StaysOver};
 ghost use Rattle.timed_events.specs.Path.{WaitsFor};
@@ -21,8 +22,10 @@ pub trait Farm {
 
     ghost state: { Self → State };
 
-    /// Takes the turn of a lane, and tells whether the lane has gone on.
+    /// Takes the turn of a lane that meets no trap, and tells whether the lane has gone on.
     fn step(&mut self, lane: usize) -> bool
+        requires free { (trap : Trap)
+            → run.step (universe self.old) (plan self.old) (state self.old) lane ≢ Trapped trap }
         ensures universe { universe self.new ≡ universe self.old }
         ensures plan { plan self.new ≡ plan self.old }
         ensures moved { result ≡ true → run.step (universe self.old) (plan self.old)

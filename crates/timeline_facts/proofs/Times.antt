@@ -1,6 +1,7 @@
 -- The times of a lane behind one event more.
 use Rattle.std.proofs.Common.{◌≡◌, ℕ, ◌+◌, ◌-◌, ◌<◌, Bool, true, false, List, length, get_or, refl, sym, subst, arith, take}
 use Rattle.std.specs.Prelude.{◌==◌, if◌then◌else◌}
+use Rattle.std.proofs.lemmas.Bool.{cond-false, ne_eqb}
 use Rattle.std.proofs.lemmas.List.Sums.{fold_more, sum_by_more}
 use Rattle.timed_events.specs.declared.event.Event.{Event}
 use Rattle.timed_events.specs.Timed.{free_at}
@@ -48,3 +49,8 @@ lane_time_next l events i time e same lt is =
     subst (λ t. time_with l t e ≡ next) (sym same)
     (subst (λ x. time_with l (lane_time l (take i events)) x ≡ next) (sym is)
     (sym (lane_time_more l events i e lt)))
+
+-- an event of another lane
+pub time-other : (l : ℕ) (time : LaneTime) (e : Event) → (e.lane ≡ l → ⊥)
+    → time_with l time e ≡ time
+time-other l time e other = cond-false (e.lane == l) _ time (ne_eqb e.lane l other)

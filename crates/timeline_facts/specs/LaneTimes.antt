@@ -4,6 +4,7 @@
 --   told               a time as it is told: at most the greatest number that there is room for
 --   lane_time          when its last event ends, and how much of that it is busy and how much it waits
 --   time_with          its times behind one event more
+--   AreBehind          lanes behind one event more
 --   AreLanes           so many lanes, each with its times
 use Rattle.std.specs.Prelude.{◌≡◌, ℕ, ◌+◌, ◌-◌, ◌^◌, ◌==◌, min, length, List, Some, slice_get, sum_by, if◌then◌else◌}
 use Rattle.timed_events.specs.declared.event.Event.{Event}
@@ -34,6 +35,11 @@ time_with l time e = if e.lane == l
       idle = told (time.idle + (e.begin - e.free));
     }
     else time
+
+pub record AreBehind (e : Event) (old new : List LaneFacts) : Type 0 where
+  pub long : length new ≡ length old
+  pub each : (l : ℕ) (lane : LaneFacts) → slice_get new l ≡ Some lane → (before : LaneFacts)
+      × (slice_get old l ≡ Some before) × (lane.time ≡ time_with l before.time e)
 
 pub record AreLanes (events : List Event) (count : ℕ) (lanes : List LaneFacts) : Type 0 where
   pub long : length lanes ≡ count

@@ -1,7 +1,7 @@
 //! The lanes of a timed run.
 
-ghost use Rattle.std.specs.Prelude.{◌≡◌, IfOk};
-ghost use Rattle.timeline_facts.specs.LaneTimes.{lane_time, time_with, AreLanes};
+ghost use Rattle.std.specs.Prelude.{◌≡◌, [], IfOk, OnOk};
+ghost use Rattle.timeline_facts.specs.LaneTimes.{time_with, AreBehind, AreLanes};
 
 use crate::timed_plan::waited;
 use std::alloc::{AllocError, Global};
@@ -38,33 +38,40 @@ fn with_event(time: LaneTime, lane: usize, event: &Event) -> LaneTime
     }
 }
 
-/// The times of a lane in a run.
-fn time_of(events: &[Event], lane: usize) -> LaneTime
-    ensures { result ≡ lane_time lane events.now }
+/// So many lanes that have no event.
+fn idle_lanes(alloc: Global, count: usize) -> Result<Vec<LaneFacts>, AllocError>
+    ensures { IfOk result (λ lanes. AreLanes [] count lanes.items) }
 {
-    let mut time = LaneTime {
+    let time = LaneTime {
         end: 0,
         busy: 0,
         idle: 0,
     };
-    for event in events {
-        time = with_event(time, lane, event);
+    let mut lanes = Vec::new(alloc);
+    for _ in 0..count {
+        lanes.push(LaneFacts {
+            time,
+            events: Vec::new(alloc),
+        })?;
     }
-    time
+    Ok(lanes)
 }
 
-/// The numbers of the events of a lane.
-fn events_of(alloc: Global, events: &[Event], lane: usize) -> Result<Vec<usize>, AllocError> {
-    let mut numbers = Vec::new(alloc);
-    for number in 0..events.len() {
-        if events[number].lane == lane {
-            numbers.push(number)?;
-        }
+/// Adds an event to its lane, if that is one of these.
+fn add_event(lanes: &mut Vec<LaneFacts>, number: usize, event: &Event) -> Result<(), AllocError>
+    ensures { OnOk result (AreBehind event.now lanes.old.items lanes.new.items) }
+{
+    if event.lane >= lanes.len() {
+        return Ok(());
     }
-    Ok(numbers)
+    let lane = &mut lanes[event.lane];
+    lane.time = with_event(lane.time, event.lane, event);
+    lane.events.push(number)?;
+    Ok(())
 }
 
-/// So many lanes of a run, in their order.
+/// So many lanes of a run, in their order. The events are gone through once, however many lanes
+/// there are.
 ///
 /// # Errors
 ///
@@ -76,11 +83,9 @@ pub(crate) fn lanes_of(
 ) -> Result<Vec<LaneFacts>, AllocError>
     ensures { IfOk result (λ lanes. AreLanes events.now count lanes.items) }
 {
-    let mut lanes = Vec::new(alloc);
-    for lane in 0..count {
-        let time = time_of(events, lane);
-        let events = events_of(alloc, events, lane)?;
-        lanes.push(LaneFacts { time, events })?;
+    let mut lanes = idle_lanes(alloc, count)?;
+    for number in 0..events.len() {
+        add_event(&mut lanes, number, &events[number])?;
     }
     Ok(lanes)
 }

@@ -1,8 +1,13 @@
 use Rattle.std.proofs.Common.{◌∙◌, ◌-◌, refl, ap, length}
 use Rattle.std.proofs.lemmas.List.{length_push}
 use Rattle.plan_model.specs.Run.{lane_state}
-use Rattle.timed_run.proofs.Advanced.{room, at, sleeps, sleeps-less, goes-to, gives-to, less}
+use Rattle.timed_run.proofs.Advanced.{free, room, at, sleeps, sleeps-less, goes-to, gives-to, less}
 use Rattle.timed_run.proofs.advance.advance.Goals as goal
+
+pub step-requires : goal.step-requires
+step-requires g c = record {
+  free = free (g.F.Farm.universe c.args.farm.now) (g.F.Farm.plan c.args.farm.now) c.requires.sound c.requires.safe c.args.events.now.items (g.F.Farm.state c.args.farm.now) c.args.clocks.now.items c.requires.timing c.args.lane;
+}
 
 pub returns-then-not-step-clause-timing : goal.returns-then-not-step-clause-timing
 returns-then-not-step-clause-timing g c =
