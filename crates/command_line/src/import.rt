@@ -59,7 +59,7 @@ fn asked_for<'a, S: AsStr>(
     words: &'a [S],
     asked: ImportWords<'a>,
 ) -> Result<Asked<'a>, WordsFault>
-    requires { AreImportWords (map S.text words.now) asked.entry }
+    requires { AreImportWords (map S.text words.now) asked }
     ensures asked { IfOk result (IsAskedBy (map S.text words.entry.now)) }
     ensures refused { IfErr result (IsRefusedFor (map S.text words.entry.now)) }
 {
@@ -107,7 +107,10 @@ pub fn import_of<'a, S: AsStr>(
 {
     let wish = word_of(matches, WISH);
     let folder = word_of(matches, FOLDER);
-    if !is_word(words, wish) || !is_word(words, folder) {
+    if !is_word(words, wish) {
+        return Err(not_there(alloc));
+    }
+    if !is_word(words, folder) {
         return Err(not_there(alloc));
     }
     with_indexes(alloc, words, matches, wish, folder)
