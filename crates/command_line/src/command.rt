@@ -30,9 +30,6 @@ pub const RUN: &str = "run";
 /// The command `drive`.
 pub const DRIVE: &str = "drive";
 
-/// The command `import`.
-pub const IMPORT: &str = "import";
-
 /// The command `timeline`.
 pub const TIMELINE: &str = "timeline";
 
@@ -77,18 +74,6 @@ pub const PROGRESS: &str = "progress";
 
 /// The option `--journal`.
 pub const JOURNAL: &str = "journal";
-
-/// The option `--archive`.
-pub const ARCHIVE: &str = "archive";
-
-/// The option `--force`.
-pub const FORCE: &str = "force";
-
-/// The parameter with the name of the wish.
-pub const WISH: &str = "wish";
-
-/// The parameter with the name of the folder.
-pub const FOLDER: &str = "folder";
 
 /// The option `--number`.
 pub const NUMBER: &str = "number";
@@ -211,33 +196,6 @@ fn drive<'a>(alloc: Global) -> Result<Command<'a>, AllocError> {
     command.arg(flag(alloc, PROGRESS, help::PROGRESS))
 }
 
-/// An option that names an index, and may stand more than once.
-fn index<'a>(alloc: Global, id: &'a str, about: &'a str) -> Arg<'a> {
-    Arg::new(alloc, id)
-        .long(id)
-        .value_name("INDEX")
-        .action(ArgAction::Append)
-        .help(about)
-}
-
-/// The command with the indexes that `import` reads.
-fn with_indexes<'a>(alloc: Global, command: Command<'a>) -> Result<Command<'a>, AllocError> {
-    let command = command.arg(index(alloc, ARCHIVE, help::ARCHIVE))?;
-    let command = command.arg(index(alloc, PACKAGES, help::INDEXES).required(true))?;
-    command.arg(index(alloc, SOURCES, help::SOURCE_INDEXES).required(true))
-}
-
-/// The command that makes texts of indexes.
-fn import<'a>(alloc: Global) -> Result<Command<'a>, AllocError> {
-    let command = Command::new(alloc, IMPORT)
-        .about(help::IMPORT)
-        .after_long_help(help::IMPORT_MORE);
-    let command = with_indexes(alloc, command)?;
-    let command = command.arg(flag(alloc, FORCE, help::FORCE))?;
-    let command = command.arg(file(alloc, WISH, "WISH", help::WISH))?;
-    command.arg(file(alloc, FOLDER, "DIR", help::FOLDER))
-}
-
 /// A sketch, which a plan is drafted by where no number of lanes is given.
 fn sketch<'a>(alloc: Global) -> Result<Arg<'a>, AllocError> {
     Arg::new(alloc, SKETCH)
@@ -356,6 +314,5 @@ pub fn portfarm<'a>(alloc: Global) -> Result<Command<'a>, AllocError> {
     let program = and(program, run(alloc))?;
     let program = and(program, drive(alloc))?;
     let program = with_pictures(alloc, program)?;
-    let program = and(program, draft(alloc))?;
-    and(program, import(alloc))
+    and(program, draft(alloc))
 }

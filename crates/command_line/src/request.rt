@@ -5,12 +5,11 @@ ghost use Rattle.command_line.specs.Words.{AreFarmWords, ArePathWords, IsAskedBy
 
 use crate::among::{are_farm_words, are_words, ends_word, is_word};
 use crate::command::{
-    BARS, CERT, CERTIFICATE, CHECK, DRAFT, DRIVE, EXPLAIN, FARM, FULL, GRAPH, IMPORT, INPUT, JSON,
-    LANES, LIST, NUMBER, PACKAGES, PARTIAL, PLAN, PROGRESS, REST, RUN, SCHEDULE, SKETCH, SOURCES,
-    STEP, SVG, TIMELINE, VERIFY_CERT, portfarm,
+    BARS, CERT, CERTIFICATE, CHECK, DRAFT, DRIVE, EXPLAIN, FARM, FULL, GRAPH, INPUT, JSON, LANES,
+    LIST, NUMBER, PACKAGES, PARTIAL, PLAN, PROGRESS, REST, RUN, SCHEDULE, SKETCH, SOURCES, STEP,
+    SVG, TIMELINE, VERIFY_CERT, portfarm,
 };
 use crate::drive::drive_of;
-use crate::import::{ImportWords, import_of};
 use crate::schedule::{ScheduleFault, read_lane, read_schedule};
 use clap::error::ErrorKind;
 use clap::{ArgMatches, Error};
@@ -130,8 +129,6 @@ pub enum Asked<'a> {
         journal: Option<&'a str>,
         progress: bool,
     },
-    /// The texts of a farm, made of indexes.
-    Import(ImportWords<'a>),
 }
 
 /// Why words ask for nothing that is answered.
@@ -172,7 +169,7 @@ fn fault_of(alloc: Global, error: Error) -> WordsFault
 }
 
 /// The word for something that the command requires.
-pub fn word_of<'a>(matches: &ArgMatches<'a>, id: &str) -> &'a str {
+fn word_of<'a>(matches: &ArgMatches<'a>, id: &str) -> &'a str {
     matches.get_str(id).unwrap_or("")
 }
 
@@ -452,7 +449,6 @@ pub fn read_words<'a, S: AsStr>(alloc: Global, words: &'a [S]) -> Result<Asked<'
     };
     match matches.subcommand() {
         Some((DRAFT, matches)) => draft_of(alloc, words, matches),
-        Some((IMPORT, matches)) => import_of(alloc, words, matches),
         Some((command, matches)) => asked_of(alloc, words, command, matches),
         None => Err(no_command(alloc)),
     }
