@@ -1,15 +1,16 @@
 -- What a farm at work shows of its lanes.
 use Rattle.std.proofs.Common.{◌≡◌, ℕ, ◌<◌, ◌≤◌, Bool, true, false, inl, inr, List, length, Some, slice_get, sym, ap, ◌∙◌, subst, arith, get_or}
-use Rattle.std.specs.Prelude.{nat_lt, nat_le}
+use Rattle.std.specs.Prelude.{nat_lt, nat_le, slice_index}
 use Rattle.std.proofs.lemmas.Bool.{cond-false, le-ltb, lt-leb, cases_Bool, both_ways}
 use Rattle.farm_model.specs.Below.{every_below}
 use Rattle.farm_model.specs.Universe.{Universe}
+use Rattle.farm_model.specs.Packages.{variant, word_has, has_bit}
 use Rattle.farm_model.specs.Chroot.{used}
 use Rattle.farm_model.proofs.BelowLaws.{every_below-at}
 use Rattle.plan_asm.specs.CountedPlan.{CountedPlan}
 use Rattle.plan_model.specs.Plan.{Lane, Plan, lane}
 use Rattle.plan_model.specs.Run as run
-use Rattle.plan_model.specs.Run.{State, lane_state, step, is_finished}
+use Rattle.plan_model.specs.Run.{State, archive, lane_state, step, is_finished}
 use Rattle.farm_archive.specs.Kept.{Kept}
 use Rattle.farm_core.specs.Farm.{state_of, chroot_in, IsCore}
 use Rattle.farm_core.specs.declared.lane.LaneRun.{LaneRun}
@@ -65,3 +66,11 @@ pub all_ended : (p : Plan) (s : State) (n : ℕ) → n ≡ length p
     → every_below n (has_ended p s) ≡ true → is_finished p s ≡ true
 unfolding is_finished
 all_ended p s n e all = ap (λ k. every_below k (has_ended p s)) (sym e) ∙ all
+
+-- a word of the archive
+pub word_is : (u : Universe) (p : Plan) (lanes : List LaneRun) (kept : Kept)
+    → IsCore u p lanes kept → (name word : ℕ) → word ≡ slice_index kept.words name → (b : ℕ)
+    → word_has word b ≡ archive u (state_of lanes kept).published (variant name b)
+unfolding has_bit
+word_is u p lanes kept core name word is b =
+    ap (λ w. word_has w b) is ∙ sym (core.archive.words (variant name b))

@@ -1,13 +1,14 @@
 //! A farm at work.
 
-ghost use Rattle.std.specs.Prelude.{◌≡◌, ◌≢◌, ◌<◌, IfOk, length};
+ghost use Rattle.std.specs.Prelude.{◌≡◌, ◌≢◌, ℕ, ◌<◌, IfOk, length};
 ghost use Rattle.chroot_state.specs.Held.{IsHeld};
 ghost use Rattle.farm_archive.specs.Kept.{numbered};
 ghost use Rattle.farm_core.specs.Farm.{AreOpened, with_state, chroot_in, step_told, state_after};
 ghost use Rattle.farm_core.specs.declared.traps.Traps.TheVariants.{Unmet};
 ghost use Rattle.farm_model.specs.declared.types.Trap.{Trap};
+ghost use Rattle.farm_model.specs.Packages.{variant, word_has};
 ghost use Rattle.plan_model.specs.Plan.{count};
-ghost use Rattle.plan_model.specs.Run.{start, step, is_finished, lane_state, Trapped};
+ghost use Rattle.plan_model.specs.Run.{archive, start, step, is_finished, lane_state, Trapped};
 ghost use Rattle.plan_model.specs.Sound.{IsPlan};
 
 use crate::answer::Step;
@@ -189,6 +190,15 @@ impl<'a> Core<'a> {
         ensures held { IsHeld self.now.universe result.now }
     {
         &self.lanes[lane as usize].chroot
+    }
+
+    /// The word of a name: bit b is set where the archive has variant b of it.
+    #[tactic(auto, using(crate::proofs::Views::word_is))]
+    pub fn word(&self, name: u32) -> u64
+        ensures { (b : ℕ) → word_has result b
+            ≡ archive self.now.universe self.now.state.published (variant name b) }
+    {
+        self.archive.word(name)
     }
 
     /// What was published, in its order.

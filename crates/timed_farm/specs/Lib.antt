@@ -1,1 +1,3 @@
 pub mod Rests
+pub mod Candidates
+pub mod Held

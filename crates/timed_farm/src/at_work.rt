@@ -1,21 +1,26 @@
 //! The core at work, as a timed run asks of it.
 
-ghost use Rattle.std.specs.Prelude.{◌≡◌, IfOk};
+ghost use Rattle.std.specs.Prelude.{◌≡◌, ◌<◌, true, IfOk, length};
 ghost use Rattle.plan_model.specs.Plan.{count};
-ghost use Rattle.plan_model.specs.Run.{start};
+ghost use Rattle.plan_model.specs.Run.{Moved, State, start, step};
 ghost use Rattle.plan_model.specs.Sound.{IsPlan};
 
-use crate::waits::{instruction_at, rests_behind, waits_for};
+use crate::candidates::Candidates;
+use crate::held::may_pass;
+use crate::waits::{instruction_at, rests_behind, waited, waits_for};
 use farm_core::{Core, Step};
 use farm_universe::{Universe, Variant};
 use plan_asm::{Instruction, Plan};
 use std::alloc::{AllocError, Global};
 use timed_run::Farm;
 
-/// The core of a farm, whose lanes take their turns in a timed run.
+/// The core of a farm, whose lanes take their turns in a timed run, and the names that may have what
+/// a wait is for.
 #[derive(Drop)]
 pub struct AtWork<'a> {
     core: Core<'a>,
+    candidates: Candidates,
+    ghost same: { candidates ≡ core.universe },
 }
 
 impl<'a> AtWork<'a> {
@@ -35,8 +40,26 @@ impl<'a> AtWork<'a> {
         ensures plan { IfOk result (λ w. w.core.plan ≡ plan.now) }
         ensures state { IfOk result (λ w. w.core.state ≡ start universe.now plan.now.lanes) }
     {
+        let candidates = Candidates::of(alloc, universe)?;
         let core = Core::open(alloc, universe, plan)?;
-        Ok(AtWork { core })
+        Ok(AtWork { core, candidates })
+    }
+
+    /// Tells whether a lane stands at a wait that nothing in the archive lets pass.
+    fn is_held_up(&self, lane: usize) -> bool
+        requires { lane < length self.now.core.plan.lanes }
+        ensures { result ≡ true → (next : State) → step self.now.core.universe
+            self.now.core.plan.lanes self.now.core.state lane ≡ Moved next → ⊥ }
+    {
+        let plan = self.core.plan();
+        let _lanes = plan.lanes();
+        let Some(instruction) = instruction_at(plan, lane, self.core.done(lane as u32)) else {
+            return false;
+        };
+        match waited(instruction) {
+            Some(entry) => !may_pass(&self.core, &self.candidates, entry),
+            None => false,
+        }
     }
 }
 
@@ -49,6 +72,9 @@ impl Farm for AtWork<'_> {
 
     fn step(&mut self, lane: usize) -> bool {
         if lane >= self.core.plan().lanes() {
+            return false;
+        }
+        if self.is_held_up(lane) {
             return false;
         }
         matches!(self.core.step_untested(lane as u32), Step::Moved)

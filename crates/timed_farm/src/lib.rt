@@ -6,6 +6,8 @@
 
 mod accepted;
 mod at_work;
+mod candidates;
+mod held;
 mod waits;
 
 pub use accepted::{PlanTime, accepted_timed_run};

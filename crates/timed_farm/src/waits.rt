@@ -26,7 +26,7 @@ pub fn instruction_at(plan: &Plan, lane: usize, place: u32) -> Option<&Instructi
 }
 
 /// The entry that an instruction waits for, if it waits.
-fn waited(instruction: &Instruction) -> Option<&Entry>
+pub fn waited(instruction: &Instruction) -> Option<&Entry>
     ensures some { IfSome result (λ entry. instruction.now ≡ model.Instruction.Wait entry.now) }
     ensures none { IsNone result → (e : relations.Entry)
         → instruction.now ≢ model.Instruction.Wait e }
