@@ -1,12 +1,12 @@
 -- Desks behind calls.
 use Rattle.std.proofs.Common.{◌≡◌, refl, sym, ap, ◌∙◌, arith, ℕ, zero, suc, ◌<◌, ◌≤◌, ◌≢◌, Bool, true, false, ◌&&◌, ◌==◌, max, nat_le, List, [], ◌∷◌, length, fold, slice_set, get_or-set_other, get_or-set_same}
-use Rattle.std.specs.Prelude.{if◌then◌else◌}
+use Rattle.std.specs.Prelude.{◌^◌, map, if◌then◌else◌}
 use Rattle.std.proofs.lemmas.Bool.{false≢true, lt-leb}
 use Rattle.drive_desk.specs.declared.desk.LaneDesk.{LaneDesk}
 use Rattle.drive_desk.specs.declared.desk.Request.{Request}
 use Rattle.drive_desk.specs.declared.desk.Request.TheVariants.{Idle, Open, Answered}
-use Rattle.drive_desk.specs.LaneDesks.{Desks, idle, desk_at, request_at, is_idle, is_open_in, may_ask, with_request, asked, posted, read, taken, withdrawn}
-use Rattle.drive_desk.specs.Laws.{Call, Asks, Posts, Takes, Withdraws, behind}
+use Rattle.drive_desk.specs.LaneDesks.{Desks, idle, desk_at, request_at, is_idle, is_open_in, may_ask, with_request, asked, posted, read, taken, withdrawn, closed, stopped}
+use Rattle.drive_desk.specs.Laws.{Call, Asks, Posts, Takes, Withdraws, Stops, behind}
 
 -- ---- the least number that a lane may ask for never falls
 
@@ -30,6 +30,11 @@ read_least e (Open n) = omega arith
 read_least e (Answered n true) = omega arith
 read_least e (Answered n false) = omega arith
 
+closed_least : (d : Desks) (l : ℕ) → (desk_at d l).least ≤ (desk_at (stopped d) l).least
+closed_least [] l = omega arith
+closed_least (e ∷ d) zero = omega arith
+closed_least (e ∷ d) (suc l) = closed_least d l
+
 call_least : (d : Desks) (c : Call) (l : ℕ)
     → (desk_at d l).least ≤ (desk_at (behind d c) l).least
 unfolding asked posted taken withdrawn
@@ -40,6 +45,7 @@ call_least d (Takes k) l =
     set_least d k l (read (desk_at d k) (request_at d k))
     (read_least (desk_at d k) (request_at d k))
 call_least d (Withdraws k) l = request_least true d k l Idle
+call_least d Stops l = closed_least d l
 
 calls_least : (calls : List Call) (d : Desks) (l : ℕ)
     → (desk_at d l).least ≤ (desk_at (fold behind d calls) l).least
@@ -77,6 +83,19 @@ done_not_asked d l n m calls is le =
     let lt : m < (desk_at after l).least =
     omega (arith, le, taken_least d l n is, calls_least calls (taken d l) l) in
     and_false (is_idle (request_at after l)) (nat_le (desk_at after l).least m) (lt-leb _ _ lt)
+
+stopped_least : (d : Desks) (l : ℕ) → l < length d → 2 ^ 32 ≤ (desk_at (stopped d) l).least
+stopped_least [] l there = absurd (omega (arith, there))
+stopped_least (e ∷ d) zero there = omega arith
+stopped_least (e ∷ d) (suc l) there = stopped_least d l (omega (arith, there))
+
+pub nothing_more : (d : Desks) (l n : ℕ) (calls : List Call) → l < length d → n < 2 ^ 32
+    → may_ask (fold behind (stopped d) calls) l n ≡ false
+nothing_more d l n calls there small =
+    let after = fold behind (stopped d) calls in
+    let lt : n < (desk_at after l).least =
+    omega (arith, small, stopped_least d l there, calls_least calls (stopped d) l) in
+    and_false (is_idle (request_at after l)) (nat_le (desk_at after l).least n) (lt-leb _ _ lt)
 
 -- ---- answers
 

@@ -3,8 +3,8 @@
 --
 --   request_at d l              what the lane has asked for
 --   may_ask d l n               it has asked for nothing, and the instruction is not done
---   asked, posted, taken, withdrawn   the desks behind a call
-use Rattle.std.specs.Prelude.{ℕ, suc, Bool, true, false, ◌&&◌, ◌==◌, nat_le, List, max, Option, Some, None, slice_index_or, slice_set, if◌then◌else◌}
+--   asked, posted, taken, withdrawn, stopped   the desks behind a call
+use Rattle.std.specs.Prelude.{ℕ, suc, ◌^◌, Bool, true, false, ◌&&◌, ◌==◌, nat_le, List, map, max, Option, Some, None, slice_index_or, slice_set, if◌then◌else◌}
 use Rattle.drive_desk.specs.declared.desk.LaneDesk.{LaneDesk}
 use Rattle.drive_desk.specs.declared.desk.Request.{Request}
 use Rattle.drive_desk.specs.declared.desk.Request.TheVariants.{Idle, Open, Answered}
@@ -64,3 +64,10 @@ taken d l = slice_set d l (read (desk_at d l) (request_at d l))
 -- the lane waits no more
 unfoldable pub withdrawn : Desks → ℕ → Desks
 withdrawn d l = with_request d l Idle
+
+-- nothing more is asked: the number of an instruction is less than this
+abbrev pub closed : LaneDesk → LaneDesk
+closed d = record d { least = max d.least (2 ^ 32) }
+
+abbrev pub stopped : Desks → Desks
+stopped d = map closed d

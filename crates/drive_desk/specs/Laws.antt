@@ -3,21 +3,24 @@
 --   OneOfALane              at most one thing of a lane is open
 --   AnswerReachesItsLane    an answer reaches the lane that asked under its number, and no other
 --   DoneIsNotAsked          what is done is not asked again
-use Rattle.std.specs.Prelude.{◌≡◌, ℕ, ◌≤◌, ◌<◌, ◌≢◌, Bool, true, false, List, length, fold}
+--   StopAsksNothingMore     once a run stops no lane asks for anything
+use Rattle.std.specs.Prelude.{◌≡◌, ℕ, ◌≤◌, ◌<◌, ◌≢◌, ◌^◌, Bool, true, false, List, length, fold}
 use Rattle.drive_desk.specs.declared.desk.Request.TheVariants.{Open, Answered}
-use Rattle.drive_desk.specs.LaneDesks.{Desks, desk_at, request_at, may_ask, asked, posted, taken, withdrawn}
+use Rattle.drive_desk.specs.LaneDesks.{Desks, desk_at, request_at, may_ask, asked, posted, taken, withdrawn, stopped}
 
 pub data Call : Type 0 where
   Asks : ℕ → ℕ → Call
   Posts : ℕ → ℕ → Bool → Call
   Takes : ℕ → Call
   Withdraws : ℕ → Call
+  Stops : Call
 
 abbrev pub behind : Desks → Call → Desks
 behind d (Asks l n) = asked d l n
 behind d (Posts l n done) = posted d l n done
 behind d (Takes l) = taken d l
 behind d (Withdraws l) = withdrawn d l
+behind d Stops = stopped d
 
 -- the lane that waits for an answer asks for nothing else
 abbrev pub OneOfALane : Type 0
@@ -36,3 +39,8 @@ abbrev pub DoneIsNotAsked : Type 0
 DoneIsNotAsked = (d : Desks) (l n m : ℕ) (calls : List Call)
     → request_at d l ≡ Answered n true → m ≤ n
     → may_ask (fold behind (taken d l) calls) l m ≡ false
+
+-- once a run stops, no call lets a lane ask for anything again
+abbrev pub StopAsksNothingMore : Type 0
+StopAsksNothingMore = (d : Desks) (l n : ℕ) (calls : List Call)
+    → l < length d → n < 2 ^ 32 → may_ask (fold behind (stopped d) calls) l n ≡ false

@@ -39,6 +39,27 @@ impl Model for Desk {
     ghost view = { λ d. d.lanes.items };
 }
 
+/// More than the number of any instruction.
+const NO_NUMBER: u64 = 1 << 32;
+
+impl LaneDesk {
+    /// Lets the lane ask for nothing more.
+    fn close(&mut self)
+        ensures { self.new ≡ spec.closed self.old }
+    {
+        self.least = self.least.max(NO_NUMBER);
+    }
+}
+
+/// Lets no lane ask for anything more.
+fn close_all(desks: &mut [LaneDesk])
+    ensures { desks.new ≡ spec.stopped desks.old }
+{
+    for desk in desks.iter_mut() {
+        desk.close();
+    }
+}
+
 /// What a lane's desk is once its answer is read.
 fn read(desk: LaneDesk) -> LaneDesk
     ensures { result ≡ spec.read desk desk.request }
@@ -164,5 +185,12 @@ impl Desk {
         ensures { self.new ≡ spec.withdrawn self.old lane }
     {
         self.set(lane, Request::Idle);
+    }
+
+    /// Lets no lane ask for anything more. What is asked for can still be answered.
+    pub fn stop(&mut self)
+        ensures { self.new ≡ spec.stopped self.old }
+    {
+        close_all(&mut self.lanes);
     }
 }

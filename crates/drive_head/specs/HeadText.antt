@@ -1,9 +1,12 @@
 -- The head of a journal. The project's own format.
 --
---   head_text           the lines ahead of the run's: of each text its SHA-256 digest, in hex digits
+--   TextSums, sums_of   of each text its SHA-256 digest, in hex digits
+--   head_text           the lines ahead of the run's
+--   run_line, run_name  the line of the run, and its name, by its stamp: the time of its beginning
 --   Finding             what the text of a journal is to a run of four texts
 --   finding             it by that text and the head that these texts give
-use Rattle.std.specs.Prelude.{ℕ, suc, List, [], ◌∷◌, codes, drop, length, nat_eq, if◌then◌else◌}
+use Rattle.std.specs.Prelude.{ℕ, suc, List, [], ◌∷◌, ◌++◌, codes, take, drop, length, nat_eq, if◌then◌else◌}
+use Rattle.std.specs.Int.{w64, to_be_bytes}
 use Rattle.std.specs.List.{concat, starts_with}
 use Rattle.std.specs.Str.{bytes_eq}
 use Rattle.deb_text.specs.Lines.{lines_of}
@@ -12,14 +15,48 @@ use Rattle.drive_journal.specs.Entries.{whole}
 use Rattle.hex.specs.Hex.{encode_lower}
 use Rattle.sha2.specs.Sha256.{sha256}
 
-abbrev pub sum_line : List ℕ → List ℕ → List ℕ
-sum_line name text = concat (name ∷ codes " " ∷ encode_lower (sha256 text) ∷ codes "\n" ∷ [])
+pub record TextSums : Type 0 where
+  pub packages : List ℕ
+  pub sources : List ℕ
+  pub farm : List ℕ
+  pub plan : List ℕ
 
-abbrev pub head_text : List ℕ → List ℕ → List ℕ → List ℕ → List ℕ
-head_text packages sources farm plan =
-    concat (codes "journal 1\n" ∷ sum_line (codes "packages") packages
-    ∷ sum_line (codes "sources") sources ∷ sum_line (codes "farm") farm
-    ∷ sum_line (codes "plan") plan ∷ [])
+abbrev pub sum_of : List ℕ → List ℕ
+sum_of text = encode_lower (sha256 text)
+
+abbrev pub sums_of : List ℕ → List ℕ → List ℕ → List ℕ → TextSums
+sums_of packages sources farm plan = record {
+  packages = sum_of packages;
+  sources = sum_of sources;
+  farm = sum_of farm;
+  plan = sum_of plan;
+}
+
+abbrev pub sum_line : List ℕ → List ℕ → List ℕ
+sum_line name sum = concat (name ∷ codes " " ∷ sum ∷ codes "\n" ∷ [])
+
+abbrev pub head_text : TextSums → List ℕ
+head_text sums =
+    concat (codes "journal 1\n" ∷ sum_line (codes "packages") sums.packages
+    ∷ sum_line (codes "sources") sums.sources ∷ sum_line (codes "farm") sums.farm
+    ∷ sum_line (codes "plan") sums.plan ∷ [])
+
+-- ---- the run
+
+-- nanoseconds since 1970 as 16 hex digits
+abbrev pub stamp_text : ℕ → List ℕ
+stamp_text nanoseconds = encode_lower (to_be_bytes w64 nanoseconds)
+
+abbrev pub run_line : List ℕ → List ℕ
+run_line stamp = concat (codes "run " ∷ stamp ∷ codes "\n" ∷ [])
+
+-- 16 hex digits of the four digests' own, and the stamp
+abbrev pub run_name : TextSums → List ℕ → List ℕ
+run_name sums stamp =
+    concat (encode_lower (take 8 (sha256 (sums.packages ++ sums.sources ++ sums.farm ++ sums.plan)))
+    ∷ codes "-" ∷ stamp ∷ [])
+
+-- ---- what is found
 
 -- nothing was asked by then; the name of its run, and the lines of its entries; or this line of it
 -- does not fit, the first being 1
