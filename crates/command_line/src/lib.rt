@@ -8,7 +8,6 @@
 
 mod among;
 mod command;
-mod drive;
 mod help;
 mod request;
 mod schedule;
