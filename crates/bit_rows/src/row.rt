@@ -16,7 +16,7 @@ use std::marker::Model;
 /// Clauses see a row as its words, and as the set of the variants whose bit is set. How the words
 /// are kept is no part of the contract. Two rows that meet in one call have one length, and so have
 /// a row and a slice of words, one for each name, which stand for a set as a row's do. `N` blocks
-/// of eight words that are not all 0 have room in the row itself; where there are more, all lie in
+/// of four words that are not all 0 have room in the row itself; where there are more, all lie in
 /// memory.
 #[derive(Drop)]
 pub struct Row<const N: usize, A: Allocator + Copy> {

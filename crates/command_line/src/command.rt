@@ -27,6 +27,9 @@ pub const STEP: &str = "step";
 /// The command `run`.
 pub const RUN: &str = "run";
 
+/// The command `drive`.
+pub const DRIVE: &str = "drive";
+
 /// The command `timeline`.
 pub const TIMELINE: &str = "timeline";
 
@@ -68,6 +71,9 @@ pub const SCHEDULE: &str = "schedule";
 
 /// The option `--progress`.
 pub const PROGRESS: &str = "progress";
+
+/// The option `--journal`.
+pub const JOURNAL: &str = "journal";
 
 /// The option `--number`.
 pub const NUMBER: &str = "number";
@@ -182,6 +188,14 @@ fn run<'a>(alloc: Global) -> Result<Command<'a>, AllocError> {
     on_files(alloc, RUN, help::RUN, help::RUN_MORE)?.arg(flag(alloc, PROGRESS, help::PROGRESS))
 }
 
+/// The command that lets a driver carry out the run.
+fn drive<'a>(alloc: Global) -> Result<Command<'a>, AllocError> {
+    let journal = Arg::new(alloc, JOURNAL).long(JOURNAL).value_name("FILE");
+    on_files(alloc, DRIVE, help::DRIVE, help::DRIVE_MORE)?
+        .arg(journal.help(help::JOURNAL))?
+        .arg(flag(alloc, PROGRESS, help::PROGRESS))
+}
+
 /// What `draft` is to go by: a sketch, or a number of lanes in place of it.
 fn with_sketch<'a>(alloc: Global, command: Command<'a>) -> Result<Command<'a>, AllocError> {
     let sketch = Arg::new(alloc, SKETCH).value_name("SKETCH");
@@ -257,6 +271,7 @@ pub fn portfarm<'a>(alloc: Global) -> Result<Command<'a>, AllocError> {
     let program = program.subcommand(verify_cert(alloc)?)?;
     let program = program.subcommand(step(alloc)?)?;
     let program = program.subcommand(run(alloc)?)?;
+    let program = program.subcommand(drive(alloc)?)?;
     let program = with_pictures(alloc, program)?;
     program.subcommand(draft(alloc)?)
 }

@@ -5,7 +5,7 @@ ghost use Rattle.command_line.specs.Words.{AreFarmWords, ArePathWords, IsAskedBy
 
 use crate::among::{are_farm_words, are_words, ends_word, is_word};
 use crate::command::{
-    BARS, CERT, CERTIFICATE, CHECK, DRAFT, EXPLAIN, FARM, FULL, GRAPH, INPUT, JSON, LANES, LIST,
+    BARS, CERT, CERTIFICATE, CHECK, DRAFT, DRIVE, EXPLAIN, FARM, FULL, GRAPH, INPUT, JOURNAL, JSON, LANES, LIST,
     NUMBER, PACKAGES, PARTIAL, PLAN, PROGRESS, REST, RUN, SCHEDULE, SKETCH, SOURCES, STEP, SVG,
     TIMELINE, VERIFY_CERT, portfarm,
 };
@@ -118,6 +118,13 @@ pub enum Asked<'a> {
     Answer(Request<'a>),
     /// A run of the farm of four texts; and whether to tell of it while it goes on.
     Run { paths: Paths<'a>, progress: bool },
+    /// A run that a driver carries out; the name of its journal, if it has one; and whether to tell
+    /// of it while it goes on.
+    Drive {
+        paths: Paths<'a>,
+        journal: Option<&'a str>,
+        progress: bool,
+    },
 }
 
 /// Why words ask for nothing that is answered.
@@ -363,6 +370,37 @@ fn draft_of<'a, S: AsStr>(
     lanes_of(alloc, words, number, paths, matches.get_flag(PARTIAL))
 }
 
+/// Tells whether a file is to be read from standard input.
+fn names_input(paths: &Paths<'_>) -> bool {
+    let names = [paths.packages, paths.sources, paths.farm, paths.plan];
+    names.iter().any(|name| *name == INPUT)
+}
+
+/// What `drive` asks for.
+fn drive_of<'a, S: AsStr>(
+    alloc: Global,
+    words: &'a [S],
+    matches: &ArgMatches<'a>,
+    paths: Paths<'a>,
+) -> Result<Asked<'a>, WordsFault>
+    requires paths { ArePathWords (map S.text words.now) paths }
+    ensures asked { IfOk result (IsAskedBy (map S.text words.entry.now)) }
+    ensures refused { IfErr result (IsRefusedFor (map S.text words.entry.now)) }
+{
+    if names_input(&paths) {
+        return Err(wrong(alloc, "error: `-` cannot stand for a file here: standard input has the answers\n"));
+    }
+    let journal = matches.get_str(JOURNAL);
+    if !ends_word(words, journal.unwrap_or("")) {
+        return Err(not_there(alloc));
+    }
+    Ok(Asked::Drive {
+        paths,
+        journal,
+        progress: matches.get_flag(PROGRESS),
+    })
+}
+
 /// What a command and its words ask for.
 fn asked_of<'a, S: AsStr>(
     alloc: Global,
@@ -379,6 +417,9 @@ fn asked_of<'a, S: AsStr>(
     }
     if !are_words(words, paths) {
         return Err(not_there(alloc));
+    }
+    if command == DRIVE {
+        return drive_of(alloc, words, matches, paths);
     }
     if command == RUN {
         return Ok(Asked::Run {

@@ -6,4 +6,4 @@
 
 mod machine;
 
-pub use machine::{FileJournal, OpenFault, open_journal};
+pub use machine::{FileJournal, open_journal};

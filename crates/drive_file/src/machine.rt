@@ -1,6 +1,6 @@
 //! A journal in a file of the machine.
 
-use drive_store::{Journal, JournalFile};
+use drive_store::{Journal, JournalFile, OpenFault};
 use report_sink::{Sink, SinkFailed, WriteSink};
 use std::alloc::Global;
 use std::fs::{File, OpenOptions, TryLockError};
@@ -15,15 +15,6 @@ pub struct FileJournal {
     file: File,
     folder: File,
     sink: WriteSink<File>,
-}
-
-/// Why a journal is not opened.
-#[derive(Clone, Copy, PartialEq, Eq)]
-pub enum OpenFault {
-    /// Another run goes on by it.
-    InUse,
-    /// It can be neither opened nor made, or its folder cannot be opened.
-    Unopened,
 }
 
 /// The folder of a file.

@@ -36,6 +36,15 @@ pub trait JournalFile: Journal {
         ensures { Self.state self.new ≡ Self.state self.old };
 }
 
+/// Why a journal is not opened.
+#[derive(Clone, Copy, PartialEq, Eq)]
+pub enum OpenFault {
+    /// Another run goes on by it.
+    InUse,
+    /// It can be neither opened nor made, or its folder cannot be opened.
+    Unopened,
+}
+
 /// A journal of which nothing is kept, for runs that nobody means to resume.
 #[derive(Drop)]
 pub struct Unkept;

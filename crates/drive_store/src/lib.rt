@@ -8,5 +8,5 @@
 mod kept;
 mod start;
 
-pub use kept::{Journal, JournalFile, Unkept};
+pub use kept::{Journal, JournalFile, OpenFault, Unkept};
 pub use start::{Resumed, StoreFault, resume};

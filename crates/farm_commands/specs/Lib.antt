@@ -1,10 +1,2 @@
-pub mod Answers
-pub mod CertAnswers
-pub mod Drafts
-pub mod Explanations
-pub mod FarmAnswers
-pub mod Pictures
 pub mod Requests
 pub mod Runs
-pub mod Turns
-pub mod View

@@ -1,56 +1,32 @@
 -- What words come to. The project's own rules.
 --
 --   status_told      the status of the program
---   outside_fault_line, TellsFault
---                    the line of a fault outside of the texts, written to the error output
+--   TellsFault       the line of a fault outside of the texts, written to the error output
 --   TellsWords       what is told of words that ask for no answer
 --   ComesTo          what is written to the output, and what is told
 --   MayComeTo        the same where words may ask for a run too
-use Rattle.std.specs.Prelude.{◌≡◌, ◌⊎◌, ℕ, List, ◌++◌, length, codes, Option, Result, Ok, Err}
+use Rattle.std.specs.Prelude.{◌≡◌, ◌⊎◌, ℕ, List, length, Option, Result, Ok, Err}
 use Rattle.command_line.specs.declared.request.Paths.{Paths}
 use Rattle.command_line.specs.declared.request.Request.{Request}
 use Rattle.command_line.specs.declared.request.Request.TheVariants.{CheckInput}
 use Rattle.command_line.specs.Words.{ArePathWords, IsRequestedBy}
 use Rattle.report_sink.specs.Sinks.{SinkState, IsWritten}
-use Rattle.fault_notes.specs.Escapes.{escaped}
-use Rattle.farm_commands.specs.Answers.{IsAnswered}
-use Rattle.farm_commands.specs.FarmAnswers.{RunsTo}
-use Rattle.farm_commands.specs.Requests.{IsRequestAnswered, named}
-use Rattle.farm_commands.specs.declared.fault.OutsideFault.{OutsideFault}
-use Rattle.farm_commands.specs.declared.fault.OutsideFault.TheVariants.{CannotRead, OutOfMemory, CutShort, BadSchedule, WriteFailed}
-use Rattle.farm_commands.specs.declared.status.TheConstants.{FINE, OUTSIDE, WRONG_WORDS}
+use Rattle.farm_answers.specs.Answers.{IsAnswered}
+use Rattle.farm_answers.specs.FaultLines.{fault_status, outside_fault_line}
+use Rattle.farm_answers.specs.FarmAnswers.{RunsTo}
+use Rattle.farm_commands.specs.Requests.{IsRequestAnswered}
+use Rattle.farm_answers.specs.Files.{named}
+use Rattle.farm_answers.specs.declared.fault.OutsideFault.{OutsideFault}
+use Rattle.farm_answers.specs.declared.status.TheConstants.{FINE, WRONG_WORDS}
 
 -- what is answered where words ask for help or the version: some text
 abbrev pub Shows : List ℕ → ℕ → Type 0
 Shows text status = status ≡ FINE
 
--- the status of a fault outside of the texts
-abbrev pub fault_status : OutsideFault → ℕ
-fault_status (CannotRead name) = OUTSIDE
-fault_status OutOfMemory = OUTSIDE
-fault_status CutShort = OUTSIDE
-fault_status BadSchedule = WRONG_WORDS
-fault_status WriteFailed = OUTSIDE
-
 -- the status that is told, or that of a fault outside of the texts
 abbrev pub status_told : Result ℕ OutsideFault → ℕ
 status_told (Ok status) = status
 status_told (Err fault) = fault_status fault
-
--- a name, of which those bytes are escaped that are not printable ASCII
-abbrev pub escaped_line : List ℕ → List ℕ
-escaped_line name = escaped name ++ codes "\n"
-
-abbrev pub cannot_read_line : List ℕ → List ℕ
-cannot_read_line name = codes "portfarm: cannot read " ++ escaped_line name
-
--- the line that is said of a fault outside of the texts
-abbrev pub outside_fault_line : OutsideFault → List ℕ
-outside_fault_line (CannotRead name) = cannot_read_line name.now
-outside_fault_line OutOfMemory = codes "portfarm: out of memory\n"
-outside_fault_line CutShort = codes "portfarm: out of memory\n"
-outside_fault_line BadSchedule = codes "portfarm: bad schedule\n"
-outside_fault_line WriteFailed = codes "portfarm: write failed\n"
 
 -- a fault outside of the texts is said on the error output
 abbrev pub TellsFault : SinkState → SinkState → Result ℕ OutsideFault → Type 0

@@ -1,74 +1,23 @@
 //! What is answered to a request.
 
-ghost use Rattle.std.specs.Prelude.{IfErr, IfOk, OnErr, ◌≡◌};
-ghost use Rattle.farm_commands.specs.Answers.{AnswersCheck, AnswersListing, AnswersStep, AnswersStepBy, IsAnswered, IsReadFault, UnlessUnread};
-ghost use Rattle.farm_commands.specs.CertAnswers.{AnswersCert, AnswersVerifyCert, IsCertAnswered};
-ghost use Rattle.farm_commands.specs.Explanations.{AnswersExplain};
-ghost use Rattle.farm_commands.specs.Pictures.{AnswersGraph, AnswersTimeline, is_json};
+ghost use Rattle.std.specs.Prelude.{OnErr, ◌≡◌};
+ghost use Rattle.farm_answers.specs.Answers.{AnswersCheck, AnswersListing, AnswersStep, AnswersStepBy, IsAnswered, UnlessUnread};
+ghost use Rattle.farm_answers.specs.CertAnswers.{AnswersCert, AnswersVerifyCert, IsCertAnswered};
+ghost use Rattle.explain_answers.specs.Explanations.{AnswersExplain};
+ghost use Rattle.picture_answers.specs.Pictures.{AnswersGraph, AnswersTimeline, is_json};
 ghost use Rattle.farm_input.specs.View.{texts_view};
-ghost use Rattle.farm_commands.specs.Requests.{AreCalled, AreCalledWith, AreFilesRead, IsInputName, IsRequestAnswered, OnFiles, OnFilesAndOne, OnInput, named};
-ghost use Rattle.farm_commands.specs.View.{texts_in_files};
+ghost use Rattle.farm_answers.specs.Files.{AreCalled, AreCalledWith, IsInputName, OnFiles, OnFilesAndOne, named};
+ghost use Rattle.farm_commands.specs.Requests.{IsRequestAnswered, OnInput};
 
-use crate::answers::{answer_check, answer_list, answer_numbered, answer_step, answer_step_by};
-use crate::certificates::{answer_cert, answer_verify_cert};
-use crate::draft::{ByNumber, BySketch, draft_files, draft_lanes};
-use crate::explain::answer_explain;
-use crate::fault::OutsideFault;
-use crate::graph::answer_graph;
-use crate::source::{Source, read_file, read_input};
-use crate::timeline::{Shape, answer_timeline};
+use draft_answers::{ByNumber, BySketch, draft_files, draft_lanes};
+use explain_answers::answer_explain;
+use farm_answers::{OutsideFault, Source, answer_cert, answer_check, answer_list, answer_numbered, answer_step, answer_step_by, answer_verify_cert, read_file, read_files, read_input};
+use picture_answers::{Shape, answer_graph, answer_timeline};
 use command_line::{Paths, Request};
 use farm_input::{Texts, texts_of};
 use report_sink::Sink;
 use std::alloc::Global;
 use std::thread::Threads;
-
-/// The four texts of files.
-#[derive(Drop)]
-pub struct FileTexts {
-    packages: Vec<u8>,
-    sources: Vec<u8>,
-    farm: Vec<u8>,
-    plan: Vec<u8>,
-}
-
-impl FileTexts {
-    /// The four texts.
-    pub fn texts(&self) -> Texts<'_>
-        ensures { texts_view result ≡ texts_in_files self.now }
-    {
-        Texts {
-            packages: &self.packages,
-            sources: &self.sources,
-            farm: &self.farm,
-            plan: &self.plan,
-        }
-    }
-}
-
-/// Reads the files of the four texts, in the order of their names.
-///
-/// # Errors
-///
-/// [`OutsideFault::CannotRead`] for the first that cannot be read, and
-/// [`OutsideFault::OutOfMemory`] where memory is refused.
-pub fn read_files<'a, F: Source>(
-    alloc: Global,
-    source: &F,
-    paths: Paths<'a>,
-) -> Result<FileTexts, OutsideFault<'a>>
-    ensures read { IfOk result (λ files.
-        AreFilesRead (named (F.held source.now) (F.given source.now)) paths.entry
-        (texts_in_files files)) }
-    ensures fault { IfErr result (IsReadFault (AreCalled paths.entry)) }
-{
-    Ok(FileTexts {
-        packages: read_file(alloc, source, paths.packages)?,
-        sources: read_file(alloc, source, paths.sources)?,
-        farm: read_file(alloc, source, paths.farm)?,
-        plan: read_file(alloc, source, paths.plan)?,
-    })
-}
 
 /// The verdict on standard input.
 fn check_input<'a, F: Source, S: Sink>(

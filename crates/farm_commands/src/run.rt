@@ -3,12 +3,9 @@
 ghost use Rattle.std.specs.Prelude.{◌≡◌, ℕ, IfOk, Result, OnErr, map};
 ghost use Rattle.farm_commands.specs.Runs.{ComesTo, MayComeTo, TellsFault, TellsWords, status_told};
 
-use crate::errors::{say, tell};
-use crate::farm_run::{RunFiles, run_files};
-use crate::fault::OutsideFault;
+use farm_answers::{FINE, OutsideFault, RunFiles, Source, WRONG_WORDS, run_files, say, tell};
 use crate::request::answer_request;
-use crate::source::Source;
-use crate::status::{FINE, WRONG_WORDS};
+use drive_answers::{DriveFiles, DriveSource, drive_files};
 use command_line::{Asked, WordsFault, read_words};
 use report_sink::{Sink, write_text};
 use std::alloc::Global;
@@ -56,7 +53,7 @@ fn answer_words<'a, W: AsStr, F: Source, S: Sink, E: Sink>(
 {
     match read_words(alloc, words) {
         Ok(Asked::Answer(request)) => answer_request(rt, alloc, request, source, out, errors),
-        Ok(Asked::Run { .. }) => Ok(say(errors, b"portfarm: no lanes are run here\n", WRONG_WORDS)),
+        Ok(Asked::Run { .. } | Asked::Drive { .. }) => Ok(say(errors, b"portfarm: no lanes are run here\n", WRONG_WORDS)),
         Err(fault) => tell_words(fault, out, errors),
     }
 }
@@ -66,7 +63,7 @@ fn answer_words<'a, W: AsStr, F: Source, S: Sink, E: Sink>(
 /// # Errors
 ///
 /// The fault outside of the texts that ended it.
-fn do_words<'a, R: Threads + Wait + Eprint + Sync, W: AsStr, F: Source, S: Sink, E: Sink>(
+fn do_words<'a, R: Threads + Wait + Eprint + Sync, W: AsStr, F: DriveSource, S: Sink + Send, E: Sink>(
     rt: &R,
     alloc: Global,
     words: &'a [W],
@@ -83,6 +80,18 @@ fn do_words<'a, R: Threads + Wait + Eprint + Sync, W: AsStr, F: Source, S: Sink,
         Ok(Asked::Run { paths, progress }) => {
             let of = RunFiles { paths, progress };
             run_files(rt, alloc, source, of, out, errors)
+        }
+        Ok(Asked::Drive {
+            paths,
+            journal,
+            progress,
+        }) => {
+            let of = DriveFiles {
+                paths,
+                journal,
+                progress,
+            };
+            drive_files(rt, alloc, source, of, out, errors)
         }
         Err(fault) => tell_words(fault, out, errors),
     }
@@ -130,7 +139,7 @@ pub fn quiet_words<'a, W: AsStr, F: Source, S: Sink, E: Sink>(
 /// refusal or a trap; 2 for wrong words or a schedule that is none; and 3 where a file cannot be
 /// read, memory is refused, a lane cannot be started, or the output fails. What is said of wrong
 /// words and schedules, and of the last four, stands on the error output.
-pub fn run_words<'a, R: Threads + Wait + Eprint + Sync, W: AsStr, F: Source, S: Sink, E: Sink>(
+pub fn run_words<'a, R: Threads + Wait + Eprint + Sync, W: AsStr, F: DriveSource, S: Sink + Send, E: Sink>(
     rt: &R,
     alloc: Global,
     words: &'a [W],

@@ -1,11 +1,13 @@
 //! The gate of a run that a driver carries out.
 
 use crate::known::Known;
-use crate::office::{Fault, Journal, Office, Phase, Reply};
+use crate::office::{Fault, Office, Phase, Reply};
 use crate::question::{Asked, Question, instruction_at, write_question};
-use drive_input::Input;
+use drive_input::{Heard, Input};
 use drive_journal::Said;
 use drive_notes::Note;
+use drive_store::Journal;
+use drive_words::Answer;
 use farm_archive::Publication;
 use farm_universe::Variant;
 use lane_runner::{Gate, Go, LaneArchive, Place};
@@ -13,7 +15,7 @@ use plan_asm::{Instruction, name_of, version_of};
 use plan_verifier::Accepted;
 use report_sink::Sink;
 use std::alloc::{AllocError, Global};
-use std::io::BufRead;
+use std::io::{BufRead, Eprint};
 use std::sync::{Condvar, Mutex, Wait};
 
 /// A gate at which each lane waits until a driver outside of this program has done what the lane is
@@ -134,15 +136,26 @@ impl<R: Wait, I: BufRead + Drop, S: Sink + Drop, J: Journal + Drop> DriverGate<'
         office.note(self.known.lane(question.place.lane), question.number, said)
     }
 
-    /// Puts a question: the entry of the journal first, and then the line.
-    fn put(&self, office: &mut Office<S, J>, question: Question<'_>) -> Begun {
-        let lane = question.place.lane;
-        if !self.is_noted(office, question) || !office.ask(lane, question.number) {
-            return Begun::Stopping;
+    /// Writes the entry of a question, and then its line. Tells whether both are written.
+    fn is_written(&self, office: &mut Office<S, J>, question: Question<'_>) -> bool {
+        if !self.is_noted(office, question) {
+            return false;
         }
         if write_question(&mut office.out, &self.known, question).is_err() {
-            office.withdraw(lane);
             office.fail(Fault::WriteFailed);
+            return false;
+        }
+        true
+    }
+
+    /// Puts a question, if the lane may ask it.
+    fn put(&self, office: &mut Office<S, J>, question: Question<'_>) -> Begun {
+        let lane = question.place.lane;
+        if !office.ask(lane, question.number) {
+            return Begun::Stopping;
+        }
+        if !self.is_written(office, question) {
+            office.withdraw(lane);
             return Begun::Stopping;
         }
         Begun::Yes
@@ -170,11 +183,70 @@ impl<R: Wait, I: BufRead + Drop, S: Sink + Drop, J: Journal + Drop> DriverGate<'
         office.reply(lane)
     }
 
+    /// Notes that it is done: of a publish with the archive's turn, for so many outputs. Tells
+    /// whether that is kept.
+    fn note_done(&self, lane: u32, number: u32, outputs: usize) -> bool {
+        let office = self.office.lock(self.rt);
+        let mut office = self.changed.wait_while(
+            self.rt,
+            office,
+            |office| outputs > 0 && office.has_no_turn(),
+        );
+        if outputs > 0 && office.phase != Phase::Halted {
+            office.begin_turn(lane, outputs, None);
+        }
+        if number == 0 {
+            office.open(lane);
+        }
+        office.note(self.known.lane(lane), number, Said::Done)
+    }
+
+    /// Notes that a lane looks, and tells whether its chroot is there.
+    fn is_open(&self, lane: u32) -> bool {
+        let mut office = self.office.lock(self.rt);
+        office.see(lane);
+        office.is_open(lane)
+    }
+
+    /// What is noted of a lane's instruction.
+    fn note_of(&self, place: Place<'_>) -> Note {
+        self.known
+            .notes
+            .of(place.lane, u64::from(place.instruction))
+    }
+
+    fn note_branch(&self, place: Place<'_>, holds: bool) {
+        let lane = self.known.lane(place.lane);
+        let mut office = self.office.lock(self.rt);
+        if office.phase != Phase::Halted {
+            let _kept = office.note(lane, place.instruction, Said::Branched(holds));
+        }
+    }
+}
+
+impl<R: Wait + Eprint, I: BufRead + Drop, S: Sink + Drop, J: Journal + Drop> DriverGate<'_, R, I, S, J> {
+    /// Says on the error output that an answer was passed over.
+    fn tell_passed(&self, answer: Answer) {
+        let (verb, lane, number) = match answer {
+            Answer::Done { lane, number } => ("done", lane, number),
+            Answer::Failed { lane, number } => ("failed", lane, number),
+            _ => return,
+        };
+        let lane = self.known.lane(lane).escape_ascii();
+        let _written = eprintln!(self.rt;
+            "portfarm: passed over an answer to what is not asked: {verb} {lane} {number}"
+        );
+    }
+
     /// Reads one line of the driver, and wakes the lane that it is for.
     fn read(&self, accepted: &Accepted) {
         let heard = self.input.lock(self.rt).next(accepted.plan());
-        self.office.lock(self.rt).hear(heard);
+        let is_taken = self.office.lock(self.rt).hear(heard);
         self.changed.notify_all();
+        match heard {
+            Heard::Line(answer) if !is_taken => self.tell_passed(answer),
+            _ => {}
+        }
     }
 
     /// Waits for the answer to what a lane has asked: whether it is done.
@@ -187,24 +259,6 @@ impl<R: Wait, I: BufRead + Drop, S: Sink + Drop, J: Journal + Drop> DriverGate<'
             }
         }
         false
-    }
-
-    /// Notes that it is done: of a publish with the archive's turn, for so many outputs. Tells
-    /// whether that is kept.
-    fn note_done(&self, lane: u32, number: u32, outputs: usize) -> bool {
-        let office = self.office.lock(self.rt);
-        let mut office = self.changed.wait_while(
-            self.rt,
-            office,
-            |office| outputs > 0 && office.has_no_turn(),
-        );
-        if outputs > 0 {
-            office.begin_turn(lane, outputs, None);
-        }
-        if number == 0 {
-            office.open(lane);
-        }
-        office.note(self.known.lane(lane), number, Said::Done)
     }
 
     /// What comes of a question that was put or not.
@@ -234,13 +288,6 @@ impl<R: Wait, I: BufRead + Drop, S: Sink + Drop, J: Journal + Drop> DriverGate<'
         self.end(question, begun, outputs)
     }
 
-    /// Notes that a lane looks, and tells whether its chroot is there.
-    fn is_open(&self, lane: u32) -> bool {
-        let mut office = self.office.lock(self.rt);
-        office.see(lane);
-        office.is_open(lane)
-    }
-
     /// Asks for the lane's chroot, unless that is there.
     fn open(&self, place: Place<'_>) -> Go {
         if self.is_open(place.lane) {
@@ -253,13 +300,6 @@ impl<R: Wait, I: BufRead + Drop, S: Sink + Drop, J: Journal + Drop> DriverGate<'
             asked: Asked::Chroot,
         };
         self.ask(question, 0)
-    }
-
-    /// What is noted of a lane's instruction.
-    fn note_of(&self, place: Place<'_>) -> Note {
-        self.known
-            .notes
-            .of(place.lane, u64::from(place.instruction))
     }
 
     /// Asks for what the lane's instruction says.
@@ -278,14 +318,6 @@ impl<R: Wait, I: BufRead + Drop, S: Sink + Drop, J: Journal + Drop> DriverGate<'
         let begun = self.begin(question);
         self.end_turn(question.place.lane);
         self.end(question, begun, 0)
-    }
-
-    fn note_branch(&self, place: Place<'_>, holds: bool) {
-        let lane = self.known.lane(place.lane);
-        let mut office = self.office.lock(self.rt);
-        if office.phase != Phase::Halted {
-            let _kept = office.note(lane, place.instruction, Said::Branched(holds));
-        }
     }
 
     fn before_instruction(&self, place: Place<'_>) -> Go {
@@ -307,7 +339,7 @@ impl<R: Wait, I: BufRead + Drop, S: Sink + Drop, J: Journal + Drop> DriverGate<'
     }
 }
 
-impl<R: Wait, I: BufRead + Drop, S: Sink + Drop, J: Journal + Drop> Gate
+impl<R: Wait + Eprint, I: BufRead + Drop, S: Sink + Drop, J: Journal + Drop> Gate
     for DriverGate<'_, R, I, S, J> {
     ghost may_give_up = { λ _. Unit {0} };
 

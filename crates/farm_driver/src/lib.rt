@@ -11,4 +11,4 @@ mod question;
 
 pub use gate::DriverGate;
 pub use known::{Known, LaneWords, lane_words};
-pub use office::{Fault, Journal};
+pub use office::Fault;

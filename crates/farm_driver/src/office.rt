@@ -5,15 +5,10 @@ use drive_desk::{Desk, Request};
 use drive_input::Heard;
 use drive_journal::{Entry, Said, write_entry};
 use drive_notes::{Note, Notes};
+use drive_store::Journal;
 use drive_words::Answer;
 use report_sink::Sink;
 use std::alloc::{AllocError, Global};
-
-/// Where a journal goes: a sink whose entries can be kept for good.
-pub trait Journal: Sink {
-    /// Tells whether all that was written stays, even if the machine goes down.
-    fn keep(&mut self) -> bool;
-}
 
 /// How far a run is from its stop.
 #[derive(Clone, Copy, PartialEq, Eq)]
@@ -170,6 +165,7 @@ impl<S: Sink + Drop, J: Journal + Drop> Office<S, J> {
 
     /// Nothing more is to be asked.
     pub fn stop(&mut self) {
+        self.desk.stop();
         if self.phase == Phase::Open {
             self.phase = Phase::Stopping;
         }
@@ -287,26 +283,33 @@ impl<S: Sink + Drop, J: Journal + Drop> Office<S, J> {
         }
     }
 
-    /// Gives an answer to the lane that has asked. Where none has, it is passed over.
-    fn give(&mut self, lane: u32, number: u64, done: bool) {
-        if self.desk.post(lane, number, done) && !done {
+    /// Gives an answer to the lane that has asked, and tells whether one has.
+    fn give(&mut self, lane: u32, number: u64, done: bool) -> bool {
+        let is_taken = self.desk.post(lane, number, done);
+        if is_taken && !done {
             let _is_cause = self.elect(lane);
         }
+        is_taken
     }
 
-    /// Takes what was heard of the driver.
-    pub fn hear(&mut self, heard: Heard) {
+    /// Nothing more comes from the driver.
+    fn hear_end(&mut self) {
+        self.has_ended = true;
+        self.stop();
+    }
+
+    /// Takes what was heard of the driver. Tells whether it was taken: an answer to what no lane
+    /// has asked is passed over.
+    pub fn hear(&mut self, heard: Heard) -> bool {
         self.is_reading = false;
         match heard {
-            Heard::End => {
-                self.has_ended = true;
-                self.stop();
-            }
-            Heard::Line(Answer::Done { lane, number }) => self.give(lane, number, true),
-            Heard::Line(Answer::Failed { lane, number }) => self.give(lane, number, false),
+            Heard::End => self.hear_end(),
+            Heard::Line(Answer::Done { lane, number }) => return self.give(lane, number, true),
+            Heard::Line(Answer::Failed { lane, number }) => return self.give(lane, number, false),
             Heard::Line(Answer::Stop) => self.stop(),
             Heard::Line(Answer::Nothing) => {}
             Heard::Line(Answer::Bad) => self.fail(Fault::BadAnswer),
         }
+        true
     }
 }

@@ -1,6 +1,7 @@
 use Rattle.std.proofs.Common.{◌≡◌, subst, sym}
-use Rattle.farm_commands.specs.Answers.{AnswersStep, IsAnswered, UnlessUnread}
-use Rattle.farm_commands.specs.Requests.{AreCalled, IsRequestAnswered, OnFiles, named}
+use Rattle.farm_answers.specs.Answers.{AnswersStep, IsAnswered, UnlessUnread}
+use Rattle.farm_answers.specs.Files.{AreCalled, OnFiles, named}
+use Rattle.farm_commands.specs.Requests.{IsRequestAnswered}
 use Rattle.farm_commands.proofs.request.answer_request.Goals as goal
 
 pub returns-in-Step-clause-answer : goal.returns-in-Step-clause-answer

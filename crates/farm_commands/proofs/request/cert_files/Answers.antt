@@ -1,8 +1,8 @@
 use Rattle.std.proofs.Common.{subst}
-use Rattle.farm_commands.specs.CertAnswers.{AnswersCert}
-use Rattle.farm_commands.specs.Requests.{AreCalled, OnFiles, named}
-use Rattle.farm_commands.specs.View.{texts_in_files}
-use Rattle.farm_commands.proofs.CertLaws.{certified-by, unless-certified}
+use Rattle.farm_answers.specs.CertAnswers.{AnswersCert}
+use Rattle.farm_answers.specs.Files.{AreCalled, OnFiles, named}
+use Rattle.farm_answers.specs.View.{texts_in_files}
+use Rattle.farm_answers.proofs.CertLaws.{certified-by, unless-certified}
 use Rattle.farm_commands.proofs.request.cert_files.Goals as goal
 use Rattle.farm_input.specs.View.{texts_view}
 

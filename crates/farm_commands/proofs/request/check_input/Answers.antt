@@ -1,7 +1,8 @@
 use Rattle.std.proofs.Common.{arith, false, subst}
-use Rattle.farm_commands.specs.Answers.{AnswersCheck}
-use Rattle.farm_commands.specs.Requests.{IsInputName, OnInput}
-use Rattle.farm_commands.proofs.AnswerLaws.{answered-by, unless-answered}
+use Rattle.farm_answers.specs.Answers.{AnswersCheck}
+use Rattle.farm_answers.specs.Files.{IsInputName}
+use Rattle.farm_commands.specs.Requests.{OnInput}
+use Rattle.farm_answers.proofs.AnswerLaws.{answered-by, unless-answered}
 use Rattle.farm_commands.proofs.request.check_input.Goals as goal
 use Rattle.farm_input.specs.Input.{input_texts}
 use Rattle.farm_input.specs.View.{texts_view}

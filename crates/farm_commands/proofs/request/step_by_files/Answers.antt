@@ -1,8 +1,8 @@
 use Rattle.std.proofs.Common.{subst}
-use Rattle.farm_commands.specs.Answers.{AnswersStepBy}
-use Rattle.farm_commands.specs.Requests.{AreCalledWith, named, OnFilesAndOne}
-use Rattle.farm_commands.specs.View.{texts_in_files}
-use Rattle.farm_commands.proofs.AnswerLaws.{answered-by, unless-answered}
+use Rattle.farm_answers.specs.Answers.{AnswersStepBy}
+use Rattle.farm_answers.specs.Files.{AreCalledWith, named, OnFilesAndOne}
+use Rattle.farm_answers.specs.View.{texts_in_files}
+use Rattle.farm_answers.proofs.AnswerLaws.{answered-by, unless-answered}
 use Rattle.farm_commands.proofs.request.step_by_files.Goals as goal
 use Rattle.farm_input.specs.View.{texts_view}
 

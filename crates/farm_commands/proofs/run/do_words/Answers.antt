@@ -4,7 +4,7 @@ use Rattle.std.specs.Prelude.{IsOkAnd}
 use Rattle.command_line.specs.declared.request.Asked.TheVariants.{Answer}
 use Rattle.command_line.specs.declared.request.Request.TheVariants.{CheckInput}
 use Rattle.farm_commands.specs.Requests.{IsRequestAnswered}
-use Rattle.farm_commands.proofs.RunLaws.{asked_nothing}
+use Rattle.farm_commands.proofs.WordLaws.{asked_nothing}
 use Rattle.farm_commands.proofs.run.do_words.Goals as goal
 
 pub returns-in-Ok-Answer-clause-done : goal.returns-in-Ok-Answer-clause-done

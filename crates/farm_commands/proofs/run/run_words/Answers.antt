@@ -1,4 +1,4 @@
-use Rattle.farm_commands.proofs.RunLaws.{comes-before, told-of}
+use Rattle.farm_commands.proofs.WordLaws.{comes-before, told-of}
 use Rattle.farm_commands.proofs.run.run_words.Goals as goal
 
 pub returns : goal.returns

@@ -1,0 +1,6 @@
+//! Tests.
+
+#[test]
+fn begins(rt: HostRuntime) {
+    assert!(rt; true);
+}

@@ -1,0 +1,115 @@
+//! What is answered where a verdict is explained.
+
+ghost use Rattle.std.specs.Prelude.{◌≡◌, IfOk};
+ghost use Rattle.farm_answers.specs.Answers.{IsAnswered};
+ghost use Rattle.explain_answers.specs.Explanations as spec;
+ghost use Rattle.explain_answers.specs.Explanations.{AnswersExplain, IsExplained, IsExplanation};
+ghost use Rattle.farm_answers.specs.Answers.{farm_in};
+ghost use Rattle.farm_input.specs.View.{texts_view};
+ghost use Rattle.plan_model.specs.Plan.{count};
+ghost use Rattle.plan_model.specs.Sound.{IsSound};
+
+use farm_answers::OutsideFault;
+use crate::explanation::{Explained, Explanation, explain_accepted, explain_refused};
+use crate::text_faults::explain_fault;
+use crate::told::write_explanation;
+use farm_input::{Planned, Texts, read_texts};
+use plan_lines::PlanLines;
+use plan_verifier::Examined;
+use report_sink::Sink;
+use std::alloc::{AllocError, Global};
+use std::mem::ManuallyDrop;
+use std::thread::Threads;
+
+/// Explains the verdict on a plan, the lines of its text being these.
+fn explain_examined(
+    rt: &(impl Threads + Sync),
+    alloc: Global,
+    examined: Examined,
+    lines: &PlanLines,
+    texts: Texts<'_>,
+) -> Result<Explanation, AllocError>
+    ensures { IfOk result (IsExplained (texts_view texts.entry) (farm_in examined) lines.now) }
+{
+    // The program ends with its answer: what it has read goes with it, and not piece by piece.
+    let examined = ManuallyDrop::new(examined);
+    match examined.verdict(rt, alloc) {
+        Ok(grounds) => {
+            let examined = ManuallyDrop::into_inner(examined);
+            Ok(explain_accepted(alloc, examined, grounds, lines, texts))
+        }
+        Err(refusal) => {
+            let of = Explained {
+                examined: &*examined,
+                lines,
+                texts,
+            };
+            explain_refused(alloc, of, refusal)
+        }
+    }
+}
+
+/// Explains the verdict on what texts stand for.
+fn explain_planned(
+    rt: &(impl Threads + Sync),
+    alloc: Global,
+    planned: Planned,
+    texts: Texts<'_>,
+) -> Result<Explanation, AllocError>
+    requires counted { planned.plan.count ≡ count planned.universe planned.plan.lanes }
+    requires sound { IsSound planned.universe planned.plan.lanes }
+    ensures { IfOk result (spec.IsExplainedPlan (texts_view texts.entry) (record {
+      universe = planned.universe;
+      plan = planned.plan.lanes;
+    })) }
+{
+    // A text that was read as a plan has lines, so that memory alone can be wanting.
+    let Ok(lines) = PlanLines::read(alloc, texts.plan) else {
+        return Err(AllocError);
+    };
+    let examined = Examined::of(rt, alloc, planned)?;
+    explain_examined(rt, alloc, examined, &lines, texts)
+}
+
+/// Explains the verdict on four texts.
+fn explain_texts(
+    rt: &(impl Threads + Sync),
+    alloc: Global,
+    texts: Texts<'_>,
+) -> Result<Explanation, AllocError>
+    ensures { IfOk result (IsExplanation (texts_view texts.entry)) }
+{
+    match read_texts(alloc, texts.packages, texts.sources, texts.farm, texts.plan) {
+        Ok(planned) => explain_planned(rt, alloc, planned, texts),
+        Err(fault) => explain_fault(alloc, fault, texts),
+    }
+}
+
+/// Answers with the verdict on four texts and what explains it, and gives the status: below a fault
+/// of a text what was expected there, below an instruction that may go wrong why, below stuck lanes
+/// for what they wait, and below an acceptance what each wait waits for; and behind the verdict on
+/// a plan the warnings. As JSON it is one object on a line.
+///
+/// # Errors
+///
+/// [`OutsideFault::OutOfMemory`] where memory is refused, and nothing is written then;
+/// [`OutsideFault::CutShort`] where it is refused once the verdict is known, which is written then;
+/// and [`OutsideFault::WriteFailed`] where the sink fails, with a first part of the answer.
+pub fn answer_explain<'a, S: Sink>(
+    rt: &(impl Threads + Sync),
+    alloc: Global,
+    texts: Texts<'_>,
+    json: bool,
+    out: &mut S,
+) -> Result<u8, OutsideFault<'a>>
+    ensures { IsAnswered (AnswersExplain json (texts_view texts.entry)) (S.state out.old)
+        (S.state out.new) result }
+{
+    match explain_texts(rt, alloc, texts) {
+        Ok(explanation) => {
+            let explanation = ManuallyDrop::new(explanation);
+            write_explanation(alloc, &*explanation, json, out)
+        }
+        Err(AllocError) => Err(OutsideFault::OutOfMemory),
+    }
+}

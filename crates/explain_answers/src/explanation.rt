@@ -1,0 +1,221 @@
+//! A verdict, and what explains it.
+
+ghost use Rattle.std.specs.Prelude.{◌≡◌, IfOk, Ok, Err};
+ghost use Rattle.explain_answers.specs.Explanations as spec;
+ghost use Rattle.explain_answers.specs.Explanations.{AreNotes, AreWarnings, IsExplained, IsWhy, TellsHazards, TellsLeft};
+ghost use Rattle.farm_answers.specs.Answers.{farm_in};
+ghost use Rattle.farm_explain.specs.Notes.{all_facts};
+ghost use Rattle.farm_input.specs.View.{texts_view};
+ghost use Rattle.plan_verifier.specs.Examined.{IsExamined, IsGrounds};
+ghost use Rattle.plan_verifier.specs.Verdict.{IsVerdictOn};
+ghost use Rattle.wait_notes.specs.Shown.{ShowsStuck};
+ghost use Rattle.wait_notes.specs.WaitText.{waits_notes};
+
+use farm_explain::{Note, unsafe_notes};
+use farm_input::Texts;
+use farm_warnings::warnings;
+use plan_lines::PlanLines;
+use plan_verifier::{Accepted, Examined, Grounds, Refusal};
+use remove_warnings::left_notes;
+use std::alloc::{AllocError, Global};
+use wait_notes::{stuck_notes, waits_notes};
+
+/// The notes that explain a verdict, and the lines of the warnings.
+#[derive(Drop)]
+pub struct Notes {
+    pub reasons: Vec<Note>,
+    pub warnings: Vec<u8>,
+}
+
+/// A verdict, and what explains it; of which there is nothing where memory was refused behind it.
+#[derive(Drop)]
+pub struct Explanation {
+    pub verdict: Result<Accepted, Refusal>,
+    pub notes: Option<Notes>,
+}
+
+/// An examined plan, the lines of its text, and the four texts.
+#[derive(Clone, Copy)]
+pub struct Explained<'a> {
+    pub examined: &'a Examined,
+    pub lines: &'a PlanLines,
+    pub texts: Texts<'a>,
+}
+
+/// What the `remove` instructions of a plan may leave unpacked with an entry that nothing meets.
+fn left(alloc: Global, of: Explained<'_>) -> Result<Vec<u8>, AllocError>
+    requires { IsExamined of.examined.now }
+    ensures { IfOk result (λ text. TellsLeft (farm_in of.entry.examined.now) of.entry.lines.now
+        text.items) }
+{
+    left_notes(alloc, &of.examined.stage(), of.lines)
+}
+
+/// The warnings, those of `remove` last.
+fn all_warnings(alloc: Global, of: Explained<'_>) -> Result<Vec<u8>, AllocError>
+    requires { IsExamined of.examined.now }
+    ensures { IfOk result (λ text. AreWarnings (texts_view of.entry.texts)
+        (farm_in of.entry.examined.now) of.entry.lines.now text.items) }
+{
+    let Explained {
+        examined,
+        lines,
+        texts,
+    } = of;
+    let mut text = warnings(alloc, texts, examined.universe(), examined.plan(), lines)?;
+    let more = left(alloc, of)?;
+    text.extend_from_slice(&more)?;
+    Ok(text)
+}
+
+/// Puts the warnings beside what explains a verdict.
+fn with_warnings(alloc: Global, of: Explained<'_>, reasons: Vec<Note>) -> Result<Notes, AllocError>
+    requires { IsExamined of.examined.now }
+    ensures reasons { IfOk result (λ notes. notes.reasons ≡ reasons) }
+    ensures warnings { IfOk result (λ notes. AreWarnings (texts_view of.entry.texts)
+        (farm_in of.entry.examined.now) of.entry.lines.now notes.warnings.items) }
+{
+    let warnings = all_warnings(alloc, of)?;
+    Ok(Notes { reasons, warnings })
+}
+
+/// What is unsafe in the lanes of a plan that is refused for a hazard.
+fn why_unsafe(alloc: Global, of: Explained<'_>, refusal: &Refusal) -> Result<Vec<Note>, AllocError>
+    requires examined { IsExamined of.examined.now }
+    requires verdict { IsVerdictOn of.examined.now.universe of.examined.now.plan
+        (Err refusal.now) }
+    ensures { IfOk result (λ why. TellsHazards (farm_in of.entry.examined.now) of.entry.lines.now
+        refusal.now (all_facts why.items)) }
+{
+    unsafe_notes(alloc, &of.examined.stage(), of.lines)
+}
+
+/// For what the stuck lanes of a plan wait.
+fn why_stuck(alloc: Global, of: Explained<'_>) -> Result<Vec<Note>, AllocError>
+    requires { IsExamined of.examined.now }
+    ensures { IfOk result (λ why. ShowsStuck of.entry.examined.now.universe
+        of.entry.examined.now.plan of.entry.lines.now.lanes (all_facts why.items)) }
+{
+    stuck_notes(alloc, &of.examined.stage(), of.lines)
+}
+
+/// For what each wait of an accepted plan waits.
+fn why_accepted(alloc: Global, of: Explained<'_>) -> Result<Vec<Note>, AllocError>
+    requires { IsExamined of.examined.now }
+    ensures { IfOk result (λ why. all_facts why.items ≡ waits_notes
+        of.entry.examined.now.universe of.entry.examined.now.plan of.entry.lines.now.lanes) }
+{
+    waits_notes(alloc, &of.examined.stage(), of.lines)
+}
+
+/// Tells whether a plan is refused for an instruction that may go wrong, or for branches that part.
+pub fn is_hazard(refusal: &Refusal) -> bool
+    ensures { result ≡ spec.is_hazard refusal.now }
+{
+    match refusal {
+        Refusal::Unsafe { .. } => true,
+        Refusal::Uneven { .. } => true,
+        Refusal::Text(_) | Refusal::Stuck { .. } | Refusal::Memory => false,
+    }
+}
+
+/// Tells whether a plan is refused for stuck lanes.
+fn is_stuck(refusal: &Refusal) -> bool
+    ensures { result ≡ spec.is_stuck refusal.now }
+{
+    match refusal {
+        Refusal::Stuck { .. } => true,
+        Refusal::Text(_) | Refusal::Unsafe { .. } | Refusal::Uneven { .. } | Refusal::Memory =>
+            false,
+    }
+}
+
+/// Why a plan is refused.
+fn why_refused(alloc: Global, of: Explained<'_>, refusal: &Refusal) -> Result<Vec<Note>, AllocError>
+    requires examined { IsExamined of.examined.now }
+    requires verdict { IsVerdictOn of.examined.now.universe of.examined.now.plan
+        (Err refusal.now) }
+    ensures { IfOk result (λ why. IsWhy (farm_in of.entry.examined.now) of.entry.lines.now
+        (Err refusal.now) (all_facts why.items)) }
+{
+    if is_hazard(refusal) {
+        why_unsafe(alloc, of, refusal)
+    } else if is_stuck(refusal) {
+        why_stuck(alloc, of)
+    } else {
+        // A plan that was read has no fault of a text.
+        Err(AllocError)
+    }
+}
+
+/// Why a plan is refused, and the warnings.
+fn notes_refused(alloc: Global, of: Explained<'_>, refusal: &Refusal) -> Result<Notes, AllocError>
+    requires examined { IsExamined of.examined.now }
+    requires verdict { IsVerdictOn of.examined.now.universe of.examined.now.plan
+        (Err refusal.now) }
+    ensures { IfOk result (AreNotes (texts_view of.entry.texts) (farm_in of.entry.examined.now)
+        of.entry.lines.now (Err refusal.now)) }
+{
+    let why = why_refused(alloc, of, refusal)?;
+    with_warnings(alloc, of, why)
+}
+
+/// For what each wait of an accepted plan waits, and the warnings.
+fn notes_accepted(alloc: Global, of: Explained<'_>) -> Result<Notes, AllocError>
+    requires { IsExamined of.examined.now }
+    ensures { IfOk result (λ notes. (all_facts notes.reasons.items ≡ waits_notes
+        of.entry.examined.now.universe of.entry.examined.now.plan of.entry.lines.now.lanes)
+        × AreWarnings (texts_view of.entry.texts) (farm_in of.entry.examined.now)
+        of.entry.lines.now notes.warnings.items) }
+{
+    let why = why_accepted(alloc, of)?;
+    with_warnings(alloc, of, why)
+}
+
+/// Explains an acceptance.
+pub fn explain_accepted(
+    alloc: Global,
+    examined: Examined,
+    grounds: Grounds,
+    lines: &PlanLines,
+    texts: Texts<'_>,
+) -> Explanation
+    requires { IsGrounds examined grounds }
+    ensures { IsExplained (texts_view texts.entry) (farm_in examined) lines.now result }
+{
+    let of = Explained {
+        examined: &examined,
+        lines,
+        texts,
+    };
+    let notes = notes_accepted(alloc, of).ok();
+    Explanation {
+        verdict: Ok(examined.accept(grounds)),
+        notes,
+    }
+}
+
+/// Explains a refusal of a plan. Want of memory is none.
+///
+/// # Errors
+///
+/// Where the refusal is want of memory.
+pub fn explain_refused(
+    alloc: Global,
+    of: Explained<'_>,
+    refusal: Refusal,
+) -> Result<Explanation, AllocError>
+    requires examined { IsExamined of.examined.now }
+    requires verdict { IsVerdictOn of.examined.now.universe of.examined.now.plan (Err refusal) }
+    ensures { IfOk result (IsExplained (texts_view of.entry.texts)
+        (farm_in of.entry.examined.now) of.entry.lines.now) }
+{
+    if matches!(&refusal, Refusal::Memory) {
+        return Err(AllocError);
+    }
+    let notes = notes_refused(alloc, of, &refusal).ok();
+    Ok(Explanation {
+        verdict: Err(refusal),
+        notes,
+    })
+}

@@ -1,0 +1,4 @@
+pub mod AnswerLaws
+pub mod CertLaws
+pub mod ReadLaws
+pub mod RunLaws

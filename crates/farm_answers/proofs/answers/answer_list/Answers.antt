@@ -1,0 +1,12 @@
+use Rattle.std.proofs.Common.{sym, subst}
+use Rattle.farm_answers.specs.Answers.{AnswersList, IsJust, Lists}
+use Rattle.farm_answers.proofs.AnswerLaws.{answered-by}
+use Rattle.farm_answers.proofs.answers.answer_list.Goals as goal
+use Rattle.farm_input.specs.View.{texts_view}
+
+pub returns : goal.returns
+returns g c =
+    answered-by (IsJust c.deref.result.now 0) (AnswersList (texts_view c.args.texts)) _ _ _
+    (λ text status is. subst (λ planned. Lists planned text status) (sym c.in-Ok.ensures.read)
+    (rw (is.0, c.deref.ensures.value) c.in_ok-text.ensures, is.1))
+    c.write_answer.ensures

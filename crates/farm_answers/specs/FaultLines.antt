@@ -1,0 +1,32 @@
+-- What a fault outside of the texts is told as. The project's own rules.
+--
+--   fault_status        its status
+--   outside_fault_line  its line
+use Rattle.std.specs.Prelude.{ℕ, List, ◌++◌, codes}
+use Rattle.farm_answers.specs.declared.fault.OutsideFault.{OutsideFault}
+use Rattle.farm_answers.specs.declared.fault.OutsideFault.TheVariants.{CannotRead, OutOfMemory, CutShort, BadSchedule, WriteFailed}
+use Rattle.farm_answers.specs.declared.status.TheConstants.{OUTSIDE, WRONG_WORDS}
+use Rattle.fault_notes.specs.Escapes.{escaped}
+
+-- the status of a fault outside of the texts
+abbrev pub fault_status : OutsideFault → ℕ
+fault_status (CannotRead name) = OUTSIDE
+fault_status OutOfMemory = OUTSIDE
+fault_status CutShort = OUTSIDE
+fault_status BadSchedule = WRONG_WORDS
+fault_status WriteFailed = OUTSIDE
+
+-- a name, of which those bytes are escaped that are not printable ASCII
+abbrev pub escaped_line : List ℕ → List ℕ
+escaped_line name = escaped name ++ codes "\n"
+
+abbrev pub cannot_read_line : List ℕ → List ℕ
+cannot_read_line name = codes "portfarm: cannot read " ++ escaped_line name
+
+-- the line that is said of a fault outside of the texts
+abbrev pub outside_fault_line : OutsideFault → List ℕ
+outside_fault_line (CannotRead name) = cannot_read_line name.now
+outside_fault_line OutOfMemory = codes "portfarm: out of memory\n"
+outside_fault_line CutShort = codes "portfarm: out of memory\n"
+outside_fault_line BadSchedule = codes "portfarm: bad schedule\n"
+outside_fault_line WriteFailed = codes "portfarm: write failed\n"

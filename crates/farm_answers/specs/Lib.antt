@@ -1,0 +1,7 @@
+pub mod Answers
+pub mod CertAnswers
+pub mod FarmAnswers
+pub mod FaultLines
+pub mod Files
+pub mod Turns
+pub mod View

@@ -1,0 +1,60 @@
+//! What is said on the error output.
+
+ghost use Rattle.std.specs.Prelude.{◌≡◌, is_err};
+ghost use Rattle.farm_answers.specs.FaultLines.{cannot_read_line, escaped_line, outside_fault_line, fault_status};
+ghost use Rattle.report_sink.specs.Sinks.{IsWritten};
+
+use crate::fault::OutsideFault;
+use crate::status::{OUTSIDE, WRONG_WORDS};
+use fault_notes::write_escaped;
+use report_sink::{Sink, WriteFailed, write_text};
+
+/// Says a text on the error output, and gives the status.
+pub fn say<E: Sink>(errors: &mut E, text: &[u8], status: u8) -> u8
+    ensures status { result ≡ status }
+    ensures line { IsWritten (E.state errors.old) (E.state errors.new) text.now }
+{
+    let _written = write_text(errors, text);
+    status
+}
+
+/// Writes a name and the end of the line.
+fn write_name<E: Sink>(errors: &mut E, name: &[u8]) -> Result<(), WriteFailed>
+    ensures written { IsWritten (E.state errors.old) (E.state errors.new) (escaped_line name.now) }
+    ensures told { is_err result ≡ (E.state errors.new).failed }
+{
+    write_escaped(errors, name)?;
+    write_text(errors, b"\n")
+}
+
+/// Writes the line of a file that cannot be read.
+fn write_unread<E: Sink>(errors: &mut E, name: &[u8]) -> Result<(), WriteFailed>
+    ensures { IsWritten (E.state errors.old) (E.state errors.new) (cannot_read_line name.now) }
+{
+    write_text(errors, b"portfarm: cannot read ")?;
+    write_name(errors, name)
+}
+
+/// Says that a file cannot be read, and gives the status.
+fn tell_unread<E: Sink>(errors: &mut E, name: &[u8]) -> u8
+    ensures status { result ≡ OUTSIDE }
+    ensures line { IsWritten (E.state errors.old) (E.state errors.new) (cannot_read_line name.now) }
+{
+    let _written = write_unread(errors, name);
+    OUTSIDE
+}
+
+/// Ends with a fault outside of the texts: says it on the error output, without memory of its own.
+pub fn tell<E: Sink>(fault: OutsideFault<'_>, errors: &mut E) -> u8
+    ensures status { result ≡ fault_status fault.entry }
+    ensures line { IsWritten (E.state errors.old) (E.state errors.new)
+        (outside_fault_line fault.entry) }
+{
+    match fault {
+        OutsideFault::CannotRead(name) => tell_unread(errors, name.as_bytes()),
+        OutsideFault::OutOfMemory => say(errors, b"portfarm: out of memory\n", OUTSIDE),
+        OutsideFault::CutShort => say(errors, b"portfarm: out of memory\n", OUTSIDE),
+        OutsideFault::BadSchedule => say(errors, b"portfarm: bad schedule\n", WRONG_WORDS),
+        OutsideFault::WriteFailed => say(errors, b"portfarm: write failed\n", OUTSIDE),
+    }
+}

@@ -1,0 +1,71 @@
+//! What ends a command outside of the texts.
+
+ghost use Rattle.std.specs.Prelude.{◌≡◌};
+
+use cert_writer::CertStop;
+use command_line::ScheduleFault;
+use report_sink::WriteFailed;
+use std::alloc::AllocError;
+
+/// What ends a command outside of the texts.
+#[derive(Clone, Copy, Debug, PartialEq, Eq)]
+pub enum OutsideFault<'a> {
+    /// The file of this name cannot be read, or standard input, which may have too many bytes.
+    CannotRead(&'a str),
+    /// Memory was refused, and nothing is written.
+    OutOfMemory,
+    /// Memory was refused behind a text of the answer that can stand alone, or in the middle of a
+    /// certificate, of which a first part is written.
+    CutShort,
+    /// A schedule that stands in a file has a word that is no lane of the plan.
+    BadSchedule,
+    /// The answer could not be written whole.
+    WriteFailed,
+}
+
+impl From<AllocError> for OutsideFault<'_> {
+    ghost use Rattle.farm_answers.specs.declared.fault.OutsideFault.{OutsideFault};
+
+    ghost from_gives = { λ _ fault. fault ≡ OutsideFault.OutOfMemory };
+
+    fn from(_error: AllocError) -> Self {
+        OutsideFault::OutOfMemory
+    }
+}
+
+impl From<ScheduleFault> for OutsideFault<'_> {
+    ghost use Rattle.farm_answers.specs.Turns.{is_turns_fault};
+
+    ghost from_gives = { is_turns_fault };
+
+    fn from(fault: ScheduleFault) -> Self {
+        match fault {
+            ScheduleFault::BadSchedule => OutsideFault::BadSchedule,
+            ScheduleFault::Memory => OutsideFault::OutOfMemory,
+        }
+    }
+}
+
+impl From<CertStop> for OutsideFault<'_> {
+    ghost use Rattle.farm_answers.specs.CertAnswers.{outside_fault_of};
+
+    ghost from_gives = { λ stop fault. fault ≡ outside_fault_of stop };
+
+    fn from(stop: CertStop) -> Self {
+        match stop {
+            CertStop::OutOfMemory => OutsideFault::OutOfMemory,
+            CertStop::CutShort => OutsideFault::CutShort,
+            CertStop::WriteFailed => OutsideFault::WriteFailed,
+        }
+    }
+}
+
+impl From<WriteFailed> for OutsideFault<'_> {
+    ghost use Rattle.farm_answers.specs.declared.fault.OutsideFault.{OutsideFault};
+
+    ghost from_gives = { λ _ fault. fault ≡ OutsideFault.WriteFailed };
+
+    fn from(_error: WriteFailed) -> Self {
+        OutsideFault::WriteFailed
+    }
+}

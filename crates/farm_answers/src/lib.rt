@@ -1,0 +1,29 @@
+//! What the commands that ask for a verdict, a listing, a certificate, a schedule or a run answer to
+//! four texts; where these come from, and how a fault outside of them is told.
+//!
+//! Proved, over files, readers and sinks whose bytes are known: each answer is exactly the text of
+//! its definition, with its status, or a first part where the sink fails (`IsAnswered`); a fault
+//! outside of the texts is exactly its line (`tell`). Not proved: that `answer_run` returns.
+#![tactic(auto)]
+
+mod answers;
+mod certificates;
+mod errors;
+mod farm_run;
+mod fault;
+mod files;
+mod source;
+mod status;
+mod turns;
+
+pub use answers::{
+    answer_check, answer_list, answer_numbered, answer_step, answer_step_by, answer_verdict,
+    show_verdict, status_of, write_answer,
+};
+pub use certificates::{answer_cert, answer_verify_cert};
+pub use errors::{say, tell};
+pub use farm_run::{RunFiles, answer_run, run_files};
+pub use fault::OutsideFault;
+pub use files::{FileTexts, read_files};
+pub use source::{MOST_FILE, Source, read_file, read_input};
+pub use status::{FINE, OUTSIDE, REFUSED, WRONG_WORDS};

@@ -1,0 +1,17 @@
+use Rattle.std.proofs.Common.{sym, subst}
+use Rattle.picture_answers.specs.Pictures.{AnswersGraph, DrawsPlan, DrawsTexts}
+use Rattle.farm_answers.proofs.AnswerLaws.{answered-by}
+use Rattle.picture_answers.proofs.graph.answer_graph.Goals as goal
+use Rattle.farm_input.specs.View.{texts_view}
+
+pub returns-in-Ok : goal.returns-in-Ok
+returns-in-Ok g c =
+    answered-by
+    (DrawsPlan c.args.json (record {
+      universe = c.in-Ok.planned.universe;
+      plan = c.in-Ok.planned.plan.lanes;
+    }))
+    (AnswersGraph c.args.json (texts_view c.args.texts)) _ _ _
+    (λ text status is. subst (λ planned. DrawsTexts c.args.json planned text status)
+    (sym c.in-Ok.ensures.read) is)
+    c.draw_planned.ensures
