@@ -391,7 +391,7 @@ fn drive_of<'a, S: AsStr>(
         return Err(wrong(alloc, "error: `-` cannot stand for a file here: standard input has the answers\n"));
     }
     let journal = matches.get_str(JOURNAL);
-    if !ends_word(words, journal.unwrap_or("")) {
+    if !is_word(words, DRIVE) || !ends_word(words, journal.unwrap_or("")) {
         return Err(not_there(alloc));
     }
     Ok(Asked::Drive {

@@ -1,5 +1,7 @@
 //! What is answered to a drive.
 
+ghost use Rattle.std.specs.Prelude.{◌≡◌, OnErr};
+
 use crate::begun::Beginning;
 use crate::faults::{tell_outside, tell_start, tell_stop, tell_unkept, tell_unopened};
 use crate::machine::DriveSource;
@@ -74,8 +76,12 @@ fn answer_driven<'a, S: Sink, E: Sink>(
     driven: &Driven,
     out: &mut S,
     errors: &mut E,
-) -> Result<u8, OutsideFault<'a>> {
-    if let Some(fault) = driven.fault {
+) -> Result<u8, OutsideFault<'a>>
+    ensures { OnErr result (E.state errors.new ≡ E.state errors.old) }
+{
+    if let Some(fault) = driven.fault
+    ensures { OnErr result (E.state errors.new ≡ E.state errors.old) }
+{
         return Ok(tell_outside(fault, errors));
     }
     match &driven.ran {
@@ -145,7 +151,9 @@ fn answer_run<
     run: Run<J>,
     out: &mut S,
     errors: &mut E,
-) -> Result<u8, OutsideFault<'a>> {
+) -> Result<u8, OutsideFault<'a>>
+    ensures { OnErr result (E.state errors.new ≡ E.state errors.old) }
+{
     // The program ends with its answer: what it has run goes with it, and not piece by piece.
     let driven = ManuallyDrop::new(carry_out(setting, accepted, run, out));
     match &*driven {
@@ -205,7 +213,9 @@ fn drive_kept<
     path: &str,
     out: &mut S,
     errors: &mut E,
-) -> Result<u8, OutsideFault<'a>> {
+) -> Result<u8, OutsideFault<'a>>
+    ensures { OnErr result (E.state errors.new ≡ E.state errors.old) }
+{
     let accepted = ManuallyDrop::new(accepted);
     let beginning = beginning_of(setting)?;
     let journal = match setting.source.open_journal(path) {
@@ -236,7 +246,9 @@ fn drive_unkept<
     accepted: Accepted,
     out: &mut S,
     errors: &mut E,
-) -> Result<u8, OutsideFault<'a>> {
+) -> Result<u8, OutsideFault<'a>>
+    ensures { OnErr result (E.state errors.new ≡ E.state errors.old) }
+{
     let accepted = ManuallyDrop::new(accepted);
     let beginning = beginning_of(setting)?;
     let run = run_anew(setting.alloc, &beginning)?;
@@ -300,7 +312,9 @@ pub fn drive_files<
     of: DriveFiles<'a>,
     out: &mut S,
     errors: &mut E,
-) -> Result<u8, OutsideFault<'a>> {
+) -> Result<u8, OutsideFault<'a>>
+    ensures { OnErr result (E.state errors.new ≡ E.state errors.old) }
+{
     let files = read_files(alloc, source, of.paths)?;
     let setting = Setting {
         rt,

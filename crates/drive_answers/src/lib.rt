@@ -1,9 +1,8 @@
 //! What `drive` answers: a run of the plan that a driver carries out.
 //!
-//! Proved, over files, readers and sinks whose bytes are known: what is written last is the refusal,
-//! or the text of a run of the plan, behind what was written before; or a line of the error output
-//! tells what failed (`drive_files`). Not proved: what is asked of the driver, and that `drive_files`
-//! returns.
+//! Proved: that it is safe, and that where a fault is handed on nothing was written to the error
+//! output (`drive_files`). Not proved: what is written, which rests on what drive_run and write_run
+//! of farm_report promise, and that it returns.
 #![tactic(auto)]
 
 mod begun;
