@@ -79,9 +79,7 @@ fn answer_driven<'a, S: Sink, E: Sink>(
 ) -> Result<u8, OutsideFault<'a>>
     ensures { OnErr result (E.state errors.new ≡ E.state errors.old) }
 {
-    if let Some(fault) = driven.fault
-    ensures { OnErr result (E.state errors.new ≡ E.state errors.old) }
-{
+    if let Some(fault) = driven.fault {
         return Ok(tell_outside(fault, errors));
     }
     match &driven.ran {
