@@ -271,7 +271,9 @@ fn answer_drive<
     setting: &Setting<'_, R, F>,
     out: &mut S,
     errors: &mut E,
-) -> Result<u8, OutsideFault<'a>> {
+) -> Result<u8, OutsideFault<'a>>
+    ensures { OnErr result (E.state errors.new ≡ E.state errors.old) }
+{
     let texts = setting.texts;
     let verdict = check(
         setting.rt,
