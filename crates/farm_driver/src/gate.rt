@@ -224,7 +224,13 @@ impl<R: Wait, I: BufRead + Drop, S: Sink + Drop, J: Journal + Drop> DriverGate<'
     }
 }
 
-impl<R: Wait + Eprint, I: BufRead + Drop, S: Sink + Drop, J: Journal + Drop> DriverGate<'_, R, I, S, J> {
+impl<R: Wait + Eprint, I: BufRead + Drop, S: Sink + Drop, J: Journal + Drop> DriverGate<
+    '_,
+    R,
+    I,
+    S,
+    J,
+> {
     /// Says on the error output that an answer was passed over.
     fn tell_passed(&self, answer: Answer) {
         let (verb, lane, number) = match answer {
