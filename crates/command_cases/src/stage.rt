@@ -236,9 +236,11 @@ impl<'c, R: Wait> Stage<'c, R> {
                 Next::Say(text) => return Ok(text),
                 Next::End => break,
                 Next::Wait => {
-                    let _state = self
-                        .changed
-                        .wait_while(self.rt, state, |state| (state.lines, state.entries) == seen);
+                    let _state = self.changed.wait_while(
+                        self.rt,
+                        state,
+                        |state| (state.lines, state.entries) == seen,
+                    );
                 }
             }
         }

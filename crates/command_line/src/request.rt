@@ -5,9 +5,9 @@ ghost use Rattle.command_line.specs.Words.{AreFarmWords, ArePathWords, IsAskedBy
 
 use crate::among::{are_farm_words, are_words, ends_word, is_word};
 use crate::command::{
-    BARS, CERT, CERTIFICATE, CHECK, DRAFT, DRIVE, EXPLAIN, FARM, FULL, GRAPH, INPUT, JOURNAL, JSON, LANES, LIST,
-    NUMBER, PACKAGES, PARTIAL, PLAN, PROGRESS, REST, RUN, SCHEDULE, SKETCH, SOURCES, STEP, SVG,
-    TIMELINE, VERIFY_CERT, portfarm,
+    BARS, CERT, CERTIFICATE, CHECK, DRAFT, DRIVE, EXPLAIN, FARM, FULL, GRAPH, INPUT, JOURNAL, JSON,
+    LANES, LIST, NUMBER, PACKAGES, PARTIAL, PLAN, PROGRESS, REST, RUN, SCHEDULE, SKETCH, SOURCES,
+    STEP, SVG, TIMELINE, VERIFY_CERT, portfarm,
 };
 use crate::schedule::{ScheduleFault, read_lane, read_schedule};
 use clap::error::ErrorKind;
@@ -117,7 +117,10 @@ pub enum Asked<'a> {
     /// An answer to texts.
     Answer(Request<'a>),
     /// A run of the farm of four texts; and whether to tell of it while it goes on.
-    Run { paths: Paths<'a>, progress: bool },
+    Run {
+        paths: Paths<'a>,
+        progress: bool,
+    },
     /// A run that a driver carries out; the name of its journal, if it has one; and whether to tell
     /// of it while it goes on.
     Drive {
@@ -388,7 +391,10 @@ fn drive_of<'a, S: AsStr>(
     ensures refused { IfErr result (IsRefusedFor (map S.text words.entry.now)) }
 {
     if names_input(&paths) {
-        return Err(wrong(alloc, "error: `-` cannot stand for a file here: standard input has the answers\n"));
+        return Err(wrong(
+            alloc,
+            "error: `-` cannot stand for a file here: standard input has the answers\n",
+        ));
     }
     let journal = matches.get_str(JOURNAL);
     if !is_word(words, DRIVE) || !ends_word(words, journal.unwrap_or("")) {

@@ -17,11 +17,7 @@ impl Beginning {
     /// # Errors
     ///
     /// [`AllocError`] where memory is refused.
-    pub fn of(
-        alloc: Global,
-        texts: Texts<'_>,
-        nanoseconds: u64,
-    ) -> Result<Beginning, AllocError> {
+    pub fn of(alloc: Global, texts: Texts<'_>, nanoseconds: u64) -> Result<Beginning, AllocError> {
         Ok(Beginning {
             sums: Sums::of(alloc, texts)?,
             stamp: stamp_of(alloc, nanoseconds)?,

@@ -84,12 +84,14 @@ fn answer_driven<'a, S: Sink, E: Sink>(
     }
     match &driven.ran {
         Ok(run) => answer_end(run, out),
-        Err(RunFault::Stopped {
-            code,
-            lane,
-            accepted,
-            ..
-        }) => Ok(tell_stopped(*code, accepted, *lane, errors)),
+        Err(
+            RunFault::Stopped {
+                code,
+                lane,
+                accepted,
+                ..
+            },
+        ) => Ok(tell_stopped(*code, accepted, *lane, errors)),
         Err(RunFault::Memory) => Err(OutsideFault::OutOfMemory),
     }
 }
@@ -161,9 +163,7 @@ fn answer_run<
 }
 
 /// The digests of the texts, and the stamp of a new run.
-fn beginning_of<R, F: DriveSource>(
-    setting: &Setting<'_, R, F>,
-) -> Result<Beginning, AllocError> {
+fn beginning_of<R, F: DriveSource>(setting: &Setting<'_, R, F>) -> Result<Beginning, AllocError> {
     let texts = DrivenTexts {
         packages: setting.texts.packages,
         sources: setting.texts.sources,
@@ -199,13 +199,7 @@ fn run_anew(alloc: Global, beginning: &Beginning) -> Result<Run<Unkept>, AllocEr
 }
 
 /// Drives by the journal of this name.
-fn drive_kept<
-    'a,
-    R: Threads + Wait + Eprint + Sync,
-    F: DriveSource,
-    S: Sink + Send,
-    E: Sink,
->(
+fn drive_kept<'a, R: Threads + Wait + Eprint + Sync, F: DriveSource, S: Sink + Send, E: Sink>(
     setting: &Setting<'_, R, F>,
     accepted: Accepted,
     path: &str,
@@ -233,13 +227,7 @@ fn drive_kept<
 }
 
 /// Drives without a journal.
-fn drive_unkept<
-    'a,
-    R: Threads + Wait + Eprint + Sync,
-    F: DriveSource,
-    S: Sink + Send,
-    E: Sink,
->(
+fn drive_unkept<'a, R: Threads + Wait + Eprint + Sync, F: DriveSource, S: Sink + Send, E: Sink>(
     setting: &Setting<'_, R, F>,
     accepted: Accepted,
     out: &mut S,
@@ -261,13 +249,7 @@ fn drive_unkept<
 
 /// Drives the lanes of the plan that four texts stand for where it is accepted, else answers with
 /// the refusal.
-fn answer_drive<
-    'a,
-    R: Threads + Wait + Eprint + Sync,
-    F: DriveSource,
-    S: Sink + Send,
-    E: Sink,
->(
+fn answer_drive<'a, R: Threads + Wait + Eprint + Sync, F: DriveSource, S: Sink + Send, E: Sink>(
     setting: &Setting<'_, R, F>,
     out: &mut S,
     errors: &mut E,
@@ -299,13 +281,7 @@ fn answer_drive<
 ///
 /// Those of [`read_files`]; [`OutsideFault::OutOfMemory`] where memory is refused; and
 /// [`OutsideFault::WriteFailed`] where the output fails behind the run's end.
-pub fn drive_files<
-    'a,
-    R: Threads + Wait + Eprint + Sync,
-    F: DriveSource,
-    S: Sink + Send,
-    E: Sink,
->(
+pub fn drive_files<'a, R: Threads + Wait + Eprint + Sync, F: DriveSource, S: Sink + Send, E: Sink>(
     rt: &R,
     alloc: Global,
     source: &F,

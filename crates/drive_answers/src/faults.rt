@@ -8,8 +8,7 @@ use itoa::Buffer;
 use report_sink::{Sink, write_pieces};
 
 /// Tells which line of a journal does not fit; of the head the text that is another one.
-fn tell_misfit<E: Sink>(line: u64, errors: &mut E) -> u8
-{
+fn tell_misfit<E: Sink>(line: u64, errors: &mut E) -> u8 {
     let text: &[u8] = match line {
         2 => b"portfarm: journal does not fit: packages\n",
         3 => b"portfarm: journal does not fit: sources\n",

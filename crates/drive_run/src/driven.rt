@@ -170,10 +170,5 @@ pub fn drive<
     let input = Input::new(alloc, input);
     let gate = DriverGate::new(rt, alloc, known, input, Lent { sink: out }, journal)?;
     let gate = Teller::new(rt, alloc, accepted.plan(), gate, began.tells)?;
-    Ok(run_gate(
-        rt,
-        alloc,
-        ManuallyDrop::into_inner(accepted),
-        &gate,
-    ))
+    Ok(run_gate(rt, alloc, ManuallyDrop::into_inner(accepted), &gate))
 }

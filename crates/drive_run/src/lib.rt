@@ -10,6 +10,3 @@ mod driven;
 mod lent;
 
 pub use driven::{Began, Driven, StartFault, Streams, drive};
-
-#[cfg(test)]
-mod tests;

@@ -43,7 +43,6 @@ planned_in texts = planned_of texts.packages texts.sources texts.farm texts.plan
 abbrev pub farm_in : ExaminedPlan → FarmPlan
 farm_in e = record { universe = e.universe; plan = e.plan }
 
-
 abbrev pub status_of : Bool → ℕ
 status_of fine = if fine then FINE else REFUSED
 

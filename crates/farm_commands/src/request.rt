@@ -9,12 +9,15 @@ ghost use Rattle.farm_input.specs.View.{texts_view};
 ghost use Rattle.farm_answers.specs.Files.{AreCalled, AreCalledWith, IsInputName, OnFiles, OnFilesAndOne, named};
 ghost use Rattle.farm_commands.specs.Requests.{IsRequestAnswered, OnInput};
 
+use command_line::{Paths, Request};
 use draft_answers::{ByNumber, BySketch, draft_files, draft_lanes};
 use explain_answers::answer_explain;
-use farm_answers::{OutsideFault, Source, answer_cert, answer_check, answer_list, answer_numbered, answer_step, answer_step_by, answer_verify_cert, read_file, read_files, read_input};
-use picture_answers::{Shape, answer_graph, answer_timeline};
-use command_line::{Paths, Request};
+use farm_answers::{
+    OutsideFault, Source, answer_cert, answer_check, answer_list, answer_numbered, answer_step,
+    answer_step_by, answer_verify_cert, read_file, read_files, read_input,
+};
 use farm_input::{Texts, texts_of};
+use picture_answers::{Shape, answer_graph, answer_timeline};
 use report_sink::Sink;
 use std::alloc::Global;
 use std::thread::Threads;

@@ -1,6 +1,0 @@
-//! Tests.
-
-#[test]
-fn begins(rt: HostRuntime) {
-    assert!(rt; true);
-}
