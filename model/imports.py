@@ -83,7 +83,7 @@ class Build:
         here = self.choose(fitting, made)
         given = listed(self.source, architectures, wish.profiles, wish.mode)
         given = sorted(here) if given is None else given
-        self.outputs = [here[name] for name in self.chosen(given, here) if name in here]
+        self.outputs = [here[name] for name in dict.fromkeys(self.chosen(given, here)) if name in here]
         if not self.outputs:
             line = f"  the Packages indexes have nothing that recipe {self.name} gives"
             raise Refused(f"refused 704 wish line {wish.line}", line)
@@ -116,10 +116,12 @@ class Build:
         another one, and as a further build of it, where it is one."""
         stem, count = cut_count(it.version.text)
         if self.stem == stem:
-            stem, count = self.source.version.text, 0
+            if not self.again:
+                return self.source.version.text
+            stem, count = cut_count(self.source.version.text)
         elif not self.again:
             return it.version.text
-        return f"{stem}+b{count + self.again}" if self.again else stem
+        return f"{stem}+b{count + self.again}"
 
     def is_taken(self, taken):
         return any(taken.find(it.name, Version(self.version_of(it))) for it in self.outputs)
@@ -273,10 +275,11 @@ class Import:
             it = self.target.best(entry) or self.archive.best(entry)
             giver = "" if it is None else f"; source {it.source} gives {it}"
             yield f"{who}: {shown(entry)} is met by nothing{giver}"
-        found = self.archive.unreadable + (self.target.unreadable if self.target is not self.archive else [])
-        found += self.sources.unreadable
+        found = sorted(self.target.unreadable)
+        found += sorted(self.archive.unreadable) if self.target is not self.archive else []
+        found += sorted(self.sources.unreadable)
         if found:
-            yield f"{len(found)} paragraphs that were looked at cannot be read and are passed over, first {found[0]}"
+            yield f"{len(found)} paragraphs that were looked at cannot be read and are passed over, first {found[0][1]}"
 
     def shares(self):
         """Of each build how many names it takes that no other build and no chroot takes, how many it takes, and its name."""

@@ -10,10 +10,11 @@ PRIORITIES = ["required", "important", "standard", "optional", "extra"]
 
 
 class Unread:
-    """A paragraph of an index that is not yet read, and all lines between the blank ones round it as they stand."""
+    """A paragraph of an index that is not yet read, its place among all, and all lines between the blank ones round it as
+    they stand."""
 
-    def __init__(self, paragraph, raw):
-        self.paragraph, self.raw = paragraph, raw
+    def __init__(self, paragraph, raw, place=0):
+        self.paragraph, self.raw, self.place = paragraph, raw, place
 
 
 def is_blank(line):
@@ -89,6 +90,11 @@ def best(entry, named, providing):
     return None
 
 
+def told(code):
+    """The code of a fault of a paragraph: that of each version that is none is one."""
+    return 123 if 111 <= code <= 114 else code
+
+
 def highest_first(found):
     """Without those that are equal in version to one before them, the highest version first."""
     kept = []
@@ -105,7 +111,7 @@ class PackagesIndex:
     def __init__(self, files, architectures):
         self.architectures = architectures
         self.unread, self.provided, self.of_source, self.essential = {}, {}, {}, set()
-        self.read, self.unreadable = {}, []
+        self.read, self.unreadable, self.count = {}, [], 0
         for file, text in files:
             for unread in cut_index(text, file):
                 self.add(unread)
@@ -114,6 +120,8 @@ class PackagesIndex:
         name = unread.paragraph.get("Package")
         if name is None:
             return
+        self.count += 1
+        unread.place = self.count
         self.unread.setdefault(name, []).append(unread)
         for item in (unread.paragraph.get("Provides") or "").split(","):
             self.provided.setdefault(leading_name(item.lstrip(" \t\n")), {})[name] = None
@@ -130,7 +138,7 @@ class PackagesIndex:
                 try:
                     found.append(Candidate(unread, self.architectures))
                 except Fault as fault:
-                    self.unreadable.append(f"{name}: refused {fault.code}")
+                    self.unreadable.append((unread.place, f"{name}: refused {told(fault.code)}"))
             self.read[name] = highest_first(found)
         return self.read[name]
 
@@ -172,9 +180,10 @@ class SourcesIndex:
     """Paragraphs of Sources indexes by name."""
 
     def __init__(self, files):
-        self.unread, self.read, self.unreadable = {}, {}, []
+        self.unread, self.read, self.unreadable, place = {}, {}, [], 0
         for file, text in files:
-            for unread in cut_index(text, file):
+            for place, unread in enumerate(cut_index(text, file), place + 1):
+                unread.place = place
                 name = unread.paragraph.get("Package")
                 name = unread.paragraph.get("Source") if name is None else name
                 if name is not None:
@@ -188,7 +197,7 @@ class SourcesIndex:
                 try:
                     found.append(SourceParagraph(unread))
                 except Fault as fault:
-                    self.unreadable.append(f"{name}: refused {fault.code}")
+                    self.unreadable.append((unread.place, f"{name}: refused {told(fault.code)}"))
             self.read[name] = highest_first(found)
         return self.read[name]
 

@@ -36,6 +36,21 @@ pub const GRAPH: &str = "graph";
 /// The command `draft`.
 pub const DRAFT: &str = "draft";
 
+/// The command `import`.
+pub const IMPORT: &str = "import";
+
+/// The option `--archive`.
+pub const ARCHIVE: &str = "archive";
+
+/// The option `--force`.
+pub const FORCE: &str = "force";
+
+/// The parameter with the name of the wish.
+pub const WISH: &str = "wish";
+
+/// The parameter with the name of the folder.
+pub const FOLDER: &str = "folder";
+
 /// The parameter with the name of the Packages index.
 pub const PACKAGES: &str = "packages";
 
@@ -287,6 +302,33 @@ fn with_pictures<'a>(alloc: Global, program: Command<'a>) -> Result<Command<'a>,
     )
 }
 
+/// An option that names an index, and may stand more than once.
+fn index<'a>(alloc: Global, id: &'a str, about: &'a str) -> Arg<'a> {
+    Arg::new(alloc, id)
+        .long(id)
+        .value_name("INDEX")
+        .action(ArgAction::Append)
+        .help(about)
+}
+
+/// The command with the indexes that `import` reads.
+fn with_indexes<'a>(alloc: Global, command: Command<'a>) -> Result<Command<'a>, AllocError> {
+    command
+        .arg(index(alloc, ARCHIVE, help::ARCHIVE))?
+        .arg(index(alloc, PACKAGES, help::INDEXES).required(true))?
+        .arg(index(alloc, SOURCES, help::SOURCE_INDEXES).required(true))
+}
+
+fn import<'a>(alloc: Global) -> Result<Command<'a>, AllocError> {
+    let command = Command::new(alloc, IMPORT)
+        .about(help::IMPORT)
+        .after_long_help(help::IMPORT_MORE);
+    with_indexes(alloc, command)?
+        .arg(flag(alloc, FORCE, help::FORCE))?
+        .arg(file(alloc, WISH, "WISH", help::WISH))?
+        .arg(file(alloc, FOLDER, "DIR", help::FOLDER))
+}
+
 /// The commands of the program, whose words begin behind its name.
 ///
 /// # Errors
@@ -299,5 +341,6 @@ pub fn portfarm<'a>(alloc: Global) -> Result<Command<'a>, AllocError> {
     let program = and(program, step(alloc))?;
     let program = and(program, run(alloc))?;
     let program = with_pictures(alloc, program)?;
-    and(program, draft(alloc))
+    let program = and(program, draft(alloc))?;
+    and(program, import(alloc))
 }

@@ -13,5 +13,7 @@ mod request;
 mod schedule;
 
 pub use command::INPUT;
-pub use request::{Asked, FarmPaths, Paths, Request, TimelineForm, WordsFault, read_words};
+pub use request::{
+    Asked, FarmPaths, ImportWords, Paths, Request, TimelineForm, WordsFault, read_words,
+};
 pub use schedule::{ScheduleFault, read_lane, read_schedule, space_lanes};

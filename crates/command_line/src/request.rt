@@ -5,9 +5,9 @@ ghost use Rattle.command_line.specs.Words.{AreFarmWords, ArePathWords, IsAskedBy
 
 use crate::among::{are_farm_words, are_words, ends_word, is_word};
 use crate::command::{
-    BARS, CERT, CERTIFICATE, CHECK, DRAFT, EXPLAIN, FARM, FULL, GRAPH, INPUT, JSON, LANES, LIST,
-    NUMBER, PACKAGES, PARTIAL, PLAN, PROGRESS, REST, RUN, SCHEDULE, SKETCH, SOURCES, STEP, SVG,
-    TIMELINE, VERIFY_CERT, portfarm,
+    ARCHIVE, BARS, CERT, CERTIFICATE, CHECK, DRAFT, EXPLAIN, FARM, FOLDER, FORCE, FULL, GRAPH,
+    IMPORT, INPUT, JSON, LANES, LIST, NUMBER, PACKAGES, PARTIAL, PLAN, PROGRESS, REST, RUN,
+    SCHEDULE, SKETCH, SOURCES, STEP, SVG, TIMELINE, VERIFY_CERT, WISH, portfarm,
 };
 use crate::schedule::{ScheduleFault, read_lane, read_schedule};
 use clap::error::ErrorKind;
@@ -111,6 +111,18 @@ pub enum Request<'a> {
     },
 }
 
+/// The files of an import: indexes of what is there at the beginning, of what builds give and of
+/// sources; the wish; the folder of the texts; and whether files of others are replaced there.
+#[derive(Drop)]
+pub struct ImportWords<'a> {
+    pub archive: Vec<&'a str>,
+    pub packages: Vec<&'a str>,
+    pub sources: Vec<&'a str>,
+    pub wish: &'a str,
+    pub folder: &'a str,
+    pub force: bool,
+}
+
 /// What the words ask for.
 #[derive(Drop)]
 pub enum Asked<'a> {
@@ -118,6 +130,8 @@ pub enum Asked<'a> {
     Answer(Request<'a>),
     /// A run of the farm of four texts; and whether to tell of it while it goes on.
     Run { paths: Paths<'a>, progress: bool },
+    /// The texts of a farm, made of indexes.
+    Import(ImportWords<'a>),
 }
 
 /// Why words ask for nothing that is answered.
@@ -363,6 +377,80 @@ fn draft_of<'a, S: AsStr>(
     lanes_of(alloc, words, number, paths, matches.get_flag(PARTIAL))
 }
 
+/// The words behind an option that may stand more than once, if each ends a word.
+fn words_behind<'a, S: AsStr>(
+    alloc: Global,
+    words: &'a [S],
+    matches: &ArgMatches<'a>,
+    id: &str,
+) -> Result<Option<Vec<&'a str>>, AllocError>
+    ensures { IfOk result (λ found. IfSome found (λ names.
+        All (λ name. EndsWord (map S.text words.entry.now) name.now) names.items)) }
+{
+    let mut names = Vec::new(alloc);
+    for name in matches.get_strs(id).unwrap_or(&[]) {
+        if !ends_word(words, name) {
+            return Ok(None);
+        }
+        names.push(*name)?;
+    }
+    Ok(Some(names))
+}
+
+/// How often standard input stands among names.
+fn inputs_among(names: &[&str]) -> usize {
+    names.iter().filter(|name| **name == INPUT).count()
+}
+
+/// Tells whether standard input stands for more than one file.
+fn imports_twice(asked: &ImportWords<'_>) -> bool {
+    let lists = [
+        inputs_among(&asked.archive),
+        inputs_among(&asked.packages),
+        inputs_among(&asked.sources),
+        inputs_among(&[asked.wish]),
+    ];
+    lists
+        .iter()
+        .fold(0usize, |sum, count| sum.saturating_add(*count))
+        > 1
+}
+
+/// What `import` asks for.
+fn import_of<'a, S: AsStr>(
+    alloc: Global,
+    words: &'a [S],
+    matches: &ArgMatches<'a>,
+) -> Result<Asked<'a>, WordsFault>
+    ensures asked { IfOk result (IsAskedBy (map S.text words.entry.now)) }
+    ensures refused { IfErr result (IsRefusedFor (map S.text words.entry.now)) }
+{
+    let wish = word_of(matches, WISH);
+    let folder = word_of(matches, FOLDER);
+    if !is_word(words, wish) || !is_word(words, folder) {
+        return Err(not_there(alloc));
+    }
+    let (Some(archive), Some(packages), Some(sources)) = (
+        words_behind(alloc, words, matches, ARCHIVE)?,
+        words_behind(alloc, words, matches, PACKAGES)?,
+        words_behind(alloc, words, matches, SOURCES)?,
+    ) else {
+        return Err(not_there(alloc));
+    };
+    let asked = ImportWords {
+        archive,
+        packages,
+        sources,
+        wish,
+        folder,
+        force: matches.get_flag(FORCE),
+    };
+    if imports_twice(&asked) {
+        return Err(wrong(alloc, "error: `-` can stand for one file alone\n"));
+    }
+    Ok(Asked::Import(asked))
+}
+
 /// What a command and its words ask for.
 fn asked_of<'a, S: AsStr>(
     alloc: Global,
@@ -435,6 +523,7 @@ pub fn read_words<'a, S: AsStr>(alloc: Global, words: &'a [S]) -> Result<Asked<'
     };
     match matches.subcommand() {
         Some((DRAFT, matches)) => draft_of(alloc, words, matches),
+        Some((IMPORT, matches)) => import_of(alloc, words, matches),
         Some((command, matches)) => asked_of(alloc, words, command, matches),
         None => Err(no_command(alloc)),
     }
