@@ -2,6 +2,7 @@
 """The archive of a farm as a folder: pool/RECIPE/ with what a recipe gave, and an index `Packages` of all that was ever
 published. An archive that grows keeps every version: a lane may be asked to unpack an older one. As a command:
 
+    archive.py begin ARCHIVE                                  an empty one, where there is none
     archive.py publish ARCHIVE FOLDER RECIPE NAME=VERSION..   the .deb files of FOLDER go into the archive
     archive.py path ARCHIVE NAME=VERSION                      where the .deb is
 """
@@ -41,6 +42,12 @@ class Archive:
         self.folder = os.path.abspath(folder)
         self.index = os.path.join(self.folder, "Packages")
         os.makedirs(os.path.join(self.folder, "pool"), exist_ok=True)
+
+    def begin(self):
+        """An index must be there before apt looks for it."""
+        with Lock(os.path.join(self.folder, "lock")):
+            if not os.path.exists(self.index):
+                write_durably(self.index, b"")
 
     def paths(self):
         """Where each published variant is, by name and version."""
@@ -87,14 +94,17 @@ class Archive:
 
 
 def main(words):
-    if len(words) < 3 or words[0] not in ("publish", "path"):
+    if len(words) < 2 or words[0] not in ("begin", "publish", "path"):
         sys.exit(__doc__)
+    archive = Archive(words[1])
     variants = [tuple(word.split("=", 1)) for word in words[2 if words[0] == "path" else 4:]]
     try:
-        if words[0] == "path":
-            print(*(Archive(words[1]).path(variant) for variant in variants), sep="\n")
+        if words[0] == "begin":
+            archive.begin()
+        elif words[0] == "path":
+            print(*(archive.path(variant) for variant in variants), sep="\n")
         else:
-            Archive(words[1]).publish(words[2], words[3], variants)
+            archive.publish(words[2], words[3], variants)
     except Failed as why:
         sys.exit(f"archive.py: {why}")
 

@@ -11,10 +11,11 @@
     [modes]         full, arch, indep = WORDS, for `{mode*}`
 
 A command is cut into words as a shell does, and then fields are put into the words, so that no shell reads what a field
-holds. Each has {lane} {number} {chroot} {kind} {host} {dir}, {job} (one name for one thing, over all resumes), {again} (empty
-at the first time) and {request*}; a build {recipe} {source} {version} {upstream} (the version without its epoch)
-{steps} {scratch} {profiles} (with commas) {mode} {mode*}; a publish {recipe} {packages*}; and all others {names*}
-{packages*} (NAME=VERSION). A field with `*` becomes a word for each of its words, or none. Status 0 is done, all else failed.
+holds. Each has {lane} {number} {chroot} {kind} {host} {dir} {drivers} (the folder of this file), {job} (one name for one thing,
+over all resumes), {again} (empty at the first time) and {request*}; a build {recipe} {source} {version} {upstream} (the version without its epoch)
+{steps} {scratch} {profiles} {mode} {mode*}; a publish {recipe} {packages}; and all others {names} {packages} (NAME=VERSION).
+{profiles}, {names} and {packages} are joined by commas; with `*` each becomes a word for each of its own, or none. Lanes and
+chroots are spelled so that they are file names. Status 0 is done, all else is failed.
 """
 
 import configparser
@@ -24,6 +25,8 @@ import sys
 
 from driver import drive, parser
 from system import Lock, file_name, run_command
+
+HERE = os.path.dirname(os.path.abspath(__file__))
 
 
 def read_configuration(path):
@@ -62,7 +65,7 @@ class Commands:
         host = self.hosts.get(request.lane, self.hosts.get("default", "localhost"))
         fields = {
             "lane": file_name(request.lane), "number": request.number, "chroot": file_name(request.chroot),
-            "kind": request.kind, "host": host, "dir": self.folder, "job": request.job,
+            "kind": request.kind, "host": host, "dir": self.folder, "drivers": HERE, "job": request.job,
             "again": "again" if request.again else "", "run": request.run}
         first = "again" if request.again else "start"
         lists = {"request": [first, request.lane, str(request.number), request.chroot, request.kind, *request.words],
@@ -74,8 +77,9 @@ class Commands:
             for name in ("source", "version", "mode", "steps", "scratch"):
                 fields[name] = getattr(request, name)
             fields["upstream"] = request.version.split(":", 1)[-1]
-            fields["profiles"] = ",".join(request.profiles)
+            lists["profiles"] = request.profiles
             lists["mode"] = shlex.split(self.modes.get(request.mode, ""))
+        fields.update({name: ",".join(lists[name]) for name in ("names", "packages", "profiles") if name in lists})
         return fields, lists
 
     def log(self, request):

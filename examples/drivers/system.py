@@ -62,7 +62,8 @@ def run_command(words, log=None, lock=None, timeout=None, **more):
             with commands_lock:
                 commands.discard(child)
     if status != 0:
-        raise Failed(f"{words[0]}: status {status}{last_words(log, begin)}")
+        how = f"status {status}" if status > 0 else f"ended by signal {-status}"
+        raise Failed(f"{words[0]}: {how}{last_words(log, begin)}")
 
 
 def last_words(log, begin):
@@ -72,7 +73,7 @@ def last_words(log, begin):
     with open(log, "rb") as file:
         file.seek(begin)
         text = " ".join(file.read()[-400:].decode("utf-8", "replace").split())
-    return f", {log} has: {text}"
+    return f", see {log}: {text}" if text else ""
 
 
 def end_command(child, number):
