@@ -17,7 +17,7 @@ import threading
 from system import Failed, end_commands, file_name
 
 TEXTS = ("packages", "sources", "farm", "plan")
-QUIET = 2.0  # seconds with nothing in progress, after which --keep-going answers its failures
+QUIET = 5.0  # seconds with nothing in progress, after which --keep-going answers its failures
 
 
 class Request:
@@ -50,7 +50,7 @@ class Driver:
         self.lock = threading.RLock()  # a signal may come while the main thread has it
         self.stopping = threading.Event()
         self.lanes = {}  # lane -> the queue of its requests, its worker
-        self.busy = 0
+        self.busy = self.changes = 0  # things in progress; how often that has changed
         self.held = []  # failures that are not answered yet
         self.counts = {"asked": 0, "again": 0, "done": 0, "failed": 0, "tried again": 0, "most at once": 0}
 
@@ -88,6 +88,7 @@ class Driver:
         """Gives a request to its lane's worker."""
         with self.lock:
             self.busy += 1
+            self.changes += 1
             self.counts["asked"] += 1
             self.counts["again"] += request.again
             self.counts["most at once"] = max(self.busy, self.counts["most at once"])
@@ -126,19 +127,21 @@ class Driver:
         """Answers. With --keep-going a failure waits until the other lanes have got as far as they can."""
         with self.lock:
             self.busy -= 1
+            self.changes += 1
             self.counts["done" if done else "failed"] += 1
             if done or not self.options.keep_going:
                 self.write(f"{'done' if done else 'failed'} {request.lane} {request.number}")
             else:
                 self.held.append(request)
             if self.held and self.busy == 0:
-                timer = threading.Timer(QUIET, self.answer_held)
+                timer = threading.Timer(QUIET, self.answer_held, [self.changes])
                 timer.daemon = True
                 timer.start()
 
-    def answer_held(self):
+    def answer_held(self, changes):
+        """Nothing has begun or ended since: portfarm has nothing more to ask."""
         with self.lock:
-            if self.busy == 0:
+            if self.changes == changes:
                 for request in self.held:
                     self.write(f"failed {request.lane} {request.number}")
                 self.held = []
