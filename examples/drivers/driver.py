@@ -77,6 +77,7 @@ class Driver:
             else:
                 self.hand_out(Request(text, run))
         status = self.child.wait()
+        self.stopping.set()  # nobody waits for another try
         # what is begun ends before the driver does, and is not at work when it is asked again
         for requests, worker in self.lanes.values():
             requests.put(None)
