@@ -103,6 +103,9 @@ pub(crate) fn with_makespan(alloc: Global, text: &[u8], end: u128) -> Result<Vec
 #[test]
 fn makespans_are_replaced(rt: HostRuntime) -> Result<(), Fail> {
     let timed = with_makespan(rt.alloc(), b"# 2 builds, makespan 70\nplan 1\n", 9)?;
-    assert_eq!(rt; timed.as_slice(), b"# 2 builds, makespan 9\nplan 1\n");
+    assert_eq!(rt;
+        timed.as_slice(),
+        b"# 2 builds, makespan 9\nplan 1\n".as_slice()
+    );
     Ok(())
 }
