@@ -7,7 +7,6 @@ use draft_notes::About;
 use itoa::Buffer;
 use memchr::{memchr, memrchr};
 use std::alloc::{AllocError, Global};
-use std::test::Fail;
 
 /// How many recipes lanes build, and the one of these that is published last.
 fn builds_of(found: &Lanes) -> (usize, Option<usize>) {
@@ -98,14 +97,4 @@ pub(crate) fn with_makespan(alloc: Global, text: &[u8], end: u128) -> Result<Vec
     let mut timed = Vec::new(alloc);
     push_pieces(&mut timed, &[&text[..word], b" ", end, &text[line..]])?;
     Ok(timed)
-}
-
-#[test]
-fn makespans_are_replaced(rt: HostRuntime) -> Result<(), Fail> {
-    let timed = with_makespan(rt.alloc(), b"# 2 builds, makespan 70\nplan 1\n", 9)?;
-    assert_eq!(rt;
-        timed.as_slice(),
-        b"# 2 builds, makespan 9\nplan 1\n".as_slice()
-    );
-    Ok(())
 }
