@@ -7,11 +7,11 @@
 --   AreFarmWords words paths   the names of the three files of a farm are
 --   IsAskedBy words asked      what is asked for has its names and its schedule from the words
 --   IsRefusedFor words fault   a bad schedule comes from the words, and is none
-use Rattle.std.specs.Prelude.{◌≡◌, ℕ, true, ◌==◌, List, [], Ok, Err}
+use Rattle.std.specs.Prelude.{◌≡◌, ℕ, true, ◌==◌, List, [], codes, Ok, Err}
 use Rattle.std.specs.List.{ends_with, list_any}
 use Rattle.std.specs.Str.{bytes_eq}
 use Rattle.command_line.specs.declared.request.Asked.{Asked}
-use Rattle.command_line.specs.declared.request.Asked.TheVariants.{Answer, Run}
+use Rattle.command_line.specs.declared.request.Asked.TheVariants.{Answer, Run, Drive}
 use Rattle.command_line.specs.declared.request.FarmPaths.{FarmPaths}
 use Rattle.command_line.specs.declared.request.Paths.{Paths}
 use Rattle.command_line.specs.declared.request.Request.{Request}
@@ -66,6 +66,8 @@ IsRequestedBy words (DraftLanes paths lanes partial) =
 abbrev pub IsAskedBy : List (List ℕ) → Asked → Type 0
 IsAskedBy words (Answer request) = IsRequestedBy words request
 IsAskedBy words (Run paths progress) = ArePathWords words paths
+IsAskedBy words (Drive paths journal progress) =
+    IsWord words (codes "drive") × ArePathWords words paths
 
 -- a word ends with a text that is no schedule
 abbrev pub HasBadSchedule : List (List ℕ) → Type 0

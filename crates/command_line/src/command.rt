@@ -27,6 +27,9 @@ pub const STEP: &str = "step";
 /// The command `run`.
 pub const RUN: &str = "run";
 
+/// The command `drive`.
+pub const DRIVE: &str = "drive";
+
 /// The command `timeline`.
 pub const TIMELINE: &str = "timeline";
 
@@ -68,6 +71,9 @@ pub const SCHEDULE: &str = "schedule";
 
 /// The option `--progress`.
 pub const PROGRESS: &str = "progress";
+
+/// The option `--journal`.
+pub const JOURNAL: &str = "journal";
 
 /// The option `--number`.
 pub const NUMBER: &str = "number";
@@ -180,6 +186,14 @@ fn step<'a>(alloc: Global) -> Result<Command<'a>, AllocError> {
 /// The command that runs the lanes.
 fn run<'a>(alloc: Global) -> Result<Command<'a>, AllocError> {
     on_files(alloc, RUN, help::RUN, help::RUN_MORE)?.arg(flag(alloc, PROGRESS, help::PROGRESS))
+}
+
+/// The command that lets a driver carry out the run.
+fn drive<'a>(alloc: Global) -> Result<Command<'a>, AllocError> {
+    let journal = Arg::new(alloc, JOURNAL).long(JOURNAL).value_name("FILE");
+    let command = on_files(alloc, DRIVE, help::DRIVE, help::DRIVE_MORE)?;
+    let command = command.arg(journal.help(help::JOURNAL))?;
+    command.arg(flag(alloc, PROGRESS, help::PROGRESS))
 }
 
 /// A sketch, which a plan is drafted by where no number of lanes is given.
@@ -298,6 +312,7 @@ pub fn portfarm<'a>(alloc: Global) -> Result<Command<'a>, AllocError> {
     let program = and(program, verify_cert(alloc))?;
     let program = and(program, step(alloc))?;
     let program = and(program, run(alloc))?;
+    let program = and(program, drive(alloc))?;
     let program = with_pictures(alloc, program)?;
     and(program, draft(alloc))
 }

@@ -212,6 +212,29 @@ Example:
 
 Status: 0 drawn, 1 refused, 2 wrong words, 3 nothing could be answered";
 
+/// What `drive` does, in a line.
+pub const DRIVE: &str = "\
+Runs the lanes by a driver, which does what they are to do";
+
+/// What the help of `drive` says behind that line.
+pub const DRIVE_MORE: &str = "\
+Each lane has a thread of its own. Before it goes on it asks for what it is to
+do next, by a line on the output, as `start a 1 base build gcc-stage1 gcc 14-1
+full 20 1000 stage1`, and waits until standard input answers `done a 1`. `failed
+a 1` ends the run, and so does `stop`, once what was begun is answered.
+
+With `--journal` the file keeps what was asked and done. The same words go on
+where a run has stopped, whatever has stopped it: what is done is not asked for
+again, and what was begun is, by `again` in place of `start`.
+
+The last lines are those of `run`. A plan that is refused is not driven.
+
+Example:
+  portfarm drive --journal j packages sources farm plan
+
+Status: 0 finished, 1 refused, 2 wrong words, 3 stopped, or something outside
+of the plan failed";
+
 /// What `draft` does, in a line.
 pub const DRAFT: &str = "\
 Drafts a plan that `check` accepts, from lanes and builds alone";
@@ -264,6 +287,9 @@ pub const PARTIAL: &str = "Leave out what cannot be built";
 
 /// What `--progress` does, in a line.
 pub const PROGRESS: &str = "Tell of publications and waits on the error output";
+
+/// What `--journal` does, in a line.
+pub const JOURNAL: &str = "Keep what is asked and done, and go on by it";
 
 /// What `--number` does, in a line.
 pub const NUMBER: &str = "Put the number and the plan's line before each line";

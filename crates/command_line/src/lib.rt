@@ -8,6 +8,7 @@
 
 mod among;
 mod command;
+mod drive;
 mod help;
 mod request;
 mod schedule;

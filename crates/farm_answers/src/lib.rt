@@ -3,8 +3,7 @@
 //!
 //! Proved, over files, readers and sinks whose bytes are known: each answer is exactly the text of
 //! its definition, with its status, or a first part where the sink fails (`IsAnswered`); a fault
-//! outside of the texts is exactly its line (`tell`). Not proved: that `answer_run` returns, and
-//! what `Teller` says while lanes run.
+//! outside of the texts is exactly its line (`tell`). Not proved: that `answer_run` returns.
 #![tactic(auto)]
 
 mod answers;
@@ -15,7 +14,6 @@ mod fault;
 mod files;
 mod source;
 mod status;
-mod teller;
 mod turns;
 
 pub use answers::{

@@ -9,6 +9,7 @@
 mod request;
 mod run;
 
+pub use drive_answers::DriveSource;
 pub use farm_answers::{OUTSIDE, Source, WRONG_WORDS};
 pub use request::answer_request;
 pub use run::{quiet_words, run_words};

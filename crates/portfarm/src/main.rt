@@ -6,13 +6,16 @@
 //! words is only tested.
 #![tactic(auto)]
 
-use farm_commands::{OUTSIDE, Source, WRONG_WORDS, run_words};
+use drive_file::{FileJournal, open_journal};
+use drive_store::OpenFault;
+use farm_commands::{DriveSource, OUTSIDE, Source, WRONG_WORDS, run_words};
 use report_sink::{Sink, WriteSink, write_text};
+use std::alloc::{AllocError, Global};
 use std::env::{self, Env};
 use std::fs::File;
-use std::io::{self, ErrorKind, IsTerminal};
+use std::io::{self, BufReader, ErrorKind, IsTerminal};
 use std::process::ExitCode;
-use std::rt::Files;
+use std::rt::{Clock, Files};
 
 /// What is said to whoever sits at a terminal and gives no words: nobody types four texts there.
 const USAGE: &[u8] =
@@ -23,6 +26,7 @@ const USAGE: &[u8] =
 struct Machine<'a, R> {
     rt: &'a R,
     is_watched: bool,
+    is_typed: bool,
 }
 
 impl<R: Files + Input> Source for Machine<'_, R> {
@@ -46,6 +50,34 @@ impl<R: Files + Input> Source for Machine<'_, R> {
 
     fn input(&self) -> R::Reader {
         self.rt.reader()
+    }
+}
+
+impl<R: Files<File = File> + Input + Clock> DriveSource for Machine<'_, R>
+where
+    R::Reader: Send,
+{
+    type Answers = BufReader<R::Reader>;
+
+    type Journal = FileJournal;
+
+    fn answers(&self, alloc: Global) -> Result<BufReader<R::Reader>, AllocError> {
+        BufReader::new(alloc, self.rt.reader()).map_err(|_| AllocError)
+    }
+
+    fn is_typed(&self) -> bool {
+        self.is_typed
+    }
+
+    fn nanoseconds(&self) -> u64 {
+        match self.rt.since_1970() {
+            Ok(time) => u64::try_from(time.as_nanos()).unwrap_or(0),
+            Err(_) => 0,
+        }
+    }
+
+    fn open_journal(&self, path: &str) -> Result<FileJournal, OpenFault> {
+        open_journal(self.rt, path)
     }
 }
 
@@ -83,6 +115,7 @@ fn main(rt: HostRuntime) -> ExitCode {
     let machine = Machine {
         rt: &rt,
         is_watched: stderr.is_terminal(),
+        is_typed: rt.stdin().is_terminal(),
     };
     let status = run_words(
         &rt,

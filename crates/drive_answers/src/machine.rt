@@ -1,0 +1,33 @@
+//! What a drive needs of a machine.
+
+use drive_store::{JournalFile, OpenFault};
+use farm_answers::Source;
+use std::alloc::{AllocError, Global};
+use std::io::BufRead;
+
+/// What a drive needs of a machine, beside the files of its texts.
+pub trait DriveSource: Source {
+    type Answers: BufRead + Drop + Send;
+
+    type Journal: JournalFile + Drop + Send;
+
+    /// Standard input, by which the driver answers.
+    ///
+    /// # Errors
+    ///
+    /// [`AllocError`] where memory is refused.
+    fn answers(&self, alloc: Global) -> Result<Self::Answers, AllocError>;
+
+    /// Tells whether a person may type the answers.
+    fn is_typed(&self) -> bool;
+
+    /// The nanoseconds since 1970.
+    fn nanoseconds(&self) -> u64;
+
+    /// Opens the journal of this name, makes it where it is not there, and locks it.
+    ///
+    /// # Errors
+    ///
+    /// [`OpenFault::InUse`] where another run has locked it, else [`OpenFault::Unopened`].
+    fn open_journal(&self, path: &str) -> Result<Self::Journal, OpenFault>;
+}
