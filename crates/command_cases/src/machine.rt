@@ -149,6 +149,10 @@ pub struct Driver<'s, 'c, R: Wait> {
 }
 
 impl<'s, 'c, R: Wait + Sync> DriveSource for Machine<'s, Driver<'s, 'c, R>> {
+    ghost use Rattle.std.specs.Prelude.{None};
+
+    ghost kept = { λ _ _. None };
+
     type Answers = BufReader<StageInput<'s, 'c, R>>;
 
     type Journal = StageJournal<'s, 'c, R>;

@@ -5,10 +5,12 @@
 --   EndsWord words text        a word ends with this text, as `--schedule=0,1` with `0,1`
 --   ArePathWords words paths   the names of the four files are words
 --   AreFarmWords words paths   the names of the three files of a farm are
+--   IsJournalWord words journal   a word ends with the name of a journal, if there is one
 --   IsAskedBy words asked      what is asked for has its names and its schedule from the words
 --   IsRefusedFor words fault   a bad schedule comes from the words, and is none
-use Rattle.std.specs.Prelude.{◌≡◌, ℕ, true, ◌==◌, List, [], codes, Ok, Err}
+use Rattle.std.specs.Prelude.{◌≡◌, ℕ, true, ◌==◌, List, [], codes, Option, Ok, Err, IfSome}
 use Rattle.std.specs.List.{ends_with, list_any}
+use Rattle.std.specs.Option.{option_map}
 use Rattle.std.specs.Str.{bytes_eq}
 use Rattle.command_line.specs.declared.request.Asked.{Asked}
 use Rattle.command_line.specs.declared.request.Asked.TheVariants.{Answer, Run, Drive}
@@ -37,6 +39,10 @@ pub record AreFarmWords (words : List (List ℕ)) (paths : FarmPaths) : Type 0 w
   pub packages : IsWord words paths.packages.now
   pub sources : IsWord words paths.sources.now
   pub farm : IsWord words paths.farm.now
+
+-- a word ends with the name of a journal, if there is one, as `--journal=j` with `j`
+abbrev pub IsJournalWord : List (List ℕ) → Option (List ℕ) → Type 0
+IsJournalWord words journal = IfSome journal (λ name. EndsWord words name)
 
 -- a word ends with a text that is this number
 abbrev pub HasNumber : List (List ℕ) → ℕ → Type 0
@@ -68,6 +74,7 @@ IsAskedBy words (Answer request) = IsRequestedBy words request
 IsAskedBy words (Run paths progress) = ArePathWords words paths
 IsAskedBy words (Drive paths journal progress) =
     IsWord words (codes "drive") × ArePathWords words paths
+    × IsJournalWord words (option_map (λ name. name.now) journal)
 
 -- a word ends with a text that is no schedule
 abbrev pub HasBadSchedule : List (List ℕ) → Type 0

@@ -1,7 +1,8 @@
 //! What `drive` asks for.
 
-ghost use Rattle.std.specs.Prelude.{IfErr, IfOk, map};
-ghost use Rattle.command_line.specs.Words.{ArePathWords, IsAskedBy, IsRefusedFor};
+ghost use Rattle.std.specs.Prelude.{◌≡◌, IfErr, IfOk, map, true};
+ghost use Rattle.std.specs.Option.{option_map};
+ghost use Rattle.command_line.specs.Words.{ArePathWords, IsAskedBy, IsJournalWord, IsRefusedFor};
 
 use crate::among::{ends_word, is_word};
 use crate::command::{DRIVE, INPUT, JOURNAL, PROGRESS};
@@ -14,6 +15,17 @@ use std::convert::AsStr;
 fn names_input(paths: &Paths<'_>) -> bool {
     let names = [paths.packages, paths.sources, paths.farm, paths.plan];
     names.iter().any(|name| *name == INPUT)
+}
+
+/// Tells whether a word ends with the name of a journal, if there is one.
+fn is_named<S: AsStr>(words: &[S], journal: Option<&str>) -> bool
+    ensures { result ≡ true → IsJournalWord (map S.text words.now)
+        (option_map (λ name. name.now) journal.entry) }
+{
+    match journal {
+        Some(name) => ends_word(words, name),
+        None => true,
+    }
 }
 
 /// What `drive` asks for.
@@ -35,7 +47,7 @@ pub fn drive_of<'a, S: AsStr>(
         return Err(not_there(alloc));
     }
     let journal = matches.get_str(JOURNAL);
-    if !ends_word(words, journal.unwrap_or("")) {
+    if !is_named(words, journal) {
         return Err(not_there(alloc));
     }
     Ok(Asked::Drive {

@@ -1,5 +1,7 @@
 //! What a drive needs of a machine.
 
+ghost use Rattle.std.specs.Prelude.{◌≡◌, ℕ, List, Option, IfOk, IfSome, Some};
+
 use drive_store::{JournalFile, OpenFault};
 use farm_answers::Source;
 use std::alloc::{AllocError, Global};
@@ -7,6 +9,9 @@ use std::io::BufRead;
 
 /// What a drive needs of a machine, beside the files of its texts.
 pub trait DriveSource: Source {
+    // The bytes of the journal of a name, where they are known.
+    ghost kept: { Self → List ℕ → Option (List ℕ) };
+
     type Answers: BufRead + Drop + Send;
 
     type Journal: JournalFile + Drop + Send;
@@ -29,5 +34,7 @@ pub trait DriveSource: Source {
     /// # Errors
     ///
     /// [`OpenFault::InUse`] where another run has locked it, else [`OpenFault::Unopened`].
-    fn open_journal(&self, path: &str) -> Result<Self::Journal, OpenFault>;
+    fn open_journal(&self, path: &str) -> Result<Self::Journal, OpenFault>
+        ensures { IfOk result (λ journal. IfSome (kept self.now path.now)
+            (λ bytes. (Self.Journal.state journal).contents ≡ Some bytes)) };
 }

@@ -1,8 +1,7 @@
 //! A run of an accepted plan that a driver carries out.
 
 ghost use Rattle.std.specs.Prelude.{◌≡◌, IfErr, IfOk};
-ghost use Rattle.drive_run.specs.Driven.{IsMisfitOf};
-ghost use Rattle.farm_executor.specs.FarmRuns.{IsFarmRun, IsFault};
+ghost use Rattle.drive_run.specs.Driven.{IsMisfitOf, IsNotBegun, IsRan};
 
 use crate::lent::Lent;
 use drive_input::Input;
@@ -40,7 +39,7 @@ pub struct Streams<I, J> {
     pub journal: J,
 }
 
-/// Why a drive does not begin. Nothing was asked then.
+/// Why a drive does not begin. Nothing was asked for then.
 #[derive(Clone, Copy, PartialEq, Eq)]
 pub enum StartFault {
     /// This line of the journal fits neither the plan nor the lines before it. Nothing was written.
@@ -127,9 +126,7 @@ fn run_gate<
     accepted: Accepted,
     gate: &Teller<'_, R, DriverGate<'_, R, I, S, J>>,
 ) -> Driven
-    ensures run { IfOk result.ran (λ run. (run.accepted ≡ accepted)
-        × IsFarmRun accepted run.chroots.items run.spent.items run.history.items) }
-    ensures fault { IfErr result.ran (IsFault accepted (Unit {0})) }
+    ensures { IsRan accepted result.ran }
 {
     let ran = run_farm(rt, alloc, accepted, gate);
     let fault = gate.gate().fault();
@@ -141,9 +138,9 @@ fn run_gate<
 ///
 /// # Errors
 ///
-/// [`StartFault::Misfit`] of the first line of the journal that does not fit, and
-/// [`StartFault::Memory`] where memory is refused: nothing is written then.
-/// [`StartFault::WriteFailed`] where the first line could not be written.
+/// [`StartFault::Misfit`] of the first line of the journal that does not fit: nothing is written
+/// then. [`StartFault::WriteFailed`] where the first line could not be written, and
+/// [`StartFault::Memory`] where memory is refused: no more than that line is out then.
 pub fn drive<
     R: Threads + Wait + Eprint + Sync,
     I: BufRead + Drop + Send,
@@ -157,10 +154,9 @@ pub fn drive<
     streams: Streams<I, J>,
     out: &mut S,
 ) -> Result<Driven, StartFault>
-    ensures run { IfOk result (λ d. IfOk d.ran (λ run. (run.accepted ≡ accepted)
-        × IsFarmRun accepted run.chroots.items run.spent.items run.history.items)) }
-    ensures fault { IfOk result (λ d. IfErr d.ran (IsFault accepted (Unit {0}))) }
-    ensures misfit { IfErr result (IsMisfitOf accepted began.entry.entries.now) }
+    ensures ran { IfOk result (λ driven. IsRan accepted driven.ran) }
+    ensures fault { IfErr result (IsNotBegun accepted began.entry.entries.now (S.state out.old)
+        (S.state out.new)) }
 {
     // The program ends with its answer: what it has read goes with it, and not piece by piece.
     let accepted = ManuallyDrop::new(accepted);

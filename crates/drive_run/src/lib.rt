@@ -1,9 +1,9 @@
 //! A run of an accepted plan that a driver outside of this program carries out.
 //!
-//! Proved: a run that came to its end is one of the plan, and one that stopped is one that its gate
-//! may stop, as `run_farm` has it; a journal that does not fit is told by the first line that the
-//! core cannot follow, and nothing is written then (`drive`). Not proved: what is asked and when,
-//! and that `drive` returns.
+//! Proved, where `drive` returns: a run that came to its end is one of the plan, and one that stopped
+//! is one that a gate may stop which may give up (`IsRan`); a journal that does not fit is told by
+//! the first line that the core cannot follow, and nothing is written then (`IsNotBegun`). Not
+//! proved: what is asked for and when, and that it returns.
 #![tactic(auto)]
 
 mod driven;

@@ -26,8 +26,12 @@ use std::mem::ManuallyDrop;
 use std::sync::Wait;
 use std::thread::Threads;
 
-/// Writes a run in which all lanes came to their ends.
-fn answer_end<'a, S: Sink>(run: &FarmRun, out: &mut S) -> Result<u8, OutsideFault<'a>>
+/// Writes a run in which all lanes came to their ends, and gives the status.
+///
+/// # Errors
+///
+/// [`OutsideFault::WriteFailed`] where the sink fails, with a first part of the answer.
+pub fn answer_end<'a, S: Sink>(run: &FarmRun, out: &mut S) -> Result<u8, OutsideFault<'a>>
     requires { IsFarmRun run.now.accepted run.now.chroots.items run.now.spent.items
         run.now.history.items }
     ensures { IsAnswered (ShowsEnd run.now.accepted) (S.state out.old) (S.state out.new) result }

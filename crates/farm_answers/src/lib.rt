@@ -22,7 +22,7 @@ pub use answers::{
 };
 pub use certificates::{answer_cert, answer_verify_cert};
 pub use errors::{say, tell};
-pub use farm_run::{RunFiles, answer_run, run_files};
+pub use farm_run::{RunFiles, answer_end, answer_run, run_files};
 pub use fault::OutsideFault;
 pub use files::{FileTexts, read_files};
 pub use source::{MOST_FILE, Source, read_file, read_input};

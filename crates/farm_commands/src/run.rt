@@ -34,7 +34,7 @@ fn tell_words<'a, S: Sink, E: Sink>(
     }
 }
 
-/// Does what the words ask for, but for a run, and gives its status.
+/// Does what the words ask for, but for a run or a drive, and gives its status.
 ///
 /// # Errors
 ///
@@ -83,7 +83,7 @@ fn do_words<
     errors: &mut E,
 ) -> Result<u8, OutsideFault<'a>>
     ensures done { MayComeTo (map W.text words.entry.now) (F.held source.now) (F.given source.now)
-        (S.state out.old) (S.state out.new) (E.state errors.old) (E.state errors.new) result }
+        (F.kept source.now) (S.state out.old) (S.state out.new) (E.state errors.old) (E.state errors.new) result }
     ensures quiet { OnErr result (E.state errors.new ≡ E.state errors.old) }
 {
     match read_words(alloc, words) {
@@ -123,8 +123,8 @@ fn end<E: Sink>(told: Result<u8, OutsideFault<'_>>, errors: &mut E) -> u8
     }
 }
 
-/// Does what words ask for, but for `run`, which is a wrong word here: as [`run_words`], for those
-/// who have no leave to wait.
+/// Does what words ask for, but for `run` and `drive`, which are wrong words here: as [`run_words`],
+/// for those who have no leave to wait.
 pub fn quiet_words<'a, W: AsStr, F: Source, S: Sink, E: Sink>(
     rt: &(impl Threads + Sync),
     alloc: Global,
@@ -143,15 +143,15 @@ pub fn quiet_words<'a, W: AsStr, F: Source, S: Sink, E: Sink>(
 }
 
 /// Does what words ask for, those behind the program's name, and gives the status of the program.
-/// It may wait where they ask for a run.
+/// It may wait where they ask for a run or a drive.
 ///
 /// The files that they name are read in the order of the words, each up to
 /// [`MOST_FILE`](crate::MOST_FILE) bytes, and all of them before anything is checked. With no word
 /// at all the four texts are those of standard input. The status is 0 where the texts are accepted
 /// or listed, the schedule meets no trap, the run has come to its end, or help is shown; 1 for a
 /// refusal or a trap; 2 for wrong words or a schedule that is none; and 3 where a file cannot be
-/// read, memory is refused, a lane cannot be started, or the output fails. What is said of wrong
-/// words and schedules, and of the last four, stands on the error output.
+/// read, memory is refused, a lane cannot be started, a drive has no end, or the output fails. What
+/// is said of wrong words and schedules, and of the last five, stands on the error output.
 pub fn run_words<
     'a,
     R: Threads + Wait + Eprint + Sync,
@@ -162,7 +162,7 @@ pub fn run_words<
 >(rt: &R, alloc: Global, words: &'a [W], source: &F, out: &mut S, errors: &mut E) -> u8
     ensures { (told : Result ℕ OutsideFault) × (result ≡ status_told told)
         × MayComeTo (map W.text words.entry.now) (F.held source.now) (F.given source.now)
-        (S.state out.old) (S.state out.new) (E.state errors.old) (E.state errors.new) told
+        (F.kept source.now) (S.state out.old) (S.state out.new) (E.state errors.old) (E.state errors.new) told
         × TellsFault (E.state errors.old) (E.state errors.new) told }
 {
     let told = do_words(rt, alloc, words, source, out, errors);

@@ -2,8 +2,8 @@
 //!
 //! Proved: that it is safe. What it answers is in the contract of `run_words` of farm_commands,
 //! which of a machine's files and streams says only which statuses there are, since no contract
-//! knows their bytes (`held` and `given` are `None`). That these are the files and streams of its
-//! words is only tested.
+//! knows their bytes (`held`, `given` and `kept` are `None`). That these are the files and streams of
+//! its words is only tested.
 #![tactic(auto)]
 
 use drive_file::{FileJournal, open_journal};
@@ -57,6 +57,10 @@ impl<R: Files<File = File> + Input + Clock> DriveSource for Machine<'_, R>
 where
     R::Reader: Send,
 {
+    ghost use Rattle.std.specs.Prelude.{None};
+
+    ghost kept = { λ _ _. None };
+
     type Answers = BufReader<R::Reader>;
 
     type Journal = FileJournal;

@@ -1,7 +1,8 @@
-use Rattle.std.proofs.Common.{rules, ◌≡◌, inl, sym, subst, ◌∙◌}
+use Rattle.std.proofs.Common.{rules, ◌≡◌, inl, inr, map, option_map, sym, subst, ◌∙◌}
 use Rattle.std.proofs.lemmas.List.{length-map}
 use Rattle.std.specs.Prelude.{IsOkAnd}
-use Rattle.command_line.specs.declared.request.Asked.TheVariants.{Answer}
+use Rattle.command_line.specs.Words.{IsAskedBy}
+use Rattle.command_line.specs.declared.request.Asked.TheVariants.{Answer, Drive}
 use Rattle.command_line.specs.declared.request.Request.TheVariants.{CheckInput}
 use Rattle.farm_commands.specs.Requests.{IsRequestAnswered}
 use Rattle.farm_commands.proofs.WordLaws.{asked_nothing}
@@ -19,3 +20,16 @@ returns-in-Ok-Answer-clause-done g c = inl record {
       (c.read_words.ensures.none (sym (length-map c.args.words.now g.W.AsStr.text) ∙ none))))
       c.answer_request.ensures.answer;
 }
+
+pub returns-in-Ok-Drive-clause-done : goal.returns-in-Ok-Drive-clause-done
+returns-in-Ok-Drive-clause-done g c =
+    let asked : IsAskedBy (map g.W.AsStr.text c.args.words.now)
+    (Drive c.in-Ok-Drive.paths c.in-Ok-Drive.journal c.in-Ok-Drive.progress) = search rules in
+    inr (inr (
+      asked.0,
+      c.in-Ok-Drive.paths,
+      asked.1,
+      option_map (λ name. name.now) c.in-Ok-Drive.journal,
+      asked.2,
+      c.drive_files.ensures.told,
+    ))
