@@ -55,7 +55,7 @@ pub start-told : (a : AcceptedPlan) (entries : List ℕ) (old new before after :
     (f : StartFault) (told : Result ℕ OutsideFault) → IsNotBegun a entries old new f
     → IsLineTold (start_line f) before after told
     → IsDriveTold (ShowsEnd a) (TellsStop a (IsMisfitIn a (lines_of entries)) old new) new before
-        after told
+    after told
 start-told a entries old new before after (start.Misfit n) told is line =
     inr (line.0, misfit_line n, inr (is.1, inl (n, is.0, refl)), line.1)
 start-told a entries old new before after start.WriteFailed told is line =

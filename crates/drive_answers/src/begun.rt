@@ -53,11 +53,7 @@ impl Beginning {
     /// # Errors
     ///
     /// Those of [`resume`].
-    pub fn by<J: JournalFile>(
-        &self,
-        alloc: Global,
-        journal: &mut J,
-    ) -> Result<Resumed, StoreFault>
+    pub fn by<J: JournalFile>(&self, alloc: Global, journal: &mut J) -> Result<Resumed, StoreFault>
         ensures resumed { IfOk result (IsResumed (head_text self.now.sums)
             (string_bytes self.now.stamp) (J.state journal.old) (J.state journal.new)) }
         ensures refused { IfErr result (IsRefused (head_text self.now.sums) (J.state journal.old)

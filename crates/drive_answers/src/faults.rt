@@ -76,10 +76,7 @@ pub fn tell_unopened<E: Sink>(fault: OpenFault, errors: &mut E) -> u8
 /// # Errors
 ///
 /// [`OutsideFault::OutOfMemory`] where memory was refused.
-pub fn tell_unkept<'a, E: Sink>(
-    fault: StoreFault,
-    errors: &mut E,
-) -> Result<u8, OutsideFault<'a>>
+pub fn tell_unkept<'a, E: Sink>(fault: StoreFault, errors: &mut E) -> Result<u8, OutsideFault<'a>>
     ensures { IsLineTold (store_line fault) (E.state errors.old) (E.state errors.new) result }
 {
     match fault {

@@ -44,9 +44,7 @@ pub struct Run<J> {
 /// # Errors
 ///
 /// [`AllocError`] where memory is refused.
-pub fn beginning_of<R, F: DriveSource>(
-    setting: &Setting<'_, R, F>,
-) -> Result<Beginning, AllocError>
+pub fn beginning_of<R, F: DriveSource>(setting: &Setting<'_, R, F>) -> Result<Beginning, AllocError>
     ensures { IfOk result (λ b. head_text b.sums ≡ head_in (texts_view setting.now.texts)) }
 {
     let texts = DrivenTexts {
