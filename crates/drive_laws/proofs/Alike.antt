@@ -127,7 +127,7 @@ module _ (u : Universe) (p : Plan) where
           (lanes_of (events u p met.left met.behind y met.rest))
           (all ∙ ap lanes_of met.are)) in (
             events_on l ls s x one on
-                ∙ ap (λ st. event l st ∷ events u p ls one.0 x one.2) both.behind
+                ∙ ap (λ (st : LaneState). event l st ∷ events u p ls one.0 x one.2) both.behind
                 ∙ ap (λ (es : List Event). event l (lane_state met.behind l) ∷ es) rest.0
                 ∙ sym met.are,
             rest.1,

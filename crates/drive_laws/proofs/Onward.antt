@@ -13,7 +13,7 @@ use Rattle.plan_model.specs.Turn.{LaneState, Turn, Goes, Gives, Waits, Ends, Fai
 
 module _ (u : Universe) (p : Plan) where
   -- from one state of the lane such turns lead to both
-  pub Meets : ℕ → LaneState → LaneState → Type 0
+  abbrev pub Meets : ℕ → LaneState → LaneState → Type 0
   Meets l x y = (a : LaneState) × (n : ℕ) × (m : ℕ) × Leads u p l n a x × Leads u p l m a y
 
   pub swap_meets : (l : ℕ) (x y : LaneState) → Meets l x y → Meets l y x
@@ -106,19 +106,19 @@ module _ (u : Universe) (p : Plan) where
         behind = one ∙ sym other;
       }
 
-  second_after : (s t x : State) (l : ℕ) (turn : Turn) → turn ≡ turn_at u p t l
+  second_after : (t x : State) (l : ℕ) (turn : Turn) → turn ≡ turn_at u p t l
       → After (Both l x) t l turn → (m : State) → step u p t l ≡ Moved m → Both l x m
-  second_after s t x l turn e keeps m moved =
+  second_after t x l turn e keeps m moved =
       step_keeps u p (Both l x) t m l moved (λ lt. subst (After (Both l x) t l) e keeps)
 
   first_after : (s t : State) (l : ℕ) (turn : Turn) → l < length p → Same s t
       → turn ≡ turn_at u p t l
       → After (λ x. (m : State) → step u p t l ≡ Moved m → Both l x m) s l turn
   first_after s t l (Goes next) lt is e =
-      second_after s t (put s l next) l (Goes next) e
+      second_after t (put s l next) l (Goes next) e
       (put_both s t l next s.published t.published lt is is.published)
   first_after s t l (Gives next v) lt is e =
-      second_after s t (put_output s l next v) l (Gives next v) e
+      second_after t (put_output s l next v) l (Gives next v) e
       (put_both s t l next _ _ lt is (ap (λ (q : List Publication). q ++ publication l v ∷ [])
       is.published))
   first_after s t l Waits lt is e = tt
@@ -129,7 +129,7 @@ module _ (u : Universe) (p : Plan) where
       → turn_at u p s l ≡ turn_at u p t l
   unfolding turn_at
   turns_same s t l is here =
-      ap (λ q. turn_of u (archive u q) (lane p l) (lane_state s l)
+      ap (λ (q : List Publication). turn_of u (archive u q) (lane p l) (lane_state s l)
       (instruction_at p l (lane_state s l).done)) is.published
       ∙ ap (λ (st : LaneState). turn_of u (archive u t.published) (lane p l) st
       (instruction_at p l st.done)) here

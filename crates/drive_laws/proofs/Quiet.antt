@@ -13,7 +13,7 @@ use Rattle.plan_model.specs.Plan.{Lane, Plan, lane, instruction_at, set_cost, bu
 use Rattle.plan_model.specs.Turn.{LaneState, Turn, Goes, Gives, Waits, Ends, Fails, passes, past, past_build, turn_of}
 
 -- where such a turn leads, if it does
-pub quiet_next : Lane → LaneState → Universe → Option Instruction → LaneState
+abbrev pub quiet_next : Lane → LaneState → Universe → Option Instruction → LaneState
 quiet_next of st u (Some (Configure members)) =
     past of st (set_cost members) (configured st.chroot members)
 quiet_next of st u (Some (Deconfigure members)) =
@@ -30,7 +30,7 @@ quiet_next of st u (Some EndWhen) = st
 quiet_next of st u None = st
 
 -- a turn that leads there, if it leads on, and publishes nothing
-pub IsQuiet : LaneState → Turn → Type 0
+abbrev pub IsQuiet : LaneState → Turn → Type 0
 IsQuiet there (Goes next) = next ≡ there
 IsQuiet there (Gives next v) = ⊥
 IsQuiet there Waits = Unit {0}
@@ -70,14 +70,14 @@ module _ (u : Universe) (there : Variant → Bool) (of : Lane) (st : LaneState) 
 
 module _ (u : Universe) (p : Plan) (l : ℕ) where
   -- whether lane l comes to the archive from here, and where it is led if not
-  pub comes : LaneState → Bool
+  abbrev pub comes : LaneState → Bool
   comes st = at_archive (instruction_at p l st.done)
 
-  pub led : LaneState → LaneState
+  abbrev pub led : LaneState → LaneState
   led st = quiet_next (lane p l) st u (instruction_at p l st.done)
 
   -- so many such turns lead from one state of the lane to another
-  pub Leads : ℕ → LaneState → LaneState → Type 0
+  abbrev pub Leads : ℕ → LaneState → LaneState → Type 0
   Leads zero a b = a ≡ b
   Leads (suc n) a b = (comes a ≡ false) × Leads n (led a) b
 
