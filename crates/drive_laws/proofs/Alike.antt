@@ -34,24 +34,29 @@ module _ (u : Universe) (p : Plan) where
       cond-false (comes_to_archive p s l)
       (event l (lane_state run.0 l) ∷ events u p ls run.0 t run.2) (events u p ls run.0 t run.2) off
 
+  none_by : (s : State) (k : ℕ) (ks : List ℕ) (t y : State) (run : Run u p t (k ∷ ks) y)
+      → Same u p s t → [] ≡ lanes_of (events u p (k ∷ ks) t y run)
+      → (Same u p s run.0 → [] ≡ lanes_of (events u p ks run.0 y run.2)
+      → ([] ≡ events u p ks run.0 y run.2) × (s.published ≡ y.published))
+      → (b : Bool) → comes_to_archive p t k ≡ b
+      → ([] ≡ events u p (k ∷ ks) t y run) × (s.published ≡ y.published)
+  none_by s k ks t y run is e more true on =
+      absurd (no_more k (lanes_of (events u p ks run.0 y run.2))
+      (e ∙ ap lanes_of (events_on k ks t y run on)))
+  none_by s k ks t y run is e more false off =
+      let rest = more
+      (swap u p run.0 s (quiet_step u p t s run.0 k (swap u p s t is) off run.1))
+      (e ∙ ap lanes_of (events_off k ks t y run off)) in
+      (rest.0 ∙ sym (events_off k ks t y run off), rest.1)
+
   -- a run without events, from where another one stands
   none : (s : State) (ks : List ℕ) (t y : State) (run : Run u p t ks y) → Same u p s t
       → [] ≡ lanes_of (events u p ks t y run)
       → ([] ≡ events u p ks t y run) × (s.published ≡ y.published)
-  none s [] t y run is e =
-      (refl, is.published ∙ ap (λ (x : State). x.published) run)
-  none s (k ∷ ks) t y run is e = by_case (comes_to_archive p t k) refl
-    where
-      by_case : (b : Bool) → comes_to_archive p t k ≡ b
-          → ([] ≡ events u p (k ∷ ks) t y run) × (s.published ≡ y.published)
-      by_case true on = absurd (no_more k (lanes_of (events u p ks run.0 y run.2))
-          (e ∙ ap lanes_of (events_on k ks t y run on)))
-      by_case false off =
-          let same : Same u p s run.0 =
-          swap u p run.0 s (quiet_step u p t s run.0 k (swap u p s t is) off run.1) in
-          let rest = none s ks run.0 y run.2 same
-          (e ∙ ap lanes_of (events_off k ks t y run off)) in
-          (rest.0 ∙ sym (events_off k ks t y run off), rest.1)
+  none s [] t y run is e = (refl, is.published ∙ ap (λ (x : State). x.published) run)
+  none s (k ∷ ks) t y run is e =
+      none_by s k ks t y run is e (λ same rest. none s ks run.0 y run.2 same rest)
+      (comes_to_archive p t k) refl
 
   -- the next event of a run is of this lane
   record Met (s : State) (l : ℕ) (ks : List ℕ) (t y : State) (run : Run u p t ks y) : Type 0 where
@@ -64,13 +69,10 @@ module _ (u : Universe) (p : Plan) where
     moved : step u p before l ≡ Moved behind
     are : events u p ks t y run ≡ event l (lane_state behind l) ∷ events u p left behind y rest
 
-  meet : (s : State) (l : ℕ) (more ks : List ℕ) (t y : State) (run : Run u p t ks y)
-      → Same u p s t → l ∷ more ≡ lanes_of (events u p ks t y run) → Met s l ks t y run
-  meet s l more [] t y run is e = absurd (no_more l more (sym e))
-  meet s l more (k ∷ ks) t y run is e = by_case (comes_to_archive p t k) refl
-    where
-      here : comes_to_archive p t k ≡ true → (i : ℕ) → k ≡ i → Met s i (k ∷ ks) t y run
-      here on i same_lane = subst (λ j. Met s j (k ∷ ks) t y run) same_lane record {
+  met_here : (s : State) (l k : ℕ) (ks : List ℕ) (t y : State) (run : Run u p t (k ∷ ks) y)
+      → Same u p s t → comes_to_archive p t k ≡ true → k ≡ l → Met s l (k ∷ ks) t y run
+  met_here s l k ks t y run is on same_lane =
+      subst (λ j. Met s j (k ∷ ks) t y run) same_lane (record {
         before = t;
         behind = run.0;
         left = ks;
@@ -79,59 +81,89 @@ module _ (u : Universe) (p : Plan) where
         on = on;
         moved = run.1;
         are = events_on k ks t y run on;
-      }
+      })
 
-      by_case : (b : Bool) → comes_to_archive p t k ≡ b → Met s l (k ∷ ks) t y run
-      by_case true on = here on l
-          (sym (same_head l k more (lanes_of (events u p ks run.0 y run.2))
-          (e ∙ ap lanes_of (events_on k ks t y run on))))
-      by_case false off =
-          let same : Same u p s run.0 =
-          swap u p run.0 s (quiet_step u p t s run.0 k (swap u p s t is) off run.1) in
-          let met = meet s l more ks run.0 y run.2 same
-          (e ∙ ap lanes_of (events_off k ks t y run off)) in
-          record {
-            before = met.before;
-            behind = met.behind;
-            left = met.left;
-            rest = met.rest;
-            same = met.same;
-            on = met.on;
-            moved = met.moved;
-            are = events_off k ks t y run off ∙ met.are;
-          }
+  met_later : (s : State) (l k : ℕ) (ks : List ℕ) (t y : State) (run : Run u p t (k ∷ ks) y)
+      → comes_to_archive p t k ≡ false → Met s l ks run.0 y run.2 → Met s l (k ∷ ks) t y run
+  met_later s l k ks t y run off met = record {
+    before = met.before;
+    behind = met.behind;
+    left = met.left;
+    rest = met.rest;
+    same = met.same;
+    on = met.on;
+    moved = met.moved;
+    are = events_off k ks t y run off ∙ met.are;
+  }
+
+  meet_by : (s : State) (l : ℕ) (more : List ℕ) (k : ℕ) (ks : List ℕ) (t y : State)
+      (run : Run u p t (k ∷ ks) y) → Same u p s t
+      → l ∷ more ≡ lanes_of (events u p (k ∷ ks) t y run)
+      → (Same u p s run.0 → l ∷ more ≡ lanes_of (events u p ks run.0 y run.2)
+      → Met s l ks run.0 y run.2)
+      → (b : Bool) → comes_to_archive p t k ≡ b → Met s l (k ∷ ks) t y run
+  meet_by s l more k ks t y run is e later true on =
+      met_here s l k ks t y run is on
+      (sym (same_head l k more (lanes_of (events u p ks run.0 y run.2))
+      (e ∙ ap lanes_of (events_on k ks t y run on))))
+  meet_by s l more k ks t y run is e later false off =
+      met_later s l k ks t y run off (later
+      (swap u p run.0 s (quiet_step u p t s run.0 k (swap u p s t is) off run.1))
+      (e ∙ ap lanes_of (events_off k ks t y run off)))
+
+  meet : (s : State) (l : ℕ) (more ks : List ℕ) (t y : State) (run : Run u p t ks y)
+      → Same u p s t → l ∷ more ≡ lanes_of (events u p ks t y run) → Met s l ks t y run
+  meet s l more [] t y run is e = absurd (no_more l more (sym e))
+  meet s l more (k ∷ ks) t y run is e =
+      meet_by s l more k ks t y run is e
+      (λ same rest. meet s l more ks run.0 y run.2 same rest) (comes_to_archive p t k) refl
+
+  -- two runs from states that are the same but for such turns
+  abbrev AreAlike : (ls ks : List ℕ) (s t x y : State) → Run u p s ls x → Run u p t ks y → Type 0
+  AreAlike ls ks s t x y one other =
+      lanes_of (events u p ls s x one) ≡ lanes_of (events u p ks t y other)
+      → (events u p ls s x one ≡ events u p ks t y other) × (x.published ≡ y.published)
+
+  alike_on : (l : ℕ) (ls ks : List ℕ) (s t x y : State) (one : Run u p s (l ∷ ls) x)
+      (other : Run u p t ks y) → comes_to_archive p s l ≡ true → (met : Met s l ks t y other)
+      → (Same u p one.0 met.behind → AreAlike ls met.left one.0 met.behind x y one.2 met.rest)
+      → AreAlike (l ∷ ls) ks s t x y one other
+  alike_on l ls ks s t x y one other on met later e =
+      let both = event_step u p s met.before one.0 met.behind l met.same on met.on one.1 met.moved in
+      let rest = later both.same
+      (same_tail l l (lanes_of (events u p ls one.0 x one.2))
+      (lanes_of (events u p met.left met.behind y met.rest))
+      (sym (ap lanes_of (events_on l ls s x one on)) ∙ e ∙ ap lanes_of met.are)) in (
+        events_on l ls s x one on
+            ∙ ap (λ (st : LaneState). event l st ∷ events u p ls one.0 x one.2) both.behind
+            ∙ ap (λ (es : List Event). event l (lane_state met.behind l) ∷ es) rest.0
+            ∙ sym met.are,
+        rest.1,
+      )
+
+  alike_by : (l : ℕ) (ls ks : List ℕ) (s t x y : State) (one : Run u p s (l ∷ ls) x)
+      (other : Run u p t ks y) → Same u p s t
+      → ((js : List ℕ) (z : State) (rest : Run u p z js y) → Same u p one.0 z
+      → AreAlike ls js one.0 z x y one.2 rest)
+      → (b : Bool) → comes_to_archive p s l ≡ b → AreAlike (l ∷ ls) ks s t x y one other
+  alike_by l ls ks s t x y one other is later true on e =
+      let met = meet s l (lanes_of (events u p ls one.0 x one.2)) ks t y other is
+      (sym (ap lanes_of (events_on l ls s x one on)) ∙ e) in
+      alike_on l ls ks s t x y one other on met
+      (λ same. later met.left met.behind met.rest same) e
+  alike_by l ls ks s t x y one other is later false off e =
+      let rest = later ks t other (quiet_step u p s t one.0 l is off one.1)
+      (sym (ap lanes_of (events_off l ls s x one off)) ∙ e) in
+      (events_off l ls s x one off ∙ rest.0, rest.1)
 
   pub alike : (ls ks : List ℕ) (s t x y : State) (one : Run u p s ls x) (other : Run u p t ks y)
-      → Same u p s t → lanes_of (events u p ls s x one) ≡ lanes_of (events u p ks t y other)
-      → (events u p ls s x one ≡ events u p ks t y other) × (x.published ≡ y.published)
+      → Same u p s t → AreAlike ls ks s t x y one other
   alike [] ks s t x y one other is e =
       let end = none s ks t y other is e in
       (end.0, subst (λ (z : State). z.published ≡ y.published) one end.1)
-  alike (l ∷ ls) ks s t x y one other is e = by_case (comes_to_archive p s l) refl
-    where
-      by_case : (b : Bool) → comes_to_archive p s l ≡ b
-          → (events u p (l ∷ ls) s x one ≡ events u p ks t y other)
-          × (x.published ≡ y.published)
-      by_case false off =
-          let rest = alike ls ks one.0 t x y one.2 other
-          (quiet_step u p s t one.0 l is off one.1)
-          (sym (ap lanes_of (events_off l ls s x one off)) ∙ e) in
-          (events_off l ls s x one off ∙ rest.0, rest.1)
-      by_case true on =
-          let all = sym (ap lanes_of (events_on l ls s x one on)) ∙ e in
-          let met = meet s l (lanes_of (events u p ls one.0 x one.2)) ks t y other is all in
-          let both = event_step u p s met.before one.0 met.behind l met.same on met.on one.1
-          met.moved in
-          let rest = alike ls met.left one.0 met.behind x y one.2 met.rest both.same
-          (same_tail l l (lanes_of (events u p ls one.0 x one.2))
-          (lanes_of (events u p met.left met.behind y met.rest))
-          (all ∙ ap lanes_of met.are)) in (
-            events_on l ls s x one on
-                ∙ ap (λ (st : LaneState). event l st ∷ events u p ls one.0 x one.2) both.behind
-                ∙ ap (λ (es : List Event). event l (lane_state met.behind l) ∷ es) rest.0
-                ∙ sym met.are,
-            rest.1,
-          )
+  alike (l ∷ ls) ks s t x y one other is e =
+      alike_by l ls ks s t x y one other is
+      (λ js z rest same. alike ls js one.0 z x y one.2 rest same) (comes_to_archive p s l) refl e
 
   -- each state is where it is
   at_start : Same u p (start u p) (start u p)

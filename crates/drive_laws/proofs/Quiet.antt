@@ -1,16 +1,17 @@
 -- Turns of a lane at which it does not come to the archive: they lead on, in one way.
-use Rattle.std.proofs.Common.{◌≡◌, ℕ, zero, suc, Bool, true, false, Option, Some, None, refl, sym, subst, ◌∙◌}
+use Rattle.std.proofs.Common.{◌≡◌, ℕ, zero, suc, Bool, true, false, ◌∷◌, Option, Some, None, refl, sym, subst, ◌∙◌}
 use Rattle.std.specs.Prelude.{if◌then◌else◌}
 use Rattle.drive_laws.specs.Orders.{at_archive}
-use Rattle.farm_laws.proofs.Places.{unless_keeps}
 use Rattle.farm_model.specs.Packages.{recipe}
-use Rattle.farm_model.specs.Traps.{configured, deconfigured, removed}
+use Rattle.farm_model.specs.Traps.{first_trap, configure_traps, configured, deconfigure_traps, deconfigured, remove_traps, removed, build_traps}
 use Rattle.farm_model.specs.Universe.{Universe}
+use Rattle.farm_model.specs.declared.types.Trap.{Trap}
+use Rattle.farm_model.specs.declared.types.Trap.TheVariants.{OverBudget}
 use Rattle.farm_model.specs.declared.types.Variant.{Variant}
 use Rattle.plan_model.specs.declared.instructions.Instruction.{Instruction}
 use Rattle.plan_model.specs.declared.instructions.Instruction.TheVariants.{Unpack, Configure, Deconfigure, Remove, Build, Publish, Wait, When, Otherwise, EndWhen}
-use Rattle.plan_model.specs.Plan.{Lane, Plan, lane, instruction_at, set_cost, build_cost, wait_cost}
-use Rattle.plan_model.specs.Turn.{LaneState, Turn, Goes, Gives, Waits, Ends, Fails, passes, past, past_build, turn_of}
+use Rattle.plan_model.specs.Plan.{Lane, Plan, lane, instruction_at, capacity, set_cost, build_cost, wait_cost}
+use Rattle.plan_model.specs.Turn.{LaneState, Turn, Goes, Gives, Waits, Ends, Fails, over_budget, passes, past, past_build, turn_of, unless}
 
 -- where such a turn leads, if it does
 abbrev pub quiet_next : Lane → LaneState → Universe → Option Instruction → LaneState
@@ -41,6 +42,10 @@ if_keeps : (P : Turn → Type 0) (b : Bool) (m n : Turn) → P m → P n → P (
 if_keeps P true m n x y = x
 if_keeps P false m n x y = y
 
+unless_quiet : (next : LaneState) (o : Option Trap) → IsQuiet next (unless o (Goes next))
+unless_quiet next None = refl
+unless_quiet next (Some trap) = tt
+
 true_false : true ≡ false → ⊥
 true_false e = cc
 
@@ -52,16 +57,21 @@ module _ (u : Universe) (there : Variant → Bool) (of : Lane) (st : LaneState) 
   quiet_turn (Some (When name wanted)) off = absurd (true_false off)
   quiet_turn (Some (Publish r)) off = absurd (true_false off)
   quiet_turn (Some (Configure members)) off =
-      unless_keeps (IsQuiet (past of st (set_cost members) (configured st.chroot members))) _ _
-      (λ t. tt) refl
+      unless_quiet (past of st (set_cost members) (configured st.chroot members))
+      (first_trap ((over_budget of st (set_cost members), OverBudget)
+      ∷ configure_traps u st.chroot members))
   quiet_turn (Some (Deconfigure members)) off =
-      unless_keeps (IsQuiet (past of st (set_cost members) (deconfigured st.chroot members))) _ _
-      (λ t. tt) refl
+      unless_quiet (past of st (set_cost members) (deconfigured st.chroot members))
+      (first_trap ((over_budget of st (set_cost members), OverBudget)
+      ∷ deconfigure_traps u st.chroot members))
   quiet_turn (Some (Remove members)) off =
-      unless_keeps (IsQuiet (past of st (set_cost members) (removed st.chroot members))) _ _
-      (λ t. tt) refl
+      unless_quiet (past of st (set_cost members) (removed st.chroot members))
+      (first_trap ((over_budget of st (set_cost members), OverBudget)
+      ∷ remove_traps u st.chroot members))
   quiet_turn (Some (Build r)) off =
-      unless_keeps (IsQuiet (past_build of st (build_cost (recipe u r)) r)) _ _ (λ t. tt) refl
+      unless_quiet (past_build of st (build_cost (recipe u r)) r)
+      (first_trap ((over_budget of st (build_cost (recipe u r)), OverBudget)
+      ∷ build_traps u (capacity u of) st.chroot (recipe u r)))
   quiet_turn (Some (Wait e)) off =
       if_keeps (IsQuiet (past of st wait_cost st.chroot)) (passes u there e)
       (Goes (past of st wait_cost st.chroot)) Waits refl tt

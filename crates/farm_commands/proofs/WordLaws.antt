@@ -10,12 +10,21 @@ use Rattle.farm_answers.proofs.RunLaws.{runs-before}
 use Rattle.farm_answers.specs.FaultLines.{outside_fault_line}
 use Rattle.farm_answers.specs.Files.{named}
 use Rattle.farm_answers.specs.declared.fault.OutsideFault.{OutsideFault}
+use Rattle.farm_commands.specs.Requests.{IsRequestAnswered}
 use Rattle.farm_commands.specs.Runs.{MayComeTo, TellsFault}
 use Rattle.report_sink.specs.Sinks.{SinkState, IsWritten}
 
 -- an answer that is asked for is the one request that is asked for
-pub asked_nothing : (r : Request) → Answer r ≡ Answer CheckInput → r ≡ CheckInput
+asked_nothing : (r : Request) → Answer r ≡ Answer CheckInput → r ≡ CheckInput
 asked_nothing r e = cc e
+
+-- what is answered to no word at all
+pub answered_nothing : (held : List ℕ → Option (List ℕ)) (given : Option (List ℕ)) (r : Request)
+    (old new : SinkState) (told : Result ℕ OutsideFault) → Answer r ≡ Answer CheckInput
+    → IsRequestAnswered held given r old new told
+    → IsRequestAnswered held given CheckInput old new told
+answered_nothing held given r old new told e is =
+    subst (λ request. IsRequestAnswered held given request old new told) (asked_nothing r e) is
 
 module _ (words : List (List ℕ)) (held : List ℕ → Option (List ℕ)) (given : Option (List ℕ))
     (kept : List ℕ → Option (List ℕ)) where
