@@ -4,7 +4,7 @@ use Rattle.std.specs.Prelude.{IfOk, OnErr}
 use Rattle.command_line.specs.declared.request.Asked.TheVariants.{Answer}
 use Rattle.command_line.specs.declared.request.Request.{Request}
 use Rattle.command_line.specs.declared.request.Request.TheVariants.{CheckInput}
-use Rattle.drive_answers.proofs.DriveLaws.{drives-before}
+use Rattle.drive_answers.proofs.DriveLaws.{drives_before}
 use Rattle.drive_answers.specs.DriveAnswers.{kept_in}
 use Rattle.farm_answers.proofs.RunLaws.{runs-before}
 use Rattle.farm_answers.specs.FaultLines.{outside_fault_line}
@@ -47,7 +47,7 @@ module _ (words : List (List ℕ)) (held : List ℕ → Option (List ℕ)) (give
         is.2,
         is.3,
         is.4,
-        drives-before (named held given) (kept_in kept is.3) is.1 old new before after later told
+        drives_before (named held given) (kept_in kept is.3) is.1 old new before after later told
             same is.5,
       ))
 
