@@ -1,6 +1,6 @@
 //! What is answered to a drive.
 
-ghost use Rattle.std.specs.Prelude.{◌≡◌, [], OnErr};
+ghost use Rattle.std.specs.Prelude.{◌≡◌, OnErr};
 ghost use Rattle.std.specs.Option.{option_map};
 ghost use Rattle.deb_text.specs.Lines.{lines_of};
 ghost use Rattle.drive_answers.specs.DriveAnswers.{AnswersDrive, DrivesTo, IsDriveTold, IsMisfitOf, TellsStop, head_in, kept_in};

@@ -4,6 +4,7 @@ ghost use Rattle.std.specs.Prelude.{◌≡◌};
 ghost use Rattle.std.specs.Option.{option_map};
 ghost use Rattle.drive_answers.specs.DriveLines as spec;
 ghost use Rattle.drive_answers.specs.DriveLines.{IsLineTold, entry_line, fault_line, misfit_line, open_line, other_line, start_line, stopped_line, store_line};
+ghost use Rattle.farm_answers.specs.declared.status.TheConstants.{OUTSIDE};
 ghost use Rattle.report_sink.specs.Sinks.{IsWritten};
 
 use drive_run::StartFault;

@@ -4,6 +4,7 @@ ghost use Rattle.std.specs.Prelude.{◌≡◌, OnErr};
 ghost use Rattle.drive_answers.specs.DriveAnswers.{IsDriveTold, TellsLane, TellsRan};
 ghost use Rattle.drive_run.specs.Driven.{IsRan};
 ghost use Rattle.farm_answers.specs.FarmAnswers.{ShowsEnd};
+ghost use Rattle.farm_answers.specs.declared.status.TheConstants.{OUTSIDE};
 ghost use Rattle.farm_executor.specs.FarmRuns.{IsStoppedRun};
 ghost use Rattle.report_sink.specs.Sinks.{IsWritten};
 
