@@ -75,20 +75,13 @@ fn drive_kept<'a, R: Threads + Wait + Eprint + Sync, F: DriveSource, S: Sink + S
         (S.state out.new) (E.state errors.old) (E.state errors.new) result }
     ensures quiet { OnErr result (E.state errors.new ≡ E.state errors.old) }
 {
-    let accepted = ManuallyDrop::new(accepted);
     let beginning = beginning_of(setting)?;
     let journal = match setting.source.open_journal(path) {
         Ok(journal) => journal,
         Err(fault) => return Ok(tell_unopened(fault, errors)),
     };
     match run_by(setting.alloc, &beginning, journal) {
-        Ok(run) => answer_run(
-            setting,
-            ManuallyDrop::into_inner(accepted),
-            run,
-            out,
-            errors,
-        ),
+        Ok(run) => answer_run(setting, accepted, run, out, errors),
         Err(fault) => tell_unkept(fault, errors),
     }
 }
@@ -104,16 +97,9 @@ fn drive_unkept<'a, R: Threads + Wait + Eprint + Sync, F: DriveSource, S: Sink +
         (S.state out.new)) (S.state out.new) (E.state errors.old) (E.state errors.new) result }
     ensures quiet { OnErr result (E.state errors.new ≡ E.state errors.old) }
 {
-    let accepted = ManuallyDrop::new(accepted);
     let beginning = beginning_of(setting)?;
     let run = run_anew(setting.alloc, &beginning)?;
-    answer_run(
-        setting,
-        ManuallyDrop::into_inner(accepted),
-        run,
-        out,
-        errors,
-    )
+    answer_run(setting, accepted, run, out, errors)
 }
 
 /// Drives the lanes of an accepted plan, by its journal where it has one.

@@ -15,7 +15,6 @@ use report_sink::{Sink, WriteFailed, write_pieces};
 use run_teller::Teller;
 use std::alloc::{AllocError, Global};
 use std::io::{BufRead, Eprint};
-use std::mem::ManuallyDrop;
 use std::sync::Wait;
 use std::thread::Threads;
 
@@ -158,13 +157,11 @@ pub fn drive<
     ensures fault { IfErr result (IsNotBegun accepted began.entry.entries.now (S.state out.old)
         (S.state out.new)) }
 {
-    // The program ends with its answer: what it has read goes with it, and not piece by piece.
-    let accepted = ManuallyDrop::new(accepted);
-    let known = known_of(alloc, &*accepted, began)?;
+    let known = known_of(alloc, &accepted, began)?;
     write_pieces(out, &[b"drive 1 ", began.name, b"\n"])?;
     let Streams { input, journal } = streams;
     let input = Input::new(alloc, input);
     let gate = DriverGate::new(rt, alloc, known, input, Lent { sink: out }, journal)?;
     let gate = Teller::new(rt, alloc, accepted.plan(), gate, began.tells)?;
-    Ok(run_gate(rt, alloc, ManuallyDrop::into_inner(accepted), &gate))
+    Ok(run_gate(rt, alloc, accepted, &gate))
 }

@@ -18,6 +18,10 @@ returns-in-Ok-Answer-clause-done g c = inl record {
       c.answer_request.ensures.answer;
 }
 
+pub returns-in-Ok-Run-clause-done : goal.returns-in-Ok-Run-clause-done
+returns-in-Ok-Run-clause-done g c =
+    inr (inl (c.in-Ok-Run.paths, search rules, c.run_files.ensures.end))
+
 pub returns-in-Ok-Drive-clause-done : goal.returns-in-Ok-Drive-clause-done
 returns-in-Ok-Drive-clause-done g c =
     let asked : IsAskedBy (map g.W.AsStr.text c.args.words.now)
