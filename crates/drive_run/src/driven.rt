@@ -90,6 +90,7 @@ impl From<WriteFailed> for StartFault {
 }
 
 /// What the entries of a journal note.
+#[tactic(auto, using(crate::proofs::StartLaws::misfit_of))]
 fn notes_of(alloc: Global, accepted: &Accepted, entries: &[u8]) -> Result<Notes, StartFault>
     ensures { IfErr result (IsMisfitOf accepted.now entries.now) }
 {
@@ -140,6 +141,7 @@ fn run_gate<
 /// [`StartFault::Misfit`] of the first line of the journal that does not fit: nothing is written
 /// then. [`StartFault::WriteFailed`] where the first line could not be written, and
 /// [`StartFault::Memory`] where memory is refused: no more than that line is out then.
+#[tactic(auto, using(crate::proofs::StartLaws::not_begun))]
 pub fn drive<
     R: Threads + Wait + Eprint + Sync,
     I: BufRead + Drop + Send,
