@@ -12,6 +12,7 @@ from pathlib import Path
 
 import certificates
 from core import TRAPS, Farm, step
+from drives import some_requests
 from json_answers import member_line
 from plans import read_plan
 from portfarm import FILES, answer, cut_input, drafted, read_draft_words, read_schedule
@@ -228,10 +229,8 @@ def on_certificate(texts, text, question):
     return written if word == "print" else [f"{sum(len(line) + 1 for line in written)} bytes"]
 
 
-def on_words(machine, question):
-    """Answers `run WORDS` and `member PATH WORDS`, where the words name files that are there; else None."""
-    word, *words = question.split(" ")
-    path = words.pop(0).replace('""', "") if word == "member" else None
+def files_of(machine):
+    """The files of a machine, standard input as `-`, and the names of those that are broken."""
     files, broken, current = {"": ""}, [], ""
     for line in re.findall("[^\n]*\n|[^\n]+", machine):
         if line.startswith("%% "):
@@ -243,6 +242,27 @@ def on_words(machine, question):
         else:
             files[current] += line
     files["-"] = files[""]
+    return files, broken
+
+
+def on_drive(case):
+    """What is wanted of a drive, where each line that it is asked by is one that the model asks by in some run."""
+    files, _ = files_of(case.input)
+    texts = dict(zip(FILES, (files[name] for name in case.question.split(" ")[-4:])))
+    universe = read_universe(texts)
+    plan = read_plan(universe, texts["plan"])
+    written, status = answer("check", texts)
+    known = some_requests(universe, plan) if status == 0 else {f"status 1\n| {written[0]}"}
+    told = re.findall("^(?:expect |[|] )?(?:start|again) (.*)$", case.input + case.wanted, re.M)
+    others = [it for it in told or ([case.wanted.strip()] if status else []) if it not in known]
+    return [f"not asked: {it}" for it in others] or case.wanted.split("\n")[:-1]
+
+
+def on_words(machine, question):
+    """Answers `run WORDS` and `member PATH WORDS`, where the words name files that are there; else None."""
+    word, *words = question.split(" ")
+    path = words.pop(0).replace('""', "") if word == "member" else None
+    files, broken = files_of(machine)
     if words[:1] == ["draft"]:
         return None if word != "run" or broken else on_draft(files, words[1:])
     options = [it for it in words[1:] if it in ("--json", "--bars", "--full")]
@@ -293,6 +313,8 @@ def cut_certificate(text):
 def answer_case(crate, case):
     if case.question.split(" ")[0] in NOT_OF_FARMS or case.question == "message":
         return None
+    if case.question.split(" ")[0] in ("cuts", "drive"):
+        return on_drive(case)
     if crate == "command_cases":
         return on_words(case.input, case.question)
     word, _, rest = case.question.partition(" ")

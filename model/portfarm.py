@@ -10,20 +10,24 @@
   model/portfarm.py graph [--json] PACKAGES SOURCES FARM PLAN
   model/portfarm.py draft [--partial] --lanes N PACKAGES SOURCES FARM
   model/portfarm.py draft [--partial] [--rest] PACKAGES SOURCES FARM SKETCH
+  model/portfarm.py drive PACKAGES SOURCES FARM PLAN
   model/portfarm.py import [--force] [--archive INDEX].. --packages INDEX.. --sources INDEX.. WISH DIR
   model/portfarm.py                   the verdict on the four texts of standard input, divided by lines `%%`
 
 It is slow, it shares no code with the crates, and the texts of wrong words are its own. `timeline --svg` is a command of the
-program alone, `import` one of the model alone.
+program alone, `import` one of the model alone; `drive` tells what is asked for where each thing is answered at once, a
+lane as far as it goes.
 """
 
 import sys
+import time
 from pathlib import Path
 
 import certificates
 from core import step
 from draft_order import Refused
 from drafts import draft
+from drives import drive, first, run_name
 from explain import Note, left_lines, stuck_notes, unsafe_notes, waits_notes
 from farm_warnings import warnings
 from fault_notes import fault_lines
@@ -37,7 +41,7 @@ from timeline import TimedRun, json_members, text_lines
 from universe import read_universe
 from verdict import judge
 
-COMMANDS = ("check", "explain", "list", "cert", "verify-cert", "step", "timeline", "graph")
+COMMANDS = ("check", "explain", "list", "cert", "verify-cert", "step", "timeline", "graph", "drive")
 OPTIONS = {
     "list": ["--number"], "check": ["--json"], "explain": ["--json"], "timeline": ["--json", "--bars", "--full"],
     "graph": ["--json"],
@@ -147,6 +151,9 @@ def answer(command, texts, more=None):
         return timed(command, universe, plan, more), status
     if command == "graph" and written[0].startswith("refused 402"):
         return stuck_graph(plan, written, more), status
+    if command == "drive" and accepts:
+        asked, end = drive(universe, plan, first)
+        return [f"drive 1 {run_name(texts, time.time_ns())}", *(f"start {it}" for it in asked), *end], 0
     if command == "cert" and accepts:
         written = certificates.certificate(universe, plan, rows, order)
     if command in ("check", "timeline", "graph") and "--json" in (more or ""):

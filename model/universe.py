@@ -59,12 +59,13 @@ class Variant:
 
 
 class Recipe:
-    """A build. `written` has the needs as the source has them, each with its field and its restrictions."""
+    """A build. `written` has the needs as the source has them, each with its field and its restrictions; `words` are
+    those that a driver is told beside the name."""
 
-    def __init__(self, name, steps, scratch, needs, clashes, outputs, written):
+    def __init__(self, name, steps, scratch, needs, clashes, outputs, written, told):
         self.name, self.steps, self.scratch = name, steps, scratch
         self.needs, self.clashes, self.outputs = needs, clashes, outputs
-        self.written = written
+        self.written, self.words = written, told
 
 
 class Chroot:
@@ -265,7 +266,9 @@ def read_recipe(universe, paragraph):
         for text, entry in zip(filter(str.strip, fields[field].split(",")), relations[field])
         if reduce_field([entry], universe.architectures, profiles)
     ]
-    universe.recipes[name] = Recipe(name, steps, scratch, needs, clashes, outputs, written)
+    [[source]] = read_field(required(paragraph, "Source"), PROVIDE)
+    told = [source.name, source.version.text, mode, str(steps), str(scratch), *profiles]
+    universe.recipes[name] = Recipe(name, steps, scratch, needs, clashes, outputs, written, told)
     universe.build_entries += len(needs) + len(clashes)
     if len(universe.recipes) > RECIPES:
         raise Fault(210, about="over the limit of 1,024 recipes")

@@ -1,9 +1,13 @@
 //! The files and the standard input of a machine in memory.
 
+use crate::stage::Stage;
+use crate::streams::{StageInput, StageJournal};
 use deb_text::next_line;
-use farm_commands::Source;
+use drive_store::OpenFault;
+use farm_commands::{DriveSource, Source};
 use std::alloc::{AllocError, Global};
-use std::io::{self, ErrorKind, Read};
+use std::io::{self, BufReader, ErrorKind, Read};
+use std::sync::Wait;
 
 /// A file of this name, or standard input, whose name is empty.
 #[derive(Drop)]
@@ -56,6 +60,18 @@ pub fn parts_of(alloc: Global, input: &[u8]) -> Result<Parts<'_>, AllocError> {
     Ok(Parts { parts })
 }
 
+impl Parts<'_> {
+    /// The text of the file of this name, empty where there is none.
+    pub fn text(&self, name: &[u8]) -> &[u8] {
+        for part in &self.parts {
+            if part.name == name {
+                return part.text.as_slice();
+            }
+        }
+        b""
+    }
+}
+
 /// Reads a text in memory.
 #[derive(Drop)]
 pub struct TextReader<'a> {
@@ -72,13 +88,14 @@ impl Read for TextReader<'_> {
     }
 }
 
-/// A machine that has these parts.
+/// A machine that has these parts, and what a driver of it needs.
 #[derive(Drop)]
-pub struct Machine<'a> {
+pub struct Machine<'a, D> {
     pub parts: &'a Parts<'a>,
+    pub driver: D,
 }
 
-impl<'a> Machine<'a> {
+impl<'a, D> Machine<'a, D> {
     fn part(&self, name: &[u8]) -> Option<TextReader<'a>> {
         for part in &self.parts.parts {
             if part.name == name {
@@ -92,7 +109,7 @@ impl<'a> Machine<'a> {
     }
 }
 
-impl<'a> Source for Machine<'a> {
+impl<'a, D> Source for Machine<'a, D> {
     ghost use Rattle.std.specs.Prelude.{None};
 
     ghost held = { λ _ _. None };
@@ -118,6 +135,49 @@ impl<'a> Source for Machine<'a> {
         self.part(b"").unwrap_or(TextReader {
             rest: b"",
             is_broken: false,
+        })
+    }
+}
+
+/// The driver of a machine: the life that it plays, how many lines its output takes before it
+/// fails, how many its journal takes, and whether another run has locked that.
+#[derive(Drop)]
+pub struct Driver<'s, 'c, R: Wait> {
+    pub stage: &'s Stage<'c, R>,
+    pub most_entries: usize,
+    pub is_locked: bool,
+}
+
+impl<'s, 'c, R: Wait + Sync> DriveSource for Machine<'s, Driver<'s, 'c, R>> {
+    ghost use Rattle.std.specs.Prelude.{None};
+
+    ghost kept = { λ _ _. None };
+
+    type Answers = BufReader<StageInput<'s, 'c, R>>;
+
+    type Journal = StageJournal<'s, 'c, R>;
+
+    fn answers(&self, alloc: Global) -> Result<BufReader<StageInput<'s, 'c, R>>, AllocError> {
+        let stage = self.driver.stage;
+        BufReader::new(alloc, StageInput { stage }).map_err(|_| AllocError)
+    }
+
+    fn is_typed(&self) -> bool {
+        false
+    }
+
+    fn nanoseconds(&self) -> u64 {
+        1
+    }
+
+    fn open_journal(&self, _path: &str) -> Result<StageJournal<'s, 'c, R>, OpenFault> {
+        if self.driver.is_locked {
+            return Err(OpenFault::InUse);
+        }
+        Ok(StageJournal {
+            stage: self.driver.stage,
+            most: self.driver.most_entries,
+            has_failed: false,
         })
     }
 }

@@ -1,7 +1,8 @@
 //! What words come to on a machine in memory, as cases write it.
 
-use crate::machine::{Machine, Parts};
+use crate::machine::{Driver, Machine, Parts};
 use crate::outputs::{Manner, Output};
+use crate::stage::Stage;
 use deb_text::next_line;
 use farm_commands::{quiet_words, run_words};
 use report_sink::{Sink, WriteSink};
@@ -49,7 +50,14 @@ pub fn run_on(
 ) -> Run {
     let mut out = WriteSink::new(Output::new(alloc, output));
     let mut told = WriteSink::new(Output::new(alloc, errors));
-    let status = run_words(rt, alloc, words, &Machine { parts }, &mut out, &mut told);
+    let stage = Stage::new(rt, alloc, b"close\n", Vec::new(alloc));
+    let driver = Driver {
+        stage: &stage,
+        most_entries: usize::MAX,
+        is_locked: false,
+    };
+    let machine = Machine { parts, driver };
+    let status = run_words(rt, alloc, words, &machine, &mut out, &mut told);
     Run {
         status,
         is_cut: out.has_failed(),
@@ -67,7 +75,8 @@ pub fn run_quietly(
 ) -> Run {
     let mut out = WriteSink::new(Output::new(alloc, Manner::WHOLE));
     let mut told = WriteSink::new(Output::new(alloc, Manner::WHOLE));
-    let status = quiet_words(rt, alloc, words, &Machine { parts }, &mut out, &mut told);
+    let machine = Machine { parts, driver: () };
+    let status = quiet_words(rt, alloc, words, &machine, &mut out, &mut told);
     Run {
         status,
         is_cut: out.has_failed(),

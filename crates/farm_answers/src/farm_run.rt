@@ -13,21 +13,25 @@ use crate::fault::OutsideFault;
 use crate::files::read_files;
 use crate::source::Source;
 use crate::status::OUTSIDE;
-use crate::teller::Teller;
 use command_line::Paths;
-use farm_executor::{FarmRun, RunFault, run_farm};
+use farm_executor::{Bell, FarmRun, RunFault, run_farm};
 use farm_input::Texts;
 use farm_report::write_run;
 use plan_verifier::{Accepted, check};
 use report_sink::{Sink, write_pieces};
+use run_teller::Teller;
 use std::alloc::Global;
 use std::io::Eprint;
 use std::mem::ManuallyDrop;
 use std::sync::Wait;
 use std::thread::Threads;
 
-/// Writes a run in which all lanes came to their ends.
-fn answer_end<'a, S: Sink>(run: &FarmRun, out: &mut S) -> Result<u8, OutsideFault<'a>>
+/// Writes a run in which all lanes came to their ends, and gives the status.
+///
+/// # Errors
+///
+/// [`OutsideFault::WriteFailed`] where the sink fails, with a first part of the answer.
+pub fn answer_end<'a, S: Sink>(run: &FarmRun, out: &mut S) -> Result<u8, OutsideFault<'a>>
     requires { IsFarmRun run.now.accepted run.now.chroots.items run.now.spent.items
         run.now.history.items }
     ensures { IsAnswered (ShowsEnd run.now.accepted) (S.state out.old) (S.state out.new) result }
@@ -78,7 +82,8 @@ fn run_accepted<'a, R: Threads + Wait + Eprint + Sync, S: Sink, E: Sink>(
 {
     // The program ends with its answer: what it has run goes with it, and not piece by piece.
     let accepted = ManuallyDrop::new(accepted);
-    let gate = ManuallyDrop::new(Teller::new(rt, alloc, accepted.plan(), tells)?);
+    let bell = Bell::new(rt, alloc, accepted.plan().lanes())?;
+    let gate = ManuallyDrop::new(Teller::new(rt, alloc, accepted.plan(), bell, tells)?);
     let ran = ManuallyDrop::new(run_farm(rt, alloc, ManuallyDrop::into_inner(accepted), &*gate));
     match &*ran {
         Ok(run) => answer_end(run, out),

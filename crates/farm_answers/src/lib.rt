@@ -3,8 +3,7 @@
 //!
 //! Proved, over files, readers and sinks whose bytes are known: each answer is exactly the text of
 //! its definition, with its status, or a first part where the sink fails (`IsAnswered`); a fault
-//! outside of the texts is exactly its line (`tell`). Not proved: that `answer_run` returns, and
-//! what `Teller` says while lanes run.
+//! outside of the texts is exactly its line (`tell`). Not proved: that `answer_run` returns.
 #![tactic(auto)]
 
 mod answers;
@@ -15,7 +14,6 @@ mod fault;
 mod files;
 mod source;
 mod status;
-mod teller;
 mod turns;
 
 pub use answers::{
@@ -24,7 +22,7 @@ pub use answers::{
 };
 pub use certificates::{answer_cert, answer_verify_cert};
 pub use errors::{say, tell};
-pub use farm_run::{RunFiles, answer_run, run_files};
+pub use farm_run::{RunFiles, answer_end, answer_run, run_files};
 pub use fault::OutsideFault;
 pub use files::{FileTexts, read_files};
 pub use source::{MOST_FILE, Source, read_file, read_input};

@@ -1,7 +1,10 @@
-//! The gate of the program's runs.
+//! A gate that may tell of a run.
+
+ghost use Rattle.std.specs.Prelude.{◌≡◌, IfOk};
+ghost use Rattle.lane_runner.specs.declared.gate.Go.TheVariants.{GiveUp};
 
 use farm_archive::Publication;
-use farm_executor::Bell;
+use farm_universe::Variant;
 use lane_runner::{Gate, Go, LaneArchive, Place};
 use plan_asm::{Plan, lane_name, name_of, version_of};
 use plan_verifier::Accepted;
@@ -17,12 +20,13 @@ struct ToldLane {
     waits_at: u32,
 }
 
-/// A bell that may tell of the run by lines on the error output of the machine: of each
-/// publication, and of each lane that begins to wait. What it tells is no part of any promise.
+/// A gate that may tell of the run by lines on the error output of the machine: of each
+/// publication, and of each lane that begins to wait. Else it is as the gate in it is. What it
+/// tells is no part of any promise.
 #[derive(Drop)]
-pub struct Teller<'a, R: Wait> {
+pub struct Teller<'a, R: Wait, G: Gate + Drop> {
     rt: &'a R,
-    bell: Bell<'a, R>,
+    gate: G,
     tells: bool,
     // held while a line is written, so that lines stand one behind the other
     lanes: Mutex<Vec<ToldLane>>,
@@ -40,8 +44,8 @@ fn untold(alloc: Global, plan: &Plan) -> Result<Vec<ToldLane>, AllocError> {
     Ok(lanes)
 }
 
-impl<'a, R: Wait> Teller<'a, R> {
-    /// The gate of a plan, which tells of its run or does not.
+impl<'a, R: Wait, G: Gate + Drop> Teller<'a, R, G> {
+    /// A gate of a plan around this one, which tells of its run or does not.
     ///
     /// # Errors
     ///
@@ -50,18 +54,29 @@ impl<'a, R: Wait> Teller<'a, R> {
         rt: &'a R,
         alloc: Global,
         plan: &Plan,
+        gate: G,
         tells: bool,
-    ) -> Result<Teller<'a, R>, AllocError> {
+    ) -> Result<Teller<'a, R, G>, AllocError>
+        ensures { IfOk result (λ t. t.gate ≡ gate) }
+    {
+        let lanes = untold(alloc, plan)?;
         Ok(Teller {
             rt,
-            bell: Bell::new(rt, alloc, plan.lanes())?,
+            gate,
             tells,
-            lanes: Mutex::new(untold(alloc, plan)?),
+            lanes: Mutex::new(lanes),
         })
+    }
+
+    /// The gate in it.
+    pub fn gate(&self) -> &G
+        ensures { result.now ≡ self.now.gate }
+    {
+        &self.gate
     }
 }
 
-impl<R: Wait + Eprint> Teller<'_, R> {
+impl<R: Wait + Eprint, G: Gate + Drop> Teller<'_, R, G> {
     /// Tells that a lane waits, unless that was told of this wait before.
     fn tell_wait(&self, lane: u32, instruction: u32) {
         let mut lanes = self.lanes.lock(self.rt);
@@ -92,28 +107,36 @@ impl<R: Wait + Eprint> Teller<'_, R> {
     }
 }
 
-impl<R: Wait + Eprint> Gate for Teller<'_, R> {
-    ghost may_give_up = { λ _. ⊥ };
+impl<R: Wait + Eprint, G: Gate + Drop> Gate for Teller<'_, R, G> {
+    ghost may_give_up = { λ t. G.may_give_up t.gate };
 
     fn before(&self, place: Place<'_>) -> Go {
-        self.bell.before(place)
+        self.gate.before(place)
+    }
+
+    fn unpacked<A: LaneArchive>(&self, place: Place<'_>, end: &A, variant: Variant) -> Go {
+        self.gate.unpacked(place, end, variant)
+    }
+
+    fn branched<A: LaneArchive>(&self, place: Place<'_>, end: &A, holds: bool) {
+        self.gate.branched(place, end, holds);
     }
 
     fn pause(&self, lane: u32, instruction: u32) -> Go {
         if self.tells {
             self.tell_wait(lane, instruction);
         }
-        self.bell.pause(lane, instruction)
+        self.gate.pause(lane, instruction)
     }
 
     fn published<A: LaneArchive>(&self, accepted: &Accepted, end: &A, publication: Publication) {
         if self.tells {
             self.tell_publication(accepted, publication);
         }
-        self.bell.published(accepted, end, publication);
+        self.gate.published(accepted, end, publication);
     }
 
     fn ring(&self) {
-        self.bell.ring();
+        self.gate.ring();
     }
 }

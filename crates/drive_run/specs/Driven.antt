@@ -1,0 +1,50 @@
+-- What a drive comes to, and why it does not begin. Parameters: a an accepted plan, lines those of
+-- the entries of its journal, old and new the output before and after.
+--
+--   IsRan              what its lanes came to
+--   IsMisfitIn         the line of the journal with this number is the first that does not fit
+--   start_fault_of     where the journal is not followed
+--   IsNotBegun         why the drive does not begin
+use Rattle.std.specs.Prelude.{◌≡◌, ℕ, List, Result, Err, IfErr, IfOk}
+use Rattle.deb_text.specs.Lines.{lines_of}
+use Rattle.drive_notes.specs.Follow.{followed_by}
+use Rattle.drive_notes.specs.Following.{first_life}
+use Rattle.drive_notes.specs.declared.journal.ReplayFault.{ReplayFault}
+use Rattle.drive_notes.specs.declared.journal.ReplayFault.TheVariants as replay
+use Rattle.drive_run.specs.declared.driven.StartFault.{StartFault}
+use Rattle.drive_run.specs.declared.driven.StartFault.TheVariants.{Misfit, Memory}
+use Rattle.drive_run.specs.declared.driven.TheConstants.{FIRST_ENTRY}
+use Rattle.farm_executor.specs.FarmRuns.{IsFarmRun, IsFault}
+use Rattle.farm_executor.specs.declared.run.FarmRun.{FarmRun}
+use Rattle.farm_executor.specs.declared.run.RunFault.{RunFault}
+use Rattle.plan_asm.specs.CountedPlan.{CountedPlan}
+use Rattle.plan_model.specs.Plan.{count}
+use Rattle.plan_verifier.specs.Accepted.{AcceptedPlan}
+use Rattle.report_sink.specs.Sinks.{SinkState}
+
+-- a run of the core in which all lanes came to their ends; or a stop, over a gate that may give up
+abbrev pub IsRan : AcceptedPlan → Result FarmRun RunFault → Type 0
+IsRan a ran =
+    IfOk ran (λ run. (run.accepted ≡ a)
+    × IsFarmRun a run.chroots.items run.spent.items run.history.items)
+    × IfErr ran (IsFault a (Unit {0}))
+
+abbrev pub counted : AcceptedPlan → CountedPlan
+counted a = record { lanes = a.plan; count = count a.universe a.plan }
+
+-- the entries stand in their journal from line 7 on
+abbrev pub IsMisfitIn : AcceptedPlan → List (List ℕ) → ℕ → Type 0
+IsMisfitIn a lines n = followed_by FIRST_ENTRY (first_life a.universe (counted a)) lines ≡ Err n
+
+abbrev pub start_fault_of : ReplayFault → StartFault
+start_fault_of (replay.Misfit n) = Misfit n
+start_fault_of replay.Memory = Memory
+
+abbrev pub IsMisfitOf : AcceptedPlan → List ℕ → StartFault → Type 0
+IsMisfitOf a entries (Misfit n) = IsMisfitIn a (lines_of entries) n
+IsMisfitOf a entries _ = Unit {0}
+
+-- its journal does not fit, and nothing is written; or the output took nothing, or memory was refused
+abbrev pub IsNotBegun : AcceptedPlan → List ℕ → SinkState → SinkState → StartFault → Type 0
+IsNotBegun a entries old new (Misfit n) = IsMisfitIn a (lines_of entries) n × (new ≡ old)
+IsNotBegun a entries old new _ = Unit {0}

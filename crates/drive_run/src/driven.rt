@@ -1,0 +1,169 @@
+//! A run of an accepted plan that a driver carries out.
+
+ghost use Rattle.std.specs.Prelude.{◌≡◌, IfErr, IfOk};
+ghost use Rattle.drive_run.specs.Driven.{IsMisfitOf, IsNotBegun, IsRan};
+
+use crate::lent::Lent;
+use drive_input::Input;
+use drive_notes::{Notes, ReplayFault, replay};
+use drive_store::Journal;
+use farm_driver::{DriverGate, Fault, Known, lane_words};
+use farm_executor::{FarmRun, RunFault, run_farm};
+use plan_verifier::Accepted;
+use recipe_words::read_recipe_words;
+use report_sink::{Sink, WriteFailed, write_pieces};
+use run_teller::Teller;
+use std::alloc::{AllocError, Global};
+use std::io::{BufRead, Eprint};
+use std::sync::Wait;
+use std::thread::Threads;
+
+/// The line of a journal in which the first entry stands.
+const FIRST_ENTRY: u64 = 7;
+
+/// A run that begins or goes on: its name, the text of its farm, the entries of its journal, and
+/// whether the error output is told of it.
+#[derive(Clone, Copy)]
+pub struct Began<'t> {
+    pub name: &'t [u8],
+    pub farm: &'t [u8],
+    pub entries: &'t [u8],
+    pub tells: bool,
+}
+
+/// Where answers come from, and where the journal goes.
+#[derive(Drop)]
+pub struct Streams<I, J> {
+    pub input: I,
+    pub journal: J,
+}
+
+/// Why a drive does not begin. Nothing was asked for then.
+#[derive(Clone, Copy, PartialEq, Eq)]
+pub enum StartFault {
+    /// This line of the journal fits neither the plan nor the lines before it. Nothing was written.
+    Misfit(u64),
+    /// The output took nothing.
+    WriteFailed,
+    /// Memory is refused.
+    Memory,
+}
+
+/// What a drive came to: a run, or why it has no end; and what failed outside of the plan.
+#[derive(Drop)]
+pub struct Driven {
+    pub ran: Result<FarmRun, RunFault>,
+    pub fault: Option<Fault>,
+}
+
+impl From<ReplayFault> for StartFault {
+    ghost use Rattle.drive_run.specs.Driven.{start_fault_of};
+
+    ghost from_gives = { λ fault start. start ≡ start_fault_of fault };
+
+    fn from(fault: ReplayFault) -> StartFault {
+        match fault {
+            ReplayFault::Misfit(line) => StartFault::Misfit(line),
+            ReplayFault::Memory => StartFault::Memory,
+        }
+    }
+}
+
+impl From<AllocError> for StartFault {
+    ghost use Rattle.drive_run.specs.declared.driven.StartFault.TheVariants.{Memory};
+
+    ghost from_gives = { λ _ fault. fault ≡ Memory };
+
+    fn from(_error: AllocError) -> StartFault {
+        StartFault::Memory
+    }
+}
+
+impl From<WriteFailed> for StartFault {
+    ghost use Rattle.drive_run.specs.declared.driven.StartFault.TheVariants.{WriteFailed};
+
+    ghost from_gives = { λ _ fault. fault ≡ WriteFailed };
+
+    fn from(_error: WriteFailed) -> StartFault {
+        StartFault::WriteFailed
+    }
+}
+
+/// What the entries of a journal note.
+#[tactic(auto, using(crate::proofs::StartLaws::misfit_of))]
+fn notes_of(alloc: Global, accepted: &Accepted, entries: &[u8]) -> Result<Notes, StartFault>
+    ensures { IfErr result (IsMisfitOf accepted.now entries.now) }
+{
+    accepted.keeps();
+    let (universe, plan) = (accepted.universe(), accepted.plan());
+    let notes = replay(alloc, universe, plan, entries, FIRST_ENTRY)?;
+    Ok(notes)
+}
+
+/// What is known of the lanes before they start.
+fn known_of(alloc: Global, accepted: &Accepted, began: Began<'_>) -> Result<Known, StartFault>
+    ensures { IfErr result (IsMisfitOf accepted.now began.entry.entries.now) }
+{
+    let notes = notes_of(alloc, accepted, began.entries)?;
+    let lanes = lane_words(alloc, accepted, &notes)?;
+    let recipes = read_recipe_words(alloc, began.farm)?;
+    Ok(Known {
+        lanes,
+        recipes,
+        notes,
+    })
+}
+
+/// Runs the lanes over a gate, and tells what failed outside.
+fn run_gate<
+    R: Threads + Wait + Eprint + Sync,
+    I: BufRead + Drop + Send,
+    S: Sink + Drop + Send,
+    J: Journal + Drop + Send,
+>(
+    rt: &R,
+    alloc: Global,
+    accepted: Accepted,
+    gate: &Teller<'_, R, DriverGate<'_, R, I, S, J>>,
+) -> Driven
+    ensures { IsRan accepted result.ran }
+{
+    let ran = run_farm(rt, alloc, accepted, gate);
+    let fault = gate.gate().fault();
+    Driven { ran, fault }
+}
+
+/// Runs the lanes of an accepted plan, each in a thread of its own, by what a driver answers. Of an
+/// earlier run the entries of its journal are followed first.
+///
+/// # Errors
+///
+/// [`StartFault::Misfit`] of the first line of the journal that does not fit: nothing is written
+/// then. [`StartFault::WriteFailed`] where the first line could not be written, and
+/// [`StartFault::Memory`] where memory is refused: no more than that line is out then.
+#[tactic(auto, using(crate::proofs::StartLaws::not_begun))]
+pub fn drive<
+    R: Threads + Wait + Eprint + Sync,
+    I: BufRead + Drop + Send,
+    S: Sink + Send,
+    J: Journal + Drop + Send,
+>(
+    rt: &R,
+    alloc: Global,
+    accepted: Accepted,
+    began: Began<'_>,
+    streams: Streams<I, J>,
+    out: &mut S,
+) -> Result<Driven, StartFault>
+    ensures ran { IfOk result (λ driven. IsRan accepted driven.ran) }
+    ensures fault { IfErr result (IsNotBegun accepted began.entry.entries.now (S.state out.old)
+        (S.state out.new)) }
+{
+    let known = known_of(alloc, &accepted, began)?;
+    write_pieces(out, &[b"drive 1 ", began.name, b"\n"])?;
+    let Streams { input, journal } = streams;
+    let input = Input::new(alloc, input);
+    let gate = DriverGate::new(rt, alloc, known, input, Lent { sink: out }, journal)?;
+    let gate = Teller::new(rt, alloc, accepted.plan(), gate, began.tells)?;
+    Ok(run_gate(rt, alloc, accepted, &gate))
+}
