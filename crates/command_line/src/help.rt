@@ -235,6 +235,44 @@ Example:
 
 Status: 0 drafted, 1 refused, 2 wrong words, 3 nothing could be answered";
 
+/// What `import` does, in a line.
+pub const IMPORT: &str = "\
+Makes the texts of a farm of whole indexes, by a wish";
+
+/// What the help of `import` says behind that line.
+pub const IMPORT_MORE: &str = "\
+The texts are the files `packages`, `sources` and `farm` of the folder: what the
+recipes of the wish need, closed over what that needs. A wish is a farm text
+that leaves out what the indexes say. The answer is a line for each count, with
+its limit, and notes, as on a need that nothing meets. Or it is a refusal, as
+`refused 702 wish line 5` for a source that no index has; then nothing is
+written. A file that import has not made is replaced with `--force` alone. `-`
+in place of the name of one file is standard input.
+
+Example:
+  xzcat Packages.xz | portfarm import --packages - --sources Sources wish farm
+
+Status: 0 made, 1 refused, 2 wrong words, 3 a file cannot be read or written, or
+is none that import has made";
+
+/// What the indexes of the archive are, in a line.
+pub const ARCHIVE: &str = "Packages index of what is there at the beginning";
+
+/// What the Packages indexes are, in a line.
+pub const INDEXES: &str = "Packages index of what builds give";
+
+/// What the Sources indexes are, in a line.
+pub const SOURCE_INDEXES: &str = "Sources index";
+
+/// What `--force` does, in a line.
+pub const FORCE: &str = "Replace files that import has not made";
+
+/// What the wish is, in a line.
+pub const WISH: &str = "The wish: architecture, recipes, chroots";
+
+/// What the folder is, in a line.
+pub const FOLDER: &str = "The folder of the texts that are made";
+
 /// What the Packages index is, in a line.
 pub const PACKAGES: &str = "Packages index: versions, sizes and relations";
 

@@ -9,9 +9,11 @@
 mod among;
 mod command;
 mod help;
+mod import;
 mod request;
 mod schedule;
 
 pub use command::INPUT;
+pub use import::ImportWords;
 pub use request::{Asked, FarmPaths, Paths, Request, TimelineForm, WordsFault, read_words};
 pub use schedule::{ScheduleFault, read_lane, read_schedule, space_lanes};

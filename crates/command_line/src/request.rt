@@ -5,10 +5,11 @@ ghost use Rattle.command_line.specs.Words.{AreFarmWords, ArePathWords, IsAskedBy
 
 use crate::among::{are_farm_words, are_words, ends_word, is_word};
 use crate::command::{
-    BARS, CERT, CERTIFICATE, CHECK, DRAFT, EXPLAIN, FARM, FULL, GRAPH, INPUT, JSON, LANES, LIST,
-    NUMBER, PACKAGES, PARTIAL, PLAN, PROGRESS, REST, RUN, SCHEDULE, SKETCH, SOURCES, STEP, SVG,
-    TIMELINE, VERIFY_CERT, portfarm,
+    BARS, CERT, CERTIFICATE, CHECK, DRAFT, EXPLAIN, FARM, FULL, GRAPH, IMPORT, INPUT, JSON,
+    LANES, LIST, NUMBER, PACKAGES, PARTIAL, PLAN, PROGRESS, REST, RUN, SCHEDULE, SKETCH, SOURCES,
+    STEP, SVG, TIMELINE, VERIFY_CERT, portfarm,
 };
+use crate::import::{ImportWords, import_of};
 use crate::schedule::{ScheduleFault, read_lane, read_schedule};
 use clap::error::ErrorKind;
 use clap::{ArgMatches, Error};
@@ -117,7 +118,12 @@ pub enum Asked<'a> {
     /// An answer to texts.
     Answer(Request<'a>),
     /// A run of the farm of four texts; and whether to tell of it while it goes on.
-    Run { paths: Paths<'a>, progress: bool },
+    Run {
+        paths: Paths<'a>,
+        progress: bool,
+    },
+    /// The texts of a farm, made of indexes.
+    Import(ImportWords<'a>),
 }
 
 /// Why words ask for nothing that is answered.
@@ -158,7 +164,7 @@ fn fault_of(alloc: Global, error: Error) -> WordsFault
 }
 
 /// The word for something that the command requires.
-fn word_of<'a>(matches: &ArgMatches<'a>, id: &str) -> &'a str {
+pub fn word_of<'a>(matches: &ArgMatches<'a>, id: &str) -> &'a str {
     matches.get_str(id).unwrap_or("")
 }
 
@@ -435,6 +441,7 @@ pub fn read_words<'a, S: AsStr>(alloc: Global, words: &'a [S]) -> Result<Asked<'
     };
     match matches.subcommand() {
         Some((DRAFT, matches)) => draft_of(alloc, words, matches),
+        Some((IMPORT, matches)) => import_of(alloc, words, matches),
         Some((command, matches)) => asked_of(alloc, words, command, matches),
         None => Err(no_command(alloc)),
     }

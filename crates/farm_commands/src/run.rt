@@ -3,9 +3,11 @@
 ghost use Rattle.std.specs.Prelude.{◌≡◌, ℕ, IfOk, Result, OnErr, map};
 ghost use Rattle.farm_commands.specs.Runs.{ComesTo, MayComeTo, TellsFault, TellsWords, status_told};
 
+use crate::imports::import_asked;
 use crate::request::answer_request;
 use command_line::{Asked, WordsFault, read_words};
 use farm_answers::{FINE, OutsideFault, RunFiles, Source, WRONG_WORDS, run_files, say, tell};
+use import_files::Folder;
 use report_sink::{Sink, write_text};
 use std::alloc::Global;
 use std::convert::AsStr;
@@ -53,6 +55,11 @@ fn answer_words<'a, W: AsStr, F: Source, S: Sink, E: Sink>(
     match read_words(alloc, words) {
         Ok(Asked::Answer(request)) => answer_request(rt, alloc, request, source, out, errors),
         Ok(Asked::Run { .. }) => Ok(say(errors, b"portfarm: no lanes are run here\n", WRONG_WORDS)),
+        Ok(Asked::Import(_)) => Ok(say(
+            errors,
+            b"portfarm: no files are written here\n",
+            WRONG_WORDS,
+        )),
         Err(fault) => tell_words(fault, out, errors),
     }
 }
@@ -62,7 +69,7 @@ fn answer_words<'a, W: AsStr, F: Source, S: Sink, E: Sink>(
 /// # Errors
 ///
 /// The fault outside of the texts that ended it.
-fn do_words<'a, R: Threads + Wait + Eprint + Sync, W: AsStr, F: Source, S: Sink, E: Sink>(
+fn do_words<'a, R: Threads + Wait + Eprint + Sync, W: AsStr, F: Source + Folder, S: Sink, E: Sink>(
     rt: &R,
     alloc: Global,
     words: &'a [W],
@@ -80,6 +87,7 @@ fn do_words<'a, R: Threads + Wait + Eprint + Sync, W: AsStr, F: Source, S: Sink,
             let of = RunFiles { paths, progress };
             run_files(rt, alloc, source, of, out, errors)
         }
+        Ok(Asked::Import(asked)) => Ok(import_asked(alloc, source, &asked, out, errors)),
         Err(fault) => tell_words(fault, out, errors),
     }
 }
@@ -126,14 +134,14 @@ pub fn quiet_words<'a, W: AsStr, F: Source, S: Sink, E: Sink>(
 /// refusal or a trap; 2 for wrong words or a schedule that is none; and 3 where a file cannot be
 /// read, memory is refused, a lane cannot be started, or the output fails. What is said of wrong
 /// words and schedules, and of the last four, stands on the error output.
-pub fn run_words<'a, R: Threads + Wait + Eprint + Sync, W: AsStr, F: Source, S: Sink, E: Sink>(
-    rt: &R,
-    alloc: Global,
-    words: &'a [W],
-    source: &F,
-    out: &mut S,
-    errors: &mut E,
-) -> u8
+pub fn run_words<
+    'a,
+    R: Threads + Wait + Eprint + Sync,
+    W: AsStr,
+    F: Source + Folder,
+    S: Sink,
+    E: Sink,
+>(rt: &R, alloc: Global, words: &'a [W], source: &F, out: &mut S, errors: &mut E) -> u8
     ensures { (told : Result ℕ OutsideFault) × (result ≡ status_told told)
         × MayComeTo (map W.text words.entry.now) (F.held source.now) (F.given source.now)
         (S.state out.old) (S.state out.new) (E.state errors.old) (E.state errors.new) told

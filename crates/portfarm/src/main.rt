@@ -6,10 +6,12 @@
 //! words is only tested.
 #![tactic(auto)]
 
-use farm_commands::{OUTSIDE, Source, WRONG_WORDS, run_words};
+use bounded_read::read_up_to;
+use farm_commands::{Folder, OUTSIDE, Source, WRONG_WORDS, run_words};
 use report_sink::{Sink, WriteSink, write_text};
+use std::alloc::Global;
 use std::env::{self, Env};
-use std::fs::File;
+use std::fs::{self, File};
 use std::io::{self, ErrorKind, IsTerminal};
 use std::process::ExitCode;
 use std::rt::Files;
@@ -46,6 +48,28 @@ impl<R: Files + Input> Source for Machine<'_, R> {
 
     fn input(&self) -> R::Reader {
         self.rt.reader()
+    }
+}
+
+impl<R: Files + Input> Folder for Machine<'_, R> {
+    fn read_part(&self, alloc: Global, path: &str, most: u32) -> io::Result<Vec<u8>> {
+        read_up_to(alloc, File::open(self.rt, path)?, most)
+    }
+
+    fn read_input(&self, alloc: Global, most: u32) -> io::Result<Vec<u8>> {
+        read_up_to(alloc, self.rt.reader(), most)
+    }
+
+    fn make_folder(&self, path: &str) -> io::Result<()> {
+        fs::create_dir_all(self.rt, path)
+    }
+
+    fn write_file(&self, path: &str, bytes: &[u8]) -> io::Result<()> {
+        fs::write(self.rt, path, bytes)
+    }
+
+    fn rename_file(&self, from: &str, to: &str) -> io::Result<()> {
+        fs::rename(self.rt, from, to)
     }
 }
 
