@@ -396,7 +396,7 @@ fn asked_of<'a, S: AsStr>(
 }
 
 /// That words are wrong, as this text says.
-fn wrong(alloc: Global, text: &str) -> WordsFault
+pub fn wrong(alloc: Global, text: &str) -> WordsFault
     ensures { (words : List (List ℕ)) → IsRefusedFor words result }
 {
     match String::from_str(alloc, text) {
@@ -412,7 +412,7 @@ fn no_command(alloc: Global) -> WordsFault
 }
 
 /// What the parser gives is looked up among the words, so that it need not be trusted.
-fn not_there(alloc: Global) -> WordsFault
+pub fn not_there(alloc: Global) -> WordsFault
     ensures { (words : List (List ℕ)) → IsRefusedFor words result }
 {
     wrong(alloc, "error: a name is none of the words\n")

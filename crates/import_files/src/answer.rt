@@ -67,6 +67,7 @@ fn answer<F: Folder, S: Sink>(
             write_text(out, &lines)?;
             Ok(REFUSED)
         }
+        Imported::Wrong => Err(ImportFault::Wrong),
     }
 }
 

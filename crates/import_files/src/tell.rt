@@ -17,12 +17,14 @@ pub const REFUSED: u8 = 1;
 pub const OUTSIDE: u8 = 3;
 
 /// What ends an import outside of its texts: a file that cannot be read, one that import has not
-/// made, one that cannot be written, want of memory, or an answer that cannot be written.
+/// made, one that cannot be written, texts that are not those of the wish, want of memory, or an
+/// answer that cannot be written.
 #[derive(Debug, Drop)]
 pub enum ImportFault {
     CannotRead(Vec<u8>),
     NotMade(Vec<u8>),
     CannotWrite(Vec<u8>),
+    Wrong,
     OutOfMemory,
     WriteFailed,
 }
@@ -81,6 +83,10 @@ fn write_fault<E: Sink>(errors: &mut E, fault: &ImportFault) -> Result<(), Write
         ImportFault::CannotWrite(name) => {
             write_line(errors, b"portfarm: cannot write ", name, b"\n")
         }
+        ImportFault::Wrong => write_text(
+            errors,
+            b"portfarm: the texts that were made are not those of the wish\n",
+        ),
         ImportFault::OutOfMemory => write_text(errors, b"portfarm: out of memory\n"),
         ImportFault::WriteFailed => write_text(errors, b"portfarm: write failed\n"),
     }

@@ -1,11 +1,16 @@
 //! The texts of a farm, made of a wish and of whole indexes.
 
-ghost use Rattle.std.specs.Prelude.{IfOk, OnOk};
-ghost use Rattle.imported_farm.specs.Imported.{AreImported, AreRead};
+ghost use Rattle.std.specs.Prelude.{◌≡◌, ◌++◌, IfOk, OnOk, Ok};
+ghost use Rattle.deb_stanza.specs.Stanza.{paragraphs_at};
+ghost use Rattle.import_wish.specs.Wish.{wish_at, wish_view};
+ghost use Rattle.imported_farm.specs.Imported.{AreImported, AreTextsOf, IsFarmOf};
+ghost use Rattle.imported_farm.specs.Drawn.{OnTexts};
+ghost use Rattle.imported_farm.specs.Made.{IsBlockIn, IsMadeOf, IsOneOf, IsWhole, IsWholeOrAnew};
 
 use crate::architectures::all_names;
 use crate::counts::{Count, are_over, counts, over_lines, push_counts};
 use crate::farm_text::push_farm;
+use crate::farm_names::has_names;
 use crate::indexes::{Packages, Sources, read_packages, read_sources};
 use crate::notes::{Told, push_notes};
 use crate::packages_text::{chosen_sources, push_packages, push_sources};
@@ -18,7 +23,7 @@ use deb_stanza::Paragraphs;
 use deb_text::files::{FARM, PACKAGES};
 use farm_universe::Universe;
 use import_builds::SourceShelf;
-use import_closure::Shelf;
+use import_closure::{Shelf, Variants};
 use import_wish::{Wish, read_wish};
 use std::alloc::{AllocError, Global};
 
@@ -50,22 +55,28 @@ pub struct ImportedTexts {
     pub farm: Vec<u8>,
 }
 
-/// What an import comes to: texts, and lines that tell of them; or the lines of a refusal.
+/// What an import comes to: texts, and lines that tell of them; the lines of a refusal; or that the
+/// texts that were made are not those of the wish, which is a fault of this program.
 #[derive(Drop)]
 pub enum Imported {
     Texts(ImportedTexts, Vec<u8>),
     Refused(Vec<u8>),
+    Wrong,
 }
 
 /// Reads the paragraphs of a wish.
-fn wish_paragraphs(alloc: Global, text: &[u8]) -> Result<Paragraphs, Stop> {
+fn wish_paragraphs(alloc: Global, text: &[u8]) -> Result<Paragraphs, Stop>
+    ensures { IfOk result (λ paragraphs. paragraphs_at text.now ≡ Ok paragraphs) }
+{
     match Paragraphs::read(alloc, text) {
         Ok(paragraphs) => Ok(paragraphs),
         Err(fault) => Err(fault_in(alloc, b"wish", fault)),
     }
 }
 
-fn wish_of(alloc: Global, paragraphs: &Paragraphs) -> Result<Wish<'_>, Stop> {
+fn wish_of(alloc: Global, paragraphs: &Paragraphs) -> Result<Wish<'_>, Stop>
+    ensures { IfOk result (λ wish. wish_at paragraphs.now ≡ Ok (wish_view wish)) }
+{
     match read_wish(alloc, paragraphs) {
         Ok(wish) => Ok(wish),
         Err(fault) => Err(fault_in(alloc, b"wish", fault)),
@@ -80,7 +91,9 @@ fn architectures_of(alloc: Global, text: &[u8]) -> Result<ArchNames, Stop> {
 }
 
 /// A text that begins as each does.
-fn begun(alloc: Global) -> Result<Vec<u8>, AllocError> {
+fn begun(alloc: Global) -> Result<Vec<u8>, AllocError>
+    ensures { IfOk result (λ text. text.items ≡ HEAD.now) }
+{
     Vec::from_slice(alloc, HEAD)
 }
 
@@ -88,7 +101,8 @@ fn begun(alloc: Global) -> Result<Vec<u8>, AllocError> {
 #[derive(Clone, Copy)]
 struct Seen<'a> {
     shelf: &'a Shelf<'a>,
-    sources: &'a SourceShelf<'a>,
+    packages: &'a [&'a [u8]],
+    sources: &'a [&'a [u8]],
     architectures: &'a [u8],
     told: Told<'a>,
 }
@@ -100,25 +114,47 @@ struct Written {
     lines: Vec<u8>,
 }
 
-/// The texts of packages and of sources, and how many sources there are.
+/// The three texts and the counts on them, or the counts where one is over its limit.
+#[derive(Drop)]
+enum Drawn {
+    Texts(Written),
+    Over([Count; 7]),
+}
+
+/// The texts of packages and of sources.
 #[derive(Drop)]
 struct Indexes {
     packages: Vec<u8>,
     sources: Vec<u8>,
-    chosen: usize,
 }
 
-fn write_indexes(alloc: Global, seen: Seen) -> Result<Indexes, AllocError> {
-    let mut packages = begun(alloc)?;
-    push_packages(alloc, &mut packages, seen.shelf, seen.told.taken)?;
-    let chosen = chosen_sources(alloc, seen.told.recipes, &seen.told.taken.builds)?;
-    let mut sources = begun(alloc)?;
-    push_sources(&mut sources, seen.sources, &chosen)?;
-    Ok(Indexes {
-        packages,
-        sources,
-        chosen: chosen.count(),
-    })
+fn write_packages(alloc: Global, seen: Seen) -> Result<Vec<u8>, AllocError>
+    ensures { IfOk result (λ text.
+        IsMadeOf (IsWholeOrAnew (IsOneOf seen.entry.packages.now)) HEAD.now text.items) }
+{
+    let mut text = begun(alloc)?;
+    push_packages(alloc, &mut text, seen.shelf, seen.packages, seen.told.taken)?;
+    Ok(text)
+}
+
+fn write_sources(alloc: Global, seen: Seen, chosen: &Variants) -> Result<Vec<u8>, AllocError>
+    ensures { IfOk result (λ text.
+        IsMadeOf (IsWhole (IsOneOf seen.entry.sources.now)) HEAD.now text.items) }
+{
+    let mut text = begun(alloc)?;
+    push_sources(&mut text, seen.sources, chosen)?;
+    Ok(text)
+}
+
+fn write_indexes(alloc: Global, seen: Seen, chosen: &Variants) -> Result<Indexes, AllocError>
+    ensures packages { IfOk result (λ indexes.
+        IsMadeOf (IsWholeOrAnew (IsOneOf seen.entry.packages.now)) HEAD.now indexes.packages.items) }
+    ensures sources { IfOk result (λ indexes.
+        IsMadeOf (IsWhole (IsOneOf seen.entry.sources.now)) HEAD.now indexes.sources.items) }
+{
+    let packages = write_packages(alloc, seen)?;
+    let sources = write_sources(alloc, seen, chosen)?;
+    Ok(Indexes { packages, sources })
 }
 
 fn write_farm(alloc: Global, seen: Seen) -> Result<Vec<u8>, AllocError> {
@@ -134,11 +170,10 @@ fn write_farm(alloc: Global, seen: Seen) -> Result<Vec<u8>, AllocError> {
     Ok(farm)
 }
 
-/// The counts on what was taken.
-fn counts_of(seen: Seen, indexes: &Indexes) -> [Count; 7] {
+/// How many bytes the longer one of the texts of packages and of sources has behind its head.
+fn longer(indexes: &Indexes) -> usize {
     let bytes = indexes.packages.len().max(indexes.sources.len());
-    let bytes = bytes.saturating_sub(HEAD.len());
-    counts(seen.shelf, seen.told.taken, indexes.chosen, bytes)
+    bytes.saturating_sub(HEAD.len())
 }
 
 fn write_texts(
@@ -146,7 +181,10 @@ fn write_texts(
     seen: Seen,
     indexes: Indexes,
     counts: &[Count],
-) -> Result<Written, AllocError> {
+) -> Result<Written, AllocError>
+    ensures packages { IfOk result (λ written. written.texts.packages ≡ indexes.packages) }
+    ensures sources { IfOk result (λ written. written.texts.sources ≡ indexes.sources) }
+{
     let mut lines = Vec::new(alloc);
     push_counts(&mut lines, counts)?;
     Ok(Written {
@@ -181,12 +219,19 @@ fn file_name(file: u8) -> &'static [u8] {
     }
 }
 
-/// Reads the texts that were made, as every command reads them.
-fn judge(alloc: Global, texts: &ImportedTexts) -> Result<(), Stop>
-    ensures { OnOk result (AreRead texts.now) }
+/// Reads the texts that were made, as every command reads them, and looks whether they have what the
+/// wish names.
+fn judge(alloc: Global, texts: &ImportedTexts, wish: &Wish) -> Result<(), Stop>
+    ensures { OnOk result (IsFarmOf (wish_view wish.now) texts.now) }
 {
     match Universe::read(alloc, &texts.packages, &texts.sources, &texts.farm) {
-        Ok(_) => Ok(()),
+        Ok(universe) => {
+            if has_names(&universe, &wish.items) {
+                Ok(())
+            } else {
+                Err(Stop::Wrong)
+            }
+        }
         Err(fault) => Err(fault_in(alloc, file_name(fault.file), fault)),
     }
 }
@@ -213,6 +258,54 @@ fn push_all_notes(
     push_notes(alloc, lines, shelf, sources, read.of.packages, told)
 }
 
+/// Writes the texts of what was seen, if no limit is passed; else the counts come back.
+fn write_seen(alloc: Global, seen: Seen, chosen: &Variants) -> Result<Drawn, AllocError>
+    ensures packages { IfOk result (OnTexts (λ texts.
+        IsMadeOf (IsWholeOrAnew (IsOneOf seen.entry.packages.now)) HEAD.now texts.packages.items)) }
+    ensures sources { IfOk result (OnTexts (λ texts.
+        IsMadeOf (IsWhole (IsOneOf seen.entry.sources.now)) HEAD.now texts.sources.items)) }
+{
+    let few = counts(seen.shelf, seen.told.taken, chosen.count(), 0);
+    if are_over(&few) {
+        return Ok(Drawn::Over(few));
+    }
+    let indexes = write_indexes(alloc, seen, chosen)?;
+    let all = counts(seen.shelf, seen.told.taken, chosen.count(), longer(&indexes));
+    if are_over(&all) {
+        return Ok(Drawn::Over(all));
+    }
+    Ok(Drawn::Texts(write_texts(alloc, seen, indexes, &all)?))
+}
+
+/// The texts of what was taken, or the lines of the refusal where a limit is passed.
+fn draw(
+    alloc: Global,
+    read: Read,
+    shelf: &mut Shelf,
+    sources: &SourceShelf,
+    taken: &Taken,
+) -> Result<Written, Stop>
+    ensures packages { IfOk result (λ written. IsMadeOf
+        (IsWholeOrAnew (IsOneOf read.entry.of.packages.now.blocks.items)) HEAD.now
+        written.texts.packages.items) }
+    ensures sources { IfOk result (λ written. IsMadeOf
+        (IsWhole (IsOneOf sources.now.blocks.now)) HEAD.now written.texts.sources.items) }
+{
+    let recipes = &read.of.wish.items.recipes;
+    let chosen = chosen_sources(alloc, recipes, &taken.builds)?;
+    let seen = Seen {
+        shelf,
+        packages: &read.of.packages.blocks,
+        sources: sources.blocks,
+        architectures: read.names,
+        told: Told { recipes, taken },
+    };
+    match write_seen(alloc, seen, &chosen)? {
+        Drawn::Texts(written) => Ok(written),
+        Drawn::Over(counts) => Err(Stop::from(over_limit(alloc, shelf, read.of, taken, &counts))),
+    }
+}
+
 /// Writes the texts of what was taken, reads them again, and puts the notes behind the counts.
 fn write_taken(
     alloc: Global,
@@ -221,34 +314,27 @@ fn write_taken(
     sources: &SourceShelf,
     taken: &Taken,
 ) -> Result<Written, Stop>
-    ensures { IfOk result (λ written. AreRead written.texts) }
+    ensures { IfOk result (λ written. AreTextsOf
+        (IsOneOf read.entry.of.packages.now.blocks.items) (IsOneOf sources.now.blocks.now)
+        (wish_view read.entry.of.wish.now) written.texts) }
 {
+    let written = draw(alloc, read, shelf, sources, taken)?;
+    let mut lines = written.lines;
+    let texts = written.texts;
+    judge(alloc, &texts, read.of.wish)?;
     let told = Told {
         recipes: &read.of.wish.items.recipes,
         taken,
     };
-    let seen = Seen {
-        shelf,
-        sources,
-        architectures: read.names,
-        told,
-    };
-    let indexes = write_indexes(alloc, seen)?;
-    let counts = counts_of(seen, &indexes);
-    if are_over(&counts) {
-        return Err(Stop::from(over_limit(alloc, shelf, read.of, taken, &counts)));
-    }
-    let written = write_texts(alloc, seen, indexes, &counts)?;
-    let mut lines = written.lines;
-    let texts = written.texts;
-    judge(alloc, &texts)?;
     push_all_notes(alloc, read, shelf, sources, told, &mut lines)?;
     Ok(Written { texts, lines })
 }
 
 /// Takes what a wish wants, and writes the texts and the notes.
 fn import_read(alloc: Global, read: Read, sources: Sources) -> Result<Written, Stop>
-    ensures { IfOk result (λ written. AreRead written.texts) }
+    ensures { IfOk result (λ written. AreTextsOf
+        (IsOneOf read.entry.of.packages.now.blocks.items) (IsOneOf sources.entry.blocks.items)
+        (wish_view read.entry.of.wish.now) written.texts) }
 {
     let mut shelf = Shelf::new(alloc, &read.of.packages.blocks, read.of.architectures)?;
     let mut source_shelf = SourceShelf {
@@ -260,21 +346,23 @@ fn import_read(alloc: Global, read: Read, sources: Sources) -> Result<Written, S
     write_taken(alloc, read, &mut shelf, &source_shelf, &taken)
 }
 
-/// Reads a wish and the indexes, and takes what it wants of them.
-fn import_paragraphs(
+/// Reads the indexes, and takes what a wish wants of them.
+fn import_wish(
     alloc: Global,
     inputs: Inputs,
     paragraphs: &Paragraphs,
+    wish: &Wish,
 ) -> Result<Written, Stop>
-    ensures { IfOk result (λ written. AreRead written.texts) }
+    ensures { IfOk result (λ written. AreTextsOf
+        (IsBlockIn (inputs.entry.packages.now ++ inputs.entry.archive.now))
+        (IsBlockIn inputs.entry.sources.now) (wish_view wish.now) written.texts) }
 {
-    let wish = wish_of(alloc, paragraphs)?;
     let names = all_names(alloc, &wish.head.architectures)?;
     let architectures = architectures_of(alloc, &names)?;
     let packages = read_packages(alloc, &architectures, inputs.packages, inputs.archive)?;
     let sources = read_sources(alloc, inputs.sources)?;
     let of = Given {
-        wish: &wish,
+        wish,
         packages: &packages,
         architectures: &architectures,
     };
@@ -287,11 +375,13 @@ fn import_paragraphs(
     import_read(alloc, read, sources)
 }
 
+/// Reads a wish, and makes the texts of it.
 fn import_text(alloc: Global, inputs: Inputs) -> Result<Written, Stop>
-    ensures { IfOk result (λ written. AreRead written.texts) }
+    ensures { IfOk result (λ written. AreImported inputs.entry (Imported.Texts written.texts written.lines)) }
 {
     let paragraphs = wish_paragraphs(alloc, inputs.wish)?;
-    import_paragraphs(alloc, inputs, &paragraphs)
+    let wish = wish_of(alloc, &paragraphs)?;
+    import_wish(alloc, inputs, &paragraphs, &wish)
 }
 
 /// Makes the texts of a farm of a wish and of indexes, and tells of them.
@@ -300,11 +390,12 @@ fn import_text(alloc: Global, inputs: Inputs) -> Result<Written, Stop>
 ///
 /// [`AllocError`] where memory is refused.
 pub fn import(alloc: Global, inputs: Inputs) -> Result<Imported, AllocError>
-    ensures read { IfOk result AreImported }
+    ensures { IfOk result (AreImported inputs.entry) }
 {
     match import_text(alloc, inputs) {
         Ok(written) => Ok(Imported::Texts(written.texts, written.lines)),
         Err(Stop::Refused(lines)) => Ok(Imported::Refused(lines)),
+        Err(Stop::Wrong) => Ok(Imported::Wrong),
         Err(Stop::OutOfMemory) => Err(AllocError),
     }
 }

@@ -1,5 +1,8 @@
 //! The indexes of an import, cut and listed by names.
 
+ghost use Rattle.std.specs.Prelude.{◌++◌, All, IfOk, OnOk};
+ghost use Rattle.imported_farm.specs.Made.{GetsBlocks, IsBlockIn, IsBlockOf};
+
 use crate::import::NamedText;
 use crate::refusals::{Stop, fault_in};
 use deb_profile::ArchNames;
@@ -28,8 +31,11 @@ impl Packages<'_> {
 }
 
 /// Puts the blocks of an index behind others, each as it stands in its text.
-fn push_blocks<'a>(alloc: Global, blocks: &mut Vec<&'a [u8]>, text: &'a [u8]) -> Result<(), Fault> {
-    for block in &cut_index(alloc, text)? {
+fn push_blocks<'a>(alloc: Global, blocks: &mut Vec<&'a [u8]>, text: &'a [u8]) -> Result<(), Fault>
+    ensures { OnOk result (GetsBlocks (IsBlockOf text.now) blocks.old.items blocks.new.items) }
+{
+    let cut = cut_index(alloc, text)?;
+    for block in &cut {
         blocks.push(block.bytes(text))?;
     }
     Ok(())
@@ -40,7 +46,9 @@ fn push_all<'a>(
     alloc: Global,
     blocks: &mut Vec<&'a [u8]>,
     texts: &[NamedText<'a>],
-) -> Result<(), Stop> {
+) -> Result<(), Stop>
+    ensures { OnOk result (GetsBlocks (IsBlockIn texts.now) blocks.old.items blocks.new.items) }
+{
     for text in texts {
         if let Err(fault) = push_blocks(alloc, blocks, text.bytes) {
             return Err(fault_in(alloc, text.name.as_bytes(), fault));
@@ -77,10 +85,13 @@ pub fn read_packages<'a>(
     architectures: &ArchNames,
     target: &[NamedText<'a>],
     archive: &[NamedText<'a>],
-) -> Result<Packages<'a>, Stop> {
+) -> Result<Packages<'a>, Stop>
+    ensures { IfOk result (λ packages.
+        All (λ block. IsBlockIn (target.now ++ archive.now) block.now) packages.blocks.items) }
+{
     let mut blocks = Vec::new(alloc);
     push_all(alloc, &mut blocks, target)?;
-    let target = names_from(alloc, architectures, &blocks, 0)?;
+    let names = names_from(alloc, architectures, &blocks, 0)?;
     let first = blocks.len();
     push_all(alloc, &mut blocks, archive)?;
     let own = if archive.is_empty() {
@@ -90,7 +101,7 @@ pub fn read_packages<'a>(
     };
     Ok(Packages {
         blocks,
-        target,
+        target: names,
         own,
     })
 }
@@ -117,7 +128,9 @@ fn source_names(alloc: Global, blocks: &[&[u8]]) -> Result<NameTable, AllocError
 /// # Errors
 ///
 /// The first fault of the form of an index.
-pub fn read_sources<'a>(alloc: Global, texts: &[NamedText<'a>]) -> Result<Sources<'a>, Stop> {
+pub fn read_sources<'a>(alloc: Global, texts: &[NamedText<'a>]) -> Result<Sources<'a>, Stop>
+    ensures { IfOk result (λ sources. All (λ block. IsBlockIn texts.now block.now) sources.blocks.items) }
+{
     let mut blocks = Vec::new(alloc);
     push_all(alloc, &mut blocks, texts)?;
     let names = source_names(alloc, &blocks)?;

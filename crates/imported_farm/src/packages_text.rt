@@ -1,8 +1,11 @@
 //! The texts of packages and of sources.
 
+ghost use Rattle.std.specs.Prelude.{OnOk};
+ghost use Rattle.imported_farm.specs.Made.{IsAnew, IsMadeOf, IsOneOf, IsWhole, IsWholeOrAnew};
+
 use crate::taken::Taken;
 use crate::versions::version_text;
-use import_builds::{Build, SourceShelf};
+use import_builds::Build;
 use import_closure::{Shelf, Variant, Variants};
 use import_wish::WishedRecipe;
 use index_packages::Given;
@@ -51,34 +54,70 @@ fn all_sisters(
     Ok(all)
 }
 
+/// The package of a name among those of a build, where it is given under another version.
+fn renamed<'a>(sisters: Sisters<'a>, name: &[u8]) -> Option<&'a Sister> {
+    sisters.all.iter().find(|sister| sister.name.as_slice() == name && sister.old != sister.new)
+}
+
+/// Puts the block of a number behind a text as it stands, with an empty line behind it.
+fn push_whole(text: &mut Vec<u8>, blocks: &[&[u8]], number: u32) -> Result<(), AllocError>
+    ensures { OnOk result (IsMadeOf (IsWhole (IsOneOf blocks.now)) text.old.items text.new.items) }
+{
+    let Some(block) = blocks.get(number as usize) else {
+        return Ok(());
+    };
+    push_block(text, block)?;
+    text.extend_from_slice(b"\n")
+}
+
+/// Puts the block of a number behind a text under the version of a build, with an empty line behind
+/// it.
+fn push_anew(
+    text: &mut Vec<u8>,
+    blocks: &[&[u8]],
+    number: u32,
+    of: &Sister,
+    sisters: Sisters,
+) -> Result<(), AllocError>
+    ensures { OnOk result (IsMadeOf (IsAnew (IsOneOf blocks.now)) text.old.items text.new.items) }
+{
+    let Some(block) = blocks.get(number as usize) else {
+        return Ok(());
+    };
+    push_rewritten(text, block, of, sisters)?;
+    text.extend_from_slice(b"\n")
+}
+
 /// Puts a package that a build gives behind a text.
 fn push_output(
     text: &mut Vec<u8>,
     shelf: &Shelf,
+    blocks: &[&[u8]],
     number: u32,
     sisters: Sisters,
-) -> Result<(), AllocError> {
-    let block = shelf.block(number);
-    let Some(given) = shelf.given(number) else {
-        return Ok(());
-    };
-    for sister in sisters.all {
-        if sister.name.as_slice() == given.name.as_slice() && sister.old != sister.new {
-            return push_rewritten(text, block, sister, sisters);
+) -> Result<(), AllocError>
+    ensures { OnOk result (IsMadeOf (IsWholeOrAnew (IsOneOf blocks.now)) text.old.items text.new.items) }
+{
+    if let Some(given) = shelf.given(number) {
+        if let Some(of) = renamed(sisters, &given.name) {
+            return push_anew(text, blocks, number, of, sisters);
         }
     }
-    push_block(text, block)
+    push_whole(text, blocks, number)
 }
 
 fn push_variant(
     text: &mut Vec<u8>,
     shelf: &Shelf,
+    blocks: &[&[u8]],
     taken: &Taken,
     all: &[Vec<Sister>],
     variant: &Variant,
-) -> Result<(), AllocError> {
+) -> Result<(), AllocError>
+    ensures { OnOk result (IsMadeOf (IsWholeOrAnew (IsOneOf blocks.now)) text.old.items text.new.items) }
+{
     let Some(recipe) = variant.recipe else {
-        return push_block(text, shelf.block(variant.number));
+        return push_whole(text, blocks, variant.number);
     };
     let Some(build) = taken.builds.get(recipe as usize) else {
         return Ok(());
@@ -90,11 +129,11 @@ fn push_variant(
         all: sisters,
         any_operator: build.stand_in.is_some(),
     };
-    push_output(text, shelf, variant.number, sisters)
+    push_output(text, shelf, blocks, variant.number, sisters)
 }
 
 /// Puts the packages behind a text, in the order of their names and versions, each with an empty
-/// line behind it.
+/// line behind it. They stand in these blocks.
 ///
 /// # Errors
 ///
@@ -103,13 +142,15 @@ pub fn push_packages(
     alloc: Global,
     text: &mut Vec<u8>,
     shelf: &Shelf,
+    blocks: &[&[u8]],
     taken: &Taken,
-) -> Result<(), AllocError> {
+) -> Result<(), AllocError>
+    ensures { OnOk result (IsMadeOf (IsWholeOrAnew (IsOneOf blocks.now)) text.old.items text.new.items) }
+{
     let all = all_sisters(alloc, shelf, taken)?;
     for variants in taken.variants.by_name.values() {
         for variant in variants {
-            push_variant(text, shelf, taken, &all, variant)?;
-            text.extend_from_slice(b"\n")?;
+            push_variant(text, shelf, blocks, taken, &all, variant)?;
         }
     }
     Ok(())
@@ -137,20 +178,21 @@ pub fn chosen_sources(
     Ok(chosen)
 }
 
-/// Puts sources behind a text, each with an empty line behind it.
+/// Puts sources behind a text, each with an empty line behind it. They stand in these blocks.
 ///
 /// # Errors
 ///
 /// [`AllocError`] where memory is refused.
 pub fn push_sources(
     text: &mut Vec<u8>,
-    sources: &SourceShelf,
+    blocks: &[&[u8]],
     chosen: &Variants,
-) -> Result<(), AllocError> {
+) -> Result<(), AllocError>
+    ensures { OnOk result (IsMadeOf (IsWhole (IsOneOf blocks.now)) text.old.items text.new.items) }
+{
     for variants in chosen.by_name.values() {
         for variant in variants {
-            push_block(text, sources.block(variant.number))?;
-            text.extend_from_slice(b"\n")?;
+            push_whole(text, blocks, variant.number)?;
         }
     }
     Ok(())

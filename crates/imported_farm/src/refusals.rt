@@ -7,10 +7,12 @@ use import_wish::WishedRecipe;
 use plan_asm::push_entry;
 use std::alloc::{AllocError, Global};
 
-/// Why there is no farm: the lines of a refusal, or want of memory.
+/// Why there is no farm: the lines of a refusal; that what was made is not the farm of the wish; or
+/// want of memory.
 #[derive(Drop)]
 pub enum Stop {
     Refused(Vec<u8>),
+    Wrong,
     OutOfMemory,
 }
 

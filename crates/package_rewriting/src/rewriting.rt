@@ -1,18 +1,22 @@
 //! The paragraph of a package under another version.
 
+ghost use Rattle.std.specs.Prelude.{◌≡◌, ◌++◌, OnOk};
+ghost use Rattle.deb_text.specs.Lines.{lines_of};
+ghost use Rattle.package_rewriting.specs.Rewriting.{AreRowsOf, GetsBehind, IsRowOf, closed, field_at, field_of};
+
 use crate::renamed::{Sister, Sisters, push_renamed, push_version};
 use deb_text::{cut_at_first, is_comment, next_line};
 use std::alloc::AllocError;
 
 /// What is done with the lines of a field.
 #[derive(Clone, Copy)]
-enum Field {
+pub enum Field {
     Kept,
     Version,
     Relations,
 }
 
-const RELATION_FIELDS: [&[u8]; 5] = [
+pub const RELATION_FIELDS: [&[u8]; 5] = [
     b"pre-depends",
     b"depends",
     b"conflicts",
@@ -21,20 +25,22 @@ const RELATION_FIELDS: [&[u8]; 5] = [
 ];
 
 /// What is done with the lines of the field of a name.
-fn field_of(name: &[u8]) -> Field {
+fn field_of(name: &[u8]) -> Field
+    ensures { result ≡ field_of name.now }
+{
     if name.eq_ignore_ascii_case(b"version") {
         return Field::Version;
     }
-    for field in RELATION_FIELDS {
-        if name.eq_ignore_ascii_case(field) {
-            return Field::Relations;
-        }
+    if RELATION_FIELDS.iter().any(|field| name.eq_ignore_ascii_case(field)) {
+        return Field::Relations;
     }
     Field::Kept
 }
 
 /// The field that a line belongs to, behind lines of a field.
-fn field_at(row: &[u8], field: Field) -> Field {
+fn field_at(row: &[u8], field: Field) -> Field
+    ensures { result ≡ field_at row.now field }
+{
     match row {
         [b' ' | b'\t' | b'#', ..] => field,
         _ => match cut_at_first(b':', row) {
@@ -50,7 +56,9 @@ fn push_row(
     field: Field,
     of: &Sister,
     sisters: Sisters,
-) -> Result<(), AllocError> {
+) -> Result<(), AllocError>
+    ensures { OnOk result (GetsBehind (IsRowOf field row.now) text.old.items text.new.items) }
+{
     if is_comment(row) {
         return text.extend_from_slice(row);
     }
@@ -72,7 +80,9 @@ pub fn push_rewritten(
     block: &[u8],
     of: &Sister,
     sisters: Sisters,
-) -> Result<(), AllocError> {
+) -> Result<(), AllocError>
+    ensures { OnOk result (GetsBehind (AreRowsOf Field.Kept (lines_of block.now)) text.old.items text.new.items) }
+{
     let mut field = Field::Kept;
     let mut rest = block;
     while let Some((row, behind)) = next_line(rest) {
@@ -89,7 +99,9 @@ pub fn push_rewritten(
 /// # Errors
 ///
 /// [`AllocError`] where memory is refused.
-pub fn push_block(text: &mut Vec<u8>, block: &[u8]) -> Result<(), AllocError> {
+pub fn push_block(text: &mut Vec<u8>, block: &[u8]) -> Result<(), AllocError>
+    ensures { OnOk result (text.new.items ≡ text.old.items ++ closed block.now) }
+{
     text.extend_from_slice(block)?;
     if !block.ends_with(b"\n") {
         text.extend_from_slice(b"\n")?;

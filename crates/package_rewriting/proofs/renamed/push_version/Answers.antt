@@ -1,0 +1,5 @@
+use Rattle.std.proofs.Common.{◌≡◌}
+use Rattle.package_rewriting.proofs.renamed.push_version.Goals as goal
+
+pub returns : goal.returns
+returns c = ?
