@@ -21,12 +21,13 @@ module _ (words : List (List ℕ)) (held : List ℕ → Option (List ℕ)) (give
       → IfOk told (λ _. later ≡ after) → MayComeTo words held given old new before after told
       → MayComeTo words held given old new before later told
   comes-before old new before after later told same (inl comes) = inl comes
-  comes-before old new before after later told same (inr (paths, are, runs)) =
-      inr (
+  comes-before old new before after later told same (inr (inl (paths, are, runs))) =
+      inr (inl (
         paths,
         are,
         runs-before (named held given) paths old new before after later told same runs,
-      )
+      ))
+  comes-before old new before after later told same (inr (inr imports)) = inr (inr imports)
 
 -- the line of a fault is told of the state ahead, which no fault changes
 pub told-of : (first before after : SinkState) (told : Result ℕ OutsideFault)

@@ -57,12 +57,12 @@ abbrev pub IsImportTold : Result ℕ OutsideFault → Type 0
 IsImportTold (Ok status) = IsImportStatus status
 IsImportTold (Err fault) = ⊥
 
--- the same, or a run of the plan of files whose names stand among the words, or an import of such; before and
--- after are the states of the error output
+-- the same, or a run of the plan of files whose names stand among the words, or an import of such;
+-- before and after are the states of the error output
 abbrev pub MayComeTo : List (List ℕ) → (List ℕ → Option (List ℕ)) → Option (List ℕ) → SinkState
     → SinkState → SinkState → SinkState → Result ℕ OutsideFault → Type 0
 MayComeTo words held given old new before after told =
     ComesTo words held given old new told
-    ⊎ ((paths : Paths) × ArePathWords words paths
+    ⊎ (((paths : Paths) × ArePathWords words paths
     × RunsTo (named held given) paths old new before after told)
-    ⊎ ((asked : ImportWords) × AreImportWords words asked × IsImportTold told)
+    ⊎ ((asked : ImportWords) × AreImportWords words asked × IsImportTold told))
