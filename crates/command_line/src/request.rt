@@ -5,9 +5,9 @@ ghost use Rattle.command_line.specs.Words.{AreFarmWords, ArePathWords, IsAskedBy
 
 use crate::among::{are_farm_words, are_words, ends_word, is_word};
 use crate::command::{
-    BARS, CERT, CERTIFICATE, CHECK, DRAFT, EXPLAIN, FARM, FULL, GRAPH, IMPORT, INPUT, JSON,
-    LANES, LIST, NUMBER, PACKAGES, PARTIAL, PLAN, PROGRESS, REST, RUN, SCHEDULE, SKETCH, SOURCES,
-    STEP, SVG, TIMELINE, VERIFY_CERT, portfarm,
+    BARS, CERT, CERTIFICATE, CHECK, DRAFT, EXPLAIN, FARM, FULL, GRAPH, IMPORT, INPUT, JSON, LANES,
+    LIST, NUMBER, PACKAGES, PARTIAL, PLAN, PROGRESS, REST, RUN, SCHEDULE, SKETCH, SOURCES, STEP,
+    SVG, TIMELINE, VERIFY_CERT, portfarm,
 };
 use crate::import::{ImportWords, import_of};
 use crate::schedule::{ScheduleFault, read_lane, read_schedule};
@@ -118,10 +118,7 @@ pub enum Asked<'a> {
     /// An answer to texts.
     Answer(Request<'a>),
     /// A run of the farm of four texts; and whether to tell of it while it goes on.
-    Run {
-        paths: Paths<'a>,
-        progress: bool,
-    },
+    Run { paths: Paths<'a>, progress: bool },
     /// The texts of a farm, made of indexes.
     Import(ImportWords<'a>),
 }

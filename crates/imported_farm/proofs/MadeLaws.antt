@@ -11,7 +11,6 @@ use Rattle.imported_farm.specs.Made.{GetsBlocks, IsAnew, IsBlockIn, IsBlockOf, I
 
 -- ---- paragraphs behind a text
 
-
 module _ (Is : List ℕ → Type 0) where
   pub made-none : (old : List ℕ) → IsMadeOf Is old old
   made-none old = ([], sym (append-nil old), All-nil Is)
@@ -19,21 +18,23 @@ module _ (Is : List ℕ → Type 0) where
   -- one, and an empty line behind it
   pub made-one : (old paragraph mid : List ℕ) → mid ≡ old ++ paragraph → Is paragraph
       → IsMadeOf Is old (mid ++ 10 ∷ [])
-  made-one old paragraph mid e is =
-      (paragraph ∷ [],
-      ap (λ t. t ++ 10 ∷ []) e ∙ append_assoc old paragraph (10 ∷ [])
-      ∙ ap (λ t. old ++ t) (sym (append-nil (paragraph ++ 10 ∷ []))),
-      All-cons Is paragraph [] is (All-nil Is))
+  made-one old paragraph mid e is = (
+    paragraph ∷ [],
+    ap (λ t. t ++ 10 ∷ []) e ∙ append_assoc old paragraph (10 ∷ [])
+        ∙ ap (λ t. old ++ t) (sym (append-nil (paragraph ++ 10 ∷ []))),
+    All-cons Is paragraph [] is (All-nil Is),
+  )
 
   pub made-more : (old mid new : List ℕ) → IsMadeOf Is old mid → IsMadeOf Is mid new
       → IsMadeOf Is old new
-  made-more old mid new first second =
-      (first.0 ++ second.0,
-      second.1 ∙ ap (λ t. t ++ flat_map (λ p. p ++ 10 ∷ []) second.0) first.1
-      ∙ append_assoc old (flat_map (λ p. p ++ 10 ∷ []) first.0)
-      (flat_map (λ p. p ++ 10 ∷ []) second.0)
-      ∙ ap (λ t. old ++ t) (sym (flat_map-append (λ p. p ++ 10 ∷ []) first.0 second.0)),
-      All-append Is first.0 second.0 first.2 second.2)
+  made-more old mid new first second = (
+    first.0 ++ second.0,
+    second.1 ∙ ap (λ t. t ++ flat_map (λ p. p ++ 10 ∷ []) second.0) first.1
+        ∙ append_assoc old (flat_map (λ p. p ++ 10 ∷ []) first.0)
+        (flat_map (λ p. p ++ 10 ∷ []) second.0)
+        ∙ ap (λ t. old ++ t) (sym (flat_map-append (λ p. p ++ 10 ∷ []) first.0 second.0)),
+    All-append Is first.0 second.0 first.2 second.2,
+  )
 
 pub made-weaker : (P Q : List ℕ → Type 0) → ((p : List ℕ) → P p → Q p) → (old new : List ℕ)
     → IsMadeOf P old new → IsMadeOf Q old new
@@ -59,17 +60,20 @@ module _ (Is : List ℕ → Type 0) where
 
   pub gets-one : (old new : List (Bor (List ℕ))) (block : Bor (List ℕ)) → new ≡ old ++ block ∷ []
       → Is block.now → GetsBlocks Is old new
-  gets-one old new block e is =
-      (block ∷ [], e,
-      All-cons (λ (b : Bor (List ℕ)). Is b.now) block [] is
-      (All-nil (λ (b : Bor (List ℕ)). Is b.now)))
+  gets-one old new block e is = (
+    block ∷ [],
+    e,
+    All-cons (λ (b : Bor (List ℕ)). Is b.now) block [] is
+        (All-nil (λ (b : Bor (List ℕ)). Is b.now)),
+  )
 
   pub gets-more : (old mid new : List (Bor (List ℕ))) → GetsBlocks Is old mid
       → GetsBlocks Is mid new → GetsBlocks Is old new
-  gets-more old mid new first second =
-      (first.0 ++ second.0,
-      second.1 ∙ ap (λ t. t ++ second.0) first.1 ∙ append_assoc old first.0 second.0,
-      All-append (λ (b : Bor (List ℕ)). Is b.now) first.0 second.0 first.2 second.2)
+  gets-more old mid new first second = (
+    first.0 ++ second.0,
+    second.1 ∙ ap (λ t. t ++ second.0) first.1 ∙ append_assoc old first.0 second.0,
+    All-append (λ (b : Bor (List ℕ)). Is b.now) first.0 second.0 first.2 second.2,
+  )
 
   pub all-gotten : (new : List (Bor (List ℕ))) → GetsBlocks Is [] new
       → All (λ block. Is block.now) new
@@ -77,10 +81,12 @@ module _ (Is : List ℕ → Type 0) where
 
 pub gets-weaker : (P Q : List ℕ → Type 0) → ((p : List ℕ) → P p → Q p)
     → (old new : List (Bor (List ℕ))) → GetsBlocks P old new → GetsBlocks Q old new
-gets-weaker P Q weaker old new got =
-    (got.0, got.1,
-    All-weaker (λ (b : Bor (List ℕ)). P b.now) (λ (b : Bor (List ℕ)). Q b.now)
-    (λ b is. weaker b.now is) got.0 got.2)
+gets-weaker P Q weaker old new got = (
+  got.0,
+  got.1,
+  All-weaker (λ (b : Bor (List ℕ)). P b.now) (λ (b : Bor (List ℕ)). Q b.now)
+      (λ b is. weaker b.now is) got.0 got.2,
+)
 
 -- a block of one of the indexes
 pub block-in : (texts : List NamedText) (text : NamedText) → Contains texts text

@@ -10,5 +10,5 @@ pub same-names : {X : Type 0} (name : X → List ℕ) (xs : List X) (d : X) (nam
 same-names name xs d names long same =
     ext_get_or [] (map name xs) names (length-map name xs ∙ long)
     (λ k below.
-      let lt : k < length xs = omega (arith, length-map name xs) in
-      get_or-map name xs k d [] lt ∙ same k (omega arith))
+    let lt : k < length xs = omega (arith, length-map name xs) in
+    get_or-map name xs k d [] lt ∙ same k (omega arith))

@@ -37,7 +37,7 @@ pub record HasNames (items : Items) (universe : Universe) : Type 0 where
 pub record IsFarmOf (wish : Wish) (texts : ImportedTexts) : Type 0 where
   pub universe : Universe
   pub read :
-    universe_of texts.packages.items texts.sources.items texts.farm.items ≡ Ok universe
+      universe_of texts.packages.items texts.sources.items texts.farm.items ≡ Ok universe
   pub names : HasNames wish.items universe
 
 pub record AreTextsOf (IsPackage IsSource : List ℕ → Type 0) (wish : Wish)

@@ -9,8 +9,8 @@ ghost use Rattle.imported_farm.specs.Made.{IsBlockIn, IsMadeOf, IsOneOf, IsWhole
 
 use crate::architectures::all_names;
 use crate::counts::{Count, are_over, counts, over_lines, push_counts};
-use crate::farm_text::push_farm;
 use crate::farm_names::has_names;
+use crate::farm_text::push_farm;
 use crate::indexes::{Packages, Sources, read_packages, read_sources};
 use crate::notes::{Told, push_notes};
 use crate::packages_text::{chosen_sources, push_packages, push_sources};
@@ -270,7 +270,12 @@ fn write_seen(alloc: Global, seen: Seen, chosen: &Variants) -> Result<Drawn, All
         return Ok(Drawn::Over(few));
     }
     let indexes = write_indexes(alloc, seen, chosen)?;
-    let all = counts(seen.shelf, seen.told.taken, chosen.count(), longer(&indexes));
+    let all = counts(
+        seen.shelf,
+        seen.told.taken,
+        chosen.count(),
+        longer(&indexes),
+    );
     if are_over(&all) {
         return Ok(Drawn::Over(all));
     }

@@ -16,7 +16,6 @@ use Rattle.deb_text.specs.Bytes.{is_byte}
 use Rattle.deb_text.specs.Cuts.{before, first_is}
 use Rattle.package_rewriting.specs.declared.rewriting.Field.{Field}
 use Rattle.package_rewriting.specs.declared.rewriting.Field.TheVariants.{Kept, Version, Relations}
-use Rattle.package_rewriting.specs.declared.rewriting.TheConstants.{RELATION_FIELDS}
 
 abbrev pub closed : List ℕ → List ℕ
 closed block =
@@ -53,11 +52,18 @@ IsRenamed row new =
     × (row ≡ with_old brackets end) × (new ≡ with_new brackets end)
 
 -- `Version`, and the five relation fields that are rewritten, whatever the case of their letters
+abbrev pub is_relation : List ℕ → Bool
+is_relation name =
+    str_eq_ignore_ascii_case name (codes "pre-depends")
+    || str_eq_ignore_ascii_case name (codes "depends")
+    || str_eq_ignore_ascii_case name (codes "conflicts")
+    || str_eq_ignore_ascii_case name (codes "breaks")
+    || str_eq_ignore_ascii_case name (codes "provides")
+
 abbrev pub field_of : List ℕ → Field
 field_of name =
     if str_eq_ignore_ascii_case name (codes "version") then Version
-    else if list_any (λ field. str_eq_ignore_ascii_case name field.now) RELATION_FIELDS then Relations
-    else Kept
+    else if is_relation name then Relations else Kept
 
 -- a line that begins with a space, a tab or `#` belongs to the field of the lines before it
 abbrev pub goes_on : ℕ → Bool

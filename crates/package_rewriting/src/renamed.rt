@@ -99,7 +99,8 @@ pub fn push_renamed(text: &mut Vec<u8>, sisters: Sisters, row: &[u8]) -> Result<
         text.extend_from_slice(b")")?;
         rest = after;
     }
-    text.extend_from_slice(rest)
+    text.extend_from_slice(rest)?;
+    Ok(())
 }
 
 /// Puts a line `Version: OLD` behind a text, with another version.
@@ -125,5 +126,6 @@ pub fn push_version(
     text.extend_from_slice(name)?;
     text.extend_from_slice(b": ")?;
     text.extend_from_slice(new)?;
-    text.extend_from_slice(behind)
+    text.extend_from_slice(behind)?;
+    Ok(())
 }

@@ -2,7 +2,8 @@
 
 ghost use Rattle.std.specs.Prelude.{◌≡◌, ◌++◌, OnOk};
 ghost use Rattle.deb_text.specs.Lines.{lines_of};
-ghost use Rattle.package_rewriting.specs.Rewriting.{AreRowsOf, GetsBehind, IsRowOf, closed, field_at, field_of};
+ghost use Rattle.package_rewriting.specs.Rewriting.{AreRowsOf, GetsBehind, IsRowOf, closed, field_at, field_of, is_relation};
+ghost use Rattle.std.specs.Str.{str_eq_ignore_ascii_case};
 
 use crate::renamed::{Sister, Sisters, push_renamed, push_version};
 use deb_text::{cut_at_first, is_comment, next_line};
@@ -16,22 +17,32 @@ pub enum Field {
     Relations,
 }
 
-pub const RELATION_FIELDS: [&[u8]; 5] = [
-    b"pre-depends",
-    b"depends",
-    b"conflicts",
-    b"breaks",
-    b"provides",
-];
+/// Tells whether two names are the same but for the case of ASCII letters.
+fn is_same_name(a: &[u8], b: &[u8]) -> bool
+    ensures { result ≡ str_eq_ignore_ascii_case a.now b.now }
+{
+    a.eq_ignore_ascii_case(b)
+}
+
+/// Tells whether a field of this name is one of the relation fields that are rewritten.
+fn is_relation(name: &[u8]) -> bool
+    ensures { result ≡ is_relation name.now }
+{
+    is_same_name(name, b"pre-depends")
+        || is_same_name(name, b"depends")
+        || is_same_name(name, b"conflicts")
+        || is_same_name(name, b"breaks")
+        || is_same_name(name, b"provides")
+}
 
 /// What is done with the lines of the field of a name.
 fn field_of(name: &[u8]) -> Field
     ensures { result ≡ field_of name.now }
 {
-    if name.eq_ignore_ascii_case(b"version") {
+    if is_same_name(name, b"version") {
         return Field::Version;
     }
-    if RELATION_FIELDS.iter().any(|field| name.eq_ignore_ascii_case(field)) {
+    if is_relation(name) {
         return Field::Relations;
     }
     Field::Kept
