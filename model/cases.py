@@ -15,7 +15,8 @@ from core import TRAPS, Farm, step
 from drives import some_requests
 from json_answers import member_line
 from plans import read_plan
-from portfarm import FILES, answer, cut_input, drafted, read_draft_words, read_schedule
+from imports import HEAD
+from portfarm import FILES, answer, cut_input, drafted, read_draft_words, read_schedule, told_import
 from relations import NEED, read_field
 from texts import Fault
 from universe import read_universe
@@ -265,6 +266,8 @@ def on_words(machine, question):
     files, broken = files_of(machine)
     if words[:1] == ["draft"]:
         return None if word != "run" or broken else on_draft(files, words[1:])
+    if words[:1] == ["import"]:
+        return None if word != "run" or broken else on_import(files, words[1:])
     options = [it for it in words[1:] if it in ("--json", "--bars", "--full")]
     words = [it for it in words if it and it not in options]
     schedule = words.pop(2) if words[:2] == ["step", "--schedule"] and len(words) > 2 else None
@@ -298,6 +301,28 @@ def on_draft(files, words):
     texts = dict(zip(FILES, (files[name] for name in paths)))
     written, status, told = drafted(texts, lanes, flags)
     return [f"status {status}", *(f"| {line}" for line in written), *(f"! {line}" for line in told)]
+
+
+def on_import(files, words):
+    """What `import` answers to files, and what it does with them; None for words or files that the model does not judge."""
+    given, rest, words = {"--archive": [], "--packages": [], "--sources": []}, [], list(words)
+    while words:
+        word = words.pop(0)
+        (given[word].append(words.pop(0)) if word in given else rest.append(word))
+    paths = [rest[-2], *(path for found in given.values() for path in found)]
+    if paths.count("-") > 1 or not all(path in files for path in paths):
+        return None
+    archive, packages, sources = ([(path, files[path]) for path in found] for found in given.values())
+    texts, told, status = told_import(files[rest[-2]], {"--archive": archive, "--packages": packages, "--sources": sources})
+    for name in texts or ():
+        path = f"{rest[-1]}/{name}"
+        if path in files and not files[path].startswith(HEAD) and "--force" not in rest:
+            return ["status 3", f"! portfarm: {path}: not made by portfarm import; --force replaces it"]
+    done = [f"made {rest[-1]}"] if texts else []
+    for name, text in (texts or {}).items():
+        done += [f"written {rest[-1]}/{name}.new", *(f"> {line}" for line in text.split("\n")[:-1])]
+    done += [f"renamed {rest[-1]}/{name}.new to {rest[-1]}/{name}" for name in texts or ()]
+    return [f"status {status}", *(f"| {line}" for line in told), *done]
 
 
 def cut_certificate(text):

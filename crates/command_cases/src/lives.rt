@@ -103,7 +103,7 @@ fn live<'c, R: Threads + Wait + Eprint + Sync>(
         most_entries: life.most_entries,
         is_locked: life.is_locked,
     };
-    let machine = Machine { parts, driver };
+    let machine = Machine::new(alloc, parts, driver);
     let mut out = WriteSink::new(StageOutput {
         stage: &stage,
         most: life.most_lines,
@@ -111,12 +111,14 @@ fn live<'c, R: Threads + Wait + Eprint + Sync>(
     let mut told = WriteSink::new(Output::new(alloc, Manner::WHOLE));
     let status = run_words(rt, alloc, words, &machine, &mut out, &mut told);
     let errors = told.into_inner().into_taken();
+    let done = machine.into_done();
     let left = stage.end(alloc)?;
     let run = Run {
         status,
         is_cut: left.is_dead,
         output: left.written,
         errors,
+        done,
     };
     Ok(Lived {
         run,

@@ -1,11 +1,14 @@
 //! The files and the standard input of a machine in memory.
 
+use crate::runs::push_lines;
 use crate::stage::Stage;
 use crate::streams::{StageInput, StageJournal};
+use bounded_read::read_up_to;
 use deb_text::next_line;
 use drive_store::OpenFault;
-use farm_commands::{DriveSource, Source};
+use farm_commands::{DriveSource, Folder, Source};
 use std::alloc::{AllocError, Global};
+use std::cell::Cell;
 use std::io::{self, BufReader, ErrorKind, Read};
 use std::sync::Wait;
 
@@ -88,14 +91,57 @@ impl Read for TextReader<'_> {
     }
 }
 
-/// A machine that has these parts, and what a driver of it needs.
+/// A machine that has these parts and what a driver of it needs, and notes what is done with files.
 #[derive(Drop)]
 pub struct Machine<'a, D> {
-    pub parts: &'a Parts<'a>,
-    pub driver: D,
+    alloc: Global,
+    parts: &'a Parts<'a>,
+    driver: D,
+    done: Cell<Vec<u8>>,
 }
 
 impl<'a, D> Machine<'a, D> {
+    pub fn new(alloc: Global, parts: &'a Parts<'a>, driver: D) -> Machine<'a, D> {
+        Machine {
+            alloc,
+            parts,
+            driver,
+            done: Cell::new(Vec::new(alloc)),
+        }
+    }
+
+    /// What was done with files: a line for each folder that was made and each file that was
+    /// written or has got another name, and the lines of what was written, each behind a mark.
+    pub fn into_done(self) -> Vec<u8> {
+        let Machine {
+            alloc: _,
+            parts: _,
+            driver: _driver,
+            done,
+        } = self;
+        done.into_inner()
+    }
+
+    /// Notes something that was done, and the bytes of a file.
+    fn note(&self, words: &[&str], bytes: &[u8]) -> io::Result<()> {
+        let mut done = self.done.replace(Vec::new(self.alloc));
+        for word in words {
+            done.extend_from_slice(word.as_bytes())?;
+        }
+        done.extend_from_slice(b"\n")?;
+        push_lines(&mut done, b"> ", bytes)?;
+        self.done.set(done);
+        Ok(())
+    }
+
+    /// Fails where the file of this name is broken.
+    fn judge(&self, path: &str) -> io::Result<()> {
+        match self.part(path.as_bytes()) {
+            Some(file) if file.is_broken => Err(io::Error::from(ErrorKind::PermissionDenied)),
+            _ => Ok(()),
+        }
+    }
+
     fn part(&self, name: &[u8]) -> Option<TextReader<'a>> {
         for part in &self.parts.parts {
             if part.name == name {
@@ -179,5 +225,28 @@ impl<'s, 'c, R: Wait + Sync> DriveSource for Machine<'s, Driver<'s, 'c, R>> {
             most: self.driver.most_entries,
             has_failed: false,
         })
+    }
+}
+
+impl<D> Folder for Machine<'_, D> {
+    fn read_part(&self, alloc: Global, path: &str, most: u32) -> io::Result<Vec<u8>> {
+        read_up_to(alloc, self.open(path)?, most)
+    }
+
+    fn read_input(&self, alloc: Global, most: u32) -> io::Result<Vec<u8>> {
+        read_up_to(alloc, self.input(), most)
+    }
+
+    fn make_folder(&self, path: &str) -> io::Result<()> {
+        self.note(&["made ", path], b"")
+    }
+
+    fn write_file(&self, path: &str, bytes: &[u8]) -> io::Result<()> {
+        self.judge(path)?;
+        self.note(&["written ", path], bytes)
+    }
+
+    fn rename_file(&self, from: &str, to: &str) -> io::Result<()> {
+        self.note(&["renamed ", from, " to ", to], b"")
     }
 }

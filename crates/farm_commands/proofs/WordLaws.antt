@@ -40,8 +40,8 @@ module _ (words : List (List ℕ)) (held : List ℕ → Option (List ℕ)) (give
         are,
         runs-before (named held given) paths old new before after later told same runs,
       ))
-  comes-before old new before after later told same (inr (inr is)) =
-      inr (inr (
+  comes-before old new before after later told same (inr (inr (inl is))) =
+      inr (inr (inl (
         is.0,
         is.1,
         is.2,
@@ -49,7 +49,9 @@ module _ (words : List (List ℕ)) (held : List ℕ → Option (List ℕ)) (give
         is.4,
         drives_before (named held given) (kept_in kept is.3) is.1 old new before after later told
             same is.5,
-      ))
+      )))
+  comes-before old new before after later told same (inr (inr (inr imports))) =
+      inr (inr (inr imports))
 
 -- the line of a fault is told of the state ahead, which no fault changes
 pub told-of : (first before after : SinkState) (told : Result ℕ OutsideFault)

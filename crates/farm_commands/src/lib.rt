@@ -6,10 +6,12 @@
 //! command, and that `run_words` returns where it runs lanes.
 #![tactic(auto)]
 
+mod imports;
 mod request;
 mod run;
 
 pub use drive_answers::DriveSource;
 pub use farm_answers::{OUTSIDE, Source, WRONG_WORDS};
+pub use import_files::Folder;
 pub use request::answer_request;
 pub use run::{quiet_words, run_words};

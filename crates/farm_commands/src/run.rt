@@ -3,10 +3,12 @@
 ghost use Rattle.std.specs.Prelude.{◌≡◌, ℕ, IfOk, Result, OnErr, map};
 ghost use Rattle.farm_commands.specs.Runs.{ComesTo, MayComeTo, TellsFault, TellsWords, status_told};
 
+use crate::imports::import_asked;
 use crate::request::answer_request;
 use command_line::{Asked, WordsFault, read_words};
 use drive_answers::{DriveFiles, DriveSource, drive_files};
 use farm_answers::{FINE, OutsideFault, RunFiles, Source, WRONG_WORDS, run_files, say, tell};
+use import_files::Folder;
 use report_sink::{Sink, write_text};
 use std::alloc::Global;
 use std::convert::AsStr;
@@ -58,6 +60,11 @@ fn answer_words<'a, W: AsStr, F: Source, S: Sink, E: Sink>(
             b"portfarm: no lanes are run here\n",
             WRONG_WORDS,
         )),
+        Ok(Asked::Import(_)) => Ok(say(
+            errors,
+            b"portfarm: no files are written here\n",
+            WRONG_WORDS,
+        )),
         Err(fault) => tell_words(fault, out, errors),
     }
 }
@@ -71,7 +78,7 @@ fn do_words<
     'a,
     R: Threads + Wait + Eprint + Sync,
     W: AsStr,
-    F: DriveSource,
+    F: DriveSource + Folder,
     S: Sink + Send,
     E: Sink,
 >(
@@ -106,6 +113,7 @@ fn do_words<
             };
             drive_files(rt, alloc, source, of, out, errors)
         }
+        Ok(Asked::Import(asked)) => Ok(import_asked(alloc, source, &asked, out, errors)),
         Err(fault) => tell_words(fault, out, errors),
     }
 }
@@ -156,7 +164,7 @@ pub fn run_words<
     'a,
     R: Threads + Wait + Eprint + Sync,
     W: AsStr,
-    F: DriveSource,
+    F: DriveSource + Folder,
     S: Sink + Send,
     E: Sink,
 >(rt: &R, alloc: Global, words: &'a [W], source: &F, out: &mut S, errors: &mut E) -> u8

@@ -1,5 +1,8 @@
 //! Relations to packages of the same build, with the versions that the build gives.
 
+ghost use Rattle.std.specs.Prelude.{◌≡◌, ◌++◌, ℕ, List, OnOk};
+ghost use Rattle.package_rewriting.specs.Rewriting.{GetsBehind, IsRenamed, IsReversioned};
+
 use deb_text::{Class, cut_at_first, skip_front, split_front, trim};
 use std::alloc::AllocError;
 
@@ -59,7 +62,9 @@ fn push_inside(
     sisters: Sisters,
     name: &[u8],
     inside: &[u8],
-) -> Result<(), AllocError> {
+) -> Result<(), AllocError>
+    ensures { OnOk result ((piece : List ℕ) × (text.new.items ≡ text.old.items ++ piece)) }
+{
     let (front, rest) = split_front(Class::Space, inside);
     let (operator, rest) = split_operator(rest);
     let (between, rest) = split_front(Class::Space, rest);
@@ -80,7 +85,9 @@ fn push_inside(
 /// # Errors
 ///
 /// [`AllocError`] where memory is refused.
-pub fn push_renamed(text: &mut Vec<u8>, sisters: Sisters, row: &[u8]) -> Result<(), AllocError> {
+pub fn push_renamed(text: &mut Vec<u8>, sisters: Sisters, row: &[u8]) -> Result<(), AllocError>
+    ensures { OnOk result (GetsBehind (IsRenamed row.now) text.old.items text.new.items) }
+{
     let mut rest = row;
     while let Some((before, behind)) = cut_at_first(b'(', rest) {
         let Some((inside, after)) = cut_at_first(b')', behind) else {
@@ -92,7 +99,8 @@ pub fn push_renamed(text: &mut Vec<u8>, sisters: Sisters, row: &[u8]) -> Result<
         text.extend_from_slice(b")")?;
         rest = after;
     }
-    text.extend_from_slice(rest)
+    text.extend_from_slice(rest)?;
+    Ok(())
 }
 
 /// Puts a line `Version: OLD` behind a text, with another version.
@@ -105,7 +113,9 @@ pub fn push_version(
     row: &[u8],
     old: &[u8],
     new: &[u8],
-) -> Result<(), AllocError> {
+) -> Result<(), AllocError>
+    ensures { OnOk result (GetsBehind (IsReversioned row.now) text.old.items text.new.items) }
+{
     let Some((name, value)) = cut_at_first(b':', row) else {
         return text.extend_from_slice(row);
     };
@@ -116,5 +126,6 @@ pub fn push_version(
     text.extend_from_slice(name)?;
     text.extend_from_slice(b": ")?;
     text.extend_from_slice(new)?;
-    text.extend_from_slice(behind)
+    text.extend_from_slice(behind)?;
+    Ok(())
 }

@@ -6,13 +6,14 @@
 //! its words is only tested.
 #![tactic(auto)]
 
+use bounded_read::read_up_to;
 use drive_file::{FileJournal, open_journal};
 use drive_store::OpenFault;
-use farm_commands::{DriveSource, OUTSIDE, Source, WRONG_WORDS, run_words};
+use farm_commands::{DriveSource, Folder, OUTSIDE, Source, WRONG_WORDS, run_words};
 use report_sink::{Sink, WriteSink, write_text};
 use std::alloc::{AllocError, Global};
 use std::env::{self, Env};
-use std::fs::File;
+use std::fs::{self, File};
 use std::io::{self, BufReader, ErrorKind, IsTerminal};
 use std::process::ExitCode;
 use std::rt::{Clock, Files};
@@ -82,6 +83,28 @@ where
 
     fn open_journal(&self, path: &str) -> Result<FileJournal, OpenFault> {
         open_journal(self.rt, path)
+    }
+}
+
+impl<R: Files + Input> Folder for Machine<'_, R> {
+    fn read_part(&self, alloc: Global, path: &str, most: u32) -> io::Result<Vec<u8>> {
+        read_up_to(alloc, File::open(self.rt, path)?, most)
+    }
+
+    fn read_input(&self, alloc: Global, most: u32) -> io::Result<Vec<u8>> {
+        read_up_to(alloc, self.rt.reader(), most)
+    }
+
+    fn make_folder(&self, path: &str) -> io::Result<()> {
+        fs::create_dir_all(self.rt, path)
+    }
+
+    fn write_file(&self, path: &str, bytes: &[u8]) -> io::Result<()> {
+        fs::write(self.rt, path, bytes)
+    }
+
+    fn rename_file(&self, from: &str, to: &str) -> io::Result<()> {
+        fs::rename(self.rt, from, to)
     }
 }
 

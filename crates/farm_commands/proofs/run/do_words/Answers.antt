@@ -2,7 +2,7 @@ use Rattle.std.proofs.Common.{rules, ◌≡◌, inl, inr, map, sym, subst, ◌�
 use Rattle.std.proofs.lemmas.List.{length-map}
 use Rattle.std.specs.Option.{option_map}
 use Rattle.std.specs.Prelude.{IsOkAnd}
-use Rattle.command_line.specs.Words.{IsAskedBy}
+use Rattle.command_line.specs.Words.{IsAskedBy, AreImportWords}
 use Rattle.command_line.specs.declared.request.Asked.TheVariants.{Answer, Drive}
 use Rattle.command_line.specs.declared.request.Request.TheVariants.{CheckInput}
 use Rattle.farm_commands.proofs.WordLaws.{answered_nothing}
@@ -26,11 +26,17 @@ pub returns-in-Ok-Drive-clause-done : goal.returns-in-Ok-Drive-clause-done
 returns-in-Ok-Drive-clause-done g c =
     let asked : IsAskedBy (map g.W.AsStr.text c.args.words.now)
     (Drive c.in-Ok-Drive.paths c.in-Ok-Drive.journal c.in-Ok-Drive.progress) = search rules in
-    inr (inr (
+    inr (inr (inl (
       asked.0,
       c.in-Ok-Drive.paths,
       asked.1,
       option_map (λ name. name.now) c.in-Ok-Drive.journal,
       asked.2,
       c.drive_files.ensures.told,
-    ))
+    )))
+
+pub returns-in-Ok-Import-clause-done : goal.returns-in-Ok-Import-clause-done
+returns-in-Ok-Import-clause-done g c =
+    let are : AreImportWords (map g.W.AsStr.text c.args.words.now) c.in-Ok-Import.asked =
+    search rules in
+    inr (inr (inr (c.in-Ok-Import.asked, are, c.import_asked.ensures)))

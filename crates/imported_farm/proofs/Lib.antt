@@ -1,0 +1,2 @@
+pub mod MadeLaws
+pub mod NameLaws

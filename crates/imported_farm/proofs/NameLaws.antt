@@ -1,0 +1,14 @@
+-- Lists that are the same at each place.
+use Rattle.std.proofs.Common.{◌≡◌, ℕ, ◌<◌, List, [], length, get_or, map, sym, ◌∙◌, arith}
+use Rattle.std.proofs.lemmas.List.{ext_get_or, get_or-map, length-map}
+
+-- names that are those of vectors, one by one
+pub same-names : {X : Type 0} (name : X → List ℕ) (xs : List X) (d : X) (names : List (List ℕ))
+    → length xs ≡ length names
+    → ((k : ℕ) → k < length names → name (get_or xs k d) ≡ get_or names k [])
+    → map name xs ≡ names
+same-names name xs d names long same =
+    ext_get_or [] (map name xs) names (length-map name xs ∙ long)
+    (λ k below.
+    let lt : k < length xs = omega (arith, length-map name xs) in
+    get_or-map name xs k d [] lt ∙ same k (omega arith))

@@ -1,0 +1,55 @@
+-- What an import comes to.
+--
+--   wish_in text                   what the text of a wish says, or its first fault
+--   HasNames items universe        the universe has a recipe and a base chroot for each of a wish
+--   IsFarmOf wish texts            the texts are read without a fault, as every command reads them,
+--                                  and that is what they have
+--   AreTextsOf IsPackage IsSource wish texts
+--                                  the texts are made of such paragraphs, and the farm is the wish's
+--   AreImported inputs answer      if there are texts, they are made of paragraphs of the indexes
+use Rattle.std.specs.Prelude.{◌≡◌, ℕ, List, [], ◌∷◌, ◌++◌, map, codes, Ok, Result, if◌then◌else◌}
+use Rattle.deb_text.specs.declared.fault.Fault.{Fault}
+use Rattle.deb_text.specs.Cuts.{is_nil}
+use Rattle.deb_text.specs.Steps.{◌>>=◌}
+use Rattle.deb_stanza.specs.Stanza.{paragraphs_at}
+use Rattle.farm_model.specs.Universe.{Universe}
+use Rattle.farm_universe.specs.UniverseText.{universe_of}
+use Rattle.import_wish.specs.Wish.{Items, Wish, wish_at}
+use Rattle.imported_farm.specs.declared.import.Imported.{Imported}
+use Rattle.imported_farm.specs.declared.import.Imported.TheVariants.{Texts, Refused, Wrong}
+use Rattle.imported_farm.specs.declared.import.ImportedTexts.{ImportedTexts}
+use Rattle.imported_farm.specs.declared.import.Inputs.{Inputs}
+use Rattle.imported_farm.specs.declared.import.TheConstants.{HEAD}
+use Rattle.imported_farm.specs.Made.{IsBlockIn, IsMadeOf, IsWhole, IsWholeOrAnew}
+
+abbrev pub wish_in : List ℕ → Result Wish Fault
+wish_in text = paragraphs_at text >>= wish_at
+
+-- a wish that names no chroot has one of the name `buildd`
+abbrev pub chroots_of : Items → List (List ℕ)
+chroots_of items = if is_nil items.chroot_names then codes "buildd" ∷ [] else items.chroot_names
+
+-- in the order of the wish
+pub record HasNames (items : Items) (universe : Universe) : Type 0 where
+  pub recipes : map (λ recipe. recipe.name) universe.recipes ≡ items.recipe_names
+  pub chroots : map (λ base. base.name) universe.bases ≡ chroots_of items
+
+pub record IsFarmOf (wish : Wish) (texts : ImportedTexts) : Type 0 where
+  pub universe : Universe
+  pub read :
+      universe_of texts.packages.items texts.sources.items texts.farm.items ≡ Ok universe
+  pub names : HasNames wish.items universe
+
+pub record AreTextsOf (IsPackage IsSource : List ℕ → Type 0) (wish : Wish)
+    (texts : ImportedTexts) : Type 0 where
+  pub farm : IsFarmOf wish texts
+  pub packages : IsMadeOf (IsWholeOrAnew IsPackage) HEAD.now texts.packages.items
+  pub sources : IsMadeOf (IsWhole IsSource) HEAD.now texts.sources.items
+
+abbrev pub AreImported : Inputs → Imported → Type 0
+AreImported inputs (Texts texts lines) =
+    (wish : Wish) × (wish_in inputs.wish.now ≡ Ok wish)
+    × AreTextsOf (IsBlockIn (inputs.packages.now ++ inputs.archive.now))
+    (IsBlockIn inputs.sources.now) wish texts
+AreImported inputs (Refused lines) = Unit {0}
+AreImported inputs Wrong = Unit {0}

@@ -1,0 +1,23 @@
+//! Pieces of the lines of an answer.
+
+use itoa::Buffer;
+use std::alloc::AllocError;
+
+/// Puts pieces of text behind a text.
+pub fn push(text: &mut Vec<u8>, pieces: &[&[u8]]) -> Result<(), AllocError> {
+    for piece in pieces {
+        text.extend_from_slice(piece)?;
+    }
+    Ok(())
+}
+
+/// Puts a number behind a text.
+pub fn push_number(text: &mut Vec<u8>, number: u64) -> Result<(), AllocError> {
+    let mut buffer = Buffer::new();
+    text.extend_from_slice(buffer.format(number).as_bytes())
+}
+
+/// Puts a package with its version behind a text.
+pub fn push_package(text: &mut Vec<u8>, name: &[u8], version: &[u8]) -> Result<(), AllocError> {
+    push(text, &[name, b" (= ", version, b")"])
+}
