@@ -1,0 +1,4 @@
+mod Turns
+mod Ways
+mod Loads
+mod Outputs

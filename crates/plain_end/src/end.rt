@@ -1,0 +1,121 @@
+//! A lane's end of an archive in memory.
+
+ghost use Rattle.std.specs.Prelude.{◌≡◌, IfOk, false, length};
+ghost use Rattle.lane_runner.specs.OnWay.{IsFresh};
+ghost use Rattle.plain_end.specs.PlainEnds.{IsPlain, log_of, nowhere};
+ghost use Rattle.plan_model.specs.Plan as plan;
+
+use crate::steps::{decides, next_step, settle};
+use farm_archive::{PlainArchive, Publication};
+use farm_core::Core;
+use lane_runner::LaneArchive;
+use plan_verifier::Accepted;
+use std::alloc::{AllocError, Global};
+
+/// The end of an archive in memory, of a plan of one lane. Beside the archive it keeps a farm at
+/// work, which stands where the lane was after its last archive step.
+#[derive(Drop)]
+pub struct PlainEnd<'a> {
+    accepted: &'a Accepted,
+    core: Core<'a>,
+    archive: PlainArchive,
+    drawn: u64,
+    halted: bool,
+    saw: bool,
+    stopped: bool,
+    pub ghost plain: { IsPlain accepted.now core archive },
+}
+
+impl<'a> PlainEnd<'a> {
+    /// Opens the archive of an accepted plan of one lane, and puts the lane at its beginning. The
+    /// memory for all that comes is taken here.
+    ///
+    /// # Errors
+    ///
+    /// [`AllocError`] where memory is refused.
+    pub fn open(alloc: Global, accepted: &'a Accepted) -> Result<PlainEnd<'a>, AllocError>
+        requires { length accepted.now.plan ≡ 1 }
+        ensures about { IfOk result (λ e. e.accepted.now ≡ accepted.now) }
+        ensures fresh { IfOk result (λ e. IsFresh accepted.now.universe
+            (plan.lane accepted.now.plan 0)
+            (log_of e.core e.archive e.drawn e.halted e.saw)) }
+    {
+        accepted.keeps();
+        let core = Core::open(alloc, accepted.universe(), accepted.plan())?;
+        let archive = PlainArchive::open(alloc, accepted.universe(), accepted.plan())?;
+        Ok(PlainEnd {
+            accepted,
+            core,
+            archive,
+            drawn: 0,
+            halted: false,
+            saw: false,
+            stopped: false,
+        })
+    }
+
+    /// Halts the archive from outside its lane, which is told so where it looks.
+    pub fn stop(&mut self)
+        ensures { self.new ≡ record self.old { stopped = true } }
+    {
+        self.stopped = true;
+    }
+
+    /// What the lane has published, by serial.
+    pub fn history(&self) -> &[Publication]
+        ensures { result.now ≡ self.now.archive.history }
+    {
+        self.archive.history()
+    }
+}
+
+impl LaneArchive for PlainEnd<'_> {
+    ghost home = { λ _. nowhere };
+
+    ghost about = { λ e. e.accepted.now };
+
+    ghost lane = { λ _. 0 };
+
+    ghost log = { λ e. log_of e.core e.archive e.drawn e.halted e.saw };
+
+    fn providers(&self, _text: &[u8]) -> usize {
+        self.accepted.universe().names() as usize
+    }
+
+    fn provider(&self, _text: &[u8], number: usize) -> Option<u32> {
+        u32::try_from(number).ok()
+    }
+
+    fn load(&mut self, name: u32) -> u64 {
+        let word = self.archive.word(name);
+        let place = next_step(self.accepted, &self.core, &self.archive);
+        if decides(self.accepted, place, name, word) {
+            settle(self.accepted, &mut self.core, &self.archive);
+            self.core.step(0);
+        }
+        word
+    }
+
+    fn draw(&mut self) -> u64 {
+        let serial = self.archive.history().len() as u64;
+        self.drawn = serial + 1;
+        serial
+    }
+
+    fn publish_next(&mut self, _serial: u64) {
+        settle(self.accepted, &mut self.core, &self.archive);
+        self.core.step(0);
+        let output = self.core.history()[self.archive.history().len()].variant;
+        self.archive.publish(0, output);
+    }
+
+    fn halt(&mut self) {
+        self.halted = true;
+    }
+
+    fn halted(&mut self) -> bool {
+        let told = self.halted || self.stopped;
+        self.saw = self.saw || told;
+        told
+    }
+}

@@ -1,0 +1,91 @@
+//! The steps of the lane of a farm at work, beside an archive in memory.
+
+ghost use Rattle.std.specs.Prelude.{◌≡◌, ◌<◌, ◌≤◌, length, option_ref};
+ghost use Rattle.farm_core.specs.Farm.{Farm};
+ghost use Rattle.farm_model.specs.Packages.{names};
+ghost use Rattle.lane_records.specs.Records.{ready_in, next_of};
+ghost use Rattle.plain_end.specs.PlainEnds.{IsPlain, IsOnItsWay, decides, is_local, lane_in};
+ghost use Rattle.plan_model.specs.Plan.{instruction_at};
+ghost use Rattle.std.specs.Prelude.{slice_get};
+
+use farm_archive::PlainArchive;
+use farm_core::Core;
+use farm_universe::Universe;
+use plan_asm::{Instruction, Lane};
+use plan_verifier::Accepted;
+use word_picks::some_satisfies;
+
+/// The lane of a plan of one.
+fn only_lane(accepted: &Accepted) -> &Lane
+    requires { length accepted.now.plan ≡ 1 }
+    ensures { result.now ≡ lane accepted.now.plan 0 }
+{
+    accepted.plan().lane(0)
+}
+
+/// Tells whether the instruction at a place is a local one.
+fn is_local(lane: &Lane, place: usize) -> bool
+    ensures { result ≡ is_local (slice_get lane.now.instructions place) }
+{
+    match lane.instructions().get(place) {
+        Some(instruction) => !matches!(
+            instruction,
+            Instruction::Unpack { .. }
+                | Instruction::Publish(_)
+                | Instruction::Wait(_)
+                | Instruction::When { .. }
+        ),
+        None => false,
+    }
+}
+
+/// The place of the lane's next archive step; that of its end where none is left.
+pub fn next_step(accepted: &Accepted, core: &Core<'_>, archive: &PlainArchive) -> usize
+    requires { IsPlain accepted.now core.now archive.now }
+    ensures { result ≡ (ready_in accepted.now.universe accepted.now.plan 0 (lane_in core.now)).done }
+{
+    let lane = only_lane(accepted);
+    let mut place = core.done(0) as usize;
+    for _ in 0..lane.instructions().len() {
+        if !is_local(lane, place) {
+            return place;
+        }
+        place = lane.next_place(place);
+    }
+    place
+}
+
+/// Carries out the lane's local instructions, up to its next archive step.
+pub fn settle(accepted: &Accepted, core: &mut Core<'_>, archive: &PlainArchive)
+    requires { IsPlain accepted.now core.old archive.now }
+    ensures plain { IsPlain accepted.now core.new archive.now }
+    ensures way { IsOnItsWay accepted.now core.old core.new }
+    ensures ready { lane_in core.new
+        ≡ ready_in accepted.now.universe accepted.now.plan 0 (lane_in core.old) }
+{
+    let lane = only_lane(accepted);
+    for _ in 0..lane.instructions().len() {
+        if !is_local(lane, core.done(0) as usize) {
+            return;
+        }
+        core.step(0);
+    }
+}
+
+/// Tells whether the word of a name decides the archive step at a place.
+pub fn decides(accepted: &Accepted, place: usize, name: u32, word: u64) -> bool
+    requires one { length accepted.now.plan ≡ 1 }
+    requires name { name < names accepted.now.universe }
+    ensures { result ≡ decides accepted.now.universe name word
+        (instruction_at accepted.now.plan 0 place) }
+{
+    match only_lane(accepted).instructions().get(place) {
+        Some(Instruction::Unpack { name: asked, .. } | Instruction::When { name: asked, .. }) => {
+            *asked == name
+        }
+        Some(Instruction::Wait(entry)) => {
+            some_satisfies(accepted.universe(), name, word, entry)
+        }
+        _ => false,
+    }
+}
