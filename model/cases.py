@@ -165,7 +165,7 @@ def turns(universe, plan, schedule):
 def on_lane(texts, question):
     """What a lane that runs alone comes to, at its end or where the question stops it."""
     if answer("check", texts)[1]:
-        return None
+        return ["refused"]
     universe = read_universe(texts)
     plan = read_plan(universe, texts["plan"])
     if len(plan) != 1:

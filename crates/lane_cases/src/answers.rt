@@ -75,7 +75,7 @@ impl<R: Threads + Wait + Sync> Answers<R> for LaneAnswers {
         ));
         match &*verdict {
             Ok(accepted) => answer_on_plan(rt, alloc, accepted, stops),
-            Err(refusal) => Ok(format!(in alloc; "{refusal}\n")?.into_bytes()),
+            Err(_) => Vec::from_slice(alloc, b"refused\n"),
         }
     }
 }

@@ -163,17 +163,16 @@ load_leads a f g k plain n ready yes =
     let here : instruction_at a.plan 0 (lane_in g).done ≡ next_of u a.plan 0 (lane_in f) =
     ap (λ (s : LaneState). instruction_at a.plan 0 s.done) ready in
     let to = leads a g k plain n (lane_in f) (next_of u a.plan 0 (lane_in f)) here yes in
-    let at = here ∙ to.is in
-    (
+    let at = here ∙ to.is in (
       to.instruction,
       at,
       to.next,
       goes a g k plain to.instruction at to.next to.turn,
       ap (λ (o : Option Instruction). moved_by u (lane a.plan 0) n (slice_index k.words n)
-      (lane_in f) (ready_in u a.plan 0 (lane_in f)) o) to.is
-      ∙ ap (λ (s : LaneState). moved_by u (lane a.plan 0) n (slice_index k.words n) (lane_in f) s
-      (Some to.instruction)) (sym ready)
-      ∙ to.moved,
+          (lane_in f) (ready_in u a.plan 0 (lane_in f)) o) to.is
+          ∙ ap (λ (s : LaneState). moved_by u (lane a.plan 0) n (slice_index k.words n) (lane_in f) s
+          (Some to.instruction)) (sym ready)
+          ∙ to.moved,
     )
 
 -- the words are as they were: only this lane changes one

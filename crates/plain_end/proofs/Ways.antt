@@ -168,13 +168,16 @@ module _ (a : AcceptedPlan) (f : Farm) (k : Kept) (number place : ℕ) (g : Farm
       ap (instruction_at a.plan 0) come.at ∙ some.1 in
       let after = after_local a g k come.plain some.0 at some.2 in
       let next = with_state g (put g.state 0 after.next) in
-      let far = come.far in
-      (next, after, record {
-        plain = after.plain;
-        way = way_on a f g next come.way after.way;
-        at = after.behind ∙ ap (next_place (lane a.plan 0)) come.at;
-        far = omega (arith, behind_next (lane a.plan 0) place);
-      })
+      let far = come.far in (
+        next,
+        after,
+        record {
+          plain = after.plain;
+          way = way_on a f g next come.way after.way;
+          at = after.behind ∙ ap (next_place (lane a.plan 0)) come.at;
+          far = omega (arith, behind_next (lane a.plan 0) place);
+        },
+      )
 
   -- where no local instruction is, the lane is ready
   pub has_settled : is_local (instruction_at a.plan 0 place) ≡ false

@@ -1,6 +1,6 @@
 //! A lane's end of an archive in memory.
 
-ghost use Rattle.std.specs.Prelude.{◌≡◌, IfOk, false, length};
+ghost use Rattle.std.specs.Prelude.{◌≡◌, IfOk, length, true};
 ghost use Rattle.lane_runner.specs.OnWay.{IsFresh};
 ghost use Rattle.plain_end.specs.PlainEnds.{IsPlain, log_of, nowhere};
 ghost use Rattle.plan_model.specs.Plan as plan;
@@ -53,6 +53,12 @@ impl<'a> PlainEnd<'a> {
             stopped: false,
         })
     }
+
+    /// One run of the core leads to the state of the farm at work, and the archive is that of the
+    /// run, with all that was published.
+    pub fn keeps(&self)
+        ensures { IsPlain self.now.accepted.now self.now.core self.now.archive }
+    {}
 
     /// Halts the archive from outside its lane, which is told so where it looks.
     pub fn stop(&mut self)

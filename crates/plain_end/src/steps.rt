@@ -1,16 +1,14 @@
 //! The steps of the lane of a farm at work, beside an archive in memory.
 
-ghost use Rattle.std.specs.Prelude.{◌≡◌, ◌<◌, ◌≤◌, length, option_ref};
-ghost use Rattle.farm_core.specs.Farm.{Farm};
+ghost use Rattle.std.specs.Prelude.{◌≡◌, ◌<◌, length, slice_get};
 ghost use Rattle.farm_model.specs.Packages.{names};
-ghost use Rattle.lane_records.specs.Records.{ready_in, next_of};
-ghost use Rattle.plain_end.specs.PlainEnds.{IsPlain, IsOnItsWay, decides, is_local, lane_in};
+ghost use Rattle.lane_records.specs.Records.{ready_in};
+ghost use Rattle.plain_end.specs.PlainEnds.{IsOnItsWay, IsPlain, decides, is_local, lane_in};
+ghost use Rattle.plan_model.specs.Plan as plan;
 ghost use Rattle.plan_model.specs.Plan.{instruction_at};
-ghost use Rattle.std.specs.Prelude.{slice_get};
 
 use farm_archive::PlainArchive;
 use farm_core::Core;
-use farm_universe::Universe;
 use plan_asm::{Instruction, Lane};
 use plan_verifier::Accepted;
 use word_picks::some_satisfies;
@@ -18,7 +16,7 @@ use word_picks::some_satisfies;
 /// The lane of a plan of one.
 fn only_lane(accepted: &Accepted) -> &Lane
     requires { length accepted.now.plan ≡ 1 }
-    ensures { result.now ≡ lane accepted.now.plan 0 }
+    ensures { result.now ≡ plan.lane accepted.now.plan 0 }
 {
     accepted.plan().lane(0)
 }
@@ -83,9 +81,7 @@ pub fn decides(accepted: &Accepted, place: usize, name: u32, word: u64) -> bool
         Some(Instruction::Unpack { name: asked, .. } | Instruction::When { name: asked, .. }) => {
             *asked == name
         }
-        Some(Instruction::Wait(entry)) => {
-            some_satisfies(accepted.universe(), name, word, entry)
-        }
+        Some(Instruction::Wait(entry)) => { some_satisfies(accepted.universe(), name, word, entry) }
         _ => false,
     }
 }
