@@ -2,3 +2,4 @@ mod Turns
 mod Ways
 mod Loads
 mod Outputs
+mod Ended

@@ -7,12 +7,15 @@
 --   log_of                 what the end keeps of the lane
 --   IsPlain                what holds of each end
 --   IsOnItsWay             local instructions have led the farm from one state to another
+--   HasRunAlone            what a lane that ran alone to its end has come to
 --   is_local, decides      which instructions are local; whether a word decides an archive step
 --   nowhere                an archive in memory has no table
-use Rattle.std.specs.Prelude.{◌≡◌, ◌≤◌, ◌==◌, ◌&&◌, ℕ, zero, suc, Bool, false, not, List, [], ◌∷◌, ◌++◌, length, Option, None, Some}
+use Rattle.std.specs.Prelude.{◌≡◌, ◌≤◌, ◌==◌, ◌&&◌, ℕ, zero, suc, Bool, true, false, not, List, [], ◌∷◌, ◌++◌, length, Option, None, Some}
 use Rattle.archive_laws.specs.LaneMoves.{outputs_made}
 use Rattle.atomic_table.specs.Seated.{TableId}
-use Rattle.farm_archive.specs.Kept.{Kept, IsArchive}
+use Rattle.chroot_state.specs.Held.{Held}
+use Rattle.farm_archive.specs.declared.publication.Publication.{Publication}
+use Rattle.farm_archive.specs.Kept.{Kept, IsArchive, numbered}
 use Rattle.farm_core.specs.Farm.{Farm}
 use Rattle.farm_model.specs.Below.{some_below}
 use Rattle.farm_model.specs.Packages.{variant, variants, word_has, satisfies_entry}
@@ -21,7 +24,7 @@ use Rattle.lane_records.specs.Records.{Record, ready_in}
 use Rattle.plan_model.specs.declared.instructions.Instruction.{Instruction}
 use Rattle.plan_model.specs.declared.instructions.Instruction.TheVariants.{Unpack, Wait, When}
 use Rattle.plan_model.specs.Plan.{lane, lane_outputs}
-use Rattle.plan_model.specs.Run.{Reachable, lane_state}
+use Rattle.plan_model.specs.Run.{State, Reachable, lane_state, is_finished}
 use Rattle.plan_model.specs.Turn.{LaneState}
 use Rattle.plan_model.specs.World.{World, is_archive_step}
 use Rattle.plan_verifier.specs.Accepted.{AcceptedPlan, IsAccepted}
@@ -69,6 +72,18 @@ pub record IsOnItsWay (a : AcceptedPlan) (f g : Farm) : Type 0 where
   pub ready : ready_in a.universe a.plan 0 (lane_in g) ≡ ready_in a.universe a.plan 0 (lane_in f)
   -- and nothing was published.
   pub published : g.state.published ≡ f.state.published
+
+-- A lane that ran alone has come to its end with this chroot, this cost and this history:
+pub record HasRunAlone (a : AcceptedPlan) (spent : ℕ) (c : Held) (history : List Publication)
+    : Type 0 where
+  -- a run leads to a state in which all lanes are at their ends,
+  pub state : State
+  pub reached : Reachable a.universe a.plan state
+  pub finished : is_finished a.plan state ≡ true
+  -- and chroot, cost and history are those of that state.
+  pub chroot_is : (lane_state state 0).chroot ≡ c.slots
+  pub cost_is : (lane_state state 0).spent ≡ spent
+  pub history_is : history ≡ numbered 0 state.published
 
 -- an instruction that does not look at the archive, nor adds to it; none is behind the end
 abbrev pub is_local : Option Instruction → Bool

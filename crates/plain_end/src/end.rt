@@ -1,8 +1,9 @@
 //! A lane's end of an archive in memory.
 
-ghost use Rattle.std.specs.Prelude.{◌≡◌, IfOk, length, true};
-ghost use Rattle.lane_runner.specs.OnWay.{IsFresh};
-ghost use Rattle.plain_end.specs.PlainEnds.{IsPlain, log_of, nowhere};
+ghost use Rattle.std.specs.Prelude.{◌≡◌, ℕ, IfOk, length, true};
+ghost use Rattle.chroot_state.specs.Held.{Held};
+ghost use Rattle.lane_runner.specs.OnWay.{IsEnded, IsFresh};
+ghost use Rattle.plain_end.specs.PlainEnds.{HasRunAlone, IsPlain, log_of, nowhere};
 ghost use Rattle.plan_model.specs.Plan as plan;
 
 use crate::steps::{decides, next_step, settle};
@@ -58,6 +59,14 @@ impl<'a> PlainEnd<'a> {
     /// run, with all that was published.
     pub fn keeps(&self)
         ensures { IsPlain self.now.accepted.now self.now.core self.now.archive }
+    {}
+
+    /// Where the lane is at its end, its chroot, its cost and the history are those of one run.
+    pub fn has_run_alone(&self)
+        ensures { (spent : ℕ) (c : Held) → IsEnded self.now.accepted.now.universe
+            self.now.accepted.now.plan 0 spent c (log_of self.now.core self.now.archive
+            self.now.drawn self.now.halted self.now.saw)
+            → HasRunAlone self.now.accepted.now spent c self.now.archive.history }
     {}
 
     /// Halts the archive from outside its lane, which is told so where it looks.
