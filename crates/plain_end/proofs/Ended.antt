@@ -6,13 +6,13 @@ use Rattle.archive_laws.proofs.AllReady.{ends_are_finished}
 use Rattle.chroot_state.specs.Held.{Held}
 use Rattle.farm_archive.specs.Kept.{Kept, numbered}
 use Rattle.farm_core.specs.Farm.{Farm}
-use Rattle.lane_records.specs.Records.{ready_in}
+use Rattle.lane_records.specs.Records.{Record, ready_in}
 use Rattle.lane_runner.specs.OnWay.{IsEnded}
 use Rattle.plan_model.specs.Plan.{lane, instruction_at}
 use Rattle.plan_model.specs.Run.{no_state}
 use Rattle.plan_model.specs.Turn.{LaneState}
 use Rattle.plan_verifier.specs.Accepted.{AcceptedPlan}
-use Rattle.plain_end.specs.PlainEnds.{lane_in, world_of, log_of, is_local, IsPlain, HasRunAlone}
+use Rattle.plain_end.specs.PlainEnds.{lane_in, world_of, log_of, is_local, IsPlain, HasRunAlone, PlainEndOf}
 use Rattle.plain_end.proofs.Ways.{HasCome, begun, one_more, has_settled, at_end}
 
 none_behind : {X : Type 0} (xs : List X) (i : ℕ) → slice_get xs i ≡ None → length xs ≤ i
@@ -20,7 +20,7 @@ none_behind [] i e = omega arith
 none_behind (x ∷ xs) zero e = absurd (cc)
 none_behind (x ∷ xs) (suc i) e = let h = none_behind xs i e in omega arith
 
-module _ (a : AcceptedPlan) (f : Farm) (k : Kept) (plain : IsPlain a f k) where
+module _ (a : AcceptedPlan) (f : Farm) (k : Kept) (ok : IsPlain a f k) where
   -- Where the lane comes to by its local instructions:
   record ComesTo : Type 0 where
     farm : Farm
@@ -43,32 +43,32 @@ module _ (a : AcceptedPlan) (f : Farm) (k : Kept) (plain : IsPlain a f k) where
         | inl here ↦
             let more = one_more a f k number place g come here in
             comes n (suc number) _ more.0 more.2 (omega (arith, past))
-        | inr no ↦ record {
+        | inr not_so ↦ record {
             farm = g;
             number = number;
             place = place;
             come = come;
-            settled = no;
+            settled = not_so;
           }
       ]
 
   comes_to : ComesTo
   comes_to =
       comes (length (lane a.plan 0).instructions) 0 (lane_in f).done f
-      (begun a f k plain (lane_in f).done refl) (omega arith)
+      (begun a f k ok (lane_in f).done refl) (omega arith)
 
-  pub has_run_alone : (drawn : ℕ) (halted saw : Bool) (spent : ℕ) (c : Held)
-      → IsEnded a.universe a.plan 0 spent c (log_of f k drawn halted saw)
-      → HasRunAlone a spent c k.history
-  has_run_alone drawn halted saw spent c ended =
+  pub has_run_alone : (r : Record) → r.at ≡ lane_in f → (spent : ℕ) (c : Held)
+      → IsEnded a.universe a.plan 0 spent c r → HasRunAlone a spent c k.history
+  has_run_alone r at spent c ended =
+      let same = ap (ready_in a.universe a.plan 0) at in
       let to = comes_to in
       let g = to.farm in
-      let ready : lane_in g ≡ ready_in a.universe a.plan 0 (lane_in f) =
-      has_settled a f k to.number to.place g to.come to.settled in
+      let ready : lane_in g ≡ ready_in a.universe a.plan 0 r.at =
+      has_settled a f k to.number to.place g to.come to.settled ∙ sym same in
       let past : length (lane a.plan 0).instructions ≤ (lane_in g).done =
       none_behind (lane a.plan 0).instructions (lane_in g).done
       (ap (λ (st : LaneState). instruction_at a.plan 0 st.done) ready ∙ ended.ends) in
-      let one = plain.one in
+      let one = ok.one in
       record {
         state = g.state;
         reached = to.come.plain.reachable;
@@ -76,12 +76,17 @@ module _ (a : AcceptedPlan) (f : Farm) (k : Kept) (plain : IsPlain a f k) where
             ends_are_finished a.universe a.plan (world_of g k) g.state
             (record { lanes = refl; archive_is = to.come.plain.archive.words })
             (λ l lt. let first : l ≡ 0 = omega (arith, lt) in
-            subst (λ m. length (lane a.plan m).instructions ≤ (lane_at g m).done) (sym first) past);
+            subst (λ m. length (lane a.plan m).instructions
+            ≤ (slice_index_or g.state.lanes m no_state).done) (sym first) past);
         chroot_is = ap (λ (st : LaneState). st.chroot) ready ∙ sym ended.chroot;
         cost_is = ap (λ (st : LaneState). st.spent) ready ∙ sym ended.cost;
         history_is =
-            plain.archive.history ∙ sym (ap (numbered 0) to.come.way.published);
+            ok.archive.history ∙ sym (ap (numbered 0) to.come.way.published);
       }
-    where
-      abbrev lane_at : Farm → ℕ → LaneState
-      lane_at g m = slice_index_or g.state.lanes m no_state
+
+-- the same of an end
+pub end_has_run : (e : PlainEndOf) → IsPlain e.about e.farm e.archive → (spent : ℕ) (c : Held)
+    → IsEnded e.about.universe e.about.plan 0 spent c (log_of e)
+    → HasRunAlone e.about spent c e.archive.history
+end_has_run e ok spent c ended =
+    has_run_alone e.about e.farm e.archive ok (log_of e) refl spent c ended

@@ -3,3 +3,5 @@ mod Ways
 mod Loads
 mod Outputs
 mod Ended
+mod Opened
+mod Moves

@@ -51,15 +51,15 @@ module _ (u : Universe) (of : Lane) (old st : LaneState) (n found : ℕ) where
   -- a word that does not decide the instruction leaves the lane where it was
   pub stays : (o : Option Instruction) → decides u n found o ≡ false
       → moved_by u of n found old st o ≡ old
-  stays (Some (Unpack name wanted)) no = cond-false (name == n) _ old no
-  stays (Some (When name wanted)) no = cond-false (name == n) _ old no
-  stays (Some (Wait e)) no =
+  stays (Some (Unpack name wanted)) isnt = cond-false (name == n) _ old isnt
+  stays (Some (When name wanted)) isnt = cond-false (name == n) _ old isnt
+  stays (Some (Wait e)) isnt =
       ap (λ (t : Turn). goes_on old t (λ next. next))
       (cond-false (passes u (seen n found) e) (Goes (past of st 0 st.chroot)) Waits
-      (wait_stays e no))
-  stays _ no = refl
+      (wait_stays e isnt))
+  stays _ isnt = refl
 
-module _ (a : AcceptedPlan) (f : Farm) (k : Kept) (plain : IsPlain a f k) (n : ℕ) where
+module _ (a : AcceptedPlan) (f : Farm) (k : Kept) (ok : IsPlain a f k) (n : ℕ) where
   abbrev u : Universe
   u = a.universe
 
@@ -98,7 +98,7 @@ module _ (a : AcceptedPlan) (f : Farm) (k : Kept) (plain : IsPlain a f k) (n : �
       let same = eqb-true name n is in
       let x = Unpack name wanted in
       let on = turn_goes (turn_of u there of st (Some x)) (unpack_only name (newest u there name wanted))
-      (never_fails a f k plain x here) in
+      (never_fails a f k ok x here) in
       let seen_too : turn_of u (seen n found) of st (Some x) ≡ Goes on.0 =
       subst (λ m. turn_of u (seen n found) of st (Some (Unpack m wanted))
       ≡ turn_of u there of st (Some (Unpack m wanted))) (sym same)
@@ -151,23 +151,23 @@ module _ (a : AcceptedPlan) (f : Farm) (k : Kept) (plain : IsPlain a f k) (n : �
   leads old _ here is = absurd (true≢false (sym is))
 
 -- Where a load leaves an end, from the farm f, by g, in which the lane is ready, to h:
-pub load_leads : (a : AcceptedPlan) (f g : Farm) (k : Kept) (plain : IsPlain a g k) (n : ℕ)
+pub load_leads : (a : AcceptedPlan) (f g : Farm) (k : Kept) (ok : IsPlain a g k) (n : ℕ)
     → lane_in g ≡ ready_in a.universe a.plan 0 (lane_in f)
     → decides a.universe n (slice_index k.words n) (next_of a.universe a.plan 0 (lane_in f)) ≡ true
     → (x : Instruction) × (here : instruction_at a.plan 0 (lane_in g).done ≡ Some x)
-    × (next : LaneState) × (IsBehind a g k plain x here next)
+    × (next : LaneState) × (IsBehind a g k ok x here next)
     × (moved_by a.universe (lane a.plan 0) n (slice_index k.words n) (lane_in f)
     (ready_in a.universe a.plan 0 (lane_in f)) (next_of a.universe a.plan 0 (lane_in f)) ≡ next)
-load_leads a f g k plain n ready yes =
+load_leads a f g k ok n ready so =
     let u = a.universe in
     let here : instruction_at a.plan 0 (lane_in g).done ≡ next_of u a.plan 0 (lane_in f) =
     ap (λ (s : LaneState). instruction_at a.plan 0 s.done) ready in
-    let to = leads a g k plain n (lane_in f) (next_of u a.plan 0 (lane_in f)) here yes in
+    let to = leads a g k ok n (lane_in f) (next_of u a.plan 0 (lane_in f)) here so in
     let at = here ∙ to.is in (
       to.instruction,
       at,
       to.next,
-      goes a g k plain to.instruction at to.next to.turn,
+      goes a g k ok to.instruction at to.next to.turn,
       ap (λ (o : Option Instruction). moved_by u (lane a.plan 0) n (slice_index k.words n)
           (lane_in f) (ready_in u a.plan 0 (lane_in f)) o) to.is
           ∙ ap (λ (s : LaneState). moved_by u (lane a.plan 0) n (slice_index k.words n) (lane_in f) s
@@ -182,19 +182,19 @@ words_stay k n = set-get_or k.words n 0
 -- a word of the archive is within bounds
 pub is_bounded : (a : AcceptedPlan) (f : Farm) (k : Kept) → IsPlain a f k → (n : ℕ)
     → IsInBounds a.universe a.plan (known_rows a) 0 (lane_in f) n (slice_index k.words n)
-is_bounded a f k plain n =
+is_bounded a f k ok n =
     let u = a.universe in
     let w = world_of f k in
-    let sound = plain.accepted.sound in
-    let long = plain.long in
-    let one = plain.one in
+    let sound = ok.accepted.sound in
+    let long = ok.long in
+    let one = ok.one in
     let st = ready_in u a.plan 0 (lane_in f) in
-    loads_are_in_bounds u a.plan (known_rows a) sound (annotation a plain.accepted) 0
-    (in_plan a f k plain) (lane_in f) n (slice_index k.words n)
+    loads_are_in_bounds u a.plan (known_rows a) sound (annotation a ok.accepted) 0
+    (in_plan a f k ok) (lane_in f) n (slice_index k.words n)
     (record {
       world = with_lane w 0 st;
       reached =
-          (each_lane_steps u a.plan sound w (reached a f k plain) 0 (in_plan a f k plain)).local;
+          (each_lane_steps u a.plan sound w (reached a f k ok) 0 (in_plan a f k ok)).local;
       stands = get_or-set_same f.state.lanes 0 st no_state (omega arith);
       word = refl;
     })

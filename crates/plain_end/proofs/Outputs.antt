@@ -36,7 +36,7 @@ length-numbered k [] = refl
 length-numbered k (q ∷ qs) = ap suc (length-numbered (suc k) qs)
 
 -- the last of the publications
-pub last_numbered : (k : ℕ) (ps : List run.Publication) (l : ℕ) (v : Variant)
+last_numbered : (k : ℕ) (ps : List run.Publication) (l : ℕ) (v : Variant)
     → slice_get (numbered k (ps ++ publication l v ∷ [])) (length ps)
     ≡ Some (record { serial = k + length ps; lane = l; variant = v })
 last_numbered k [] l v =
@@ -45,11 +45,19 @@ last_numbered k (q ∷ qs) l v =
     last_numbered (suc k) qs l v
     ∙ ap (λ n. Some (record { serial = n; lane = l; variant = v })) (omega arith)
 
+-- the last of those from 0 on
+pub last_of_all : (ps : List run.Publication) (l : ℕ) (v : Variant)
+    → slice_get (numbered 0 (ps ++ publication l v ∷ [])) (length ps)
+    ≡ Some (record { serial = length ps; lane = l; variant = v })
+last_of_all ps l v =
+    last_numbered 0 ps l v
+    ∙ ap (λ n. Some (record { serial = n; lane = l; variant = v })) (omega arith)
+
 -- what was published stands in the history
 pub history_long : (a : AcceptedPlan) (f : Farm) (k : Kept) → IsPlain a f k
     → length k.history ≡ length f.state.published
-history_long a f k plain =
-    ap length plain.archive.history ∙ length-numbered 0 f.state.published
+history_long a f k ok =
+    ap length ok.archive.history ∙ length-numbered 0 f.state.published
 
 -- a turn that meets no trap is the turn itself
 no_trap : (o : Option Trap) (turn : Turn) → ((trap : Trap) → unless o turn ≢ Fails trap)
@@ -57,7 +65,7 @@ no_trap : (o : Option Trap) (turn : Turn) → ((trap : Trap) → unless o turn �
 no_trap None turn h = refl
 no_trap (Some trap) turn h = absurd (h trap refl)
 
-module _ (a : AcceptedPlan) (f : Farm) (k : Kept) (plain : IsPlain a f k) where
+module _ (a : AcceptedPlan) (f : Farm) (k : Kept) (ok : IsPlain a f k) where
   abbrev u : Universe
   u = a.universe
 
@@ -75,7 +83,7 @@ module _ (a : AcceptedPlan) (f : Farm) (k : Kept) (plain : IsPlain a f k) where
     pub instruction : Instruction
     pub is : o ≡ Some instruction
     pub here : instruction_at a.plan 0 st.done ≡ Some instruction
-    pub given : HasGiven a f k plain instruction here (behind_output u of st o) v
+    pub given : HasGiven a f k ok instruction here (behind_output u of st o) v
     -- a variant of the universe, for which there is room
     pub known : IsKnown u v
     pub number : outputs_made u of st < length (lane_outputs u of)
@@ -85,25 +93,25 @@ module _ (a : AcceptedPlan) (f : Farm) (k : Kept) (plain : IsPlain a f k) where
   puts (Some (Publish r)) v here out =
       let x = Publish r in
       let next = behind_output u of st (Some x) in
-      let sound = plain.accepted.sound in
+      let sound = ok.accepted.sound in
       let known : IsKnown u v =
       subst (IsKnown u) (get_or_from_slice_get (outputs u r) st.made v v out)
       (sound.universe.outputs_known r st.made v (slice_get_within (outputs u r) st.made v out)) in
-      let within = subst (λ n. v.name < n) (sym plain.archive.long)
+      let within = subst (λ n. v.name < n) (sym ok.archive.long)
       (variants_name u v.name v.bit known) in
       let traps = first_trap (publish_traps u of st r) in
       let turn_is : turn_of u there of st (Some x) ≡ unless traps (Gives next v) =
       ap (publishes u of st r) out in
       let turn = turn_is
       ∙ no_trap traps (Gives next v)
-      (λ trap e. never_fails a f k plain x here trap (turn_is ∙ e)) in
-      let counts = gives_count u of (sound.plan.branched 0 (in_plan a f k plain)) there st next x v
-      here (place a f k plain) turn in
+      (λ trap e. never_fails a f k ok x here trap (turn_is ∙ e)) in
+      let counts = gives_count u of (sound.plan.branched 0 (in_plan a f k ok)) there st next x v
+      here (place a f k ok) turn in
       record {
         instruction = x;
         is = refl;
         here = here;
-        given = gives a f k plain x here next v within turn;
+        given = gives a f k ok x here next v within turn;
         known = known;
         number = slice_get_within (lane_outputs u of) (outputs_made u of st) v counts.1;
       }

@@ -1,5 +1,5 @@
 -- The turn of the lane of a farm at work, over the archive beside it.
-use Rattle.std.proofs.Common.{◌≡◌, ◌≢◌, ℕ, suc, ◌+◌, ◌<◌, List, [], ◌∷◌, ◌++◌, length, Some, slice_get, slice_set, get_or-set_same, length-set, refl, sym, ap, subst, ◌∙◌, arith}
+use Rattle.std.proofs.Common.{◌≡◌, ◌≢◌, ℕ, Bool, suc, ◌+◌, ◌<◌, List, [], ◌∷◌, ◌++◌, length, Some, slice_get, slice_set, get_or-set_same, length-set, refl, sym, ap, subst, ◌∙◌, arith}
 use Rattle.std.proofs.lemmas.List.{length-append}
 use Rattle.std.proofs.lemmas.Option.{same_Some, slice_get_within, get_or_from_slice_get}
 use Rattle.archive_laws.specs.LaneMoves.{outputs_made}
@@ -46,7 +46,7 @@ moved_to a f g m u_is p_is moved is =
     ap (λ (x : Universe × Plan). step x.0 x.1 f.state 0) (λ i. (u_is i, p_is i)) ∙ moved in
     is ∙ ap (λ (o : Outcome). with_state f (state_after f.state o)) same
 
-module _ (a : AcceptedPlan) (f : Farm) (k : Kept) (plain : IsPlain a f k) where
+module _ (a : AcceptedPlan) (f : Farm) (k : Kept) (ok : IsPlain a f k) where
   abbrev pub u : Universe
   u = a.universe
 
@@ -61,16 +61,16 @@ module _ (a : AcceptedPlan) (f : Farm) (k : Kept) (plain : IsPlain a f k) where
   there = has_bit k.words
 
   pub in_plan : 0 < length a.plan
-  in_plan = let e = plain.one in omega arith
+  in_plan = let e = ok.one in omega arith
 
   shows : Shows u (world_of f k) f.state
-  shows = record { lanes = refl; archive_is = plain.archive.words }
+  shows = record { lanes = refl; archive_is = ok.archive.words }
 
   pub reached : IsReached u a.plan (world_of f k)
   reached = record {
-    words = plain.archive.long;
-    lanes = plain.long;
-    shown = (f.state, plain.reachable, shows);
+    words = ok.archive.long;
+    lanes = ok.long;
+    shown = (f.state, ok.reachable, shows);
   }
 
   turn_is : step u a.plan f.state 0 ≡ outcome f.state 0 (turn_in u a.plan 0 there st)
@@ -79,19 +79,19 @@ module _ (a : AcceptedPlan) (f : Farm) (k : Kept) (plain : IsPlain a f k) where
       ∙ ap (outcome f.state 0) (turn_shown u a.plan (world_of f k) f.state 0 shows)
 
   pub place : InPlace u of.instructions st.done st.made
-  place = in_place u a.plan plain.accepted.sound (world_of f k) reached 0 in_plan
+  place = in_place u a.plan ok.accepted.sound (world_of f k) reached 0 in_plan
 
   module _ (x : Instruction) (here : instruction_at a.plan 0 st.done ≡ Some x) where
     -- no trap is met
     pub never_fails : (trap : Trap) → turn_of u there of st (Some x) ≢ Fails trap
     never_fails trap e =
-        (safe_of a plain.accepted).no_trap plain.reachable.0 f.state plain.reachable.1 0 trap
+        (safe_of a ok.accepted).no_trap ok.reachable.0 f.state ok.reachable.1 0 trap
         (turn_is ∙ ap (outcome f.state 0) (ap (turn_of u there of st) here ∙ e))
 
     stands : (next : LaneState) → lane_in (with_state f (put f.state 0 next)) ≡ next
     stands next =
-        let long = plain.long in
-        let one = plain.one in
+        let long = ok.long in
+        let one = ok.one in
         get_or-set_same f.state.lanes 0 next no_state (omega arith)
 
     -- Behind a turn that goes on:
@@ -108,19 +108,19 @@ module _ (a : AcceptedPlan) (f : Farm) (k : Kept) (plain : IsPlain a f k) where
           moved = moved;
           at = stands next;
           plain = record {
-            accepted = plain.accepted;
-            one = plain.one;
-            universe_is = plain.universe_is;
-            plan_is = plain.plan_is;
-            reachable = reachable_on u a.plan f.state (put f.state 0 next) 0 plain.reachable moved;
-            long = length-set f.state.lanes 0 next ∙ plain.long;
-            archive = plain.archive;
+            accepted = ok.accepted;
+            one = ok.one;
+            universe_is = ok.universe_is;
+            plan_is = ok.plan_is;
+            reachable = reachable_on u a.plan f.state (put f.state 0 next) 0 ok.reachable moved;
+            long = length-set f.state.lanes 0 next ∙ ok.long;
+            archive = ok.archive;
             made =
-                plain.made
+                ok.made
                 ∙ sym (ap (outputs_made u of) (stands next)
-                ∙ goes_count u of (plain.accepted.sound.plan.branched 0 in_plan) there st next x
+                ∙ goes_count u of (ok.accepted.sound.plan.branched 0 in_plan) there st next x
                 here place e);
-            room = plain.room;
+            room = ok.room;
           };
         }
 
@@ -139,23 +139,23 @@ module _ (a : AcceptedPlan) (f : Farm) (k : Kept) (plain : IsPlain a f k) where
           moved = moved;
           at = stands next;
           plain = record {
-            accepted = plain.accepted;
-            one = plain.one;
-            universe_is = plain.universe_is;
-            plan_is = plain.plan_is;
+            accepted = ok.accepted;
+            one = ok.one;
+            universe_is = ok.universe_is;
+            plan_is = ok.plan_is;
             reachable =
-                reachable_on u a.plan f.state (put_output f.state 0 next v) 0 plain.reachable moved;
-            long = length-set f.state.lanes 0 next ∙ plain.long;
-            archive = archive-published 0 v u f.state.published k within plain.archive;
+                reachable_on u a.plan f.state (put_output f.state 0 next v) 0 ok.reachable moved;
+            long = length-set f.state.lanes 0 next ∙ ok.long;
+            archive = archive-published 0 v u f.state.published k within ok.archive;
             made =
                 let one_more : length (f.state.published ++ publication 0 v ∷ [])
                 ≡ suc (length f.state.published) =
                 length-append f.state.published (publication 0 v ∷ []) ∙ omega arith in
                 one_more
-                ∙ ap suc plain.made
+                ∙ ap suc ok.made
                 ∙ sym (ap (outputs_made u of) (stands next)
-                ∙ (gives_count u of (plain.accepted.sound.plan.branched 0 in_plan) there st next x v
+                ∙ (gives_count u of (ok.accepted.sound.plan.branched 0 in_plan) there st next x v
                 here place e).0);
-            room = plain.room;
+            room = ok.room;
           };
         }

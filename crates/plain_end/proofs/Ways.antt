@@ -1,6 +1,7 @@
 -- The lane's local instructions, and what it comes to by them.
 use Rattle.std.proofs.Common.{◌≡◌, ◌≢◌, ℕ, zero, suc, ◌<◌, ◌≤◌, Bool, true, false, true≢false, inl, inr, List, [], ◌∷◌, length, drop, Option, Some, None, slice_get, refl, sym, ap, subst, ◌∙◌, arith}
 use Rattle.std.specs.Prelude.{not}
+use Rattle.std.proofs.lemmas.Option.{slice_get_within}
 use Rattle.archive_laws.proofs.Skips.{goes_behind}
 use Rattle.archive_laws.proofs.Foreseen.{OnlyGoes, unless_goes}
 use Rattle.archive_laws.proofs.Stands.{place_stands}
@@ -71,7 +72,7 @@ local_some (Some x) is = (x, refl, by (is_archive_step x) refl is)
     by true e h = absurd (true≢false (sym h))
     by false e h = refl
 
-module _ (a : AcceptedPlan) (f : Farm) (k : Kept) (plain : IsPlain a f k) where
+module _ (a : AcceptedPlan) (f : Farm) (k : Kept) (ok : IsPlain a f k) where
   abbrev u : Universe
   u = a.universe
 
@@ -94,11 +95,11 @@ module _ (a : AcceptedPlan) (f : Farm) (k : Kept) (plain : IsPlain a f k) where
   after_local x here local =
       let stands : IsStand (Some x) =
       subst IsStand here (place_stands u (instruction_at a.plan 0 st.done) st.made
-      (place a f k plain)) in
+      (place a f k ok)) in
       let there = has_bit k.words in
       let on = turn_goes (turn_of u there of st (Some x)) (only_goes u there of st x local stands)
-      (never_fails a f k plain x here) in
-      let after = goes a f k plain x here on.0 on.1 in
+      (never_fails a f k ok x here) in
+      let after = goes a f k ok x here on.0 on.1 in
       let done = goes_behind u there of st on.0 x (not_when x local) on.1 in
       record {
         next = on.0;
@@ -118,7 +119,7 @@ module _ (a : AcceptedPlan) (f : Farm) (k : Kept) (plain : IsPlain a f k) where
   -- a lane that stands at no local instruction is ready
   pub is_ready : is_local (instruction_at a.plan 0 st.done) ≡ false
       → ready_in u a.plan 0 st ≡ st
-  is_ready no = by (instruction_at a.plan 0 st.done) refl no
+  is_ready not_so = by (instruction_at a.plan 0 st.done) refl not_so
     where
       by : (o : Option Instruction) → instruction_at a.plan 0 st.done ≡ o → is_local o ≡ false
           → ready_in u a.plan 0 st ≡ st
@@ -147,10 +148,10 @@ pub record HasCome (a : AcceptedPlan) (f : Farm) (k : Kept) (number place : ℕ)
   pub at : (lane_in g).done ≡ place
   pub far : number ≤ place
 
-pub begun : (a : AcceptedPlan) (f : Farm) (k : Kept) → IsPlain a f k → (place : ℕ)
-    → place ≡ (lane_in f).done → HasCome a f k 0 place f
-begun a f k plain place is = record {
-  plain = plain;
+pub begun : (a : AcceptedPlan) (f : Farm) (k : Kept) → IsPlain a f k → (start : ℕ)
+    → start ≡ (lane_in f).done → HasCome a f k 0 start f
+begun a f k ok start is = record {
+  plain = ok;
   way = record { ready = refl; published = refl };
   at = sym is;
   far = omega arith;
@@ -182,9 +183,9 @@ module _ (a : AcceptedPlan) (f : Farm) (k : Kept) (number place : ℕ) (g : Farm
   -- where no local instruction is, the lane is ready
   pub has_settled : is_local (instruction_at a.plan 0 place) ≡ false
       → lane_in g ≡ ready_in a.universe a.plan 0 (lane_in f)
-  has_settled no =
+  has_settled not_so =
       sym (is_ready a g k come.plain
-      (ap (λ i. is_local (instruction_at a.plan 0 i)) come.at ∙ no))
+      (ap (λ i. is_local (instruction_at a.plan 0 i)) come.at ∙ not_so))
       ∙ come.way.ready
 
   -- so it is behind the end
@@ -198,3 +199,63 @@ module _ (a : AcceptedPlan) (f : Farm) (k : Kept) (number place : ℕ) (g : Farm
       past_end [] i le = refl
       past_end (x ∷ xs) zero le = absurd (omega (arith, le))
       past_end (x ∷ xs) (suc i) le = past_end xs i (omega (arith, le))
+
+  -- a lane that has settled stands at its next archive step
+  pub comes_here : is_local (instruction_at a.plan 0 place) ≡ false
+      → place ≡ (ready_in a.universe a.plan 0 (lane_in f)).done
+  comes_here not_so =
+      sym come.at ∙ ap (λ (st : LaneState). st.done) (has_settled not_so)
+
+  -- one local instruction more, by numbers that are the same
+  pub goes_further : (m q : ℕ) → m ≡ suc number → q ≡ next_place (lane a.plan 0) place
+      → is_local (instruction_at a.plan 0 place) ≡ true → (h : Farm) × HasCome a f k m q h
+  goes_further m q m_is q_is here =
+      let more = one_more here in (
+        more.0,
+        subst (λ (x : ℕ × ℕ). HasCome a f k x.0 x.1 more.0) (λ i. (sym m_is i, sym q_is i)) more.2,
+      )
+
+-- a step at a local instruction leaves the lane on its way
+pub steps_further : (a : AcceptedPlan) (f : Farm) (k : Kept) (number : ℕ) (g : Farm)
+    → HasCome a f k number (lane_in g).done g → (m : ℕ) → m ≡ suc number
+    → is_local (instruction_at a.plan 0 (lane_in g).done) ≡ true → (h : Farm)
+    → h ≡ with_state g (state_after g.state (step g.universe g.plan.lanes g.state 0))
+    → HasCome a f k m (lane_in h).done h
+steps_further a f k number g come m m_is here h after =
+    let some = local_some (instruction_at a.plan 0 (lane_in g).done) here in
+    let behind = after_local a g k come.plain some.0 some.1 some.2 in
+    let next = with_state g (put g.state 0 behind.next) in
+    let same : h ≡ next =
+    moved_to a g h (put g.state 0 behind.next) come.plain.universe_is come.plain.plan_is
+    behind.moved after in
+    let far = come.far in
+    let done = behind.behind in
+    subst (λ (x : Farm). HasCome a f k m (lane_in x).done x) (sym same)
+    (record {
+      plain = behind.plain;
+      way = way_on a f g next come.way behind.way;
+      at = refl;
+      far = omega (arith, behind_next (lane a.plan 0) (lane_in g).done, m_is, far, done);
+    })
+
+-- what a test of a place tells
+pub told : (of this : Lane) → of ≡ this → (i : ℕ) (b r : Bool)
+    → b ≡ is_local (slice_get of.instructions i) → b ≡ r
+    → is_local (slice_get this.instructions i) ≡ r
+told of this same i b r is e =
+    ap (λ (x : Lane). is_local (slice_get x.instructions i)) (sym same) ∙ (sym is ∙ e)
+
+pub local_within : (xs : List Instruction) (i : ℕ) → is_local (slice_get xs i) ≡ true
+    → i < length xs
+local_within xs i is =
+    let some = local_some (slice_get xs i) is in
+    slice_get_within xs i some.0 some.1
+
+-- the other of two truth values
+pub is_not : (b r : Bool) → r ≡ not b → r ≡ true → b ≡ false
+is_not true r e t = absurd (true≢false (sym t ∙ e))
+is_not false r e t = refl
+
+pub is_so : (b r : Bool) → r ≡ not b → r ≡ false → b ≡ true
+is_so true r e f = refl
+is_so false r e f = absurd (true≢false (sym e ∙ f))

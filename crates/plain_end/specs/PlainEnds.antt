@@ -3,8 +3,8 @@
 -- farm, k the archive.
 --
 --   lane_in, world_of      the lane; the words of the archive and the lane
---   numbers                the numbers below another
---   log_of                 what the end keeps of the lane
+--   PlainEndOf             an end, as its calls see it
+--   numbers, log_of        the numbers below another; the lane's record, as the end tells it
 --   IsPlain                what holds of each end
 --   IsOnItsWay             local instructions have led the farm from one state to another
 --   HasRunAlone            what a lane that ran alone to its end has come to
@@ -40,15 +40,25 @@ abbrev pub numbers : ℕ → List ℕ
 numbers zero = []
 numbers (suc n) = numbers n ++ n ∷ []
 
--- the lane's record: it has drawn so many serials, from 0 on, and knows all words, since only this
--- lane changes one
-abbrev pub log_of : Farm → Kept → ℕ → Bool → Bool → Record
-log_of f k drawn halted saw = record {
-  at = lane_in f;
-  serials = numbers drawn;
-  loaded = k.words;
-  halted = halted;
-  saw = saw;
+-- an end: the accepted plan, the farm and the archive; how many serials were drawn, whether the lane
+-- has halted or was told of a halt, and whether the archive was halted from outside
+pub record PlainEndOf : Type 0 where
+  pub about : AcceptedPlan
+  pub farm : Farm
+  pub archive : Kept
+  pub drawn : ℕ
+  pub halted : Bool
+  pub saw : Bool
+  pub stopped : Bool
+
+-- the lane has drawn the serials from 0 on, and knows all words, since it alone changes one
+abbrev pub log_of : PlainEndOf → Record
+log_of e = record {
+  at = lane_in e.farm;
+  serials = numbers e.drawn;
+  loaded = e.archive.words;
+  halted = e.halted;
+  saw = e.saw;
 }
 
 -- Of an end is kept:

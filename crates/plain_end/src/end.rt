@@ -6,12 +6,13 @@ ghost use Rattle.lane_runner.specs.OnWay.{IsEnded, IsFresh};
 ghost use Rattle.plain_end.specs.PlainEnds.{HasRunAlone, IsPlain, log_of, nowhere};
 ghost use Rattle.plan_model.specs.Plan as plan;
 
-use crate::steps::{decides, next_step, settle};
+use crate::steps::{load, next_serial, publish};
 use farm_archive::{PlainArchive, Publication};
 use farm_core::Core;
 use lane_runner::LaneArchive;
 use plan_verifier::Accepted;
 use std::alloc::{AllocError, Global};
+use std::marker::Model;
 
 /// The end of an archive in memory, of a plan of one lane. Beside the archive it keeps a farm at
 /// work, which stands where the lane was after its last archive step.
@@ -24,7 +25,24 @@ pub struct PlainEnd<'a> {
     halted: bool,
     saw: bool,
     stopped: bool,
-    pub ghost plain: { IsPlain accepted.now core archive },
+}
+
+impl<'a> Model for PlainEnd<'a> {
+    ghost use Rattle.plain_end.specs.PlainEnds.{IsPlain, PlainEndOf};
+
+    ghost Value = { PlainEndOf };
+
+    ghost view = { λ e. record {
+      about = e.accepted.now;
+      farm = e.core;
+      archive = e.archive;
+      drawn = e.drawn;
+      halted = e.halted;
+      saw = e.saw;
+      stopped = e.stopped;
+    } };
+
+    ghost invariant = { λ e. IsPlain e.accepted.now e.core e.archive };
 }
 
 impl<'a> PlainEnd<'a> {
@@ -36,10 +54,9 @@ impl<'a> PlainEnd<'a> {
     /// [`AllocError`] where memory is refused.
     pub fn open(alloc: Global, accepted: &'a Accepted) -> Result<PlainEnd<'a>, AllocError>
         requires { length accepted.now.plan ≡ 1 }
-        ensures about { IfOk result (λ e. e.accepted.now ≡ accepted.now) }
+        ensures about { IfOk result (λ e. e.about ≡ accepted.now) }
         ensures fresh { IfOk result (λ e. IsFresh accepted.now.universe
-            (plan.lane accepted.now.plan 0)
-            (log_of e.core e.archive e.drawn e.halted e.saw)) }
+            (plan.lane accepted.now.plan 0) (log_of e)) }
     {
         accepted.keeps();
         let core = Core::open(alloc, accepted.universe(), accepted.plan())?;
@@ -56,18 +73,22 @@ impl<'a> PlainEnd<'a> {
     }
 
     /// One run of the core leads to the state of the farm at work, and the archive is that of the
-    /// run, with all that was published.
+    /// run, with all that was published. It does nothing.
     pub fn keeps(&self)
-        ensures { IsPlain self.now.accepted.now self.now.core self.now.archive }
-    {}
+        ensures { IsPlain self.now.about self.now.farm self.now.archive }
+    {
+        let _drawn = self.drawn;
+    }
 
-    /// Where the lane is at its end, its chroot, its cost and the history are those of one run.
+    /// Where the lane is at its end, its chroot, its cost and the history are those of one run. It
+    /// does nothing.
     pub fn has_run_alone(&self)
-        ensures { (spent : ℕ) (c : Held) → IsEnded self.now.accepted.now.universe
-            self.now.accepted.now.plan 0 spent c (log_of self.now.core self.now.archive
-            self.now.drawn self.now.halted self.now.saw)
-            → HasRunAlone self.now.accepted.now spent c self.now.archive.history }
-    {}
+        ensures { (spent : ℕ) (c : Held)
+            → IsEnded self.now.about.universe self.now.about.plan 0 spent c (log_of self.now)
+            → HasRunAlone self.now.about spent c self.now.archive.history }
+    {
+        let _drawn = self.drawn;
+    }
 
     /// Halts the archive from outside its lane, which is told so where it looks.
     pub fn stop(&mut self)
@@ -87,11 +108,11 @@ impl<'a> PlainEnd<'a> {
 impl LaneArchive for PlainEnd<'_> {
     ghost home = { λ _. nowhere };
 
-    ghost about = { λ e. e.accepted.now };
+    ghost about = { λ e. e.about };
 
     ghost lane = { λ _. 0 };
 
-    ghost log = { λ e. log_of e.core e.archive e.drawn e.halted e.saw };
+    ghost log = { log_of };
 
     fn providers(&self, _text: &[u8]) -> usize {
         self.accepted.universe().names() as usize
@@ -102,26 +123,17 @@ impl LaneArchive for PlainEnd<'_> {
     }
 
     fn load(&mut self, name: u32) -> u64 {
-        let word = self.archive.word(name);
-        let place = next_step(self.accepted, &self.core, &self.archive);
-        if decides(self.accepted, place, name, word) {
-            settle(self.accepted, &mut self.core, &self.archive);
-            self.core.step(0);
-        }
-        word
+        load(self.accepted, &mut self.core, &self.archive, name)
     }
 
     fn draw(&mut self) -> u64 {
-        let serial = self.archive.history().len() as u64;
+        let serial = next_serial(self.accepted, &self.core, &self.archive);
         self.drawn = serial + 1;
         serial
     }
 
     fn publish_next(&mut self, _serial: u64) {
-        settle(self.accepted, &mut self.core, &self.archive);
-        self.core.step(0);
-        let output = self.core.history()[self.archive.history().len()].variant;
-        self.archive.publish(0, output);
+        publish(self.accepted, &mut self.core, &mut self.archive);
     }
 
     fn halt(&mut self) {

@@ -1,8 +1,10 @@
 //! The steps of the lane of a farm at work, beside an archive in memory.
 
-ghost use Rattle.std.specs.Prelude.{◌≡◌, ◌<◌, length, slice_get};
+ghost use Rattle.std.specs.Prelude.{◌≡◌, ◌<◌, ◌^◌, Some, length, slice_get, slice_index};
+ghost use Rattle.archive_laws.specs.LaneMoves.{behind_output, moved_by, outputs_made};
+ghost use Rattle.farm_model.specs.declared.types.Variant.{Variant};
 ghost use Rattle.farm_model.specs.Packages.{names};
-ghost use Rattle.lane_records.specs.Records.{ready_in};
+ghost use Rattle.lane_records.specs.Records.{loaded_with, next_of, next_output, ready_in};
 ghost use Rattle.plain_end.specs.PlainEnds.{IsOnItsWay, IsPlain, decides, is_local, lane_in};
 ghost use Rattle.plan_model.specs.Plan as plan;
 ghost use Rattle.plan_model.specs.Plan.{instruction_at};
@@ -38,7 +40,7 @@ fn is_local(lane: &Lane, place: usize) -> bool
 }
 
 /// The place of the lane's next archive step; that of its end where none is left.
-pub fn next_step(accepted: &Accepted, core: &Core<'_>, archive: &PlainArchive) -> usize
+fn next_step(accepted: &Accepted, core: &Core<'_>, archive: &PlainArchive) -> usize
     requires { IsPlain accepted.now core.now archive.now }
     ensures { result ≡ (ready_in accepted.now.universe accepted.now.plan 0 (lane_in core.now)).done }
 {
@@ -54,7 +56,7 @@ pub fn next_step(accepted: &Accepted, core: &Core<'_>, archive: &PlainArchive) -
 }
 
 /// Carries out the lane's local instructions, up to its next archive step.
-pub fn settle(accepted: &Accepted, core: &mut Core<'_>, archive: &PlainArchive)
+fn settle(accepted: &Accepted, core: &mut Core<'_>, archive: &PlainArchive)
     requires { IsPlain accepted.now core.old archive.now }
     ensures plain { IsPlain accepted.now core.new archive.now }
     ensures way { IsOnItsWay accepted.now core.old core.new }
@@ -71,7 +73,7 @@ pub fn settle(accepted: &Accepted, core: &mut Core<'_>, archive: &PlainArchive)
 }
 
 /// Tells whether the word of a name decides the archive step at a place.
-pub fn decides(accepted: &Accepted, place: usize, name: u32, word: u64) -> bool
+fn decides(accepted: &Accepted, place: usize, name: u32, word: u64) -> bool
     requires one { length accepted.now.plan ≡ 1 }
     requires name { name < names accepted.now.universe }
     ensures { result ≡ decides accepted.now.universe name word
@@ -81,7 +83,63 @@ pub fn decides(accepted: &Accepted, place: usize, name: u32, word: u64) -> bool
         Some(Instruction::Unpack { name: asked, .. } | Instruction::When { name: asked, .. }) => {
             *asked == name
         }
-        Some(Instruction::Wait(entry)) => { some_satisfies(accepted.universe(), name, word, entry) }
+        Some(Instruction::Wait(entry)) => {
+            some_satisfies(accepted.universe(), name, word, entry)
+        }
         _ => false,
     }
+}
+
+/// Loads the word of a name, and takes the lane's next archive step where the word decides it.
+pub fn load(
+    accepted: &Accepted,
+    core: &mut Core<'_>,
+    archive: &PlainArchive,
+    name: u32,
+) -> u64
+    requires plain { IsPlain accepted.now core.old archive.now }
+    requires name { name < names accepted.now.universe }
+    ensures plain { IsPlain accepted.now core.new archive.now }
+    ensures word { result ≡ slice_index archive.now.words name }
+    ensures at { lane_in core.new ≡ moved_by accepted.now.universe
+        (plan.lane accepted.now.plan 0) name result (lane_in core.old)
+        (ready_in accepted.now.universe accepted.now.plan 0 (lane_in core.old))
+        (next_of accepted.now.universe accepted.now.plan 0 (lane_in core.old)) }
+{
+    let word = archive.word(name);
+    let place = next_step(accepted, core, archive);
+    if decides(accepted, place, name, word) {
+        settle(accepted, core, archive);
+        core.step(0);
+    }
+    word
+}
+
+/// The serial of the lane's next output: how many it has made.
+pub fn next_serial(accepted: &Accepted, core: &Core<'_>, archive: &PlainArchive) -> u64
+    requires { IsPlain accepted.now core.now archive.now }
+    ensures made { result ≡ outputs_made accepted.now.universe (plan.lane accepted.now.plan 0)
+        (lane_in core.now) }
+    ensures fits { result < 2 ^ 63 }
+{
+    archive.history().len() as u64
+}
+
+/// Makes the lane's next output.
+pub fn publish(accepted: &Accepted, core: &mut Core<'_>, archive: &mut PlainArchive)
+    requires plain { IsPlain accepted.now core.old archive.old }
+    requires output { (v : Variant) × (next_output accepted.now.universe accepted.now.plan 0
+        (lane_in core.old) ≡ Some v) }
+    ensures plain { IsPlain accepted.now core.new archive.new }
+    ensures words { archive.new.words ≡ loaded_with archive.old.words
+        (next_output accepted.now.universe accepted.now.plan 0 (lane_in core.old)) }
+    ensures at { lane_in core.new ≡ behind_output accepted.now.universe
+        (plan.lane accepted.now.plan 0)
+        (ready_in accepted.now.universe accepted.now.plan 0 (lane_in core.old))
+        (next_of accepted.now.universe accepted.now.plan 0 (lane_in core.old)) }
+{
+    settle(accepted, core, archive);
+    core.step(0);
+    let output = core.history()[archive.history().len()].variant;
+    archive.publish(0, output);
 }
