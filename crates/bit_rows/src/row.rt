@@ -2,7 +2,7 @@
 
 ghost use Rattle.std.specs.Prelude.{◌≡◌, ◌<◌, ◌≤◌, ◌↔◌, IsTrue, IsOk, IfOk, OnOk, OnErr, length, replicate, slice_index, slice_set};
 ghost use Rattle.clause_kernel.specs.Kernels.{shares_bit, meets, lies_in, hits, met, within, same_rows, joined, common, remaining};
-ghost use Rattle.bit_rows.specs.Sets.{variants_of, HasNone, HasSomeAt, HasAllAt, IsMetAt, IsWordOf, IsSubset, HaveSame, HaveCommon, HasNameInside, IsUnion, IsIntersection, IsDifference, ReplacesName, AddsVariant, HasNoneFrom, HasNoWordApart};
+ghost use Rattle.bit_rows.specs.Sets.{variants_of, HasNone, HasSomeAt, HasAllAt, IsMetAt, IsWordOf, IsSubset, HaveSame, HaveCommon, HasNameInside, IsUnion, IsIntersection, IsDifference, ReplacesName, AddsVariant, AddsWord, HasNoneFrom, HasNoWordApart};
 
 use crate::block::{BLOCK, Block, are_same, find, put, skip_to, words_there};
 use crate::change::{Keeps, TakesOut, change_each, join_each};
@@ -130,6 +130,25 @@ impl<const N: usize, A: Allocator + Copy> Row<N, A> {
         let at = find(&self.blocks, place);
         let mut words = *words_there(&self.blocks, at, place);
         words[name % BLOCK] = word;
+        put(&mut self.blocks, at, Block { place, words })
+    }
+
+    /// Adds the variants of a word to those of a name.
+    ///
+    /// # Errors
+    ///
+    /// [`AllocError`] where memory is refused. The row is then as it was.
+    pub fn add_word(&mut self, name: usize, word: u64) -> Result<(), AllocError>
+        requires { name < length self.old }
+        ensures set { OnOk result
+            (AddsWord (variants_of self.old) name word (variants_of self.new)) }
+        ensures len { length self.new ≡ length self.old }
+        ensures unchanged { OnErr result (self.new ≡ self.old) }
+    {
+        let place = name / BLOCK;
+        let at = find(&self.blocks, place);
+        let mut words = *words_there(&self.blocks, at, place);
+        words[name % BLOCK] |= word;
         put(&mut self.blocks, at, Block { place, words })
     }
 

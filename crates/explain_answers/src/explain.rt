@@ -13,9 +13,9 @@ use crate::explanation::{Explained, Explanation, explain_accepted, explain_refus
 use crate::text_faults::explain_fault;
 use crate::told::write_explanation;
 use farm_answers::OutsideFault;
-use farm_input::{Planned, Texts, read_texts};
+use farm_input::Texts;
 use plan_lines::PlanLines;
-use plan_verifier::Examined;
+use plan_verifier::{Examined, Ready, read_ready};
 use report_sink::Sink;
 use std::alloc::{AllocError, Global};
 use std::mem::ManuallyDrop;
@@ -49,25 +49,29 @@ fn explain_examined(
     }
 }
 
-/// Explains the verdict on what texts stand for.
-fn explain_planned(
+/// Explains the verdict on what texts stand for, with the rows of their universe.
+fn explain_ready(
     rt: &(impl Threads + Sync),
     alloc: Global,
-    planned: Planned,
+    ready: Ready,
     texts: Texts<'_>,
 ) -> Result<Explanation, AllocError>
-    requires counted { planned.plan.count ≡ count planned.universe planned.plan.lanes }
-    requires sound { IsSound planned.universe planned.plan.lanes }
+    requires counted { ready.planned.plan.count
+        ≡ count ready.planned.universe ready.planned.plan.lanes }
+    requires sound { IsSound ready.planned.universe ready.planned.plan.lanes }
+    requires tables { IfOk ready.tables (λ tables. tables ≡ ready.planned.universe) }
     ensures { IfOk result (spec.IsExplainedPlan (texts_view texts.entry) (record {
-      universe = planned.universe;
-      plan = planned.plan.lanes;
+      universe = ready.planned.universe;
+      plan = ready.planned.plan.lanes;
     })) }
 {
     // A text that was read as a plan has lines, so that memory alone can be wanting.
     let Ok(lines) = PlanLines::read(alloc, texts.plan) else {
         return Err(AllocError);
     };
-    let examined = Examined::of(rt, alloc, planned)?;
+    let Ready { planned, tables } = ready;
+    let tables = tables?;
+    let examined = Examined::by_tables(rt, alloc, planned, tables)?;
     explain_examined(rt, alloc, examined, &lines, texts)
 }
 
@@ -79,8 +83,15 @@ fn explain_texts(
 ) -> Result<Explanation, AllocError>
     ensures { IfOk result (IsExplanation (texts_view texts.entry)) }
 {
-    match read_texts(alloc, texts.packages, texts.sources, texts.farm, texts.plan) {
-        Ok(planned) => explain_planned(rt, alloc, planned, texts),
+    match read_ready(
+        rt,
+        alloc,
+        texts.packages,
+        texts.sources,
+        texts.farm,
+        texts.plan,
+    ) {
+        Ok(ready) => explain_ready(rt, alloc, ready, texts),
         Err(fault) => explain_fault(alloc, fault, texts),
     }
 }

@@ -1,6 +1,6 @@
 //! What is answered where a plan is drawn.
 
-ghost use Rattle.std.specs.Prelude.{◌≡◌, Err};
+ghost use Rattle.std.specs.Prelude.{◌≡◌, Err, IfOk};
 ghost use Rattle.farm_answers.specs.Answers.{IsAnswered};
 ghost use Rattle.farm_answers.specs.Answers.{farm_in};
 ghost use Rattle.picture_answers.specs.Pictures.{AnswersGraph, Draws, DrawsPlan, IsStatus};
@@ -13,9 +13,9 @@ ghost use Rattle.timed_events.specs.Timed.{IsTimedRun};
 
 use crate::timeline::timed_plan;
 use farm_answers::{FINE, OutsideFault, REFUSED, show_verdict, write_answer};
-use farm_input::{Planned, Texts, read_texts};
+use farm_input::Texts;
 use plan_graph::{DrawnPlan, plan_dot, plan_graph_json};
-use plan_verifier::{Accepted, Examined, Refusal};
+use plan_verifier::{Accepted, Examined, Ready, Refusal, read_ready};
 use report_sink::Sink;
 use std::alloc::{AllocError, Global};
 use std::mem::ManuallyDrop;
@@ -136,25 +136,27 @@ fn draw_examined<'a, S: Sink>(
     }
 }
 
-/// Answers with what texts stand for as a graph, or with the refusal.
-fn draw_planned<'a, S: Sink>(
+/// Answers with what texts stand for as a graph, or with the refusal, by the rows of their universe.
+fn draw_ready<'a, S: Sink>(
     rt: &(impl Threads + Sync),
     alloc: Global,
-    planned: Planned,
+    ready: Ready,
     json: bool,
     out: &mut S,
 ) -> Result<u8, OutsideFault<'a>>
-    requires counted { planned.plan.count ≡ count planned.universe planned.plan.lanes }
-    requires sound { IsSound planned.universe planned.plan.lanes }
+    requires counted { ready.planned.plan.count
+        ≡ count ready.planned.universe ready.planned.plan.lanes }
+    requires sound { IsSound ready.planned.universe ready.planned.plan.lanes }
+    requires tables { IfOk ready.tables (λ tables. tables ≡ ready.planned.universe) }
     ensures { IsAnswered (DrawsPlan json (record {
-      universe = planned.universe;
-      plan = planned.plan.lanes;
+      universe = ready.planned.universe;
+      plan = ready.planned.plan.lanes;
     })) (S.state out.old) (S.state out.new) result }
 {
-    match Examined::of(rt, alloc, planned) {
-        Ok(examined) => draw_examined(rt, alloc, examined, json, out),
-        Err(AllocError) => Err(OutsideFault::OutOfMemory),
-    }
+    let Ready { planned, tables } = ready;
+    let tables = tables?;
+    let examined = Examined::by_tables(rt, alloc, planned, tables)?;
+    draw_examined(rt, alloc, examined, json, out)
 }
 
 /// Answers with the plan that four texts stand for as a graph, with its critical path where it is
@@ -175,8 +177,15 @@ pub fn answer_graph<'a, S: Sink>(
     ensures { IsAnswered (AnswersGraph json (texts_view texts.entry)) (S.state out.old)
         (S.state out.new) result }
 {
-    match read_texts(alloc, texts.packages, texts.sources, texts.farm, texts.plan) {
-        Ok(planned) => draw_planned(rt, alloc, planned, json, out),
+    match read_ready(
+        rt,
+        alloc,
+        texts.packages,
+        texts.sources,
+        texts.farm,
+        texts.plan,
+    ) {
+        Ok(ready) => draw_ready(rt, alloc, ready, json, out),
         Err(fault) => show_verdict(alloc, Err(Refusal::from(fault)), json, out),
     }
 }

@@ -1,5 +1,5 @@
 -- Variants that were found.
-use Rattle.std.proofs.Common.{◌≡◌, ℕ, ◌+◌, ◌<◌, ◌≤◌, get_or, take, Bool, true, false, ◌&&◌, ◌||◌, ◌==◌, cond, nat_lt, bit_or, zero, suc, [], ◌∷◌, slice_set, List, length, Option, None, Some, refl, sym, ap, subst, ◌∙◌, inl, inr, arith}
+use Rattle.std.proofs.Common.{◌≡◌, ℕ, ◌+◌, ◌<◌, ◌≤◌, get_or, take, Bool, true, false, ◌&&◌, ◌||◌, ◌==◌, nat_lt, bit_or, zero, suc, [], ◌∷◌, slice_set, List, length, Option, None, Some, refl, sym, ap, subst, ◌∙◌, inl, inr, arith}
 use Rattle.std.specs.Cmp.{both_ways as both_tests}
 use Rattle.std.specs.List.{list_any}
 use Rattle.std.specs.Option.{is_none}
@@ -208,20 +208,6 @@ found_row u ws i row long le each p found =
     row_from_names u p row long
     (λ n b lt. each n b (omega (arith, long))
     ∙ ap (λ xs. among xs n b) (take_all i ws le) ∙ found n b)
-
--- a word put to that of a name
-pub joined_word : (s new : ℕ → ℕ → Bool) (name before word : ℕ)
-    → ((b : ℕ) → s name b ≡ word_has before b)
-    → ((n b : ℕ) → new n b ≡ cond (n == name) (word_has (bit_or before word) b) (s n b))
-    → (n b : ℕ) → new n b ≡ (s n b || ((n == name) && word_has word b))
-joined_word s new name before word is replaced n b = replaced n b ∙ one (n == name) refl
-  where
-    one : (same : Bool) → (n == name) ≡ same
-        → cond same (word_has (bit_or before word) b) (s n b) ≡ (s n b || (same && word_has word b))
-    one true same =
-        word_has-or before word b
-        ∙ ap (λ x. x || word_has word b) (sym (is b) ∙ ap (λ k. s k b) (sym (eqb-true n name same)))
-    one false other = sym (or-false (s n b))
 
 -- a word joined to one of its number
 join_spread : (s x y r : Bool) → ((s && (x || y)) || r) ≡ (((s && x) || r) || (s && y))

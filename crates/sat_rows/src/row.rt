@@ -50,7 +50,7 @@ fn add_word(row: &mut Row, name: usize, word: u64) -> Result<(), AllocError>
     ensures len { length row.new ≡ length row.old }
 {
     if name < row.len() {
-        row.set_word(name, row.word(name) | word)?;
+        row.add_word(name, word)?;
     }
     Ok(())
 }

@@ -8,10 +8,10 @@ pub returns-in-Ok : goal.returns-in-Ok
 returns-in-Ok g c =
     answered-by
     (DrawsPlan c.args.json (record {
-      universe = c.in-Ok.planned.universe;
-      plan = c.in-Ok.planned.plan.lanes;
+      universe = c.in-Ok.ready.planned.universe;
+      plan = c.in-Ok.ready.planned.plan.lanes;
     }))
     (AnswersGraph c.args.json (texts_view c.args.texts)) _ _ _
     (λ text status is. subst (λ planned. DrawsTexts c.args.json planned text status)
     (sym c.in-Ok.ensures.read) is)
-    c.draw_planned.ensures
+    c.draw_ready.ensures
