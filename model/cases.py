@@ -1,7 +1,7 @@
 #!/usr/bin/env python3
 """Answers the case files of crates/*_cases/data by the model, and tells where an answer is not the wanted one.
 
-  model/cases.py [FILE..]     all files of farm_cases and command_cases where none is named
+  model/cases.py [FILE..]     all files of farm_cases, lane_cases and command_cases where none is named
 
 The form of a case file is said in crates/farm_cases/data/README, and of those of commands in the README beside them.
 """
@@ -133,6 +133,17 @@ def passing(universe, field, test):
     return [f"{variant.name} {variant.version.text}" for variant, it in found if test(variant, it)]
 
 
+def held_lines(universe, standing):
+    """What a lane holds and had configured last."""
+    found = []
+    for name in universe.variants:
+        if name in standing.slots:
+            slot = standing.slots[name]
+            last = slot.last.version.text if slot.last else "none"
+            found.append(f"{name} {slot.variant.version.text}, last {last}")
+    return found
+
+
 def turns(universe, plan, schedule):
     """What each turn comes to, and then what each lane holds and had configured last."""
     farm, written = Farm(universe, plan), []
@@ -149,12 +160,32 @@ def turns(universe, plan, schedule):
     written.append("not finished" if any(standing.next() for standing in farm.lanes) else "all finished")
     for standing in farm.lanes:
         written.append(f"lane {printable(standing.lane.name)}")
-        for name in universe.variants:
-            if name in standing.slots:
-                slot = standing.slots[name]
-                last = slot.last.version.text if slot.last else "none"
-                written.append(f"  {name} {slot.variant.version.text}, last {last}")
+        written += [f"  {line}" for line in held_lines(universe, standing)]
     return written
+
+
+def on_lane(texts, question):
+    """What a lane that runs alone comes to, at its end or where the question stops it."""
+    if answer("check", texts)[1]:
+        return ["refused"]
+    universe = read_universe(texts)
+    plan = read_plan(universe, texts["plan"])
+    if len(plan) != 1:
+        return ["not one lane"]
+    farm, stop = Farm(universe, plan), None
+    standing = farm.lanes[0]
+    while standing.next() and stop is None:
+        place, verb = standing.done + 1, standing.next().verb
+        if question == "halted" or question == f"before {place}":
+            stop = 502 if question == "halted" else 501
+            continue
+        farm.turn(standing)
+        if verb == "unpack" and question == f"unpacked {place}":
+            stop = 501
+    written = [f"stopped {stop} at {standing.done + 1}" if stop else f"spent {standing.spent}"]
+    for serial, (lane, variant) in enumerate(farm.published):
+        written.append(f"published {serial} {plan.index(lane)} {variant.name} {variant.version.text}")
+    return [*written, *held_lines(universe, standing)]
 
 
 def on_farm(texts, question):
@@ -346,11 +377,13 @@ def answer_case(crate, case):
     if word == "certificate":
         return on_certificate(*cut_certificate(case.input), rest)
     texts = cut_input(case.input)
+    if crate == "lane_cases":
+        return on_lane(texts, case.question)
     return on_schedule(texts, case.question) if word in ("step", "turns") else on_farm(texts, case.question)
 
 
 def main(names):
-    crates = ("farm_cases", "command_cases")
+    crates = ("farm_cases", "lane_cases", "command_cases")
     files = [Path(name) for name in names] or [it for crate in crates for it in sorted(CRATES.glob(f"{crate}/data/*.cases"))]
     same = passed_over = other = 0
     for file in files:
