@@ -44,12 +44,12 @@ module _ (a : AcceptedPlan) (f : Farm) (k : Kept) (ok : IsPlain a f k) where
             let more = one_more a f k number place g come here in
             comes n (suc number) _ more.0 more.2 (omega (arith, past))
         | inr not_so ↦ record {
-            farm = g;
-            number = number;
-            place = place;
-            come = come;
-            settled = not_so;
-          }
+          farm = g;
+          number = number;
+          place = place;
+          come = come;
+          settled = not_so;
+        }
       ]
 
   comes_to : ComesTo

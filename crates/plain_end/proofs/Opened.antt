@@ -1,6 +1,7 @@
 -- An end at the beginning.
-use Rattle.std.proofs.Common.{◌≡◌, ℕ, ◌≤◌, List, [], ◌∷◌, length, map, refl, sym, ap, subst, ◌∙◌, length-map, arith}
+use Rattle.std.proofs.Common.{◌≡◌, ℕ, ◌≤◌, List, [], ◌∷◌, length, map, refl, sym, ap, subst, ◌∙◌, arith}
 use Rattle.std.specs.Prelude.{slice_index_or}
+use Rattle.std.proofs.lemmas.List.{length-map}
 use Rattle.archive_laws.specs.LaneMoves.{outputs_made}
 use Rattle.farm_archive.specs.Kept.{Kept, IsArchive}
 use Rattle.farm_archive.specs.Room.{outputs_in}

@@ -15,7 +15,7 @@ use Rattle.farm_model.specs.Packages.{names, outputs, has_bit}
 use Rattle.farm_model.specs.Sound.{IsKnown}
 use Rattle.farm_model.specs.Traps.{first_trap}
 use Rattle.farm_model.specs.Universe.{Universe}
-use Rattle.lane_records.specs.Records.{ready_in, next_of, next_output}
+use Rattle.lane_records.specs.Records.{after_draw}
 use Rattle.plan_model.specs.declared.instructions.Instruction.{Instruction}
 use Rattle.plan_model.specs.declared.instructions.Instruction.TheVariants.{Publish}
 use Rattle.plan_model.specs.Plan.{Lane, lane, lane_outputs, instruction_at}
@@ -23,13 +23,29 @@ use Rattle.plan_model.specs.Run as run
 use Rattle.plan_model.specs.Run.{publication}
 use Rattle.plan_model.specs.Turn.{LaneState, Turn, Gives, Fails, unless, publishes, publish_traps, turn_of}
 use Rattle.plan_verifier.specs.Accepted.{AcceptedPlan}
-use Rattle.plain_end.specs.PlainEnds.{lane_in, numbers, IsPlain}
+use Rattle.plain_end.specs.PlainEnds.{PlainEndOf, lane_in, numbers, log_of, IsPlain}
 use Rattle.plain_end.proofs.Turns.{in_plan, place, never_fails, HasGiven, gives}
 
 pub length-numbers : (n : ℕ) → length (numbers n) ≡ n
 length-numbers zero = refl
 length-numbers (suc n) =
     length-append (numbers n) (n ∷ []) ∙ (let e = length-numbers n in omega arith)
+
+numbers_more : (n : ℕ) → numbers (n + 1) ≡ numbers n ++ n ∷ []
+numbers_more n = ap numbers (omega arith)
+
+-- the record behind a draw
+pub draws : (e : PlainEndOf) (serial : ℕ) → serial ≡ e.drawn
+    → log_of (record e { drawn = serial + 1 }) ≡ after_draw serial (log_of e)
+draws e serial is =
+    ap (λ (xs : List ℕ). record {
+      at = lane_in e.farm;
+      serials = xs;
+      loaded = e.archive.words;
+      halted = e.halted;
+      saw = e.saw;
+    })
+    (numbers_more serial ∙ ap (λ n. numbers n ++ serial ∷ []) is)
 
 pub length-numbered : (k : ℕ) (ps : List run.Publication) → length (numbered k ps) ≡ length ps
 length-numbered k [] = refl

@@ -239,10 +239,10 @@ steps_further a f k number g come m m_is here h after =
     })
 
 -- what a test of a place tells
-pub told : (of this : Lane) → of ≡ this → (i : ℕ) (b r : Bool)
-    → b ≡ is_local (slice_get of.instructions i) → b ≡ r
+pub told : (read this : Lane) → read ≡ this → (i : ℕ) (b r : Bool)
+    → b ≡ is_local (slice_get read.instructions i) → b ≡ r
     → is_local (slice_get this.instructions i) ≡ r
-told of this same i b r is e =
+told read this same i b r is e =
     ap (λ (x : Lane). is_local (slice_get x.instructions i)) (sym same) ∙ (sym is ∙ e)
 
 pub local_within : (xs : List Instruction) (i : ℕ) → is_local (slice_get xs i) ≡ true
@@ -250,12 +250,3 @@ pub local_within : (xs : List Instruction) (i : ℕ) → is_local (slice_get xs 
 local_within xs i is =
     let some = local_some (slice_get xs i) is in
     slice_get_within xs i some.0 some.1
-
--- the other of two truth values
-pub is_not : (b r : Bool) → r ≡ not b → r ≡ true → b ≡ false
-is_not true r e t = absurd (true≢false (sym t ∙ e))
-is_not false r e t = refl
-
-pub is_so : (b r : Bool) → r ≡ not b → r ≡ false → b ≡ true
-is_so true r e f = refl
-is_so false r e f = absurd (true≢false (sym e ∙ f))
