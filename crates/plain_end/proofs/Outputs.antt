@@ -1,17 +1,16 @@
 -- The next output of the lane, and the serial that is drawn for it.
-use Rattle.std.proofs.Common.{◌≡◌, ◌≢◌, ℕ, zero, suc, ◌+◌, ◌<◌, ◌≤◌, Bool, List, [], ◌∷◌, ◌++◌, length, Option, Some, None, slice_get, refl, sym, ap, subst, ◌∙◌, arith}
+use Rattle.std.proofs.Common.{◌≡◌, ◌≢◌, ℕ, zero, suc, ◌+◌, ◌<◌, Bool, List, [], ◌∷◌, ◌++◌, length, Option, Some, None, slice_get, refl, sym, ap, subst, ◌∙◌, arith}
 use Rattle.std.proofs.lemmas.List.{length-append}
 use Rattle.std.proofs.lemmas.Option.{slice_get_within, get_or_from_slice_get}
 use Rattle.archive_laws.specs.LaneMoves.{outputs_made, output_of, behind_output}
 use Rattle.archive_laws.proofs.Counted.{gives_count}
 use Rattle.farm_archive.specs.declared.publication.Publication.{Publication}
 use Rattle.farm_archive.specs.Kept.{Kept, numbered}
-use Rattle.farm_core.specs.Farm.{Farm, with_state}
+use Rattle.farm_core.specs.Farm.{Farm}
 use Rattle.farm_laws.proofs.Safe.{variants_name}
-use Rattle.farm_laws.proofs.Steps.{put_output}
 use Rattle.farm_model.specs.declared.types.Trap.{Trap}
 use Rattle.farm_model.specs.declared.types.Variant.{Variant}
-use Rattle.farm_model.specs.Packages.{names, outputs, has_bit}
+use Rattle.farm_model.specs.Packages.{outputs, has_bit}
 use Rattle.farm_model.specs.Sound.{IsKnown}
 use Rattle.farm_model.specs.Traps.{first_trap}
 use Rattle.farm_model.specs.Universe.{Universe}
@@ -32,7 +31,9 @@ length-numbers (suc n) =
     length-append (numbers n) (n ∷ []) ∙ (let e = length-numbers n in omega arith)
 
 numbers_more : (n : ℕ) → numbers (n + 1) ≡ numbers n ++ n ∷ []
-numbers_more n = ap numbers (omega arith)
+numbers_more n =
+    let next : n + 1 ≡ suc n = omega arith in
+    ap numbers next
 
 -- the record behind a draw
 pub draws : (e : PlainEndOf) (serial : ℕ) → serial ≡ e.drawn

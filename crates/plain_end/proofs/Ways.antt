@@ -1,5 +1,5 @@
 -- The lane's local instructions, and what it comes to by them.
-use Rattle.std.proofs.Common.{◌≡◌, ◌≢◌, ℕ, zero, suc, ◌<◌, ◌≤◌, Bool, true, false, true≢false, inl, inr, List, [], ◌∷◌, length, drop, Option, Some, None, slice_get, refl, sym, ap, subst, ◌∙◌, arith}
+use Rattle.std.proofs.Common.{◌≡◌, ◌≢◌, ℕ, zero, suc, ◌<◌, ◌≤◌, Bool, true, false, true≢false, List, [], ◌∷◌, length, drop, Option, Some, None, slice_get, refl, sym, ap, subst, ◌∙◌, arith}
 use Rattle.std.specs.Prelude.{not}
 use Rattle.std.proofs.lemmas.Option.{slice_get_within}
 use Rattle.archive_laws.proofs.Skips.{goes_behind}
@@ -18,10 +18,10 @@ use Rattle.lane_records.specs.Records.{ready_in}
 use Rattle.lane_records.proofs.Ways.{ready_there, ready_end, ready_next}
 use Rattle.lane_runner.proofs.Onwards.{behind_next}
 use Rattle.plan_model.specs.declared.instructions.Instruction.{Instruction}
-use Rattle.plan_model.specs.declared.instructions.Instruction.TheVariants.{Unpack, Configure, Deconfigure, Remove, Build, Publish, Wait, When, Otherwise, EndWhen}
+use Rattle.plan_model.specs.declared.instructions.Instruction.TheVariants.{Configure, Deconfigure, Remove, Build, When, Otherwise, EndWhen}
 use Rattle.plan_model.specs.Plan.{Lane, lane, instruction_at, next_place}
 use Rattle.plan_model.specs.Run.{Moved, step}
-use Rattle.plan_model.specs.Turn.{LaneState, Turn, Goes, Gives, Waits, Ends, Fails, turn_of}
+use Rattle.plan_model.specs.Turn.{LaneState, Turn, Goes, Fails, turn_of}
 use Rattle.plan_model.specs.World.{nothing, is_archive_step}
 use Rattle.plan_verifier.specs.Accepted.{AcceptedPlan}
 use Rattle.plain_end.specs.PlainEnds.{lane_in, IsPlain, IsOnItsWay, is_local}

@@ -1,4 +1,4 @@
-use Rattle.std.proofs.Common.{◌≡◌, ◌<◌, ◌≤◌, ◌+◌, suc, length, sym, ap, subst, ◌∙◌, arith}
+use Rattle.std.proofs.Common.{◌≡◌, ◌+◌, length, sym, ap, ◌∙◌, arith}
 use Rattle.plan_model.specs.Plan.{Lane, lane, next_place}
 use Rattle.plain_end.proofs.Ways.{comes_here, goes_further, at_end, told, local_within}
 use Rattle.plain_end.proofs.steps.next_step.Goals as goal

@@ -1,4 +1,4 @@
-use Rattle.std.proofs.Common.{◌≡◌, ◌<◌, ◌≤◌, ◌+◌, suc, length, sym, ap, subst, ◌∙◌, arith}
+use Rattle.std.proofs.Common.{◌≡◌, ◌+◌, length, sym, ap, ◌∙◌, arith}
 use Rattle.plan_model.specs.Plan.{Lane, lane, instruction_at}
 use Rattle.plain_end.specs.PlainEnds.{lane_in, is_local}
 use Rattle.plain_end.proofs.Ways.{has_settled, steps_further, at_end, told}
