@@ -1,6 +1,10 @@
 //! The answers to the questions of cases.
 
-ghost use Rattle.std.specs.Prelude.{◌≡◌, length};
+ghost use Rattle.std.specs.Prelude.{◌≡◌, IfOk, length};
+ghost use Rattle.chroot_state.specs.Held.{IsHeld, opened};
+ghost use Rattle.lane_runner.specs.OnWay.{IsFresh};
+ghost use Rattle.plain_end.specs.PlainEnds.{log_of};
+ghost use Rattle.plan_model.specs.Plan as plan;
 
 use crate::lines::{push_chroot, push_end, push_history};
 use crate::stops::{Stops, StopsAt, stops_of};
@@ -15,6 +19,35 @@ use std::mem::ManuallyDrop;
 use std::sync::Wait;
 use std::thread::Threads;
 
+/// The lane's base chroot.
+fn base_chroot(alloc: Global, accepted: &Accepted) -> Result<Chroot, AllocError>
+    requires { length accepted.now.plan ≡ 1 }
+    ensures opened { IfOk result (λ c. c ≡ opened accepted.now.universe
+        (plan.lane accepted.now.plan 0).base) }
+    ensures held { IfOk result (IsHeld accepted.now.universe) }
+{
+    accepted.keeps();
+    Chroot::open(alloc, accepted.universe(), accepted.plan().lane(0).base())
+}
+
+/// The end of an archive in memory, which is halted where the case says so.
+fn open_end<'a>(
+    alloc: Global,
+    accepted: &'a Accepted,
+    stops: Stops,
+) -> Result<PlainEnd<'a>, AllocError>
+    requires { length accepted.now.plan ≡ 1 }
+    ensures about { IfOk result (λ e. e.about ≡ accepted.now) }
+    ensures fresh { IfOk result (λ e. IsFresh accepted.now.universe
+        (plan.lane accepted.now.plan 0) (log_of e)) }
+{
+    let mut end = PlainEnd::open(alloc, accepted)?;
+    if stops == Stops::Halted {
+        end.stop();
+    }
+    Ok(end)
+}
+
 /// Runs the lane of a plan of one, and tells how it ended, what it published and what its chroot
 /// holds then.
 fn run_text(
@@ -25,13 +58,9 @@ fn run_text(
 ) -> Result<Vec<u8>, AllocError>
     requires { length accepted.now.plan ≡ 1 }
 {
-    accepted.keeps();
     let universe = accepted.universe();
-    let mut chroot = Chroot::open(alloc, universe, accepted.plan().lane(0).base())?;
-    let mut end = PlainEnd::open(alloc, accepted)?;
-    if stops == Stops::Halted {
-        end.stop();
-    }
+    let mut chroot = base_chroot(alloc, accepted)?;
+    let mut end = open_end(alloc, accepted, stops)?;
     let ended = run_lane(rt, accepted, 0, &mut chroot, &mut end, &StopsAt { stops });
     let mut text = String::new(alloc);
     push_end(&mut text, ended)?;

@@ -1,5 +1,5 @@
 -- A lane that ran alone to its end.
-use Rattle.std.proofs.Common.{◌≡◌, ℕ, zero, suc, ◌+◌, ◌<◌, ◌≤◌, Bool, true, false, inl, inr, List, [], ◌∷◌, length, Option, Some, None, slice_get, refl, sym, ap, subst, ◌∙◌, arith}
+use Rattle.std.proofs.Common.{◌≡◌, ℕ, zero, suc, ◌+◌, ◌≤◌, false, inl, inr, List, [], ◌∷◌, length, None, slice_get, refl, sym, ap, subst, ◌∙◌, arith}
 use Rattle.std.specs.Prelude.{slice_index_or}
 use Rattle.std.proofs.lemmas.Bool.{cases_Bool}
 use Rattle.archive_laws.proofs.AllReady.{ends_are_finished}
@@ -44,12 +44,12 @@ module _ (a : AcceptedPlan) (f : Farm) (k : Kept) (ok : IsPlain a f k) where
             let more = one_more a f k number place g come here in
             comes n (suc number) _ more.0 more.2 (omega (arith, past))
         | inr not_so ↦ record {
-            farm = g;
-            number = number;
-            place = place;
-            come = come;
-            settled = not_so;
-          }
+          farm = g;
+          number = number;
+          place = place;
+          come = come;
+          settled = not_so;
+        }
       ]
 
   comes_to : ComesTo

@@ -1,5 +1,5 @@
 -- A load of the lane's next archive step.
-use Rattle.std.proofs.Common.{◌≡◌, ℕ, ◌<◌, Bool, true, false, true≢false, ◌&&◌, inl, inr, List, length, Option, Some, None, get_or-set_same, refl, sym, ap, subst, ◌∙◌, arith}
+use Rattle.std.proofs.Common.{◌≡◌, ℕ, Bool, true, false, true≢false, ◌&&◌, inl, inr, Option, Some, None, get_or-set_same, refl, sym, ap, subst, ◌∙◌, arith}
 use Rattle.std.specs.Prelude.{◌==◌, slice_index, slice_set}
 use Rattle.std.proofs.lemmas.Bool.{cases_eq, eq-eqb, ne_eqb, eqb-true, cond-true, cond-false, and_parts, and_from}
 use Rattle.std.proofs.lemmas.List.{set-get_or}
@@ -8,18 +8,16 @@ use Rattle.archive_laws.specs.Shown.{with_lane}
 use Rattle.archive_laws.proofs.OneWord.{each_word_decides}
 use Rattle.archive_laws.proofs.Foreseen.{OnlyGoes, unless_goes}
 use Rattle.archive_laws.proofs.Settles.{each_lane_steps}
-use Rattle.deb_relation.specs.declared.operator.Op.{Op}
 use Rattle.deb_relation.specs.Relations.{Entry}
 use Rattle.farm_archive.specs.Kept.{Kept}
-use Rattle.farm_core.specs.Farm.{Farm, with_state}
-use Rattle.farm_laws.proofs.Steps.{put}
+use Rattle.farm_core.specs.Farm.{Farm}
 use Rattle.farm_model.specs.declared.types.Variant.{Variant}
 use Rattle.farm_model.specs.Below.{some_below}
 use Rattle.farm_model.specs.Packages.{names, variant, variants, word_has, has_bit, satisfies_entry}
 use Rattle.farm_model.specs.Universe.{Universe}
 use Rattle.farm_model.proofs.BelowLaws.{some_below-none, some_below-found}
 use Rattle.lane_records.specs.Bounds.{IsInBounds}
-use Rattle.lane_records.specs.Records.{ready_in, next_of, after_load}
+use Rattle.lane_records.specs.Records.{ready_in, next_of}
 use Rattle.lane_records.proofs.Bounded.{loads_are_in_bounds}
 use Rattle.plan_model.specs.declared.instructions.Instruction.{Instruction}
 use Rattle.plan_model.specs.declared.instructions.Instruction.TheVariants.{Unpack, Wait, When}
@@ -29,7 +27,7 @@ use Rattle.plan_model.specs.Turn.{LaneState, Turn, Goes, Waits, past, passes, ne
 use Rattle.plan_model.specs.World.{goes_on}
 use Rattle.plan_verifier.specs.Accepted.{AcceptedPlan, known_rows}
 use Rattle.plan_verifier.proofs.Promises.{annotation}
-use Rattle.plain_end.specs.PlainEnds.{lane_in, world_of, log_of, decides, IsPlain}
+use Rattle.plain_end.specs.PlainEnds.{lane_in, world_of, decides, IsPlain}
 use Rattle.plain_end.proofs.Turns.{in_plan, reached, never_fails, IsBehind, goes}
 use Rattle.plain_end.proofs.Ways.{turn_goes}
 

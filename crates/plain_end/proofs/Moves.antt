@@ -1,19 +1,17 @@
 -- What the steps of the lane come to, as the calls tell them.
-use Rattle.std.proofs.Common.{◌≡◌, ℕ, zero, suc, ◌+◌, ◌<◌, ◌≤◌, true, false, List, [], ◌∷◌, ◌++◌, length, Option, Some, None, slice_get, refl, sym, ap, subst, ◌∙◌, arith}
+use Rattle.std.proofs.Common.{◌≡◌, ℕ, suc, ◌+◌, ◌<◌, true, false, List, [], ◌∷◌, ◌++◌, length, Some, slice_get, refl, sym, ap, subst, ◌∙◌, arith}
 use Rattle.std.specs.Prelude.{slice_index, slice_index_or}
 use Rattle.std.proofs.lemmas.List.{length-append}
 use Rattle.std.proofs.lemmas.Option.{get_or_from_slice_get}
-use Rattle.archive_laws.specs.LaneMoves.{outputs_made, moved_by, behind_output, output_of}
+use Rattle.archive_laws.specs.LaneMoves.{moved_by, behind_output, output_of}
 use Rattle.farm_archive.specs.declared.publication.Publication.{Publication}
 use Rattle.farm_archive.specs.Kept.{Kept, with_publication, numbered}
 use Rattle.farm_core.specs.Farm.{Farm, with_state, state_after}
 use Rattle.farm_laws.proofs.Safe.{variants_name}
 use Rattle.farm_laws.proofs.Steps.{put, put_output}
 use Rattle.farm_model.specs.declared.types.Variant.{Variant}
-use Rattle.farm_model.specs.Packages.{names}
-use Rattle.lane_records.specs.Records.{ready_in, next_of, next_output, loaded_with}
-use Rattle.plan_model.specs.declared.instructions.Instruction.{Instruction}
-use Rattle.plan_model.specs.Plan.{lane, lane_outputs, instruction_at}
+use Rattle.lane_records.specs.Records.{ready_in, next_of, next_output}
+use Rattle.plan_model.specs.Plan.{lane, instruction_at}
 use Rattle.plan_model.specs.Run as run
 use Rattle.plan_model.specs.Run.{step, publication}
 use Rattle.plan_model.specs.Turn.{LaneState}

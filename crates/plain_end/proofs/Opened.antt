@@ -1,6 +1,7 @@
 -- An end at the beginning.
-use Rattle.std.proofs.Common.{◌≡◌, ℕ, ◌≤◌, List, [], ◌∷◌, length, map, refl, sym, ap, subst, ◌∙◌, length-map, arith}
+use Rattle.std.proofs.Common.{◌≡◌, ◌≤◌, [], ◌∷◌, length, map, refl, sym, ap, subst, ◌∙◌, arith}
 use Rattle.std.specs.Prelude.{slice_index_or}
+use Rattle.std.proofs.lemmas.List.{length-map}
 use Rattle.archive_laws.specs.LaneMoves.{outputs_made}
 use Rattle.farm_archive.specs.Kept.{Kept, IsArchive}
 use Rattle.farm_archive.specs.Room.{outputs_in}
@@ -9,7 +10,7 @@ use Rattle.farm_model.specs.Below.{sum_below}
 use Rattle.farm_model.specs.Universe.{Universe}
 use Rattle.plan_model.specs.Plan.{Plan, lane, lane_outputs}
 use Rattle.plan_model.specs.Run.{State, no_state, start}
-use Rattle.plan_model.specs.Turn.{LaneState, start_lane}
+use Rattle.plan_model.specs.Turn.{start_lane}
 use Rattle.plan_verifier.specs.Accepted.{AcceptedPlan, IsAccepted}
 use Rattle.plain_end.specs.PlainEnds.{lane_in, IsPlain}
 

@@ -1,21 +1,20 @@
 -- The next output of the lane, and the serial that is drawn for it.
-use Rattle.std.proofs.Common.{◌≡◌, ◌≢◌, ℕ, zero, suc, ◌+◌, ◌<◌, ◌≤◌, Bool, List, [], ◌∷◌, ◌++◌, length, Option, Some, None, slice_get, refl, sym, ap, subst, ◌∙◌, arith}
+use Rattle.std.proofs.Common.{◌≡◌, ◌≢◌, ℕ, zero, suc, ◌+◌, ◌<◌, Bool, List, [], ◌∷◌, ◌++◌, length, Option, Some, None, slice_get, refl, sym, ap, subst, ◌∙◌, arith}
 use Rattle.std.proofs.lemmas.List.{length-append}
 use Rattle.std.proofs.lemmas.Option.{slice_get_within, get_or_from_slice_get}
 use Rattle.archive_laws.specs.LaneMoves.{outputs_made, output_of, behind_output}
 use Rattle.archive_laws.proofs.Counted.{gives_count}
 use Rattle.farm_archive.specs.declared.publication.Publication.{Publication}
 use Rattle.farm_archive.specs.Kept.{Kept, numbered}
-use Rattle.farm_core.specs.Farm.{Farm, with_state}
+use Rattle.farm_core.specs.Farm.{Farm}
 use Rattle.farm_laws.proofs.Safe.{variants_name}
-use Rattle.farm_laws.proofs.Steps.{put_output}
 use Rattle.farm_model.specs.declared.types.Trap.{Trap}
 use Rattle.farm_model.specs.declared.types.Variant.{Variant}
-use Rattle.farm_model.specs.Packages.{names, outputs, has_bit}
+use Rattle.farm_model.specs.Packages.{outputs, has_bit}
 use Rattle.farm_model.specs.Sound.{IsKnown}
 use Rattle.farm_model.specs.Traps.{first_trap}
 use Rattle.farm_model.specs.Universe.{Universe}
-use Rattle.lane_records.specs.Records.{ready_in, next_of, next_output}
+use Rattle.lane_records.specs.Records.{after_draw}
 use Rattle.plan_model.specs.declared.instructions.Instruction.{Instruction}
 use Rattle.plan_model.specs.declared.instructions.Instruction.TheVariants.{Publish}
 use Rattle.plan_model.specs.Plan.{Lane, lane, lane_outputs, instruction_at}
@@ -23,13 +22,31 @@ use Rattle.plan_model.specs.Run as run
 use Rattle.plan_model.specs.Run.{publication}
 use Rattle.plan_model.specs.Turn.{LaneState, Turn, Gives, Fails, unless, publishes, publish_traps, turn_of}
 use Rattle.plan_verifier.specs.Accepted.{AcceptedPlan}
-use Rattle.plain_end.specs.PlainEnds.{lane_in, numbers, IsPlain}
+use Rattle.plain_end.specs.PlainEnds.{PlainEndOf, lane_in, numbers, log_of, IsPlain}
 use Rattle.plain_end.proofs.Turns.{in_plan, place, never_fails, HasGiven, gives}
 
 pub length-numbers : (n : ℕ) → length (numbers n) ≡ n
 length-numbers zero = refl
 length-numbers (suc n) =
     length-append (numbers n) (n ∷ []) ∙ (let e = length-numbers n in omega arith)
+
+numbers_more : (n : ℕ) → numbers (n + 1) ≡ numbers n ++ n ∷ []
+numbers_more n =
+    let next : n + 1 ≡ suc n = omega arith in
+    ap numbers next
+
+-- the record behind a draw
+pub draws : (e : PlainEndOf) (serial : ℕ) → serial ≡ e.drawn
+    → log_of (record e { drawn = serial + 1 }) ≡ after_draw serial (log_of e)
+draws e serial is =
+    ap (λ (xs : List ℕ). record {
+      at = lane_in e.farm;
+      serials = xs;
+      loaded = e.archive.words;
+      halted = e.halted;
+      saw = e.saw;
+    })
+    (numbers_more serial ∙ ap (λ n. numbers n ++ serial ∷ []) is)
 
 pub length-numbered : (k : ℕ) (ps : List run.Publication) → length (numbered k ps) ≡ length ps
 length-numbered k [] = refl

@@ -1,7 +1,6 @@
 -- The turn of the lane of a farm at work, over the archive beside it.
-use Rattle.std.proofs.Common.{◌≡◌, ◌≢◌, ℕ, Bool, suc, ◌+◌, ◌<◌, List, [], ◌∷◌, ◌++◌, length, Some, slice_get, slice_set, get_or-set_same, length-set, refl, sym, ap, subst, ◌∙◌, arith}
+use Rattle.std.proofs.Common.{◌≡◌, ◌≢◌, ℕ, Bool, suc, ◌+◌, ◌<◌, List, [], ◌∷◌, ◌++◌, length, Some, get_or-set_same, length-set, refl, sym, ap, subst, ◌∙◌, arith}
 use Rattle.std.proofs.lemmas.List.{length-append}
-use Rattle.std.proofs.lemmas.Option.{same_Some, slice_get_within, get_or_from_slice_get}
 use Rattle.archive_laws.specs.LaneMoves.{outputs_made}
 use Rattle.archive_laws.specs.Shown.{IsReached}
 use Rattle.archive_laws.proofs.Counted.{in_place, goes_count, gives_count}
@@ -9,20 +8,17 @@ use Rattle.archive_laws.proofs.Turns.{turn_in, step_is, turn_shown}
 use Rattle.farm_archive.specs.Kept.{Kept, with_publication}
 use Rattle.farm_archive.proofs.Published.{archive-published}
 use Rattle.farm_core.specs.Farm.{Farm, with_state, state_after}
-use Rattle.farm_laws.proofs.Safe.{variants_name}
 use Rattle.farm_laws.proofs.Steps.{put, put_output}
 use Rattle.farm_laws.specs.EventsLeft.{InPlace}
 use Rattle.farm_model.specs.declared.types.Trap.{Trap}
 use Rattle.farm_model.specs.declared.types.Variant.{Variant}
-use Rattle.farm_model.specs.Packages.{names, outputs, has_bit}
-use Rattle.farm_model.specs.Sound.{IsKnown}
+use Rattle.farm_model.specs.Packages.{has_bit}
 use Rattle.farm_model.specs.Universe.{Universe}
 use Rattle.plan_model.specs.declared.instructions.Instruction.{Instruction}
-use Rattle.plan_model.specs.declared.instructions.Instruction.TheVariants.{Publish}
 use Rattle.plan_model.specs.Plan.{Lane, Plan, lane, instruction_at}
 use Rattle.plan_model.specs.Run.{State, Outcome, Moved, Run, Reachable, no_state, start, step, outcome, publication}
-use Rattle.plan_model.specs.Turn.{LaneState, Turn, Goes, Gives, Fails, turn_of}
-use Rattle.plan_model.specs.World.{World, Shows}
+use Rattle.plan_model.specs.Turn.{LaneState, Goes, Gives, Fails, turn_of}
+use Rattle.plan_model.specs.World.{Shows}
 use Rattle.plan_verifier.specs.Accepted.{AcceptedPlan}
 use Rattle.plan_verifier.proofs.Promises.{safe_of}
 use Rattle.plain_end.specs.PlainEnds.{lane_in, world_of, IsPlain}

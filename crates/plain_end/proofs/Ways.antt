@@ -1,5 +1,5 @@
 -- The lane's local instructions, and what it comes to by them.
-use Rattle.std.proofs.Common.{◌≡◌, ◌≢◌, ℕ, zero, suc, ◌<◌, ◌≤◌, Bool, true, false, true≢false, inl, inr, List, [], ◌∷◌, length, drop, Option, Some, None, slice_get, refl, sym, ap, subst, ◌∙◌, arith}
+use Rattle.std.proofs.Common.{◌≡◌, ◌≢◌, ℕ, zero, suc, ◌<◌, ◌≤◌, Bool, true, false, true≢false, List, [], ◌∷◌, length, drop, Option, Some, None, slice_get, refl, sym, ap, subst, ◌∙◌, arith}
 use Rattle.std.specs.Prelude.{not}
 use Rattle.std.proofs.lemmas.Option.{slice_get_within}
 use Rattle.archive_laws.proofs.Skips.{goes_behind}
@@ -18,10 +18,10 @@ use Rattle.lane_records.specs.Records.{ready_in}
 use Rattle.lane_records.proofs.Ways.{ready_there, ready_end, ready_next}
 use Rattle.lane_runner.proofs.Onwards.{behind_next}
 use Rattle.plan_model.specs.declared.instructions.Instruction.{Instruction}
-use Rattle.plan_model.specs.declared.instructions.Instruction.TheVariants.{Unpack, Configure, Deconfigure, Remove, Build, Publish, Wait, When, Otherwise, EndWhen}
+use Rattle.plan_model.specs.declared.instructions.Instruction.TheVariants.{Configure, Deconfigure, Remove, Build, When, Otherwise, EndWhen}
 use Rattle.plan_model.specs.Plan.{Lane, lane, instruction_at, next_place}
 use Rattle.plan_model.specs.Run.{Moved, step}
-use Rattle.plan_model.specs.Turn.{LaneState, Turn, Goes, Gives, Waits, Ends, Fails, turn_of}
+use Rattle.plan_model.specs.Turn.{LaneState, Turn, Goes, Fails, turn_of}
 use Rattle.plan_model.specs.World.{nothing, is_archive_step}
 use Rattle.plan_verifier.specs.Accepted.{AcceptedPlan}
 use Rattle.plain_end.specs.PlainEnds.{lane_in, IsPlain, IsOnItsWay, is_local}
@@ -239,10 +239,10 @@ steps_further a f k number g come m m_is here h after =
     })
 
 -- what a test of a place tells
-pub told : (of this : Lane) → of ≡ this → (i : ℕ) (b r : Bool)
-    → b ≡ is_local (slice_get of.instructions i) → b ≡ r
+pub told : (read this : Lane) → read ≡ this → (i : ℕ) (b r : Bool)
+    → b ≡ is_local (slice_get read.instructions i) → b ≡ r
     → is_local (slice_get this.instructions i) ≡ r
-told of this same i b r is e =
+told read this same i b r is e =
     ap (λ (x : Lane). is_local (slice_get x.instructions i)) (sym same) ∙ (sym is ∙ e)
 
 pub local_within : (xs : List Instruction) (i : ℕ) → is_local (slice_get xs i) ≡ true
@@ -250,12 +250,3 @@ pub local_within : (xs : List Instruction) (i : ℕ) → is_local (slice_get xs 
 local_within xs i is =
     let some = local_some (slice_get xs i) is in
     slice_get_within xs i some.0 some.1
-
--- the other of two truth values
-pub is_not : (b r : Bool) → r ≡ not b → r ≡ true → b ≡ false
-is_not true r e t = absurd (true≢false (sym t ∙ e))
-is_not false r e t = refl
-
-pub is_so : (b r : Bool) → r ≡ not b → r ≡ false → b ≡ true
-is_so true r e f = refl
-is_so false r e f = absurd (true≢false (sym e ∙ f))

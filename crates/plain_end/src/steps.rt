@@ -83,20 +83,13 @@ fn decides(accepted: &Accepted, place: usize, name: u32, word: u64) -> bool
         Some(Instruction::Unpack { name: asked, .. } | Instruction::When { name: asked, .. }) => {
             *asked == name
         }
-        Some(Instruction::Wait(entry)) => {
-            some_satisfies(accepted.universe(), name, word, entry)
-        }
+        Some(Instruction::Wait(entry)) => { some_satisfies(accepted.universe(), name, word, entry) }
         _ => false,
     }
 }
 
 /// Loads the word of a name, and takes the lane's next archive step where the word decides it.
-pub fn load(
-    accepted: &Accepted,
-    core: &mut Core<'_>,
-    archive: &PlainArchive,
-    name: u32,
-) -> u64
+pub fn load(accepted: &Accepted, core: &mut Core<'_>, archive: &PlainArchive, name: u32) -> u64
     requires plain { IsPlain accepted.now core.old archive.now }
     requires name { name < names accepted.now.universe }
     ensures plain { IsPlain accepted.now core.new archive.now }

@@ -1,6 +1,6 @@
-use Rattle.std.proofs.Common.{◌≡◌, ◌<◌, ◌≤◌, ◌+◌, suc, length, sym, ap, subst, ◌∙◌, arith}
+use Rattle.std.proofs.Common.{◌≡◌, ◌+◌, length, sym, ap, ◌∙◌, arith}
 use Rattle.plan_model.specs.Plan.{Lane, lane, next_place}
-use Rattle.plain_end.proofs.Ways.{comes_here, goes_further, at_end, told, local_within, is_not, is_so}
+use Rattle.plain_end.proofs.Ways.{comes_here, goes_further, at_end, told, local_within}
 use Rattle.plain_end.proofs.steps.next_step.Goals as goal
 
 pub returns-then-not-is_local : goal.returns-then-not-is_local
@@ -9,12 +9,12 @@ returns-then-not-is_local c =
     comes_here a c.args.core.now c.args.archive.now c.loop.counter c.loop.place c.loop.invariant.0
     c.loop.invariant.1
     (told c.only_lane-lane.result.now (lane a.plan 0) c.only_lane-lane.ensures c.loop.place _ _
-    c.is_local.ensures (is_not _ _ c.if-not-is_local.ensures c.if-not-is_local.true))
+    c.is_local.ensures c.if-not-is_local.true)
 
 pub next_place-place-requires : goal.next_place-place-requires
 next_place-place-requires c =
     local_within c.only_lane-lane.result.now.instructions c.loop.place
-    (sym c.is_local.ensures ∙ is_so _ _ c.if-not-is_local.ensures c.if-not-is_local.false)
+    (sym c.is_local.ensures ∙ c.if-not-is_local.false)
 
 pub loop-preserved : goal.loop-preserved
 loop-preserved c =
@@ -25,7 +25,7 @@ loop-preserved c =
     (c.next_place-place.ensures.place
     ∙ ap (λ (of : Lane). next_place of c.loop.place) c.only_lane-lane.ensures)
     (told c.only_lane-lane.result.now (lane a.plan 0) c.only_lane-lane.ensures c.loop.place _ _
-    c.is_local.ensures (is_so _ _ c.if-not-is_local.ensures c.if-not-is_local.false))
+    c.is_local.ensures c.if-not-is_local.false)
 
 pub returns : goal.returns
 returns c =

@@ -1,7 +1,7 @@
-use Rattle.std.proofs.Common.{◌≡◌, ◌<◌, ◌≤◌, ◌+◌, suc, length, sym, ap, subst, ◌∙◌, arith}
+use Rattle.std.proofs.Common.{◌≡◌, ◌+◌, length, sym, ap, ◌∙◌, arith}
 use Rattle.plan_model.specs.Plan.{Lane, lane, instruction_at}
 use Rattle.plain_end.specs.PlainEnds.{lane_in, is_local}
-use Rattle.plain_end.proofs.Ways.{has_settled, steps_further, at_end, told, is_not, is_so}
+use Rattle.plain_end.proofs.Ways.{has_settled, steps_further, at_end, told}
 use Rattle.plain_end.proofs.steps.settle.Goals as goal
 
 pub returns-then-not-is_local-clause-ready : goal.returns-then-not-is_local-clause-ready
@@ -11,7 +11,7 @@ returns-then-not-is_local-clause-ready c =
     c.loop.core c.loop.invariant
     (ap (λ i. is_local (instruction_at a.plan 0 i)) (sym c.done.ensures)
     ∙ told c.only_lane-lane.result.now (lane a.plan 0) c.only_lane-lane.ensures c.done.result _ _
-    c.is_local.ensures (is_not _ _ c.if-not-is_local.ensures c.if-not-is_local.true))
+    c.is_local.ensures c.if-not-is_local.true)
 
 pub loop-preserved : goal.loop-preserved
 loop-preserved c =
@@ -20,7 +20,7 @@ loop-preserved c =
     (c.loop.counter + 1) (omega arith)
     (ap (λ i. is_local (instruction_at a.plan 0 i)) (sym c.done.ensures)
     ∙ told c.only_lane-lane.result.now (lane a.plan 0) c.only_lane-lane.ensures c.done.result _ _
-    c.is_local.ensures (is_so _ _ c.if-not-is_local.ensures c.if-not-is_local.false))
+    c.is_local.ensures c.if-not-is_local.false)
     c.step.new.self c.step.ensures.after
 
 pub returns-clause-ready : goal.returns-clause-ready
