@@ -1,10 +1,11 @@
 -- The lane that has the next event, among one lane more.
-use Rattle.std.proofs.Common.{◌≡◌, ℕ, ◌+◌, ◌<◌, ◌≤◌, Bool, true, false, List, Option, Some, None, slice_get, refl, sym, ap, ◌∙◌, subst, arith}
-use Rattle.std.specs.Prelude.{not, nat_lt}
+use Rattle.std.proofs.Common.{◌≡◌, ℕ, ◌+◌, ◌*◌, ◌<◌, ◌≤◌, Bool, true, false, List, Option, Some, None, slice_get, refl, sym, ap, ◌∙◌, subst, arith}
+use Rattle.std.specs.Prelude.{not, nat_lt, if◌then◌else◌}
 use Rattle.std.proofs.lemmas.Bool.{false≢true, not-false, ltb-true, ltb-false}
 use Rattle.std.proofs.lemmas.Option.{none-some, same_Some}
-use Rattle.plan_model.specs.Plan.{Plan}
-use Rattle.plan_model.specs.Run.{State}
+use Rattle.plan_model.specs.Plan.{Plan, instruction_at}
+use Rattle.plan_model.specs.Run.{State, lane_state}
+use Rattle.plan_model.specs.World.{is_publish}
 use Rattle.timed_events.specs.declared.clock.Clock.{Clock}
 use Rattle.timed_events.specs.Clocks.{moment_of, FoundTo}
 use Rattle.timed_events.proofs.Loops.{found-here, found-still}
@@ -95,6 +96,36 @@ module _ (p : Plan) (s : State) (clocks : List Clock) (n : ℕ) (c : Clock)
             (lane-none found refl) (lane-some found refl) late;
         moment = f.moment;
       }
+
+    -- a lane that is free later than another one's moment comes after it
+    number-most : (begins : Bool) (t : ℕ) → 2 * t + (if begins then 1 else 0) ≤ 2 * t + 1
+    number-most true t = omega arith
+    number-most false t = omega arith
+
+    moment-least : (gives : Bool) (t : ℕ)
+        → 2 * t + 1 ≤ (if gives then 2 * t + 2 else 2 * t + 1)
+    moment-least true t = omega arith
+    moment-least false t = omega arith
+
+    pub next-later : (next : Next) → found ≡ Some next → next.moment.time < c.next
+        → IsNextTo p s clocks (n + 1) found
+    next-later next e sooner = record {
+      lane = found-still p s clocks n c at (lane_of found) f.lane
+          (λ up. (next.lane, ap lane_of e, λ d there. not-after d there));
+      moment = f.moment;
+    }
+      where
+        not-after : (d : Clock) → slice_get clocks next.lane ≡ Some d
+            → moment_of p s next.lane d.next ≤ moment_of p s n c.next
+        not-after d there =
+            let gives = is_publish (instruction_at p n (lane_state s n).done) in
+            omega (
+              arith,
+              f.moment next d e there,
+              number-most next.moment.begins next.moment.time,
+              moment-least gives c.next,
+              sooner,
+            )
 
 -- none of no lanes, and the lane of what was found of all
 pub next-none : (p : Plan) (s : State) (clocks : List Clock) → IsNextTo p s clocks 0 None

@@ -58,6 +58,18 @@ fn is_earlier(moment: Moment, other: Option<Next>) -> bool
     }
 }
 
+/// Tells whether there is a lane whose moment is before any that a lane may have which is free at
+/// this time, so that it need not be asked for its instruction.
+fn ends_sooner(found: Option<Next>, free: u128) -> bool
+    ensures { result ≡ true
+        → (next : Next) × (found ≡ Some next) × (next.moment.time < free) }
+{
+    match found {
+        None => false,
+        Some(next) => next.moment.time < free,
+    }
+}
+
 /// The lane that has the next event among those before this one and this one.
 fn nearer<F: Farm>(farm: &F, clocks: &[Clock], lane: usize, found: Option<Next>) -> Option<Next>
     requires long { length clocks.now ≡ length (F.plan farm.now) }
@@ -68,6 +80,9 @@ fn nearer<F: Farm>(farm: &F, clocks: &[Clock], lane: usize, found: Option<Next>)
 {
     let clock = clocks[lane];
     if !clock.awake {
+        return found;
+    }
+    if ends_sooner(found, clock.next) {
         return found;
     }
     let moment = next_moment(farm, lane, clock.next);
