@@ -88,7 +88,17 @@ fn next_life(input: &[u8]) -> Option<(Life<'_>, &[u8])> {
     None
 }
 
-/// Runs the words on a machine with a driver, from this journal on.
+/// The words that ask for a drive with these behind it.
+fn drive_words<'w>(alloc: Global, words: &[&'w str]) -> Result<Vec<&'w str>, AllocError> {
+    let mut all = Vec::new(alloc);
+    all.push("drive")?;
+    for word in words {
+        all.push(*word)?;
+    }
+    Ok(all)
+}
+
+/// Runs a drive on a machine with a driver, from this journal on.
 fn live<'c, R: Threads + Wait + Eprint + Sync>(
     rt: &'c R,
     alloc: Global,
@@ -109,7 +119,8 @@ fn live<'c, R: Threads + Wait + Eprint + Sync>(
         most: life.most_lines,
     });
     let mut told = WriteSink::new(Output::new(alloc, Manner::WHOLE));
-    let status = run_words(rt, alloc, words, &machine, &mut out, &mut told);
+    let words = drive_words(alloc, words)?;
+    let status = run_words(rt, alloc, words.as_slice(), &machine, &mut out, &mut told);
     let errors = told.into_inner().into_taken();
     let done = machine.into_done();
     let left = stage.end(alloc)?;

@@ -78,7 +78,8 @@ start_told a entries old new before after (start.Misfit n) told is line =
 start_told a entries old new before after start.WriteFailed told is line =
     inr (line.0, fault_line fault.WriteFailed, inl (inr (fault.WriteFailed, refl)), line.1)
 start_told a entries old new before after start.Memory told is line =
-    no_memory _ _ new before after told line.0
+    no_memory (ShowsEnd a) (TellsStop a (IsMisfitIn a (lines_of entries)) old new) new before after
+    told line.0
 
 -- ---- the journal
 
@@ -115,7 +116,8 @@ store_told a head kept journal later new before after (Misfit n) told known is l
 store_told a head kept journal later new before after Failed told known is line =
     inr (line.0, codes "portfarm: journal failed\n", inr (refl, inr (inr (inr refl))), line.1)
 store_told a head kept journal later new before after Memory told known is line =
-    no_memory _ _ new before after told line.0
+    no_memory (ShowsEnd a) (TellsStop a (IsMisfitOf a head kept) new new) new before after told
+    line.0
 
 found_misfit : (a : AcceptedPlan) (head stamp text : List ℕ) (found : Finding)
     (bytes : Option (List ℕ)) (run : Resumed) (n : ℕ) → GoesOn head stamp text found bytes run

@@ -114,6 +114,41 @@ fn known_of(alloc: Global, accepted: &Accepted, began: Began<'_>) -> Result<Know
     })
 }
 
+/// Writes the first line, once it is known where the lanes go on.
+#[tactic(auto, using(crate::proofs::StartLaws::not_begun))]
+fn begin<S: Sink>(
+    alloc: Global,
+    accepted: &Accepted,
+    began: Began<'_>,
+    out: &mut S,
+) -> Result<Known, StartFault>
+    ensures { IfErr result (IsNotBegun accepted.now began.entry.entries.now (S.state out.old)
+        (S.state out.new)) }
+{
+    let known = known_of(alloc, accepted, began)?;
+    write_pieces(out, &[b"drive 1 ", began.name, b"\n"])?;
+    Ok(known)
+}
+
+/// The gate at which the lanes ask, by these streams.
+fn gate_of<
+    'a,
+    R: Threads + Wait + Eprint + Sync,
+    I: BufRead + Drop + Send,
+    S: Sink + Send,
+    J: Journal + Drop + Send,
+>(
+    rt: &'a R,
+    alloc: Global,
+    known: Known,
+    streams: Streams<I, J>,
+    out: &'a mut S,
+) -> Result<DriverGate<'a, R, I, Lent<'a, S>, J>, AllocError> {
+    let Streams { input, journal } = streams;
+    let input = Input::new(alloc, input);
+    DriverGate::new(rt, alloc, known, input, Lent { sink: out }, journal)
+}
+
 /// Runs the lanes over a gate, and tells what failed outside.
 fn run_gate<
     R: Threads + Wait + Eprint + Sync,
@@ -133,6 +168,25 @@ fn run_gate<
     Driven { ran, fault }
 }
 
+/// Runs the lanes over a gate that may be told of.
+fn run_told<
+    R: Threads + Wait + Eprint + Sync,
+    I: BufRead + Drop + Send,
+    S: Sink + Drop + Send,
+    J: Journal + Drop + Send,
+>(
+    rt: &R,
+    alloc: Global,
+    accepted: Accepted,
+    gate: DriverGate<'_, R, I, S, J>,
+    tells: bool,
+) -> Result<Driven, AllocError>
+    ensures { IfOk result (λ driven. IsRan accepted driven.ran) }
+{
+    let gate = Teller::new(rt, alloc, accepted.plan(), gate, tells)?;
+    Ok(run_gate(rt, alloc, accepted, &gate))
+}
+
 /// Runs the lanes of an accepted plan, each in a thread of its own, by what a driver answers. Of an
 /// earlier run the entries of its journal are followed first.
 ///
@@ -141,7 +195,6 @@ fn run_gate<
 /// [`StartFault::Misfit`] of the first line of the journal that does not fit: nothing is written
 /// then. [`StartFault::WriteFailed`] where the first line could not be written, and
 /// [`StartFault::Memory`] where memory is refused: no more than that line is out then.
-#[tactic(auto, using(crate::proofs::StartLaws::not_begun))]
 pub fn drive<
     R: Threads + Wait + Eprint + Sync,
     I: BufRead + Drop + Send,
@@ -159,11 +212,8 @@ pub fn drive<
     ensures fault { IfErr result (IsNotBegun accepted began.entry.entries.now (S.state out.old)
         (S.state out.new)) }
 {
-    let known = known_of(alloc, &accepted, began)?;
-    write_pieces(out, &[b"drive 1 ", began.name, b"\n"])?;
-    let Streams { input, journal } = streams;
-    let input = Input::new(alloc, input);
-    let gate = DriverGate::new(rt, alloc, known, input, Lent { sink: out }, journal)?;
-    let gate = Teller::new(rt, alloc, accepted.plan(), gate, began.tells)?;
-    Ok(run_gate(rt, alloc, accepted, &gate))
+    let known = begin(alloc, &accepted, began, out)?;
+    let gate = gate_of(rt, alloc, known, streams, out)?;
+    let driven = run_told(rt, alloc, accepted, gate, began.tells)?;
+    Ok(driven)
 }
