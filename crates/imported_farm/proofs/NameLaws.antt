@@ -1,5 +1,7 @@
 -- Lists that are the same at each place.
-use Rattle.std.proofs.Common.{◌≡◌, ℕ, ◌<◌, List, [], length, get_or, map, sym, ◌∙◌, arith}
+use Rattle.std.proofs.Common.{◌≡◌, ℕ, ◌<◌, List, [], length, get_or, map, sym, ap, ◌∙◌, arith}
+use Rattle.std.specs.Global.{Vec}
+use Rattle.deb_text.specs.Lists.{lists}
 use Rattle.std.proofs.lemmas.List.{ext_get_or, get_or-map, length-map}
 
 -- names that are those of vectors, one by one
@@ -12,3 +14,10 @@ same-names name xs d names long same =
     (λ k below.
     let lt : k < length xs = omega (arith, length-map name xs) in
     get_or-map name xs k d [] lt ∙ same k (omega arith))
+
+-- the name at a place
+pub name-at : (names : List (Vec ℕ)) (k : ℕ) (name : Vec ℕ) → k < length names
+    → name ≡ get_or names k name → get_or (lists names) k [] ≡ name.items
+name-at names k name below is =
+    get_or-map (λ (v : Vec ℕ). v.items) names k name [] below
+    ∙ ap (λ (v : Vec ℕ). v.items) (sym is)

@@ -67,7 +67,8 @@ fn push_whole(text: &mut Vec<u8>, blocks: &[&[u8]], number: u32) -> Result<(), A
         return Ok(());
     };
     push_block(text, block)?;
-    text.extend_from_slice(b"\n")
+    text.extend_from_slice(b"\n")?;
+    Ok(())
 }
 
 /// Puts the block of a number behind a text under the version of a build, with an empty line behind
@@ -85,7 +86,8 @@ fn push_anew(
         return Ok(());
     };
     push_rewritten(text, block, of, sisters)?;
-    text.extend_from_slice(b"\n")
+    text.extend_from_slice(b"\n")?;
+    Ok(())
 }
 
 /// Puts a package that a build gives behind a text.
@@ -100,10 +102,12 @@ fn push_output(
 {
     if let Some(given) = shelf.given(number) {
         if let Some(of) = renamed(sisters, &given.name) {
-            return push_anew(text, blocks, number, of, sisters);
+            push_anew(text, blocks, number, of, sisters)?;
+            return Ok(());
         }
     }
-    push_whole(text, blocks, number)
+    push_whole(text, blocks, number)?;
+    Ok(())
 }
 
 fn push_variant(
@@ -117,7 +121,8 @@ fn push_variant(
     ensures { OnOk result (IsMadeOf (IsWholeOrAnew (IsOneOf blocks.now)) text.old.items text.new.items) }
 {
     let Some(recipe) = variant.recipe else {
-        return push_whole(text, blocks, variant.number);
+        push_whole(text, blocks, variant.number)?;
+        return Ok(());
     };
     let Some(build) = taken.builds.get(recipe as usize) else {
         return Ok(());
