@@ -6,7 +6,7 @@ use Rattle.std.proofs.lemmas.List.Elements.{All-nil, All-cons, All-append, All-w
 use Rattle.std.specs.Borrow.{Bor}
 use Rattle.std.specs.Prelude.{All}
 use Rattle.std.specs.List.{Contains, flat_map}
-use Rattle.index_cut.specs.Index.{AreBlocks, bytes_in, paragraphs_from, paragraphs_in}
+use Rattle.index_cut.specs.Index.{AreBlocks, paragraphs_from, paragraphs_in}
 use Rattle.index_cut.specs.declared.blocks.Block.{Block}
 use Rattle.imported_farm.specs.declared.import.NamedText.{NamedText}
 use Rattle.deb_stanza.specs.Stanza.{Paragraph, paragraphs_at}
@@ -14,7 +14,7 @@ use Rattle.import_wish.specs.Wish.{Wish, wish_at}
 use Rattle.imported_farm.specs.Imported.{AreTextsOf, wish_in}
 use Rattle.imported_farm.specs.declared.import.ImportedTexts.{ImportedTexts}
 use Rattle.imported_farm.specs.declared.import.TheConstants.{HEAD}
-use Rattle.imported_farm.specs.Made.{GetsBlocks, IsAnew, IsBlockIn, IsBlockOf, IsMadeOf, IsOneOf, IsWhole, IsWholeOrAnew}
+use Rattle.imported_farm.specs.Made.{GetsBlocks, IsAnew, IsBlockIn, IsBlockOf, IsCutOf, IsMadeOf, IsOneOf, IsWhole, IsWholeOrAnew}
 
 -- ---- paragraphs behind a text
 
@@ -95,20 +95,23 @@ gets-weaker P Q weaker old new got = (
       (λ b is. weaker b.now is) got.0 got.2,
 )
 
--- a block by its place among all blocks of an index
-pub block-of : (text bytes : List ℕ) (blocks : List Block) (k : ℕ) (block : Block)
+-- no block
+pub blank : Block
+blank = record { start = 0; size = 0; number = 0 }
+
+-- blocks of all blocks of an index
+pub blocks-of : (text : List ℕ) (blocks cut : List Block) → cut ≡ blocks
     → paragraphs_from 1 text ≡ Ok (flat_map (paragraphs_in text) blocks) → AreBlocks text blocks
-    → k < length blocks → get_or blocks k block ≡ block → bytes ≡ bytes_in text block
-    → IsBlockOf text bytes
-block-of text bytes blocks k block read within below is bytes_is =
-    record {
+    → (old new : List (Bor (List ℕ))) → GetsBlocks (IsCutOf text cut) old new
+    → GetsBlocks (IsBlockOf text) old new
+blocks-of text blocks cut same read within old new got =
+    gets-weaker (IsCutOf text cut) (IsBlockOf text)
+    (λ bytes is. record {
       blocks = blocks;
       read = read;
       within = within;
-      block = block;
-      among = (k, below, is);
-      bytes_is = bytes_is;
-    }
+      cut = subst (λ (bs : List Block). IsCutOf text bs bytes) same is;
+    }) old new got
 
 -- a block of one of the indexes
 pub block-in : (texts : List NamedText) (text : NamedText) → Contains texts text
