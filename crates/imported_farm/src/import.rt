@@ -352,7 +352,7 @@ fn import_read(alloc: Global, read: Read, sources: Sources) -> Result<Written, S
 }
 
 /// Reads the indexes, and takes what a wish wants of them.
-fn import_wish(
+fn import_wished(
     alloc: Global,
     inputs: Inputs,
     paragraphs: &Paragraphs,
@@ -377,7 +377,8 @@ fn import_wish(
         names: &names,
         of,
     };
-    import_read(alloc, read, sources)
+    let written = import_read(alloc, read, sources)?;
+    Ok(written)
 }
 
 /// Reads a wish, and makes the texts of it.
@@ -386,7 +387,8 @@ fn import_text(alloc: Global, inputs: Inputs) -> Result<Written, Stop>
 {
     let paragraphs = wish_paragraphs(alloc, inputs.wish)?;
     let wish = wish_of(alloc, &paragraphs)?;
-    import_wish(alloc, inputs, &paragraphs, &wish)
+    let written = import_wished(alloc, inputs, &paragraphs, &wish)?;
+    Ok(written)
 }
 
 /// Makes the texts of a farm of a wish and of indexes, and tells of them.
