@@ -1,6 +1,6 @@
 //! The texts of a farm, made of a wish and of whole indexes.
 //!
-//! Proved of `import`: texts that are given out are read without a fault, as every command reads
+//! Not checked yet. The contract of `import` states: texts that are given out are read without a fault, as every command reads
 //! them; they have a recipe and a base chroot for each of the wish, by name and in its order; each
 //! paragraph of a source is one of the Sources indexes, byte for byte, and each paragraph of a package
 //! is one of the Packages indexes, or has another version in `Version` and in what stands in brackets
