@@ -1,5 +1,5 @@
 -- Texts that are made of paragraphs, and blocks that come behind others.
-use Rattle.std.proofs.Common.{◌≡◌, ◌<◌, ℕ, Ok, List, length, get_or, [], ◌∷◌, ◌++◌, sym, ap, subst, ◌∙◌, inl, inr}
+use Rattle.std.proofs.Common.{◌≡◌, ℕ, Ok, List, [], ◌∷◌, ◌++◌, sym, ap, subst, ◌∙◌, inl, inr}
 use Rattle.std.proofs.lemmas.Grind.{flat_map-append}
 use Rattle.std.proofs.lemmas.List.{append-nil, append_assoc}
 use Rattle.std.proofs.lemmas.List.Elements.{All-nil, All-cons, All-append, All-weaker, All-contains, Contains-append_left, Contains-append_right}
@@ -8,13 +8,13 @@ use Rattle.std.specs.Prelude.{All}
 use Rattle.std.specs.List.{Contains, flat_map}
 use Rattle.index_cut.specs.Index.{AreBlocks, paragraphs_from, paragraphs_in}
 use Rattle.index_cut.specs.declared.blocks.Block.{Block}
-use Rattle.imported_farm.specs.declared.import.NamedText.{NamedText}
+use Rattle.imported_farm.specs.declared.imported.NamedText.{NamedText}
 use Rattle.deb_stanza.specs.Stanza.{Paragraph, paragraphs_at}
 use Rattle.import_wish.specs.Wish.{Wish, wish_at}
 use Rattle.imported_farm.specs.Imported.{AreTextsOf, wish_in}
-use Rattle.imported_farm.specs.declared.import.ImportedTexts.{ImportedTexts}
-use Rattle.imported_farm.specs.declared.import.TheConstants.{HEAD}
-use Rattle.imported_farm.specs.Made.{GetsBlocks, IsAnew, IsBlockIn, IsBlockOf, IsCutOf, IsMadeOf, IsOneOf, IsWhole, IsWholeOrAnew}
+use Rattle.imported_farm.specs.declared.imported.ImportedTexts.{ImportedTexts}
+use Rattle.imported_farm.specs.declared.imported.TheConstants.{HEAD}
+use Rattle.imported_farm.specs.Made.{GetsBlocks, IsBlockIn, IsBlockOf, IsCutOf, IsMadeOf, IsOneOf, IsWhole, IsWholeOrAnew}
 
 -- ---- paragraphs behind a text
 
@@ -96,7 +96,7 @@ gets-weaker P Q weaker old new got = (
 )
 
 -- no block
-pub blank : Block
+abbrev pub blank : Block
 blank = record { start = 0; size = 0; number = 0 }
 
 -- blocks of all blocks of an index
@@ -117,6 +117,13 @@ blocks-of text blocks cut same read within old new got =
 pub block-in : (texts : List NamedText) (text : NamedText) → Contains texts text
     → (bytes : List ℕ) → IsBlockOf text.bytes.now bytes → IsBlockIn texts bytes
 block-in texts text among bytes is = (text, among, is)
+
+-- no index
+abbrev pub no_text : NamedText
+no_text = record {
+  name = record { ref_ptr = (0, 0); now = [] };
+  bytes = record { ref_ptr = (0, 0); now = [] };
+}
 
 -- those of two lists of indexes
 pub blocks-both : (first second : List NamedText) (mid new : List (Bor (List ℕ)))

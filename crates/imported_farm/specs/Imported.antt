@@ -15,11 +15,11 @@ use Rattle.deb_stanza.specs.Stanza.{paragraphs_at}
 use Rattle.farm_model.specs.Universe.{Universe}
 use Rattle.farm_universe.specs.UniverseText.{universe_of}
 use Rattle.import_wish.specs.Wish.{Items, Wish, wish_at}
-use Rattle.imported_farm.specs.declared.import.Imported.{Imported}
-use Rattle.imported_farm.specs.declared.import.Imported.TheVariants.{Texts, Refused, Wrong}
-use Rattle.imported_farm.specs.declared.import.ImportedTexts.{ImportedTexts}
-use Rattle.imported_farm.specs.declared.import.Inputs.{Inputs}
-use Rattle.imported_farm.specs.declared.import.TheConstants.{HEAD}
+use Rattle.imported_farm.specs.declared.imported.Imported.{Imported}
+use Rattle.imported_farm.specs.declared.imported.Imported.TheVariants.{Texts, Refused, Wrong}
+use Rattle.imported_farm.specs.declared.imported.ImportedTexts.{ImportedTexts}
+use Rattle.imported_farm.specs.declared.imported.Inputs.{Inputs}
+use Rattle.imported_farm.specs.declared.imported.TheConstants.{HEAD}
 use Rattle.imported_farm.specs.Made.{IsBlockIn, IsMadeOf, IsWhole, IsWholeOrAnew}
 
 abbrev pub wish_in : List ℕ → Result Wish Fault

@@ -19,7 +19,7 @@ use Rattle.index_cut.specs.Index.{AreBlocks, bytes_in, paragraphs_from, paragrap
 use Rattle.index_cut.specs.declared.blocks.Block.{Block}
 use Rattle.package_rewriting.specs.Rewriting.{AreRowsOf, closed}
 use Rattle.package_rewriting.specs.declared.rewriting.Field.TheVariants.{Kept}
-use Rattle.imported_farm.specs.declared.import.NamedText.{NamedText}
+use Rattle.imported_farm.specs.declared.imported.NamedText.{NamedText}
 
 abbrev pub IsCutOf : List ℕ → List Block → List ℕ → Type 0
 IsCutOf text blocks bytes =

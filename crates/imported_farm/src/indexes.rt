@@ -4,7 +4,7 @@ ghost use Rattle.std.specs.Prelude.{◌++◌, All, IfOk, OnOk};
 ghost use Rattle.imported_farm.specs.Made.{GetsBlocks, IsBlockIn, IsBlockOf, IsCutOf};
 ghost use Rattle.index_cut.specs.Index.{AreBlocks};
 
-use crate::import::NamedText;
+use crate::imported::NamedText;
 use crate::refusals::{Stop, fault_in};
 use deb_profile::ArchNames;
 use deb_text::Fault;

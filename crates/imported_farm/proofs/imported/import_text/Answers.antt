@@ -1,6 +1,6 @@
 use Rattle.import_wish.specs.Wish.{wish_view}
 use Rattle.imported_farm.proofs.MadeLaws.{wish-in}
-use Rattle.imported_farm.proofs.import.import_text.Goals as goal
+use Rattle.imported_farm.proofs.imported.import_text.Goals as goal
 
 pub returns : goal.returns
 returns c = (
