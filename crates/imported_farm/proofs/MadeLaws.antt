@@ -1,13 +1,20 @@
 -- Texts that are made of paragraphs, and blocks that come behind others.
-use Rattle.std.proofs.Common.{◌≡◌, ℕ, List, [], ◌∷◌, ◌++◌, sym, ap, subst, ◌∙◌, inl, inr}
+use Rattle.std.proofs.Common.{◌≡◌, ℕ, Ok, List, [], ◌∷◌, ◌++◌, sym, ap, subst, ◌∙◌, inl, inr}
 use Rattle.std.proofs.lemmas.Grind.{flat_map-append}
 use Rattle.std.proofs.lemmas.List.{append-nil, append_assoc}
 use Rattle.std.proofs.lemmas.List.Elements.{All-nil, All-cons, All-append, All-weaker, All-contains, Contains-append_left, Contains-append_right}
 use Rattle.std.specs.Borrow.{Bor}
 use Rattle.std.specs.Prelude.{All}
 use Rattle.std.specs.List.{Contains, flat_map}
-use Rattle.imported_farm.specs.declared.import.NamedText.{NamedText}
-use Rattle.imported_farm.specs.Made.{GetsBlocks, IsAnew, IsBlockIn, IsBlockOf, IsMadeOf, IsOneOf, IsWhole, IsWholeOrAnew}
+use Rattle.index_cut.specs.Index.{AreBlocks, paragraphs_from, paragraphs_in}
+use Rattle.index_cut.specs.declared.blocks.Block.{Block}
+use Rattle.imported_farm.specs.declared.imported.NamedText.{NamedText}
+use Rattle.deb_stanza.specs.Stanza.{Paragraph, paragraphs_at}
+use Rattle.import_wish.specs.Wish.{Wish, wish_at}
+use Rattle.imported_farm.specs.Imported.{AreTextsOf, wish_in}
+use Rattle.imported_farm.specs.declared.imported.ImportedTexts.{ImportedTexts}
+use Rattle.imported_farm.specs.declared.imported.TheConstants.{HEAD}
+use Rattle.imported_farm.specs.Made.{GetsBlocks, IsBlockIn, IsBlockOf, IsCutOf, IsMadeOf, IsOneOf, IsWhole, IsWholeOrAnew}
 
 -- ---- paragraphs behind a text
 
@@ -16,11 +23,11 @@ module _ (Is : List ℕ → Type 0) where
   made-none old = ([], sym (append-nil old), All-nil Is)
 
   -- one, and an empty line behind it
-  pub made-one : (old paragraph mid : List ℕ) → mid ≡ old ++ paragraph → Is paragraph
-      → IsMadeOf Is old (mid ++ 10 ∷ [])
-  made-one old paragraph mid e is = (
+  pub made-one : (old paragraph mid new : List ℕ) → mid ≡ old ++ paragraph → new ≡ mid ++ 10 ∷ []
+      → Is paragraph → IsMadeOf Is old new
+  made-one old paragraph mid new e f is = (
     paragraph ∷ [],
-    ap (λ t. t ++ 10 ∷ []) e ∙ append_assoc old paragraph (10 ∷ [])
+    f ∙ ap (λ t. t ++ 10 ∷ []) e ∙ append_assoc old paragraph (10 ∷ [])
         ∙ ap (λ t. old ++ t) (sym (append-nil (paragraph ++ 10 ∷ []))),
     All-cons Is paragraph [] is (All-nil Is),
   )
@@ -88,10 +95,35 @@ gets-weaker P Q weaker old new got = (
       (λ b is. weaker b.now is) got.0 got.2,
 )
 
+-- no block
+abbrev pub blank : Block
+blank = record { start = 0; size = 0; number = 0 }
+
+-- blocks of all blocks of an index
+pub blocks-of : (text : List ℕ) (blocks cut : List Block) → cut ≡ blocks
+    → paragraphs_from 1 text ≡ Ok (flat_map (paragraphs_in text) blocks) → AreBlocks text blocks
+    → (old new : List (Bor (List ℕ))) → GetsBlocks (IsCutOf text cut) old new
+    → GetsBlocks (IsBlockOf text) old new
+blocks-of text blocks cut same read within old new got =
+    gets-weaker (IsCutOf text cut) (IsBlockOf text)
+    (λ bytes is. record {
+      blocks = blocks;
+      read = read;
+      within = within;
+      cut = subst (λ (bs : List Block). IsCutOf text bs bytes) same is;
+    }) old new got
+
 -- a block of one of the indexes
 pub block-in : (texts : List NamedText) (text : NamedText) → Contains texts text
     → (bytes : List ℕ) → IsBlockOf text.bytes.now bytes → IsBlockIn texts bytes
 block-in texts text among bytes is = (text, among, is)
+
+-- no index
+abbrev pub no_text : NamedText
+no_text = record {
+  name = record { ref_ptr = (0, 0); now = [] };
+  bytes = record { ref_ptr = (0, 0); now = [] };
+}
 
 -- those of two lists of indexes
 pub blocks-both : (first second : List NamedText) (mid new : List (Bor (List ℕ)))
@@ -110,3 +142,26 @@ pub one-of : (Is : List ℕ → Type 0) (blocks : List (Bor (List ℕ)))
     → All (λ block. Is block.now) blocks → (bytes : List ℕ) → IsOneOf blocks bytes → Is bytes
 one-of Is blocks all bytes is =
     subst Is (sym is.2) (All-contains (λ (b : Bor (List ℕ)). Is b.now) blocks is.0 all is.1)
+
+-- such texts of blocks that are all such
+pub texts-weaker : (P Q : List ℕ → Type 0) (packages sources : List (Bor (List ℕ)))
+    → All (λ block. P block.now) packages → All (λ block. Q block.now) sources → (wish : Wish)
+    → (texts : ImportedTexts) → AreTextsOf (IsOneOf packages) (IsOneOf sources) wish texts
+    → AreTextsOf P Q wish texts
+texts-weaker P Q packages sources ps ss wish texts are =
+    record {
+      farm = are.farm;
+      packages =
+          made-weaker (IsWholeOrAnew (IsOneOf packages)) (IsWholeOrAnew P)
+          (whole_or_anew-weaker (IsOneOf packages) P (one-of P packages ps)) HEAD.now
+          texts.packages.items are.packages;
+      sources =
+          made-weaker (IsWhole (IsOneOf sources)) (IsWhole Q)
+          (whole-weaker (IsOneOf sources) Q (one-of Q sources ss)) HEAD.now texts.sources.items
+          are.sources;
+    }
+
+-- what the paragraphs of a wish say is what its text says
+pub wish-in : (text : List ℕ) (paragraphs : List Paragraph) (wish : Wish)
+    → paragraphs_at text ≡ Ok paragraphs → wish_at paragraphs ≡ Ok wish → wish_in text ≡ Ok wish
+wish-in text paragraphs wish read says = rw read says

@@ -15,24 +15,24 @@ use Rattle.deb_stanza.specs.Stanza.{paragraphs_at}
 use Rattle.farm_model.specs.Universe.{Universe}
 use Rattle.farm_universe.specs.UniverseText.{universe_of}
 use Rattle.import_wish.specs.Wish.{Items, Wish, wish_at}
-use Rattle.imported_farm.specs.declared.import.Imported.{Imported}
-use Rattle.imported_farm.specs.declared.import.Imported.TheVariants.{Texts, Refused, Wrong}
-use Rattle.imported_farm.specs.declared.import.ImportedTexts.{ImportedTexts}
-use Rattle.imported_farm.specs.declared.import.Inputs.{Inputs}
-use Rattle.imported_farm.specs.declared.import.TheConstants.{HEAD}
+use Rattle.imported_farm.specs.declared.imported.Imported.{Imported}
+use Rattle.imported_farm.specs.declared.imported.Imported.TheVariants.{Texts, Refused, Wrong}
+use Rattle.imported_farm.specs.declared.imported.ImportedTexts.{ImportedTexts}
+use Rattle.imported_farm.specs.declared.imported.Inputs.{Inputs}
+use Rattle.imported_farm.specs.declared.imported.TheConstants.{HEAD}
 use Rattle.imported_farm.specs.Made.{IsBlockIn, IsMadeOf, IsWhole, IsWholeOrAnew}
 
 abbrev pub wish_in : List ℕ → Result Wish Fault
 wish_in text = paragraphs_at text >>= wish_at
 
 -- a wish that names no chroot has one of the name `buildd`
-abbrev pub chroots_of : Items → List (List ℕ)
-chroots_of items = if is_nil items.chroot_names then codes "buildd" ∷ [] else items.chroot_names
+abbrev pub chroots_of : List (List ℕ) → List (List ℕ)
+chroots_of names = if is_nil names then codes "buildd" ∷ [] else names
 
 -- in the order of the wish
 pub record HasNames (items : Items) (universe : Universe) : Type 0 where
   pub recipes : map (λ recipe. recipe.name) universe.recipes ≡ items.recipe_names
-  pub chroots : map (λ base. base.name) universe.bases ≡ chroots_of items
+  pub chroots : map (λ base. base.name) universe.bases ≡ chroots_of items.chroot_names
 
 pub record IsFarmOf (wish : Wish) (texts : ImportedTexts) : Type 0 where
   pub universe : Universe

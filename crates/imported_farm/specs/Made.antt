@@ -1,5 +1,6 @@
 -- Texts that are made of paragraphs of indexes.
 --
+--   IsCutOf text blocks bytes  the bytes are a block of a text, by the places of blocks
 --   IsBlockOf text bytes       the bytes are a paragraph of an index: of its blocks, which say one
 --                              behind another what the whole index says, they are one
 --   IsBlockIn texts bytes      the same of one of several indexes
@@ -18,15 +19,17 @@ use Rattle.index_cut.specs.Index.{AreBlocks, bytes_in, paragraphs_from, paragrap
 use Rattle.index_cut.specs.declared.blocks.Block.{Block}
 use Rattle.package_rewriting.specs.Rewriting.{AreRowsOf, closed}
 use Rattle.package_rewriting.specs.declared.rewriting.Field.TheVariants.{Kept}
-use Rattle.imported_farm.specs.declared.import.NamedText.{NamedText}
+use Rattle.imported_farm.specs.declared.imported.NamedText.{NamedText}
+
+abbrev pub IsCutOf : List ℕ → List Block → List ℕ → Type 0
+IsCutOf text blocks bytes =
+    (block : Block) × Contains blocks block × (bytes ≡ bytes_in text block)
 
 pub record IsBlockOf (text bytes : List ℕ) : Type 0 where
   pub blocks : List Block
   pub read : paragraphs_from 1 text ≡ Ok (flat_map (paragraphs_in text) blocks)
   pub within : AreBlocks text blocks
-  pub block : Block
-  pub among : Contains blocks block
-  pub bytes_is : bytes ≡ bytes_in text block
+  pub cut : IsCutOf text blocks bytes
 
 abbrev pub IsBlockIn : List NamedText → List ℕ → Type 0
 IsBlockIn texts bytes =

@@ -1,13 +1,14 @@
 //! The indexes of an import, cut and listed by names.
 
 ghost use Rattle.std.specs.Prelude.{◌++◌, All, IfOk, OnOk};
-ghost use Rattle.imported_farm.specs.Made.{GetsBlocks, IsBlockIn, IsBlockOf};
+ghost use Rattle.imported_farm.specs.Made.{GetsBlocks, IsBlockIn, IsBlockOf, IsCutOf};
+ghost use Rattle.index_cut.specs.Index.{AreBlocks};
 
-use crate::import::NamedText;
+use crate::imported::NamedText;
 use crate::refusals::{Stop, fault_in};
 use deb_profile::ArchNames;
 use deb_text::Fault;
-use index_cut::cut_index;
+use index_cut::{Block, cut_index};
 use index_names::{NameTable, PackageNames, add_source_block};
 use std::alloc::{AllocError, Global};
 
@@ -30,15 +31,34 @@ impl Packages<'_> {
     }
 }
 
+/// Puts the blocks of a text behind others, by their places.
+fn push_cut<'a>(blocks: &mut Vec<&'a [u8]>, text: &'a [u8], cut: &[Block]) -> Result<(), AllocError>
+    requires { AreBlocks text.now cut.now }
+    ensures { OnOk result (GetsBlocks (IsCutOf text.now cut.now) blocks.old.items blocks.new.items) }
+{
+    for block in cut {
+        blocks.push(block.bytes(text))?;
+    }
+    Ok(())
+}
+
 /// Puts the blocks of an index behind others, each as it stands in its text.
 fn push_blocks<'a>(alloc: Global, blocks: &mut Vec<&'a [u8]>, text: &'a [u8]) -> Result<(), Fault>
     ensures { OnOk result (GetsBlocks (IsBlockOf text.now) blocks.old.items blocks.new.items) }
 {
     let cut = cut_index(alloc, text)?;
-    for block in &cut {
-        blocks.push(block.bytes(text))?;
-    }
+    push_cut(blocks, text, &cut)?;
     Ok(())
+}
+
+/// The same of an index with a name, a fault told in it.
+fn push_text<'a>(alloc: Global, blocks: &mut Vec<&'a [u8]>, text: NamedText<'a>) -> Result<(), Stop>
+    ensures { OnOk result (GetsBlocks (IsBlockOf text.entry.bytes.now) blocks.old.items blocks.new.items) }
+{
+    match push_blocks(alloc, blocks, text.bytes) {
+        Ok(()) => Ok(()),
+        Err(fault) => Err(fault_in(alloc, text.name.as_bytes(), fault)),
+    }
 }
 
 /// Puts the blocks of several indexes behind others.
@@ -50,9 +70,7 @@ fn push_all<'a>(
     ensures { OnOk result (GetsBlocks (IsBlockIn texts.now) blocks.old.items blocks.new.items) }
 {
     for text in texts {
-        if let Err(fault) = push_blocks(alloc, blocks, text.bytes) {
-            return Err(fault_in(alloc, text.name.as_bytes(), fault));
-        }
+        push_text(alloc, blocks, *text)?;
     }
     Ok(())
 }

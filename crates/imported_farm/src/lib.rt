@@ -1,18 +1,18 @@
 //! The texts of a farm, made of a wish and of whole indexes.
 //!
-//! Proved of `import`: texts that are given out are read without a fault, as every command reads
-//! them; they have a recipe and a base chroot for each of the wish, by name and in its order; each
-//! paragraph of a source is one of the Sources indexes, byte for byte, and each paragraph of a package
-//! is one of the Packages indexes, or has another version in `Version` and in what stands in brackets
-//! in its relations. Not proved: that what the builds need is taken, which versions builds give, what
-//! a recipe says beside its name, and how notes and refusals are worded; cases hold that.
+//! Proved by the contract of `import`: texts that are given out are read without a fault, as every
+//! command reads them; they have a recipe and a base chroot for each of the wish, by name and in its
+//! order; each paragraph of a source is one of the Sources indexes, byte for byte, and each paragraph
+//! of a package is one of the Packages indexes, or has another version in `Version` and in what stands
+//! in brackets in its relations. Not proved: that what the builds need is taken, which versions builds
+//! give, what a recipe says beside its name, and how notes and refusals are worded; cases hold that.
 #![tactic(auto)]
 
 mod architectures;
 mod counts;
 mod farm_names;
 mod farm_text;
-mod import;
+mod imported;
 mod indexes;
 mod lines;
 mod notes;
@@ -23,4 +23,4 @@ mod taken;
 mod versions;
 mod wish_notes;
 
-pub use import::{HEAD, Imported, ImportedTexts, Inputs, NamedText, import};
+pub use imported::{HEAD, Imported, ImportedTexts, Inputs, NamedText, import};

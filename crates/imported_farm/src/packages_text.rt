@@ -1,7 +1,7 @@
 //! The texts of packages and of sources.
 
 ghost use Rattle.std.specs.Prelude.{OnOk};
-ghost use Rattle.imported_farm.specs.Made.{IsAnew, IsMadeOf, IsOneOf, IsWhole, IsWholeOrAnew};
+ghost use Rattle.imported_farm.specs.Made.{IsMadeOf, IsOneOf, IsWhole, IsWholeOrAnew};
 
 use crate::taken::Taken;
 use crate::versions::version_text;
@@ -54,11 +54,6 @@ fn all_sisters(
     Ok(all)
 }
 
-/// The package of a name among those of a build, where it is given under another version.
-fn renamed<'a>(sisters: Sisters<'a>, name: &[u8]) -> Option<&'a Sister> {
-    sisters.all.iter().find(|sister| sister.name.as_slice() == name && sister.old != sister.new)
-}
-
 /// Puts the block of a number behind a text as it stands, with an empty line behind it.
 fn push_whole(text: &mut Vec<u8>, blocks: &[&[u8]], number: u32) -> Result<(), AllocError>
     ensures { OnOk result (IsMadeOf (IsWhole (IsOneOf blocks.now)) text.old.items text.new.items) }
@@ -67,7 +62,16 @@ fn push_whole(text: &mut Vec<u8>, blocks: &[&[u8]], number: u32) -> Result<(), A
         return Ok(());
     };
     push_block(text, block)?;
-    text.extend_from_slice(b"\n")
+    text.extend_from_slice(b"\n")?;
+    Ok(())
+}
+
+/// The same where other paragraphs come under another version.
+fn push_plain(text: &mut Vec<u8>, blocks: &[&[u8]], number: u32) -> Result<(), AllocError>
+    ensures { OnOk result (IsMadeOf (IsWholeOrAnew (IsOneOf blocks.now)) text.old.items text.new.items) }
+{
+    push_whole(text, blocks, number)?;
+    Ok(())
 }
 
 /// Puts the block of a number behind a text under the version of a build, with an empty line behind
@@ -79,13 +83,20 @@ fn push_anew(
     of: &Sister,
     sisters: Sisters,
 ) -> Result<(), AllocError>
-    ensures { OnOk result (IsMadeOf (IsAnew (IsOneOf blocks.now)) text.old.items text.new.items) }
+    ensures { OnOk result (IsMadeOf (IsWholeOrAnew (IsOneOf blocks.now)) text.old.items text.new.items) }
 {
     let Some(block) = blocks.get(number as usize) else {
         return Ok(());
     };
     push_rewritten(text, block, of, sisters)?;
-    text.extend_from_slice(b"\n")
+    text.extend_from_slice(b"\n")?;
+    Ok(())
+}
+
+/// The package of a block among those of a build, where it is given under another version.
+fn renamed<'a>(shelf: &Shelf, number: u32, sisters: Sisters<'a>) -> Option<&'a Sister> {
+    let given = shelf.given(number)?;
+    sisters.all.iter().find(|sister| sister.name == given.name && sister.old != sister.new)
 }
 
 /// Puts a package that a build gives behind a text.
@@ -98,12 +109,10 @@ fn push_output(
 ) -> Result<(), AllocError>
     ensures { OnOk result (IsMadeOf (IsWholeOrAnew (IsOneOf blocks.now)) text.old.items text.new.items) }
 {
-    if let Some(given) = shelf.given(number) {
-        if let Some(of) = renamed(sisters, &given.name) {
-            return push_anew(text, blocks, number, of, sisters);
-        }
+    match renamed(shelf, number, sisters) {
+        Some(of) => push_anew(text, blocks, number, of, sisters),
+        None => push_plain(text, blocks, number),
     }
-    push_whole(text, blocks, number)
 }
 
 fn push_variant(
@@ -117,7 +126,7 @@ fn push_variant(
     ensures { OnOk result (IsMadeOf (IsWholeOrAnew (IsOneOf blocks.now)) text.old.items text.new.items) }
 {
     let Some(recipe) = variant.recipe else {
-        return push_whole(text, blocks, variant.number);
+        return push_plain(text, blocks, variant.number);
     };
     let Some(build) = taken.builds.get(recipe as usize) else {
         return Ok(());

@@ -30,106 +30,150 @@ struct Pools<'a> {
     taken: &'a Taken,
 }
 
-/// What a build takes, so far as it is known: the names, the blocks, and the fields that are still
-/// to be met.
+/// By block what meets the entries of its package.
 #[derive(Drop)]
-struct Walk {
-    names: BTreeSet<Vec<u8>>,
-    blocks: BTreeSet<u32>,
-    fields: Vec<Relations>,
+struct Met {
+    by_block: BTreeMap<u32, Vec<u32>>,
 }
 
-impl Walk {
-    fn push_field(&mut self, field: &Relations) -> Result<(), AllocError> {
-        let field = field.clone()?;
-        self.fields.push(field)?;
-        Ok(())
-    }
-
-    /// Takes the package of a block.
-    fn take(&mut self, alloc: Global, shelf: &Shelf, number: u32) -> Result<(), AllocError> {
-        if !self.blocks.insert(number)? {
-            return Ok(());
-        }
-        let Some(given) = shelf.given(number) else {
-            return Ok(());
-        };
-        self.names.insert(Vec::from_slice(alloc, &given.name)?)?;
-        self.push_field(&given.relations.pre_depends)?;
-        self.push_field(&given.relations.depends)
-    }
-}
-
-/// The blocks that meet an entry and were taken, or are given by the build.
-fn met_by(
+/// The blocks that meet an entry, of what is there at the beginning and of what builds give.
+fn push_met(
     alloc: Global,
     shelf: &mut Shelf,
     pools: Pools,
-    build: &Build,
     entry: &Entry,
-) -> Result<Vec<u32>, AllocError> {
-    let mut found = Vec::new(alloc);
+    found: &mut Vec<u32>,
+) -> Result<(), AllocError> {
     let there = shelf.best(alloc, pools.archive, entry)?;
     let given = shelf.best(alloc, pools.outputs, entry)?;
     for number in [there, given] {
         if let Some(number) = number {
-            if pools.taken.closure.begin.contains(&number) || build.outputs.contains(&number) {
-                found.push(number)?;
-            }
+            found.push(number)?;
         }
     }
-    Ok(found)
+    Ok(())
 }
 
-/// The blocks that meet the entries of a field.
-fn field_met_by(
+/// The blocks that meet the entries of fields.
+fn met_by(
     alloc: Global,
     shelf: &mut Shelf,
     pools: Pools,
-    build: &Build,
-    field: &Relations,
+    fields: &[Relations],
 ) -> Result<Vec<u32>, AllocError> {
     let mut found = Vec::new(alloc);
-    for entry in field.entries() {
-        found.extend_from_slice(&met_by(alloc, shelf, pools, build, entry)?)?;
+    for field in fields {
+        for entry in field.entries() {
+            push_met(alloc, shelf, pools, entry, &mut found)?;
+        }
     }
     Ok(found)
 }
 
-fn begun(alloc: Global, shelf: &Shelf, build: &Build) -> Result<Walk, AllocError> {
-    let mut walk = Walk {
-        names: BTreeSet::new(alloc),
-        blocks: BTreeSet::new(alloc),
-        fields: Vec::new(alloc),
-    };
-    for number in &build.outputs {
-        if let Some(given) = shelf.given(*number) {
-            walk.names.insert(Vec::from_slice(alloc, &given.name)?)?;
-        }
+/// What the package of a block needs.
+fn needs_of(alloc: Global, shelf: &Shelf, number: u32) -> Result<Vec<Relations>, AllocError> {
+    let mut fields = Vec::new(alloc);
+    if let Some(given) = shelf.given(number) {
+        fields.push(given.relations.pre_depends.clone()?)?;
+        fields.push(given.relations.depends.clone()?)?;
     }
-    for field in &build.needs {
-        walk.push_field(field)?;
-    }
-    Ok(walk)
+    Ok(fields)
 }
 
-/// The names that a build takes.
+impl Met {
+    /// Looks for what meets the entries of the package of a block, unless it was looked for.
+    fn look(
+        &mut self,
+        alloc: Global,
+        shelf: &mut Shelf,
+        pools: Pools,
+        number: u32,
+    ) -> Result<(), AllocError> {
+        if self.by_block.get(&number).is_none() {
+            let fields = needs_of(alloc, shelf, number)?;
+            let found = met_by(alloc, shelf, pools, &fields)?;
+            self.by_block.insert(number, found)?;
+        }
+        Ok(())
+    }
+}
+
+/// The blocks that a build takes, so far as they are known, each once.
+#[derive(Drop)]
+struct Walk {
+    seen: BTreeSet<u32>,
+    blocks: Vec<u32>,
+}
+
+impl Walk {
+    /// Takes those of blocks that were taken, or are given by the build.
+    fn take(&mut self, pools: Pools, build: &Build, found: &[u32]) -> Result<(), AllocError> {
+        for number in found {
+            if pools.taken.closure.begin.contains(number) || build.outputs.contains(number) {
+                if self.seen.insert(*number)? {
+                    self.blocks.push(*number)?;
+                }
+            }
+        }
+        Ok(())
+    }
+}
+
+/// Takes what the packages of the blocks need that were taken, and what that needs.
+fn close(
+    alloc: Global,
+    shelf: &mut Shelf,
+    pools: Pools,
+    met: &mut Met,
+    build: &Build,
+    walk: &mut Walk,
+) -> Result<(), AllocError> {
+    for at in 0..usize::MAX {
+        let Some(number) = walk.blocks.get(at).copied() else {
+            return Ok(());
+        };
+        met.look(alloc, shelf, pools, number)?;
+        if let Some(found) = met.by_block.get(&number) {
+            walk.take(pools, build, found)?;
+        }
+    }
+    Err(AllocError)
+}
+
+/// The names of the packages of blocks.
+fn push_names(
+    alloc: Global,
+    shelf: &Shelf,
+    blocks: &[u32],
+    names: &mut BTreeSet<Vec<u8>>,
+) -> Result<(), AllocError> {
+    for number in blocks {
+        if let Some(given) = shelf.given(*number) {
+            names.insert(Vec::from_slice(alloc, &given.name)?)?;
+        }
+    }
+    Ok(())
+}
+
+/// The names that a build takes and gives.
 fn names_taken(
     alloc: Global,
     shelf: &mut Shelf,
     pools: Pools,
+    met: &mut Met,
     build: &Build,
 ) -> Result<BTreeSet<Vec<u8>>, AllocError> {
-    let mut walk = begun(alloc, shelf, build)?;
-    for at in 0..usize::MAX {
-        let Some(field) = walk.fields.get(at) else {
-            return Ok(walk.names);
-        };
-        for number in field_met_by(alloc, shelf, pools, build, field)? {
-            walk.take(alloc, shelf, number)?;
-        }
-    }
-    Err(AllocError)
+    let mut walk = Walk {
+        seen: BTreeSet::new(alloc),
+        blocks: Vec::new(alloc),
+    };
+    let found = met_by(alloc, shelf, pools, &build.needs)?;
+    walk.take(pools, build, &found)?;
+    close(alloc, shelf, pools, met, build, &mut walk)?;
+    let mut names = BTreeSet::new(alloc);
+    push_names(alloc, shelf, &build.outputs, &mut names)?;
+    push_names(alloc, shelf, &walk.blocks, &mut names)?;
+    Ok(names)
 }
 
 /// By name how many builds take it.
@@ -156,8 +200,11 @@ fn all_taken(
     pools: Pools,
 ) -> Result<Vec<BTreeSet<Vec<u8>>>, AllocError> {
     let mut all = Vec::new(alloc);
+    let mut met = Met {
+        by_block: BTreeMap::new(alloc),
+    };
     for build in &pools.taken.builds {
-        all.push(names_taken(alloc, shelf, pools, build)?)?;
+        all.push(names_taken(alloc, shelf, pools, &mut met, build)?)?;
     }
     Ok(all)
 }

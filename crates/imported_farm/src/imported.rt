@@ -25,6 +25,7 @@ use farm_universe::Universe;
 use import_builds::SourceShelf;
 use import_closure::{Shelf, Variants};
 use import_wish::{Wish, read_wish};
+use index_names::NameTable;
 use std::alloc::{AllocError, Global};
 
 /// What each text begins with.
@@ -114,11 +115,11 @@ struct Written {
     lines: Vec<u8>,
 }
 
-/// The three texts and the counts on them, or the counts where one is over its limit.
+/// The three texts and the counts on them, or the lines on the limits that are passed.
 #[derive(Drop)]
 enum Drawn {
     Texts(Written),
-    Over([Count; 7]),
+    Over(Vec<u8>),
 }
 
 /// The texts of packages and of sources.
@@ -197,15 +198,16 @@ fn write_texts(
     })
 }
 
-/// The refusal of a farm that is over a limit.
+/// The refusal of a farm that is over a limit: the lines on the limits, and behind them who takes
+/// the most.
 fn over_limit(
     alloc: Global,
     shelf: &mut Shelf,
     of: Given,
     taken: &Taken,
-    counts: &[Count],
+    lines: Vec<u8>,
 ) -> Result<Vec<u8>, AllocError> {
-    let mut lines = over_lines(alloc, counts)?;
+    let mut lines = lines;
     push_shares(alloc, &mut lines, shelf, of, taken)?;
     Ok(lines)
 }
@@ -236,12 +238,13 @@ fn judge(alloc: Global, texts: &ImportedTexts, wish: &Wish) -> Result<(), Stop>
     }
 }
 
-/// What an import was given, read and cut.
+/// What an import was given, read and cut. The sources are those of the indexes.
 #[derive(Clone, Copy)]
 struct Read<'a> {
     text: &'a [u8],
     paragraphs: &'a Paragraphs,
     names: &'a [u8],
+    sources: &'a [&'a [u8]],
     of: Given<'a>,
 }
 
@@ -258,7 +261,7 @@ fn push_all_notes(
     push_notes(alloc, lines, shelf, sources, read.of.packages, told)
 }
 
-/// Writes the texts of what was seen, if no limit is passed; else the counts come back.
+/// Writes the texts of what was seen, if no limit is passed; else the lines on these come back.
 fn write_seen(alloc: Global, seen: Seen, chosen: &Variants) -> Result<Drawn, AllocError>
     ensures packages { IfOk result (OnTexts (λ texts.
         IsMadeOf (IsWholeOrAnew (IsOneOf seen.entry.packages.now)) HEAD.now texts.packages.items)) }
@@ -267,7 +270,7 @@ fn write_seen(alloc: Global, seen: Seen, chosen: &Variants) -> Result<Drawn, All
 {
     let few = counts(seen.shelf, seen.told.taken, chosen.count(), 0);
     if are_over(&few) {
-        return Ok(Drawn::Over(few));
+        return Ok(Drawn::Over(over_lines(alloc, &few)?));
     }
     let indexes = write_indexes(alloc, seen, chosen)?;
     let all = counts(
@@ -277,37 +280,47 @@ fn write_seen(alloc: Global, seen: Seen, chosen: &Variants) -> Result<Drawn, All
         longer(&indexes),
     );
     if are_over(&all) {
-        return Ok(Drawn::Over(all));
+        return Ok(Drawn::Over(over_lines(alloc, &all)?));
     }
     Ok(Drawn::Texts(write_texts(alloc, seen, indexes, &all)?))
 }
 
-/// The texts of what was taken, or the lines of the refusal where a limit is passed.
-fn draw(
+/// The texts of what was taken, or the lines on the limits that are passed.
+fn draw<'a>(
     alloc: Global,
-    read: Read,
-    shelf: &mut Shelf,
-    sources: &SourceShelf,
-    taken: &Taken,
-) -> Result<Written, Stop>
-    ensures packages { IfOk result (λ written. IsMadeOf
+    read: Read<'a>,
+    shelf: &'a Shelf<'a>,
+    taken: &'a Taken,
+) -> Result<Drawn, AllocError>
+    ensures packages { IfOk result (OnTexts (λ texts. IsMadeOf
         (IsWholeOrAnew (IsOneOf read.entry.of.packages.now.blocks.items)) HEAD.now
-        written.texts.packages.items) }
-    ensures sources { IfOk result (λ written. IsMadeOf
-        (IsWhole (IsOneOf sources.now.blocks.now)) HEAD.now written.texts.sources.items) }
+        texts.packages.items)) }
+    ensures sources { IfOk result (OnTexts (λ texts. IsMadeOf
+        (IsWhole (IsOneOf read.entry.sources.now)) HEAD.now texts.sources.items)) }
 {
     let recipes = &read.of.wish.items.recipes;
     let chosen = chosen_sources(alloc, recipes, &taken.builds)?;
     let seen = Seen {
         shelf,
         packages: &read.of.packages.blocks,
-        sources: sources.blocks,
+        sources: read.sources,
         architectures: read.names,
         told: Told { recipes, taken },
     };
-    match write_seen(alloc, seen, &chosen)? {
+    write_seen(alloc, seen, &chosen)
+}
+
+/// The same, or the refusal where a limit is passed.
+fn draw_all(alloc: Global, read: Read, shelf: &mut Shelf, taken: &Taken) -> Result<Written, Stop>
+    ensures packages { IfOk result (λ written. IsMadeOf
+        (IsWholeOrAnew (IsOneOf read.entry.of.packages.now.blocks.items)) HEAD.now
+        written.texts.packages.items) }
+    ensures sources { IfOk result (λ written. IsMadeOf
+        (IsWhole (IsOneOf read.entry.sources.now)) HEAD.now written.texts.sources.items) }
+{
+    match draw(alloc, read, shelf, taken)? {
         Drawn::Texts(written) => Ok(written),
-        Drawn::Over(counts) => Err(Stop::from(over_limit(alloc, shelf, read.of, taken, &counts))),
+        Drawn::Over(lines) => Err(Stop::from(over_limit(alloc, shelf, read.of, taken, lines))),
     }
 }
 
@@ -320,10 +333,10 @@ fn write_taken(
     taken: &Taken,
 ) -> Result<Written, Stop>
     ensures { IfOk result (λ written. AreTextsOf
-        (IsOneOf read.entry.of.packages.now.blocks.items) (IsOneOf sources.now.blocks.now)
+        (IsOneOf read.entry.of.packages.now.blocks.items) (IsOneOf read.entry.sources.now)
         (wish_view read.entry.of.wish.now) written.texts) }
 {
-    let written = draw(alloc, read, shelf, sources, taken)?;
+    let written = draw_all(alloc, read, shelf, taken)?;
     let mut lines = written.lines;
     let texts = written.texts;
     judge(alloc, &texts, read.of.wish)?;
@@ -336,48 +349,70 @@ fn write_taken(
 }
 
 /// Takes what a wish wants, and writes the texts and the notes.
-fn import_read(alloc: Global, read: Read, sources: Sources) -> Result<Written, Stop>
+fn import_read(alloc: Global, read: Read, sources: NameTable) -> Result<Written, Stop>
     ensures { IfOk result (λ written. AreTextsOf
-        (IsOneOf read.entry.of.packages.now.blocks.items) (IsOneOf sources.entry.blocks.items)
+        (IsOneOf read.entry.of.packages.now.blocks.items) (IsOneOf read.entry.sources.now)
         (wish_view read.entry.of.wish.now) written.texts) }
 {
     let mut shelf = Shelf::new(alloc, &read.of.packages.blocks, read.of.architectures)?;
     let mut source_shelf = SourceShelf {
-        blocks: &sources.blocks,
-        names: sources.names,
+        blocks: read.sources,
+        names: sources,
         unreadable: Vec::new(alloc),
     };
     let taken = take(alloc, read.of, &mut shelf, &mut source_shelf)?;
     write_taken(alloc, read, &mut shelf, &source_shelf, &taken)
 }
 
-/// Reads the indexes, and takes what a wish wants of them.
-fn import_wish(
+/// A wish as it was read, and its text.
+#[derive(Clone, Copy)]
+struct WishRead<'a> {
+    text: &'a [u8],
+    paragraphs: &'a Paragraphs,
+    wish: &'a Wish<'a>,
+}
+
+/// Takes what a wish wants of indexes that were cut.
+fn import_cut<'a>(
     alloc: Global,
-    inputs: Inputs,
-    paragraphs: &Paragraphs,
-    wish: &Wish,
+    wish: WishRead<'a>,
+    names: Vec<u8>,
+    architectures: ArchNames,
+    packages: Packages<'a>,
+    sources: Sources<'a>,
 ) -> Result<Written, Stop>
     ensures { IfOk result (λ written. AreTextsOf
-        (IsBlockIn (inputs.entry.packages.now ++ inputs.entry.archive.now))
-        (IsBlockIn inputs.entry.sources.now) (wish_view wish.now) written.texts) }
+        (IsOneOf packages.entry.blocks.items) (IsOneOf sources.entry.blocks.items)
+        (wish_view wish.entry.wish.now) written.texts) }
 {
-    let names = all_names(alloc, &wish.head.architectures)?;
-    let architectures = architectures_of(alloc, &names)?;
-    let packages = read_packages(alloc, &architectures, inputs.packages, inputs.archive)?;
-    let sources = read_sources(alloc, inputs.sources)?;
+    let source_names = sources.names;
     let of = Given {
-        wish,
+        wish: wish.wish,
         packages: &packages,
         architectures: &architectures,
     };
     let read = Read {
-        text: inputs.wish,
-        paragraphs,
+        text: wish.text,
+        paragraphs: wish.paragraphs,
         names: &names,
+        sources: &sources.blocks,
         of,
     };
-    import_read(alloc, read, sources)
+    import_read(alloc, read, source_names)
+}
+
+/// Reads the indexes, and takes what a wish wants of them.
+fn import_wished<'a>(alloc: Global, inputs: Inputs<'a>, wish: WishRead<'a>) -> Result<Written, Stop>
+    ensures { IfOk result (λ written. AreTextsOf
+        (IsBlockIn (inputs.entry.packages.now ++ inputs.entry.archive.now))
+        (IsBlockIn inputs.entry.sources.now) (wish_view wish.entry.wish.now) written.texts) }
+{
+    let names = all_names(alloc, &wish.wish.head.architectures)?;
+    let architectures = architectures_of(alloc, &names)?;
+    let packages = read_packages(alloc, &architectures, inputs.packages, inputs.archive)?;
+    let sources = read_sources(alloc, inputs.sources)?;
+    let written = import_cut(alloc, wish, names, architectures, packages, sources)?;
+    Ok(written)
 }
 
 /// Reads a wish, and makes the texts of it.
@@ -386,7 +421,13 @@ fn import_text(alloc: Global, inputs: Inputs) -> Result<Written, Stop>
 {
     let paragraphs = wish_paragraphs(alloc, inputs.wish)?;
     let wish = wish_of(alloc, &paragraphs)?;
-    import_wish(alloc, inputs, &paragraphs, &wish)
+    let read = WishRead {
+        text: inputs.wish,
+        paragraphs: &paragraphs,
+        wish: &wish,
+    };
+    let written = import_wished(alloc, inputs, read)?;
+    Ok(written)
 }
 
 /// Makes the texts of a farm of a wish and of indexes, and tells of them.
