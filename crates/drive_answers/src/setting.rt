@@ -72,12 +72,17 @@ pub fn run_by<J: JournalFile + Drop>(
         × IsRefused (head_text beginning.now.sums) (J.state journal) new fault) }
 {
     let mut journal = journal;
-    let resumed = beginning.by(alloc, &mut journal)?;
-    Ok(Run {
-        name: beginning.name(alloc, &resumed)?,
-        resumed,
-        journal,
-    })
+    match beginning.by(alloc, &mut journal) {
+        Ok(resumed) => match beginning.name(alloc, &resumed) {
+            Ok(name) => Ok(Run {
+                name,
+                resumed,
+                journal,
+            }),
+            Err(AllocError) => Err(StoreFault::Memory),
+        },
+        Err(fault) => Err(fault),
+    }
 }
 
 /// A run without a journal.
