@@ -1,3 +1,2 @@
-pub mod Drives
 pub mod Requests
 pub mod Runs

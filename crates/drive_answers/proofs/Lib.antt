@@ -1,2 +1,0 @@
-pub mod DriveLaws
-pub mod RanLaws

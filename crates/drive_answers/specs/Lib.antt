@@ -1,2 +1,0 @@
-pub mod DriveAnswers
-pub mod DriveLines
