@@ -1,5 +1,6 @@
 //! The answers to the questions of cases.
 
+use crate::lives::{cuts_text, drive_text};
 use crate::machine::{Parts, parts_of};
 use crate::members::member_line;
 use crate::outputs::{Failure, Manner};
@@ -122,6 +123,7 @@ fn answer_on(
         "member" => member_text(rt, alloc, parts, words),
         "heads" => heads_text(rt, alloc, parts, words),
         "failing" => stops_text(rt, alloc, parts, words, Failure::Error),
+        "cuts" => cuts_text(rt, alloc, parts, words),
         "stuck" => stops_text(rt, alloc, parts, words, Failure::Nothing),
         _ => Vec::from_slice(alloc, b"no such question\n"),
     }
@@ -141,5 +143,8 @@ pub fn answer_to(
     let question = str::from_utf8(question).unwrap_or("?");
     let parts = parts_of(alloc, &case.input)?;
     let words = words_of(alloc, words)?;
+    if question == "drive" {
+        return drive_text(rt, alloc, &parts, &words, &case.input);
+    }
     answer_on(rt, alloc, &parts, question, &words)
 }

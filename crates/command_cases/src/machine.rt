@@ -1,9 +1,16 @@
 //! The files and the standard input of a machine in memory.
 
+use crate::runs::push_lines;
+use crate::stage::Stage;
+use crate::streams::{StageInput, StageJournal};
+use bounded_read::read_up_to;
 use deb_text::next_line;
-use farm_commands::Source;
+use drive_store::OpenFault;
+use farm_commands::{DriveSource, Folder, Source};
 use std::alloc::{AllocError, Global};
-use std::io::{self, ErrorKind, Read};
+use std::cell::Cell;
+use std::io::{self, BufReader, ErrorKind, Read};
+use std::sync::Wait;
 
 /// A file of this name, or standard input, whose name is empty.
 #[derive(Drop)]
@@ -56,6 +63,18 @@ pub fn parts_of(alloc: Global, input: &[u8]) -> Result<Parts<'_>, AllocError> {
     Ok(Parts { parts })
 }
 
+impl Parts<'_> {
+    /// The text of the file of this name, empty where there is none.
+    pub fn text(&self, name: &[u8]) -> &[u8] {
+        for part in &self.parts {
+            if part.name == name {
+                return part.text.as_slice();
+            }
+        }
+        b""
+    }
+}
+
 /// Reads a text in memory.
 #[derive(Drop)]
 pub struct TextReader<'a> {
@@ -72,13 +91,57 @@ impl Read for TextReader<'_> {
     }
 }
 
-/// A machine that has these parts.
+/// A machine that has these parts and what a driver of it needs, and notes what is done with files.
 #[derive(Drop)]
-pub struct Machine<'a> {
-    pub parts: &'a Parts<'a>,
+pub struct Machine<'a, D> {
+    alloc: Global,
+    parts: &'a Parts<'a>,
+    driver: D,
+    done: Cell<Vec<u8>>,
 }
 
-impl<'a> Machine<'a> {
+impl<'a, D> Machine<'a, D> {
+    pub fn new(alloc: Global, parts: &'a Parts<'a>, driver: D) -> Machine<'a, D> {
+        Machine {
+            alloc,
+            parts,
+            driver,
+            done: Cell::new(Vec::new(alloc)),
+        }
+    }
+
+    /// What was done with files: a line for each folder that was made and each file that was
+    /// written or has got another name, and the lines of what was written, each behind a mark.
+    pub fn into_done(self) -> Vec<u8> {
+        let Machine {
+            alloc: _,
+            parts: _,
+            driver: _driver,
+            done,
+        } = self;
+        done.into_inner()
+    }
+
+    /// Notes something that was done, and the bytes of a file.
+    fn note(&self, words: &[&str], bytes: &[u8]) -> io::Result<()> {
+        let mut done = self.done.replace(Vec::new(self.alloc));
+        for word in words {
+            done.extend_from_slice(word.as_bytes())?;
+        }
+        done.extend_from_slice(b"\n")?;
+        push_lines(&mut done, b"> ", bytes)?;
+        self.done.set(done);
+        Ok(())
+    }
+
+    /// Fails where the file of this name is broken.
+    fn judge(&self, path: &str) -> io::Result<()> {
+        match self.part(path.as_bytes()) {
+            Some(file) if file.is_broken => Err(io::Error::from(ErrorKind::PermissionDenied)),
+            _ => Ok(()),
+        }
+    }
+
     fn part(&self, name: &[u8]) -> Option<TextReader<'a>> {
         for part in &self.parts.parts {
             if part.name == name {
@@ -92,7 +155,7 @@ impl<'a> Machine<'a> {
     }
 }
 
-impl<'a> Source for Machine<'a> {
+impl<'a, D> Source for Machine<'a, D> {
     ghost use Rattle.std.specs.Prelude.{None};
 
     ghost held = { λ _ _. None };
@@ -119,5 +182,71 @@ impl<'a> Source for Machine<'a> {
             rest: b"",
             is_broken: false,
         })
+    }
+}
+
+/// The driver of a machine: the life that it plays, how many lines its output takes before it
+/// fails, how many its journal takes, and whether another run has locked that.
+#[derive(Drop)]
+pub struct Driver<'s, 'c, R: Wait> {
+    pub stage: &'s Stage<'c, R>,
+    pub most_entries: usize,
+    pub is_locked: bool,
+}
+
+impl<'s, 'c, R: Wait + Sync> DriveSource for Machine<'s, Driver<'s, 'c, R>> {
+    ghost use Rattle.std.specs.Prelude.{None};
+
+    ghost kept = { λ _ _. None };
+
+    type Answers = BufReader<StageInput<'s, 'c, R>>;
+
+    type Journal = StageJournal<'s, 'c, R>;
+
+    fn answers(&self, alloc: Global) -> Result<BufReader<StageInput<'s, 'c, R>>, AllocError> {
+        let stage = self.driver.stage;
+        BufReader::new(alloc, StageInput { stage }).map_err(|_| AllocError)
+    }
+
+    fn is_typed(&self) -> bool {
+        false
+    }
+
+    fn nanoseconds(&self) -> u64 {
+        1
+    }
+
+    fn open_journal(&self, _path: &str) -> Result<StageJournal<'s, 'c, R>, OpenFault> {
+        if self.driver.is_locked {
+            return Err(OpenFault::InUse);
+        }
+        Ok(StageJournal {
+            stage: self.driver.stage,
+            most: self.driver.most_entries,
+            has_failed: false,
+        })
+    }
+}
+
+impl<D> Folder for Machine<'_, D> {
+    fn read_part(&self, alloc: Global, path: &str, most: u32) -> io::Result<Vec<u8>> {
+        read_up_to(alloc, self.open(path)?, most)
+    }
+
+    fn read_input(&self, alloc: Global, most: u32) -> io::Result<Vec<u8>> {
+        read_up_to(alloc, self.input(), most)
+    }
+
+    fn make_folder(&self, path: &str) -> io::Result<()> {
+        self.note(&["made ", path], b"")
+    }
+
+    fn write_file(&self, path: &str, bytes: &[u8]) -> io::Result<()> {
+        self.judge(path)?;
+        self.note(&["written ", path], bytes)
+    }
+
+    fn rename_file(&self, from: &str, to: &str) -> io::Result<()> {
+        self.note(&["renamed ", from, " to ", to], b"")
     }
 }

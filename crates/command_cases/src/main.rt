@@ -8,11 +8,14 @@
 #![tactic(auto)]
 
 mod answers;
+mod lives;
 mod machine;
 mod members;
 mod outputs;
 mod run;
 mod runs;
+mod stage;
+mod streams;
 
 use crate::run::run_file;
 use std::{env, io};

@@ -1,7 +1,8 @@
 //! What words come to on a machine in memory, as cases write it.
 
-use crate::machine::{Machine, Parts};
+use crate::machine::{Driver, Machine, Parts};
 use crate::outputs::{Manner, Output};
+use crate::stage::Stage;
 use deb_text::next_line;
 use farm_commands::{quiet_words, run_words};
 use report_sink::{Sink, WriteSink};
@@ -19,6 +20,8 @@ pub struct Run {
     pub is_cut: bool,
     pub output: Vec<u8>,
     pub errors: Vec<u8>,
+    /// What was done with files.
+    pub done: Vec<u8>,
 }
 
 /// Reads words as cases write them: divided by spaces, and `""` for the empty one.
@@ -49,12 +52,20 @@ pub fn run_on(
 ) -> Run {
     let mut out = WriteSink::new(Output::new(alloc, output));
     let mut told = WriteSink::new(Output::new(alloc, errors));
-    let status = run_words(rt, alloc, words, &Machine { parts }, &mut out, &mut told);
+    let stage = Stage::new(rt, alloc, b"close\n", Vec::new(alloc));
+    let driver = Driver {
+        stage: &stage,
+        most_entries: usize::MAX,
+        is_locked: false,
+    };
+    let machine = Machine::new(alloc, parts, driver);
+    let status = run_words(rt, alloc, words, &machine, &mut out, &mut told);
     Run {
         status,
         is_cut: out.has_failed(),
         output: out.into_inner().into_taken(),
         errors: told.into_inner().into_taken(),
+        done: machine.into_done(),
     }
 }
 
@@ -67,12 +78,14 @@ pub fn run_quietly(
 ) -> Run {
     let mut out = WriteSink::new(Output::new(alloc, Manner::WHOLE));
     let mut told = WriteSink::new(Output::new(alloc, Manner::WHOLE));
-    let status = quiet_words(rt, alloc, words, &Machine { parts }, &mut out, &mut told);
+    let machine = Machine::new(alloc, parts, ());
+    let status = quiet_words(rt, alloc, words, &machine, &mut out, &mut told);
     Run {
         status,
         is_cut: out.has_failed(),
         output: out.into_inner().into_taken(),
         errors: told.into_inner().into_taken(),
+        done: machine.into_done(),
     }
 }
 
@@ -84,7 +97,11 @@ fn push_line(text: &mut Vec<u8>, mark: &[u8], line: &[u8]) -> Result<(), AllocEr
 }
 
 /// Puts the lines of a text behind another.
-fn push_lines(text: &mut Vec<u8>, mark: &[u8], lines: &[u8]) -> Result<(), AllocError> {
+///
+/// # Errors
+///
+/// [`AllocError`] where memory is refused.
+pub fn push_lines(text: &mut Vec<u8>, mark: &[u8], lines: &[u8]) -> Result<(), AllocError> {
     let mut rest = lines;
     while let Some((line, behind)) = next_line(rest) {
         push_line(text, mark, line)?;
@@ -118,7 +135,8 @@ fn push_status(text: &mut Vec<u8>, run: &Run) -> Result<(), AllocError> {
 pub fn push_run(text: &mut Vec<u8>, run: &Run) -> Result<(), AllocError> {
     push_status(text, run)?;
     push_lines(text, b"| ", &run.output)?;
-    push_lines(text, b"! ", &run.errors)
+    push_lines(text, b"! ", &run.errors)?;
+    text.extend_from_slice(&run.done)
 }
 
 /// The same with the first line of each output alone.

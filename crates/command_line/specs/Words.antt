@@ -5,13 +5,17 @@
 --   EndsWord words text        a word ends with this text, as `--schedule=0,1` with `0,1`
 --   ArePathWords words paths   the names of the four files are words
 --   AreFarmWords words paths   the names of the three files of a farm are
+--   IsJournalWord words journal   a word ends with the name of a journal, if there is one
 --   IsAskedBy words asked      what is asked for has its names and its schedule from the words
 --   IsRefusedFor words fault   a bad schedule comes from the words, and is none
-use Rattle.std.specs.Prelude.{◌≡◌, ℕ, true, ◌==◌, List, [], Ok, Err}
+use Rattle.std.specs.Prelude.{◌≡◌, ℕ, true, ◌==◌, List, [], All, codes, Option, Ok, Err, IfSome}
+use Rattle.std.specs.Borrow.{Bor}
 use Rattle.std.specs.List.{ends_with, list_any}
+use Rattle.std.specs.Option.{option_map}
 use Rattle.std.specs.Str.{bytes_eq}
 use Rattle.command_line.specs.declared.request.Asked.{Asked}
-use Rattle.command_line.specs.declared.request.Asked.TheVariants.{Answer, Run}
+use Rattle.command_line.specs.declared.request.Asked.TheVariants.{Answer, Run, Drive, Import}
+use Rattle.command_line.specs.declared.import.ImportWords.{ImportWords}
 use Rattle.command_line.specs.declared.request.FarmPaths.{FarmPaths}
 use Rattle.command_line.specs.declared.request.Paths.{Paths}
 use Rattle.command_line.specs.declared.request.Request.{Request}
@@ -38,6 +42,10 @@ pub record AreFarmWords (words : List (List ℕ)) (paths : FarmPaths) : Type 0 w
   pub sources : IsWord words paths.sources.now
   pub farm : IsWord words paths.farm.now
 
+-- a word ends with the name of a journal, if there is one, as `--journal=j` with `j`
+abbrev pub IsJournalWord : List (List ℕ) → Option (List ℕ) → Type 0
+IsJournalWord words journal = IfSome journal (λ name. EndsWord words name)
+
 -- a word ends with a text that is this number
 abbrev pub HasNumber : List (List ℕ) → ℕ → Type 0
 HasNumber words number = (text : List ℕ) × EndsWord words text × (lane_at text ≡ Ok number)
@@ -63,9 +71,25 @@ IsRequestedBy words (Draft paths rest partial) = ArePathWords words paths
 IsRequestedBy words (DraftLanes paths lanes partial) =
     HasNumber words lanes × AreFarmWords words paths
 
+-- each name that stands behind an option ends a word, as in `--packages=Packages`
+abbrev pub EndWords : List (List ℕ) → List (Bor (List ℕ)) → Type 0
+EndWords words names = All (λ name. EndsWord words name.now) names
+
+-- Of the words of an import:
+pub record AreImportWords (words : List (List ℕ)) (asked : ImportWords) : Type 0 where
+  pub archive : EndWords words asked.archive.items
+  pub packages : EndWords words asked.packages.items
+  pub sources : EndWords words asked.sources.items
+  pub wish : IsWord words asked.wish.now
+  pub folder : IsWord words asked.folder.now
+
 abbrev pub IsAskedBy : List (List ℕ) → Asked → Type 0
 IsAskedBy words (Answer request) = IsRequestedBy words request
 IsAskedBy words (Run paths progress) = ArePathWords words paths
+IsAskedBy words (Drive paths journal progress) =
+    IsWord words (codes "drive") × ArePathWords words paths
+    × IsJournalWord words (option_map (λ name. name.now) journal)
+IsAskedBy words (Import asked) = AreImportWords words asked
 
 -- a word ends with a text that is no schedule
 abbrev pub HasBadSchedule : List (List ℕ) → Type 0

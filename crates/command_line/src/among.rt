@@ -1,7 +1,7 @@
 //! What stands among the words.
 
 ghost use Rattle.std.specs.Prelude.{◌≡◌, ◌==◌, map, true};
-ghost use Rattle.std.specs.List.{ends_with, list_any};
+ghost use Rattle.std.specs.List.{ends_with, list_all, list_any};
 ghost use Rattle.std.specs.Str.{bytes_eq};
 ghost use Rattle.command_line.specs.Words.{AreFarmWords, ArePathWords, EndsWord, IsWord};
 
@@ -23,6 +23,14 @@ pub fn ends_word<S: AsStr>(words: &[S], text: &str) -> bool
     words
         .iter()
         .any(|word| word.as_str().as_bytes().ends_with(text.as_bytes()))
+}
+
+/// Tells whether each of these texts ends a word.
+pub fn end_words<S: AsStr>(words: &[S], texts: &[&str]) -> bool
+    ensures { result ≡ list_all (λ text. list_any
+        (λ word. ends_with (λ a b. a == b) (S.text word) text.now) words.now) texts.now }
+{
+    texts.iter().all(|text| ends_word(words, text))
 }
 
 /// Tells whether the names of the four files are words.

@@ -27,6 +27,12 @@ pub const STEP: &str = "step";
 /// The command `run`.
 pub const RUN: &str = "run";
 
+/// The command `drive`.
+pub const DRIVE: &str = "drive";
+
+/// The command `import`.
+pub const IMPORT: &str = "import";
+
 /// The command `timeline`.
 pub const TIMELINE: &str = "timeline";
 
@@ -68,6 +74,21 @@ pub const SCHEDULE: &str = "schedule";
 
 /// The option `--progress`.
 pub const PROGRESS: &str = "progress";
+
+/// The option `--journal`.
+pub const JOURNAL: &str = "journal";
+
+/// The option `--archive`.
+pub const ARCHIVE: &str = "archive";
+
+/// The option `--force`.
+pub const FORCE: &str = "force";
+
+/// The parameter with the name of the wish.
+pub const WISH: &str = "wish";
+
+/// The parameter with the name of the folder.
+pub const FOLDER: &str = "folder";
 
 /// The option `--number`.
 pub const NUMBER: &str = "number";
@@ -180,6 +201,41 @@ fn step<'a>(alloc: Global) -> Result<Command<'a>, AllocError> {
 /// The command that runs the lanes.
 fn run<'a>(alloc: Global) -> Result<Command<'a>, AllocError> {
     on_files(alloc, RUN, help::RUN, help::RUN_MORE)?.arg(flag(alloc, PROGRESS, help::PROGRESS))
+}
+
+/// The command that lets a driver carry out the run.
+fn drive<'a>(alloc: Global) -> Result<Command<'a>, AllocError> {
+    let journal = Arg::new(alloc, JOURNAL).long(JOURNAL).value_name("FILE");
+    let command = on_files(alloc, DRIVE, help::DRIVE, help::DRIVE_MORE)?;
+    let command = command.arg(journal.help(help::JOURNAL))?;
+    command.arg(flag(alloc, PROGRESS, help::PROGRESS))
+}
+
+/// An option that names an index, and may stand more than once.
+fn index<'a>(alloc: Global, id: &'a str, about: &'a str) -> Arg<'a> {
+    Arg::new(alloc, id)
+        .long(id)
+        .value_name("INDEX")
+        .action(ArgAction::Append)
+        .help(about)
+}
+
+/// The command with the indexes that `import` reads.
+fn with_indexes<'a>(alloc: Global, command: Command<'a>) -> Result<Command<'a>, AllocError> {
+    let command = command.arg(index(alloc, ARCHIVE, help::ARCHIVE))?;
+    let command = command.arg(index(alloc, PACKAGES, help::INDEXES).required(true))?;
+    command.arg(index(alloc, SOURCES, help::SOURCE_INDEXES).required(true))
+}
+
+/// The command that makes texts of indexes.
+fn import<'a>(alloc: Global) -> Result<Command<'a>, AllocError> {
+    let command = Command::new(alloc, IMPORT)
+        .about(help::IMPORT)
+        .after_long_help(help::IMPORT_MORE);
+    let command = with_indexes(alloc, command)?;
+    let command = command.arg(flag(alloc, FORCE, help::FORCE))?;
+    let command = command.arg(file(alloc, WISH, "WISH", help::WISH))?;
+    command.arg(file(alloc, FOLDER, "DIR", help::FOLDER))
 }
 
 /// A sketch, which a plan is drafted by where no number of lanes is given.
@@ -298,6 +354,8 @@ pub fn portfarm<'a>(alloc: Global) -> Result<Command<'a>, AllocError> {
     let program = and(program, verify_cert(alloc))?;
     let program = and(program, step(alloc))?;
     let program = and(program, run(alloc))?;
+    let program = and(program, drive(alloc))?;
     let program = with_pictures(alloc, program)?;
-    and(program, draft(alloc))
+    let program = and(program, draft(alloc))?;
+    and(program, import(alloc))
 }

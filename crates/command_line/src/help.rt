@@ -212,6 +212,29 @@ Example:
 
 Status: 0 drawn, 1 refused, 2 wrong words, 3 nothing could be answered";
 
+/// What `drive` does, in a line.
+pub const DRIVE: &str = "\
+Runs the lanes by a driver, which does what they are to do";
+
+/// What the help of `drive` says behind that line.
+pub const DRIVE_MORE: &str = "\
+Each lane has a thread of its own. Before it goes on it asks for what it is to
+do next, by a line on the output, as `start a 1 base build gcc-stage1 gcc 14-1
+full 20 1000 stage1`, and waits until standard input answers `done a 1`. `failed
+a 1` ends the run, and so does `stop`, once what was begun is answered.
+
+With `--journal` the file keeps what was asked and done. The same words go on
+where a run has stopped, whatever has stopped it: what is done is not asked for
+again, and what was begun is, by `again` in place of `start`.
+
+The last lines are those of `run`. A plan that is refused is not driven.
+
+Example:
+  portfarm drive --journal j packages sources farm plan
+
+Status: 0 finished, 1 refused, 2 wrong words, 3 stopped, or something outside
+of the plan failed";
+
 /// What `draft` does, in a line.
 pub const DRAFT: &str = "\
 Drafts a plan that `check` accepts, from lanes and builds alone";
@@ -234,6 +257,44 @@ Example:
   portfarm draft --lanes 4 packages sources farm > plan
 
 Status: 0 drafted, 1 refused, 2 wrong words, 3 nothing could be answered";
+
+/// What `import` does, in a line.
+pub const IMPORT: &str = "\
+Makes the texts of a farm of whole indexes, by a wish";
+
+/// What the help of `import` says behind that line.
+pub const IMPORT_MORE: &str = "\
+The texts are the files `packages`, `sources` and `farm` of the folder: what the
+recipes of the wish need, closed over what that needs. A wish is a farm text
+that leaves out what the indexes say. The answer is a line for each count, with
+its limit, and notes, as on a need that nothing meets. Or it is a refusal, as
+`refused 702 wish line 5` for a source that no index has; then nothing is
+written. A file that import has not made is replaced with `--force` alone. `-`
+in place of the name of one file is standard input.
+
+Example:
+  xzcat Packages.xz | portfarm import --packages - --sources Sources wish farm
+
+Status: 0 made, 1 refused, 2 wrong words, 3 a file cannot be read or written, or
+is none that import has made";
+
+/// What the indexes of the archive are, in a line.
+pub const ARCHIVE: &str = "Packages index of what is there at the beginning";
+
+/// What the Packages indexes are, in a line.
+pub const INDEXES: &str = "Packages index of what builds give";
+
+/// What the Sources indexes are, in a line.
+pub const SOURCE_INDEXES: &str = "Sources index";
+
+/// What `--force` does, in a line.
+pub const FORCE: &str = "Replace files that import has not made";
+
+/// What the wish is, in a line.
+pub const WISH: &str = "The wish: architecture, recipes, chroots";
+
+/// What the folder is, in a line.
+pub const FOLDER: &str = "The folder of the texts that are made";
 
 /// What the Packages index is, in a line.
 pub const PACKAGES: &str = "Packages index: versions, sizes and relations";
@@ -264,6 +325,9 @@ pub const PARTIAL: &str = "Leave out what cannot be built";
 
 /// What `--progress` does, in a line.
 pub const PROGRESS: &str = "Tell of publications and waits on the error output";
+
+/// What `--journal` does, in a line.
+pub const JOURNAL: &str = "Keep what is asked and done, and go on by it";
 
 /// What `--number` does, in a line.
 pub const NUMBER: &str = "Put the number and the plan's line before each line";

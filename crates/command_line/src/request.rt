@@ -5,10 +5,12 @@ ghost use Rattle.command_line.specs.Words.{AreFarmWords, ArePathWords, IsAskedBy
 
 use crate::among::{are_farm_words, are_words, ends_word, is_word};
 use crate::command::{
-    BARS, CERT, CERTIFICATE, CHECK, DRAFT, EXPLAIN, FARM, FULL, GRAPH, INPUT, JSON, LANES, LIST,
-    NUMBER, PACKAGES, PARTIAL, PLAN, PROGRESS, REST, RUN, SCHEDULE, SKETCH, SOURCES, STEP, SVG,
-    TIMELINE, VERIFY_CERT, portfarm,
+    BARS, CERT, CERTIFICATE, CHECK, DRAFT, DRIVE, EXPLAIN, FARM, FULL, GRAPH, IMPORT, INPUT, JSON,
+    LANES, LIST, NUMBER, PACKAGES, PARTIAL, PLAN, PROGRESS, REST, RUN, SCHEDULE, SKETCH, SOURCES,
+    STEP, SVG, TIMELINE, VERIFY_CERT, portfarm,
 };
+use crate::drive::drive_of;
+use crate::import::{ImportWords, import_of};
 use crate::schedule::{ScheduleFault, read_lane, read_schedule};
 use clap::error::ErrorKind;
 use clap::{ArgMatches, Error};
@@ -117,7 +119,19 @@ pub enum Asked<'a> {
     /// An answer to texts.
     Answer(Request<'a>),
     /// A run of the farm of four texts; and whether to tell of it while it goes on.
-    Run { paths: Paths<'a>, progress: bool },
+    Run {
+        paths: Paths<'a>,
+        progress: bool,
+    },
+    /// A run that a driver carries out; the name of its journal, if it has one; and whether to tell
+    /// of it while it goes on.
+    Drive {
+        paths: Paths<'a>,
+        journal: Option<&'a str>,
+        progress: bool,
+    },
+    /// The texts of a farm, made of indexes.
+    Import(ImportWords<'a>),
 }
 
 /// Why words ask for nothing that is answered.
@@ -158,7 +172,7 @@ fn fault_of(alloc: Global, error: Error) -> WordsFault
 }
 
 /// The word for something that the command requires.
-fn word_of<'a>(matches: &ArgMatches<'a>, id: &str) -> &'a str {
+pub fn word_of<'a>(matches: &ArgMatches<'a>, id: &str) -> &'a str {
     matches.get_str(id).unwrap_or("")
 }
 
@@ -380,6 +394,9 @@ fn asked_of<'a, S: AsStr>(
     if !are_words(words, paths) {
         return Err(not_there(alloc));
     }
+    if command == DRIVE {
+        return drive_of(alloc, words, matches, paths);
+    }
     if command == RUN {
         return Ok(Asked::Run {
             paths,
@@ -390,7 +407,7 @@ fn asked_of<'a, S: AsStr>(
 }
 
 /// That words are wrong, as this text says.
-fn wrong(alloc: Global, text: &str) -> WordsFault
+pub fn wrong(alloc: Global, text: &str) -> WordsFault
     ensures { (words : List (List ℕ)) → IsRefusedFor words result }
 {
     match String::from_str(alloc, text) {
@@ -406,7 +423,7 @@ fn no_command(alloc: Global) -> WordsFault
 }
 
 /// What the parser gives is looked up among the words, so that it need not be trusted.
-fn not_there(alloc: Global) -> WordsFault
+pub fn not_there(alloc: Global) -> WordsFault
     ensures { (words : List (List ℕ)) → IsRefusedFor words result }
 {
     wrong(alloc, "error: a name is none of the words\n")
@@ -435,6 +452,7 @@ pub fn read_words<'a, S: AsStr>(alloc: Global, words: &'a [S]) -> Result<Asked<'
     };
     match matches.subcommand() {
         Some((DRAFT, matches)) => draft_of(alloc, words, matches),
+        Some((IMPORT, matches)) => import_of(alloc, words, matches),
         Some((command, matches)) => asked_of(alloc, words, command, matches),
         None => Err(no_command(alloc)),
     }

@@ -4,29 +4,54 @@ use Rattle.std.specs.Prelude.{IfOk, OnErr}
 use Rattle.command_line.specs.declared.request.Asked.TheVariants.{Answer}
 use Rattle.command_line.specs.declared.request.Request.{Request}
 use Rattle.command_line.specs.declared.request.Request.TheVariants.{CheckInput}
+use Rattle.drive_answers.proofs.DriveLaws.{drives_before}
+use Rattle.drive_answers.specs.DriveAnswers.{kept_in}
 use Rattle.farm_answers.proofs.RunLaws.{runs-before}
 use Rattle.farm_answers.specs.FaultLines.{outside_fault_line}
 use Rattle.farm_answers.specs.Files.{named}
 use Rattle.farm_answers.specs.declared.fault.OutsideFault.{OutsideFault}
+use Rattle.farm_commands.specs.Requests.{IsRequestAnswered}
 use Rattle.farm_commands.specs.Runs.{MayComeTo, TellsFault}
 use Rattle.report_sink.specs.Sinks.{SinkState, IsWritten}
 
 -- an answer that is asked for is the one request that is asked for
-pub asked_nothing : (r : Request) → Answer r ≡ Answer CheckInput → r ≡ CheckInput
+asked_nothing : (r : Request) → Answer r ≡ Answer CheckInput → r ≡ CheckInput
 asked_nothing r e = cc e
 
-module _ (words : List (List ℕ)) (held : List ℕ → Option (List ℕ)) (given : Option (List ℕ)) where
+-- what is answered to no word at all
+pub answered_nothing : (held : List ℕ → Option (List ℕ)) (given : Option (List ℕ)) (r : Request)
+    (old new : SinkState) (told : Result ℕ OutsideFault) → Answer r ≡ Answer CheckInput
+    → IsRequestAnswered held given r old new told
+    → IsRequestAnswered held given CheckInput old new told
+answered_nothing held given r old new told e is =
+    subst (λ request. IsRequestAnswered held given request old new told) (asked_nothing r e) is
+
+module _ (words : List (List ℕ)) (held : List ℕ → Option (List ℕ)) (given : Option (List ℕ))
+    (kept : List ℕ → Option (List ℕ)) where
   -- the same of what words come to
   pub comes-before : (old new before after later : SinkState) (told : Result ℕ OutsideFault)
-      → IfOk told (λ _. later ≡ after) → MayComeTo words held given old new before after told
-      → MayComeTo words held given old new before later told
+      → IfOk told (λ _. later ≡ after)
+      → MayComeTo words held given kept old new before after told
+      → MayComeTo words held given kept old new before later told
   comes-before old new before after later told same (inl comes) = inl comes
-  comes-before old new before after later told same (inr (paths, are, runs)) =
-      inr (
+  comes-before old new before after later told same (inr (inl (paths, are, runs))) =
+      inr (inl (
         paths,
         are,
         runs-before (named held given) paths old new before after later told same runs,
-      )
+      ))
+  comes-before old new before after later told same (inr (inr (inl is))) =
+      inr (inr (inl (
+        is.0,
+        is.1,
+        is.2,
+        is.3,
+        is.4,
+        drives_before (named held given) (kept_in kept is.3) is.1 old new before after later told
+            same is.5,
+      )))
+  comes-before old new before after later told same (inr (inr (inr imports))) =
+      inr (inr (inr imports))
 
 -- the line of a fault is told of the state ahead, which no fault changes
 pub told-of : (first before after : SinkState) (told : Result ℕ OutsideFault)

@@ -1,2 +1,3 @@
+pub mod Drives
 pub mod Requests
 pub mod Runs

@@ -4,16 +4,18 @@
 --   TellsFault       the line of a fault outside of the texts, written to the error output
 --   TellsWords       what is told of words that ask for no answer
 --   ComesTo          what is written to the output, and what is told
---   MayComeTo        the same where words may ask for a run too
+--   MayComeTo        the same where words may ask for a run, a drive or an import too
 use Rattle.std.specs.Prelude.{◌≡◌, ◌⊎◌, ℕ, List, length, Option, Result, Ok, Err}
+use Rattle.command_line.specs.declared.import.ImportWords.{ImportWords}
 use Rattle.command_line.specs.declared.request.Paths.{Paths}
 use Rattle.command_line.specs.declared.request.Request.{Request}
 use Rattle.command_line.specs.declared.request.Request.TheVariants.{CheckInput}
-use Rattle.command_line.specs.Words.{ArePathWords, IsRequestedBy}
+use Rattle.command_line.specs.Words.{AreImportWords, ArePathWords, IsRequestedBy}
 use Rattle.report_sink.specs.Sinks.{SinkState, IsWritten}
 use Rattle.farm_answers.specs.Answers.{IsAnswered}
 use Rattle.farm_answers.specs.FaultLines.{fault_status, outside_fault_line}
 use Rattle.farm_answers.specs.FarmAnswers.{RunsTo}
+use Rattle.farm_commands.specs.Drives.{DrivesBy}
 use Rattle.farm_commands.specs.Requests.{IsRequestAnswered}
 use Rattle.farm_answers.specs.Files.{named}
 use Rattle.farm_answers.specs.declared.fault.OutsideFault.{OutsideFault}
@@ -48,11 +50,22 @@ pub record ComesTo (words : List (List ℕ)) (held : List ℕ → Option (List �
   -- and no word at all asks for the verdict on standard input.
   pub no_word : length words ≡ 0 → IsRequestAnswered held given CheckInput old new told
 
--- the same, or a run of the plan of files whose names stand among the words; before and after are
--- the states of the error output
-abbrev pub MayComeTo : List (List ℕ) → (List ℕ → Option (List ℕ)) → Option (List ℕ) → SinkState
-    → SinkState → SinkState → SinkState → Result ℕ OutsideFault → Type 0
-MayComeTo words held given old new before after told =
+-- texts were made, or refused, or something outside of them failed
+abbrev pub IsImportStatus : ℕ → Type 0
+IsImportStatus status = (status ≡ 0) ⊎ (status ≡ 1) ⊎ (status ≡ 3)
+
+abbrev pub IsImportTold : Result ℕ OutsideFault → Type 0
+IsImportTold (Ok status) = IsImportStatus status
+IsImportTold (Err fault) = ⊥
+
+-- the same, or a run of the plan of files whose names stand among the words, or a drive of it, or an
+-- import of such files; kept the bytes of journals, before and after the states of the error output
+abbrev pub MayComeTo : List (List ℕ) → (List ℕ → Option (List ℕ)) → Option (List ℕ)
+    → (List ℕ → Option (List ℕ)) → SinkState → SinkState → SinkState → SinkState
+    → Result ℕ OutsideFault → Type 0
+MayComeTo words held given kept old new before after told =
     ComesTo words held given old new told
     ⊎ ((paths : Paths) × ArePathWords words paths
     × RunsTo (named held given) paths old new before after told)
+    ⊎ DrivesBy words held given kept old new before after told
+    ⊎ ((asked : ImportWords) × AreImportWords words asked × IsImportTold told)

@@ -3,9 +3,12 @@
 ghost use Rattle.std.specs.Prelude.{◌≡◌, ℕ, IfOk, Result, OnErr, map};
 ghost use Rattle.farm_commands.specs.Runs.{ComesTo, MayComeTo, TellsFault, TellsWords, status_told};
 
+use crate::imports::import_asked;
 use crate::request::answer_request;
 use command_line::{Asked, WordsFault, read_words};
+use drive_answers::{DriveFiles, DriveSource, drive_files};
 use farm_answers::{FINE, OutsideFault, RunFiles, Source, WRONG_WORDS, run_files, say, tell};
+use import_files::Folder;
 use report_sink::{Sink, write_text};
 use std::alloc::Global;
 use std::convert::AsStr;
@@ -33,7 +36,7 @@ fn tell_words<'a, S: Sink, E: Sink>(
     }
 }
 
-/// Does what the words ask for, but for a run, and gives its status.
+/// Does what the words ask for, but for a run or a drive, and gives its status.
 ///
 /// # Errors
 ///
@@ -52,7 +55,16 @@ fn answer_words<'a, W: AsStr, F: Source, S: Sink, E: Sink>(
 {
     match read_words(alloc, words) {
         Ok(Asked::Answer(request)) => answer_request(rt, alloc, request, source, out, errors),
-        Ok(Asked::Run { .. }) => Ok(say(errors, b"portfarm: no lanes are run here\n", WRONG_WORDS)),
+        Ok(Asked::Run { .. } | Asked::Drive { .. }) => Ok(say(
+            errors,
+            b"portfarm: no lanes are run here\n",
+            WRONG_WORDS,
+        )),
+        Ok(Asked::Import(_)) => Ok(say(
+            errors,
+            b"portfarm: no files are written here\n",
+            WRONG_WORDS,
+        )),
         Err(fault) => tell_words(fault, out, errors),
     }
 }
@@ -62,7 +74,14 @@ fn answer_words<'a, W: AsStr, F: Source, S: Sink, E: Sink>(
 /// # Errors
 ///
 /// The fault outside of the texts that ended it.
-fn do_words<'a, R: Threads + Wait + Eprint + Sync, W: AsStr, F: Source, S: Sink, E: Sink>(
+fn do_words<
+    'a,
+    R: Threads + Wait + Eprint + Sync,
+    W: AsStr,
+    F: DriveSource + Folder,
+    S: Sink + Send,
+    E: Sink,
+>(
     rt: &R,
     alloc: Global,
     words: &'a [W],
@@ -71,7 +90,7 @@ fn do_words<'a, R: Threads + Wait + Eprint + Sync, W: AsStr, F: Source, S: Sink,
     errors: &mut E,
 ) -> Result<u8, OutsideFault<'a>>
     ensures done { MayComeTo (map W.text words.entry.now) (F.held source.now) (F.given source.now)
-        (S.state out.old) (S.state out.new) (E.state errors.old) (E.state errors.new) result }
+        (F.kept source.now) (S.state out.old) (S.state out.new) (E.state errors.old) (E.state errors.new) result }
     ensures quiet { OnErr result (E.state errors.new ≡ E.state errors.old) }
 {
     match read_words(alloc, words) {
@@ -80,6 +99,21 @@ fn do_words<'a, R: Threads + Wait + Eprint + Sync, W: AsStr, F: Source, S: Sink,
             let of = RunFiles { paths, progress };
             run_files(rt, alloc, source, of, out, errors)
         }
+        Ok(
+            Asked::Drive {
+                paths,
+                journal,
+                progress,
+            },
+        ) => {
+            let of = DriveFiles {
+                paths,
+                journal,
+                progress,
+            };
+            drive_files(rt, alloc, source, of, out, errors)
+        }
+        Ok(Asked::Import(asked)) => Ok(import_asked(alloc, source, &asked, out, errors)),
         Err(fault) => tell_words(fault, out, errors),
     }
 }
@@ -97,8 +131,8 @@ fn end<E: Sink>(told: Result<u8, OutsideFault<'_>>, errors: &mut E) -> u8
     }
 }
 
-/// Does what words ask for, but for `run`, which is a wrong word here: as [`run_words`], for those
-/// who have no leave to wait.
+/// Does what words ask for, but for `run` and `drive`, which are wrong words here: as [`run_words`],
+/// for those who have no leave to wait.
 pub fn quiet_words<'a, W: AsStr, F: Source, S: Sink, E: Sink>(
     rt: &(impl Threads + Sync),
     alloc: Global,
@@ -117,26 +151,26 @@ pub fn quiet_words<'a, W: AsStr, F: Source, S: Sink, E: Sink>(
 }
 
 /// Does what words ask for, those behind the program's name, and gives the status of the program.
-/// It may wait where they ask for a run.
+/// It may wait where they ask for a run or a drive.
 ///
 /// The files that they name are read in the order of the words, each up to
 /// [`MOST_FILE`](crate::MOST_FILE) bytes, and all of them before anything is checked. With no word
 /// at all the four texts are those of standard input. The status is 0 where the texts are accepted
 /// or listed, the schedule meets no trap, the run has come to its end, or help is shown; 1 for a
 /// refusal or a trap; 2 for wrong words or a schedule that is none; and 3 where a file cannot be
-/// read, memory is refused, a lane cannot be started, or the output fails. What is said of wrong
-/// words and schedules, and of the last four, stands on the error output.
-pub fn run_words<'a, R: Threads + Wait + Eprint + Sync, W: AsStr, F: Source, S: Sink, E: Sink>(
-    rt: &R,
-    alloc: Global,
-    words: &'a [W],
-    source: &F,
-    out: &mut S,
-    errors: &mut E,
-) -> u8
+/// read, memory is refused, a lane cannot be started, a drive has no end, or the output fails. What
+/// is said of wrong words and schedules, and of the last five, stands on the error output.
+pub fn run_words<
+    'a,
+    R: Threads + Wait + Eprint + Sync,
+    W: AsStr,
+    F: DriveSource + Folder,
+    S: Sink + Send,
+    E: Sink,
+>(rt: &R, alloc: Global, words: &'a [W], source: &F, out: &mut S, errors: &mut E) -> u8
     ensures { (told : Result ℕ OutsideFault) × (result ≡ status_told told)
         × MayComeTo (map W.text words.entry.now) (F.held source.now) (F.given source.now)
-        (S.state out.old) (S.state out.new) (E.state errors.old) (E.state errors.new) told
+        (F.kept source.now) (S.state out.old) (S.state out.new) (E.state errors.old) (E.state errors.new) told
         × TellsFault (E.state errors.old) (E.state errors.new) told }
 {
     let told = do_words(rt, alloc, words, source, out, errors);

@@ -1,7 +1,7 @@
 //! What `import` answers to a wish and indexes that stand in files, and the files that it writes.
 //!
-//! Proved: which statuses there are (`import_files`). Not proved: what a file holds, and that a text
-//! is written whole before it gets its name.
+//! Proved: which statuses there are (`import_files`). What a file holds, and that a text is written
+//! whole before it gets its name, is tested.
 #![tactic(auto)]
 
 mod answer;

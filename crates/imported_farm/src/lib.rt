@@ -5,7 +5,7 @@
 //! order; each paragraph of a source is one of the Sources indexes, byte for byte, and each paragraph
 //! of a package is one of the Packages indexes, or has another version in `Version` and in what stands
 //! in brackets in its relations. Not proved: that what the builds need is taken, which versions builds
-//! give, what a recipe says beside its name, and how notes and refusals are worded.
+//! give, what a recipe says beside its name, and how notes and refusals are worded; cases hold that.
 #![tactic(auto)]
 
 mod architectures;

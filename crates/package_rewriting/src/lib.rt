@@ -3,7 +3,7 @@
 //!
 //! Proved: a paragraph under another version is the block line by line, but for what stands behind
 //! the colon of `Version` and in brackets in the five relation fields (`push_rewritten`); a block is
-//! put as it stands (`push_block`). Not proved: which versions stand there then.
+//! put as it stands (`push_block`). Not proved: which versions stand there then; cases hold that.
 #![tactic(auto)]
 
 mod renamed;

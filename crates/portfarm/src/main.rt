@@ -2,17 +2,21 @@
 //!
 //! Proved: that it is safe. What it answers is in the contract of `run_words` of farm_commands,
 //! which of a machine's files and streams says only which statuses there are, since no contract
-//! knows their bytes (`held` and `given` are `None`). That these are the files and streams of its
-//! words is only tested.
+//! knows their bytes (`held`, `given` and `kept` are `None`). That these are the files and streams of
+//! its words is only tested.
 #![tactic(auto)]
 
-use farm_commands::{OUTSIDE, Source, WRONG_WORDS, run_words};
+use bounded_read::read_up_to;
+use drive_file::{FileJournal, open_journal};
+use drive_store::OpenFault;
+use farm_commands::{DriveSource, Folder, OUTSIDE, Source, WRONG_WORDS, run_words};
 use report_sink::{Sink, WriteSink, write_text};
+use std::alloc::{AllocError, Global};
 use std::env::{self, Env};
-use std::fs::File;
-use std::io::{self, ErrorKind, IsTerminal};
+use std::fs::{self, File};
+use std::io::{self, BufReader, ErrorKind, IsTerminal};
 use std::process::ExitCode;
-use std::rt::Files;
+use std::rt::{Clock, Files};
 
 /// What is said to whoever sits at a terminal and gives no words: nobody types four texts there.
 const USAGE: &[u8] =
@@ -23,6 +27,7 @@ const USAGE: &[u8] =
 struct Machine<'a, R> {
     rt: &'a R,
     is_watched: bool,
+    is_typed: bool,
 }
 
 impl<R: Files + Input> Source for Machine<'_, R> {
@@ -46,6 +51,60 @@ impl<R: Files + Input> Source for Machine<'_, R> {
 
     fn input(&self) -> R::Reader {
         self.rt.reader()
+    }
+}
+
+impl<R: Files<File = File> + Input + Clock> DriveSource for Machine<'_, R>
+where
+    R::Reader: Send,
+{
+    ghost use Rattle.std.specs.Prelude.{None};
+
+    ghost kept = { λ _ _. None };
+
+    type Answers = BufReader<R::Reader>;
+
+    type Journal = FileJournal;
+
+    fn answers(&self, alloc: Global) -> Result<BufReader<R::Reader>, AllocError> {
+        BufReader::new(alloc, self.rt.reader()).map_err(|_| AllocError)
+    }
+
+    fn is_typed(&self) -> bool {
+        self.is_typed
+    }
+
+    fn nanoseconds(&self) -> u64 {
+        match self.rt.since_1970() {
+            Ok(time) => u64::try_from(time.as_nanos()).unwrap_or(0),
+            Err(_) => 0,
+        }
+    }
+
+    fn open_journal(&self, path: &str) -> Result<FileJournal, OpenFault> {
+        open_journal(self.rt, path)
+    }
+}
+
+impl<R: Files + Input> Folder for Machine<'_, R> {
+    fn read_part(&self, alloc: Global, path: &str, most: u32) -> io::Result<Vec<u8>> {
+        read_up_to(alloc, File::open(self.rt, path)?, most)
+    }
+
+    fn read_input(&self, alloc: Global, most: u32) -> io::Result<Vec<u8>> {
+        read_up_to(alloc, self.rt.reader(), most)
+    }
+
+    fn make_folder(&self, path: &str) -> io::Result<()> {
+        fs::create_dir_all(self.rt, path)
+    }
+
+    fn write_file(&self, path: &str, bytes: &[u8]) -> io::Result<()> {
+        fs::write(self.rt, path, bytes)
+    }
+
+    fn rename_file(&self, from: &str, to: &str) -> io::Result<()> {
+        fs::rename(self.rt, from, to)
     }
 }
 
@@ -83,6 +142,7 @@ fn main(rt: HostRuntime) -> ExitCode {
     let machine = Machine {
         rt: &rt,
         is_watched: stderr.is_terminal(),
+        is_typed: rt.stdin().is_terminal(),
     };
     let status = run_words(
         &rt,

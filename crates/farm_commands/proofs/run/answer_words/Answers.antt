@@ -3,20 +3,16 @@ use Rattle.std.proofs.lemmas.List.{length-map}
 use Rattle.std.specs.Prelude.{IsOkAnd}
 use Rattle.command_line.specs.declared.request.Asked.TheVariants.{Answer}
 use Rattle.command_line.specs.declared.request.Request.TheVariants.{CheckInput}
-use Rattle.farm_commands.specs.Requests.{IsRequestAnswered}
-use Rattle.farm_commands.proofs.WordLaws.{asked_nothing}
+use Rattle.farm_commands.proofs.WordLaws.{answered_nothing}
 use Rattle.farm_commands.proofs.run.answer_words.Goals as goal
 
 pub returns-in-Ok-Answer-clause-answer : goal.returns-in-Ok-Answer-clause-answer
 returns-in-Ok-Answer-clause-answer g c = record {
   outcome = inl (c.in-Ok-Answer.request, search rules, c.answer_request.ensures.answer);
   no_word = λ none.
-      subst (λ request. IsRequestAnswered (g.F.Source.held c.args.source.now)
-      (g.F.Source.given c.args.source.now) request (g.S.Sink.state c.args.out.now)
-      (g.S.Sink.state c.answer_request.new.out) c.answer_request.result)
-      (asked_nothing _ (sym c.in-Ok-Answer.field-0-is
+      answered_nothing _ _ _ _ _ _ (sym c.in-Ok-Answer.field-0-is
       ∙ subst (λ read. IsOkAnd read (λ asked. asked ≡ Answer CheckInput)) c.in-Ok-Answer.is
-      (c.read_words.ensures.none (sym (length-map c.args.words.now g.W.AsStr.text) ∙ none))))
+      (c.read_words.ensures.none (sym (length-map c.args.words.now g.W.AsStr.text) ∙ none)))
       c.answer_request.ensures.answer;
 }
 

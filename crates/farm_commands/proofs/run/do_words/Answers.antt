@@ -1,21 +1,42 @@
-use Rattle.std.proofs.Common.{rules, ◌≡◌, inl, sym, subst, ◌∙◌}
+use Rattle.std.proofs.Common.{rules, ◌≡◌, inl, inr, map, sym, subst, ◌∙◌}
 use Rattle.std.proofs.lemmas.List.{length-map}
+use Rattle.std.specs.Option.{option_map}
 use Rattle.std.specs.Prelude.{IsOkAnd}
-use Rattle.command_line.specs.declared.request.Asked.TheVariants.{Answer}
+use Rattle.command_line.specs.Words.{IsAskedBy, AreImportWords}
+use Rattle.command_line.specs.declared.request.Asked.TheVariants.{Answer, Drive}
 use Rattle.command_line.specs.declared.request.Request.TheVariants.{CheckInput}
-use Rattle.farm_commands.specs.Requests.{IsRequestAnswered}
-use Rattle.farm_commands.proofs.WordLaws.{asked_nothing}
+use Rattle.farm_commands.proofs.WordLaws.{answered_nothing}
 use Rattle.farm_commands.proofs.run.do_words.Goals as goal
 
 pub returns-in-Ok-Answer-clause-done : goal.returns-in-Ok-Answer-clause-done
 returns-in-Ok-Answer-clause-done g c = inl record {
   outcome = inl (c.in-Ok-Answer.request, search rules, c.answer_request.ensures.answer);
   no_word = λ none.
-      subst (λ request. IsRequestAnswered (g.F.Source.held c.args.source.now)
-      (g.F.Source.given c.args.source.now) request (g.S.Sink.state c.args.out.now)
-      (g.S.Sink.state c.answer_request.new.out) c.answer_request.result)
-      (asked_nothing _ (sym c.in-Ok-Answer.field-0-is
+      answered_nothing _ _ _ _ _ _ (sym c.in-Ok-Answer.field-0-is
       ∙ subst (λ read. IsOkAnd read (λ asked. asked ≡ Answer CheckInput)) c.in-Ok-Answer.is
-      (c.read_words.ensures.none (sym (length-map c.args.words.now g.W.AsStr.text) ∙ none))))
+      (c.read_words.ensures.none (sym (length-map c.args.words.now g.W.AsStr.text) ∙ none)))
       c.answer_request.ensures.answer;
 }
+
+pub returns-in-Ok-Run-clause-done : goal.returns-in-Ok-Run-clause-done
+returns-in-Ok-Run-clause-done g c =
+    inr (inl (c.in-Ok-Run.paths, search rules, c.run_files.ensures.end))
+
+pub returns-in-Ok-Drive-clause-done : goal.returns-in-Ok-Drive-clause-done
+returns-in-Ok-Drive-clause-done g c =
+    let asked : IsAskedBy (map g.W.AsStr.text c.args.words.now)
+    (Drive c.in-Ok-Drive.paths c.in-Ok-Drive.journal c.in-Ok-Drive.progress) = search rules in
+    inr (inr (inl (
+      asked.0,
+      c.in-Ok-Drive.paths,
+      asked.1,
+      option_map (λ name. name.now) c.in-Ok-Drive.journal,
+      asked.2,
+      c.drive_files.ensures.told,
+    )))
+
+pub returns-in-Ok-Import-clause-done : goal.returns-in-Ok-Import-clause-done
+returns-in-Ok-Import-clause-done g c =
+    let are : AreImportWords (map g.W.AsStr.text c.args.words.now) c.in-Ok-Import.asked =
+    search rules in
+    inr (inr (inr (c.in-Ok-Import.asked, are, c.import_asked.ensures)))

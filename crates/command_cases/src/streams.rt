@@ -1,0 +1,108 @@
+//! The streams and the journal of a drive in memory.
+
+use crate::stage::Stage;
+use drive_store::{Journal, JournalFile};
+use report_sink::{Sink, SinkFailed};
+use std::alloc::Global;
+use std::io::{self, ErrorKind, Read, Write};
+use std::sync::Wait;
+
+/// The output, which a driver reads. It fails behind so many lines.
+#[derive(Drop)]
+pub struct StageOutput<'s, 'c, R: Wait> {
+    pub stage: &'s Stage<'c, R>,
+    pub most: usize,
+}
+
+impl<R: Wait> Write for StageOutput<'_, '_, R> {
+    fn write(&mut self, buf: &[u8]) -> io::Result<usize> {
+        let mut state = self.stage.state.lock(self.stage.rt);
+        if state.lines >= self.most {
+            return Err(io::Error::from(ErrorKind::BrokenPipe));
+        }
+        if !state.is_dead {
+            state.written.extend_from_slice(buf)?;
+        }
+        if buf.ends_with(b"\n") {
+            state.lines = state.lines.saturating_add(1);
+            self.stage.changed.notify_all();
+        }
+        Ok(buf.len())
+    }
+
+    fn flush(&mut self) -> io::Result<()> {
+        Ok(())
+    }
+}
+
+/// The input, which a driver writes.
+#[derive(Drop)]
+pub struct StageInput<'s, 'c, R: Wait> {
+    pub stage: &'s Stage<'c, R>,
+}
+
+impl<R: Wait> Read for StageInput<'_, '_, R> {
+    fn read(&mut self, buf: &mut [u8]) -> io::Result<usize> {
+        let text = self.stage.say()?;
+        let mut rest = text.as_slice();
+        rest.read(buf)
+    }
+}
+
+/// The journal. It fails behind so many lines.
+#[derive(Drop)]
+pub struct StageJournal<'s, 'c, R: Wait> {
+    pub stage: &'s Stage<'c, R>,
+    pub most: usize,
+    pub has_failed: bool,
+}
+
+impl<R: Wait> Sink for StageJournal<'_, '_, R> {
+    ghost use Rattle.std.specs.Prelude.{None};
+
+    ghost state = { λ j. record { contents = None; failed = j.has_failed } };
+
+    fn write(&mut self, bytes: &[u8]) -> Result<usize, SinkFailed> {
+        let mut state = self.stage.state.lock(self.stage.rt);
+        if state.is_dead {
+            return Ok(bytes.len());
+        }
+        if self.most == 0 || state.journal.extend_from_slice(bytes).is_err() {
+            self.has_failed = true;
+            return Err(SinkFailed);
+        }
+        if bytes.ends_with(b"\n") {
+            self.most -= 1;
+            state.entries = state.entries.saturating_add(1);
+            self.stage.changed.notify_all();
+        }
+        Ok(bytes.len())
+    }
+
+    fn has_failed(&self) -> bool {
+        self.has_failed
+    }
+}
+
+impl<R: Wait> Journal for StageJournal<'_, '_, R> {
+    fn keep(&mut self) -> bool {
+        true
+    }
+}
+
+impl<R: Wait> JournalFile for StageJournal<'_, '_, R> {
+    fn read(&mut self, alloc: Global) -> io::Result<Vec<u8>> {
+        let state = self.stage.state.lock(self.stage.rt);
+        Ok(Vec::from_slice(alloc, &state.journal)?)
+    }
+
+    fn cut(&mut self, count: usize) -> bool {
+        let mut state = self.stage.state.lock(self.stage.rt);
+        state.journal.truncate(count);
+        true
+    }
+
+    fn keep_name(&mut self) -> bool {
+        true
+    }
+}

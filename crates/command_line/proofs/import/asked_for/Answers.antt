@@ -1,0 +1,4 @@
+use Rattle.command_line.proofs.import.asked_for.Goals as goal
+
+pub returns-then-asks_twice-clause-refused : goal.returns-then-asks_twice-clause-refused
+returns-then-asks_twice-clause-refused g c = c.wrong.ensures _

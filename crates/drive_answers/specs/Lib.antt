@@ -1,0 +1,2 @@
+pub mod DriveAnswers
+pub mod DriveLines
