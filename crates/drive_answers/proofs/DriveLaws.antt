@@ -1,6 +1,6 @@
 -- What a drive comes to, from one meaning to another.
 use Rattle.std.proofs.Common.{◌≡◌, ℕ, inl, inr, List, [], Option, Some, None, Result, Ok, Err, codes, refl, sym, subst, ◌∙◌}
-use Rattle.std.specs.Prelude.{IfOk, IfSome}
+use Rattle.std.specs.Prelude.{IfOk, IfSome, OnErr}
 use Rattle.command_line.specs.declared.request.Paths.{Paths}
 use Rattle.deb_text.proofs.LineLaws.{lines_of-nil}
 use Rattle.deb_text.specs.Lines.{lines_of}
@@ -66,6 +66,12 @@ pub no_memory : (A : List ℕ → ℕ → Type 0) (S : List ℕ → Type 0) (new
     (told : Result ℕ OutsideFault) → told ≡ Err OutOfMemory → IsDriveTold A S new before after told
 no_memory A S new before after told is =
     inl (new, subst (λ t. IsAnswered A new new t) (sym is) refl)
+
+-- a line that is told is told with a status
+pub line_quiet : (line : Option (List ℕ)) (before after : SinkState) (told : Result ℕ OutsideFault)
+    → IsLineTold line before after told → OnErr told (after ≡ before)
+line_quiet (Some line) before after told is = subst (λ t. OnErr t (after ≡ before)) (sym is.0) tt
+line_quiet None before after told is = subst (λ t. OnErr t (after ≡ before)) (sym is.0) is.1
 
 -- a drive that does not begin
 pub start_told : (a : AcceptedPlan) (entries : List ℕ) (old new before after : SinkState)

@@ -42,7 +42,7 @@ fn answer_run<
     S: Sink + Send,
     E: Sink,
 >(
-    setting: &Setting<'_, R, F>,
+    setting: &Setting<'_, '_, R, F>,
     accepted: Accepted,
     run: Run<J>,
     out: &mut S,
@@ -63,7 +63,7 @@ fn answer_run<
 
 /// Drives by the journal of this name.
 fn drive_kept<'a, R: Threads + Wait + Eprint + Sync, F: DriveSource, S: Sink + Send, E: Sink>(
-    setting: &Setting<'_, R, F>,
+    setting: &Setting<'_, '_, R, F>,
     accepted: Accepted,
     path: &str,
     out: &mut S,
@@ -88,7 +88,7 @@ fn drive_kept<'a, R: Threads + Wait + Eprint + Sync, F: DriveSource, S: Sink + S
 
 /// Drives without a journal.
 fn drive_unkept<'a, R: Threads + Wait + Eprint + Sync, F: DriveSource, S: Sink + Send, E: Sink>(
-    setting: &Setting<'_, R, F>,
+    setting: &Setting<'_, '_, R, F>,
     accepted: Accepted,
     out: &mut S,
     errors: &mut E,
@@ -104,19 +104,20 @@ fn drive_unkept<'a, R: Threads + Wait + Eprint + Sync, F: DriveSource, S: Sink +
 
 /// Drives the lanes of an accepted plan, by its journal where it has one.
 fn drive_accepted<'a, R: Threads + Wait + Eprint + Sync, F: DriveSource, S: Sink + Send, E: Sink>(
-    setting: &Setting<'_, R, F>,
+    setting: &Setting<'_, '_, R, F>,
     accepted: Accepted,
+    journal: Option<&str>,
     out: &mut S,
     errors: &mut E,
 ) -> Result<u8, OutsideFault<'a>>
     ensures told { IsDriveTold (ShowsEnd accepted) (TellsStop accepted
         (IsMisfitOf accepted (head_in (texts_view setting.now.texts))
-        (kept_in (F.kept setting.now.source.now) (option_map (λ name. name.now) setting.now.journal)))
+        (kept_in (F.kept setting.now.source.now) (option_map (λ name. name.now) journal.entry)))
         (S.state out.old) (S.state out.new))
         (S.state out.new) (E.state errors.old) (E.state errors.new) result }
     ensures quiet { OnErr result (E.state errors.new ≡ E.state errors.old) }
 {
-    match setting.journal {
+    match journal {
         Some(path) => drive_kept(setting, accepted, path, out, errors),
         None => drive_unkept(setting, accepted, out, errors),
     }
@@ -125,12 +126,13 @@ fn drive_accepted<'a, R: Threads + Wait + Eprint + Sync, F: DriveSource, S: Sink
 /// Drives the lanes of the plan that four texts stand for where it is accepted, else answers with
 /// the refusal.
 fn answer_drive<'a, R: Threads + Wait + Eprint + Sync, F: DriveSource, S: Sink + Send, E: Sink>(
-    setting: &Setting<'_, R, F>,
+    setting: &Setting<'_, '_, R, F>,
+    journal: Option<&str>,
     out: &mut S,
     errors: &mut E,
 ) -> Result<u8, OutsideFault<'a>>
     ensures told { AnswersDrive (texts_view setting.now.texts)
-        (kept_in (F.kept setting.now.source.now) (option_map (λ name. name.now) setting.now.journal))
+        (kept_in (F.kept setting.now.source.now) (option_map (λ name. name.now) journal.entry))
         (S.state out.old) (S.state out.new) (E.state errors.old) (E.state errors.new) result }
     ensures quiet { OnErr result (E.state errors.new ≡ E.state errors.old) }
 {
@@ -144,7 +146,7 @@ fn answer_drive<'a, R: Threads + Wait + Eprint + Sync, F: DriveSource, S: Sink +
         texts.plan,
     );
     match verdict {
-        Ok(accepted) => drive_accepted(setting, accepted, out, errors),
+        Ok(accepted) => drive_accepted(setting, accepted, journal, out, errors),
         Err(refusal) => answer_verdict(Err(refusal), out),
     }
 }
@@ -158,10 +160,17 @@ fn answer_drive<'a, R: Threads + Wait + Eprint + Sync, F: DriveSource, S: Sink +
 ///
 /// Those of [`read_files`]; [`OutsideFault::OutOfMemory`] where memory is refused; and
 /// [`OutsideFault::WriteFailed`] where the output fails behind the run's end.
-pub fn drive_files<'a, R: Threads + Wait + Eprint + Sync, F: DriveSource, S: Sink + Send, E: Sink>(
-    rt: &R,
+pub fn drive_files<
+    'a,
+    'm,
+    R: Threads + Wait + Eprint + Sync,
+    F: DriveSource,
+    S: Sink + Send,
+    E: Sink,
+>(
+    rt: &'m R,
     alloc: Global,
-    source: &F,
+    source: &'m F,
     of: DriveFiles<'a>,
     out: &mut S,
     errors: &mut E,
@@ -178,8 +187,7 @@ pub fn drive_files<'a, R: Threads + Wait + Eprint + Sync, F: DriveSource, S: Sin
         alloc,
         source,
         texts: files.texts(),
-        journal: of.journal,
         tells: of.progress || source.is_watched(),
     };
-    answer_drive(&setting, out, errors)
+    answer_drive(&setting, of.journal, out, errors)
 }

@@ -22,12 +22,11 @@ use std::thread::Threads;
 
 /// A drive of texts over a machine.
 #[derive(Drop)]
-pub struct Setting<'t, R, F> {
-    pub rt: &'t R,
+pub struct Setting<'m, 't, R, F> {
+    pub rt: &'m R,
     pub alloc: Global,
-    pub source: &'t F,
+    pub source: &'m F,
     pub texts: Texts<'t>,
-    pub journal: Option<&'t str>,
     pub tells: bool,
 }
 
@@ -44,7 +43,9 @@ pub struct Run<J> {
 /// # Errors
 ///
 /// [`AllocError`] where memory is refused.
-pub fn beginning_of<R, F: DriveSource>(setting: &Setting<'_, R, F>) -> Result<Beginning, AllocError>
+pub fn beginning_of<R, F: DriveSource>(
+    setting: &Setting<'_, '_, R, F>,
+) -> Result<Beginning, AllocError>
     ensures { IfOk result (λ b. head_text b.sums ≡ head_in (texts_view setting.now.texts)) }
 {
     let texts = DrivenTexts {
@@ -107,7 +108,7 @@ portfarm: answer each line by `done LANE NUMBER` or `failed LANE NUMBER`; `stop`
 ";
 
 /// Says how to answer where a person may type.
-fn tell_typed<R: Eprint, F: DriveSource>(setting: &Setting<'_, R, F>) {
+fn tell_typed<R: Eprint, F: DriveSource>(setting: &Setting<'_, '_, R, F>) {
     if setting.source.is_typed() {
         let _written = eprint!(setting.rt; "{}", TYPED);
     }
@@ -124,7 +125,7 @@ pub fn carry_out<
     J: Journal + Drop + Send,
     S: Sink + Send,
 >(
-    setting: &Setting<'_, R, F>,
+    setting: &Setting<'_, '_, R, F>,
     accepted: Accepted,
     run: Run<J>,
     out: &mut S,

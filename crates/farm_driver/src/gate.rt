@@ -1,7 +1,7 @@
 //! The gate of a run that a driver carries out.
 
 use crate::known::Known;
-use crate::office::{Fault, Office, Phase, Reply};
+use crate::office::{Answered, Fault, Kept, Office, Phase, Reply};
 use crate::question::{Asked, Question, instruction_at, write_question};
 use drive_input::{Heard, Input};
 use drive_journal::Said;
@@ -119,11 +119,11 @@ impl<R: Wait, I: BufRead + Drop, S: Sink + Drop, J: Journal + Drop> DriverGate<'
         self.changed.notify_all();
     }
 
-    /// Writes the entry of a question, unless it was asked in an earlier run, and tells whether it
+    /// Writes the entry of a question, unless it was asked in an earlier run, and gives it where it
     /// is kept.
-    fn is_noted(&self, office: &mut Office<S, J>, question: Question<'_>) -> bool {
-        if question.note.asked {
-            return true;
+    fn note(&self, office: &mut Office<S, J>, question: Question<'_>) -> Option<Kept> {
+        if let Some(kept) = Kept::asked_before(question.note, question.number) {
+            return Some(kept);
         }
         let universe = question.place.accepted.universe();
         let said = match question.asked {
@@ -138,10 +138,10 @@ impl<R: Wait, I: BufRead + Drop, S: Sink + Drop, J: Journal + Drop> DriverGate<'
 
     /// Writes the entry of a question, and then its line. Tells whether both are written.
     fn is_written(&self, office: &mut Office<S, J>, question: Question<'_>) -> bool {
-        if !self.is_noted(office, question) {
+        let Some(kept) = self.note(office, question) else {
             return false;
-        }
-        if write_question(&mut office.out, &self.known, question).is_err() {
+        };
+        if write_question(&mut office.out, &self.known, question, &kept).is_err() {
             office.fail(Fault::WriteFailed);
             return false;
         }
@@ -183,9 +183,9 @@ impl<R: Wait, I: BufRead + Drop, S: Sink + Drop, J: Journal + Drop> DriverGate<'
         office.reply(lane)
     }
 
-    /// Notes that it is done: of a publish with the archive's turn, for so many outputs. Tells
-    /// whether that is kept.
-    fn note_done(&self, lane: u32, number: u32, outputs: usize) -> bool {
+    /// Notes that what was answered is done: of a publish with the archive's turn, for so many
+    /// outputs. Gives the entry where it is kept.
+    fn note_done(&self, lane: u32, answered: Answered, outputs: usize) -> Option<Kept> {
         let office = self.office.lock(self.rt);
         let mut office = self.changed.wait_while(
             self.rt,
@@ -195,10 +195,8 @@ impl<R: Wait, I: BufRead + Drop, S: Sink + Drop, J: Journal + Drop> DriverGate<'
         if outputs > 0 && office.phase != Phase::Halted {
             office.begin_turn(lane, outputs, None);
         }
-        if number == 0 {
-            office.open(lane);
-        }
-        office.note(self.known.lane(lane), number, Said::Done)
+        office.open(lane);
+        office.note_done(self.known.lane(lane), answered)
     }
 
     /// Notes that a lane looks, and tells whether its chroot is there.
@@ -255,16 +253,23 @@ impl<R: Wait + Eprint, I: BufRead + Drop, S: Sink + Drop, J: Journal + Drop> Dri
         }
     }
 
-    /// Waits for the answer to what a lane has asked: whether it is done.
-    fn is_done(&self, accepted: &Accepted, lane: u32) -> bool {
+    /// Waits for the answer to what a lane has asked, and gives it where that is done.
+    fn answer(&self, accepted: &Accepted, lane: u32) -> Option<Answered> {
         for _ in self.rt.forever() {
             match self.listen(lane) {
-                Reply::Done => return true,
-                Reply::Failed | Reply::None => return false,
+                Reply::Done(answered) => return Some(answered),
+                Reply::Failed | Reply::None => return None,
                 Reply::Read => self.read(accepted),
             }
         }
-        false
+        None
+    }
+
+    /// Waits until what a question asks for is done, and gives the entry of that where it is kept.
+    fn done(&self, question: Question<'_>, outputs: usize) -> Option<Kept> {
+        let lane = question.place.lane;
+        let answered = self.answer(question.place.accepted, lane)?;
+        self.note_done(lane, answered, outputs)
     }
 
     /// What comes of a question that was put or not.
@@ -273,15 +278,10 @@ impl<R: Wait + Eprint, I: BufRead + Drop, S: Sink + Drop, J: Journal + Drop> Dri
         match begun {
             Begun::Halted => Go::Continue,
             Begun::Stopping => self.give_up(lane),
-            Begun::Yes => {
-                if self.is_done(question.place.accepted, lane)
-                    && self.note_done(lane, question.number, outputs)
-                {
-                    Go::Continue
-                } else {
-                    self.give_up(lane)
-                }
-            }
+            Begun::Yes => match self.done(question, outputs) {
+                Some(_kept) => Go::Continue,
+                None => self.give_up(lane),
+            },
         }
     }
 

@@ -1,7 +1,9 @@
 //! The gate by which a driver outside of this program does what the lanes of a run do.
 //!
-//! Proved: it is safe and may give up, as a `Gate`. Nothing is proved of turns, ranks and waking,
-//! nor of the order of a journal's entry and its line.
+//! Proved: it is safe and may give up, as a `Gate`. What is heard goes to the desk of the lane that
+//! asked; a request is done only by such an answer; an entry counts as kept only where the journal
+//! has its whole line. What a lane waits for, and a request's line, take these as values that
+//! nothing else makes. Nothing is proved of turns, ranks and waking.
 #![tactic(auto)]
 
 mod gate;

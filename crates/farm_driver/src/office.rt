@@ -1,5 +1,12 @@
 //! What a gate keeps under its lock.
 
+ghost use Rattle.std.specs.Prelude.{◌≡◌, ◌×◌, IfSome, is_some};
+ghost use Rattle.drive_desk.specs.LaneDesks as desks;
+ghost use Rattle.drive_journal.specs.Entries.{IsDone};
+ghost use Rattle.drive_journal.specs.Said.{note_in};
+ghost use Rattle.farm_driver.specs.Replies as spec;
+ghost use Rattle.farm_driver.specs.Replies.{IsKept};
+
 use crate::known::LaneWords;
 use drive_desk::{Desk, Request};
 use drive_input::Heard;
@@ -43,10 +50,39 @@ struct ArchiveTurn {
     rank: Option<u64>,
 }
 
+/// The number of what a lane has asked for and the driver has answered to be done. An office makes
+/// it, of such an answer alone.
+pub struct Answered {
+    number: u32,
+}
+
+/// The number of an instruction of which the journal keeps an entry. An office makes it, once the
+/// entry is written and kept; else it comes of an earlier run's.
+pub struct Kept {
+    number: u32,
+}
+
+impl Kept {
+    /// What an earlier run has noted as asked for.
+    pub fn asked_before(note: Note, number: u32) -> Option<Kept>
+        ensures { is_some result ≡ note.asked }
+    {
+        if note.asked {
+            return Some(Kept { number });
+        }
+        None
+    }
+
+    pub fn number(&self) -> u32
+        ensures { result ≡ self.now.number }
+    {
+        self.number
+    }
+}
+
 /// What comes of a request that a lane waits for.
-#[derive(Clone, Copy, PartialEq, Eq)]
 pub enum Reply {
-    Done,
+    Done(Answered),
     Failed,
     /// None comes: the driver says nothing more.
     None,
@@ -164,7 +200,9 @@ impl<S: Sink + Drop, J: Journal + Drop> Office<S, J> {
     // ---- stopping
 
     /// Nothing more is to be asked.
-    pub fn stop(&mut self) {
+    pub fn stop(&mut self)
+        ensures { self.new.desk ≡ desks.stopped self.old.desk }
+    {
         self.desk.stop();
         if self.phase == Phase::Open {
             self.phase = Phase::Stopping;
@@ -172,7 +210,9 @@ impl<S: Sink + Drop, J: Journal + Drop> Office<S, J> {
     }
 
     /// Stops for a fault: nothing more is read either.
-    pub fn fail(&mut self, fault: Fault) {
+    pub fn fail(&mut self, fault: Fault)
+        ensures { self.new.desk ≡ desks.stopped self.old.desk }
+    {
         if self.fault.is_none() {
             self.fault = Some(fault);
         }
@@ -181,7 +221,9 @@ impl<S: Sink + Drop, J: Journal + Drop> Office<S, J> {
     }
 
     /// Tells whether this lane is the one that gives up.
-    pub fn elect(&mut self, lane: u32) -> bool {
+    pub fn elect(&mut self, lane: u32) -> bool
+        ensures { self.new.desk ≡ desks.stopped self.old.desk }
+    {
         self.stop();
         match self.cause {
             Some(cause) => cause == lane,
@@ -240,24 +282,46 @@ impl<S: Sink + Drop, J: Journal + Drop> Office<S, J> {
 
     // ---- asking
 
-    /// Writes an entry to the journal, and tells whether it is kept.
-    pub fn note(&mut self, lane: &[u8], number: u32, said: Said<'_>) -> bool {
-        let number = u64::from(number);
-        let written = write_entry(&mut self.journal, Entry { lane, number, said }).is_ok();
-        if written && self.journal.keep() {
-            return true;
+    /// Writes an entry to the journal, and gives it where it is kept; else the run stops.
+    pub fn note(&mut self, lane: &[u8], number: u32, said: Said<'_>) -> Option<Kept>
+        ensures { IfSome result (λ kept. (kept.number ≡ number)
+            × IsKept (J.state self.old.journal) (J.state self.new.journal)
+            (record { lane = lane.now; number = number; note = note_in said.entry })) }
+    {
+        let entry = Entry {
+            lane,
+            number: u64::from(number),
+            said,
+        };
+        if write_entry(&mut self.journal, entry).is_err() || !self.journal.keep() {
+            self.fail(Fault::JournalFailed);
+            return None;
         }
-        self.fail(Fault::JournalFailed);
-        false
+        Some(Kept { number })
+    }
+
+    /// Notes that what a lane has asked for is done, and gives the entry where it is kept; else the
+    /// run stops.
+    pub fn note_done(&mut self, lane: &[u8], answered: Answered) -> Option<Kept>
+        ensures { IfSome result (λ kept. (kept.number ≡ answered.number)
+            × IsKept (J.state self.old.journal) (J.state self.new.journal)
+            (record { lane = lane.now; number = answered.number; note = IsDone })) }
+    {
+        self.note(lane, answered.number, Said::Done)
     }
 
     /// Notes that a lane asks, if it may, and tells whether it is so.
-    pub fn ask(&mut self, lane: u32, number: u32) -> bool {
+    pub fn ask(&mut self, lane: u32, number: u32) -> bool
+        ensures told { result ≡ desks.may_ask self.old.desk lane number }
+        ensures after { self.new.desk ≡ desks.asked self.old.desk lane number }
+    {
         self.desk.ask(lane, number)
     }
 
     /// Notes that a lane waits no more for what it has asked.
-    pub fn withdraw(&mut self, lane: u32) {
+    pub fn withdraw(&mut self, lane: u32)
+        ensures { self.new.desk ≡ desks.withdrawn self.old.desk lane }
+    {
         self.desk.withdraw(lane);
     }
 
@@ -268,23 +332,32 @@ impl<S: Sink + Drop, J: Journal + Drop> Office<S, J> {
     }
 
     /// The reply to what a lane has asked.
-    pub fn reply(&mut self, lane: u32) -> Reply {
-        match self.desk.take(lane) {
-            Some(true) => Reply::Done,
-            Some(false) => Reply::Failed,
-            None if self.has_ended => {
-                self.desk.withdraw(lane);
-                Reply::None
-            }
-            None => {
-                self.is_reading = true;
-                Reply::Read
-            }
+    pub fn reply(&mut self, lane: u32) -> Reply
+        ensures { result
+            ≡ spec.reply_to (desks.request_at self.old.desk lane) self.old.has_ended }
+    {
+        let request = self.desk.request(lane);
+        if let Request::Answered { number, done } = request {
+            let _taken = self.desk.take(lane);
+            return if done {
+                Reply::Done(Answered { number })
+            } else {
+                Reply::Failed
+            };
         }
+        if self.has_ended {
+            self.desk.withdraw(lane);
+            return Reply::None;
+        }
+        self.is_reading = true;
+        Reply::Read
     }
 
     /// Gives an answer to the lane that has asked, and tells whether one has.
-    fn give(&mut self, lane: u32, number: u64, done: bool) -> bool {
+    fn give(&mut self, lane: u32, number: u64, done: bool) -> bool
+        ensures told { result ≡ desks.is_open_in (desks.request_at self.old.desk lane) number }
+        ensures after { self.new.desk ≡ spec.desks_given self.old.desk lane number done }
+    {
         let is_taken = self.desk.post(lane, number, done);
         if is_taken && !done {
             let _is_cause = self.elect(lane);
@@ -293,14 +366,19 @@ impl<S: Sink + Drop, J: Journal + Drop> Office<S, J> {
     }
 
     /// Nothing more comes from the driver.
-    fn hear_end(&mut self) {
+    fn hear_end(&mut self)
+        ensures { self.new.desk ≡ desks.stopped self.old.desk }
+    {
         self.has_ended = true;
         self.stop();
     }
 
     /// Takes what was heard of the driver. Tells whether it was taken: an answer to what no lane
     /// has asked is passed over.
-    pub fn hear(&mut self, heard: Heard) -> bool {
+    pub fn hear(&mut self, heard: Heard) -> bool
+        ensures told { result ≡ spec.is_heard self.old.desk heard }
+        ensures after { self.new.desk ≡ spec.desks_behind self.old.desk heard }
+    {
         self.is_reading = false;
         match heard {
             Heard::End => self.hear_end(),

@@ -1,6 +1,7 @@
 //! What a lane asks a driver for.
 
 use crate::known::Known;
+use crate::office::Kept;
 use drive_notes::Note;
 use drive_words::{Head, write_instruction, write_open, write_unpack};
 use farm_universe::Variant;
@@ -51,7 +52,7 @@ fn write_chroot<S: Sink>(out: &mut S, head: Head<'_>, place: Place<'_>) -> Resul
     write_open(out, head, universe, &[])
 }
 
-/// Writes the line of a question.
+/// Writes the line of a question whose entry is kept.
 ///
 /// # Errors
 ///
@@ -60,12 +61,13 @@ pub fn write_question<S: Sink>(
     out: &mut S,
     known: &Known,
     question: Question<'_>,
+    kept: &Kept,
 ) -> Result<(), WriteFailed> {
     let place = question.place;
     let head = Head {
         again: question.note.asked,
         lane: known.lane(place.lane),
-        number: question.number,
+        number: kept.number(),
         chroot: known.chroot(place.lane),
     };
     let universe = place.accepted.universe();

@@ -1,0 +1,49 @@
+-- What becomes of what a lane asks for. The project's own rules. Parameters: d the desks of all
+-- lanes, l the number of a lane.
+--
+--   reply_to request ended    what comes of a request, where the driver says more or not
+--   desks_given, desks_behind   the desks behind an answer, and behind what was heard
+--   is_heard d heard          it was an answer to what was asked, or none
+--   IsKept old new e          the journal keeps an entry, by its states before and after
+use Rattle.std.specs.Prelude.{◌≡◌, ℕ, Bool, true, false, List, if◌then◌else◌}
+use Rattle.drive_desk.specs.LaneDesks.{Desks, is_open_in, posted, request_at, stopped}
+use Rattle.drive_desk.specs.declared.desk.Request.{Request}
+use Rattle.drive_desk.specs.declared.desk.Request.TheVariants as request
+use Rattle.drive_input.specs.declared.input.Heard.{Heard}
+use Rattle.drive_input.specs.declared.input.Heard.TheVariants.{Line, End}
+use Rattle.drive_journal.specs.Entries.{Noted, noted_text}
+use Rattle.drive_words.specs.declared.answer.Answer.TheVariants as answer
+use Rattle.farm_driver.specs.declared.office.Reply.{Reply}
+use Rattle.farm_driver.specs.declared.office.Reply.TheVariants as reply
+use Rattle.report_sink.specs.Sinks.{SinkState, IsWritten}
+
+-- done, only where it was asked for and answered so
+abbrev pub reply_to : Request → Bool → Reply
+reply_to (request.Answered n true) ended = reply.Done (record { number = n })
+reply_to (request.Answered n false) ended = reply.Failed
+reply_to _ true = reply.None
+reply_to _ false = reply.Read
+
+-- an answer to what was asked; a failure stops the run
+abbrev pub desks_given : Desks → ℕ → ℕ → Bool → Desks
+desks_given d l n true = posted d l n true
+desks_given d l n false =
+    if is_open_in (request_at d l) n then stopped (posted d l n false) else posted d l n false
+
+-- all else that is heard stops the run, but for a blank line
+abbrev pub desks_behind : Desks → Heard → Desks
+desks_behind d (Line (answer.Done l n)) = desks_given d l n true
+desks_behind d (Line (answer.Failed l n)) = desks_given d l n false
+desks_behind d (Line answer.Nothing) = d
+desks_behind d (Line answer.Stop) = stopped d
+desks_behind d (Line answer.Bad) = stopped d
+desks_behind d End = stopped d
+
+abbrev pub is_heard : Desks → Heard → Bool
+is_heard d (Line (answer.Done l n)) = is_open_in (request_at d l) n
+is_heard d (Line (answer.Failed l n)) = is_open_in (request_at d l) n
+is_heard d _ = true
+
+-- its line is written whole, and nothing has failed
+abbrev pub IsKept : SinkState → SinkState → Noted → Type 0
+IsKept old new e = IsWritten old new (noted_text e) × (new.failed ≡ false)
