@@ -2,7 +2,7 @@
 
 use crate::known::Known;
 use crate::office::{Answered, Fault, Kept, Office, Phase, Reply};
-use crate::question::{Asked, Question, instruction_at, write_question};
+use crate::question::{Asked, Question, instruction_at, send_question};
 use drive_input::{Heard, Input};
 use drive_journal::Said;
 use drive_notes::Note;
@@ -26,9 +26,14 @@ use std::sync::{Condvar, Mutex, Wait};
 #[derive(Drop)]
 pub struct DriverGate<'a, R: Wait, I: BufRead + Drop, S: Sink + Drop, J: Journal + Drop> {
     rt: &'a R,
+    alloc: Global,
     known: Known,
     office: Mutex<Office<S, J>>,
-    changed: Condvar,
+    // where lanes wait for answers, for a turn at the archive, and for a publication or a halt:
+    // what one of these waits for concerns none of the others
+    answered: Condvar,
+    passed_on: Condvar,
+    rung: Condvar,
     input: Mutex<Input<I>>,
 }
 
@@ -57,9 +62,12 @@ impl<'a, R: Wait, I: BufRead + Drop, S: Sink + Drop, J: Journal + Drop> DriverGa
         let office = Office::new(alloc, known.lanes.as_slice(), &known.notes, out, journal)?;
         Ok(DriverGate {
             rt,
+            alloc,
             known,
             office: Mutex::new(office),
-            changed: Condvar::new(),
+            answered: Condvar::new(),
+            passed_on: Condvar::new(),
+            rung: Condvar::new(),
             input: Mutex::new(input),
         })
     }
@@ -71,16 +79,23 @@ impl<'a, R: Wait, I: BufRead + Drop, S: Sink + Drop, J: Journal + Drop> DriverGa
 }
 
 impl<R: Wait, I: BufRead + Drop, S: Sink + Drop, J: Journal + Drop> DriverGate<'_, R, I, S, J> {
+    /// Wakes all lanes: the run goes on no more.
+    fn wake_all(&self) {
+        self.answered.notify_all();
+        self.passed_on.notify_all();
+        self.rung.notify_all();
+    }
+
     /// One lane gives up and halts the archive; each other waits until that is done.
     fn give_up(&self, lane: u32) -> Go {
         let mut office = self.office.lock(self.rt);
         let is_cause = office.elect(lane);
-        self.changed.notify_all();
+        self.wake_all();
         if is_cause {
             return Go::GiveUp;
         }
         let _office = self
-            .changed
+            .rung
             .wait_while(self.rt, office, |office| office.phase != Phase::Halted);
         Go::Continue
     }
@@ -89,7 +104,7 @@ impl<R: Wait, I: BufRead + Drop, S: Sink + Drop, J: Journal + Drop> DriverGate<'
     fn turn_at(&self, lane: u32, note: Note, tellings: usize) -> Begun {
         let office = self.office.lock(self.rt);
         let mut office = self
-            .changed
+            .passed_on
             .wait_while(self.rt, office, |office| office.must_wait(note));
         match office.phase {
             Phase::Halted => Begun::Halted,
@@ -108,15 +123,26 @@ impl<R: Wait, I: BufRead + Drop, S: Sink + Drop, J: Journal + Drop> DriverGate<'
         }
     }
 
-    /// Ends a lane's turn at the archive.
+    /// Ends a lane's turn at the archive, and wakes who may have the next one.
+    fn pass_on(&self, office: &mut Office<S, J>, lane: u32) {
+        let is_any = office.end_turn(lane);
+        if office.phase != Phase::Open {
+            self.wake_all();
+        } else if is_any {
+            self.passed_on.notify_one();
+        } else {
+            self.passed_on.notify_all();
+        }
+    }
+
     fn end_turn(&self, lane: u32) {
-        self.office.lock(self.rt).end_turn(lane);
-        self.changed.notify_all();
+        let mut office = self.office.lock(self.rt);
+        self.pass_on(&mut office, lane);
     }
 
     fn fail(&self, fault: Fault) {
         self.office.lock(self.rt).fail(fault);
-        self.changed.notify_all();
+        self.wake_all();
     }
 
     /// Writes the entry of a question, unless it was asked in an earlier run, and gives it where it
@@ -141,7 +167,7 @@ impl<R: Wait, I: BufRead + Drop, S: Sink + Drop, J: Journal + Drop> DriverGate<'
         let Some(kept) = self.note(office, question) else {
             return false;
         };
-        if write_question(&mut office.out, &self.known, question, &kept).is_err() {
+        if send_question(self.alloc, &mut office.out, &self.known, question, &kept).is_err() {
             office.fail(Fault::WriteFailed);
             return false;
         }
@@ -165,7 +191,7 @@ impl<R: Wait, I: BufRead + Drop, S: Sink + Drop, J: Journal + Drop> DriverGate<'
     fn begin(&self, question: Question<'_>) -> Begun {
         let office = self.office.lock(self.rt);
         let mut office = self
-            .changed
+            .passed_on
             .wait_while(self.rt, office, |office| office.must_hold());
         match office.phase {
             Phase::Open => self.put(&mut office, question),
@@ -178,7 +204,7 @@ impl<R: Wait, I: BufRead + Drop, S: Sink + Drop, J: Journal + Drop> DriverGate<'
     fn listen(&self, lane: u32) -> Reply {
         let office = self.office.lock(self.rt);
         let mut office = self
-            .changed
+            .answered
             .wait_while(self.rt, office, |office| office.must_listen(lane));
         office.reply(lane)
     }
@@ -187,7 +213,7 @@ impl<R: Wait, I: BufRead + Drop, S: Sink + Drop, J: Journal + Drop> DriverGate<'
     /// outputs. Gives the entry where it is kept.
     fn note_done(&self, lane: u32, answered: Answered, outputs: usize) -> Option<Kept> {
         let office = self.office.lock(self.rt);
-        let mut office = self.changed.wait_while(
+        let mut office = self.passed_on.wait_while(
             self.rt,
             office,
             |office| outputs > 0 && office.has_no_turn(),
@@ -245,8 +271,15 @@ impl<R: Wait + Eprint, I: BufRead + Drop, S: Sink + Drop, J: Journal + Drop> Dri
     /// Reads one line of the driver, and wakes the lane that it is for.
     fn read(&self, accepted: &Accepted) {
         let heard = self.input.lock(self.rt).next(accepted.plan());
-        let is_taken = self.office.lock(self.rt).hear(heard);
-        self.changed.notify_all();
+        let mut office = self.office.lock(self.rt);
+        let is_taken = office.hear(heard);
+        let phase = office.phase;
+        drop(office);
+        if phase == Phase::Open {
+            self.answered.notify_all();
+        } else {
+            self.wake_all();
+        }
         match heard {
             Heard::Line(answer) if !is_taken => self.tell_passed(answer),
             _ => {}
@@ -389,7 +422,7 @@ impl<R: Wait + Eprint, I: BufRead + Drop, S: Sink + Drop, J: Journal + Drop> Gat
     fn pause(&self, lane: u32, _instruction: u32) -> Go {
         let office = self.office.lock(self.rt);
         let mut office = self
-            .changed
+            .rung
             .wait_while(self.rt, office, |office| office.is_still(lane));
         office.see(lane);
         Go::Continue
@@ -397,15 +430,15 @@ impl<R: Wait + Eprint, I: BufRead + Drop, S: Sink + Drop, J: Journal + Drop> Gat
 
     fn published<A: LaneArchive>(&self, _accepted: &Accepted, _end: &A, output: Publication) {
         let mut office = self.office.lock(self.rt);
-        office.end_turn(output.lane);
+        self.pass_on(&mut office, output.lane);
         office.ring();
-        self.changed.notify_all();
+        self.rung.notify_all();
     }
 
     fn ring(&self) {
         let mut office = self.office.lock(self.rt);
         office.phase = Phase::Halted;
         office.ring();
-        self.changed.notify_all();
+        self.wake_all();
     }
 }

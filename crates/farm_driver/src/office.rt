@@ -52,12 +52,14 @@ struct ArchiveTurn {
 
 /// The number of what a lane has asked for and the driver has answered to be done. An office makes
 /// it, of such an answer alone.
+#[derive(Drop)]
 pub struct Answered {
     number: u32,
 }
 
 /// The number of an instruction of which the journal keeps an entry. An office makes it, once the
 /// entry is written and kept; else it comes of an earlier run's.
+#[derive(Drop)]
 pub struct Kept {
     number: u32,
 }
@@ -262,22 +264,24 @@ impl<S: Sink + Drop, J: Journal + Drop> Office<S, J> {
         self.turn = Some(ArchiveTurn { lane, left, rank });
     }
 
-    /// Ends the turn of a lane with its last telling.
-    pub fn end_turn(&mut self, lane: u32) {
+    /// Ends the turn of a lane with its last telling. Tells whether the turn was at something new:
+    /// then so are all lanes that wait for one, and any of them may be next.
+    pub fn end_turn(&mut self, lane: u32) -> bool {
         let Some(turn) = self.turn else {
-            return;
+            return false;
         };
         if turn.lane != lane {
-            return;
+            return false;
         }
         if turn.left > 1 {
             self.begin_turn(lane, turn.left - 1, turn.rank);
-            return;
+            return turn.rank.is_none();
         }
         self.turn = None;
         if turn.rank == Some(self.next_rank) {
             self.next_rank = self.next_rank.wrapping_add(1);
         }
+        turn.rank.is_none()
     }
 
     // ---- asking

@@ -7,7 +7,8 @@ use drive_words::{Head, write_instruction, write_open, write_unpack};
 use farm_universe::Variant;
 use lane_runner::Place;
 use plan_asm::Instruction;
-use report_sink::{Sink, WriteFailed};
+use report_sink::{Sink, WriteFailed, WriteSink, write_text};
+use std::alloc::Global;
 
 /// What a lane asks for, under this number.
 #[derive(Clone, Copy)]
@@ -52,12 +53,12 @@ fn write_chroot<S: Sink>(out: &mut S, head: Head<'_>, place: Place<'_>) -> Resul
     write_open(out, head, universe, &[])
 }
 
-/// Writes the line of a question whose entry is kept.
+/// Writes the line of a question whose entry is kept, piece by piece.
 ///
 /// # Errors
 ///
 /// [`WriteFailed`] where the sink has failed.
-pub fn write_question<S: Sink>(
+fn write_question<S: Sink>(
     out: &mut S,
     known: &Known,
     question: Question<'_>,
@@ -79,5 +80,24 @@ pub fn write_question<S: Sink>(
             Some(of) => write_instruction(out, head, universe, recipes, place.chroot, of),
             None => Ok(()),
         },
+    }
+}
+
+/// Writes the line of a question whose entry is kept, in one piece where there is memory for that.
+///
+/// # Errors
+///
+/// [`WriteFailed`] where the sink has failed.
+pub fn send_question<S: Sink>(
+    alloc: Global,
+    out: &mut S,
+    known: &Known,
+    question: Question<'_>,
+    kept: &Kept,
+) -> Result<(), WriteFailed> {
+    let mut line = WriteSink::new(Vec::new(alloc));
+    match write_question(&mut line, known, question, kept) {
+        Ok(()) => write_text(out, line.into_inner().as_slice()),
+        Err(WriteFailed) => write_question(out, known, question, kept),
     }
 }
