@@ -153,7 +153,11 @@ pub fn drive_text(
     let mut text = Vec::new(alloc);
     let mut journal = Vec::from_slice(alloc, parts.text(b"j"))?;
     let mut rest = input;
-    while let Some((life, behind)) = next_life(rest) {
+    // each life has a line of its own
+    for _ in 0..input.len() {
+        let Some((life, behind)) = next_life(rest) else {
+            break;
+        };
         let lived = live(rt, alloc, parts, words, life, journal)?;
         push_lived(&mut text, &lived)?;
         journal = lived.journal;

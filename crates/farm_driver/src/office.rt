@@ -1,6 +1,6 @@
 //! What a gate keeps under its lock.
 
-ghost use Rattle.std.specs.Prelude.{◌≡◌, ◌×◌, IfSome, is_some};
+ghost use Rattle.std.specs.Prelude.{◌≡◌, IfSome, is_some};
 ghost use Rattle.drive_desk.specs.LaneDesks as desks;
 ghost use Rattle.drive_journal.specs.Entries.{IsDone};
 ghost use Rattle.drive_journal.specs.Said.{note_in};
