@@ -29,4 +29,4 @@ returns-in-Err-clause-told g c =
     let texts = texts_view c.args.setting.now.texts in
     inl (answered-by (AnswersVerdict (Err refusal)) (Refuses texts) (g.S.Sink.state c.args.out.now)
     (g.S.Sink.state c.answer_verdict.new.out) c.answer_verdict.result
-    (λ text status is. (refusal, c.in-Err.ensures.refused, is)) c.answer_verdict.ensures)
+    (λ text status is. (refusal, c.in-Err.ensures.verdict, is)) c.answer_verdict.ensures)

@@ -1,4 +1,4 @@
-use Rattle.std.proofs.Common.{⊥, List, [], ℕ, Option, Some, subst, sym, absurd}
+use Rattle.std.proofs.Common.{[], Some, sym, subst}
 use Rattle.std.specs.Option.{option_map}
 use Rattle.drive_answers.proofs.DriveLaws.{drive_by}
 use Rattle.drive_answers.proofs.driven_answer.drive_accepted.Goals as goal

@@ -34,10 +34,10 @@ returns-in-Err-clause-told g c =
 pub returns-in-Ok-run_by-clause-told : goal.returns-in-Ok-run_by-clause-told
 returns-in-Ok-run_by-clause-told g c =
     let a = c.args.accepted in
-    let run = c.in-Ok-run_by.run in
+    let run = c.in-Ok-run_by.run' in
     let kept = g.F.DriveSource.kept c.args.setting.now.source.now c.args.path.now in
     let entries = run.resumed.entries.items in
-    let journal = g.F.DriveSource.Journal.Journal.state c.in-Ok.journal in
+    let journal = g.F.Journal.Sink.state c.in-Ok.journal in
     let head = head_in (texts_view c.args.setting.now.texts) in
     let resumed = c.in-Ok-run_by.ensures.resumed in
     drive_by a (IsMisfitIn a (lines_of entries)) (IsMisfitOf a head kept)
@@ -54,7 +54,7 @@ returns-clause-told g c =
     let a = c.args.accepted in
     let out = g.S.Sink.state c.args.out.now in
     let kept = g.F.DriveSource.kept c.args.setting.now.source.now c.args.path.now in
-    let journal = g.F.DriveSource.Journal.Journal.state c.in-Ok.journal in
+    let journal = g.F.Journal.Sink.state c.in-Ok.journal in
     let before = g.E.Sink.state c.args.errors.now in
     let after = g.E.Sink.state c.tell_unkept.new.errors in
     let refused = c.in-Err-run_by.ensures.refused in

@@ -1,4 +1,4 @@
-use Rattle.std.proofs.Common.{◌≡◌, ⊥, Err, subst}
+use Rattle.std.proofs.Common.{◌≡◌, Err, subst}
 use Rattle.std.proofs.lemmas.Result.{err_from_is_err_and}
 use Rattle.deb_text.specs.Lines.{lines_of}
 use Rattle.drive_answers.proofs.DriveLaws.{drive_by, no_memory, no_misfit}
@@ -30,7 +30,7 @@ returns-in_err-run-clause-told g c =
 pub returns-clause-told : goal.returns-clause-told
 returns-clause-told g c =
     let a = c.args.accepted in
-    let entries = c.in_ok-run.run.resumed.entries.items in
+    let entries = c.in_ok-run.run'.resumed.entries.items in
     drive_by a (IsMisfitIn a (lines_of entries)) (λ _. ⊥) (g.S.Sink.state c.args.out.now)
     (g.S.Sink.state c.answer_run.new.out) (g.E.Sink.state c.args.errors.now)
     (g.E.Sink.state c.answer_run.new.errors) c.answer_run.result
