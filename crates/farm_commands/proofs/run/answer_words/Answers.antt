@@ -16,8 +16,8 @@ returns-in-Ok-Answer-clause-answer g c = record {
       c.answer_request.ensures.answer;
 }
 
-pub returns-in-Err-clause-answer : goal.returns-in-Err-clause-answer
-returns-in-Err-clause-answer g c = record {
+pub returns-clause-answer : goal.returns-clause-answer
+returns-clause-answer g c = record {
   outcome = inr c.tell_words.ensures.told;
   no_word = λ none. absurd (subst (λ read. IsOkAnd read (λ asked. asked ≡ Answer CheckInput))
       c.in-Err.is (c.read_words.ensures.none
