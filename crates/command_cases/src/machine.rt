@@ -110,18 +110,6 @@ impl<'a, D> Machine<'a, D> {
         }
     }
 
-    /// What was done with files: a line for each folder that was made and each file that was
-    /// written or has got another name, and the lines of what was written, each behind a mark.
-    pub fn into_done(self) -> Vec<u8> {
-        let Machine {
-            alloc: _,
-            parts: _,
-            driver: _driver,
-            done,
-        } = self;
-        done.into_inner()
-    }
-
     /// Notes something that was done, and the bytes of a file.
     fn note(&self, words: &[&str], bytes: &[u8]) -> io::Result<()> {
         let mut done = self.done.replace(Vec::new(self.alloc));
@@ -152,6 +140,20 @@ impl<'a, D> Machine<'a, D> {
             }
         }
         None
+    }
+}
+
+impl<D: Drop> Machine<'_, D> {
+    /// What was done with files: a line for each folder that was made and each file that was
+    /// written or has got another name, and the lines of what was written, each behind a mark.
+    pub fn into_done(self) -> Vec<u8> {
+        let Machine {
+            alloc: _,
+            parts: _,
+            driver: _driver,
+            done,
+        } = self;
+        done.into_inner()
     }
 }
 
