@@ -1,13 +1,26 @@
 //! The streams and the journal of a drive in memory.
 
+ghost use Rattle.std.specs.Prelude.{◌≤◌, length};
+
 use crate::stage::Stage;
+use deb_text::next_line;
 use drive_store::{Journal, JournalFile};
 use report_sink::{Sink, SinkFailed};
 use std::alloc::Global;
 use std::io::{self, ErrorKind, Read, Write};
 use std::sync::Wait;
 
-/// The output, which a driver reads. It fails behind so many lines.
+/// A text up to its first line end.
+fn first_line(text: &[u8]) -> &[u8]
+    ensures { length result.now ≤ length text.now }
+{
+    match next_line(text) {
+        Some((_, behind)) => &text[..text.len() - behind.len()],
+        None => text,
+    }
+}
+
+/// The output, which a driver reads. It takes a line at a time, and fails behind so many.
 #[derive(Drop)]
 pub struct StageOutput<'s, 'c, R: Wait> {
     pub stage: &'s Stage<'c, R>,
@@ -16,18 +29,19 @@ pub struct StageOutput<'s, 'c, R: Wait> {
 
 impl<R: Wait> Write for StageOutput<'_, '_, R> {
     fn write(&mut self, buf: &[u8]) -> io::Result<usize> {
+        let line = first_line(buf);
         let mut state = self.stage.state.lock(self.stage.rt);
         if state.lines >= self.most {
             return Err(io::Error::from(ErrorKind::BrokenPipe));
         }
         if !state.is_dead {
-            state.written.extend_from_slice(buf)?;
+            state.written.extend_from_slice(line)?;
         }
-        if buf.ends_with(b"\n") {
+        if line.ends_with(b"\n") {
             state.lines = state.lines.saturating_add(1);
             self.stage.changed.notify_all();
         }
-        Ok(buf.len())
+        Ok(line.len())
     }
 
     fn flush(&mut self) -> io::Result<()> {

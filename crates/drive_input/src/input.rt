@@ -18,11 +18,30 @@ pub enum Heard {
     End,
 }
 
-/// Where answers come from, and room for a line.
+/// Where answers come from, room for a line, and how many whole lines the reader has at hand.
 #[derive(Drop)]
 pub struct Input<I> {
     reader: I,
     line: Vec<u8>,
+    at_hand: usize,
+}
+
+/// How many line ends a reader has at hand, once it has something. It takes nothing away.
+fn lines_at_hand<I: BufRead>(reader: &mut I) -> usize {
+    match reader.fill_buf() {
+        Ok(bytes) => count_lines(bytes),
+        Err(_) => 0,
+    }
+}
+
+fn count_lines(bytes: &[u8]) -> usize {
+    let mut count = 0usize;
+    for byte in bytes {
+        if *byte == b'\n' {
+            count = count.saturating_add(1);
+        }
+    }
+    count
 }
 
 /// Reads one line into an empty buffer, and says what is heard.
@@ -48,7 +67,13 @@ impl<I: BufRead> Input<I> {
         Input {
             reader,
             line: Vec::new(alloc),
+            at_hand: 0,
         }
+    }
+
+    /// Tells whether the next line is at hand, so that nobody waits for it.
+    pub fn has_line(&self) -> bool {
+        self.at_hand > 0
     }
 
     /// Reads the next line, and says what is heard. What stands behind the last line end says
@@ -56,6 +81,10 @@ impl<I: BufRead> Input<I> {
     /// memory is refused, are the end.
     pub fn next(&mut self, plan: &Plan) -> Heard {
         self.line.clear();
+        if self.at_hand == 0 {
+            self.at_hand = lines_at_hand(&mut self.reader);
+        }
+        self.at_hand = self.at_hand.saturating_sub(1);
         hear(&mut self.reader, &mut self.line, plan).unwrap_or(Heard::End)
     }
 }

@@ -1,8 +1,9 @@
 //! The gate of a run that a driver carries out.
 
+use crate::bells::Bells;
 use crate::known::Known;
 use crate::office::{Answered, Fault, Kept, Office, Phase, Reply};
-use crate::question::{Asked, Question, instruction_at, send_question};
+use crate::question::{Asked, Begun, Question, instruction_at, write_question};
 use drive_input::{Heard, Input};
 use drive_journal::Said;
 use drive_notes::Note;
@@ -13,10 +14,10 @@ use farm_universe::Variant;
 use lane_runner::{Gate, Go, LaneArchive, Place};
 use plan_asm::{Instruction, name_of, version_of};
 use plan_verifier::Accepted;
-use report_sink::Sink;
+use report_sink::{Sink, write_text};
 use std::alloc::{AllocError, Global};
 use std::io::{BufRead, Eprint};
-use std::sync::{Condvar, Mutex, Wait};
+use std::sync::{Mutex, Wait};
 
 /// A gate at which each lane waits until a driver outside of this program has done what the lane is
 /// to do next. It asks by lines on its output, and hears by lines of its input; the lanes that wait
@@ -28,21 +29,20 @@ pub struct DriverGate<'a, R: Wait, I: BufRead + Drop, S: Sink + Drop, J: Journal
     rt: &'a R,
     alloc: Global,
     known: Known,
-    office: Mutex<Office<S, J>>,
-    // where lanes wait for answers, for a turn at the archive, and for a publication or a halt:
-    // what one of these waits for concerns none of the others
-    answered: Condvar,
-    passed_on: Condvar,
-    rung: Condvar,
+    office: Mutex<Office<J>>,
+    out: Mutex<S>,
+    bells: Bells,
     input: Mutex<Input<I>>,
 }
 
-/// Whether a lane has asked, or is at its turn, and else why not.
-#[derive(Clone, Copy, PartialEq, Eq)]
-enum Begun {
-    Yes,
-    Stopping,
-    Halted,
+/// What a lane hears of what it has asked.
+enum Listened {
+    /// It is to read the driver's next line.
+    Read,
+    /// What it publishes is done.
+    Published(Answered),
+    /// It is done, and an entry of that is kept; or nothing comes of it.
+    Noted(Option<Kept>),
 }
 
 impl<'a, R: Wait, I: BufRead + Drop, S: Sink + Drop, J: Journal + Drop> DriverGate<'a, R, I, S, J> {
@@ -59,15 +59,14 @@ impl<'a, R: Wait, I: BufRead + Drop, S: Sink + Drop, J: Journal + Drop> DriverGa
         out: S,
         journal: J,
     ) -> Result<DriverGate<'a, R, I, S, J>, AllocError> {
-        let office = Office::new(alloc, known.lanes.as_slice(), &known.notes, out, journal)?;
+        let office = Office::new(alloc, known.lanes.as_slice(), &known.notes, journal)?;
         Ok(DriverGate {
             rt,
             alloc,
             known,
             office: Mutex::new(office),
-            answered: Condvar::new(),
-            passed_on: Condvar::new(),
-            rung: Condvar::new(),
+            out: Mutex::new(out),
+            bells: Bells::new(),
             input: Mutex::new(input),
         })
     }
@@ -79,22 +78,16 @@ impl<'a, R: Wait, I: BufRead + Drop, S: Sink + Drop, J: Journal + Drop> DriverGa
 }
 
 impl<R: Wait, I: BufRead + Drop, S: Sink + Drop, J: Journal + Drop> DriverGate<'_, R, I, S, J> {
-    /// Wakes all lanes: the run goes on no more.
-    fn wake_all(&self) {
-        self.answered.notify_all();
-        self.passed_on.notify_all();
-        self.rung.notify_all();
-    }
-
     /// One lane gives up and halts the archive; each other waits until that is done.
     fn give_up(&self, lane: u32) -> Go {
         let mut office = self.office.lock(self.rt);
         let is_cause = office.elect(lane);
-        self.wake_all();
+        self.bells.wake_all();
         if is_cause {
             return Go::GiveUp;
         }
         let _office = self
+            .bells
             .rung
             .wait_while(self.rt, office, |office| office.phase != Phase::Halted);
         Go::Continue
@@ -104,6 +97,7 @@ impl<R: Wait, I: BufRead + Drop, S: Sink + Drop, J: Journal + Drop> DriverGate<'
     fn turn_at(&self, lane: u32, note: Note, tellings: usize) -> Begun {
         let office = self.office.lock(self.rt);
         let mut office = self
+            .bells
             .passed_on
             .wait_while(self.rt, office, |office| office.must_wait(note));
         match office.phase {
@@ -123,31 +117,20 @@ impl<R: Wait, I: BufRead + Drop, S: Sink + Drop, J: Journal + Drop> DriverGate<'
         }
     }
 
-    /// Ends a lane's turn at the archive, and wakes who may have the next one.
-    fn pass_on(&self, office: &mut Office<S, J>, lane: u32) {
-        let is_any = office.end_turn(lane);
-        if office.phase != Phase::Open {
-            self.wake_all();
-        } else if is_any {
-            self.passed_on.notify_one();
-        } else {
-            self.passed_on.notify_all();
-        }
-    }
-
+    /// Ends a lane's turn at the archive.
     fn end_turn(&self, lane: u32) {
-        let mut office = self.office.lock(self.rt);
-        self.pass_on(&mut office, lane);
+        let next = self.office.lock(self.rt).end_turn(lane);
+        self.bells.pass_on(next);
     }
 
     fn fail(&self, fault: Fault) {
         self.office.lock(self.rt).fail(fault);
-        self.wake_all();
+        self.bells.wake_all();
     }
 
     /// Writes the entry of a question, unless it was asked in an earlier run, and gives it where it
     /// is kept.
-    fn note(&self, office: &mut Office<S, J>, question: Question<'_>) -> Option<Kept> {
+    fn note(&self, office: &mut Office<J>, question: Question<'_>) -> Option<Kept> {
         if let Some(kept) = Kept::asked_before(question.note, question.number) {
             return Some(kept);
         }
@@ -162,12 +145,22 @@ impl<R: Wait, I: BufRead + Drop, S: Sink + Drop, J: Journal + Drop> DriverGate<'
         office.note(self.known.lane(question.place.lane), question.number, said)
     }
 
-    /// Writes the entry of a question, and then its line. Tells whether both are written.
-    fn is_written(&self, office: &mut Office<S, J>, question: Question<'_>) -> bool {
+    /// Puts the line of a question whose entry is kept to those that are to be written; where
+    /// memory for that is refused, writes it. Tells whether it is so.
+    fn is_sent(&self, office: &mut Office<J>, question: Question<'_>, kept: &Kept) -> bool {
+        if office.add_line(self.alloc, &self.known, question, kept) {
+            return true;
+        }
+        let mut out = self.out.lock(self.rt);
+        write_question(&mut *out, &self.known, question, kept).is_ok()
+    }
+
+    /// Writes the entry of a question, and then sends its line. Tells whether that is done.
+    fn is_asked(&self, office: &mut Office<J>, question: Question<'_>) -> bool {
         let Some(kept) = self.note(office, question) else {
             return false;
         };
-        if send_question(self.alloc, &mut office.out, &self.known, question, &kept).is_err() {
+        if !self.is_sent(office, question, &kept) {
             office.fail(Fault::WriteFailed);
             return false;
         }
@@ -175,61 +168,114 @@ impl<R: Wait, I: BufRead + Drop, S: Sink + Drop, J: Journal + Drop> DriverGate<'
     }
 
     /// Puts a question, if the lane may ask it.
-    fn put(&self, office: &mut Office<S, J>, question: Question<'_>) -> Begun {
+    fn put(&self, office: &mut Office<J>, question: Question<'_>) -> Begun {
         let lane = question.place.lane;
         if !office.ask(lane, question.number) {
             return Begun::Stopping;
         }
-        if !self.is_written(office, question) {
+        if !self.is_asked(office, question) {
             office.withdraw(lane);
             return Begun::Stopping;
         }
         Begun::Yes
     }
 
-    /// Puts a question once all that was made before is made again.
-    fn begin(&self, question: Question<'_>) -> Begun {
-        let office = self.office.lock(self.rt);
-        let mut office = self
-            .passed_on
-            .wait_while(self.rt, office, |office| office.must_hold());
+    /// Puts a question, if the run is not being stopped.
+    fn put_in(&self, office: &mut Office<J>, question: Question<'_>) -> Begun {
         match office.phase {
-            Phase::Open => self.put(&mut office, question),
+            Phase::Open => self.put(office, question),
             Phase::Stopping => Begun::Stopping,
             Phase::Halted => Begun::Halted,
         }
     }
 
-    /// The reply to what a lane has asked, or that it is to read.
-    fn listen(&self, lane: u32) -> Reply {
-        let office = self.office.lock(self.rt);
-        let mut office = self
-            .answered
-            .wait_while(self.rt, office, |office| office.must_listen(lane));
-        office.reply(lane)
+    /// Writes the lines that are to be written, and those that come meanwhile. One lane does it at a
+    /// time, without the office's lock.
+    fn write_lines(&self, lines: Option<Vec<u8>>) {
+        let mut next = lines;
+        for _ in self.rt.forever() {
+            let Some(lines) = next else {
+                return;
+            };
+            let written = write_text(&mut *self.out.lock(self.rt), lines.as_slice());
+            if written.is_err() {
+                self.fail(Fault::WriteFailed);
+            }
+            let mut office = self.office.lock(self.rt);
+            next = office.more_lines(lines);
+            let is_idle = office.is_idle();
+            drop(office);
+            if is_idle {
+                self.bells.answered.notify_one();
+            }
+        }
     }
 
-    /// Notes that what was answered is done: of a publish with the archive's turn, for so many
-    /// outputs. Gives the entry where it is kept.
-    fn note_done(&self, lane: u32, answered: Answered, outputs: usize) -> Option<Kept> {
+    /// Puts a question once all that was made before is made again.
+    fn begin(&self, question: Question<'_>) -> Begun {
         let office = self.office.lock(self.rt);
-        let mut office = self.passed_on.wait_while(
-            self.rt,
-            office,
-            |office| outputs > 0 && office.has_no_turn(),
-        );
-        if outputs > 0 && office.phase != Phase::Halted {
+        let mut office = self
+            .bells
+            .passed_on
+            .wait_while(self.rt, office, |office| office.must_hold());
+        let begun = self.put_in(&mut office, question);
+        let lines = office.lines(self.alloc);
+        drop(office);
+        self.write_lines(lines);
+        begun
+    }
+
+    /// Puts a question at the archive's turn, which ends with its entry.
+    fn begin_at_turn(&self, question: Question<'_>) -> Begun {
+        let mut office = self.office.lock(self.rt);
+        let begun = self.put_in(&mut office, question);
+        let next = office.end_turn(question.place.lane);
+        let lines = office.lines(self.alloc);
+        drop(office);
+        self.bells.pass_on(next);
+        self.write_lines(lines);
+        begun
+    }
+
+    /// What a lane hears of what it has asked, which has so many outputs: what is done is noted at
+    /// once, unless it has some.
+    fn listen(&self, lane: u32, outputs: usize) -> Listened {
+        let office = self.office.lock(self.rt);
+        let mut office = self
+            .bells
+            .answered
+            .wait_while(self.rt, office, |office| office.must_listen(lane));
+        match office.reply(lane) {
+            Reply::Read => Listened::Read,
+            Reply::Failed | Reply::None => Listened::Noted(None),
+            Reply::Done(answered) => {
+                if outputs > 0 {
+                    Listened::Published(answered)
+                } else {
+                    Listened::Noted(office.note_done(self.known.lane(lane), answered))
+                }
+            }
+        }
+    }
+
+    /// Notes that a publish was answered, with the archive's turn for so many outputs. Gives the
+    /// entry where it is kept.
+    fn note_published(&self, lane: u32, answered: Answered, outputs: usize) -> Option<Kept> {
+        let office = self.office.lock(self.rt);
+        let mut office = self
+            .bells
+            .passed_on
+            .wait_while(self.rt, office, |office| office.has_no_turn());
+        if office.phase != Phase::Halted {
             office.begin_turn(lane, outputs, None);
         }
-        office.open(lane);
         office.note_done(self.known.lane(lane), answered)
     }
 
-    /// Notes that a lane looks, and tells whether its chroot is there.
-    fn is_open(&self, lane: u32) -> bool {
-        let mut office = self.office.lock(self.rt);
-        office.see(lane);
-        office.is_open(lane)
+    /// Notes that a lane looks at the archive.
+    fn look(&self, lane: u32) -> Go {
+        self.office.lock(self.rt).see(lane);
+        Go::Continue
     }
 
     /// What is noted of a lane's instruction.
@@ -268,41 +314,42 @@ impl<R: Wait + Eprint, I: BufRead + Drop, S: Sink + Drop, J: Journal + Drop> Dri
         );
     }
 
-    /// Reads one line of the driver, and wakes the lane that it is for.
+    /// Reads what the driver says, one line or those that are there, and wakes the lanes that wait.
     fn read(&self, accepted: &Accepted) {
-        let heard = self.input.lock(self.rt).next(accepted.plan());
+        let mut input = self.input.lock(self.rt);
+        let mut heard = input.next(accepted.plan());
         let mut office = self.office.lock(self.rt);
-        let is_taken = office.hear(heard);
+        let mut is_taken = office.hear(heard);
+        for _ in self.rt.forever() {
+            if !is_taken || office.phase != Phase::Open || !input.has_line() {
+                break;
+            }
+            heard = input.next(accepted.plan());
+            is_taken = office.hear(heard);
+        }
         let phase = office.phase;
         drop(office);
-        if phase == Phase::Open {
-            self.answered.notify_all();
-        } else {
-            self.wake_all();
-        }
+        drop(input);
+        self.bells.answer(phase);
         match heard {
             Heard::Line(answer) if !is_taken => self.tell_passed(answer),
             _ => {}
         }
     }
 
-    /// Waits for the answer to what a lane has asked, and gives it where that is done.
-    fn answer(&self, accepted: &Accepted, lane: u32) -> Option<Answered> {
-        for _ in self.rt.forever() {
-            match self.listen(lane) {
-                Reply::Done(answered) => return Some(answered),
-                Reply::Failed | Reply::None => return None,
-                Reply::Read => self.read(accepted),
-            }
-        }
-        None
-    }
-
     /// Waits until what a question asks for is done, and gives the entry of that where it is kept.
     fn done(&self, question: Question<'_>, outputs: usize) -> Option<Kept> {
         let lane = question.place.lane;
-        let answered = self.answer(question.place.accepted, lane)?;
-        self.note_done(lane, answered, outputs)
+        for _ in self.rt.forever() {
+            match self.listen(lane, outputs) {
+                Listened::Read => self.read(question.place.accepted),
+                Listened::Published(answered) => {
+                    return self.note_published(lane, answered, outputs);
+                }
+                Listened::Noted(kept) => return kept,
+            }
+        }
+        None
     }
 
     /// What comes of a question that was put or not.
@@ -327,9 +374,9 @@ impl<R: Wait + Eprint, I: BufRead + Drop, S: Sink + Drop, J: Journal + Drop> Dri
         self.end(question, begun, outputs)
     }
 
-    /// Asks for the lane's chroot, unless that is there.
+    /// Asks for the lane's chroot, ahead of its first instruction.
     fn open(&self, place: Place<'_>) -> Go {
-        if self.is_open(place.lane) {
+        if place.instruction > 1 {
             return Go::Continue;
         }
         let question = Question {
@@ -354,15 +401,15 @@ impl<R: Wait + Eprint, I: BufRead + Drop, S: Sink + Drop, J: Journal + Drop> Dri
 
     /// Asks for an unpack whose pick is new: its entry is written before the turn ends.
     fn ask_new(&self, question: Question<'_>) -> Go {
-        let begun = self.begin(question);
-        self.end_turn(question.place.lane);
+        let begun = self.begin_at_turn(question);
         self.end(question, begun, 0)
     }
 
     fn before_instruction(&self, place: Place<'_>) -> Go {
         let note = self.note_of(place);
         match instruction_at(place) {
-            None | Some(Instruction::Wait(_)) => Go::Continue,
+            None => Go::Continue,
+            Some(Instruction::Wait(_)) => self.look(place.lane),
             Some(Instruction::Unpack { .. } | Instruction::When { .. }) => {
                 self.take_turn(place.lane, note, 1)
             }
@@ -422,6 +469,7 @@ impl<R: Wait + Eprint, I: BufRead + Drop, S: Sink + Drop, J: Journal + Drop> Gat
     fn pause(&self, lane: u32, _instruction: u32) -> Go {
         let office = self.office.lock(self.rt);
         let mut office = self
+            .bells
             .rung
             .wait_while(self.rt, office, |office| office.is_still(lane));
         office.see(lane);
@@ -430,15 +478,17 @@ impl<R: Wait + Eprint, I: BufRead + Drop, S: Sink + Drop, J: Journal + Drop> Gat
 
     fn published<A: LaneArchive>(&self, _accepted: &Accepted, _end: &A, output: Publication) {
         let mut office = self.office.lock(self.rt);
-        self.pass_on(&mut office, output.lane);
+        let next = office.end_turn(output.lane);
         office.ring();
-        self.rung.notify_all();
+        drop(office);
+        self.bells.pass_on(next);
+        self.bells.rung.notify_all();
     }
 
     fn ring(&self) {
         let mut office = self.office.lock(self.rt);
         office.phase = Phase::Halted;
         office.ring();
-        self.wake_all();
+        self.bells.wake_all();
     }
 }

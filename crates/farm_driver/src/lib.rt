@@ -6,6 +6,7 @@
 //! nothing else makes. Nothing is proved of turns, ranks and waking.
 #![tactic(auto)]
 
+mod bells;
 mod gate;
 mod known;
 mod office;

@@ -7,15 +7,17 @@ ghost use Rattle.drive_journal.specs.Said.{note_in};
 ghost use Rattle.farm_driver.specs.Replies as spec;
 ghost use Rattle.farm_driver.specs.Replies.{IsKept};
 
-use crate::known::LaneWords;
+use crate::known::{Known, LaneWords};
+use crate::question::{Question, write_question};
 use drive_desk::{Desk, Request};
 use drive_input::Heard;
 use drive_journal::{Entry, Said, write_entry};
 use drive_notes::{Note, Notes};
 use drive_store::Journal;
 use drive_words::Answer;
-use report_sink::Sink;
+use report_sink::WriteSink;
 use std::alloc::{AllocError, Global};
+use std::mem;
 
 /// How far a run is from its stop.
 #[derive(Clone, Copy, PartialEq, Eq)]
@@ -92,25 +94,31 @@ pub enum Reply {
     Read,
 }
 
-/// Whether the chroot of a lane was opened, and how often the bell had rung when the lane last
-/// looked.
-#[derive(Clone, Copy)]
-struct Seat {
-    is_open: bool,
-    seen: u64,
+/// Whom the end of a turn at the archive concerns.
+#[derive(Clone, Copy, PartialEq, Eq)]
+pub enum Next {
+    /// Any one of those that wait for a turn: all of them are at something new.
+    Any,
+    /// Each of them: one alone may be next.
+    Each,
+    /// All lanes, since the run is being stopped.
+    Stopped,
 }
 
 /// What a gate keeps under its lock.
 #[derive(Drop)]
-pub struct Office<S, J> {
-    pub out: S,
+pub struct Office<J> {
     pub journal: J,
     pub phase: Phase,
     pub fault: Option<Fault>,
     desk: Desk,
-    seats: Vec<Seat>,
+    // how often the bell had rung when the lane last looked
+    seen: Vec<u64>,
     has_ended: bool,
     is_reading: bool,
+    // lines whose entries are kept, and whether a lane writes such
+    lines: Vec<u8>,
+    is_writing: bool,
     cause: Option<u32>,
     turn: Option<ArchiveTurn>,
     next_rank: u64,
@@ -118,20 +126,19 @@ pub struct Office<S, J> {
     rings: u64,
 }
 
-/// The desks and the seats of lanes.
-fn places_of(alloc: Global, lanes: &[LaneWords]) -> Result<(Desk, Vec<Seat>), AllocError> {
+/// The desks of lanes, of which none has heard the bell.
+fn places_of(alloc: Global, lanes: &[LaneWords]) -> Result<(Desk, Vec<u64>), AllocError> {
     let mut least = Vec::new(alloc);
-    let mut seats = Vec::new(alloc);
+    let mut seen = Vec::new(alloc);
     for lane in lanes {
         least.push(lane.least)?;
-        let is_open = lane.least > 0;
-        seats.push(Seat { is_open, seen: 0 })?;
+        seen.push(0)?;
     }
     let desk = Desk::new(alloc, least.as_slice())?;
-    Ok((desk, seats))
+    Ok((desk, seen))
 }
 
-impl<S: Sink + Drop, J: Journal + Drop> Office<S, J> {
+impl<J: Journal + Drop> Office<J> {
     /// An office for these lanes.
     ///
     /// # Errors
@@ -141,19 +148,19 @@ impl<S: Sink + Drop, J: Journal + Drop> Office<S, J> {
         alloc: Global,
         lanes: &[LaneWords],
         notes: &Notes,
-        out: S,
         journal: J,
-    ) -> Result<Office<S, J>, AllocError> {
-        let (desk, seats) = places_of(alloc, lanes)?;
+    ) -> Result<Office<J>, AllocError> {
+        let (desk, seen) = places_of(alloc, lanes)?;
         Ok(Office {
-            out,
             journal,
             phase: Phase::Open,
             fault: None,
             desk,
-            seats,
+            seen,
             has_ended: false,
             is_reading: false,
+            lines: Vec::new(alloc),
+            is_writing: false,
             cause: None,
             turn: None,
             next_rank: 0,
@@ -162,35 +169,20 @@ impl<S: Sink + Drop, J: Journal + Drop> Office<S, J> {
         })
     }
 
-    // ---- chroots, and the bell
-
-    /// Tells whether the chroot of a lane was opened.
-    pub fn is_open(&self, lane: u32) -> bool {
-        match self.seats.get(lane as usize) {
-            Some(seat) => seat.is_open,
-            None => false,
-        }
-    }
-
-    /// Notes that the chroot of a lane was opened.
-    pub fn open(&mut self, lane: u32) {
-        if let Some(seat) = self.seats.get_mut(lane as usize) {
-            seat.is_open = true;
-        }
-    }
+    // ---- the bell
 
     /// Notes how often the bell has rung by now.
     pub fn see(&mut self, lane: u32) {
         let rings = self.rings;
-        if let Some(seat) = self.seats.get_mut(lane as usize) {
-            seat.seen = rings;
+        if let Some(seen) = self.seen.get_mut(lane as usize) {
+            *seen = rings;
         }
     }
 
     /// Tells whether a lane is to wait for the bell.
     pub fn is_still(&self, lane: u32) -> bool {
-        match self.seats.get(lane as usize) {
-            Some(seat) => seat.seen == self.rings && self.phase != Phase::Halted,
+        match self.seen.get(lane as usize) {
+            Some(seen) => *seen == self.rings && self.phase != Phase::Halted,
             None => false,
         }
     }
@@ -264,24 +256,32 @@ impl<S: Sink + Drop, J: Journal + Drop> Office<S, J> {
         self.turn = Some(ArchiveTurn { lane, left, rank });
     }
 
-    /// Ends the turn of a lane with its last telling. Tells whether the turn was at something new:
-    /// then so are all lanes that wait for one, and any of them may be next.
-    pub fn end_turn(&mut self, lane: u32) -> bool {
+    /// Whom the end of a turn at an event of this rank concerns.
+    fn next(&self, rank: Option<u64>) -> Next {
+        match (self.phase, rank) {
+            (Phase::Open, None) => Next::Any,
+            (Phase::Open, Some(_)) => Next::Each,
+            _ => Next::Stopped,
+        }
+    }
+
+    /// Ends the turn of a lane with its last telling, and tells whom that concerns.
+    pub fn end_turn(&mut self, lane: u32) -> Next {
         let Some(turn) = self.turn else {
-            return false;
+            return self.next(None);
         };
         if turn.lane != lane {
-            return false;
+            return self.next(None);
         }
         if turn.left > 1 {
             self.begin_turn(lane, turn.left - 1, turn.rank);
-            return turn.rank.is_none();
+            return self.next(None);
         }
         self.turn = None;
         if turn.rank == Some(self.next_rank) {
             self.next_rank = self.next_rank.wrapping_add(1);
         }
-        turn.rank.is_none()
+        self.next(turn.rank)
     }
 
     // ---- asking
@@ -314,6 +314,48 @@ impl<S: Sink + Drop, J: Journal + Drop> Office<S, J> {
         self.note(lane, answered.number, Said::Done)
     }
 
+    /// Puts the line of a question whose entry is kept to those that are to be written, and tells
+    /// whether there was memory for it.
+    pub fn add_line(
+        &mut self,
+        alloc: Global,
+        known: &Known,
+        question: Question<'_>,
+        kept: &Kept,
+    ) -> bool
+        ensures { self.new.desk ≡ self.old.desk }
+    {
+        let whole = self.lines.len();
+        let mut lines = WriteSink::new(mem::replace(&mut self.lines, Vec::new(alloc)));
+        let is_added = write_question(&mut lines, known, question, kept).is_ok();
+        self.lines = lines.into_inner();
+        if !is_added {
+            self.lines.truncate(whole);
+        }
+        is_added
+    }
+
+    /// The lines that the caller is to write, unless there is none, or another lane writes.
+    pub fn lines(&mut self, alloc: Global) -> Option<Vec<u8>> {
+        if self.is_writing || self.lines.is_empty() {
+            return None;
+        }
+        self.is_writing = true;
+        Some(mem::replace(&mut self.lines, Vec::new(alloc)))
+    }
+
+    /// The lines that have come while these were written, which the caller is to write too.
+    pub fn more_lines(&mut self, written: Vec<u8>) -> Option<Vec<u8>> {
+        if self.lines.is_empty() {
+            self.is_writing = false;
+            return None;
+        }
+        let mut more = written;
+        more.clear();
+        mem::swap(&mut self.lines, &mut more);
+        Some(more)
+    }
+
     /// Notes that a lane asks, if it may, and tells whether it is so.
     pub fn ask(&mut self, lane: u32, number: u32) -> bool
         ensures told { result ≡ desks.may_ask self.old.desk lane number }
@@ -329,10 +371,16 @@ impl<S: Sink + Drop, J: Journal + Drop> Office<S, J> {
         self.desk.withdraw(lane);
     }
 
-    /// Tells whether a lane is to wait while another one reads.
+    /// Tells whether a lane is to wait while another one reads, or writes: nobody reads before what
+    /// was asked by then is out.
     pub fn must_listen(&self, lane: u32) -> bool {
         let is_answered = matches!(self.desk.request(lane), Request::Answered { .. });
-        !is_answered && !self.has_ended && self.is_reading
+        !is_answered && !self.has_ended && (self.is_reading || self.is_writing)
+    }
+
+    /// Tells whether no lane reads or writes.
+    pub fn is_idle(&self) -> bool {
+        !self.is_reading && !self.is_writing
     }
 
     /// The reply to what a lane has asked.

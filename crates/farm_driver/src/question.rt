@@ -7,8 +7,7 @@ use drive_words::{Head, write_instruction, write_open, write_unpack};
 use farm_universe::Variant;
 use lane_runner::Place;
 use plan_asm::Instruction;
-use report_sink::{Sink, WriteFailed, WriteSink, write_text};
-use std::alloc::Global;
+use report_sink::{Sink, WriteFailed};
 
 /// What a lane asks for, under this number.
 #[derive(Clone, Copy)]
@@ -28,6 +27,14 @@ pub struct Question<'a> {
     pub number: u32,
     pub note: Note,
     pub asked: Asked,
+}
+
+/// Whether a lane has asked, or is at its turn, and else why not.
+#[derive(Clone, Copy, PartialEq, Eq)]
+pub enum Begun {
+    Yes,
+    Stopping,
+    Halted,
 }
 
 /// The instruction that a lane stands at.
@@ -53,12 +60,12 @@ fn write_chroot<S: Sink>(out: &mut S, head: Head<'_>, place: Place<'_>) -> Resul
     write_open(out, head, universe, &[])
 }
 
-/// Writes the line of a question whose entry is kept, piece by piece.
+/// Writes the line of a question whose entry is kept.
 ///
 /// # Errors
 ///
 /// [`WriteFailed`] where the sink has failed.
-fn write_question<S: Sink>(
+pub fn write_question<S: Sink>(
     out: &mut S,
     known: &Known,
     question: Question<'_>,
@@ -80,24 +87,5 @@ fn write_question<S: Sink>(
             Some(of) => write_instruction(out, head, universe, recipes, place.chroot, of),
             None => Ok(()),
         },
-    }
-}
-
-/// Writes the line of a question whose entry is kept, in one piece where there is memory for that.
-///
-/// # Errors
-///
-/// [`WriteFailed`] where the sink has failed.
-pub fn send_question<S: Sink>(
-    alloc: Global,
-    out: &mut S,
-    known: &Known,
-    question: Question<'_>,
-    kept: &Kept,
-) -> Result<(), WriteFailed> {
-    let mut line = WriteSink::new(Vec::new(alloc));
-    match write_question(&mut line, known, question, kept) {
-        Ok(()) => write_text(out, line.into_inner().as_slice()),
-        Err(WriteFailed) => write_question(out, known, question, kept),
     }
 }
