@@ -48,7 +48,7 @@ fn all_sisters(
     taken: &Taken,
 ) -> Result<Vec<Vec<Sister>>, AllocError> {
     let mut all = Vec::new(alloc);
-    for (build, before) in taken.builds.iter().zip(&taken.counts) {
+    for (build, before) in taken.builds.iter().zip(&taken.numbered.counts) {
         all.push(sisters_of(alloc, shelf, build, *before)?)?;
     }
     Ok(all)
@@ -157,7 +157,7 @@ pub fn push_packages(
     ensures { OnOk result (IsMadeOf (IsWholeOrAnew (IsOneOf blocks.now)) text.old.items text.new.items) }
 {
     let all = all_sisters(alloc, shelf, taken)?;
-    for variants in taken.variants.by_name.values() {
+    for variants in taken.numbered.variants.by_name.values() {
         for variant in variants {
             push_variant(text, shelf, blocks, taken, &all, variant)?;
         }

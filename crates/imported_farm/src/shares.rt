@@ -109,7 +109,7 @@ impl Walk {
     /// Takes those of blocks that were taken, or are given by the build.
     fn take(&mut self, pools: Pools, build: &Build, found: &[u32]) -> Result<(), AllocError> {
         for number in found {
-            if pools.taken.closure.begin.contains(number) || build.outputs.contains(number) {
+            if pools.taken.there.closure.begin.contains(number) || build.outputs.contains(number) {
                 if self.seen.insert(*number)? {
                     self.blocks.push(*number)?;
                 }
@@ -223,7 +223,7 @@ fn count_all(alloc: Global, all: &[BTreeSet<Vec<u8>>]) -> Result<Counts, AllocEr
 
 /// Tells whether a chroot holds a name.
 fn is_base(taken: &Taken, name: &[u8]) -> bool {
-    for chroot in &taken.chroots {
+    for chroot in &taken.there.chroots {
         if chroot.members.by_name.get(name).is_some() {
             return true;
         }
