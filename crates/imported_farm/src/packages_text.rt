@@ -165,6 +165,15 @@ pub fn push_packages(
     Ok(())
 }
 
+/// The source of a build.
+fn source_of(build: &Build) -> Result<Variant, AllocError> {
+    Ok(Variant {
+        version: build.source.version.clone()?,
+        number: build.source.number,
+        recipe: None,
+    })
+}
+
 /// The sources of builds, by name and version.
 ///
 /// # Errors
@@ -177,12 +186,7 @@ pub fn chosen_sources(
 ) -> Result<Variants, AllocError> {
     let mut chosen = Variants::new(alloc);
     for (wished, build) in recipes.iter().zip(builds) {
-        let variant = Variant {
-            version: build.source.version.clone()?,
-            number: build.source.number,
-            recipe: None,
-        };
-        chosen.add(alloc, &wished.source.name, variant)?;
+        chosen.add(alloc, &wished.source.name, source_of(build)?)?;
     }
     Ok(chosen)
 }

@@ -12,6 +12,7 @@ use import_builds::{Build, BuildStop, Indexes, SourceShelf, WantedBuild, read_bu
 use import_closure::{ChrootStop, Closure, Pools, Shelf, Variant, Variants, chroot_members};
 use import_wish::{MOST_CAPACITY, Wish, WishedRecipe, WishedSource};
 use index_names::PackageNames;
+use index_packages::Given as GivenPackage;
 use std::alloc::{AllocError, Global};
 use std::collections::BTreeSet;
 
@@ -150,6 +151,14 @@ pub fn output_names(
     Ok(names)
 }
 
+fn variant_of(given: &GivenPackage, number: u32) -> Result<Variant, AllocError> {
+    Ok(Variant {
+        version: given.version.clone()?,
+        number,
+        recipe: None,
+    })
+}
+
 /// The packages of blocks, by name and version.
 fn variants_of(
     alloc: Global,
@@ -159,12 +168,7 @@ fn variants_of(
     let mut variants = Variants::new(alloc);
     for number in numbers {
         if let Some(given) = shelf.given(*number) {
-            let variant = Variant {
-                version: given.version.clone()?,
-                number: *number,
-                recipe: None,
-            };
-            variants.add(alloc, &given.name, variant)?;
+            variants.add(alloc, &given.name, variant_of(given, *number)?)?;
         }
     }
     Ok(variants)

@@ -154,8 +154,14 @@ fn write_behind(
     sources: usize,
     indexes: Indexes,
 ) -> Result<Drawn, AllocError>
-    ensures packages { IfOk result (OnTexts (λ texts. texts.packages ≡ indexes.packages)) }
-    ensures sources { IfOk result (OnTexts (λ texts. texts.sources ≡ indexes.sources)) }
+    requires packages { IsMadeOf (IsWholeOrAnew (IsOneOf seen.packages.now)) HEAD.now
+        indexes.packages.items }
+    requires sources { IsMadeOf (IsWhole (IsOneOf seen.sources.now)) HEAD.now
+        indexes.sources.items }
+    ensures packages { IfOk result (OnTexts (λ texts.
+        IsMadeOf (IsWholeOrAnew (IsOneOf seen.entry.packages.now)) HEAD.now texts.packages.items)) }
+    ensures sources { IfOk result (OnTexts (λ texts.
+        IsMadeOf (IsWhole (IsOneOf seen.entry.sources.now)) HEAD.now texts.sources.items)) }
 {
     match limit_lines(alloc, seen, sources, longer(&indexes))? {
         Some(lines) => Ok(Drawn::Over(lines)),
