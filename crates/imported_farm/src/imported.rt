@@ -262,12 +262,12 @@ fn import_paragraphs(alloc: Global, inputs: Inputs, paragraphs: &Paragraphs) -> 
 }
 
 /// Reads a wish, and makes the texts of it.
-fn import_text(alloc: Global, inputs: Inputs) -> Result<Judged, Stop>
-    ensures { IfOk result (λ judged. AreImported inputs.entry
-        (Imported.Texts judged.written.texts judged.unmet judged.written.lines)) }
+fn import_text(alloc: Global, inputs: Inputs) -> Result<Imported, Stop>
+    ensures { IfOk result (AreImported inputs.entry) }
 {
     let paragraphs = wish_paragraphs(alloc, inputs.wish)?;
-    import_paragraphs(alloc, inputs, &paragraphs)
+    let judged = import_paragraphs(alloc, inputs, &paragraphs)?;
+    Ok(Imported::Texts(judged.written.texts, judged.unmet, judged.written.lines))
 }
 
 /// Makes the texts of a farm of a wish and of indexes, and tells of them.
@@ -279,7 +279,7 @@ pub fn import(alloc: Global, inputs: Inputs) -> Result<Imported, AllocError>
     ensures { IfOk result (AreImported inputs.entry) }
 {
     match import_text(alloc, inputs) {
-        Ok(judged) => Ok(Imported::Texts(judged.written.texts, judged.unmet, judged.written.lines)),
+        Ok(imported) => Ok(imported),
         Err(Stop::Refused(lines)) => Ok(Imported::Refused(lines)),
         Err(Stop::Wrong) => Ok(Imported::Wrong),
         Err(Stop::OutOfMemory) => Err(AllocError),
