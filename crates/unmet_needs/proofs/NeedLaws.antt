@@ -1,5 +1,5 @@
 -- Lists that come one behind another, and packages that need nothing.
-use Rattle.std.proofs.Common.{◌≡◌, ℕ, List, [], ◌∷◌, ◌++◌, get_or, take, length, ◌<◌, ◌≤◌, ◌+◌, sym, ap, ◌∙◌, add-one}
+use Rattle.std.proofs.Common.{◌≡◌, ℕ, List, [], ◌++◌, get_or, take, length, ◌<◌, ◌≤◌, ◌+◌, sym, ap, ◌∙◌, add-one}
 use Rattle.std.specs.List.{flat_map}
 use Rattle.std.specs.Prelude.{slice_index_or}
 use Rattle.std.proofs.lemmas.List.{append-nil, append_assoc, get_or_past, take_more, flat_map_more}
