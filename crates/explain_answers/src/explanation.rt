@@ -2,28 +2,32 @@
 
 ghost use Rattle.std.specs.Prelude.{◌≡◌, IfOk, Ok, Err};
 ghost use Rattle.explain_answers.specs.Explanations as spec;
-ghost use Rattle.explain_answers.specs.Explanations.{AreNotes, AreWarnings, IsExplained, IsWhy, TellsHazards, TellsLeft};
+ghost use Rattle.explain_answers.specs.Explanations.{AreLeft, AreNotes, AreWarnings, IsExplained, IsWhy, TellsHazards};
 ghost use Rattle.farm_answers.specs.Answers.{farm_in};
 ghost use Rattle.farm_explain.specs.Notes.{all_facts};
 ghost use Rattle.farm_input.specs.View.{texts_view};
 ghost use Rattle.plan_verifier.specs.Examined.{IsExamined, IsGrounds};
 ghost use Rattle.plan_verifier.specs.Verdict.{IsVerdictOn};
 ghost use Rattle.wait_notes.specs.Shown.{ShowsStuck};
-ghost use Rattle.wait_notes.specs.WaitText.{waits_notes};
+ghost use Rattle.wait_notes.specs.Waits.{waits_notes};
 
 use farm_explain::{Note, unsafe_notes};
 use farm_input::Texts;
-use farm_warnings::warnings;
+use farm_universe::Universe;
+use farm_warnings::{Warnings, warnings};
 use plan_lines::PlanLines;
 use plan_verifier::{Accepted, Examined, Grounds, Refusal};
-use remove_warnings::left_notes;
+use remove_warnings::{Left, left_warnings, push_left};
 use std::alloc::{AllocError, Global};
 use wait_notes::{stuck_notes, waits_notes};
 
-/// The notes that explain a verdict, and the lines of the warnings.
+/// The notes that explain a verdict, the warnings of the farm and of what `remove` may leave, and
+/// the lines of both.
 #[derive(Drop)]
 pub struct Notes {
     pub reasons: Vec<Note>,
+    pub found: Warnings,
+    pub left: Vec<Left>,
     pub warnings: Vec<u8>,
 }
 
@@ -43,40 +47,49 @@ pub struct Explained<'a> {
 }
 
 /// What the `remove` instructions of a plan may leave unpacked with an entry that nothing meets.
-fn left(alloc: Global, of: Explained<'_>) -> Result<Vec<u8>, AllocError>
+fn left(alloc: Global, of: Explained<'_>) -> Result<Vec<Left>, AllocError>
     requires { IsExamined of.examined.now }
-    ensures { IfOk result (λ text. TellsLeft (farm_in of.entry.examined.now) of.entry.lines.now
-        text.items) }
+    ensures { IfOk result (λ left. AreLeft (farm_in of.entry.examined.now) of.entry.lines.now
+        left.items) }
 {
-    left_notes(alloc, &of.examined.stage(), of.lines)
+    left_warnings(alloc, &of.examined.stage(), of.lines)
 }
 
-/// The warnings, those of `remove` last.
-fn all_warnings(alloc: Global, of: Explained<'_>) -> Result<Vec<u8>, AllocError>
+/// The lines of warnings.
+fn warning_lines(
+    alloc: Global,
+    universe: &Universe,
+    found: &Warnings,
+    left: &[Left],
+) -> Result<Vec<u8>, AllocError> {
+    let mut text = Vec::new(alloc);
+    found.push_lines(&mut text, universe)?;
+    push_left(&mut text, universe, left)?;
+    Ok(text)
+}
+
+/// Puts the warnings beside what explains a verdict, those of `remove` last.
+fn with_warnings(alloc: Global, of: Explained<'_>, reasons: Vec<Note>) -> Result<Notes, AllocError>
     requires { IsExamined of.examined.now }
-    ensures { IfOk result (λ text. AreWarnings (texts_view of.entry.texts)
-        (farm_in of.entry.examined.now) of.entry.lines.now text.items) }
+    ensures reasons { IfOk result (λ notes. notes.reasons ≡ reasons) }
+    ensures warnings { IfOk result (λ notes. AreWarnings (texts_view of.entry.texts)
+        (farm_in of.entry.examined.now) of.entry.lines.now notes.found notes.left.items) }
 {
     let Explained {
         examined,
         lines,
         texts,
     } = of;
-    let mut text = warnings(alloc, texts, examined.universe(), examined.plan(), lines)?;
-    let more = left(alloc, of)?;
-    text.extend_from_slice(&more)?;
-    Ok(text)
-}
-
-/// Puts the warnings beside what explains a verdict.
-fn with_warnings(alloc: Global, of: Explained<'_>, reasons: Vec<Note>) -> Result<Notes, AllocError>
-    requires { IsExamined of.examined.now }
-    ensures reasons { IfOk result (λ notes. notes.reasons ≡ reasons) }
-    ensures warnings { IfOk result (λ notes. AreWarnings (texts_view of.entry.texts)
-        (farm_in of.entry.examined.now) of.entry.lines.now notes.warnings.items) }
-{
-    let warnings = all_warnings(alloc, of)?;
-    Ok(Notes { reasons, warnings })
+    let universe = examined.universe();
+    let found = warnings(alloc, texts, universe, examined.plan(), lines)?;
+    let left = left(alloc, of)?;
+    let warnings = warning_lines(alloc, universe, &found, &left)?;
+    Ok(Notes {
+        reasons,
+        found,
+        left,
+        warnings,
+    })
 }
 
 /// What is unsafe in the lanes of a plan that is refused for a hazard.
@@ -166,7 +179,7 @@ fn notes_accepted(alloc: Global, of: Explained<'_>) -> Result<Notes, AllocError>
     ensures { IfOk result (λ notes. (all_facts notes.reasons.items ≡ waits_notes
         of.entry.examined.now.universe of.entry.examined.now.plan of.entry.lines.now.lanes)
         × AreWarnings (texts_view of.entry.texts) (farm_in of.entry.examined.now)
-        of.entry.lines.now notes.warnings.items) }
+        of.entry.lines.now notes.found notes.left.items) }
 {
     let why = why_accepted(alloc, of)?;
     with_warnings(alloc, of, why)

@@ -1,8 +1,9 @@
 //! What `explain` answers to four texts.
 //!
-//! Proved: the verdict of `check` and what explains it, exactly the text or the JSON line of its
-//! definition; the verdict alone where memory is refused after it (`answer_explain`,
-//! `AnswersExplain`).
+//! Proved: the lines of `check`'s verdict first, and behind them lines that spell what explains it;
+//! as JSON the object of the verdict with its notes; the verdict alone where memory is refused after
+//! it (`answer_explain`, `AnswersExplain`). What the notes tell is exact as data, how they are
+//! spelled is only tested.
 #![tactic(auto)]
 
 mod explain;

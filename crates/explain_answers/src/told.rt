@@ -1,85 +1,71 @@
 //! How a verdict and what explains it are written.
 
-ghost use Rattle.std.specs.Prelude.{◌≡◌, false, true, is_err};
+ghost use Rattle.std.specs.Prelude.{◌≡◌, ◌++◌, false, true, is_err};
 ghost use Rattle.std.specs.Result.{is_ok};
 ghost use Rattle.farm_answers.specs.Answers.{IsAnswered, IsJust, no_status, told_verdict};
 ghost use Rattle.farm_answers.specs.Answers as answers;
 ghost use Rattle.explain_answers.specs.Explanations as spec;
-ghost use Rattle.explain_answers.specs.Explanations.{Tells, TellsAll, explained_text, head_text};
-ghost use Rattle.farm_explain.specs.Notes.{all_facts, text_of_all};
+ghost use Rattle.explain_answers.specs.Explanations.{Tells};
 ghost use Rattle.farm_json.specs.Verdicts.{check_line};
 ghost use Rattle.farm_report.specs.VerdictText.{verdict_text};
 ghost use Rattle.report_sink.specs.Sinks.{IsWritten};
 
 use crate::explanation::{Explanation, Notes, is_hazard};
+use deb_text::next_line;
 use farm_answers::{OutsideFault, status_of, write_answer};
-use farm_explain::Note;
 use farm_json::{check_json, explain_json};
 use farm_report::write_check;
 use plan_verifier::{Accepted, Refusal};
-use report_sink::{Sink, WriteFailed, whether_written, write_text};
+use report_sink::{Sink, WriteFailed, write_text};
 use std::alloc::{AllocError, Global};
 
-/// Tells whether what explains a verdict begins with its line.
-fn is_begun(verdict: &Result<Accepted, Refusal>) -> bool
-    ensures { result ≡ spec.is_begun verdict.now }
-{
-    match verdict {
+/// The lines of notes and of the warnings, one behind another.
+fn spelled(alloc: Global, notes: &Notes) -> Result<Vec<u8>, AllocError> {
+    let mut text = Vec::new(alloc);
+    for note in notes.reasons.as_slice() {
+        text.extend_from_slice(&note.text)?;
+    }
+    text.extend_from_slice(&notes.warnings)?;
+    Ok(text)
+}
+
+/// What stands behind the lines of a verdict, of the lines that explain it: the notes on unsafe
+/// instructions begin with its line.
+fn behind_head<'a>(verdict: &Result<Accepted, Refusal>, text: &'a [u8]) -> &'a [u8] {
+    let is_begun = match verdict {
         Ok(_) => false,
         Err(refusal) => is_hazard(refusal),
+    };
+    match next_line(text) {
+        Some((_, behind)) if is_begun => behind,
+        _ => text,
     }
 }
 
-/// Writes the lines of a verdict, unless what explains it begins with them.
-fn write_head<S: Sink>(out: &mut S, verdict: &Result<Accepted, Refusal>) -> Result<(), WriteFailed>
-    ensures written { IsWritten (S.state out.old) (S.state out.new) (head_text verdict.now) }
-    ensures told { is_err result ≡ (S.state out.new).failed }
-{
-    if is_begun(verdict) {
-        whether_written(out)
-    } else {
-        write_check(out, verdict)
-    }
-}
-
-/// Writes the texts of notes, one behind another.
-fn write_reasons<S: Sink>(out: &mut S, notes: &[Note]) -> Result<(), WriteFailed>
-    ensures written { IsWritten (S.state out.old) (S.state out.new)
-        (text_of_all (all_facts notes.now)) }
-    ensures told { is_err result ≡ (S.state out.new).failed }
-{
-    for note in notes {
-        write_text(out, note.text.as_slice())?;
-    }
-    whether_written(out)
-}
-
-/// Writes the lines of a verdict, those that explain it, and the warnings.
+/// Writes the lines of a verdict, and these behind them.
 fn write_lines<S: Sink>(
     out: &mut S,
     verdict: &Result<Accepted, Refusal>,
-    notes: &Notes,
+    rest: &[u8],
 ) -> Result<(), WriteFailed>
     ensures written { IsWritten (S.state out.old) (S.state out.new)
-        (explained_text verdict.now (all_facts notes.now.reasons.items)
-        notes.now.warnings.items) }
+        (verdict_text verdict.now ++ rest.now) }
     ensures told { is_err result ≡ (S.state out.new).failed }
 {
-    write_head(out, verdict)?;
-    write_reasons(out, notes.reasons.as_slice())?;
-    write_text(out, notes.warnings.as_slice())
+    write_check(out, verdict)?;
+    write_text(out, rest)
 }
 
 /// The same, and gives the status.
 fn write_explained<'a, S: Sink>(
     verdict: &Result<Accepted, Refusal>,
-    notes: &Notes,
+    rest: &[u8],
     out: &mut S,
 ) -> Result<u8, OutsideFault<'a>>
-    ensures { IsAnswered (TellsAll false verdict.now notes.now) (S.state out.old)
-        (S.state out.new) result }
+    ensures { IsAnswered (IsJust (verdict_text verdict.now ++ rest.now)
+        (answers.status_of (is_ok verdict.now))) (S.state out.old) (S.state out.new) result }
 {
-    write_lines(out, verdict, notes)?;
+    write_lines(out, verdict, rest)?;
     Ok(status_of(verdict.is_ok()))
 }
 
@@ -147,6 +133,22 @@ fn write_json<'a, S: Sink>(
     }
 }
 
+/// Writes a verdict and what explains it as lines, or the verdict alone where memory is refused.
+fn write_plain<'a, S: Sink>(
+    alloc: Global,
+    verdict: &Result<Accepted, Refusal>,
+    notes: &Notes,
+    out: &mut S,
+) -> Result<u8, OutsideFault<'a>>
+    ensures { IsAnswered (spec.TellsSome false verdict.now notes.now) (S.state out.old)
+        (S.state out.new) result }
+{
+    match spelled(alloc, notes) {
+        Ok(text) => write_explained(verdict, behind_head(verdict, &text), out),
+        Err(AllocError) => write_plain_alone(verdict, out),
+    }
+}
+
 /// Writes a verdict and what explains it, as JSON or not.
 fn write_noted<'a, S: Sink>(
     alloc: Global,
@@ -161,7 +163,7 @@ fn write_noted<'a, S: Sink>(
     if json {
         write_json(alloc, verdict, notes, out)
     } else {
-        write_explained(verdict, notes, out)
+        write_plain(alloc, verdict, notes, out)
     }
 }
 

@@ -16,34 +16,19 @@ use Rattle.refusal_reasons.proofs.HasReason.{has-reason-at}
 use Rattle.refusal_reasons.specs.First.{first_below}
 use Rattle.refusal_reasons.specs.Reasons.{reason_at}
 use Rattle.refusal_reasons.specs.declared.types.Reason.{Reason}
-use Rattle.farm_explain.specs.declared.kinds.Kind.{Kind}
-use Rattle.farm_explain.specs.Kinds.{kind_of, reason_kind}
+use Rattle.farm_explain.specs.declared.told.Told.{Told}
 use Rattle.farm_explain.specs.LaneNotes.{first_hazard, hazard_note, lane_notes, notes_of, unsafe_notes}
 use Rattle.farm_explain.specs.Notes.{NoteFacts, notes_below}
 use Rattle.farm_explain.specs.Told.{EachTellsAReason, TellsAReason}
 
-abbrev is_untold : Kind → Bool
-is_untold Kind.Untold = true
+abbrev is_untold : Told → Bool
+is_untold (Told.Trap None) = true
 is_untold _ = false
 
-kind_told : (reason : Reason) → is_untold (reason_kind reason) ≡ false
-kind_told (Reason.Missing n) = refl
-kind_told (Reason.OverBudget spent cost budget) = refl
-kind_told (Reason.Full used added capacity) = refl
-kind_told (Reason.Unmet v field i) = refl
-kind_told (Reason.Unsettled n) = refl
-kind_told (Reason.BuildNeed r i) = refl
-kind_told (Reason.Conflict v w) = refl
-kind_told (Reason.Breaks v w) = refl
-kind_told (Reason.BuildConflict r v) = refl
-kind_told (Reason.WrongState n) = refl
-kind_told (Reason.Essential v) = refl
-kind_told (Reason.NotBuilt r) = refl
-kind_told (Reason.StillNeeded v field i) = refl
-
-some_told : (told : Option Reason) → is_some told ≡ true → is_untold (kind_of told) ≡ false
+some_told : (reason : Option Reason) → is_some reason ≡ true
+    → is_untold (Told.Trap reason) ≡ false
 some_told None there = absurd (false≢true there)
-some_told (Some reason) there = kind_told reason
+some_told (Some reason) there = refl
 
 -- what holds of two answers holds of the first of them
 of_either : {A : Type 0} (P : A → Type 0) (a b : Option A) → IfSome a P → IfSome b P
@@ -53,7 +38,7 @@ of_either P (Some x) b one two = one
 
 module _ (u : Universe) (p : Plan) (rows : Rows) (ls : List LaneLines) (l : ℕ) where
   abbrev IsTold : ℕ × Hazard → Type 0
-  IsTold (i, hazard) = is_untold (hazard_note u p rows ls l i hazard).kind ≡ false
+  IsTold (i, hazard) = is_untold (hazard_note u p rows ls l i hazard).told ≡ false
 
   by_risk : (i : ℕ) (risk : Option Trap) (part : Bool) → risk_at u p rows l i ≡ risk
       → IfSome (hazard_of risk part) (λ hazard. IsTold (i, hazard))

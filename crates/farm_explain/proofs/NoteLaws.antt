@@ -1,4 +1,4 @@
--- What is said of a lane, and its note, by what a walk over it came to.
+-- The note on a lane, by what a walk over it came to.
 use Rattle.std.proofs.Common.{◌≡◌, ℕ, ◌<◌, inl, inr, List, [], ◌∷◌, length, Option, Some, None, option_map, sym, ap, ◌∙◌, arith}
 use Rattle.std.proofs.lemmas.Bool.{cases_lt}
 use Rattle.std.proofs.lemmas.Option.{none-some, slice_get_past}
@@ -10,7 +10,7 @@ use Rattle.plan_model.specs.Safety.{Hazard, hazard_at}
 use Rattle.plan_verifier.proofs.Steps.{hazard-past}
 use Rattle.refusal_reasons.proofs.FirstLaws.{first_below-at}
 use Rattle.farm_explain.proofs.Below.{none_below}
-use Rattle.farm_explain.specs.LaneNotes.{first_hazard, hazard_note, hazard_text, lane_notes, lane_text, notes_of, text_of}
+use Rattle.farm_explain.specs.LaneNotes.{first_hazard, hazard_note, lane_notes, notes_of}
 
 module _ (u : Universe) (p : Plan) (rows : Rows) (ls : List LaneLines) (l : ℕ) where
   abbrev at : ℕ → Option (ℕ × Hazard)
@@ -22,10 +22,6 @@ module _ (u : Universe) (p : Plan) (rows : Rows) (ls : List LaneLines) (l : ℕ)
       (λ k lt. ap (option_map (λ hazard. (k, hazard))) (safe k))
 
   -- a lane of safe instructions
-  pub text_none : ((i : ℕ) → hazard_at u p rows l i ≡ None) → [] ≡ lane_text u p rows ls l
-  unfolding lane_text
-  text_none safe = sym (ap (text_of u p rows ls l) (first_none safe))
-
   pub notes_none : ((i : ℕ) → hazard_at u p rows l i ≡ None) → [] ≡ lane_notes u p rows ls l
   unfolding lane_notes
   notes_none safe = sym (ap (notes_of u p rows ls l) (first_none safe))
@@ -49,12 +45,6 @@ module _ (u : Universe) (p : Plan) (rows : Rows) (ls : List LaneLines) (l : ℕ)
       (ap (option_map (λ h. (i, h))) here)
 
   -- its first hazard
-  pub text_first : (i : ℕ) (hazard : Hazard) → hazard_at u p rows l i ≡ Some hazard
-      → ((k : ℕ) → k < i → hazard_at u p rows l k ≡ None)
-      → lane_text u p rows ls l ≡ hazard_text u p rows ls l i hazard
-  unfolding lane_text
-  text_first i hazard here before = ap (text_of u p rows ls l) (first_is i hazard here before)
-
   pub notes_first : (i : ℕ) (hazard : Hazard) → hazard_at u p rows l i ≡ Some hazard
       → ((k : ℕ) → k < i → hazard_at u p rows l k ≡ None)
       → lane_notes u p rows ls l ≡ hazard_note u p rows ls l i hazard ∷ []

@@ -1,42 +1,41 @@
--- What is said of unsafe instructions begins with the line of the verdict. The project's own rules.
+-- The first note on unsafe instructions is on the one of the verdict. The project's own rules.
 --
---   NotesHaveTheText             it is the texts of the notes, one behind another
---   BeginsWith                   a text begins with another
---   NotesBeginWithTheVerdict     so do the notes on a plan that is refused for an instruction or a
---   branch
-use Rattle.std.specs.Prelude.{◌≡◌, ℕ, List, ◌++◌, Err}
+--   BeginsAt                     the first of some notes is on this instruction
+--   TellsFirst                   it is on the one of a refusal
+--   NotesBeginWithTheVerdict     so it is of a plan that is refused for an instruction or a branch
+use Rattle.std.specs.Prelude.{◌≡◌, ℕ, List, [], ◌∷◌, Option, Some, None, Err}
+use Rattle.farm_model.specs.declared.types.Trap.{Trap}
 use Rattle.farm_model.specs.Universe.{Universe}
-use Rattle.farm_report.specs.VerdictText.{refusal_text}
 use Rattle.plan_lines.specs.Origins.{LaneLines}
 use Rattle.plan_model.specs.Known.{Rows, IsGreatest}
 use Rattle.plan_model.specs.Plan.{Plan}
 use Rattle.plan_verifier.specs.Verdict.{IsVerdictOn}
 use Rattle.plan_verifier.specs.declared.refusal.Refusal.{Refusal}
 use Rattle.plan_verifier.specs.declared.refusal.Refusal.TheVariants.{Text, Unsafe, Uneven, Stuck, Memory}
-use Rattle.farm_explain.specs.LaneNotes.{unsafe_notes, unsafe_text}
-use Rattle.farm_explain.specs.Notes.{text_of_all}
+use Rattle.farm_explain.specs.LaneNotes.{unsafe_notes}
+use Rattle.farm_explain.specs.Notes.{NoteFacts, PlaceFacts}
 
--- whatever its lanes know
-abbrev pub NotesHaveTheText : Type 0
-NotesHaveTheText =
-    (u : Universe) (p : Plan) (rows : Rows) (ls : List LaneLines)
-    → text_of_all (unsafe_notes u p rows ls) ≡ unsafe_text u p rows ls
+-- an instruction by its lane's name, its number and its trap
+abbrev pub IsAbout : List ℕ → ℕ → Option Trap → Option PlaceFacts → Type 0
+IsAbout name number trap None = ⊥
+IsAbout name number trap (Some place) =
+    (place.lane ≡ name) × (place.instruction ≡ number) × (place.trap ≡ trap)
 
-abbrev pub BeginsWith : List ℕ → List ℕ → Type 0
-BeginsWith head text = (rest : List ℕ) × (text ≡ head ++ rest)
+abbrev pub BeginsAt : List ℕ → ℕ → Option Trap → List NoteFacts → Type 0
+BeginsAt name number trap [] = ⊥
+BeginsAt name number trap (note ∷ notes) = IsAbout name number trap note.place
 
--- this text begins with the line of a refusal, where that is one of an instruction or a branch
-abbrev pub TellsFirst : Refusal → List ℕ → Type 0
-TellsFirst (Text fault) text = Unit {0}
-TellsFirst (Unsafe name number trap) text =
-    BeginsWith (refusal_text (Unsafe name number trap)) text
-TellsFirst (Uneven name number) text = BeginsWith (refusal_text (Uneven name number)) text
-TellsFirst (Stuck names) text = Unit {0}
-TellsFirst Memory text = Unit {0}
+-- where the refusal is one of an instruction or a branch
+abbrev pub TellsFirst : Refusal → List NoteFacts → Type 0
+TellsFirst (Text fault) notes = Unit {0}
+TellsFirst (Unsafe name number trap) notes = BeginsAt name.items number (Some trap) notes
+TellsFirst (Uneven name number) notes = BeginsAt name.items number None notes
+TellsFirst (Stuck names) notes = Unit {0}
+TellsFirst Memory notes = Unit {0}
 
 -- under the greatest known rows, and whatever the lines of the plan's text
 abbrev pub NotesBeginWithTheVerdict : Type 0
 NotesBeginWithTheVerdict =
     (u : Universe) (p : Plan) (rows : Rows) (ls : List LaneLines) (refusal : Refusal)
     → IsGreatest u p rows → IsVerdictOn u p (Err refusal)
-    → TellsFirst refusal (unsafe_text u p rows ls)
+    → TellsFirst refusal (unsafe_notes u p rows ls)

@@ -1,49 +1,37 @@
 -- The kinds of notes. The project's own format.
 --
---   kind_word        the word of a kind, by which a script goes
---   kind_of          the kind of the note on a trap, by the reason
-use Rattle.std.specs.Prelude.{ℕ, List, codes, Option, Some, None}
+--   kind_word        the word of what a note tells, by which a script goes
+use Rattle.std.specs.Prelude.{ℕ, List, codes, Some, None}
 use Rattle.refusal_reasons.specs.declared.types.Reason.{Reason}
-use Rattle.farm_explain.specs.declared.kinds.Kind.{Kind}
+use Rattle.farm_explain.specs.declared.told.Group.{Group}
+use Rattle.farm_explain.specs.declared.told.Told.{Told}
 
-unfoldable pub kind_word : Kind → List ℕ
-kind_word Kind.Missing = codes "missing"
-kind_word Kind.OverBudget = codes "over-budget"
-kind_word Kind.Full = codes "full"
-kind_word Kind.Unmet = codes "unmet"
-kind_word Kind.Unsettled = codes "unsettled"
-kind_word Kind.BuildNeed = codes "build-need"
-kind_word Kind.Conflict = codes "conflict"
-kind_word Kind.Breaks = codes "breaks"
-kind_word Kind.BuildConflict = codes "build-conflict"
-kind_word Kind.WrongState = codes "wrong-state"
-kind_word Kind.Essential = codes "essential"
-kind_word Kind.NotBuilt = codes "not-built"
-kind_word Kind.StillNeeded = codes "still-needed"
-kind_word Kind.Untold = codes "untold"
-kind_word Kind.Uneven = codes "uneven"
-kind_word Kind.Unpublished = codes "unpublished"
-kind_word Kind.InCircle = codes "in-circle"
-kind_word Kind.Behind = codes "behind"
-kind_word Kind.Circle = codes "circle"
-kind_word Kind.Wait = codes "wait"
-kind_word Kind.Text = codes "text"
+unfoldable pub reason_word : Reason → List ℕ
+reason_word (Reason.Missing n) = codes "missing"
+reason_word (Reason.OverBudget spent cost budget) = codes "over-budget"
+reason_word (Reason.Full used added capacity) = codes "full"
+reason_word (Reason.Unmet v field i) = codes "unmet"
+reason_word (Reason.Unsettled n) = codes "unsettled"
+reason_word (Reason.BuildNeed r i) = codes "build-need"
+reason_word (Reason.Conflict v w) = codes "conflict"
+reason_word (Reason.Breaks v w) = codes "breaks"
+reason_word (Reason.BuildConflict r v) = codes "build-conflict"
+reason_word (Reason.WrongState n) = codes "wrong-state"
+reason_word (Reason.Essential v) = codes "essential"
+reason_word (Reason.NotBuilt r) = codes "not-built"
+reason_word (Reason.StillNeeded v field i) = codes "still-needed"
 
-abbrev pub reason_kind : Reason → Kind
-reason_kind (Reason.Missing n) = Kind.Missing
-reason_kind (Reason.OverBudget spent cost budget) = Kind.OverBudget
-reason_kind (Reason.Full used added capacity) = Kind.Full
-reason_kind (Reason.Unmet v field i) = Kind.Unmet
-reason_kind (Reason.Unsettled n) = Kind.Unsettled
-reason_kind (Reason.BuildNeed r i) = Kind.BuildNeed
-reason_kind (Reason.Conflict v w) = Kind.Conflict
-reason_kind (Reason.Breaks v w) = Kind.Breaks
-reason_kind (Reason.BuildConflict r v) = Kind.BuildConflict
-reason_kind (Reason.WrongState n) = Kind.WrongState
-reason_kind (Reason.Essential v) = Kind.Essential
-reason_kind (Reason.NotBuilt r) = Kind.NotBuilt
-reason_kind (Reason.StillNeeded v field i) = Kind.StillNeeded
+unfoldable pub group_word : Group → List ℕ
+group_word Group.Unpublished = codes "unpublished"
+group_word Group.Circle = codes "in-circle"
+group_word Group.Behind = codes "behind"
 
-abbrev pub kind_of : Option Reason → Kind
-kind_of None = Kind.Untold
-kind_of (Some reason) = reason_kind reason
+unfoldable pub kind_word : Told → List ℕ
+kind_word (Told.Trap None) = codes "untold"
+kind_word (Told.Trap (Some reason)) = reason_word reason
+kind_word (Told.Uneven name) = codes "uneven"
+kind_word (Told.Stuck group next) = group_word group
+kind_word (Told.Circle first others) = codes "circle"
+kind_word (Told.FromStart v) = codes "wait"
+kind_word (Told.Coming v more) = codes "wait"
+kind_word (Told.Text fault) = codes "text"

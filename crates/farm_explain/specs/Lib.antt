@@ -1,6 +1,3 @@
-pub mod Words
-pub mod Texts
-pub mod ReasonText
 pub mod Parting
 pub mod Kinds
 pub mod Notes

@@ -3,7 +3,7 @@
 --
 --   end_behind       the place of the `end` of the `when`
 --   parting_name     the first name whose phases differ
---   parts_text       in which phase it is behind each branch
+--   parting_at       the first name whose phases differ behind the branches of a `when`
 use Rattle.std.specs.Prelude.{ℕ, nat_lt, Bool, true, false, ◌&&◌, List, [], ◌++◌, length, Option, Some, None, if◌then◌else◌}
 use Rattle.farm_model.specs.Universe.{Universe}
 use Rattle.farm_model.specs.Packages.{names}
@@ -16,9 +16,6 @@ use Rattle.plan_model.specs.May.{MaySlot, May}
 use Rattle.plan_model.specs.MayAt.{Maps, maps_at}
 use Rattle.plan_model.specs.Plan.{Plan, lane, instruction_at}
 use Rattle.refusal_reasons.specs.First.{first_below}
-use Rattle.farm_explain.specs.declared.words.Word.{Word}
-use Rattle.farm_explain.specs.Texts.{slot_text, said}
-use Rattle.farm_explain.specs.Words.{word_text}
 
 -- the instruction that is there ends the branches of a `when`
 abbrev pub is_end : Option Instruction → Bool
@@ -41,22 +38,16 @@ parting_name u first second =
     first_below {A = ℕ} (names u)
     (λ n. if is_same_phase (first.slots n) (second.slots n) then None else Some n)
 
--- what may be held of it there
-abbrev pub phase_line : Universe → Word → ℕ → MaySlot → List ℕ
-phase_line u word n s = said (word_text word ++ slot_text u n s)
-
-abbrev pub phase_lines : Universe → May → May → Option ℕ → List ℕ
-phase_lines u first second None = []
-phase_lines u first second (Some n) =
-    phase_line u Word.BehindFirst n (first.slots n)
-    ++ phase_line u Word.BehindSecond n (second.slots n)
-
 -- at a place of the second branch, which is its end where an `end` stands there
-abbrev pub side_text : Universe → Maps → Side → List ℕ
-side_text u m (InSecond at) = phase_lines u m.first m.here (parting_name u m.first m.here)
-side_text u m _ = []
+abbrev pub side_name : Universe → Maps → Side → Option ℕ
+side_name u m (InSecond at) = parting_name u m.first m.here
+side_name u m _ = None
 
-abbrev pub parts_text : Universe → Plan → Rows → ℕ → Option ℕ → List ℕ
-parts_text u p rows l None = []
-parts_text u p rows l (Some i) =
-    side_text u (maps_at u p rows l i) (side_at (lane p l).instructions i)
+-- of the branches that end at a place
+abbrev pub name_at : Universe → Plan → Rows → ℕ → Option ℕ → Option ℕ
+name_at u p rows l None = None
+name_at u p rows l (Some i) =
+    side_name u (maps_at u p rows l i) (side_at (lane p l).instructions i)
+
+abbrev pub parting_at : Universe → Plan → Rows → (l w : ℕ) → Option ℕ
+parting_at u p rows l w = name_at u p rows l (end_behind p l w)

@@ -1,19 +1,19 @@
 -- Each note on an unsafe instruction tells a reason. The project's own rules.
 --
---   TellsAReason         a note is not of the kind that has no reason
---   EachTellsAReason     nor is any on an unsafe instruction
-use Rattle.std.specs.Prelude.{◌≢◌, List}
+--   TellsAReason         a note does not tell of a trap without one
+--   EachTellsAReason     nor does any on an unsafe instruction
+use Rattle.std.specs.Prelude.{◌≢◌, List, None}
 use Rattle.std.specs.List.{All}
 use Rattle.farm_model.specs.Universe.{Universe}
 use Rattle.plan_lines.specs.Origins.{LaneLines}
 use Rattle.plan_model.specs.Known.{Rows}
 use Rattle.plan_model.specs.Plan.{Plan}
-use Rattle.farm_explain.specs.declared.kinds.Kind.{Kind}
+use Rattle.farm_explain.specs.declared.told.Told.{Told}
 use Rattle.farm_explain.specs.LaneNotes.{unsafe_notes}
 use Rattle.farm_explain.specs.Notes.{NoteFacts}
 
 abbrev pub TellsAReason : NoteFacts → Type 0
-TellsAReason note = note.kind ≢ Kind.Untold
+TellsAReason note = note.told ≢ Told.Trap None
 
 -- whatever its lanes know
 abbrev pub EachTellsAReason : Type 0

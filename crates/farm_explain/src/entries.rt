@@ -1,16 +1,13 @@
-//! Entries of packages and recipes, as a line and with what could meet them.
+//! Entries of packages and recipes, as lines.
 
-ghost use Rattle.std.specs.Prelude.{◌≡◌, ◌++◌, Some, OnOk};
 ghost use Rattle.farm_model.specs.Sound.{IsKnown};
-ghost use Rattle.may_rows.specs.Words.{may_of};
-ghost use Rattle.refusal_reasons.specs.Reasons.{asked_in_field};
-ghost use Rattle.farm_explain.specs.ReasonText as spec;
 
 use crate::could_meet::{ChrootText, push_could_meet};
-use crate::words::Word;
 use deb_relation::{Entry, Relations};
 use deb_text::push_pieces;
+use farm_universe::relations::{satisfies_any, satisfies_entry};
 use farm_universe::{Universe, Variant};
+use may_rows::variant_count;
 use plan_asm::{push_entry, push_variant};
 use refusal_reasons::Field;
 use std::alloc::AllocError;
@@ -23,21 +20,27 @@ pub enum Owner {
 }
 
 /// Puts a package, or `recipe NAME`, behind a text.
+fn push_owner(text: &mut Vec<u8>, universe: &Universe, owner: Owner) -> Result<(), AllocError> {
+    match owner {
+        Owner::Package(variant) => push_variant(text, universe, variant),
+        Owner::Recipe(recipe) => push_pieces(text, &[b"recipe ", universe.recipe_name(recipe)]),
+    }
+}
+
+/// Puts a line of a package or a recipe and words behind it behind a text.
 ///
 /// # Errors
 ///
 /// [`AllocError`] where memory is refused.
-pub fn push_owner(text: &mut Vec<u8>, universe: &Universe, owner: Owner) -> Result<(), AllocError>
-    ensures { OnOk result (text.new.items
-        ≡ text.old.items ++ spec.owner_text universe.now owner) }
-{
-    match owner {
-        Owner::Package(variant) => push_variant(text, universe, variant),
-        Owner::Recipe(recipe) => {
-            push_pieces(text, &[Word::Recipe.text()])?;
-            push_pieces(text, &[universe.recipe_name(recipe)])
-        }
-    }
+pub fn push_said(
+    text: &mut Vec<u8>,
+    universe: &Universe,
+    owner: Owner,
+    words: &[u8],
+) -> Result<(), AllocError> {
+    push_pieces(text, &[b"  "])?;
+    push_owner(text, universe, owner)?;
+    push_pieces(text, &[words, b"\n"])
 }
 
 /// Puts the line of an entry behind a text, `word` being the name of its field.
@@ -51,10 +54,7 @@ pub fn push_entry_line(
     owner: Owner,
     word: &[u8],
     entry: &Entry,
-) -> Result<(), AllocError>
-    ensures { OnOk result (text.new.items
-        ≡ text.old.items ++ spec.entry_line universe.now owner word.now entry.now) }
-{
+) -> Result<(), AllocError> {
     push_pieces(text, &[b"  "])?;
     push_owner(text, universe, owner)?;
     push_pieces(text, &[word])?;
@@ -62,26 +62,30 @@ pub fn push_entry_line(
     push_pieces(text, &[b"\n"])
 }
 
-/// A field of a variant.
-pub fn field_of(universe: &Universe, variant: Variant, field: Field) -> &Relations
-    requires { IsKnown universe.now variant }
-    ensures { result.now ≡ asked_in_field universe.now variant field }
-{
-    let relations = universe.relations(variant);
+/// The name of a field, with the blanks beside it.
+pub fn field_word(field: Field) -> &'static [u8] {
     match field {
-        Field::PreDepends => &relations.pre_depends,
-        Field::Depends => &relations.depends,
+        Field::PreDepends => b" Pre-Depends: ",
+        Field::Depends => b" Depends: ",
     }
 }
 
-/// The name of a field, as it stands in a line.
-pub fn field_word(field: Field) -> &'static [u8]
-    ensures { result.now ≡ spec.field_word field }
-{
-    match field {
-        Field::PreDepends => Word::PreDepends.text(),
-        Field::Depends => Word::Depends.text(),
+/// The entry of a number of a variant's field; none past the last, and of no variant.
+pub fn entry_of(
+    universe: &Universe,
+    variant: Variant,
+    field: Field,
+    number: usize,
+) -> Option<&Entry> {
+    if variant.bit >= variant_count(universe, variant.name) {
+        return None;
     }
+    let relations = universe.relations(variant);
+    let entries = match field {
+        Field::PreDepends => &relations.pre_depends,
+        Field::Depends => &relations.depends,
+    };
+    entries.entries().get(number)
 }
 
 /// Puts an entry that is not surely met behind a text, with what could meet it.
@@ -95,12 +99,58 @@ pub fn push_unmet_entry(
     owner: Owner,
     word: &[u8],
     entry: &Entry,
-) -> Result<(), AllocError>
-    ensures { OnOk result (text.new.items ≡ text.old.items
-        ++ spec.unmet_lines chroot.entry.universe.now (may_of chroot.entry.state.now)
-        chroot.entry.is_unpack owner
-        word.now (Some entry.now)) }
-{
+) -> Result<(), AllocError> {
     push_entry_line(text, chroot.universe, owner, word, entry)?;
     push_could_meet(text, chroot, entry)
+}
+
+/// Puts the first entry of these that a variant satisfies behind a text, with the variant; nothing
+/// where there is none. `word` is the name of the field.
+///
+/// # Errors
+///
+/// [`AllocError`] where memory is refused.
+pub fn push_exclusion(
+    text: &mut Vec<u8>,
+    universe: &Universe,
+    owner: Owner,
+    word: &[u8],
+    entries: &Relations,
+    variant: Variant,
+) -> Result<(), AllocError>
+    requires { IsKnown universe.now variant }
+{
+    let found = entries
+        .entries()
+        .iter()
+        .find(|entry| satisfies_entry(universe, entry, variant));
+    let Some(entry) = found else {
+        return Ok(());
+    };
+    push_entry_line(text, universe, owner, word, entry)?;
+    push_said(text, universe, Owner::Package(variant), b" satisfies it")
+}
+
+/// Puts the entry by which two variants are in conflict behind a text: of the first, or else of the
+/// second.
+///
+/// # Errors
+///
+/// [`AllocError`] where memory is refused.
+pub fn push_conflict(
+    text: &mut Vec<u8>,
+    universe: &Universe,
+    variant: Variant,
+    other: Variant,
+) -> Result<(), AllocError>
+    requires known { IsKnown universe.now variant }
+    requires known_other { IsKnown universe.now other }
+{
+    let word: &[u8] = b" Conflicts: ";
+    let own = &universe.relations(variant).conflicts;
+    if satisfies_any(universe, own, other) {
+        return push_exclusion(text, universe, Owner::Package(variant), word, own, other);
+    }
+    let others = &universe.relations(other).conflicts;
+    push_exclusion(text, universe, Owner::Package(other), word, others, variant)
 }

@@ -1,13 +1,7 @@
-//! What may be held of a name.
+//! What may be held of a name, as lines have it.
 
-ghost use Rattle.std.specs.Prelude.{◌≡◌, ◌<◌, ◌++◌, OnOk};
-ghost use Rattle.clause_kernel.specs.Rows.{word_has};
-ghost use Rattle.farm_model.specs.Below.{some_below};
-ghost use Rattle.farm_model.specs.Packages.{variants};
-ghost use Rattle.may_rows.specs.Words.{may_of};
-ghost use Rattle.farm_explain.specs.Texts as spec;
+ghost use Rattle.farm_model.specs.Sound.{IsKnown};
 
-use crate::words::Word;
 use deb_relation::Entry;
 use deb_text::push_pieces;
 use farm_universe::relations::satisfies_entry;
@@ -16,86 +10,36 @@ use may_rows::{MayHold, has_bit, variant_count};
 use plan_asm::{name_of, version_of};
 use std::alloc::AllocError;
 
-/// The version of a variant, where it is in the set.
-fn push_version(
-    text: &mut Vec<u8>,
-    universe: &Universe,
-    name: u32,
-    set: u64,
-    bit: u32,
-) -> Result<(), AllocError>
-    requires { bit < 64 }
-    ensures { OnOk result (text.new.items
-        ≡ text.old.items ++ spec.version_text universe.now name (word_has set) bit) }
+/// Tells whether there is an entry and a variant satisfies it.
+fn satisfies(universe: &Universe, entry: Option<&Entry>, variant: Variant) -> bool
+    requires { IsKnown universe.now variant }
 {
-    if has_bit(set, bit) {
-        push_pieces(text, &[b" ", version_of(universe, Variant { name, bit })])
-    } else {
-        Ok(())
+    match entry {
+        Some(entry) => satisfies_entry(universe, entry, variant),
+        None => false,
     }
 }
 
-/// The versions of a set.
+/// The versions of a set, a space before each: where there is an entry, those that do not satisfy
+/// it.
 fn push_versions(
     text: &mut Vec<u8>,
     universe: &Universe,
+    entry: Option<&Entry>,
     name: u32,
     set: u64,
-) -> Result<(), AllocError>
-    ensures { OnOk result (text.new.items
-        ≡ text.old.items ++ spec.versions_text universe.now name (word_has set)) }
-{
+) -> Result<(), AllocError> {
     for bit in 0..variant_count(universe, name) {
-        push_version(text, universe, name, set, bit)?;
-    }
-    Ok(())
-}
-
-/// The version of a variant, where it is in the set and does not satisfy the entry.
-fn push_unsatisfying(
-    text: &mut Vec<u8>,
-    universe: &Universe,
-    entry: &Entry,
-    name: u32,
-    set: u64,
-    bit: u32,
-) -> Result<(), AllocError>
-    requires within { bit < 64 }
-    requires known { bit < variants universe.now name }
-    ensures { OnOk result (text.new.items ≡ text.old.items ++ spec.version_text universe.now name
-        (spec.unsatisfying universe.now entry.now name (word_has set)) bit) }
-{
-    if !has_bit(set, bit) {
-        return Ok(());
-    }
-    let variant = Variant { name, bit };
-    if satisfies_entry(universe, entry, variant) {
-        return Ok(());
-    }
-    push_pieces(text, &[b" ", version_of(universe, variant)])
-}
-
-/// The versions of a set that do not satisfy the entry.
-fn push_all_unsatisfying(
-    text: &mut Vec<u8>,
-    universe: &Universe,
-    entry: &Entry,
-    name: u32,
-    set: u64,
-) -> Result<(), AllocError>
-    ensures { OnOk result (text.new.items ≡ text.old.items ++ spec.versions_text universe.now name
-        (spec.unsatisfying universe.now entry.now name (word_has set))) }
-{
-    for bit in 0..variant_count(universe, name) {
-        push_unsatisfying(text, universe, entry, name, set, bit)?;
+        let variant = Variant { name, bit };
+        if has_bit(set, bit) && !satisfies(universe, entry, variant) {
+            push_pieces(text, &[b" ", version_of(universe, variant)])?;
+        }
     }
     Ok(())
 }
 
 /// Tells whether there is a variant of a name in a set.
-pub fn has_some(universe: &Universe, name: u32, set: u64) -> bool
-    ensures { result ≡ some_below (variants universe.now name) (word_has set) }
-{
+pub fn has_some(universe: &Universe, name: u32, set: u64) -> bool {
     for bit in 0..variant_count(universe, name) {
         if has_bit(set, bit) {
             return true;
@@ -105,9 +49,7 @@ pub fn has_some(universe: &Universe, name: u32, set: u64) -> bool
 }
 
 /// The phase that a name is in.
-fn phase_words(state: &MayHold, name: u32) -> &'static [u8]
-    ensures { result.now ≡ spec.phase_text ((may_of state.now).slots name) }
-{
+fn phase_words(state: &MayHold, name: u32) -> &'static [u8] {
     if state.here_word(name) == 0 {
         b": absent"
     } else if state.ready_word(name) == 0 {
@@ -115,24 +57,6 @@ fn phase_words(state: &MayHold, name: u32) -> &'static [u8]
     } else {
         b": configured, may be"
     }
-}
-
-/// The versions that are present of a name.
-#[tactic(auto, using(crate::proofs::Slots::current_is))]
-fn push_current(
-    text: &mut Vec<u8>,
-    universe: &Universe,
-    state: &MayHold,
-    name: u32,
-) -> Result<(), AllocError>
-    ensures { OnOk result (text.new.items
-        ≡ text.old.items ++ spec.current_text universe.now name ((may_of state.now).slots name)) }
-{
-    let here = state.here_word(name);
-    if here == 0 {
-        return Ok(());
-    }
-    push_versions(text, universe, name, here)
 }
 
 /// Puts what may be held of a name behind a text.
@@ -145,35 +69,10 @@ pub fn push_slot(
     universe: &Universe,
     state: &MayHold,
     name: u32,
-) -> Result<(), AllocError>
-    ensures { OnOk result (text.new.items
-        ≡ text.old.items ++ spec.slot_text universe.now name ((may_of state.now).slots name)) }
-{
+) -> Result<(), AllocError> {
     push_pieces(text, &[name_of(universe, name)])?;
     push_pieces(text, &[phase_words(state, name)])?;
-    push_current(text, universe, state, name)
-}
-
-/// The versions of a name by which an entry is not met.
-#[tactic(auto, using(crate::proofs::Slots::unmet_is))]
-fn push_unmet_versions(
-    text: &mut Vec<u8>,
-    universe: &Universe,
-    state: &MayHold,
-    entry: &Entry,
-    name: u32,
-) -> Result<(), AllocError>
-    ensures { OnOk result (text.new.items ≡ text.old.items
-        ++ spec.unmet_versions universe.now entry.now name ((may_of state.now).slots name)) }
-{
-    let here = state.here_word(name);
-    if here == 0 {
-        return Ok(());
-    }
-    if state.ready_word(name) == 0 {
-        return push_versions(text, universe, name, here);
-    }
-    push_all_unsatisfying(text, universe, entry, name, here)
+    push_versions(text, universe, None, name, state.here_word(name))
 }
 
 /// Puts what may be held of a name behind a text, where an entry is not met: of a configured name
@@ -188,53 +87,17 @@ pub fn push_unmet(
     state: &MayHold,
     entry: &Entry,
     name: u32,
-) -> Result<(), AllocError>
-    ensures { OnOk result (text.new.items ≡ text.old.items
-        ++ spec.unmet_text universe.now entry.now name ((may_of state.now).slots name)) }
-{
+) -> Result<(), AllocError> {
+    if state.ready_word(name) == 0 {
+        return push_slot(text, universe, state, name);
+    }
     push_pieces(text, &[name_of(universe, name)])?;
     push_pieces(text, &[phase_words(state, name)])?;
-    push_unmet_versions(text, universe, state, entry, name)
+    push_versions(text, universe, Some(entry), name, state.here_word(name))
 }
 
-/// What of a name may have been configured last.
-fn push_last(
-    text: &mut Vec<u8>,
-    universe: &Universe,
-    name: u32,
-    last: u64,
-) -> Result<(), AllocError>
-    ensures { OnOk result
-        (text.new.items ≡ text.old.items ++ spec.last_text universe.now name (word_has last)) }
-{
-    if !has_some(universe, name, last) {
-        return push_pieces(text, &[Word::NeverConfigured.text()]);
-    }
-    push_pieces(text, &[Word::LastConfigured.text()])?;
-    push_versions(text, universe, name, last)
-}
-
-/// What of an unpacked name may have been configured last.
-#[tactic(auto, using(crate::proofs::Slots::ahead_is))]
-fn push_before(
-    text: &mut Vec<u8>,
-    universe: &Universe,
-    state: &MayHold,
-    name: u32,
-) -> Result<(), AllocError>
-    ensures { OnOk result (text.new.items
-        ≡ text.old.items ++ spec.ahead_versions universe.now name ((may_of state.now).slots name)) }
-{
-    if state.here_word(name) == 0 {
-        return Ok(());
-    }
-    if state.ready_word(name) != 0 {
-        return Ok(());
-    }
-    push_last(text, universe, name, state.last_word(name))
-}
-
-/// Puts what may be held of a name behind a text, where an entry is not met ahead of an unpack.
+/// Puts what may be held of a name behind a text, where an entry is not met ahead of an unpack: of
+/// an unpacked name also what was configured last.
 ///
 /// # Errors
 ///
@@ -245,10 +108,15 @@ pub fn push_ahead(
     state: &MayHold,
     entry: &Entry,
     name: u32,
-) -> Result<(), AllocError>
-    ensures { OnOk result (text.new.items ≡ text.old.items
-        ++ spec.ahead_text universe.now entry.now name ((may_of state.now).slots name)) }
-{
+) -> Result<(), AllocError> {
     push_unmet(text, universe, state, entry, name)?;
-    push_before(text, universe, state, name)
+    if state.here_word(name) == 0 || state.ready_word(name) != 0 {
+        return Ok(());
+    }
+    let last = state.last_word(name);
+    if !has_some(universe, name, last) {
+        return push_pieces(text, &[b", not surely configured before"]);
+    }
+    push_pieces(text, &[b", last configured"])?;
+    push_versions(text, universe, None, name, last)
 }

@@ -1,10 +1,9 @@
 //! Notes on a plan.
 
-ghost use Rattle.std.specs.Prelude.{◌≡◌, ◌<◌, ◌-◌, ◌++◌, ◌∷◌, [], length, IfOk, OnOk};
-ghost use Rattle.std.specs.Option.{option_map};
+ghost use Rattle.std.specs.Prelude.{◌≡◌, ◌<◌, ◌-◌, length, IfOk};
 ghost use Rattle.farm_explain.specs.Notes as spec;
 
-use crate::kinds::Kind;
+use crate::told::Told;
 use farm_universe::Trap;
 use plan_asm::Plan;
 use plan_lines::{Origin, PlanLines};
@@ -20,11 +19,11 @@ pub struct NotePlace {
     pub trap: Option<Trap>,
 }
 
-/// Lines that tell one thing of a plan, of what kind they are, and the instruction that they are
-/// about, if any.
+/// One thing that is told of a plan, the instruction that it is about, if any, and how it is
+/// spelled: lines of which no contract says more.
 #[derive(Drop)]
 pub struct Note {
-    pub kind: Kind,
+    pub told: Told,
     pub place: Option<NotePlace>,
     pub text: Vec<u8>,
 }
@@ -54,25 +53,4 @@ pub fn note_place(
         origin: lines.origin(number, instruction as usize - 1),
         trap,
     })
-}
-
-/// Puts a note behind others, unless its text is empty.
-///
-/// # Errors
-///
-/// [`AllocError`] where memory is refused.
-pub fn push_told(
-    notes: &mut Vec<Note>,
-    kind: Kind,
-    place: Option<NotePlace>,
-    text: Vec<u8>,
-) -> Result<(), AllocError>
-    ensures { OnOk result (spec.all_facts notes.new.items ≡ spec.all_facts notes.old.items
-        ++ spec.note_of kind (option_map spec.place_facts place) text.items) }
-{
-    if text.is_empty() {
-        return Ok(());
-    }
-    notes.push(Note { kind, place, text })?;
-    Ok(())
 }

@@ -1,33 +1,22 @@
-//! What is said of the unsafe instructions of a plan's lanes.
+//! Notes on the unsafe instructions of a plan's lanes.
 
-ghost use Rattle.std.specs.Prelude.{◌≡◌, ℕ, ◌<◌, ◌≤◌, ◌-◌, ◌++◌, length, IfOk, OnOk};
-ghost use Rattle.clause_kernel.specs.Rows.{word_has};
-ghost use Rattle.farm_model.specs.Packages.{variant, variants};
-ghost use Rattle.farm_model.specs.TrapText.{trap_text};
-ghost use Rattle.farm_report.specs.AnswerLines.{row_line, unsafe_line};
-ghost use Rattle.farm_report.specs.VerdictText.{refusal_text};
-ghost use Rattle.may_rows.specs.Words.{may_of};
-ghost use Rattle.plan_model.specs.MayAt.{may_at};
+ghost use Rattle.std.specs.Prelude.{◌≡◌, ◌<◌, ◌≤◌, ◌-◌, ◌++◌, length, IfOk, OnOk};
 ghost use Rattle.plan_model.specs.Plan.{lane};
-ghost use Rattle.plan_model.specs.Safety.{Meets};
 ghost use Rattle.plan_verifier.specs.Stage.{IsStage};
-ghost use Rattle.plan_verifier.specs.declared.refusal.TheConstants.{UNSAFE, UNEVEN};
-ghost use Rattle.farm_explain.specs.Kinds as kinds;
 ghost use Rattle.farm_explain.specs.LaneNotes as spec;
 ghost use Rattle.farm_explain.specs.Notes.{all_facts, facts, found_facts};
-ghost use Rattle.farm_explain.specs.ReasonText.{is_unpack, where_text};
 ghost use Rattle.refusal_reasons.specs.Reasons.{reason_at};
 
 use crate::could_meet::ChrootText;
-use crate::kinds::{Kind, kind_of};
 use crate::missing::LaneText;
 use crate::note::{Note, note_place};
-use crate::parting::{end_behind, push_parting};
+use crate::parting::push_parting;
 use crate::place::push_where;
 use crate::reasons::push_reason;
+use crate::told::Told;
 use farm_report::refusal_text;
 use farm_universe::Trap;
-use plan_asm::Instruction;
+use plan_asm::{Instruction, Plan};
 use plan_lines::PlanLines;
 use plan_verifier::walk::{walk, walk_to};
 use plan_verifier::{LaneMay, Refusal, Stage, WalkError};
@@ -35,23 +24,7 @@ use refusal_reasons::{Reason, reason};
 use std::alloc::{AllocError, Global};
 use wait_order::KnownWords;
 
-/// What of a name is surely in the archive, as a word; nothing for a number that is none's.
-fn missing_word<K: KnownWords>(stage: &Stage<'_, K>, number: usize, place: usize, name: u32) -> u64
-    requires stage { IsStage stage.now.universe.now stage.now.plan.now.lanes
-        stage.now.tables.now stage.now.outputs.now (K.known stage.now.known.now) }
-    requires lane { number < length stage.now.plan.now.lanes }
-    requires place { place < length (lane stage.now.plan.now.lanes number).instructions }
-    ensures { (b : ℕ) → b < variants stage.now.universe.now name
-        → word_has result b ≡ (K.known stage.now.known.now).rows number place (variant name b) }
-{
-    if name < stage.universe.names() {
-        stage.known.word(stage.universe, number, place, name)
-    } else {
-        0
-    }
-}
-
-/// What of the name that is missing is surely in the archive; nothing for other reasons.
+/// What of the name that is missing is surely in the archive, as a word; nothing for other reasons.
 fn known_word<K: KnownWords>(
     stage: &Stage<'_, K>,
     number: usize,
@@ -62,23 +35,26 @@ fn known_word<K: KnownWords>(
         stage.now.tables.now stage.now.outputs.now (K.known stage.now.known.now) }
     requires lane { number < length stage.now.plan.now.lanes }
     requires place { place < length (lane stage.now.plan.now.lanes number).instructions }
-    ensures { spec.IsKnownWord stage.now.universe.now
-        ((K.known stage.now.known.now).rows number place) reason result }
 {
     match reason {
-        Reason::Missing { name } => missing_word(stage, number, place, name),
+        Reason::Missing { name } if name < stage.universe.names() => {
+            stage.known.word(stage.universe, number, place, name)
+        }
         _ => 0,
     }
 }
 
-/// Tells whether an instruction is an unpack.
-fn is_unpack(instruction: &Instruction) -> bool
-    ensures { result ≡ is_unpack instruction.now }
+/// Tells whether the instruction of a lane at a place is an unpack.
+fn is_unpack(plan: &Plan, number: usize, place: usize) -> bool
+    requires { number < length plan.now.lanes }
 {
-    matches!(instruction, Instruction::Unpack { .. })
+    matches!(
+        plan.lane(number).instructions().get(place),
+        Some(Instruction::Unpack { .. })
+    )
 }
 
-/// Why an instruction may meet a trap, behind a text.
+/// Puts why an instruction may meet a trap behind a text, as lines.
 fn push_why<K: KnownWords>(
     text: &mut Vec<u8>,
     stage: &Stage<'_, K>,
@@ -89,20 +65,13 @@ fn push_why<K: KnownWords>(
 ) -> Result<(), AllocError>
     requires stage { IsStage stage.now.universe.now stage.now.plan.now.lanes
         stage.now.tables.now stage.now.outputs.now (K.known stage.now.known.now) }
-    requires universe { of.universe.now ≡ stage.now.universe.now }
-    requires plan { of.plan.now.lanes ≡ stage.now.plan.now.lanes }
     requires lane { of.number < length stage.now.plan.now.lanes }
     requires place { place < length (lane stage.now.plan.now.lanes of.number).instructions }
-    ensures { OnOk result (text.new.items ≡ text.old.items
-        ++ spec.why_text of.entry.universe.now of.entry.plan.now.lanes
-        ((K.known stage.now.known.now).rows of.entry.number place) of.entry.lines.now.lanes
-        of.entry.number place (may_of may.now.here) reason) }
 {
-    let instruction = &of.plan.lane(of.number).instructions()[place];
     let chroot = ChrootText {
-        universe: of.universe,
+        universe: stage.universe,
         state: &may.here,
-        is_unpack: is_unpack(instruction),
+        is_unpack: is_unpack(stage.plan, of.number, place),
     };
     let known = known_word(stage, of.number, place, reason);
     push_reason(text, of, chroot, known, reason)
@@ -125,11 +94,6 @@ fn trap_head<K: KnownWords>(
 ) -> Result<Vec<u8>, AllocError>
     requires lane { number < length stage.now.plan.now.lanes }
     requires instruction { 0 < met.instruction }
-    ensures { IfOk result (λ text. text.items
-        ≡ unsafe_line UNSAFE (lane stage.now.plan.now.lanes number).name met.instruction
-        (trap_text met.trap)
-        ++ where_text stage.now.universe.now stage.now.plan.now.lanes lines.now.lanes number
-        (met.instruction - 1)) }
 {
     let refusal = Refusal::Unsafe {
         lane: Vec::from_slice(alloc, stage.plan.lane(number).name())?,
@@ -142,53 +106,23 @@ fn trap_head<K: KnownWords>(
     Ok(text)
 }
 
-/// Why an instruction may meet a trap, behind a text; nothing where there is no reason.
-fn push_reasons<K: KnownWords>(
-    text: &mut Vec<u8>,
-    stage: &Stage<'_, K>,
-    of: LaneText<'_>,
-    place: usize,
-    may: &LaneMay,
-    told: Option<Reason>,
-) -> Result<(), AllocError>
-    requires stage { IsStage stage.now.universe.now stage.now.plan.now.lanes
-        stage.now.tables.now stage.now.outputs.now (K.known stage.now.known.now) }
-    requires universe { of.universe.now ≡ stage.now.universe.now }
-    requires plan { of.plan.now.lanes ≡ stage.now.plan.now.lanes }
-    requires lane { of.number < length stage.now.plan.now.lanes }
-    requires place { place < length (lane stage.now.plan.now.lanes of.number).instructions }
-    requires at { may_of may.now.here ≡ may_at stage.now.universe.now stage.now.plan.now.lanes
-        (K.known stage.now.known.now).rows of.number place }
-    ensures { OnOk result (text.new.items ≡ text.old.items
-        ++ spec.reason_lines of.entry.universe.now of.entry.plan.now.lanes
-        (K.known stage.now.known.now).rows of.entry.lines.now.lanes of.entry.number place told) }
-{
-    match told {
-        Some(reason) => push_why(text, stage, of, place, may, reason),
-        None => Ok(()),
-    }
-}
-
-/// The text of the note on a trap of a lane's instruction, and its kind.
-fn trap_text<K: KnownWords>(
+/// Why a lane's instruction may meet a trap, and that as lines.
+fn trap_told<K: KnownWords>(
     alloc: Global,
     stage: &Stage<'_, K>,
     lines: &PlanLines,
     number: usize,
     met: Met,
-) -> Result<(Vec<u8>, Kind), AllocError>
+) -> Result<(Option<Reason>, Vec<u8>), AllocError>
     requires stage { IsStage stage.now.universe.now stage.now.plan.now.lanes
         stage.now.tables.now stage.now.outputs.now (K.known stage.now.known.now) }
     requires lane { number < length stage.now.plan.now.lanes }
     requires instruction { 0 < met.instruction }
     requires place { met.instruction
         ≤ length (lane stage.now.plan.now.lanes number).instructions }
-    ensures text { IfOk result (λ told. told.0.items ≡ spec.hazard_text stage.now.universe.now
-        stage.now.plan.now.lanes (K.known stage.now.known.now).rows lines.now.lanes number
-        (met.instruction - 1) (Meets met.trap)) }
-    ensures kind { IfOk result (λ told. told.1 ≡ kinds.kind_of (reason_at stage.now.universe.now
+    ensures { IfOk result (λ told. told.0 ≡ reason_at stage.now.universe.now
         stage.now.plan.now.lanes (K.known stage.now.known.now).rows number
-        (met.instruction - 1) met.trap)) }
+        (met.instruction - 1) met.trap) }
 {
     let place = met.instruction as usize - 1;
     let mut text = trap_head(alloc, stage, lines, number, met)?;
@@ -203,8 +137,10 @@ fn trap_text<K: KnownWords>(
         return Err(AllocError);
     };
     let told = reason(alloc, stage, number, place, &may, met.trap)?;
-    push_reasons(&mut text, stage, of, place, &may, told)?;
-    Ok((text, kind_of(told)))
+    if let Some(reason) = told {
+        push_why(&mut text, stage, of, place, &may, reason)?;
+    }
+    Ok((told, text))
 }
 
 /// The note on a trap of a lane's instruction.
@@ -234,9 +170,9 @@ fn trap_note<K: KnownWords>(
         instruction,
         Some(met.trap),
     )?;
-    let (text, kind) = trap_text(alloc, stage, lines, number, met)?;
+    let (reason, text) = trap_told(alloc, stage, lines, number, met)?;
     Ok(Note {
-        kind,
+        told: Told::Trap(reason),
         place: Some(place),
         text,
     })
@@ -252,10 +188,6 @@ fn uneven_head<K: KnownWords>(
 ) -> Result<Vec<u8>, AllocError>
     requires lane { number < length stage.now.plan.now.lanes }
     requires instruction { 0 < instruction }
-    ensures { IfOk result (λ text. text.items
-        ≡ row_line UNEVEN (lane stage.now.plan.now.lanes number).name instruction
-        ++ where_text stage.now.universe.now stage.now.plan.now.lanes lines.now.lanes number
-        (instruction - 1)) }
 {
     let refusal = Refusal::Uneven {
         lane: Vec::from_slice(alloc, stage.plan.lane(number).name())?,
@@ -264,28 +196,6 @@ fn uneven_head<K: KnownWords>(
     let place = instruction as usize - 1;
     let mut text = refusal_text(alloc, &refusal)?;
     push_where(&mut text, stage.universe, stage.plan, lines, number, place)?;
-    Ok(text)
-}
-
-/// The text of the note on branches that part: of the `when` of this number, from 1.
-fn uneven_text<K: KnownWords>(
-    alloc: Global,
-    stage: &Stage<'_, K>,
-    lines: &PlanLines,
-    number: usize,
-    instruction: u32,
-) -> Result<Vec<u8>, AllocError>
-    requires stage { IsStage stage.now.universe.now stage.now.plan.now.lanes
-        stage.now.tables.now stage.now.outputs.now (K.known stage.now.known.now) }
-    requires lane { number < length stage.now.plan.now.lanes }
-    requires instruction { 0 < instruction }
-    ensures { IfOk result (λ text. text.items ≡ spec.parting_text stage.now.universe.now
-        stage.now.plan.now.lanes (K.known stage.now.known.now).rows lines.now.lanes number
-        instruction (instruction - 1)) }
-{
-    let mut text = uneven_head(alloc, stage, lines, number, instruction)?;
-    let end = end_behind(stage.plan, number, instruction as usize - 1);
-    push_parting(&mut text, alloc, stage, number, end)?;
     Ok(text)
 }
 
@@ -303,13 +213,15 @@ fn uneven_note<K: KnownWords>(
     requires instruction { 0 < instruction }
     ensures { IfOk result (λ note. facts note ≡ spec.parting_note stage.now.universe.now
         stage.now.plan.now.lanes (K.known stage.now.known.now).rows lines.now.lanes number
-        instruction (instruction - 1)) }
+        (instruction - 1)) }
 {
     let of = u64::from(instruction);
     let place = note_place(alloc, stage.plan, lines, number, of, None)?;
-    let text = uneven_text(alloc, stage, lines, number, instruction)?;
+    let mut text = uneven_head(alloc, stage, lines, number, instruction)?;
+    let start = instruction as usize - 1;
+    let name = push_parting(&mut text, alloc, stage, number, start)?;
     Ok(Note {
-        kind: Kind::Uneven,
+        told: Told::Uneven(name),
         place: Some(place),
         text,
     })

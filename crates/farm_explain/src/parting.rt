@@ -1,6 +1,6 @@
 //! Why branches part: the first name that they leave in different phases.
 
-ghost use Rattle.std.specs.Prelude.{◌≡◌, ◌<◌, ◌++◌, length, Some, IfSome, OnOk};
+ghost use Rattle.std.specs.Prelude.{◌≡◌, ◌<◌, length, Some, IfOk, IfSome};
 ghost use Rattle.may_rows.specs.Words.{may_of};
 ghost use Rattle.plan_model.specs.Join as join;
 ghost use Rattle.plan_model.specs.Plan.{lane, instruction_at};
@@ -8,7 +8,6 @@ ghost use Rattle.plan_verifier.specs.Stage.{IsStage};
 ghost use Rattle.farm_explain.specs.Parting as spec;
 
 use crate::held::push_slot;
-use crate::words::Word;
 use deb_text::push_pieces;
 use farm_universe::Universe;
 use may_rows::MayHold;
@@ -45,7 +44,7 @@ fn ends(plan: &Plan, number: usize, start: usize, at: usize) -> bool
 }
 
 /// The place of the `end` of the `when` at a place of a lane.
-pub fn end_behind(plan: &Plan, number: usize, start: usize) -> Option<usize>
+fn end_behind(plan: &Plan, number: usize, start: usize) -> Option<usize>
     requires { number < length plan.now.lanes }
     ensures end { result ≡ spec.end_behind plan.now.lanes number start }
     ensures within { IfSome result (λ at. at < length (lane plan.now.lanes number).instructions) }
@@ -59,7 +58,7 @@ pub fn end_behind(plan: &Plan, number: usize, start: usize) -> Option<usize>
 }
 
 /// Tells whether a name is in one phase in two chroots.
-#[tactic(auto, using(crate::proofs::Slots::phase_is))]
+#[tactic(auto, using(crate::proofs::Phases::phase_is))]
 fn is_same_phase(first: &MayHold, second: &MayHold, name: u32) -> bool
     ensures { result ≡ join.is_same_phase ((may_of first.now).slots name)
         ((may_of second.now).slots name) }
@@ -91,53 +90,47 @@ fn parting_name(universe: &Universe, first: &MayHold, second: &MayHold) -> Optio
 fn push_phase(
     text: &mut Vec<u8>,
     universe: &Universe,
-    word: Word,
+    words: &[u8],
     state: &MayHold,
     name: u32,
-) -> Result<(), AllocError>
-    ensures { OnOk result (text.new.items ≡ text.old.items
-        ++ spec.phase_line universe.now word name ((may_of state.now).slots name)) }
-{
-    push_pieces(text, &[b"  ", word.text()])?;
+) -> Result<(), AllocError> {
+    push_pieces(text, &[words])?;
     push_slot(text, universe, state, name)?;
     push_pieces(text, &[b"\n"])
 }
 
-/// The lines of the first name that is not in one phase, where there is one.
+/// The first name that is not in one phase, with its lines put behind a text.
 fn push_phases(
     text: &mut Vec<u8>,
     universe: &Universe,
     first: &MayHold,
     second: &MayHold,
-) -> Result<(), AllocError>
-    ensures { OnOk result (text.new.items ≡ text.old.items
-        ++ spec.phase_lines universe.now (may_of first.now) (may_of second.now)
-        (spec.parting_name universe.now (may_of first.now) (may_of second.now))) }
+) -> Result<Option<u32>, AllocError>
+    ensures { IfOk result (λ found. found
+        ≡ spec.parting_name universe.now (may_of first.now) (may_of second.now)) }
 {
-    match parting_name(universe, first, second) {
-        Some(name) => {
-            push_phase(text, universe, Word::BehindFirst, first, name)?;
-            push_phase(text, universe, Word::BehindSecond, second, name)
-        }
-        None => Ok(()),
+    let found = parting_name(universe, first, second);
+    if let Some(name) = found {
+        push_phase(text, universe, b"  behind the first branch ", first, name)?;
+        push_phase(text, universe, b"  behind the second branch ", second, name)?;
     }
+    Ok(found)
 }
 
-/// The lines of the branches that end at a place.
+/// The same of the branches that end at a place.
 fn push_ends<K: KnownWords>(
     text: &mut Vec<u8>,
     alloc: Global,
     stage: &Stage<'_, K>,
     number: usize,
     end: usize,
-) -> Result<(), AllocError>
+) -> Result<Option<u32>, AllocError>
     requires stage { IsStage stage.now.universe.now stage.now.plan.now.lanes
         stage.now.tables.now stage.now.outputs.now (K.known stage.now.known.now) }
     requires lane { number < length stage.now.plan.now.lanes }
     requires end { end < length (lane stage.now.plan.now.lanes number).instructions }
-    ensures { OnOk result (text.new.items ≡ text.old.items
-        ++ spec.parts_text stage.now.universe.now stage.now.plan.now.lanes
-        (K.known stage.now.known.now).rows number (Some end)) }
+    ensures { IfOk result (λ found. found ≡ spec.name_at stage.now.universe.now
+        stage.now.plan.now.lanes (K.known stage.now.known.now).rows number (Some end)) }
 {
     // The walk has come to this place before: it can end for want of memory alone.
     let Ok(may) = walk_to(alloc, stage, number, end) else {
@@ -145,13 +138,12 @@ fn push_ends<K: KnownWords>(
     };
     match &may.branch {
         Branch::Second { first, .. } => push_phases(text, stage.universe, first, &may.here),
-        Branch::Outside | Branch::First { .. } => Ok(()),
+        Branch::Outside | Branch::First { .. } => Ok(None),
     }
 }
 
-/// Puts the first name that the branches of a `when` leave in different phases behind a text, with
-/// what may be held of it behind each. `end` is the place of their `end`; where there is none, so
-/// is no text.
+/// Gives the first name that the branches of the `when` at a place leave in different phases, and
+/// puts what may be held of it behind each branch behind a text.
 ///
 /// # Errors
 ///
@@ -161,19 +153,16 @@ pub fn push_parting<K: KnownWords>(
     alloc: Global,
     stage: &Stage<'_, K>,
     number: usize,
-    end: Option<usize>,
-) -> Result<(), AllocError>
+    start: usize,
+) -> Result<Option<u32>, AllocError>
     requires stage { IsStage stage.now.universe.now stage.now.plan.now.lanes
         stage.now.tables.now stage.now.outputs.now (K.known stage.now.known.now) }
     requires lane { number < length stage.now.plan.now.lanes }
-    requires end { IfSome end (λ at.
-        at < length (lane stage.now.plan.now.lanes number).instructions) }
-    ensures { OnOk result (text.new.items ≡ text.old.items
-        ++ spec.parts_text stage.now.universe.now stage.now.plan.now.lanes
-        (K.known stage.now.known.now).rows number end) }
+    ensures { IfOk result (λ found. found ≡ spec.parting_at stage.now.universe.now
+        stage.now.plan.now.lanes (K.known stage.now.known.now).rows number start) }
 {
-    match end {
+    match end_behind(stage.plan, number, start) {
         Some(end) => push_ends(text, alloc, stage, number, end),
-        None => Ok(()),
+        None => Ok(None),
     }
 }

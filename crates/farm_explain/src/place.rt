@@ -1,58 +1,40 @@
-//! Where an instruction stands in a plan's text.
+//! Where an instruction stands in a plan's text, as lines have it.
 
-ghost use Rattle.std.specs.Prelude.{◌≡◌, ◌++◌, ◌<◌, length, OnOk};
-ghost use Rattle.std.specs.Option.{option_map};
-ghost use Rattle.plan_model.specs.Plan as plans;
-ghost use Rattle.farm_explain.specs.ReasonText as spec;
+ghost use Rattle.std.specs.Prelude.{◌<◌, length};
 
-use crate::words::{Word, push_count};
 use deb_text::push_pieces;
 use farm_universe::Universe;
-use plan_asm::{Instruction, Plan, push_instruction};
+use itoa::Buffer;
+use plan_asm::{Plan, push_instruction};
 use plan_lines::{Origin, PlanLines};
 use std::alloc::AllocError;
 
-/// The line of the `use`, where there is one.
-fn push_use(text: &mut Vec<u8>, used: Option<u32>) -> Result<(), AllocError>
-    ensures { OnOk result (text.new.items ≡ text.old.items ++ spec.by_use used) }
-{
-    match used {
-        Some(line) => push_count(text, Word::ByUse, u64::from(line)),
-        None => Ok(()),
-    }
+/// Puts words and a number behind a text.
+///
+/// # Errors
+///
+/// [`AllocError`] where memory is refused.
+pub fn push_count(text: &mut Vec<u8>, words: &[u8], number: u64) -> Result<(), AllocError> {
+    let mut digits = Buffer::new();
+    let number = digits.format(number);
+    push_pieces(text, &[words, number.as_bytes()])
 }
 
-fn push_place(text: &mut Vec<u8>, origin: Option<Origin>) -> Result<(), AllocError>
-    ensures { OnOk result (text.new.items ≡ text.old.items ++ spec.place_text origin) }
-{
+/// Puts `plan line N` behind a text, and `, by the use at line N` where a block brings the
+/// instruction in.
+///
+/// # Errors
+///
+/// [`AllocError`] where memory is refused.
+pub fn push_place(text: &mut Vec<u8>, origin: Option<Origin>) -> Result<(), AllocError> {
     let Some(origin) = origin else {
         return push_pieces(text, &[b"plan"]);
     };
-    push_count(text, Word::AtLine, u64::from(origin.line))?;
-    push_use(text, origin.used)
-}
-
-/// An instruction, where there is one.
-fn push_words(
-    text: &mut Vec<u8>,
-    universe: &Universe,
-    instruction: Option<&Instruction>,
-) -> Result<(), AllocError>
-    ensures { OnOk result (text.new.items ≡ text.old.items
-        ++ spec.instruction_words universe.now (option_map (λ x. x.now) instruction.entry)) }
-{
-    match instruction {
-        Some(instruction) => push_instruction(text, universe, instruction),
+    push_count(text, b"plan line ", u64::from(origin.line))?;
+    match origin.used {
+        Some(line) => push_count(text, b", by the use at line ", u64::from(line)),
         None => Ok(()),
     }
-}
-
-/// The instruction at a place of a lane.
-pub fn instruction_at(plan: &Plan, number: usize, place: usize) -> Option<&Instruction>
-    requires { number < length plan.now.lanes }
-    ensures { option_map (λ x. x.now) result ≡ plans.instruction_at plan.now.lanes number place }
-{
-    plan.lane(number).instructions().get(place)
 }
 
 /// Puts the line of an instruction in the plan behind a text, with the instruction.
@@ -69,22 +51,13 @@ pub fn push_where(
     place: usize,
 ) -> Result<(), AllocError>
     requires { number < length plan.now.lanes }
-    ensures { OnOk result (text.new.items ≡ text.old.items
-        ++ spec.where_text universe.now plan.now.lanes lines.now.lanes number place) }
 {
     push_place(text, lines.origin(number, place))?;
     push_pieces(text, &[b": "])?;
-    push_words(text, universe, instruction_at(plan, number, place))?;
-    push_pieces(text, &[b"\n"])
-}
-
-fn push_line(text: &mut Vec<u8>, origin: Option<Origin>) -> Result<(), AllocError>
-    ensures { OnOk result (text.new.items ≡ text.old.items ++ spec.line_text origin) }
-{
-    match origin {
-        Some(origin) => push_count(text, Word::PlanLine, u64::from(origin.line)),
-        None => Ok(()),
+    if let Some(instruction) = plan.lane(number).instructions().get(place) {
+        push_instruction(text, universe, instruction)?;
     }
+    push_pieces(text, &[b"\n"])
 }
 
 /// Puts `(instruction N, plan line N)` behind a text, for an instruction by its number in a lane,
@@ -98,11 +71,10 @@ pub fn push_at(
     lines: &PlanLines,
     number: usize,
     instruction: usize,
-) -> Result<(), AllocError>
-    ensures { OnOk result (text.new.items
-        ≡ text.old.items ++ spec.at_text lines.now.lanes number instruction) }
-{
-    push_count(text, Word::Instruction, instruction as u64)?;
-    push_line(text, lines.origin(number, instruction.saturating_sub(1)))?;
+) -> Result<(), AllocError> {
+    push_count(text, b"(instruction ", instruction as u64)?;
+    if let Some(origin) = lines.origin(number, instruction.saturating_sub(1)) {
+        push_count(text, b", plan line ", u64::from(origin.line))?;
+    }
     push_pieces(text, &[b")"])
 }

@@ -7,7 +7,8 @@ use Rattle.std.specs.Ordering.{match_ordering, nat_cmp}
 use Rattle.answer_json.proofs.NoFloats.{no_float_in_lines}
 use Rattle.answer_json.specs.Texts.{lines_data, text_data}
 use Rattle.deb_text.specs.Lists.{lists}
-use Rattle.farm_explain.specs.Notes.{NoteFacts, PlaceFacts}
+use Rattle.farm_explain.specs.Notes.{PlaceFacts, facts}
+use Rattle.farm_explain.specs.declared.note.Note.{Note}
 use Rattle.farm_json.specs.Reasons.{reason_data, reasons_data, told_members, with_number, with_origin, with_place, with_trap, with_use}
 use Rattle.farm_json.specs.Refusals.{name_data, number_data}
 use Rattle.farm_json.specs.Verdicts.{data_below, explained_members, lane_data, verdict_members}
@@ -73,12 +74,12 @@ in_place None ms none = none
 in_place (Some place) ms none =
     in_trap place.trap _ (in_origin place.origin _ (in_number place ms none))
 
-in_note : (note : NoteFacts) → has_float (reason_data note) ≡ false
+in_note : (note : Note) → has_float (reason_data note) ≡ false
 in_note note =
-    in_place note.place (told_members note)
-    (both (has_float (lines_data note.text)) false (no_float_in_lines note.text) refl)
+    in_place (facts note).place (told_members note)
+    (both (has_float (lines_data note.text.items)) false (no_float_in_lines note.text.items) refl)
 
-in_notes : (notes : List NoteFacts) → has_float (reasons_data notes) ≡ false
+in_notes : (notes : List Note) → has_float (reasons_data notes) ≡ false
 in_notes [] = refl
 in_notes (note ∷ notes) = both (has_float (reason_data note)) _ (in_note note) (in_notes notes)
 
@@ -109,7 +110,7 @@ no_float_in_verdict (Err (Uneven name instruction)) = refl
 no_float_in_verdict (Err (Stuck names)) = both _ false (in_names (lists names.items)) refl
 no_float_in_verdict (Err Memory) = refl
 
-pub no_float_in_explained : (verdict : Result AcceptedPlan Refusal) (notes : List NoteFacts)
+pub no_float_in_explained : (verdict : Result AcceptedPlan Refusal) (notes : List Note)
     (warnings : List ℕ) → members_have_float (explained_members verdict notes warnings) ≡ false
 no_float_in_explained verdict notes warnings =
     no_float_put (codes "reasons") (reasons_data notes)

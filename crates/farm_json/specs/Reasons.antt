@@ -1,12 +1,14 @@
 -- Notes as objects, whose members stand in the order of their names. A fact that a note does not
--- have is no member. The project's own format.
+-- have is no member. The lines are those that spell the note, whatever they are. The project's own
+-- format.
 --
 --   reason_members note       the members of a note
 --   reasons_data notes        a list of such objects
 use Rattle.std.specs.Prelude.{ℕ, List, codes, map, Option, Some, None}
 use Rattle.answer_json.specs.Texts.{lines_data, text_data}
 use Rattle.farm_explain.specs.Kinds.{kind_word}
-use Rattle.farm_explain.specs.Notes.{NoteFacts, PlaceFacts}
+use Rattle.farm_explain.specs.Notes.{PlaceFacts, facts}
+use Rattle.farm_explain.specs.declared.note.Note.{Note}
 use Rattle.farm_model.specs.TrapText.{trap_text}
 use Rattle.farm_model.specs.declared.types.Trap.{Trap}
 use Rattle.plan_lines.specs.declared.origin.Origin.{Origin}
@@ -46,16 +48,16 @@ with_place None members = members
 with_place (Some place) members = with_instruction place members
 
 -- what every note has
-abbrev pub told_members : NoteFacts → Members
+abbrev pub told_members : Note → Members
 told_members note =
-    member (codes "kind") (string (kind_word note.kind))
-    (member (codes "lines") (lines_data note.text) no_members)
+    member (codes "kind") (string (kind_word note.told))
+    (member (codes "lines") (lines_data note.text.items) no_members)
 
-abbrev pub reason_members : NoteFacts → Members
-reason_members note = with_place note.place (told_members note)
+abbrev pub reason_members : Note → Members
+reason_members note = with_place (facts note).place (told_members note)
 
-abbrev pub reason_data : NoteFacts → Data
+abbrev pub reason_data : Note → Data
 reason_data note = object (reason_members note)
 
-abbrev pub reasons_data : List NoteFacts → Data
+abbrev pub reasons_data : List Note → Data
 reasons_data notes = array (items_of (map reason_data notes))

@@ -7,7 +7,7 @@
 --   explain_line verdict notes warnings   the line of a verdict with what explains it
 use Rattle.std.specs.Prelude.{ℕ, zero, suc, List, [], ◌∷◌, ◌++◌, length, codes, Result, Ok, Err}
 use Rattle.answer_json.specs.Texts.{answer_line, lines_data}
-use Rattle.farm_explain.specs.Notes.{NoteFacts}
+use Rattle.farm_explain.specs.declared.note.Note.{Note}
 use Rattle.plan_model.specs.MayAt.{lane_cost}
 use Rattle.plan_model.specs.Plan.{count, lane}
 use Rattle.plan_verifier.specs.Accepted.{AcceptedPlan, known_rows}
@@ -42,8 +42,8 @@ abbrev pub verdict_members : Result AcceptedPlan Refusal → Members
 verdict_members (Ok a) = accepted_members a
 verdict_members (Err refusal) = refusal_members refusal
 
--- with the notes that explain it, and the warnings
-abbrev pub explained_members : Result AcceptedPlan Refusal → List NoteFacts → List ℕ → Members
+-- with the notes that explain it, and the lines of the warnings
+abbrev pub explained_members : Result AcceptedPlan Refusal → List Note → List ℕ → Members
 explained_members verdict notes warnings =
     put (codes "reasons") (reasons_data notes)
     (put (codes "warnings") (lines_data warnings) (verdict_members verdict))
@@ -51,6 +51,6 @@ explained_members verdict notes warnings =
 abbrev pub check_line : Result AcceptedPlan Refusal → List ℕ
 check_line verdict = answer_line (object (verdict_members verdict))
 
-abbrev pub explain_line : Result AcceptedPlan Refusal → List NoteFacts → List ℕ → List ℕ
+abbrev pub explain_line : Result AcceptedPlan Refusal → List Note → List ℕ → List ℕ
 explain_line verdict notes warnings =
     answer_line (object (explained_members verdict notes warnings))

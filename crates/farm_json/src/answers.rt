@@ -1,7 +1,6 @@
 //! The lines of verdicts.
 
 ghost use Rattle.std.specs.Prelude.{◌≡◌, IfOk};
-ghost use Rattle.farm_explain.specs.Notes.{all_facts};
 ghost use Rattle.farm_json.specs.Verdicts.{check_line, explain_line};
 
 use crate::members::{of_explained, of_verdict};
@@ -35,7 +34,7 @@ pub fn explain_json(
     warnings: &[u8],
 ) -> Result<Vec<u8>, AllocError>
     ensures { IfOk result (λ line. line.items
-        ≡ explain_line verdict.now (all_facts notes.now) warnings.now) }
+        ≡ explain_line verdict.now notes.now warnings.now) }
 {
     let members = of_explained(alloc, verdict, notes, warnings)?;
     answer_line(alloc, &Value::Object(members))

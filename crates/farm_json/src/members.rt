@@ -1,7 +1,6 @@
 //! The members of verdicts.
 
 ghost use Rattle.std.specs.Prelude.{◌≡◌, ◌<◌, IfOk, length};
-ghost use Rattle.farm_explain.specs.Notes.{all_facts};
 ghost use Rattle.farm_json.specs.Verdicts as spec;
 ghost use Rattle.serde_json.specs.View.{members_view, view};
 
@@ -86,7 +85,7 @@ pub fn of_explained(
     warnings: &[u8],
 ) -> Result<Map<String, Value>, AllocError>
     ensures { IfOk result (λ members. members_view members.entries
-        ≡ spec.explained_members verdict.now (all_facts notes.now) warnings.now) }
+        ≡ spec.explained_members verdict.now notes.now warnings.now) }
 {
     let mut members = of_verdict(alloc, verdict)?;
     put(&mut members, alloc, "warnings", line_list(alloc, warnings)?)?;

@@ -1,7 +1,7 @@
 //! Notes as objects.
 
 ghost use Rattle.std.specs.Prelude.{◌≡◌, IfOk, OnOk};
-ghost use Rattle.farm_explain.specs.Notes.{all_facts, facts, place_facts};
+ghost use Rattle.farm_explain.specs.Notes.{place_facts};
 ghost use Rattle.farm_json.specs.Reasons as spec;
 ghost use Rattle.serde_json.specs.View.{members_view, view};
 
@@ -86,10 +86,10 @@ fn put_place(
 /// The members that every note has.
 fn told_members(alloc: Global, note: &Note) -> Result<Map<String, Value>, AllocError>
     ensures { IfOk result (λ members. members_view members.entries
-        ≡ spec.told_members (facts note.now)) }
+        ≡ spec.told_members note.now) }
 {
     let mut members = Map::new(alloc);
-    let kind = Value::try_from_str(alloc, note.kind.word())?;
+    let kind = Value::try_from_str(alloc, note.told.word())?;
     put(&mut members, alloc, "kind", kind)?;
     put(&mut members, alloc, "lines", line_list(alloc, &note.text)?)?;
     Ok(members)
@@ -97,7 +97,7 @@ fn told_members(alloc: Global, note: &Note) -> Result<Map<String, Value>, AllocE
 
 /// A note as an object.
 fn reason_value(alloc: Global, note: &Note) -> Result<Value, AllocError>
-    ensures { IfOk result (λ value. view value ≡ spec.reason_data (facts note.now)) }
+    ensures { IfOk result (λ value. view value ≡ spec.reason_data note.now) }
 {
     let mut members = told_members(alloc, note)?;
     if let Some(place) = &note.place {
@@ -112,7 +112,7 @@ fn reason_value(alloc: Global, note: &Note) -> Result<Value, AllocError>
 ///
 /// [`AllocError`] where memory is refused.
 pub fn reason_list(alloc: Global, notes: &[Note]) -> Result<Value, AllocError>
-    ensures { IfOk result (λ value. view value ≡ spec.reasons_data (all_facts notes.now)) }
+    ensures { IfOk result (λ value. view value ≡ spec.reasons_data notes.now) }
 {
     let mut values = Vec::new(alloc);
     for note in notes {

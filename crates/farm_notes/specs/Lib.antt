@@ -2,5 +2,5 @@ pub mod Bases
 pub mod Items
 pub mod Limits
 pub mod Lines
-pub mod Notes
+pub mod Found
 pub mod Parts

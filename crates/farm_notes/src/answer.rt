@@ -1,20 +1,22 @@
 //! Which item of the farm text a refusal is about.
 
-ghost use Rattle.std.specs.Prelude.{◌≡◌, ◌<◌, ◌++◌, ◌^◌, IfOk, OnOk, length};
+ghost use Rattle.std.specs.Prelude.{◌≡◌, ◌<◌, ◌^◌, None, IfOk, length};
 ghost use Rattle.std.specs.Option.{option_map};
 ghost use Rattle.deb_stanza.specs.Stanza.{paragraph_at};
 ghost use Rattle.farm_notes.specs.Bases.{cause_of};
+ghost use Rattle.farm_notes.specs.Found as spec;
 ghost use Rattle.farm_notes.specs.Parts.{members_of as all_members};
-ghost use Rattle.farm_notes.specs.Notes as spec;
+ghost use Rattle.farm_notes.specs.declared.found.Found.TheVariants.{Unsettled};
 
 use crate::causes::unsettled_cause;
+use crate::found::Found;
 use crate::items::{first_taken, first_unknown};
 use crate::limits::farm_limit;
-use crate::notes::{Items, push_cause_note, push_item_note};
+use crate::notes::{Items, push_found};
 use crate::parts::{
     entries_in, list_name, members_of, number_in, paragraph_place, read_paragraphs, universe_before,
 };
-use deb_relation::Relations;
+use deb_relation::{Entry, Relations};
 use deb_stanza::Paragraphs;
 use farm_universe::{OVER_LIMIT, TAKEN, UNKNOWN_SOURCE, UNKNOWN_VARIANT, UNSETTLED_BASE, Universe};
 use std::alloc::{AllocError, Global};
@@ -35,69 +37,63 @@ struct Part<'a> {
     place: usize,
 }
 
-/// Puts the line of why the packages of a base chroot are not settled behind a text.
-fn push_base_note(
-    alloc: Global,
-    text: &mut Vec<u8>,
-    universe: &Universe,
-    items: &Items,
-    capacity: u64,
-) -> Result<(), AllocError>
-    requires small { length items.now.farm.now < 2 ^ 32 }
-    requires name { items.now.name.now ≡ spec.packages_name }
-    ensures { OnOk result (text.new.items ≡ text.old.items
-        ++ spec.cause_note universe.now items.now.farm.now items.now.first items.now.entries.now
-        (cause_of universe.now capacity (all_members universe.now items.now.entries.now))) }
-{
-    let members = members_of(alloc, universe, items.entries)?;
-    let cause = unsettled_cause(universe, capacity, &members);
-    push_cause_note(text, universe, items, &members, cause)
+/// What a refusal is about, if anything, and the line that tells of it.
+#[derive(Drop)]
+pub struct FarmNote {
+    pub found: Option<Found>,
+    pub text: Vec<u8>,
 }
 
-/// The note of a list of variants, by the code of the refusal.
-#[tactic(auto, unfolding(crate::specs::Notes::list_note))]
-fn list_note(
+/// An item of a list, where there is one.
+fn item_found(place: Option<usize>) -> Option<Found>
+    ensures { result ≡ spec.item_found place }
+{
+    match place {
+        Some(place) => Some(Found::Item(place)),
+        None => None,
+    }
+}
+
+/// Why the packages of a base chroot are not settled, where they are not.
+fn base_found(
+    alloc: Global,
+    universe: &Universe,
+    entries: &[Entry],
+    capacity: u64,
+) -> Result<Option<Found>, AllocError>
+    ensures { IfOk result (λ found. found ≡ option_map (λ cause. Unsettled cause)
+        (cause_of universe.now capacity (all_members universe.now entries.now))) }
+{
+    let members = members_of(alloc, universe, entries)?;
+    match unsettled_cause(universe, capacity, &members) {
+        Some(cause) => Ok(Some(Found::Unsettled(cause))),
+        None => Ok(None),
+    }
+}
+
+/// What a refusal of a list of variants is about, by its code.
+#[tactic(auto, unfolding(crate::specs::Found::list_found))]
+fn list_found(
     alloc: Global,
     universe: &Universe,
     part: &Part,
     code: u16,
-    name: &[u8],
-) -> Result<Vec<u8>, AllocError>
-    requires place { part.now.place < length part.now.paragraphs.now }
-    requires small { length part.now.farm.now < 2 ^ 32 }
-    ensures { IfOk result (λ text. text.items ≡ spec.list_note universe.now part.now.farm.now code
-        (paragraph_at part.now.paragraphs.now part.now.place) name.now) }
+    entries: &[Entry],
+) -> Result<Option<Found>, AllocError>
+    requires { part.now.place < length part.now.paragraphs.now }
+    ensures { IfOk result (λ found. found ≡ spec.list_found universe.now code
+        (paragraph_at part.now.paragraphs.now part.now.place) entries.now) }
 {
-    let Part {
-        farm,
-        paragraphs,
-        place,
-    } = *part;
-    let list = entries_in(alloc, paragraphs.field(place, name))?;
-    let first = paragraphs.line_of(place);
-    let entries = list.entries();
-    let mut text = Vec::new(alloc);
-    let items = Items {
-        farm,
-        first,
-        name,
-        entries,
-    };
     if code == UNKNOWN_VARIANT {
-        push_item_note(&mut text, &items, first_unknown(universe, entries))?;
+        Ok(item_found(first_unknown(universe, entries)))
     } else if code == TAKEN {
-        push_item_note(&mut text, &items, first_taken(universe, entries))?;
+        Ok(item_found(first_taken(universe, entries)))
     } else if code == UNSETTLED_BASE {
-        let capacity = number_in(paragraphs.field(place, b"Capacity"));
-        let items = Items {
-            farm,
-            first,
-            name: b"Packages",
-            entries,
-        };
-        push_base_note(alloc, &mut text, universe, &items, capacity)?;
+        let capacity = number_in(part.paragraphs.field(part.place, b"Capacity"));
+        base_found(alloc, universe, entries, capacity)
+    } else {
+        Ok(None)
     }
-    Ok(text)
 }
 
 fn place_of_first(list: &Relations) -> Option<usize>
@@ -106,56 +102,95 @@ fn place_of_first(list: &Relations) -> Option<usize>
     if list.is_empty() { None } else { Some(0) }
 }
 
-/// The note of the source of a recipe.
-fn source_note(alloc: Global, part: &Part) -> Result<Vec<u8>, AllocError>
+/// The line of what is found in a list of a paragraph, its field having this name.
+fn found_text(
+    alloc: Global,
+    universe: &Universe,
+    part: &Part,
+    name: &[u8],
+    list: &Relations,
+    found: Option<Found>,
+) -> Result<Vec<u8>, AllocError>
     requires place { part.now.place < length part.now.paragraphs.now }
     requires small { length part.now.farm.now < 2 ^ 32 }
-    ensures { IfOk result (λ text. text.items ≡ spec.source_note part.now.farm.now
-        (paragraph_at part.now.paragraphs.now part.now.place)) }
 {
-    let Part {
-        farm,
-        paragraphs,
-        place,
-    } = *part;
-    let list = entries_in(alloc, paragraphs.field(place, b"Source"))?;
     let mut text = Vec::new(alloc);
     let items = Items {
-        farm,
-        first: paragraphs.line_of(place),
-        name: b"Source",
+        farm: part.farm,
+        first: part.paragraphs.line_of(part.place),
+        name,
         entries: list.entries(),
     };
-    push_item_note(&mut text, &items, place_of_first(&list))?;
+    if let Some(found) = found {
+        push_found(&mut text, universe, &items, found)?;
+    }
     Ok(text)
 }
 
+/// The note of a list of variants, by the code of the refusal.
+fn list_note(
+    alloc: Global,
+    universe: &Universe,
+    part: &Part,
+    code: u16,
+    name: &[u8],
+) -> Result<FarmNote, AllocError>
+    requires place { part.now.place < length part.now.paragraphs.now }
+    requires small { length part.now.farm.now < 2 ^ 32 }
+    ensures { IfOk result (λ note. note.found ≡ spec.list_found universe.now code
+        (paragraph_at part.now.paragraphs.now part.now.place)
+        (spec.field_entries (paragraph_at part.now.paragraphs.now part.now.place) name.now)) }
+{
+    let list = entries_in(alloc, part.paragraphs.field(part.place, name))?;
+    let found = list_found(alloc, universe, part, code, list.entries())?;
+    let text = found_text(alloc, universe, part, name, &list, found)?;
+    Ok(FarmNote { found, text })
+}
+
+/// The note of the source of a recipe.
+fn source_note(alloc: Global, universe: &Universe, part: &Part) -> Result<FarmNote, AllocError>
+    requires place { part.now.place < length part.now.paragraphs.now }
+    requires small { length part.now.farm.now < 2 ^ 32 }
+    ensures { IfOk result (λ note. note.found
+        ≡ spec.source_found (paragraph_at part.now.paragraphs.now part.now.place)) }
+{
+    let list = entries_in(alloc, part.paragraphs.field(part.place, b"Source"))?;
+    let found = item_found(place_of_first(&list));
+    let text = found_text(alloc, universe, part, b"Source", &list, found)?;
+    Ok(FarmNote { found, text })
+}
+
 /// The note of a paragraph that goes over a limit.
-fn limit_note(alloc: Global, universe: &Universe, part: &Part) -> Result<Vec<u8>, AllocError>
+fn limit_note(alloc: Global, universe: &Universe, part: &Part) -> Result<FarmNote, AllocError>
     requires { part.now.place < length part.now.paragraphs.now }
-    ensures { IfOk result (λ text. text.items ≡ spec.limit_note universe.now
+    ensures { IfOk result (λ note. note.found ≡ spec.limit_found universe.now
         (paragraph_at part.now.paragraphs.now part.now.place)) }
 {
     let is_recipe = part.paragraphs.field(part.place, b"Recipe").is_some();
-    Vec::from_slice(alloc, farm_limit(universe, is_recipe))
+    let limit = farm_limit(universe, is_recipe);
+    let text = Vec::from_slice(alloc, limit.text())?;
+    Ok(FarmNote {
+        found: Some(Found::Over(limit)),
+        text,
+    })
 }
 
 /// The note of a paragraph, by the code of the refusal.
-#[tactic(auto, unfolding(crate::specs::Notes::paragraph_note))]
+#[tactic(auto, unfolding(crate::specs::Found::paragraph_found))]
 fn paragraph_note(
     alloc: Global,
     universe: &Universe,
     part: &Part,
     code: u16,
-) -> Result<Vec<u8>, AllocError>
+) -> Result<FarmNote, AllocError>
     requires place { part.now.place < length part.now.paragraphs.now }
     requires small { length part.now.farm.now < 2 ^ 32 }
-    ensures { IfOk result (λ text. text.items
-        ≡ spec.paragraph_note universe.now part.now.farm.now code part.now.place
+    ensures { IfOk result (λ note. note.found
+        ≡ spec.paragraph_found universe.now code part.now.place
         (paragraph_at part.now.paragraphs.now part.now.place)) }
 {
     if code == UNKNOWN_SOURCE {
-        source_note(alloc, part)
+        source_note(alloc, universe, part)
     } else if code == OVER_LIMIT {
         limit_note(alloc, universe, part)
     } else {
@@ -169,25 +204,24 @@ fn paragraph_note(
     }
 }
 
-/// Gives what to say of a refusal of the farm text with this code, told at this line: the item that
-/// it is about, at its own line, or the limit that it goes over, as a line of text; nothing where
-/// there is none. The codes are [`UNKNOWN_VARIANT`], [`UNKNOWN_SOURCE`], [`TAKEN`],
-/// [`UNSETTLED_BASE`] and [`OVER_LIMIT`].
+/// Gives what a refusal of the farm text with this code is about, told at this line: the item, why
+/// a base chroot is not settled, or the limit that it goes over; none where there is none. The codes
+/// are [`UNKNOWN_VARIANT`], [`UNKNOWN_SOURCE`], [`TAKEN`], [`UNSETTLED_BASE`] and [`OVER_LIMIT`].
 ///
 /// # Errors
 ///
 /// [`AllocError`] where memory is refused.
-#[tactic(auto, unfolding(crate::specs::Notes::farm_note))]
-pub fn farm_note(alloc: Global, texts: &Texts, code: u16, line: u32) -> Result<Vec<u8>, AllocError>
+#[tactic(auto, unfolding(crate::specs::Found::farm_found))]
+pub fn farm_note(alloc: Global, texts: &Texts, code: u16, line: u32) -> Result<FarmNote, AllocError>
     requires { length texts.now.farm.now < 2 ^ 32 }
-    ensures { IfOk result (λ text. text.items ≡ spec.farm_note texts.now.packages.now
+    ensures { IfOk result (λ note. note.found ≡ spec.farm_found texts.now.packages.now
         texts.now.sources.now texts.now.farm.now code line) }
 {
     let Some(paragraphs) = read_paragraphs(alloc, texts.farm)? else {
-        return Ok(Vec::new(alloc));
+        return Ok(no_note(alloc));
     };
     let Some(place) = paragraph_place(&paragraphs, line) else {
-        return Ok(Vec::new(alloc));
+        return Ok(no_note(alloc));
     };
     let first = paragraphs.line_of(place);
     let Texts {
@@ -196,7 +230,7 @@ pub fn farm_note(alloc: Global, texts: &Texts, code: u16, line: u32) -> Result<V
         farm,
     } = *texts;
     let Some(universe) = universe_before(alloc, packages, sources, farm, place, first)? else {
-        return Ok(Vec::new(alloc));
+        return Ok(no_note(alloc));
     };
     let part = Part {
         farm,
@@ -204,4 +238,13 @@ pub fn farm_note(alloc: Global, texts: &Texts, code: u16, line: u32) -> Result<V
         place,
     };
     paragraph_note(alloc, &universe, &part, code)
+}
+
+fn no_note(alloc: Global) -> FarmNote
+    ensures { result.found ≡ None }
+{
+    FarmNote {
+        found: None,
+        text: Vec::new(alloc),
+    }
 }

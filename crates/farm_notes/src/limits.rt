@@ -5,6 +5,7 @@ ghost use Rattle.std.specs.Option.{option_map};
 ghost use Rattle.deb_stanza.specs.Stanza.{paragraph_at};
 ghost use Rattle.farm_notes.specs.Limits as spec;
 
+use crate::found::Limit;
 use crate::parts::{packages_before, paragraph_place, read_paragraphs};
 use deb_stanza::Paragraphs;
 use deb_text::files::{PACKAGES, SOURCES};
@@ -23,72 +24,71 @@ fn is_name_more(universe: &Universe, name: Option<&[u8]>) -> bool
 }
 
 /// The limit that a paragraph of the packages text goes over, behind those before it.
-fn package_limit(universe: &Universe, paragraphs: &Paragraphs, place: usize) -> &'static [u8]
+fn package_limit(universe: &Universe, paragraphs: &Paragraphs, place: usize) -> Limit
     requires { place < length paragraphs.now }
-    ensures { result.now
-        ≡ spec.package_limit universe.now (paragraph_at paragraphs.now place) }
+    ensures { result ≡ spec.package_limit universe.now (paragraph_at paragraphs.now place) }
 {
     if is_name_more(universe, paragraphs.field(place, b"Package")) {
-        b"  over the limit of 4,096 names\n"
+        Limit::Names
     } else {
-        b"  over the limit of 65,536 relation entries of all packages\n"
+        Limit::Entries
     }
 }
 
 /// The limit that the packages text goes over in the paragraph whose first line this is.
-#[tactic(auto, unfolding(crate::specs::Limits::packages_note))]
-fn packages_note(alloc: Global, packages: &[u8], line: u32) -> Result<&'static [u8], AllocError>
-    ensures { IfOk result (λ text. text.now ≡ spec.packages_note packages.now line) }
+#[tactic(auto, unfolding(crate::specs::Limits::packages_limit))]
+fn packages_limit(alloc: Global, packages: &[u8], line: u32) -> Result<Option<Limit>, AllocError>
+    ensures { IfOk result (λ limit. limit ≡ spec.packages_limit packages.now line) }
 {
     let Some(paragraphs) = read_paragraphs(alloc, packages)? else {
-        return Ok(b"");
+        return Ok(None);
     };
     let Some(place) = paragraph_place(&paragraphs, line) else {
-        return Ok(b"");
+        return Ok(None);
     };
     let Some(universe) = packages_before(alloc, packages, line)? else {
-        return Ok(b"");
+        return Ok(None);
     };
-    Ok(package_limit(&universe, &paragraphs, place))
+    Ok(Some(package_limit(&universe, &paragraphs, place)))
 }
 
 /// The limit that a paragraph of the farm text goes over, behind those before it: a recipe or a
 /// base chroot.
-pub fn farm_limit(universe: &Universe, is_recipe: bool) -> &'static [u8]
-    ensures { result.now ≡ spec.farm_limit universe.now is_recipe }
+pub fn farm_limit(universe: &Universe, is_recipe: bool) -> Limit
+    ensures { result ≡ spec.farm_limit universe.now is_recipe }
 {
     if !is_recipe {
-        b"  over the limit of 64 base chroots\n"
+        Limit::Bases
     } else if universe.recipes() as usize == MOST_RECIPES {
-        b"  over the limit of 1,024 recipes\n"
+        Limit::Recipes
     } else {
-        b"  over the limit of 65,536 needs and clashes of all recipes\n"
+        Limit::RecipeEntries
     }
 }
 
-/// Gives what to say of a refusal of the packages or the sources text, the file of this number,
-/// with this code, told at this line: the limit that it goes over, as a line of text; nothing where
-/// the code is not [`OVER_LIMIT`], and of another file.
+/// Gives the limit that a refusal of the packages or the sources text is about, the file of this
+/// number, with this code, told at this line; none where the code is not [`OVER_LIMIT`], and of
+/// another file.
 ///
 /// # Errors
 ///
 /// [`AllocError`] where memory is refused.
-#[tactic(auto, unfolding(crate::specs::Limits::index_note))]
-pub fn index_note(
+#[tactic(auto, unfolding(crate::specs::Limits::index_limit))]
+pub fn index_limit(
     alloc: Global,
     file: u8,
     text: &[u8],
     code: u16,
     line: u32,
-) -> Result<&'static [u8], AllocError>
-    ensures { IfOk result (λ note. note.now ≡ spec.index_note file text.now code line) }
+) -> Result<Option<Limit>, AllocError>
+    ensures { IfOk result (λ limit. limit ≡ spec.index_limit file text.now code line) }
 {
     if code != OVER_LIMIT {
-        return Ok(b"");
+        return Ok(None);
     }
     match file {
-        PACKAGES => packages_note(alloc, text, line),
-        SOURCES => Ok(b"  over the limit of 4,096 sources\n"),
-        _ => Ok(b""),
+        PACKAGES => packages_limit(alloc, text, line),
+        SOURCES => Ok(Some(Limit::Sources)),
+        _ => Ok(None),
     }
 }

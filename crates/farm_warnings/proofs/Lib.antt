@@ -1,3 +1,3 @@
 pub mod LineLaws
 pub mod SetLaws
-pub mod TextLaws
+pub mod BelowLaws

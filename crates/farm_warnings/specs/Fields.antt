@@ -1,16 +1,17 @@
 -- The fields of the farm text that its reader passes over. The project's own rules.
 --
 --   known_fields kind       the fields that a paragraph of this kind may have
---   fields_text text        what is said of each other one
+--   field_warnings text     a warning of each other one
 use Rattle.std.specs.Prelude.{ℕ, Bool, ◌||◌, List, [], ◌∷◌, ◌++◌, if◌then◌else◌}
-use Rattle.std.specs.List.{list_any, flat_map, concat}
+use Rattle.std.specs.List.{list_any, flat_map}
 use Rattle.deb_text.specs.Lines.{Line}
 use Rattle.deb_stanza.specs.Stanza.{continues, name_of, same_name}
 use Rattle.farm_warnings.specs.declared.field_name.FieldName.{FieldName}
 use Rattle.farm_warnings.specs.declared.kind.Kind.{Kind}
-use Rattle.farm_warnings.specs.declared.words.Word.{Word}
+use Rattle.farm_warnings.specs.declared.warning.About.{About}
 use Rattle.farm_warnings.specs.Lines.{is_recipe, paragraph_lines_in}
-use Rattle.farm_warnings.specs.Words.{counted, field_name, word_text}
+use Rattle.farm_warnings.specs.FieldNames.{field_name}
+use Rattle.farm_warnings.specs.Warned.{WarningFacts, warned}
 
 -- the fields of the first paragraph, of a recipe, and of a base chroot
 abbrev pub known_fields : Kind → List FieldName
@@ -27,29 +28,23 @@ is_known kind name = list_any (λ field. same_name (field_name field) name) (kno
 abbrev pub paragraph_kind : List Line → Kind
 paragraph_kind ls = if is_recipe ls then Kind.Recipe else Kind.Base
 
--- of a field of this name, at its own line
-abbrev pub field_warning : ℕ → List ℕ → List ℕ
-field_warning line name =
-    concat (counted Word.FarmLine line ∷ word_text Word.TheField ∷ name ∷ word_text Word.PassedOver
-    ∷ [])
-
 -- of a line in a paragraph of this kind: nothing unless it begins a field that is not known
-abbrev pub line_said : Kind → Line → List ℕ
+abbrev pub line_said : Kind → Line → List WarningFacts
 line_said kind l =
-    if continues l || is_known kind (name_of l.1) then [] else field_warning l.0 (name_of l.1)
+    if continues l || is_known kind (name_of l.1) then [] else warned (About.Field l.0) (name_of l.1)
 
 -- of a paragraph of this kind
-abbrev pub fields_said : Kind → List Line → List ℕ
+abbrev pub fields_said : Kind → List Line → List WarningFacts
 fields_said kind ls = flat_map (line_said kind) ls
 
 -- of a paragraph behind the first one
-abbrev pub later_said : List Line → List ℕ
+abbrev pub later_said : List Line → List WarningFacts
 later_said ls = fields_said (paragraph_kind ls) ls
 
 -- of the paragraphs of the farm text
-abbrev pub all_said : List (List Line) → List ℕ
+abbrev pub all_said : List (List Line) → List WarningFacts
 all_said [] = []
 all_said (first ∷ later) = fields_said Kind.Farm first ++ flat_map later_said later
 
-unfoldable pub fields_text : List ℕ → List ℕ
-fields_text text = all_said (paragraph_lines_in text)
+unfoldable pub field_warnings : List ℕ → List WarningFacts
+field_warnings text = all_said (paragraph_lines_in text)

@@ -1,4 +1,5 @@
-pub mod Words
+pub mod FieldNames
+pub mod Warned
 pub mod Sets
 pub mod Lines
 pub mod Fields

@@ -10,7 +10,7 @@ use Rattle.deb_text.specs.Cuts.{is_nil}
 use Rattle.deb_text.specs.Lines.{Line, control_lines}
 use Rattle.deb_stanza.specs.Stanza.{continues, name_of, parts, same_name}
 use Rattle.farm_warnings.specs.declared.field_name.FieldName.{FieldName}
-use Rattle.farm_warnings.specs.Words.{field_name}
+use Rattle.farm_warnings.specs.FieldNames.{field_name}
 
 -- the parts between the lines that separate, less those without a line
 abbrev pub paragraph_lines : List Line → List (List Line)

@@ -2,19 +2,17 @@
 -- of the farm's architecture.
 --
 --   lacks names lack p        what a paragraph of the packages text lacks
---   packages_text u text      what is said of those that lack something
+--   package_warnings u text   warnings of those that lack something
 use Rattle.std.specs.Prelude.{ℕ, Bool, false, not, ◌||◌, ◌==◌, List, [], ◌∷◌, ◌++◌, filter, length, Option, Some, None, Result, Ok, Err, codes, if◌then◌else◌}
-use Rattle.std.specs.List.{concat}
 use Rattle.std.specs.Option.{is_none}
-use Rattle.std.specs.Fmt.{decimal}
 use Rattle.std.specs.Str.{bytes_eq}
 use Rattle.deb_text.specs.declared.fault.Fault.{Fault}
 use Rattle.deb_stanza.specs.Stanza.{Paragraph, paragraphs_at, value_of}
 use Rattle.deb_profile.specs.Restriction.{is_among}
 use Rattle.farm_model.specs.Universe.{Universe}
 use Rattle.farm_warnings.specs.declared.packages.Lack.{Lack}
-use Rattle.farm_warnings.specs.declared.words.Word.{Word}
-use Rattle.farm_warnings.specs.Words.{counted, word_text}
+use Rattle.farm_warnings.specs.declared.warning.About.{About}
+use Rattle.farm_warnings.specs.Warned.{WarningFacts, warned}
 
 -- the paragraphs of a text; none where it has a fault
 abbrev pub paragraphs_or_none : Result (List Paragraph) Fault → List Paragraph
@@ -34,27 +32,22 @@ unfoldable pub lacks : List (List ℕ) → Lack → Paragraph → Bool
 lacks names Lack.Size p = is_none (value_of p (codes "Installed-Size"))
 lacks names Lack.Architecture p = is_foreign names (value_of p (codes "Architecture"))
 
-abbrev pub lack_word : Lack → Word
-lack_word Lack.Size = Word.NoSize
-lack_word Lack.Architecture = Word.NoArchitecture
-
 -- of so many paragraphs, the first of which begins at this line
-abbrev pub count_said : Word → ℕ → ℕ → List ℕ
-count_said word count line =
-    if count == 0 then []
-    else concat (counted Word.PackagesLine line ∷ codes ": " ∷ decimal count ∷ word_text word ∷ [])
+abbrev pub count_said : Lack → ℕ → ℕ → List WarningFacts
+count_said lack count line =
+    if count == 0 then [] else warned (About.Lacking lack count line) []
 
 abbrev pub first_line_of : List Paragraph → ℕ
 first_line_of [] = 0
 first_line_of (p ∷ ps) = p.line
 
 -- of the paragraphs that lack this
-abbrev pub lack_said : List (List ℕ) → List Paragraph → Lack → List ℕ
+abbrev pub lack_said : List (List ℕ) → List Paragraph → Lack → List WarningFacts
 lack_said names ps lack =
-    count_said (lack_word lack) (length (filter (lacks names lack) ps))
+    count_said lack (length (filter (lacks names lack) ps))
     (first_line_of (filter (lacks names lack) ps))
 
-unfoldable pub packages_text : Universe → List ℕ → List ℕ
-packages_text u text =
+unfoldable pub package_warnings : Universe → List ℕ → List WarningFacts
+package_warnings u text =
     lack_said u.architectures (paragraphs_read text) Lack.Size
     ++ lack_said u.architectures (paragraphs_read text) Lack.Architecture

@@ -2,9 +2,9 @@
 -- relations, of any field and in any version of it, names them in a restriction formula.
 --
 --   asked_for sources             the profiles that the sources of a text ask for, each once
---   profiles_text sources farm    what is said of each other word of a recipe's field Profiles
+--   profile_warnings sources farm a warning of each other word of a recipe's field Profiles
 use Rattle.std.specs.Prelude.{ℕ, List, [], ◌∷◌, ◌++◌, map, Option, Some, None, Result, Ok, Err, codes, if◌then◌else◌}
-use Rattle.std.specs.List.{flat_map, concat}
+use Rattle.std.specs.List.{flat_map}
 use Rattle.std.specs.Str.{bytes_eq}
 use Rattle.deb_text.specs.Cuts.{after}
 use Rattle.deb_text.specs.Groups.{distinct}
@@ -17,10 +17,10 @@ use Rattle.deb_relation.specs.Field.{relations_at}
 use Rattle.deb_relation.specs.Relations.{Atom, Entry, Item, Relations}
 use Rattle.deb_profile.specs.Restriction.{is_among}
 use Rattle.farm_warnings.specs.declared.field_name.FieldName.{FieldName}
-use Rattle.farm_warnings.specs.declared.words.Word.{Word}
+use Rattle.farm_warnings.specs.declared.warning.About.{About}
 use Rattle.farm_warnings.specs.Lines.{begins, recipes_in}
 use Rattle.farm_warnings.specs.Packages.{paragraphs_read}
-use Rattle.farm_warnings.specs.Words.{counted, word_text}
+use Rattle.farm_warnings.specs.Warned.{WarningFacts, warned}
 
 -- ---- what sources ask for
 
@@ -74,35 +74,31 @@ asked_for sources = distinct bytes_eq (sources_profiles (paragraphs_read sources
 -- ---- what recipes name. Parameters: asked the profiles that sources ask for, line the field's
 -- line
 
-abbrev pub profile_warning : ℕ → List ℕ → List ℕ
-profile_warning line profile =
-    concat (counted Word.FarmLine line ∷ word_text Word.NoSource ∷ profile ∷ codes "\n" ∷ [])
-
-abbrev pub profile_said : List (List ℕ) → ℕ → List ℕ → List ℕ
+abbrev pub profile_said : List (List ℕ) → ℕ → List ℕ → List WarningFacts
 profile_said asked line profile =
-    if is_among asked profile then [] else profile_warning line profile
+    if is_among asked profile then [] else warned (About.Profile line) profile
 
 -- of the words of a text
-abbrev pub words_said : List (List ℕ) → ℕ → List ℕ → List ℕ
+abbrev pub words_said : List (List ℕ) → ℕ → List ℕ → List WarningFacts
 words_said asked line text = flat_map (profile_said asked line) (words text)
 
 -- of the lines that go on with the field
-abbrev pub more_said : List (List ℕ) → ℕ → List Line → List ℕ
+abbrev pub more_said : List (List ℕ) → ℕ → List Line → List WarningFacts
 more_said asked line ls = flat_map (λ (l : Line). words_said asked line l.1) ls
 
 -- of a field: of its first line, and of the lines that go on with it
-abbrev pub field_said : List (List ℕ) → Line → List Line → List ℕ
+abbrev pub field_said : List (List ℕ) → Line → List Line → List WarningFacts
 field_said asked l ls =
     words_said asked l.0 (after is_colon l.1) ++ more_said asked l.0 (continuation ls)
 
 -- of a line, of whose paragraph these are left
-abbrev pub line_said : List (List ℕ) → Line → List Line → List ℕ
+abbrev pub line_said : List (List ℕ) → Line → List Line → List WarningFacts
 line_said asked l ls = if begins FieldName.Profiles l then field_said asked l ls else []
 
 -- of a recipe's paragraph
-abbrev pub recipe_profiles : List (List ℕ) → List Line → List ℕ
+abbrev pub recipe_profiles : List (List ℕ) → List Line → List WarningFacts
 recipe_profiles asked [] = []
 recipe_profiles asked (l ∷ ls) = line_said asked l ls ++ recipe_profiles asked ls
 
-unfoldable pub profiles_text : List ℕ → List ℕ → List ℕ
-profiles_text sources farm = flat_map (recipe_profiles (asked_for sources)) (recipes_in farm)
+unfoldable pub profile_warnings : List ℕ → List ℕ → List WarningFacts
+profile_warnings sources farm = flat_map (recipe_profiles (asked_for sources)) (recipes_in farm)

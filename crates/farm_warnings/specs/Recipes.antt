@@ -2,18 +2,17 @@
 -- p the plan, r the number of a recipe.
 --
 --   is_built p r            some lane builds it
---   recipes_text u p text   what is said of each other one, text being the farm text
+--   recipe_warnings u p text   a warning of each other one, text being the farm text
 use Rattle.std.specs.Prelude.{ℕ, Bool, ◌==◌, List, [], ◌∷◌, length, map, slice_get, Option, Some, None, codes, if◌then◌else◌}
-use Rattle.std.specs.List.{list_any, flat_map, concat}
+use Rattle.std.specs.List.{list_any, flat_map}
 use Rattle.deb_stanza.specs.Stanza.{first_number}
-use Rattle.farm_model.specs.Packages.{recipe}
 use Rattle.farm_model.specs.Universe.{Universe}
 use Rattle.plan_model.specs.declared.instructions.Instruction.{Instruction}
 use Rattle.plan_model.specs.declared.instructions.Instruction.TheVariants.{Build}
 use Rattle.plan_model.specs.Plan.{Lane, Plan}
-use Rattle.farm_warnings.specs.declared.words.Word.{Word}
+use Rattle.farm_warnings.specs.declared.warning.About.{About}
 use Rattle.farm_warnings.specs.Lines.{recipes_in}
-use Rattle.farm_warnings.specs.Words.{counted, text_below, word_text}
+use Rattle.farm_warnings.specs.Warned.{WarningFacts, all_below, warned}
 
 -- the recipe that an instruction builds, if it builds one
 abbrev pub built_by : Instruction → List ℕ
@@ -34,15 +33,13 @@ is_built p r = list_any (λ q. r == q) (built p)
 abbrev pub recipe_lines : List ℕ → List ℕ
 recipe_lines text = map first_number (recipes_in text)
 
-abbrev pub recipe_warning : Universe → ℕ → Option ℕ → List ℕ
-recipe_warning u r None = []
-recipe_warning u r (Some line) =
-    concat (counted Word.FarmLine line ∷ word_text Word.NoLane ∷ (recipe u r).name ∷ codes "\n"
-    ∷ [])
+abbrev pub recipe_warning : ℕ → Option ℕ → List WarningFacts
+recipe_warning r None = []
+recipe_warning r (Some line) = warned (About.Recipe r line) []
 
 -- of a recipe, where these are the first lines of the recipes' paragraphs
-abbrev pub recipe_said : Universe → Plan → List ℕ → ℕ → List ℕ
-recipe_said u p lines r = if is_built p r then [] else recipe_warning u r (slice_get lines r)
+abbrev pub recipe_said : Plan → List ℕ → ℕ → List WarningFacts
+recipe_said p lines r = if is_built p r then [] else recipe_warning r (slice_get lines r)
 
-unfoldable pub recipes_text : Universe → Plan → List ℕ → List ℕ
-recipes_text u p text = text_below (length u.recipes) (recipe_said u p (recipe_lines text))
+unfoldable pub recipe_warnings : Universe → Plan → List ℕ → List WarningFacts
+recipe_warnings u p text = all_below (length u.recipes) (recipe_said p (recipe_lines text))

@@ -3,7 +3,7 @@
 --
 --   goes_by u name         some package is called this or provides it, in whatever version
 --   could_be_met u e       a package could meet the entry in some version
---   waits_text u p ls      what is said of each wait whose entry no package could meet
+--   wait_warnings u p ls   a warning of each wait whose entry no package could meet
 use Rattle.std.specs.Prelude.{ℕ, Bool, ◌||◌, List, [], ◌++◌, map, length, Option, Some, None, if◌then◌else◌}
 use Rattle.std.specs.List.{list_any, flat_map}
 use Rattle.deb_profile.specs.Restriction.{is_among}
@@ -15,8 +15,8 @@ use Rattle.plan_lines.specs.Readings.{origin_at}
 use Rattle.plan_model.specs.declared.instructions.Instruction.{Instruction}
 use Rattle.plan_model.specs.declared.instructions.Instruction.TheVariants.{Wait}
 use Rattle.plan_model.specs.Plan.{Plan, lane, instruction_at}
-use Rattle.farm_warnings.specs.declared.words.Word.{Word}
-use Rattle.farm_warnings.specs.Words.{counted, text_below, word_text}
+use Rattle.farm_warnings.specs.declared.warning.About.{About}
+use Rattle.farm_warnings.specs.Warned.{WarningFacts, all_below, warned}
 
 -- ---- what could meet an entry
 
@@ -45,24 +45,18 @@ could_be_met u e = list_any (λ (a : Atom). goes_by u a.name) e
 
 -- ---- waits
 
-abbrev pub wait_line : Option Origin → List ℕ
-wait_line None = word_text Word.Plan
-wait_line (Some origin) = counted Word.PlanLine origin.line
-
-abbrev pub wait_warning : Option Origin → List ℕ
-wait_warning origin = wait_line origin ++ word_text Word.NoPackage
-
 -- of an instruction, if there is one, that comes from this line
-abbrev pub instruction_said : Universe → Option Origin → Option Instruction → List ℕ
-instruction_said u origin (Some (Wait e)) = if could_be_met u e then [] else wait_warning origin
+abbrev pub instruction_said : Universe → Option Origin → Option Instruction → List WarningFacts
+instruction_said u origin (Some (Wait e)) =
+    if could_be_met u e then [] else warned (About.Wait origin) []
 instruction_said u origin x = []
 
-abbrev pub wait_said : Universe → Plan → List LaneLines → ℕ → ℕ → List ℕ
+abbrev pub wait_said : Universe → Plan → List LaneLines → ℕ → ℕ → List WarningFacts
 wait_said u p ls l i = instruction_said u (origin_at ls l i) (instruction_at p l i)
 
-abbrev pub lane_said : Universe → Plan → List LaneLines → ℕ → List ℕ
-lane_said u p ls l = text_below (length (lane p l).instructions) (wait_said u p ls l)
+abbrev pub lane_said : Universe → Plan → List LaneLines → ℕ → List WarningFacts
+lane_said u p ls l = all_below (length (lane p l).instructions) (wait_said u p ls l)
 
 -- lane by lane, in file order
-unfoldable pub waits_text : Universe → Plan → List LaneLines → List ℕ
-waits_text u p ls = text_below (length p) (lane_said u p ls)
+unfoldable pub wait_warnings : Universe → Plan → List LaneLines → List WarningFacts
+wait_warnings u p ls = all_below (length p) (lane_said u p ls)

@@ -2,20 +2,21 @@
 
 ghost use Rattle.std.specs.Prelude.{◌≡◌, IfOk};
 ghost use Rattle.farm_input.specs.View.{texts_view};
-ghost use Rattle.farm_warnings.specs.Warnings.{warnings_text};
+ghost use Rattle.farm_warnings.specs.Warnings.{all_warnings};
 
 use crate::fields::push_fields;
 use crate::packages::push_packages;
 use crate::profiles::push_profiles;
 use crate::recipes::push_recipes;
 use crate::waits::push_waits;
+use crate::warning::Warnings;
 use farm_input::Texts;
 use farm_universe::Universe;
 use plan_asm::Plan;
 use plan_lines::PlanLines;
 use std::alloc::{AllocError, Global};
 
-/// Gives the warnings of a farm, a line each: of fields of the farm text that are passed over, of
+/// Gives the warnings of a farm: of fields of the farm text that are passed over, of
 /// profiles that no source asks for, of recipes that no lane builds, of packages without an
 /// `Installed-Size` or of a foreign architecture, and of waits that nothing could end; nothing
 /// where all is well. The universe is what the texts describe, and `lines` are those of the plan's
@@ -24,22 +25,22 @@ use std::alloc::{AllocError, Global};
 /// # Errors
 ///
 /// [`AllocError`] where memory is refused.
-#[tactic(auto, unfolding(crate::specs::Warnings::warnings_text))]
+#[tactic(auto, unfolding(crate::specs::Warnings::all_warnings))]
 pub fn warnings(
     alloc: Global,
     texts: Texts<'_>,
     universe: &Universe,
     plan: &Plan,
     lines: &PlanLines,
-) -> Result<Vec<u8>, AllocError>
-    ensures { IfOk result (λ text. text.items
-        ≡ warnings_text (texts_view texts.entry) universe.now plan.now.lanes lines.now.lanes) }
+) -> Result<Warnings, AllocError>
+    ensures { IfOk result (λ found. found
+        ≡ all_warnings (texts_view texts.entry) universe.now plan.now.lanes lines.now.lanes) }
 {
-    let mut text = Vec::new(alloc);
-    push_fields(&mut text, texts.farm)?;
-    push_profiles(alloc, &mut text, texts.sources, texts.farm)?;
-    push_recipes(alloc, &mut text, universe, plan, texts.farm)?;
-    push_packages(alloc, &mut text, universe, texts.packages)?;
-    push_waits(alloc, &mut text, universe, plan, lines)?;
-    Ok(text)
+    let mut found = Warnings::new(alloc);
+    push_fields(&mut found, texts.farm)?;
+    push_profiles(alloc, &mut found, texts.sources, texts.farm)?;
+    push_recipes(alloc, &mut found, universe, plan, texts.farm)?;
+    push_packages(alloc, &mut found, universe, texts.packages)?;
+    push_waits(alloc, &mut found, universe, plan, lines)?;
+    Ok(found)
 }

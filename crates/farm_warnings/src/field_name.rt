@@ -2,7 +2,7 @@
 
 ghost use Rattle.std.specs.Prelude.{◌≡◌};
 ghost use Rattle.deb_stanza.specs.Stanza.{same_name};
-ghost use Rattle.farm_warnings.specs.Words.{field_name};
+ghost use Rattle.farm_warnings.specs.FieldNames.{field_name};
 
 /// A field that some paragraph of the farm text may have.
 #[derive(Clone, Copy)]
@@ -23,7 +23,7 @@ pub enum FieldName {
 
 impl FieldName {
     /// The name as it is mostly written.
-    #[tactic(auto, unfolding(crate::specs::Words::field_name))]
+    #[tactic(auto, unfolding(crate::specs::FieldNames::field_name))]
     const fn text(self) -> &'static [u8]
         ensures { result.now ≡ field_name self }
     {

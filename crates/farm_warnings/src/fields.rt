@@ -5,62 +5,51 @@ ghost use Rattle.farm_warnings.specs.Fields as spec;
 
 use crate::kind::Kind;
 use crate::lines::{Line, Lines, ParagraphLines};
-use crate::words::{Word, push_count};
-use deb_text::push_pieces;
+use crate::warning::{About, Warnings};
 use std::alloc::AllocError;
 
-/// The warning of a field of this name.
-fn push_warning(text: &mut Vec<u8>, line: usize, name: &[u8]) -> Result<(), AllocError>
-    ensures { OnOk result (text.new.items ≡ text.old.items ++ spec.field_warning line name.now) }
-{
-    push_count(text, Word::FarmLine, line as u64)?;
-    push_pieces(text, &[Word::TheField.text()])?;
-    push_pieces(text, &[name])?;
-    push_pieces(text, &[Word::PassedOver.text()])
-}
-
 /// What is said of a line.
-fn push_line(text: &mut Vec<u8>, kind: Kind, line: &Line) -> Result<(), AllocError>
-    ensures { OnOk result (text.new.items ≡ text.old.items ++ spec.line_said kind line.now) }
+fn push_line(found: &mut Warnings, kind: Kind, line: &Line) -> Result<(), AllocError>
+    ensures { OnOk result (found.new ≡ found.old ++ spec.line_said kind line.now) }
 {
     if line.continues() || kind.has(line.name()) {
         Ok(())
     } else {
-        push_warning(text, line.number, line.name())
+        found.push(About::Field(line.number), line.name())
     }
 }
 
 /// What is said of the fields of a paragraph.
 fn push_paragraph(
-    text: &mut Vec<u8>,
+    found: &mut Warnings,
     kind: Kind,
     paragraph: &ParagraphLines,
 ) -> Result<(), AllocError>
-    ensures { OnOk result (text.new.items ≡ text.old.items ++ spec.fields_said kind paragraph.now) }
+    ensures { OnOk result (found.new ≡ found.old ++ spec.fields_said kind paragraph.now) }
 {
     let mut left = paragraph.copied();
     while let Some(line) = left.next() {
-        push_line(text, kind, &line)?;
+        push_line(found, kind, &line)?;
     }
     Ok(())
 }
 
-/// Puts a warning of each field of the farm text that is not known behind a text.
+/// Puts a warning of each field of the farm text that is not known behind others.
 ///
 /// # Errors
 ///
 /// [`AllocError`] where memory is refused.
-#[tactic(auto, unfolding(crate::specs::Fields::fields_text))]
-pub fn push_fields(text: &mut Vec<u8>, farm: &[u8]) -> Result<(), AllocError>
-    ensures { OnOk result (text.new.items ≡ text.old.items ++ spec.fields_text farm.now) }
+#[tactic(auto, unfolding(crate::specs::Fields::field_warnings))]
+pub fn push_fields(found: &mut Warnings, farm: &[u8]) -> Result<(), AllocError>
+    ensures { OnOk result (found.new ≡ found.old ++ spec.field_warnings farm.now) }
 {
     let mut left = Lines::of(farm);
     let Some(first) = left.next_paragraph() else {
         return Ok(());
     };
-    push_paragraph(text, Kind::Farm, &first)?;
+    push_paragraph(found, Kind::Farm, &first)?;
     while let Some(paragraph) = left.next_paragraph() {
-        push_paragraph(text, Kind::of_later(&paragraph), &paragraph)?;
+        push_paragraph(found, Kind::of_later(&paragraph), &paragraph)?;
     }
     Ok(())
 }

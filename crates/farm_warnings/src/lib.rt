@@ -1,6 +1,7 @@
-//! What is odd in the texts of a farm and refuses no plan: warnings, a line each.
+//! What is odd in the texts of a farm and refuses no plan: warnings.
 //!
-//! Proved: `warnings` gives exactly the text of its definition, memory apart (`warnings_text`).
+//! Proved: `warnings` gives exactly the warnings of its definition, as data, memory apart
+//! (`all_warnings`). How a warning is spelled is only tested.
 #![tactic(auto)]
 
 mod answer;
@@ -15,7 +16,9 @@ mod profiles;
 mod provided;
 mod recipes;
 mod waits;
+mod warning;
 mod word_set;
-mod words;
 
 pub use answer::warnings;
+pub use packages::Lack;
+pub use warning::{About, Warning, Warnings};

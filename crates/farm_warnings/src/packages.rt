@@ -9,12 +9,11 @@ ghost use Rattle.deb_stanza.specs.Stanza.{paragraph_at};
 ghost use Rattle.farm_warnings.specs.Packages as spec;
 
 use crate::paragraphs::read_paragraphs;
+use crate::warning::{About, Warnings};
 use crate::word_set::WordSet;
-use crate::words::{Word, push_count};
 use deb_stanza::Paragraphs;
-use deb_text::{next_word, push_pieces};
+use deb_text::next_word;
 use farm_universe::Universe;
-use itoa::Buffer;
 use std::alloc::{AllocError, Global};
 
 /// What a paragraph of the packages text lacks: an `Installed-Size`, or an architecture that the
@@ -23,17 +22,6 @@ use std::alloc::{AllocError, Global};
 pub enum Lack {
     Size,
     Architecture,
-}
-
-impl Lack {
-    fn word(self) -> Word
-        ensures { result ≡ spec.lack_word self }
-    {
-        match self {
-            Lack::Size => Word::NoSize,
-            Lack::Architecture => Word::NoArchitecture,
-        }
-    }
 }
 
 /// The names of the farm's architecture, as a set.
@@ -117,55 +105,45 @@ fn count_lacking(
     (count, first)
 }
 
-/// The warning of so many paragraphs, of which the first begins at this line.
-fn push_warning(text: &mut Vec<u8>, word: Word, count: usize, line: u32) -> Result<(), AllocError>
-    ensures { OnOk result (text.new.items ≡ text.old.items ++ spec.count_said word count line) }
-{
-    if count == 0 {
-        return Ok(());
-    }
-    let mut digits = Buffer::new();
-    let number = digits.format(count as u64);
-    push_count(text, Word::PackagesLine, u64::from(line))?;
-    push_pieces(text, &[b": ", number.as_bytes(), word.text()])
-}
-
 /// What is said of the paragraphs that lack this.
 fn push_lack(
-    text: &mut Vec<u8>,
+    found: &mut Warnings,
     universe: &Universe,
     names: &WordSet,
     lack: Lack,
     paragraphs: &Paragraphs,
 ) -> Result<(), AllocError>
     requires { names.now ≡ distinct bytes_eq universe.now.architectures }
-    ensures { OnOk result (text.new.items
-        ≡ text.old.items ++ spec.lack_said universe.now.architectures paragraphs.now lack) }
+    ensures { OnOk result (found.new
+        ≡ found.old ++ spec.lack_said universe.now.architectures paragraphs.now lack) }
 {
     let (count, line) = count_lacking(universe, names, lack, paragraphs);
-    push_warning(text, lack.word(), count, line)
+    if count == 0 {
+        return Ok(());
+    }
+    found.push(About::Lacking(lack, count, line), b"")
 }
 
-/// Puts a warning of the packages without an `Installed-Size` behind a text, and one of those whose
+/// Puts a warning of the packages without an `Installed-Size` behind others, and one of those whose
 /// architecture the farm does not name.
 ///
 /// # Errors
 ///
 /// [`AllocError`] where memory is refused.
-#[tactic(auto, unfolding(crate::specs::Packages::packages_text))]
+#[tactic(auto, unfolding(crate::specs::Packages::package_warnings))]
 pub fn push_packages(
     alloc: Global,
-    text: &mut Vec<u8>,
+    found: &mut Warnings,
     universe: &Universe,
     packages: &[u8],
 ) -> Result<(), AllocError>
-    ensures { OnOk result (text.new.items
-        ≡ text.old.items ++ spec.packages_text universe.now packages.now) }
+    ensures { OnOk result (found.new
+        ≡ found.old ++ spec.package_warnings universe.now packages.now) }
 {
     let Some(paragraphs) = read_paragraphs(alloc, packages)? else {
         return Ok(());
     };
     let names = architecture_set(alloc, universe)?;
-    push_lack(text, universe, &names, Lack::Size, &paragraphs)?;
-    push_lack(text, universe, &names, Lack::Architecture, &paragraphs)
+    push_lack(found, universe, &names, Lack::Size, &paragraphs)?;
+    push_lack(found, universe, &names, Lack::Architecture, &paragraphs)
 }

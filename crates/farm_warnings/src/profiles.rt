@@ -10,52 +10,41 @@ ghost use Rattle.farm_warnings.specs.Profiles as spec;
 use crate::field_name::FieldName;
 use crate::lines::{Line, Lines, ParagraphLines};
 use crate::profile_words::asked_for;
+use crate::warning::{About, Warnings};
 use crate::word_set::WordSet;
-use crate::words::{Word, push_count};
-use deb_text::{cut_at_first, next_word, push_pieces};
+use deb_text::{cut_at_first, next_word};
 use std::alloc::{AllocError, Global};
-
-/// The warning of a profile, the line being that of its field.
-fn push_warning(text: &mut Vec<u8>, line: usize, profile: &[u8]) -> Result<(), AllocError>
-    ensures { OnOk result (text.new.items
-        ≡ text.old.items ++ spec.profile_warning line profile.now) }
-{
-    push_count(text, Word::FarmLine, line as u64)?;
-    push_pieces(text, &[Word::NoSource.text()])?;
-    push_pieces(text, &[profile])?;
-    push_pieces(text, &[b"\n"])
-}
 
 /// What is said of a profile.
 fn push_profile(
-    text: &mut Vec<u8>,
+    found: &mut Warnings,
     asked: &WordSet,
     line: usize,
     profile: &[u8],
 ) -> Result<(), AllocError>
-    ensures { OnOk result (text.new.items
-        ≡ text.old.items ++ spec.profile_said asked.now line profile.now) }
+    ensures { OnOk result (found.new
+        ≡ found.old ++ spec.profile_said asked.now line profile.now) }
 {
     if asked.has(profile) {
         Ok(())
     } else {
-        push_warning(text, line, profile)
+        found.push(About::Profile(line), profile)
     }
 }
 
 /// What is said of the words of a text.
 fn push_words(
-    text: &mut Vec<u8>,
+    found: &mut Warnings,
     asked: &WordSet,
     line: usize,
     words: &[u8],
 ) -> Result<(), AllocError>
-    ensures { OnOk result (text.new.items
-        ≡ text.old.items ++ spec.words_said asked.now line words.now) }
+    ensures { OnOk result (found.new
+        ≡ found.old ++ spec.words_said asked.now line words.now) }
 {
     let mut left = words;
     while let Some((word, rest)) = next_word(left) {
-        push_profile(text, asked, line, word)?;
+        push_profile(found, asked, line, word)?;
         left = rest;
     }
     Ok(())
@@ -63,20 +52,20 @@ fn push_words(
 
 /// What is said of the lines that go on with a field.
 fn push_more(
-    text: &mut Vec<u8>,
+    found: &mut Warnings,
     asked: &WordSet,
     line: usize,
     more: &ParagraphLines,
 ) -> Result<(), AllocError>
-    ensures { OnOk result (text.new.items
-        ≡ text.old.items ++ spec.more_said asked.now line (continuation more.now)) }
+    ensures { OnOk result (found.new
+        ≡ found.old ++ spec.more_said asked.now line (continuation more.now)) }
 {
     let mut left = more.copied();
     while let Some(next) = left.next() {
         if !next.continues() {
             return Ok(());
         }
-        push_words(text, asked, line, next.bytes)?;
+        push_words(found, asked, line, next.bytes)?;
     }
     Ok(())
 }
@@ -93,30 +82,30 @@ fn behind_colon(line: &[u8]) -> &[u8]
 
 /// What is said of a field, of which this is the first line, and of the paragraph these are left.
 fn push_field(
-    text: &mut Vec<u8>,
+    found: &mut Warnings,
     asked: &WordSet,
     line: &Line,
     more: &ParagraphLines,
 ) -> Result<(), AllocError>
-    ensures { OnOk result (text.new.items
-        ≡ text.old.items ++ spec.field_said asked.now line.now more.now) }
+    ensures { OnOk result (found.new
+        ≡ found.old ++ spec.field_said asked.now line.now more.now) }
 {
-    push_words(text, asked, line.number, behind_colon(line.bytes))?;
-    push_more(text, asked, line.number, more)
+    push_words(found, asked, line.number, behind_colon(line.bytes))?;
+    push_more(found, asked, line.number, more)
 }
 
 /// What is said of a line of a recipe, of whose paragraph these are left.
 fn push_line(
-    text: &mut Vec<u8>,
+    found: &mut Warnings,
     asked: &WordSet,
     line: &Line,
     more: &ParagraphLines,
 ) -> Result<(), AllocError>
-    ensures { OnOk result (text.new.items
-        ≡ text.old.items ++ spec.line_said asked.now line.now more.now) }
+    ensures { OnOk result (found.new
+        ≡ found.old ++ spec.line_said asked.now line.now more.now) }
 {
     if line.begins(FieldName::Profiles) {
-        push_field(text, asked, line, more)
+        push_field(found, asked, line, more)
     } else {
         Ok(())
     }
@@ -124,47 +113,47 @@ fn push_line(
 
 /// What is said of the profiles of a recipe.
 fn push_recipe(
-    text: &mut Vec<u8>,
+    found: &mut Warnings,
     asked: &WordSet,
     recipe: &ParagraphLines,
 ) -> Result<(), AllocError>
-    ensures { OnOk result (text.new.items
-        ≡ text.old.items ++ spec.recipe_profiles asked.now recipe.now) }
+    ensures { OnOk result (found.new
+        ≡ found.old ++ spec.recipe_profiles asked.now recipe.now) }
 {
     let mut left = recipe.copied();
     while let Some(line) = left.next() {
-        push_line(text, asked, &line, &left)?;
+        push_line(found, asked, &line, &left)?;
     }
     Ok(())
 }
 
 /// What is said of the profiles of all recipes.
-fn push_all(text: &mut Vec<u8>, asked: &WordSet, farm: &[u8]) -> Result<(), AllocError>
-    ensures { OnOk result (text.new.items ≡ text.old.items
+fn push_all(found: &mut Warnings, asked: &WordSet, farm: &[u8]) -> Result<(), AllocError>
+    ensures { OnOk result (found.new ≡ found.old
         ++ flat_map (spec.recipe_profiles asked.now) (recipes_in farm.now)) }
 {
     let mut left = Lines::behind_first(farm);
     while let Some(recipe) = left.next_recipe() {
-        push_recipe(text, asked, &recipe)?;
+        push_recipe(found, asked, &recipe)?;
     }
     Ok(())
 }
 
-/// Puts a warning of each profile of a recipe that no source asks for behind a text.
+/// Puts a warning of each profile of a recipe that no source asks for behind others.
 ///
 /// # Errors
 ///
 /// [`AllocError`] where memory is refused.
-#[tactic(auto, unfolding(crate::specs::Profiles::profiles_text))]
+#[tactic(auto, unfolding(crate::specs::Profiles::profile_warnings))]
 pub fn push_profiles(
     alloc: Global,
-    text: &mut Vec<u8>,
+    found: &mut Warnings,
     sources: &[u8],
     farm: &[u8],
 ) -> Result<(), AllocError>
-    ensures { OnOk result (text.new.items
-        ≡ text.old.items ++ spec.profiles_text sources.now farm.now) }
+    ensures { OnOk result (found.new
+        ≡ found.old ++ spec.profile_warnings sources.now farm.now) }
 {
     let asked = asked_for(alloc, sources)?;
-    push_all(text, &asked, farm)
+    push_all(found, &asked, farm)
 }

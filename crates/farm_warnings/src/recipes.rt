@@ -5,11 +5,10 @@ ghost use Rattle.deb_text.specs.Groups.{distinct};
 ghost use Rattle.deb_stanza.specs.Stanza.{first_number};
 ghost use Rattle.farm_warnings.specs.Recipes as spec;
 ghost use Rattle.farm_warnings.specs.Sets.{with_all};
-ghost use Rattle.farm_warnings.specs.Words.{text_below};
+ghost use Rattle.farm_warnings.specs.Warned.{all_below};
 
 use crate::lines::{Lines, ParagraphLines};
-use crate::words::{Word, push_count};
-use deb_text::push_pieces;
+use crate::warning::{About, Warnings};
 use farm_universe::Universe;
 use indexmap::IndexSet;
 use plan_asm::{Instruction, Lane, Plan};
@@ -74,22 +73,13 @@ fn recipe_lines(alloc: Global, farm: &[u8]) -> Result<Vec<usize>, AllocError>
 }
 
 /// The warning of a recipe, where its paragraph has a first line.
-fn push_warning(
-    text: &mut Vec<u8>,
-    universe: &Universe,
-    recipe: u32,
-    line: Option<usize>,
-) -> Result<(), AllocError>
-    ensures { OnOk result (text.new.items
-        ≡ text.old.items ++ spec.recipe_warning universe.now recipe line) }
+fn push_warning(found: &mut Warnings, recipe: u32, line: Option<usize>) -> Result<(), AllocError>
+    ensures { OnOk result (found.new ≡ found.old ++ spec.recipe_warning recipe line) }
 {
     let Some(line) = line else {
         return Ok(());
     };
-    push_count(text, Word::FarmLine, line as u64)?;
-    push_pieces(text, &[Word::NoLane.text()])?;
-    push_pieces(text, &[universe.recipe_name(recipe)])?;
-    push_pieces(text, &[b"\n"])
+    found.push(About::Recipe(recipe, line), b"")
 }
 
 /// Tells whether some lane builds a recipe, the set being of those that are built.
@@ -102,60 +92,59 @@ fn is_built(plan: &Plan, built: &IndexSet<u32>, recipe: u32) -> bool
 
 /// What is said of a recipe, where these are built and the paragraphs begin at these lines.
 fn push_recipe(
-    text: &mut Vec<u8>,
-    universe: &Universe,
+    found: &mut Warnings,
     plan: &Plan,
     built: &IndexSet<u32>,
     lines: &[usize],
     recipe: u32,
 ) -> Result<(), AllocError>
     requires { built.now.keys ≡ distinct nat_eq (spec.built plan.now.lanes) }
-    ensures { OnOk result (text.new.items ≡ text.old.items
-        ++ spec.recipe_said universe.now plan.now.lanes lines.now recipe) }
+    ensures { OnOk result (found.new ≡ found.old
+        ++ spec.recipe_said plan.now.lanes lines.now recipe) }
 {
     if is_built(plan, built, recipe) {
         Ok(())
     } else {
-        push_warning(text, universe, recipe, lines.get(recipe as usize).copied())
+        push_warning(found, recipe, lines.get(recipe as usize).copied())
     }
 }
 
 /// What is said of all recipes, where these are built and the paragraphs begin at these lines.
 fn push_unbuilt(
-    text: &mut Vec<u8>,
+    found: &mut Warnings,
     universe: &Universe,
     plan: &Plan,
     built: &IndexSet<u32>,
     lines: &[usize],
 ) -> Result<(), AllocError>
     requires { built.now.keys ≡ distinct nat_eq (spec.built plan.now.lanes) }
-    ensures { OnOk result (text.new.items ≡ text.old.items
-        ++ text_below (length universe.now.recipes)
-        (spec.recipe_said universe.now plan.now.lanes lines.now)) }
+    ensures { OnOk result (found.new ≡ found.old
+        ++ all_below (length universe.now.recipes)
+        (spec.recipe_said plan.now.lanes lines.now)) }
 {
     for recipe in 0..universe.recipes() {
-        push_recipe(text, universe, plan, built, lines, recipe)?;
+        push_recipe(found, plan, built, lines, recipe)?;
     }
     Ok(())
 }
 
-/// Puts a warning of each recipe that no lane builds behind a text.
+/// Puts a warning of each recipe that no lane builds behind others.
 ///
 /// # Errors
 ///
 /// [`AllocError`] where memory is refused.
-#[tactic(auto, unfolding(crate::specs::Recipes::recipes_text))]
+#[tactic(auto, unfolding(crate::specs::Recipes::recipe_warnings))]
 pub fn push_recipes(
     alloc: Global,
-    text: &mut Vec<u8>,
+    found: &mut Warnings,
     universe: &Universe,
     plan: &Plan,
     farm: &[u8],
 ) -> Result<(), AllocError>
-    ensures { OnOk result (text.new.items
-        ≡ text.old.items ++ spec.recipes_text universe.now plan.now.lanes farm.now) }
+    ensures { OnOk result (found.new
+        ≡ found.old ++ spec.recipe_warnings universe.now plan.now.lanes farm.now) }
 {
     let built = built_recipes(alloc, plan)?;
     let lines = recipe_lines(alloc, farm)?;
-    push_unbuilt(text, universe, plan, &built, &lines)
+    push_unbuilt(found, universe, plan, &built, &lines)
 }

@@ -9,10 +9,9 @@ ghost use Rattle.plan_model.specs.Plan as plans;
 ghost use Rattle.farm_warnings.specs.Waits as spec;
 
 use crate::provided::provided;
+use crate::warning::{About, Warnings};
 use crate::word_set::WordSet;
-use crate::words::{Word, push_count};
 use deb_relation::Entry;
-use deb_text::push_pieces;
 use farm_universe::Universe;
 use plan_asm::{Instruction, Plan};
 use plan_lines::{Origin, PlanLines};
@@ -56,32 +55,21 @@ fn could_meet(universe: &Universe, provided: &WordSet, entry: &Entry) -> bool
     false
 }
 
-/// The warning of a wait that comes from this line.
-fn push_warning(text: &mut Vec<u8>, origin: Option<Origin>) -> Result<(), AllocError>
-    ensures { OnOk result (text.new.items ≡ text.old.items ++ spec.wait_warning origin) }
-{
-    match origin {
-        Some(origin) => push_count(text, Word::PlanLine, u64::from(origin.line))?,
-        None => push_pieces(text, &[Word::Plan.text()])?,
-    }
-    push_pieces(text, &[Word::NoPackage.text()])
-}
-
 /// What is said of an instruction that comes from this line.
 fn push_instruction(
-    text: &mut Vec<u8>,
+    found: &mut Warnings,
     universe: &Universe,
     provided: &WordSet,
     origin: Option<Origin>,
     instruction: Option<&Instruction>,
 ) -> Result<(), AllocError>
     requires { provided.now ≡ distinct bytes_eq (spec.provided universe.now) }
-    ensures { OnOk result (text.new.items ≡ text.old.items
+    ensures { OnOk result (found.new ≡ found.old
         ++ spec.instruction_said universe.now origin (option_map (λ x. x.now) instruction.entry)) }
 {
     match instruction {
         Some(Instruction::Wait(entry)) if !could_meet(universe, provided, entry) => {
-            push_warning(text, origin)
+            found.push(About::Wait(origin), b"")
         }
         _ => Ok(()),
     }
@@ -97,7 +85,7 @@ fn instruction_at(plan: &Plan, number: usize, place: usize) -> Option<&Instructi
 
 /// What is said of the waits of a lane.
 fn push_lane(
-    text: &mut Vec<u8>,
+    found: &mut Warnings,
     universe: &Universe,
     provided: &WordSet,
     plan: &Plan,
@@ -106,37 +94,37 @@ fn push_lane(
 ) -> Result<(), AllocError>
     requires provided { provided.now ≡ distinct bytes_eq (spec.provided universe.now) }
     requires lane { number < length plan.now.lanes }
-    ensures { OnOk result (text.new.items ≡ text.old.items
+    ensures { OnOk result (found.new ≡ found.old
         ++ spec.lane_said universe.now plan.now.lanes lines.now.lanes number) }
 {
     for place in 0..plan.lane(number).instructions().len() {
         let origin = lines.origin(number, place);
         let instruction = instruction_at(plan, number, place);
-        push_instruction(text, universe, provided, origin, instruction)?;
+        push_instruction(found, universe, provided, origin, instruction)?;
     }
     Ok(())
 }
 
-/// Puts a warning of each wait whose entry no package could meet behind a text. `lines` are those
+/// Puts a warning of each wait whose entry no package could meet behind others. `lines` are those
 /// of the plan's text.
 ///
 /// # Errors
 ///
 /// [`AllocError`] where memory is refused.
-#[tactic(auto, unfolding(crate::specs::Waits::waits_text))]
+#[tactic(auto, unfolding(crate::specs::Waits::wait_warnings))]
 pub fn push_waits(
     alloc: Global,
-    text: &mut Vec<u8>,
+    found: &mut Warnings,
     universe: &Universe,
     plan: &Plan,
     lines: &PlanLines,
 ) -> Result<(), AllocError>
-    ensures { OnOk result (text.new.items ≡ text.old.items
-        ++ spec.waits_text universe.now plan.now.lanes lines.now.lanes) }
+    ensures { OnOk result (found.new ≡ found.old
+        ++ spec.wait_warnings universe.now plan.now.lanes lines.now.lanes) }
 {
     let provided = provided(alloc, universe)?;
     for number in 0..plan.lanes() {
-        push_lane(text, universe, &provided, plan, lines, number)?;
+        push_lane(found, universe, &provided, plan, lines, number)?;
     }
     Ok(())
 }

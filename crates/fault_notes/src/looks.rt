@@ -1,8 +1,5 @@
 //! What the bytes of a refused text look like.
 
-ghost use Rattle.std.specs.Prelude.{◌≡◌};
-ghost use Rattle.fault_notes.specs.Looks as spec;
-
 use deb_text::files::{FARM, PLAN};
 
 /// What a text looks like that is not what it was given as.
@@ -31,10 +28,7 @@ pub enum Look {
 
 impl Look {
     /// What to say of it.
-    #[tactic(auto, unfolding(crate::specs::Looks::look_sentence))]
-    pub fn sentence(self) -> &'static [u8]
-        ensures { result.now ≡ spec.look_sentence self }
-    {
+    pub fn sentence(self) -> &'static [u8] {
         match self {
             Look::ByteOrderMark => b"the text begins with a byte order mark: save it without one",
             Look::Utf16 => b"the text is UTF-16: save it as UTF-8 without a byte order mark",
@@ -55,16 +49,11 @@ impl Look {
 }
 
 /// Tells whether a text that is not what it was given as is refused with this code.
-#[tactic(auto, unfolding(crate::specs::Looks::is_looked_at))]
-pub fn is_looked_at(code: u16) -> bool
-    ensures { result ≡ spec.is_looked_at code }
-{
+pub fn is_looked_at(code: u16) -> bool {
     matches!(code, 101 | 102 | 103 | 121 | 201 | 301)
 }
 
-fn marked_look(text: &[u8]) -> Option<Look>
-    ensures { result ≡ spec.marked_look text.now }
-{
+fn marked_look(text: &[u8]) -> Option<Look> {
     if text.starts_with(&[0xef, 0xbb, 0xbf]) {
         Some(Look::ByteOrderMark)
     } else if text.starts_with(&[0xff, 0xfe]) || text.starts_with(&[0xfe, 0xff]) {
@@ -74,9 +63,7 @@ fn marked_look(text: &[u8]) -> Option<Look>
     }
 }
 
-fn packed_look(text: &[u8]) -> Option<Look>
-    ensures { result ≡ spec.packed_look text.now }
-{
+fn packed_look(text: &[u8]) -> Option<Look> {
     if text.starts_with(&[0x1f, 0x8b]) {
         Some(Look::Gzip)
     } else if text.starts_with(b"\xfd7zXZ\0") {
@@ -92,9 +79,7 @@ fn packed_look(text: &[u8]) -> Option<Look>
     }
 }
 
-fn kind_look(file: u8, text: &[u8]) -> Option<Look>
-    ensures { result ≡ spec.kind_look file text.now }
-{
+fn kind_look(file: u8, text: &[u8]) -> Option<Look> {
     if text.starts_with(b"plan 1") && file != PLAN {
         Some(Look::Plan)
     } else if text.starts_with(b"Package:") && (file == FARM || file == PLAN) {
@@ -106,9 +91,7 @@ fn kind_look(file: u8, text: &[u8]) -> Option<Look>
     }
 }
 
-fn signed_look(file: u8, text: &[u8]) -> Option<Look>
-    ensures { result ≡ spec.signed_look file text.now }
-{
+fn signed_look(file: u8, text: &[u8]) -> Option<Look> {
     if text.starts_with(b"-----BEGIN PGP") {
         Some(Look::Signed)
     } else {
@@ -116,9 +99,7 @@ fn signed_look(file: u8, text: &[u8]) -> Option<Look>
     }
 }
 
-fn carriage_look(line: &[u8]) -> Option<Look>
-    ensures { result ≡ spec.carriage_look line.now }
-{
+fn carriage_look(line: &[u8]) -> Option<Look> {
     if line.ends_with(b"\r") {
         Some(Look::CarriageReturn)
     } else {
@@ -128,10 +109,7 @@ fn carriage_look(line: &[u8]) -> Option<Look>
 
 /// Tells what a text looks like that was given as this file, and of which this line is refused:
 /// the first sign that it is of another kind, where there is one.
-#[tactic(auto, unfolding(crate::specs::Looks::look_of))]
-pub fn look_of(file: u8, text: &[u8], line: &[u8]) -> Option<Look>
-    ensures { result ≡ spec.look_of file text.now line.now }
-{
+pub fn look_of(file: u8, text: &[u8], line: &[u8]) -> Option<Look> {
     marked_look(text)
         .or(packed_look(text))
         .or(signed_look(file, text))

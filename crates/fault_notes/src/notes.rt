@@ -1,11 +1,5 @@
 //! What is said of a text that is refused.
 
-ghost use Rattle.std.specs.Prelude.{◌≡◌, is_err, take, Some};
-ghost use Rattle.std.specs.Option.{option_map};
-ghost use Rattle.fault_notes.specs.Notes as spec;
-ghost use Rattle.fault_notes.specs.Places.{file_name as named};
-ghost use Rattle.report_sink.specs.Sinks.{IsWritten};
-
 use crate::escapes::write_escaped;
 use crate::looks::{Look, is_looked_at, look_of};
 use crate::places::{file_name, line_at};
@@ -18,10 +12,7 @@ use report_sink::{Sink, WriteFailed, whether_written, write_pieces, write_text};
 const MOST_SHOWN: usize = 200;
 
 /// The first bytes of a line.
-#[tactic(auto, using(std::proofs::lemmas::List::take_min))]
-fn shown(line: &[u8]) -> &[u8]
-    ensures { result.now ≡ take MOST_SHOWN line.now }
-{
+fn shown(line: &[u8]) -> &[u8] {
     &line[..MOST_SHOWN.min(line.len())]
 }
 
@@ -31,11 +22,7 @@ fn write_line<S: Sink>(
     file: &[u8],
     number: u32,
     line: &[u8],
-) -> Result<(), WriteFailed>
-    ensures written { IsWritten (S.state out.old) (S.state out.new)
-        (spec.place_line file.now number (Some line.now)) }
-    ensures told { is_err result ≡ (S.state out.new).failed }
-{
+) -> Result<(), WriteFailed> {
     let mut digits = Buffer::new();
     let number = digits.format(number);
     write_pieces(out, &[file, b" line ", number.as_bytes(), b": "])?;
@@ -44,30 +31,22 @@ fn write_line<S: Sink>(
 }
 
 /// The line where there is one.
-fn write_place<S: Sink>(out: &mut S, fault: &Fault, line: Option<&[u8]>) -> Result<(), WriteFailed>
-    ensures written { IsWritten (S.state out.old) (S.state out.new)
-        (spec.place_line (named fault.now.file) fault.now.line
-        (option_map (λ line. line.now) line.entry)) }
-    ensures told { is_err result ≡ (S.state out.new).failed }
-{
+fn write_place<S: Sink>(
+    out: &mut S,
+    fault: &Fault,
+    line: Option<&[u8]>,
+) -> Result<(), WriteFailed> {
     match line {
         Some(line) => write_line(out, file_name(fault.file), fault.line, line),
         None => whether_written(out),
     }
 }
 
-fn write_sentence<S: Sink>(out: &mut S, sentence: &[u8]) -> Result<(), WriteFailed>
-    ensures written { IsWritten (S.state out.old) (S.state out.new)
-        (spec.sentence_line sentence.now) }
-    ensures told { is_err result ≡ (S.state out.new).failed }
-{
+fn write_sentence<S: Sink>(out: &mut S, sentence: &[u8]) -> Result<(), WriteFailed> {
     write_pieces(out, &[b"  ", sentence, b"\n"])
 }
 
-fn write_look<S: Sink>(out: &mut S, look: Option<Look>) -> Result<(), WriteFailed>
-    ensures written { IsWritten (S.state out.old) (S.state out.new) (spec.look_line look) }
-    ensures told { is_err result ≡ (S.state out.new).failed }
-{
+fn write_look<S: Sink>(out: &mut S, look: Option<Look>) -> Result<(), WriteFailed> {
     match look {
         Some(look) => write_sentence(out, look.sentence()),
         None => whether_written(out),
@@ -75,10 +54,7 @@ fn write_look<S: Sink>(out: &mut S, look: Option<Look>) -> Result<(), WriteFaile
 }
 
 /// What the text looks like, where its refusal is one of such a text.
-fn fault_look(fault: &Fault, text: &[u8], line: Option<&[u8]>) -> Option<Look>
-    ensures { result ≡ spec.fault_look fault.now text.now
-        (option_map (λ line. line.now) line.entry) }
-{
+fn fault_look(fault: &Fault, text: &[u8], line: Option<&[u8]>) -> Option<Look> {
     if !is_looked_at(fault.code) {
         return None;
     }
@@ -92,11 +68,11 @@ fn fault_look(fault: &Fault, text: &[u8], line: Option<&[u8]>) -> Option<Look>
 /// # Errors
 ///
 /// [`WriteFailed`] where the sink has failed. It has then taken a first part of the lines.
-pub fn write_fault_note<S: Sink>(out: &mut S, fault: &Fault, text: &[u8]) -> Result<(), WriteFailed>
-    ensures written { IsWritten (S.state out.old) (S.state out.new)
-        (spec.note_text fault.now text.now) }
-    ensures told { is_err result ≡ (S.state out.new).failed }
-{
+pub fn write_fault_note<S: Sink>(
+    out: &mut S,
+    fault: &Fault,
+    text: &[u8],
+) -> Result<(), WriteFailed> {
     let line = line_at(text, fault.line);
     write_place(out, fault, line)?;
     write_sentence(out, sentence(fault.code))?;

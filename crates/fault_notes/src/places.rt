@@ -1,7 +1,6 @@
 //! The texts by their names, and a line of a text by its number.
 
 ghost use Rattle.std.specs.Prelude.{◌≡◌};
-ghost use Rattle.std.specs.Option.{option_map};
 ghost use Rattle.fault_notes.specs.Places as spec;
 
 use deb_text::files::{FARM, PACKAGES, PLAN, SOURCES};
@@ -22,9 +21,7 @@ pub fn file_name(file: u8) -> &'static [u8]
 
 /// Gives the line of a text that has this number, without its newline. Lines count from 1: there
 /// is none of number 0, and none behind the last.
-pub fn line_at(text: &[u8], number: u32) -> Option<&[u8]>
-    ensures { option_map (λ line. line.now) result ≡ spec.line_numbered text.now number }
-{
+pub fn line_at(text: &[u8], number: u32) -> Option<&[u8]> {
     if number == 0 {
         return None;
     }

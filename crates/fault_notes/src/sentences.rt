@@ -1,14 +1,9 @@
 //! What was expected where a text is refused: one sentence for each code.
 
-ghost use Rattle.std.specs.Prelude.{◌≡◌};
-ghost use Rattle.fault_notes.specs.Sentences as spec;
-
 /// The sentence of a code that no text is refused with.
 const OTHER: &[u8] = b"expected another text";
 
-fn text_sentence(code: u16) -> &'static [u8]
-    ensures { result.now ≡ spec.text_sentence code }
-{
+fn text_sentence(code: u16) -> &'static [u8] {
     match code {
         101 => b"expected a field above a line that begins with a blank and goes on with it",
         102 => b"expected a field, as in `Name: value`: this line has no colon",
@@ -19,9 +14,7 @@ fn text_sentence(code: u16) -> &'static [u8]
     }
 }
 
-fn version_sentence(code: u16) -> &'static [u8]
-    ensures { result.now ≡ spec.version_sentence code }
-{
+fn version_sentence(code: u16) -> &'static [u8] {
     match code {
         111 => b"expected a version, and nothing empty beside its first colon or last hyphen",
         112 => b"expected a version of letters, digits and `. + - ~`, its epoch of digits",
@@ -31,9 +24,7 @@ fn version_sentence(code: u16) -> &'static [u8]
     }
 }
 
-fn relation_sentence(code: u16) -> &'static [u8]
-    ensures { result.now ≡ spec.relation_sentence code }
-{
+fn relation_sentence(code: u16) -> &'static [u8] {
     match code {
         121 => b"expected a name of two or more of `a-z 0-9 + - .`, and only its relation behind",
         122 => b"expected one of the operators `<<`, `<=`, `=`, `>=` and `>>`",
@@ -50,9 +41,7 @@ fn relation_sentence(code: u16) -> &'static [u8]
     }
 }
 
-fn farm_sentence(code: u16) -> &'static [u8]
-    ensures { result.now ≡ spec.farm_sentence code }
-{
+fn farm_sentence(code: u16) -> &'static [u8] {
     match code {
         201 => b"expected a field that is absent from this paragraph",
         202 => b"expected a number within its limit, or one of the words of this field",
@@ -68,9 +57,7 @@ fn farm_sentence(code: u16) -> &'static [u8]
     }
 }
 
-fn plan_sentence(code: u16) -> &'static [u8]
-    ensures { result.now ≡ spec.plan_sentence code }
-{
+fn plan_sentence(code: u16) -> &'static [u8] {
     match code {
         301 => b"expected `plan 1` before all other lines",
         302 => b"expected `lane`, `block`, `use`, `end` or an instruction, whole and in its place",
@@ -85,9 +72,7 @@ fn plan_sentence(code: u16) -> &'static [u8]
     }
 }
 
-fn late_sentence(code: u16) -> &'static [u8]
-    ensures { result.now ≡ spec.late_sentence code }
-{
+fn late_sentence(code: u16) -> &'static [u8] {
     match code {
         451 => b"expected the line of a certificate of this plan that comes next",
         452 => b"expected no more of a lane than it can know there",
@@ -100,10 +85,7 @@ fn late_sentence(code: u16) -> &'static [u8]
 }
 
 /// Tells in a sentence what was expected where a text is refused with this code.
-#[tactic(auto, unfolding(crate::specs::Sentences::sentence_of))]
-pub fn sentence(code: u16) -> &'static [u8]
-    ensures { result.now ≡ spec.sentence_of code }
-{
+pub fn sentence(code: u16) -> &'static [u8] {
     match code {
         0..110 => text_sentence(code),
         110..120 => version_sentence(code),

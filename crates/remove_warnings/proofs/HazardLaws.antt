@@ -9,7 +9,7 @@ use Rattle.plan_model.specs.Plan.{Plan, lane}
 use Rattle.plan_model.specs.Safety.{Hazard, hazard_at}
 use Rattle.plan_verifier.specs.Walk.{place_told}
 use Rattle.refusal_reasons.proofs.FirstLaws.{first_below-at}
-use Rattle.remove_warnings.specs.Lines.{looked_at}
+use Rattle.remove_warnings.specs.Warnings.{looked_at}
 
 module _ (u : Universe) (p : Plan) (rows : Rows) (l : ℕ) where
   abbrev at : ℕ → Option (ℕ × Hazard)

@@ -1,3 +1,3 @@
 pub mod Left
-pub mod Lines
+pub mod Warnings
 pub mod Parts

@@ -1,19 +1,20 @@
-//! What is said of the `remove` instructions of a plan.
+//! What the `remove` instructions of a plan may leave behind.
 
-ghost use Rattle.std.specs.Prelude.{◌≡◌, ◌<◌, IfOk, length};
+ghost use Rattle.std.specs.Prelude.{◌≡◌, ◌<◌, ◌++◌, IfOk, OnOk, length};
 ghost use Rattle.std.specs.Option.{option_map};
 ghost use Rattle.farm_explain.specs.LaneNotes.{first_hazard};
 ghost use Rattle.may_rows.specs.Words.{AreWords, may_of};
+ghost use Rattle.plan_model.specs.MayAt.{may_at};
 ghost use Rattle.plan_model.specs.Plan as plans;
 ghost use Rattle.plan_model.specs.Plan.{lane};
 ghost use Rattle.plan_model.specs.Sound.{IsInstruction};
 ghost use Rattle.plan_verifier.specs.Branch.{IsAt};
 ghost use Rattle.plan_verifier.specs.Stage.{IsStage};
-ghost use Rattle.remove_warnings.specs.Lines as spec;
+ghost use Rattle.remove_warnings.specs.Warnings as spec;
 
 use crate::first::left_unmet;
-use crate::text::push_reason;
 use crate::walk::go_to;
+use crate::warning::Left;
 use farm_universe::Universe;
 use may_rows::MayHold;
 use plan_asm::{Instruction, Plan};
@@ -53,31 +54,45 @@ fn instruction_at(plan: &Plan, number: usize, place: usize) -> Option<&Instructi
     plan.lane(number).instructions().get(place)
 }
 
-/// What is said of the instruction at a place of a lane, where this may be held.
-fn place_note<K: KnownWords>(
-    alloc: Global,
+/// What the instruction at a place of a lane may leave, where this may be held.
+fn left_at<K: KnownWords>(
     stage: &Stage<'_, K>,
-    lines: &PlanLines,
     number: usize,
     place: usize,
     may: &LaneMay,
-) -> Result<Vec<u8>, AllocError>
+) -> Result<Option<Reason>, AllocError>
     requires stage { IsStage stage.now.universe.now stage.now.plan.now.lanes
         stage.now.tables.now stage.now.outputs.now (K.known stage.now.known.now) }
     requires lane { number < length stage.now.plan.now.lanes }
     requires at { IsAt stage.now.universe.now stage.now.plan.now.lanes
         (K.known stage.now.known.now).rows number place may.now }
-    ensures { IfOk result (λ text. text.items ≡ spec.place_said stage.now.universe.now
-        stage.now.plan.now.lanes (K.known stage.now.known.now).rows lines.now.lanes number place) }
+    ensures { IfOk result (λ told. told ≡ spec.left_of stage.now.universe.now
+        (may_at stage.now.universe.now stage.now.plan.now.lanes
+        (K.known stage.now.known.now).rows number place)
+        (plans.instruction_at stage.now.plan.now.lanes number place)) }
 {
-    let mut text = Vec::new(alloc);
-    let Some(instruction) = instruction_at(stage.plan, number, place) else {
-        return Ok(text);
-    };
-    let told = left_by(stage.universe, stage.tables, &may.here, instruction)?;
-    let origin = lines.origin(number, place);
-    push_reason(&mut text, stage.universe, origin, told)?;
-    Ok(text)
+    match instruction_at(stage.plan, number, place) {
+        Some(instruction) => left_by(stage.universe, stage.tables, &may.here, instruction),
+        None => Ok(None),
+    }
+}
+
+/// Puts a warning of the instruction at a place of a lane behind others, where it leaves this.
+fn push_warning(
+    warnings: &mut Vec<Left>,
+    lines: &PlanLines,
+    number: usize,
+    place: usize,
+    told: Option<Reason>,
+) -> Result<(), AllocError>
+    ensures { OnOk result (warnings.new.items
+        ≡ warnings.old.items ++ spec.warned lines.now.lanes number place told) }
+{
+    if let Some(reason) = told {
+        let origin = lines.origin(number, place);
+        warnings.push(Left { origin, reason })?;
+    }
+    Ok(())
 }
 
 /// How many instructions of a lane are looked at: all, or up to the one by whose number it is
@@ -121,28 +136,29 @@ fn first_held<K: KnownWords>(
     }
 }
 
-/// What is said of a lane.
-fn lane_note<K: KnownWords>(
+/// Puts the warnings of a lane behind others.
+fn push_lane<K: KnownWords>(
+    warnings: &mut Vec<Left>,
     alloc: Global,
     stage: &Stage<'_, K>,
     lines: &PlanLines,
     number: usize,
-) -> Result<Vec<u8>, AllocError>
+) -> Result<(), AllocError>
     requires stage { IsStage stage.now.universe.now stage.now.plan.now.lanes
         stage.now.tables.now stage.now.outputs.now (K.known stage.now.known.now) }
     requires lane { number < length stage.now.plan.now.lanes }
-    ensures { IfOk result (λ text. text.items ≡ spec.lane_said stage.now.universe.now
-        stage.now.plan.now.lanes (K.known stage.now.known.now).rows lines.now.lanes number) }
+    ensures { OnOk result (warnings.new.items ≡ warnings.old.items ++ spec.lane_left
+        stage.now.universe.now stage.now.plan.now.lanes (K.known stage.now.known.now).rows
+        lines.now.lanes number) }
 {
-    let mut text = Vec::new(alloc);
     let count = looked_at(alloc, stage, number)?;
     let mut may = first_held(alloc, stage, number)?;
     for place in 0..count {
         go_to(stage, number, place, &mut may)?;
-        let note = place_note(alloc, stage, lines, number, place, &may)?;
-        text.extend_from_slice(&note)?;
+        let told = left_at(stage, number, place, &may)?;
+        push_warning(warnings, lines, number, place, told)?;
     }
-    Ok(text)
+    Ok(())
 }
 
 /// Gives a warning of each `remove`, up to the instruction by whose number its lane is refused,
@@ -153,21 +169,20 @@ fn lane_note<K: KnownWords>(
 /// # Errors
 ///
 /// [`AllocError`] where memory is refused.
-#[tactic(auto, unfolding(crate::specs::Lines::left_text))]
-pub fn left_notes<K: KnownWords>(
+#[tactic(auto, unfolding(crate::specs::Warnings::left_warnings))]
+pub fn left_warnings<K: KnownWords>(
     alloc: Global,
     stage: &Stage<'_, K>,
     lines: &PlanLines,
-) -> Result<Vec<u8>, AllocError>
+) -> Result<Vec<Left>, AllocError>
     requires { IsStage stage.now.universe.now stage.now.plan.now.lanes
         stage.now.tables.now stage.now.outputs.now (K.known stage.now.known.now) }
-    ensures { IfOk result (λ text. text.items ≡ spec.left_text stage.now.universe.now
+    ensures { IfOk result (λ warnings. warnings.items ≡ spec.left_warnings stage.now.universe.now
         stage.now.plan.now.lanes (K.known stage.now.known.now).rows lines.now.lanes) }
 {
-    let mut text = Vec::new(alloc);
+    let mut warnings = Vec::new(alloc);
     for number in 0..stage.plan.lanes() {
-        let note = lane_note(alloc, stage, lines, number)?;
-        text.extend_from_slice(&note)?;
+        push_lane(&mut warnings, alloc, stage, lines, number)?;
     }
-    Ok(text)
+    Ok(warnings)
 }

@@ -4,11 +4,10 @@ use Rattle.std.specs.Option.{option_and_then}
 use Rattle.std.proofs.lemmas.Bool.{cases_lt}
 use Rattle.std.proofs.lemmas.Option.{none-some, slice_get_past}
 use Rattle.deb_relation.specs.Relations.{Entry}
-use Rattle.farm_model.specs.Universe.{Universe}
 use Rattle.plan_lines.specs.Origins.{LaneLines}
 use Rattle.plan_model.specs.Plan.{Plan, lane}
-use Rattle.wait_notes.specs.declared.groups.Group.{Group}
-use Rattle.wait_notes.specs.StuckText.{lane_note, lane_notes}
+use Rattle.farm_explain.specs.declared.told.Group.{Group}
+use Rattle.wait_notes.specs.Stuck.{lane_note, lane_notes}
 use Rattle.wait_notes.specs.Waiting.{entry_of, wait_at, stands_in}
 
 -- a wait stands ahead of its lane's end
@@ -21,18 +20,18 @@ within p l i e here =
           (slice_get_past (lane p l).instructions i (omega arith)))))
     ]
 
-module _ (u : Universe) (p : Plan) (ls : List LaneLines) (next : ℕ → Option ℕ) (group : Group)
+module _ (p : Plan) (ls : List LaneLines) (next : ℕ → Option ℕ) (group : Group)
     (l i : ℕ) (e : Entry) (n : ℕ) (is : n ≡ length p) where
   by_test : (t : Bool) → stands_in next n group l ≡ t
-      → lane_notes u p ls next group l i (Some e)
-      ≡ (if t then lane_note u p ls group l i e ∷ [] else [])
+      → lane_notes p ls next group l i (Some e)
+      ≡ (if t then lane_note p ls next group l i ∷ [] else [])
   by_test t stands =
-      ap (λ (b : Bool). if b then lane_note u p ls group l i e ∷ [] else [])
+      ap (λ (b : Bool). if b then lane_note p ls next group l i ∷ [] else [])
       (ap (λ k. stands_in next k group l) (sym is) ∙ stands)
 
-  pub left_out : stands_in next n group l ≡ false → lane_notes u p ls next group l i (Some e) ≡ []
+  pub left_out : stands_in next n group l ≡ false → lane_notes p ls next group l i (Some e) ≡ []
   left_out = by_test false
 
   pub taken : stands_in next n group l ≡ true
-      → lane_notes u p ls next group l i (Some e) ≡ lane_note u p ls group l i e ∷ []
+      → lane_notes p ls next group l i (Some e) ≡ lane_note p ls next group l i ∷ []
   taken = by_test true

@@ -1,7 +1,6 @@
-pub mod Words
 pub mod Satisfying
 pub mod Places
 pub mod Waiting
-pub mod StuckText
+pub mod Stuck
 pub mod Shown
-pub mod WaitText
+pub mod Waits

@@ -1,18 +1,38 @@
--- A table of where variants are published: of each name, for each of its variants. The project's
--- own words. Parameters: u a universe, p a plan, t a table, v a variant.
+-- Where variants are published, and a table of it: of each name, for each of its variants. The
+-- project's own words. Parameters: u a universe, p a plan, t a table, v a variant.
 --
---   found t v              the lane that publishes a variant, and the instruction's number
+--   first_publication      the lane that publishes a variant, and the instruction's number
+--   found t v              the same by a table
 --   HasSlots               the table has a place for each variant
 --   AddsFound              a table has more than another: what was not found there
 --   IsTableOf              all that a plan publishes
-use Rattle.std.specs.Prelude.{◌≡◌, ℕ, List, [], length, Option, None, slice_index_or, slice_set, Some}
+use Rattle.std.specs.Prelude.{◌≡◌, ℕ, ◌+◌, Bool, false, List, [], length, Option, None, slice_index_or, slice_set, Some, if◌then◌else◌}
 use Rattle.std.specs.Option.{option_map, option_or}
-use Rattle.farm_explain.specs.ReasonText.{first_publication}
 use Rattle.farm_model.specs.declared.types.Variant.{Variant}
 use Rattle.farm_model.specs.Packages.{names, variants}
 use Rattle.farm_model.specs.Universe.{Universe}
-use Rattle.plan_model.specs.Plan.{Plan}
+use Rattle.plan_model.specs.declared.instructions.Instruction.{Instruction}
+use Rattle.plan_model.specs.Known.{gives}
+use Rattle.plan_model.specs.Plan.{Plan, lane, instruction_at}
+use Rattle.refusal_reasons.specs.First.{first_below}
 use Rattle.wait_notes.specs.declared.publications.Publication.{Publication}
+
+-- the instruction, if there is one, publishes the variant
+abbrev pub publishes_variant : Universe → Variant → Option Instruction → Bool
+publishes_variant u v None = false
+publishes_variant u v (Some x) = gives u v x
+
+-- the number of a lane's instruction that publishes it
+abbrev pub publishing_place : Universe → Plan → Variant → ℕ → Option (ℕ × ℕ)
+publishing_place u p v j =
+    first_below {A = ℕ × ℕ} (length (lane p j).instructions)
+    (λ k. if publishes_variant u v (instruction_at p j k) then Some (j, k + 1) else None)
+
+-- the lane that publishes it, and the instruction's number
+abbrev pub first_publication : Universe → Plan → Variant → Option (ℕ × ℕ)
+first_publication u p v = first_below (length p) (publishing_place u p v)
+
+-- ---- by a table
 
 abbrev pub Table : Type 0
 Table = List (List (Option Publication))

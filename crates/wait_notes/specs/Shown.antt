@@ -9,7 +9,7 @@ use Rattle.plan_model.specs.Plan.{Plan}
 use Rattle.wait_order.specs.declared.standing.Standing.{Standing}
 use Rattle.wait_order.specs.Settled.{IsSettled}
 use Rattle.wait_order.specs.Standing.{AreStanding, place_of}
-use Rattle.wait_notes.specs.StuckText.{stuck_notes}
+use Rattle.wait_notes.specs.Stuck.{stuck_notes}
 
 pub record ShowsStuck (u : Universe) (p : Plan) (ls : List LaneLines) (notes : List NoteFacts) :
     Type 0 where

@@ -16,7 +16,7 @@ use Rattle.plan_model.specs.declared.instructions.Instruction.{Instruction}
 use Rattle.plan_model.specs.declared.instructions.Instruction.TheVariants.{Wait}
 use Rattle.plan_model.specs.Plan.{Plan, lane, instruction_at, outputs_of}
 use Rattle.refusal_reasons.specs.First.{first_below}
-use Rattle.wait_notes.specs.declared.groups.Group.{Group}
+use Rattle.farm_explain.specs.declared.told.Group.{Group}
 
 -- the entry of a wait
 abbrev pub entry_of : Instruction → Option Entry

@@ -1,63 +1,48 @@
 //! Lanes that wait in a circle, as a note.
 
-ghost use Rattle.std.specs.Prelude.{◌≡◌, ◌++◌, codes, length, IfOk, OnOk};
+ghost use Rattle.std.specs.Prelude.{◌≡◌, ◌++◌, length, IfOk, OnOk};
 ghost use Rattle.farm_explain.specs.Notes.{all_facts, facts};
-ghost use Rattle.wait_notes.specs.StuckText as spec;
+ghost use Rattle.wait_notes.specs.Stuck as spec;
 ghost use Rattle.wait_notes.specs.Waiting.{next_lane_of};
 
 use crate::groups::{step, way_back};
-use crate::words::Word;
 use deb_text::push_pieces;
-use farm_explain::{Kind, Note};
+use farm_explain::{Note, Told};
 use plan_asm::{Plan, lane_name};
 use std::alloc::{AllocError, Global};
 
 /// The name of a lane, where there is one.
-fn push_name(text: &mut Vec<u8>, plan: &Plan, number: Option<usize>) -> Result<(), AllocError>
-    ensures { OnOk result
-        (text.new.items ≡ text.old.items ++ spec.name_text plan.now.lanes number) }
-{
+fn name_of(plan: &Plan, number: Option<usize>) -> &[u8] {
     match number {
-        Some(number) => push_pieces(text, &[lane_name(plan, number)]),
-        None => Ok(()),
+        Some(number) => lane_name(plan, number),
+        None => b"",
     }
 }
 
-/// `a waits for b`.
-fn push_link(
-    text: &mut Vec<u8>,
-    plan: &Plan,
-    from: Option<usize>,
-    to: Option<usize>,
-) -> Result<(), AllocError>
-    ensures { OnOk result
-        (text.new.items ≡ text.old.items ++ spec.waits_for_text plan.now.lanes from to) }
-{
-    push_name(text, plan, from)?;
-    push_pieces(text, &[Word::WaitsFor.text()])?;
-    push_name(text, plan, to)
-}
-
-/// The line of a circle: from a lane over so many others to itself.
+/// Puts the line of a circle behind a text: from a lane over so many others to itself.
 fn push_line(
     text: &mut Vec<u8>,
     plan: &Plan,
     nexts: &[Option<usize>],
     first: usize,
     others: usize,
-) -> Result<(), AllocError>
-    ensures { OnOk result (text.new.items ≡ text.old.items
-        ++ spec.circle_line plan.now.lanes (next_lane_of nexts.now) first others) }
-{
+) -> Result<(), AllocError> {
     let mut at = Some(first);
     for _passed in 0..others {
         let next = step(nexts, at);
-        push_link(text, plan, at, next)?;
-        push_pieces(text, &[b", "])?;
+        push_pieces(
+            text,
+            &[
+                name_of(plan, at),
+                b" waits for ",
+                name_of(plan, next),
+                b", ",
+            ],
+        )?;
         at = next;
     }
-    push_link(text, plan, at, step(nexts, at))?;
-    push_pieces(text, &[b"\n"])
+    let last = name_of(plan, step(nexts, at));
+    push_pieces(text, &[name_of(plan, at), b" waits for ", last, b"\n"])
 }
 
 /// The first lane that waits in a circle, and how many others there are in its circle.
@@ -80,13 +65,12 @@ fn circle_note(
     first: usize,
     others: usize,
 ) -> Result<Note, AllocError>
-    ensures { IfOk result (λ note. facts note
-        ≡ spec.circle_note plan.now.lanes (next_lane_of nexts.now) first others) }
+    ensures { IfOk result (λ note. facts note ≡ spec.circle_note (first, others)) }
 {
     let mut text = Vec::new(alloc);
     push_line(&mut text, plan, nexts, first, others)?;
     Ok(Note {
-        kind: Kind::Circle,
+        told: Told::Circle(first, others),
         place: None,
         text,
     })

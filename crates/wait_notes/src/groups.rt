@@ -2,48 +2,12 @@
 
 ghost use Rattle.std.specs.Prelude.{◌≡◌, length};
 ghost use Rattle.std.specs.Option.{option_and_then};
-ghost use Rattle.wait_notes.specs.StuckText.{group_kind, group_word};
 ghost use Rattle.wait_notes.specs.Waiting as spec;
 
-use crate::words::Word;
-use farm_explain::Kind;
-
-/// Why a lane is stuck.
-#[derive(Clone, Copy)]
-pub enum Group {
-    /// No lane publishes what satisfies its entry.
-    Unpublished,
-    /// It waits for itself, over other lanes or not.
-    Circle,
-    /// It waits for lanes that are stuck.
-    Behind,
-}
-
-/// What is said of the lanes of a group.
-#[tactic(auto, unfolding(crate::specs::StuckText::group_word))]
-pub fn group_word(group: Group) -> &'static [u8]
-    ensures { result.now ≡ group_word group }
-{
-    match group {
-        Group::Unpublished => Word::Unpublished.text(),
-        Group::Circle => Word::InCircle.text(),
-        Group::Behind => Word::Behind.text(),
-    }
-}
-
-/// The kind of the notes on the lanes of a group.
-pub fn group_kind(group: Group) -> Kind
-    ensures { result ≡ group_kind group }
-{
-    match group {
-        Group::Unpublished => Kind::Unpublished,
-        Group::Circle => Kind::InCircle,
-        Group::Behind => Kind::Behind,
-    }
-}
+use farm_explain::Group;
 
 /// The lane that a lane waits for.
-fn next_of(nexts: &[Option<usize>], number: usize) -> Option<usize>
+pub fn next_of(nexts: &[Option<usize>], number: usize) -> Option<usize>
     ensures { result ≡ spec.next_lane_of nexts.now number }
 {
     if number < nexts.len() {

@@ -2,13 +2,12 @@
 
 ghost use Rattle.std.specs.Prelude.{◌≡◌, ◌<◌, ◌≤◌, ℕ, Some, None, [], IfOk, length, slice_index_or, slice_set, if◌then◌else◌};
 ghost use Rattle.std.specs.Option.{option_map};
-ghost use Rattle.farm_explain.specs.ReasonText.{publishes_variant, publishing_place};
 ghost use Rattle.farm_model.specs.declared.types.Variant.{Variant as VariantData};
 ghost use Rattle.farm_model.specs.Packages.{contains, outputs, same};
 ghost use Rattle.farm_model.specs.Sound.{IsUniverse};
 ghost use Rattle.farm_model.specs.Universe as farm;
 ghost use Rattle.wait_notes.specs.Places as spec;
-ghost use Rattle.wait_notes.specs.Places.{AddsFound, HasSlots, IsTableOf};
+ghost use Rattle.wait_notes.specs.Places.{AddsFound, HasSlots, IsTableOf, publishes_variant, publishing_place};
 
 use farm_universe::{Universe, Variant};
 use may_rows::variant_count;

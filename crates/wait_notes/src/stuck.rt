@@ -5,22 +5,21 @@ ghost use Rattle.farm_explain.specs.Notes.{all_facts, facts};
 ghost use Rattle.plan_model.specs.Plan.{lane};
 ghost use Rattle.plan_verifier.specs.Stage.{IsStage};
 ghost use Rattle.wait_order.specs.Standing.{place_of};
-ghost use Rattle.wait_notes.specs.Places.{IsTableOf};
 ghost use Rattle.wait_notes.specs.Shown.{ShowsStuck};
-ghost use Rattle.wait_notes.specs.StuckText as spec;
+ghost use Rattle.wait_notes.specs.Stuck as spec;
 ghost use Rattle.wait_notes.specs.Waiting.{awaited, next_lane_of};
 
 use crate::circles::push_circle;
-use crate::groups::{Group, group_kind, group_word, stands_in};
+use crate::groups::{next_of, stands_in};
 use crate::lane::{LaneOf, number_at};
 use crate::publications::Publications;
 use crate::satisfying::satisfying;
 use crate::sources::push_sources;
 use crate::waiting::{nexts, wait_at};
-use crate::words::{Word, push_count};
 use deb_relation::Entry;
 use deb_text::push_pieces;
-use farm_explain::{Note, note_place, push_where};
+use farm_explain::place::{push_count, push_where};
+use farm_explain::{Group, Note, Told, note_place};
 use farm_universe::Universe;
 use plan_asm::{Plan, lane_name};
 use plan_lines::PlanLines;
@@ -42,6 +41,15 @@ struct Halted<'a> {
     nexts: &'a [Option<usize>],
 }
 
+/// What is said of the lanes of a group.
+fn group_words(group: Group) -> &'static [u8] {
+    match group {
+        Group::Unpublished => b" waits for what no lane publishes\n",
+        Group::Circle => b" waits in a circle\n",
+        Group::Behind => b" waits for stuck lanes\n",
+    }
+}
+
 /// The first line of a lane's note: the instruction of this number, from 1, and why the lane is
 /// stuck there.
 fn push_head(
@@ -50,15 +58,10 @@ fn push_head(
     group: Group,
     number: usize,
     instruction: u64,
-) -> Result<(), AllocError>
-    ensures { OnOk result (text.new.items
-        ≡ text.old.items ++ spec.head_line plan.now.lanes group number instruction) }
-{
-    push_pieces(text, &[Word::Lane.text()])?;
-    push_pieces(text, &[lane_name(plan, number)])?;
-    push_count(text, Word::Instruction, instruction)?;
-    push_pieces(text, &[group_word(group)])?;
-    push_pieces(text, &[b"\n"])
+) -> Result<(), AllocError> {
+    push_pieces(text, &[b"lane ", lane_name(plan, number)])?;
+    push_count(text, b" instruction ", instruction)?;
+    push_pieces(text, &[group_words(group)])
 }
 
 /// What is said of a lane that waits for this where it stands.
@@ -69,15 +72,11 @@ fn lane_text(
     number: usize,
     entry: &Entry,
 ) -> Result<Vec<u8>, AllocError>
-    requires table { IsTableOf halted.universe.now halted.plan.now.lanes halted.publications.now }
     requires tables { halted.tables.now ≡ halted.universe.now }
     requires long { length halted.ats.now ≡ length halted.plan.now.lanes }
     requires lane { number < length halted.plan.now.lanes }
     requires place { place_of halted.ats.now number
         < length (lane halted.plan.now.lanes number).instructions }
-    ensures { IfOk result (λ text. text.items ≡ spec.lane_text halted.entry.universe.now
-        halted.entry.plan.now.lanes halted.entry.lines.now.lanes group number
-        (place_of halted.entry.ats.now number) entry.now) }
 {
     let place = halted.ats[number].place;
     let of = LaneOf {
@@ -104,21 +103,20 @@ fn lane_note(
     number: usize,
     entry: &Entry,
 ) -> Result<Note, AllocError>
-    requires table { IsTableOf halted.universe.now halted.plan.now.lanes halted.publications.now }
     requires tables { halted.tables.now ≡ halted.universe.now }
     requires long { length halted.ats.now ≡ length halted.plan.now.lanes }
     requires lane { number < length halted.plan.now.lanes }
     requires place { place_of halted.ats.now number
         < length (lane halted.plan.now.lanes number).instructions }
-    ensures { IfOk result (λ note. facts note ≡ spec.lane_note halted.entry.universe.now
-        halted.entry.plan.now.lanes halted.entry.lines.now.lanes group number
-        (place_of halted.entry.ats.now number) entry.now) }
+    ensures { IfOk result (λ note. facts note ≡ spec.lane_note halted.entry.plan.now.lanes
+        halted.entry.lines.now.lanes (next_lane_of halted.entry.nexts.now) group number
+        (place_of halted.entry.ats.now number)) }
 {
     let instruction = number_at(halted.plan, number, halted.ats[number].place);
     let place = note_place(alloc, halted.plan, halted.lines, number, instruction, None)?;
     let text = lane_text(alloc, halted, group, number, entry)?;
     Ok(Note {
-        kind: group_kind(group),
+        told: Told::Stuck(group, next_of(halted.nexts, number)),
         place: Some(place),
         text,
     })
@@ -133,7 +131,6 @@ fn push_if_in(
     number: usize,
     entry: &Entry,
 ) -> Result<(), AllocError>
-    requires table { IsTableOf halted.universe.now halted.plan.now.lanes halted.publications.now }
     requires tables { halted.tables.now ≡ halted.universe.now }
     requires long { length halted.ats.now ≡ length halted.plan.now.lanes }
     requires each { length halted.nexts.now ≡ length halted.plan.now.lanes }
@@ -141,7 +138,7 @@ fn push_if_in(
     requires place { place_of halted.ats.now number
         < length (lane halted.plan.now.lanes number).instructions }
     ensures { OnOk result (all_facts notes.new.items ≡ all_facts notes.old.items
-        ++ spec.lane_notes halted.entry.universe.now halted.entry.plan.now.lanes
+        ++ spec.lane_notes halted.entry.plan.now.lanes
         halted.entry.lines.now.lanes (next_lane_of halted.entry.nexts.now) group number
         (place_of halted.entry.ats.now number) (Some entry.now)) }
 {
@@ -160,13 +157,12 @@ fn push_note(
     group: Group,
     number: usize,
 ) -> Result<(), AllocError>
-    requires table { IsTableOf halted.universe.now halted.plan.now.lanes halted.publications.now }
     requires tables { halted.tables.now ≡ halted.universe.now }
     requires long { length halted.ats.now ≡ length halted.plan.now.lanes }
     requires each { length halted.nexts.now ≡ length halted.plan.now.lanes }
     requires lane { number < length halted.plan.now.lanes }
     ensures { OnOk result (all_facts notes.new.items ≡ all_facts notes.old.items
-        ++ spec.lane_notes halted.entry.universe.now halted.entry.plan.now.lanes
+        ++ spec.lane_notes halted.entry.plan.now.lanes
         halted.entry.lines.now.lanes (next_lane_of halted.entry.nexts.now) group number
         (place_of halted.entry.ats.now number)
         (awaited halted.entry.plan.now.lanes (place_of halted.entry.ats.now) number)) }
@@ -184,12 +180,11 @@ fn push_group(
     halted: Halted<'_>,
     group: Group,
 ) -> Result<(), AllocError>
-    requires table { IsTableOf halted.universe.now halted.plan.now.lanes halted.publications.now }
     requires tables { halted.tables.now ≡ halted.universe.now }
     requires long { length halted.ats.now ≡ length halted.plan.now.lanes }
     requires each { length halted.nexts.now ≡ length halted.plan.now.lanes }
     ensures { OnOk result (all_facts notes.new.items ≡ all_facts notes.old.items
-        ++ spec.group_notes halted.entry.universe.now halted.entry.plan.now.lanes
+        ++ spec.group_notes halted.entry.plan.now.lanes
         halted.entry.lines.now.lanes (next_lane_of halted.entry.nexts.now)
         (place_of halted.entry.ats.now) group) }
 {
@@ -200,14 +195,13 @@ fn push_group(
 }
 
 /// The notes on all lanes, and on one circle.
-#[tactic(auto, unfolding(crate::specs::StuckText::halted_notes))]
+#[tactic(auto, unfolding(crate::specs::Stuck::halted_notes))]
 fn halted_notes(alloc: Global, halted: Halted<'_>) -> Result<Vec<Note>, AllocError>
-    requires table { IsTableOf halted.universe.now halted.plan.now.lanes halted.publications.now }
     requires tables { halted.tables.now ≡ halted.universe.now }
     requires long { length halted.ats.now ≡ length halted.plan.now.lanes }
     requires each { length halted.nexts.now ≡ length halted.plan.now.lanes }
     ensures { IfOk result (λ notes. all_facts notes.items ≡ spec.halted_notes
-        halted.entry.universe.now halted.entry.plan.now.lanes halted.entry.lines.now.lanes
+        halted.entry.plan.now.lanes halted.entry.lines.now.lanes
         (next_lane_of halted.entry.nexts.now) (place_of halted.entry.ats.now)) }
 {
     let mut notes = Vec::new(alloc);

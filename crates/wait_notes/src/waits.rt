@@ -3,23 +3,22 @@
 ghost use Rattle.std.specs.Prelude.{◌≡◌, ◌<◌, ◌++◌, length, IfOk, OnOk};
 ghost use Rattle.std.specs.List.{filter, find};
 ghost use Rattle.std.specs.Option.{option_map};
-ghost use Rattle.farm_explain.specs.Notes.{all_facts};
-ghost use Rattle.farm_explain.specs.ReasonText.{first_publication};
+ghost use Rattle.farm_explain.specs.Notes.{all_facts, facts};
 ghost use Rattle.farm_model.specs.Packages.{initial};
 ghost use Rattle.plan_model.specs.Plan.{lane};
 ghost use Rattle.plan_verifier.specs.Stage.{IsStage};
-ghost use Rattle.wait_notes.specs.Places.{IsTableOf, publication_place};
-ghost use Rattle.wait_notes.specs.WaitText as spec;
+ghost use Rattle.wait_notes.specs.Places.{IsTableOf, first_publication, publication_place};
+ghost use Rattle.wait_notes.specs.Waits as spec;
 ghost use Rattle.wait_notes.specs.Waiting as waiting;
 
 use crate::lane::{LaneOf, number_at};
 use crate::publications::{Publication, Publications};
 use crate::satisfying::satisfying;
 use crate::waiting::wait_at;
-use crate::words::{Word, push_count};
 use deb_relation::Entry;
 use deb_text::push_pieces;
-use farm_explain::{Kind, Note, note_place, push_told};
+use farm_explain::place::push_count;
+use farm_explain::{Note, Told, note_place};
 use farm_universe::{Universe, Variant};
 use may_rows::variant_count;
 use plan_asm::{Plan, lane_name, push_variant};
@@ -83,146 +82,139 @@ fn sources(
     Ok(found)
 }
 
-/// `lane NAME instruction N waits for `, by the instruction's number from 1.
-fn push_head(
-    text: &mut Vec<u8>,
-    plan: &Plan,
-    number: usize,
-    instruction: u64,
-) -> Result<(), AllocError>
-    ensures { OnOk result (text.new.items
-        ≡ text.old.items ++ spec.wait_head plan.now.lanes number instruction) }
-{
-    push_pieces(text, &[Word::Lane.text()])?;
-    push_pieces(text, &[lane_name(plan, number)])?;
-    push_count(text, Word::Instruction, instruction)?;
-    push_pieces(text, &[Word::WaitsFor.text()])
-}
-
-/// ` of lane NAME instruction N`, where a variant is published.
-fn push_of(text: &mut Vec<u8>, plan: &Plan, found: Option<Publication>) -> Result<(), AllocError>
-    ensures { OnOk result (text.new.items
-        ≡ text.old.items ++ spec.of_text plan.now.lanes (option_map publication_place found)) }
-{
-    let Some(found) = found else {
-        return Ok(());
-    };
-    push_pieces(text, &[Word::OfLane.text()])?;
-    push_pieces(text, &[lane_name(plan, found.lane)])?;
-    push_count(text, Word::Instruction, found.instruction as u64)
-}
-
-/// `, or N more`, where there are more.
-fn push_more(text: &mut Vec<u8>, count: usize) -> Result<(), AllocError>
-    ensures { OnOk result (text.new.items ≡ text.old.items ++ spec.more_text count) }
-{
-    if count == 0 {
-        return Ok(());
-    }
-    push_count(text, Word::Or, count as u64)?;
-    push_pieces(text, &[Word::More.text()])
-}
-
-/// That a wait passes by a variant that a lane publishes, or by so many more.
-fn push_coming(
-    text: &mut Vec<u8>,
-    of: LaneOf<'_>,
-    instruction: u64,
-    variant: Variant,
-    more: usize,
-) -> Result<(), AllocError>
-    requires { IsTableOf of.universe.now of.plan.now.lanes of.publications.now }
-    ensures { OnOk result (text.new.items ≡ text.old.items
-        ++ spec.coming_text of.entry.universe.now of.entry.plan.now.lanes of.entry.number
-        instruction variant more) }
-{
-    push_head(text, of.plan, of.number, instruction)?;
-    push_variant(text, of.universe, variant)?;
-    push_of(text, of.plan, of.publications.of(variant))?;
-    push_more(text, more)?;
-    push_pieces(text, &[b"\n"])
-}
-
-/// What a wait waits for, of these variants; nothing where there is none.
-fn push_sources(
-    text: &mut Vec<u8>,
-    of: LaneOf<'_>,
-    instruction: u64,
-    variants: &[Variant],
-) -> Result<(), AllocError>
-    requires { IsTableOf of.universe.now of.plan.now.lanes of.publications.now }
-    ensures { OnOk result (text.new.items ≡ text.old.items
-        ++ spec.coming_line of.entry.universe.now of.entry.plan.now.lanes of.entry.number
-        instruction variants.now) }
-{
-    match variants {
-        [] => Ok(()),
-        [first, more @ ..] => push_coming(text, of, instruction, *first, more.len()),
-    }
-}
-
-/// That a wait waits for nothing, a variant being in the archive from the start.
-fn push_nothing(
-    text: &mut Vec<u8>,
-    of: LaneOf<'_>,
-    instruction: u64,
-    variant: Variant,
-) -> Result<(), AllocError>
-    ensures { OnOk result (text.new.items ≡ text.old.items
-        ++ spec.nothing_text of.entry.universe.now of.entry.plan.now.lanes of.entry.number
-        instruction variant) }
-{
-    push_head(text, of.plan, of.number, instruction)?;
-    push_pieces(text, &[Word::Nothing.text()])?;
-    push_variant(text, of.universe, variant)?;
-    push_pieces(text, &[Word::FromStart.text()])?;
-    push_pieces(text, &[b"\n"])
-}
-
-/// What the wait at a place waits for, by the variants that satisfy its entry.
-fn push_among(
+/// What is told of the wait at a place, by the variants that satisfy its entry.
+fn told_among(
     alloc: Global,
-    text: &mut Vec<u8>,
     of: LaneOf<'_>,
     place: usize,
     variants: &[Variant],
-) -> Result<(), AllocError>
-    requires table { IsTableOf of.universe.now of.plan.now.lanes of.publications.now }
-    requires lane { of.number < length of.plan.now.lanes }
-    requires place { place < length (lane of.plan.now.lanes of.number).instructions }
-    ensures { OnOk result (text.new.items ≡ text.old.items
-        ++ spec.wait_text of.entry.universe.now of.entry.plan.now.lanes of.entry.number place
-        variants.now (find (initial of.entry.universe.now) variants.now)) }
+) -> Result<Option<Told>, AllocError>
+    requires { IsTableOf of.universe.now of.plan.now.lanes of.publications.now }
+    ensures { IfOk result (λ told. told ≡ spec.wait_told of.entry.universe.now
+        of.entry.plan.now.lanes of.entry.number place variants.now
+        (find (initial of.entry.universe.now) variants.now)) }
 {
-    let instruction = number_at(of.plan, of.number, place);
-    match first_initial(of.universe, variants) {
-        Some(variant) => push_nothing(text, of, instruction, variant),
-        None => {
-            let found = sources(alloc, of, place, variants)?;
-            push_sources(text, of, instruction, &found)
-        }
+    if let Some(variant) = first_initial(of.universe, variants) {
+        return Ok(Some(Told::FromStart(variant)));
+    }
+    let found = sources(alloc, of, place, variants)?;
+    Ok(coming(&found))
+}
+
+/// What is told of variants that come: the first, and how many more there are.
+fn coming(variants: &[Variant]) -> Option<Told>
+    ensures { result ≡ spec.coming variants.now }
+{
+    match variants {
+        [] => None,
+        [first, more @ ..] => Some(Told::Coming(*first, more.len())),
     }
 }
 
-/// What the wait at a place waits for, by its entry.
-fn entry_text(
+/// What is told of the wait at a place, by its entry.
+fn entry_told(
     alloc: Global,
     tables: &Tables,
     of: LaneOf<'_>,
     place: usize,
     entry: &Entry,
-) -> Result<Vec<u8>, AllocError>
+) -> Result<Option<Told>, AllocError>
     requires table { IsTableOf of.universe.now of.plan.now.lanes of.publications.now }
     requires tables { tables.now ≡ of.universe.now }
-    requires lane { of.number < length of.plan.now.lanes }
-    requires place { place < length (lane of.plan.now.lanes of.number).instructions }
-    ensures { IfOk result (λ text. text.items ≡ spec.entry_wait_text of.entry.universe.now
+    ensures { IfOk result (λ told. told ≡ spec.entry_told of.entry.universe.now
         of.entry.plan.now.lanes of.entry.number place entry.now) }
 {
     let found = satisfying(alloc, of.universe, tables, entry)?;
+    told_among(alloc, of, place, &found)
+}
+
+/// ` of lane NAME instruction N`, where a variant is published.
+fn push_of(text: &mut Vec<u8>, of: LaneOf<'_>, variant: Variant) -> Result<(), AllocError> {
+    let Some(found) = of.publications.of(variant) else {
+        return Ok(());
+    };
+    push_pieces(text, &[b" of lane ", lane_name(of.plan, found.lane)])?;
+    push_count(text, b" instruction ", found.instruction as u64)
+}
+
+/// The line of a wait, whose instruction has this number, from 1.
+fn wait_text(
+    alloc: Global,
+    of: LaneOf<'_>,
+    instruction: u64,
+    told: Told,
+) -> Result<Vec<u8>, AllocError> {
     let mut text = Vec::new(alloc);
-    push_among(alloc, &mut text, of, place, &found)?;
+    push_pieces(&mut text, &[b"lane ", lane_name(of.plan, of.number)])?;
+    push_count(&mut text, b" instruction ", instruction)?;
+    push_pieces(&mut text, &[b" waits for "])?;
+    match told {
+        Told::FromStart(variant) => {
+            push_pieces(&mut text, &[b"nothing: "])?;
+            push_variant(&mut text, of.universe, variant)?;
+            push_pieces(&mut text, &[b" is in the archive from the start"])?;
+        }
+        Told::Coming(variant, more) => {
+            push_variant(&mut text, of.universe, variant)?;
+            push_of(&mut text, of, variant)?;
+            push_more(&mut text, more)?;
+        }
+        _ => {}
+    }
+    push_pieces(&mut text, &[b"\n"])?;
     Ok(text)
+}
+
+/// `, or N more`, where there are more.
+fn push_more(text: &mut Vec<u8>, count: usize) -> Result<(), AllocError> {
+    if count == 0 {
+        return Ok(());
+    }
+    push_count(text, b", or ", count as u64)?;
+    push_pieces(text, &[b" more"])
+}
+
+/// The note on the wait at a place, of which this is told.
+fn wait_note(
+    alloc: Global,
+    lines: &PlanLines,
+    of: LaneOf<'_>,
+    place: usize,
+    told: Told,
+) -> Result<Note, AllocError>
+    requires lane { of.number < length of.plan.now.lanes }
+    requires place { place < length (lane of.plan.now.lanes of.number).instructions }
+    ensures { IfOk result (λ note. facts note ≡ spec.wait_note of.entry.plan.now.lanes
+        lines.now.lanes of.entry.number place told) }
+{
+    let instruction = number_at(of.plan, of.number, place);
+    let at = note_place(alloc, of.plan, lines, of.number, instruction, None)?;
+    let text = wait_text(alloc, of, instruction, told)?;
+    Ok(Note {
+        told,
+        place: Some(at),
+        text,
+    })
+}
+
+/// Puts a note on the wait at a place behind others, where something is told of it.
+fn push_told(
+    notes: &mut Vec<Note>,
+    alloc: Global,
+    lines: &PlanLines,
+    of: LaneOf<'_>,
+    place: usize,
+    told: Option<Told>,
+) -> Result<(), AllocError>
+    requires lane { of.number < length of.plan.now.lanes }
+    requires place { place < length (lane of.plan.now.lanes of.number).instructions }
+    ensures { OnOk result (all_facts notes.new.items ≡ all_facts notes.old.items
+        ++ spec.note_of of.entry.plan.now.lanes lines.now.lanes of.entry.number place told) }
+{
+    if let Some(told) = told {
+        notes.push(wait_note(alloc, lines, of, place, told)?)?;
+    }
+    Ok(())
 }
 
 /// Puts a note on the instruction at a place behind others, where it is a wait.
@@ -245,10 +237,8 @@ fn push_wait(
     let Some(entry) = wait_at(of.plan, of.number, place) else {
         return Ok(());
     };
-    let instruction = number_at(of.plan, of.number, place);
-    let text = entry_text(alloc, tables, of, place, entry)?;
-    let at = note_place(alloc, of.plan, lines, of.number, instruction, None)?;
-    push_told(notes, Kind::Wait, Some(at), text)
+    let told = entry_told(alloc, tables, of, place, entry)?;
+    push_told(notes, alloc, lines, of, place, told)
 }
 
 /// Puts the notes on the waits of a lane behind others.
@@ -280,7 +270,7 @@ fn push_lane(
 /// # Errors
 ///
 /// [`AllocError`] where memory is refused.
-#[tactic(auto, unfolding(crate::specs::WaitText::waits_notes))]
+#[tactic(auto, unfolding(crate::specs::Waits::waits_notes))]
 pub fn waits_notes<K: KnownWords>(
     alloc: Global,
     stage: &Stage<'_, K>,

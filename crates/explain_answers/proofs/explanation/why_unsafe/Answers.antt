@@ -1,13 +1,12 @@
-use Rattle.std.proofs.Common.{◌≡◌, subst, sym, ap, ◌∙◌}
+use Rattle.std.proofs.Common.{◌≡◌, subst, sym}
 use Rattle.explain_answers.specs.Explanations.{TellsHazards}
 use Rattle.farm_answers.specs.Answers.{farm_in}
 use Rattle.explain_answers.proofs.explanation.why_unsafe.Goals as goal
 use Rattle.farm_explain.proofs.Beginning.{notes_begin_with_the_verdict}
-use Rattle.farm_explain.proofs.NoteTexts.{notes_have_the_text}
 use Rattle.std.proofs.lemmas.Result.{IfOk-weaker}
 use Rattle.farm_explain.specs.Beginning.{TellsFirst}
 use Rattle.farm_explain.specs.LaneNotes.{unsafe_notes}
-use Rattle.farm_explain.specs.Notes.{all_facts, text_of_all}
+use Rattle.farm_explain.specs.Notes.{all_facts}
 use Rattle.plan_model.specs.Known.{Rows}
 use Rattle.wait_order.specs.KnownRows.{rows_of}
 
@@ -21,8 +20,7 @@ returns c =
     (λ why. TellsHazards of lines c.args.refusal.now (all_facts why.items))
     (λ why is. (
       record { rows = rows; greatest = c.requires.examined.known; notes_are = is },
-      subst (TellsFirst c.args.refusal.now)
-          (sym (ap text_of_all is ∙ notes_have_the_text of.universe of.plan rows lines.lanes))
+      subst (TellsFirst c.args.refusal.now) (sym is)
           (notes_begin_with_the_verdict of.universe of.plan rows lines.lanes c.args.refusal.now
           c.requires.examined.known c.requires.verdict),
     ))

@@ -1,4 +1,4 @@
-use Rattle.std.proofs.Common.{◌≡◌, ◌+◌, ◌-◌, [], ◌∷◌, Err, sym, ap, ◌∙◌, subst, arith}
+use Rattle.std.proofs.Common.{◌≡◌, ◌-◌, [], ◌∷◌, Err, sym, ap, ◌∙◌, subst, arith}
 use Rattle.plan_model.specs.Safety.{Meets, Parts}
 use Rattle.plan_verifier.specs.Walk.{place_told, IsTold, Walked}
 use Rattle.farm_explain.specs.LaneNotes.{hazard_note, parting_note}
@@ -55,7 +55,5 @@ returns-in_ok-uneven_note-in-Err-Uneven g c =
     subst (λ e. Walked u p rows l (Err e)) c.in-Err-Uneven.field-0-is c.in-Err-Uneven.ensures in
     let place : n - 1 ≡ place_told p l told.i Parts = omega (arith, told.numbered) in
     ap (λ note. note ∷ [])
-    (c.in_ok-uneven_note-in-Err-Uneven.ensures
-    ∙ (ap (λ k. parting_note u p rows ls l k (n - 1)) told.numbered
-    ∙ ap (parting_note u p rows ls l (place_told p l told.i Parts + 1)) place))
+    (c.in_ok-uneven_note-in-Err-Uneven.ensures ∙ ap (parting_note u p rows ls l) place)
     ∙ sym (notes_first u p rows ls l told.i Parts told.here told.before)

@@ -1,7 +1,6 @@
 use Rattle.std.proofs.Common.{◌∙◌, ap}
 use Rattle.serde_json.specs.Written.{has_float, members_have_float}
 use Rattle.serde_json.proofs.Views.{view-Object}
-use Rattle.farm_explain.specs.Notes.{all_facts}
 use Rattle.farm_json.proofs.NoFloats.{no_float_in_explained}
 use Rattle.farm_json.proofs.answers.explain_json.Goals as goal
 
@@ -9,4 +8,4 @@ pub answer_line-requires : goal.answer_line-requires
 answer_line-requires c =
     ap has_float (view-Object c.in_ok-members.members)
     ∙ ap members_have_float c.in_ok-members.ensures
-    ∙ no_float_in_explained c.args.verdict.now (all_facts c.args.notes.now) c.args.warnings.now
+    ∙ no_float_in_explained c.args.verdict.now c.args.notes.now c.args.warnings.now

@@ -1,9 +1,8 @@
 use Rattle.std.proofs.Common.{◌≡◌, map, take}
-use Rattle.farm_explain.specs.Notes.{all_facts}
 use Rattle.serde_json.specs.View.{view}
 use Rattle.farm_json.specs.Reasons.{reason_data}
 use Rattle.farm_json.proofs.reasons.reason_list.Given as goal
 
 abbrev pub invariant-loop-note : goal.invariant-loop-note
 invariant-loop-note l =
-    map view l.values.items ≡ map reason_data (all_facts (take l.note-index l.notes))
+    map view l.values.items ≡ map reason_data (take l.note-index l.notes)

@@ -6,8 +6,8 @@ use Rattle.farm_warnings.proofs.fields.push_fields.Given as goal
 
 abbrev pub invariant-loop-paragraph : goal.invariant-loop-paragraph
 invariant-loop-paragraph l =
-    l.fn.text.items ++ all_said (paragraph_lines_in l.farm)
-    ≡ l.text.items ++ flat_map later_said (paragraph_lines l.left)
+    l.fn.found ++ all_said (paragraph_lines_in l.farm)
+    ≡ l.found ++ flat_map later_said (paragraph_lines l.left)
 
 abbrev pub decreases-loop-paragraph : goal.decreases-loop-paragraph
 decreases-loop-paragraph l = length l.left

@@ -6,8 +6,8 @@ use Rattle.farm_warnings.proofs.profiles.push_all.Given as goal
 
 abbrev pub invariant-loop-recipe : goal.invariant-loop-recipe
 invariant-loop-recipe l =
-    l.fn.text.items ++ flat_map (recipe_profiles l.asked) (recipes_in l.farm)
-    ≡ l.text.items ++ flat_map (recipe_profiles l.asked) (filter is_recipe (paragraph_lines l.left))
+    l.fn.found ++ flat_map (recipe_profiles l.asked) (recipes_in l.farm)
+    ≡ l.found ++ flat_map (recipe_profiles l.asked) (filter is_recipe (paragraph_lines l.left))
 
 abbrev pub decreases-loop-recipe : goal.decreases-loop-recipe
 decreases-loop-recipe l = length l.left

@@ -5,8 +5,8 @@ use Rattle.farm_warnings.proofs.profiles.push_more.Given as goal
 
 abbrev pub invariant-loop-next : goal.invariant-loop-next
 invariant-loop-next l =
-    l.fn.text.items ++ more_said l.asked l.line (continuation l.more)
-    ≡ l.text.items ++ more_said l.asked l.line (continuation l.left)
+    l.fn.found ++ more_said l.asked l.line (continuation l.more)
+    ≡ l.found ++ more_said l.asked l.line (continuation l.left)
 
 abbrev pub decreases-loop-next : goal.decreases-loop-next
 decreases-loop-next l = length l.left

@@ -4,8 +4,8 @@ use Rattle.farm_warnings.proofs.profiles.push_recipe.Given as goal
 
 abbrev pub invariant-loop-line : goal.invariant-loop-line
 invariant-loop-line l =
-    l.fn.text.items ++ recipe_profiles l.asked l.recipe
-    ≡ l.text.items ++ recipe_profiles l.asked l.left
+    l.fn.found ++ recipe_profiles l.asked l.recipe
+    ≡ l.found ++ recipe_profiles l.asked l.left
 
 abbrev pub decreases-loop-line : goal.decreases-loop-line
 decreases-loop-line l = length l.left

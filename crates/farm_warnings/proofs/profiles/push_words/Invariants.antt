@@ -4,8 +4,8 @@ use Rattle.farm_warnings.proofs.profiles.push_words.Given as goal
 
 abbrev pub invariant-loop-word : goal.invariant-loop-word
 invariant-loop-word l =
-    l.fn.text.items ++ words_said l.asked l.line l.words
-    ≡ l.text.items ++ words_said l.asked l.line l.left
+    l.fn.found ++ words_said l.asked l.line l.words
+    ≡ l.found ++ words_said l.asked l.line l.left
 
 abbrev pub decreases-loop-word : goal.decreases-loop-word
 decreases-loop-word l = length l.left

@@ -1,7 +1,7 @@
 use Rattle.std.proofs.Common.{◌∙◌, append_assoc}
 use Rattle.farm_warnings.specs.Waits.{wait_said}
-use Rattle.farm_warnings.specs.Words.{text_below}
-use Rattle.farm_warnings.proofs.TextLaws.{text_below_more}
+use Rattle.farm_warnings.specs.Warned.{all_below}
+use Rattle.farm_warnings.proofs.BelowLaws.{all_below_more}
 use Rattle.farm_warnings.proofs.waits.push_lane.Goals as goal
 
 pub loop-place-preserved : goal.loop-place-preserved
@@ -13,7 +13,7 @@ loop-place-preserved c =
       c.origin-origin.ensures,
       c.instruction_at-instruction.ensures,
       c.loop-place.invariant,
-      text_below_more c.loop-place.place said,
+      all_below_more c.loop-place.place said,
     )
-    (append_assoc c.args.text.now.items (text_below c.loop-place.place said)
+    (append_assoc c.args.found.now (all_below c.loop-place.place said)
     (said c.loop-place.place))

@@ -1,7 +1,7 @@
 use Rattle.std.proofs.Common.{◌≡◌, ◌++◌}
 use Rattle.farm_explain.specs.Notes.{all_facts, notes_below}
 use Rattle.wait_order.specs.Standing.{place_of}
-use Rattle.wait_notes.specs.StuckText.{lane_notes}
+use Rattle.wait_notes.specs.Stuck.{lane_notes}
 use Rattle.wait_notes.specs.Waiting.{awaited, next_lane_of}
 use Rattle.wait_notes.proofs.stuck.push_group.Given as goal
 
@@ -9,6 +9,6 @@ use Rattle.wait_notes.proofs.stuck.push_group.Given as goal
 abbrev pub invariant-loop-number : goal.invariant-loop-number
 invariant-loop-number l =
     all_facts l.notes.items ≡ all_facts l.fn.notes.items ++ notes_below l.number
-    (λ k. lane_notes l.halted.universe.now l.halted.plan.now.lanes l.halted.lines.now.lanes
+    (λ k. lane_notes l.halted.plan.now.lanes l.halted.lines.now.lanes
     (next_lane_of l.halted.nexts.now) l.group k (place_of l.halted.ats.now k)
     (awaited l.halted.plan.now.lanes (place_of l.halted.ats.now) k))

@@ -10,7 +10,7 @@ pub returns-then-not-stands_in : goal.returns-then-not-stands_in
 returns-then-not-stands_in c =
     let h = c.args.halted in
     sym (ap (λ xs. all_facts c.args.notes.now.items ++ xs)
-    (left_out h.universe.now h.plan.now.lanes h.lines.now.lanes (next_lane_of h.nexts.now)
+    (left_out h.plan.now.lanes h.lines.now.lanes (next_lane_of h.nexts.now)
     c.args.group
     c.args.number (place_of h.ats.now c.args.number) c.args.entry.now _ c.requires.each
     (sym c.stands_in.ensures ∙ c.if-not-stands_in.true))
@@ -24,7 +24,7 @@ returns c =
     ∙ (map-append facts old (c.in_ok-lane_note.field-0 ∷ [])
     ∙ ap (λ xs. all_facts old ++ xs)
     (ap (λ note. note ∷ []) c.in_ok-lane_note.ensures
-    ∙ sym (taken h.universe.now h.plan.now.lanes h.lines.now.lanes (next_lane_of h.nexts.now)
+    ∙ sym (taken h.plan.now.lanes h.lines.now.lanes (next_lane_of h.nexts.now)
     c.args.group
     c.args.number (place_of h.ats.now c.args.number) c.args.entry.now _ c.requires.each
     (sym c.stands_in.ensures ∙ c.if-not-stands_in.false))))

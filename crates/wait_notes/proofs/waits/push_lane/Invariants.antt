@@ -1,6 +1,6 @@
 use Rattle.std.proofs.Common.{◌≡◌, ◌++◌}
 use Rattle.farm_explain.specs.Notes.{all_facts, notes_below}
-use Rattle.wait_notes.specs.WaitText.{wait_notes}
+use Rattle.wait_notes.specs.Waits.{wait_notes}
 use Rattle.wait_notes.specs.Waiting.{wait_at}
 use Rattle.wait_notes.proofs.waits.push_lane.Given as goal
 

@@ -1,7 +1,7 @@
 use Rattle.std.proofs.Common.{◌≡◌, ◌++◌, drop}
 use Rattle.std.specs.List.{filter}
-use Rattle.farm_explain.specs.ReasonText.{first_publication}
-use Rattle.wait_notes.specs.WaitText.{comes}
+use Rattle.wait_notes.specs.Places.{first_publication}
+use Rattle.wait_notes.specs.Waits.{comes}
 use Rattle.wait_notes.proofs.waits.sources.Given as goal
 
 abbrev pub invariant-loop-i : goal.invariant-loop-i

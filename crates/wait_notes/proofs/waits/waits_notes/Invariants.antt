@@ -1,6 +1,6 @@
 use Rattle.std.proofs.Common.{◌≡◌}
 use Rattle.farm_explain.specs.Notes.{all_facts, notes_below}
-use Rattle.wait_notes.specs.WaitText.{lane_waits}
+use Rattle.wait_notes.specs.Waits.{lane_waits}
 use Rattle.wait_notes.proofs.waits.waits_notes.Given as goal
 
 -- the lanes so far

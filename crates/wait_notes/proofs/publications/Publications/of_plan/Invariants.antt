@@ -1,5 +1,5 @@
 use Rattle.std.proofs.Common.{◌≡◌}
-use Rattle.farm_explain.specs.ReasonText.{publishing_place}
+use Rattle.wait_notes.specs.Places.{publishing_place}
 use Rattle.farm_model.specs.declared.types.Variant.{Variant}
 use Rattle.refusal_reasons.specs.First.{first_below}
 use Rattle.wait_notes.specs.Places.{found, HasSlots}

@@ -1,5 +1,5 @@
 use Rattle.std.proofs.Common.{ℕ, ◌+◌, Some, None, if◌then◌else◌}
-use Rattle.farm_explain.specs.ReasonText.{publishes_variant}
+use Rattle.wait_notes.specs.Places.{publishes_variant}
 use Rattle.plan_model.specs.Plan.{instruction_at}
 use Rattle.refusal_reasons.specs.First.{first_below}
 use Rattle.wait_notes.specs.Places.{AddsFound, HasSlots}

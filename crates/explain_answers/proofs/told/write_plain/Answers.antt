@@ -1,0 +1,22 @@
+use Rattle.std.proofs.Common.{false, ◌++◌, inl, inr}
+use Rattle.std.specs.Result.{is_ok}
+use Rattle.farm_answers.specs.Answers.{IsJust, no_status, status_of}
+use Rattle.explain_answers.specs.Explanations.{TellsSome}
+use Rattle.farm_answers.proofs.AnswerLaws.{answered-by}
+use Rattle.explain_answers.proofs.told.write_plain.Goals as goal
+use Rattle.farm_report.specs.VerdictText.{verdict_text}
+
+pub returns-in-Ok : goal.returns-in-Ok
+returns-in-Ok g c =
+    let verdict = c.args.verdict.now in
+    answered-by
+    (IsJust (verdict_text verdict ++ c.behind_head.result.now) (status_of (is_ok verdict)))
+    (TellsSome false verdict c.args.notes.now) _ _ _
+    (λ text status is. inl ((c.behind_head.result.now, is.0), is.1)) c.write_explained.ensures
+
+pub returns-in-Err : goal.returns-in-Err
+returns-in-Err g c =
+    let verdict = c.args.verdict.now in
+    answered-by (IsJust (verdict_text verdict) no_status) (TellsSome false verdict c.args.notes.now)
+    _ _ _
+    (λ text status is. inr is) c.write_plain_alone.ensures
