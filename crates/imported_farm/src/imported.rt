@@ -162,11 +162,11 @@ struct Wanted<'a> {
 fn import_cut<'a>(
     alloc: Global,
     wanted: Wanted<'a>,
-    packages: &'a Packages<'a>,
+    packages: Packages<'a>,
     sources: Sources<'a>,
 ) -> Result<Judged, Stop>
     ensures { IfOk result (λ judged. AreTextsOf
-        (IsOneOf packages.now.blocks.items) (IsOneOf sources.entry.blocks.items)
+        (IsOneOf packages.entry.blocks.items) (IsOneOf sources.entry.blocks.items)
         (wish_view wanted.entry.wish.wish.now) judged.written.texts judged.unmet.items) }
 {
     let Sources { blocks, names } = sources;
@@ -182,7 +182,7 @@ fn import_cut<'a>(
         sources: &blocks,
         of: Given {
             wish: wanted.wish.wish,
-            packages,
+            packages: &packages,
             architectures: wanted.architectures,
         },
     };
@@ -193,11 +193,11 @@ fn import_cut<'a>(
 fn import_packages<'a>(
     alloc: Global,
     wanted: Wanted<'a>,
-    packages: &'a Packages<'a>,
+    packages: Packages<'a>,
     sources: &[NamedText<'a>],
 ) -> Result<Judged, Stop>
     ensures { IfOk result (λ judged. AreTextsOf
-        (IsOneOf packages.now.blocks.items) (IsBlockIn sources.now)
+        (IsOneOf packages.entry.blocks.items) (IsBlockIn sources.now)
         (wish_view wanted.entry.wish.wish.now) judged.written.texts judged.unmet.items) }
 {
     let sources = read_sources(alloc, sources)?;
@@ -212,7 +212,7 @@ fn import_wanted<'a>(alloc: Global, inputs: Inputs<'a>, wanted: Wanted<'a>) -> R
         judged.written.texts judged.unmet.items) }
 {
     let packages = read_packages(alloc, wanted.architectures, inputs.packages, inputs.archive)?;
-    import_packages(alloc, wanted, &packages, inputs.sources)
+    import_packages(alloc, wanted, packages, inputs.sources)
 }
 
 /// The same, for an architecture of these names.
@@ -267,7 +267,9 @@ fn import_text(alloc: Global, inputs: Inputs) -> Result<Imported, Stop>
 {
     let paragraphs = wish_paragraphs(alloc, inputs.wish)?;
     let judged = import_paragraphs(alloc, inputs, &paragraphs)?;
-    Ok(Imported::Texts(judged.written.texts, judged.unmet, judged.written.lines))
+    let Judged { written, unmet } = judged;
+    let Written { texts, lines } = written;
+    Ok(Imported::Texts(texts, unmet, lines))
 }
 
 /// Makes the texts of a farm of a wish and of indexes, and tells of them.

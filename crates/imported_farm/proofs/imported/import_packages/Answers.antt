@@ -6,7 +6,7 @@ use Rattle.imported_farm.proofs.imported.import_packages.Goals as goal
 
 pub returns : goal.returns
 returns c =
-    let packages = c.args.packages.now.blocks.items in
+    let packages = c.args.packages.blocks.items in
     let sources = c.in_ok-sources.sources.blocks.items in
     let Is = IsBlockIn c.args.sources.now in
     IfOk-weaker c.import_cut.result _ _
