@@ -1,8 +1,7 @@
 -- Warnings: what is odd in the texts of a farm and refuses no plan. The project's own format.
 --
 --   all_warnings       all of them: fields of the farm text, profiles, recipes, packages, waits
-use Rattle.std.specs.Prelude.{List, [], ◌∷◌}
-use Rattle.std.specs.List.{concat}
+use Rattle.std.specs.Prelude.{List, ◌++◌}
 use Rattle.farm_input.specs.Input.{Texts}
 use Rattle.farm_model.specs.Universe.{Universe}
 use Rattle.plan_lines.specs.Origins.{LaneLines}
@@ -17,6 +16,6 @@ use Rattle.farm_warnings.specs.Warned.{WarningFacts}
 -- of four texts, of the universe that they describe, and of the plan over it, whose lines these are
 unfoldable pub all_warnings : Texts → Universe → Plan → List LaneLines → List WarningFacts
 all_warnings texts u p ls =
-    concat (field_warnings texts.farm ∷ profile_warnings texts.sources texts.farm
-    ∷ recipe_warnings u p texts.farm ∷ package_warnings u texts.packages
-    ∷ wait_warnings u p ls ∷ [])
+    field_warnings texts.farm ++ (profile_warnings texts.sources texts.farm
+    ++ (recipe_warnings u p texts.farm ++ (package_warnings u texts.packages
+    ++ wait_warnings u p ls)))
