@@ -1,2 +1,0 @@
-pub mod MetLaws
-pub mod NeedLaws
