@@ -21,6 +21,9 @@ struct Part<'a> {
     is_broken: bool,
 }
 
+/// The file of a machine whose error output is a terminal.
+const TERMINAL: &[u8] = b"/dev/tty";
+
 /// What a machine has.
 #[derive(Drop)]
 pub struct Parts<'a> {
@@ -98,6 +101,8 @@ pub struct Machine<'a, D> {
     parts: &'a Parts<'a>,
     driver: D,
     done: Cell<Vec<u8>>,
+    /// How often its clock was looked at.
+    looks: Cell<u64>,
 }
 
 impl<'a, D> Machine<'a, D> {
@@ -107,19 +112,8 @@ impl<'a, D> Machine<'a, D> {
             parts,
             driver,
             done: Cell::new(Vec::new(alloc)),
+            looks: Cell::new(0),
         }
-    }
-
-    /// What was done with files: a line for each folder that was made and each file that was
-    /// written or has got another name, and the lines of what was written, each behind a mark.
-    pub fn into_done(self) -> Vec<u8> {
-        let Machine {
-            alloc: _,
-            parts: _,
-            driver: _driver,
-            done,
-        } = self;
-        done.into_inner()
     }
 
     /// Notes something that was done, and the bytes of a file.
@@ -152,6 +146,21 @@ impl<'a, D> Machine<'a, D> {
             }
         }
         None
+    }
+}
+
+impl<D: Drop> Machine<'_, D> {
+    /// What was done with files: a line for each folder that was made and each file that was
+    /// written or has got another name, and the lines of what was written, each behind a mark.
+    pub fn into_done(self) -> Vec<u8> {
+        let Machine {
+            alloc: _,
+            parts: _,
+            driver: _driver,
+            done,
+            looks: _,
+        } = self;
+        done.into_inner()
     }
 }
 
@@ -248,5 +257,16 @@ impl<D> Folder for Machine<'_, D> {
 
     fn rename_file(&self, from: &str, to: &str) -> io::Result<()> {
         self.note(&["renamed ", from, " to ", to], b"")
+    }
+
+    fn has_watcher(&self) -> bool {
+        self.part(TERMINAL).is_some()
+    }
+
+    /// 200 more at each look.
+    fn milliseconds(&self) -> u64 {
+        let looks = self.looks.get();
+        self.looks.set(looks.saturating_add(1));
+        looks.saturating_mul(200)
     }
 }

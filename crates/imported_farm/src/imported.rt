@@ -12,6 +12,7 @@ use crate::judge::tell;
 use crate::notes::Told;
 use crate::refusals::{Stop, fault_in};
 use crate::taken::{Given, Read, Taken, take};
+use crate::watch::Watch;
 use crate::written::{Written, draw_all};
 use deb_profile::ArchNames;
 use deb_stanza::Paragraphs;
@@ -190,37 +191,50 @@ fn import_cut<'a>(
 }
 
 /// Cuts the indexes of sources, and takes what a wish wants.
-fn import_packages<'a>(
+fn import_packages<'a, W: Watch>(
     alloc: Global,
     wanted: Wanted<'a>,
     packages: &'a Packages<'a>,
     sources: &[NamedText<'a>],
+    watch: &mut W,
 ) -> Result<Judged, Stop>
     ensures { IfOk result (λ judged. AreTextsOf
         (IsOneOf packages.now.blocks.items) (IsBlockIn sources.now)
         (wish_view wanted.entry.wish.wish.now) judged.written.texts judged.unmet.items) }
 {
-    let sources = read_sources(alloc, sources)?;
+    let sources = read_sources(alloc, sources, watch)?;
     import_cut(alloc, wanted, packages, sources)
 }
 
 /// Cuts all indexes, and takes what a wish wants.
-fn import_wanted<'a>(alloc: Global, inputs: Inputs<'a>, wanted: Wanted<'a>) -> Result<Judged, Stop>
+fn import_wanted<'a, W: Watch>(
+    alloc: Global,
+    inputs: Inputs<'a>,
+    wanted: Wanted<'a>,
+    watch: &mut W,
+) -> Result<Judged, Stop>
     ensures { IfOk result (λ judged. AreTextsOf
         (IsBlockIn (inputs.entry.packages.now ++ inputs.entry.archive.now))
         (IsBlockIn inputs.entry.sources.now) (wish_view wanted.entry.wish.wish.now)
         judged.written.texts judged.unmet.items) }
 {
-    let packages = read_packages(alloc, wanted.architectures, inputs.packages, inputs.archive)?;
-    import_packages(alloc, wanted, &packages, inputs.sources)
+    let packages = read_packages(
+        alloc,
+        wanted.architectures,
+        inputs.packages,
+        inputs.archive,
+        watch,
+    )?;
+    import_packages(alloc, wanted, &packages, inputs.sources, watch)
 }
 
 /// The same, for an architecture of these names.
-fn import_named<'a>(
+fn import_named<'a, W: Watch>(
     alloc: Global,
     inputs: Inputs<'a>,
     wish: WishRead<'a>,
     names: &'a [u8],
+    watch: &mut W,
 ) -> Result<Judged, Stop>
     ensures { IfOk result (λ judged. AreTextsOf
         (IsBlockIn (inputs.entry.packages.now ++ inputs.entry.archive.now))
@@ -233,22 +247,32 @@ fn import_named<'a>(
         names,
         architectures: &architectures,
     };
-    import_wanted(alloc, inputs, wanted)
+    import_wanted(alloc, inputs, wanted, watch)
 }
 
 /// Reads the indexes, and takes what a wish wants of them.
-fn import_wished<'a>(alloc: Global, inputs: Inputs<'a>, wish: WishRead<'a>) -> Result<Judged, Stop>
+fn import_wished<'a, W: Watch>(
+    alloc: Global,
+    inputs: Inputs<'a>,
+    wish: WishRead<'a>,
+    watch: &mut W,
+) -> Result<Judged, Stop>
     ensures { IfOk result (λ judged. AreTextsOf
         (IsBlockIn (inputs.entry.packages.now ++ inputs.entry.archive.now))
         (IsBlockIn inputs.entry.sources.now) (wish_view wish.entry.wish.now)
         judged.written.texts judged.unmet.items) }
 {
     let names = all_names(alloc, &wish.wish.head.architectures)?;
-    import_named(alloc, inputs, wish, &names)
+    import_named(alloc, inputs, wish, &names, watch)
 }
 
 /// Reads a wish of these paragraphs, and makes the texts of it.
-fn import_paragraphs(alloc: Global, inputs: Inputs, paragraphs: &Paragraphs) -> Result<Judged, Stop>
+fn import_paragraphs<W: Watch>(
+    alloc: Global,
+    inputs: Inputs,
+    paragraphs: &Paragraphs,
+    watch: &mut W,
+) -> Result<Judged, Stop>
     ensures { IfOk result (λ judged. IsOfWish inputs.entry paragraphs.now judged.written.texts
         judged.unmet.items) }
 {
@@ -258,27 +282,32 @@ fn import_paragraphs(alloc: Global, inputs: Inputs, paragraphs: &Paragraphs) -> 
         paragraphs,
         wish: &wish,
     };
-    import_wished(alloc, inputs, read)
+    import_wished(alloc, inputs, read, watch)
 }
 
 /// Reads a wish, and makes the texts of it.
-fn import_text(alloc: Global, inputs: Inputs) -> Result<Imported, Stop>
+fn import_text<W: Watch>(alloc: Global, inputs: Inputs, watch: &mut W) -> Result<Imported, Stop>
     ensures { IfOk result (AreImported inputs.entry) }
 {
     let paragraphs = wish_paragraphs(alloc, inputs.wish)?;
-    let judged = import_paragraphs(alloc, inputs, &paragraphs)?;
+    let judged = import_paragraphs(alloc, inputs, &paragraphs, watch)?;
     Ok(Imported::Texts(judged.written.texts, judged.unmet, judged.written.lines))
 }
 
-/// Makes the texts of a farm of a wish and of indexes, and tells of them.
+/// Makes the texts of a farm of a wish and of indexes, and tells of them. Meanwhile somebody hears how
+/// far the reading of the indexes has come.
 ///
 /// # Errors
 ///
 /// [`AllocError`] where memory is refused.
-pub fn import(alloc: Global, inputs: Inputs) -> Result<Imported, AllocError>
+pub fn import<W: Watch>(
+    alloc: Global,
+    inputs: Inputs,
+    watch: &mut W,
+) -> Result<Imported, AllocError>
     ensures { IfOk result (AreImported inputs.entry) }
 {
-    match import_text(alloc, inputs) {
+    match import_text(alloc, inputs, watch) {
         Ok(imported) => Ok(imported),
         Err(Stop::Refused(lines)) => Ok(Imported::Refused(lines)),
         Err(Stop::Wrong) => Ok(Imported::Wrong),

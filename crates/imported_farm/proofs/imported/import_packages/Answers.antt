@@ -5,7 +5,7 @@ use Rattle.imported_farm.proofs.MadeLaws.{one-of, texts-weaker}
 use Rattle.imported_farm.proofs.imported.import_packages.Goals as goal
 
 pub returns : goal.returns
-returns c =
+returns g c =
     let packages = c.args.packages.now.blocks.items in
     let sources = c.in_ok-sources.sources.blocks.items in
     let Is = IsBlockIn c.args.sources.now in

@@ -6,7 +6,7 @@ use Rattle.imported_farm.proofs.MadeLaws.{one-of, texts-weaker}
 use Rattle.imported_farm.proofs.imported.import_wanted.Goals as goal
 
 pub returns : goal.returns
-returns c =
+returns g c =
     let packages = c.in_ok-packages.packages.blocks.items in
     let Is = IsBlockIn (c.args.inputs.packages.now ++ c.args.inputs.archive.now) in
     let IsSource = IsBlockIn c.args.inputs.sources.now in
