@@ -18,6 +18,7 @@ use deb_stanza::Paragraphs;
 use import_builds::SourceShelf;
 use import_closure::Shelf;
 use import_wish::{Wish, read_wish};
+use index_names::NameTable;
 use std::alloc::{AllocError, Global};
 use unmet_needs::Unmet;
 
@@ -133,13 +134,18 @@ fn import_shelved(
 }
 
 /// The same, over packages of which nothing was read.
-fn import_read(alloc: Global, read: Read, sources: &mut SourceShelf) -> Result<Judged, Stop>
+fn import_read(alloc: Global, read: Read, names: NameTable) -> Result<Judged, Stop>
     ensures { IfOk result (λ judged. AreTextsOf
         (IsOneOf read.entry.of.packages.now.blocks.items) (IsOneOf read.entry.sources.now)
         (wish_view read.entry.of.wish.now) judged.written.texts judged.unmet.items) }
 {
     let mut shelf = Shelf::new(alloc, &read.of.packages.blocks, read.of.architectures)?;
-    import_shelved(alloc, read, &mut shelf, sources)
+    let mut sources = SourceShelf {
+        blocks: read.sources,
+        names,
+        unreadable: Vec::new(alloc),
+    };
+    import_shelved(alloc, read, &mut shelf, &mut sources)
 }
 
 /// A wish as it was read, and its text.
@@ -150,90 +156,32 @@ struct WishRead<'a> {
     wish: &'a Wish<'a>,
 }
 
-/// A wish, and the names of its architecture, as a text and as they were read.
-#[derive(Clone, Copy)]
-struct Wanted<'a> {
-    wish: WishRead<'a>,
-    names: &'a [u8],
-    architectures: &'a ArchNames,
-}
-
 /// Takes what a wish wants of indexes that were cut.
 fn import_cut<'a>(
     alloc: Global,
-    wanted: Wanted<'a>,
+    wish: WishRead<'a>,
+    names: Vec<u8>,
+    architectures: ArchNames,
     packages: Packages<'a>,
     sources: Sources<'a>,
 ) -> Result<Judged, Stop>
     ensures { IfOk result (λ judged. AreTextsOf
         (IsOneOf packages.entry.blocks.items) (IsOneOf sources.entry.blocks.items)
-        (wish_view wanted.entry.wish.wish.now) judged.written.texts judged.unmet.items) }
+        (wish_view wish.entry.wish.now) judged.written.texts judged.unmet.items) }
 {
-    let Sources { blocks, names } = sources;
-    let mut shelf = SourceShelf {
-        blocks: &blocks,
-        names,
-        unreadable: Vec::new(alloc),
-    };
+    let source_names = sources.names;
     let read = Read {
-        text: wanted.wish.text,
-        paragraphs: wanted.wish.paragraphs,
-        names: wanted.names,
-        sources: &blocks,
+        text: wish.text,
+        paragraphs: wish.paragraphs,
+        names: &names,
+        sources: &sources.blocks,
         of: Given {
-            wish: wanted.wish.wish,
+            wish: wish.wish,
             packages: &packages,
-            architectures: wanted.architectures,
+            architectures: &architectures,
         },
     };
-    import_read(alloc, read, &mut shelf)
-}
-
-/// Cuts the indexes of sources, and takes what a wish wants.
-fn import_packages<'a>(
-    alloc: Global,
-    wanted: Wanted<'a>,
-    packages: Packages<'a>,
-    sources: &[NamedText<'a>],
-) -> Result<Judged, Stop>
-    ensures { IfOk result (λ judged. AreTextsOf
-        (IsOneOf packages.entry.blocks.items) (IsBlockIn sources.now)
-        (wish_view wanted.entry.wish.wish.now) judged.written.texts judged.unmet.items) }
-{
-    let sources = read_sources(alloc, sources)?;
-    import_cut(alloc, wanted, packages, sources)
-}
-
-/// Cuts all indexes, and takes what a wish wants.
-fn import_wanted<'a>(alloc: Global, inputs: Inputs<'a>, wanted: Wanted<'a>) -> Result<Judged, Stop>
-    ensures { IfOk result (λ judged. AreTextsOf
-        (IsBlockIn (inputs.entry.packages.now ++ inputs.entry.archive.now))
-        (IsBlockIn inputs.entry.sources.now) (wish_view wanted.entry.wish.wish.now)
-        judged.written.texts judged.unmet.items) }
-{
-    let packages = read_packages(alloc, wanted.architectures, inputs.packages, inputs.archive)?;
-    import_packages(alloc, wanted, packages, inputs.sources)
-}
-
-/// The same, for an architecture of these names.
-fn import_named<'a>(
-    alloc: Global,
-    inputs: Inputs<'a>,
-    wish: WishRead<'a>,
-    names: &'a [u8],
-) -> Result<Judged, Stop>
-    ensures { IfOk result (λ judged. AreTextsOf
-        (IsBlockIn (inputs.entry.packages.now ++ inputs.entry.archive.now))
-        (IsBlockIn inputs.entry.sources.now) (wish_view wish.entry.wish.now)
-        judged.written.texts judged.unmet.items) }
-{
-    let architectures = architectures_of(alloc, names)?;
-    let wanted = Wanted {
-        wish,
-        names,
-        architectures: &architectures,
-    };
-    import_wanted(alloc, inputs, wanted)
+    import_read(alloc, read, source_names)
 }
 
 /// Reads the indexes, and takes what a wish wants of them.
@@ -244,7 +192,11 @@ fn import_wished<'a>(alloc: Global, inputs: Inputs<'a>, wish: WishRead<'a>) -> R
         judged.written.texts judged.unmet.items) }
 {
     let names = all_names(alloc, &wish.wish.head.architectures)?;
-    import_named(alloc, inputs, wish, &names)
+    let architectures = architectures_of(alloc, &names)?;
+    let packages = read_packages(alloc, &architectures, inputs.packages, inputs.archive)?;
+    let sources = read_sources(alloc, inputs.sources)?;
+    let judged = import_cut(alloc, wish, names, architectures, packages, sources)?;
+    Ok(judged)
 }
 
 /// Reads a wish of these paragraphs, and makes the texts of it.

@@ -9,5 +9,5 @@ pub returns : goal.returns
 returns c =
     subst (λ (sources : List (Bor (List ℕ))). IfOk c.import_read.result
     (λ judged. AreTextsOf (IsOneOf c.args.packages.blocks.items) (IsOneOf sources)
-    (wish_view c.args.wanted.wish.wish.now) judged.written.texts judged.unmet.items))
+    (wish_view c.args.wish.wish.now) judged.written.texts judged.unmet.items))
     c.deref-2.ensures.value c.import_read.ensures
