@@ -1,5 +1,7 @@
 pub mod CutLaws
+pub mod FrontLaws
 pub mod HeadLaws
+pub mod KeyLaws
 pub mod LastLaws
 pub mod NameLaws
 pub mod PartsLaws

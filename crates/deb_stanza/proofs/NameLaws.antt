@@ -8,6 +8,7 @@ use Rattle.deb_text.proofs.ListLaws.{bytes-same}
 use Rattle.deb_text.specs.Cuts.{is_nil}
 use Rattle.deb_stanza.specs.Cut.{onto_last}
 use Rattle.deb_stanza.specs.Draft.{State, last_texts, open_texts, open_names, longer, larger, with_head, HasFieldNames, IsFitDraft, draft_state}
+use Rattle.deb_stanza.specs.Keys.{has_colon}
 use Rattle.deb_stanza.specs.Names.{lowered, has, HasNames}
 use Rattle.deb_stanza.specs.declared.draft.Draft.{Draft}
 use Rattle.deb_stanza.specs.declared.names.Names.{Names}
@@ -16,10 +17,6 @@ use Rattle.deb_text.specs.Lines.{Line}
 use Rattle.deb_text.specs.Steps.{answer}
 use Rattle.deb_stanza.specs.Stanza.{is_colon, name_of, same_name, name_fault, head_fault, told_at}
 use Rattle.deb_stanza.specs.View.{Raw, raws_in, table_raws}
-
--- a colon
-abbrev pub has_colon : List ℕ → Bool
-has_colon text = list_any is_colon text
 
 -- ---- the texts of the last paragraph
 
@@ -44,7 +41,7 @@ last_texts-push p (q ∷ r ∷ rs) = last_texts-push p (r ∷ rs)
 
 -- ---- names stay where a text goes on
 
-name-append : (text more : List ℕ) → has_colon text ≡ true → name_of (text ++ more) ≡ name_of text
+pub name-append : (text more : List ℕ) → has_colon text ≡ true → name_of (text ++ more) ≡ name_of text
 name-append [] more some = absurd cc
 name-append (b ∷ bs) more some =
     elim (cases_Bool (is_colon b)) [
@@ -55,7 +52,7 @@ name-append (b ∷ bs) more some =
 or_left : (a b : Bool) → a ≡ true → (a || b) ≡ true
 or_left a b is = rw is refl
 
-names-longer : (more : List ℕ) (ts : List (List ℕ)) → list_all has_colon ts ≡ true
+pub names-longer : (more : List ℕ) (ts : List (List ℕ)) → list_all has_colon ts ≡ true
     → map name_of (onto_last (λ t. t ++ more) ts) ≡ map name_of ts
 names-longer more [] have = refl
 names-longer more (t ∷ []) have =
@@ -64,7 +61,7 @@ names-longer more (t ∷ u ∷ us) have =
     ap (λ names. name_of t ∷ names)
     (names-longer more (u ∷ us) (and_parts (has_colon t) (list_all has_colon (u ∷ us)) have).1)
 
-colons-longer : (more : List ℕ) (ts : List (List ℕ)) → list_all has_colon ts ≡ true
+pub colons-longer : (more : List ℕ) (ts : List (List ℕ)) → list_all has_colon ts ≡ true
     → list_all has_colon (onto_last (λ t. t ++ more) ts) ≡ true
 colons-longer more [] have = refl
 colons-longer more (t ∷ []) have =

@@ -23,12 +23,16 @@ module _ (bytes fields : List ℕ) (paragraphs : List Start) (text : List ℕ)
       paragraphs_are
 
   -- the last field goes on
+  pub texts-longer : texts_in (bytes ++ 10 ∷ text) fields
+      ≡ onto_last (λ t. t ++ 10 ∷ text) (texts_in bytes fields)
+  texts-longer =
+      cut-append own (λ start part. part) (λ t. t ++ 10 ∷ text) (10 ∷ text) (λ c part. refl)
+      bytes fields fields_are
+
   pub raws-longer : raws_in (bytes ++ 10 ∷ text) fields paragraphs
       ≡ onto_last (longer text) (raws_in bytes fields paragraphs)
   raws-longer =
-      ap (λ ts. cut first_of_start raw_of ts paragraphs)
-      (cut-append own (λ start part. part) (λ t. t ++ 10 ∷ text) (10 ∷ text)
-      (λ c part. refl) bytes fields fields_are)
+      ap (λ ts. cut first_of_start raw_of ts paragraphs) texts-longer
       ∙ cut-onto_last first_of_start raw_of (λ t. t ++ 10 ∷ text) (longer text) (λ c part. refl)
       (texts_in bytes fields) paragraphs among_texts
 
@@ -37,7 +41,7 @@ module _ (bytes fields : List ℕ) (paragraphs : List Start) (text : List ℕ)
       IsCut-more own (length bytes) (length (bytes ++ 10 ∷ text)) fields
       (omega (arith, length-append bytes (10 ∷ text))) fields_are
 
-  texts-push : texts_in (bytes ++ text) (fields ++ length bytes ∷ [])
+  pub texts-push : texts_in (bytes ++ text) (fields ++ length bytes ∷ [])
       ≡ texts_in bytes fields ++ text ∷ []
   texts-push = cut-push own (λ start part. part) text bytes fields (length bytes) fields_are refl
 

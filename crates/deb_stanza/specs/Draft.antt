@@ -9,6 +9,7 @@ use Rattle.deb_stanza.specs.declared.draft.Draft.{Draft}
 use Rattle.deb_stanza.specs.declared.names.Names.{Names}
 use Rattle.deb_stanza.specs.declared.table.Table.{Table}
 use Rattle.deb_stanza.specs.Cut.{onto_last}
+use Rattle.deb_stanza.specs.Keys.{StandBelow}
 use Rattle.deb_stanza.specs.Names.{HasNames}
 use Rattle.deb_stanza.specs.Stanza.{is_colon, name_of, separates, continues, line_refusal, told_at, first_number, texts_of, parts, open_part}
 use Rattle.deb_stanza.specs.View.{Raw, table_raws, table_texts, IsSoundTable}
@@ -83,6 +84,7 @@ pub record IsFitDraft (d : Draft) : Type 0 where
   pub table : IsSoundTable d.table
   pub known : HasFieldNames d.names (open_texts (draft_state d))
   pub some : d.is_open ≡ true → is_nil d.table.paragraphs.items ≡ false
+  pub latest : StandBelow d.latest.counts d.table.keys.items
 
 -- where the file's bytes end, 2 ^ 32 at most
 abbrev pub HasRoom : Draft → List ℕ → Type 0

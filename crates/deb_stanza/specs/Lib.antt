@@ -1,5 +1,6 @@
 pub mod Cut
 pub mod Draft
+pub mod Keys
 pub mod Names
 pub mod Plain
 pub mod Stanza

@@ -1,6 +1,6 @@
 -- What the tables of the code stand for.
-use Rattle.std.specs.Prelude.{◌≡◌, ℕ, ◌≤◌, List, map, length, slice_get, slice_range, if◌then◌else◌, Option, Some, None}
-use Rattle.std.specs.List.{find}
+use Rattle.std.specs.Prelude.{◌≡◌, ℕ, ◌≤◌, true, List, map, length, slice_get, slice_range, if◌then◌else◌, Option, Some, None}
+use Rattle.std.specs.List.{find, list_all}
 use Rattle.std.specs.Option.{option_map}
 use Rattle.deb_text.specs.declared.lines.Line as declared
 use Rattle.deb_text.specs.Lines.{Line}
@@ -8,6 +8,7 @@ use Rattle.deb_stanza.specs.declared.plain.Place.{Place}
 use Rattle.deb_stanza.specs.declared.table.Start.{Start}
 use Rattle.deb_stanza.specs.declared.table.Table.{Table}
 use Rattle.deb_stanza.specs.Cut.{cut, IsCut}
+use Rattle.deb_stanza.specs.Keys.{has_colon, text_key}
 use Rattle.deb_stanza.specs.Stanza.{Paragraph, field_of, name_of, same_name}
 
 abbrev pub line_of : declared.Line → Line
@@ -53,10 +54,12 @@ table_texts t = texts_in t.bytes.items t.fields.items
 abbrev pub table_raws : Table → List Raw
 table_raws t = raws_in t.bytes.items t.fields.items t.paragraphs.items
 
--- no field is without a byte, and no paragraph without a field
+-- no field is without a byte, and no paragraph without a field; each field has a colon, and its key
 pub record IsSoundTable (t : Table) : Type 0 where
   pub fields : IsCut own (length t.bytes.items) t.fields.items
   pub paragraphs : IsCut first_of_start (length t.fields.items) t.paragraphs.items
+  pub keys : t.keys.items ≡ map text_key (table_texts t)
+  pub colons : list_all has_colon (table_texts t) ≡ true
 
 abbrev pub table_paragraphs : Table → List Paragraph
 table_paragraphs t = map paragraph_of_raw (table_raws t)

@@ -7,6 +7,7 @@ ghost use Rattle.deb_text.specs.Cuts.{is_nil};
 ghost use Rattle.deb_text.specs.Lines.{control_lines};
 ghost use Rattle.deb_text.specs.Steps.{answer, judged};
 ghost use Rattle.deb_stanza.specs.Cut.{onto_last};
+ghost use Rattle.deb_stanza.specs.Keys.{StandBelow, has_colon, key_of, text_key};
 ghost use Rattle.deb_stanza.specs.Draft.{draft_state, IsFitDraft, HasRoom, longer, names_from, open_names, draft_step, with_head};
 ghost use Rattle.deb_stanza.specs.Names.{HasNames};
 ghost use Rattle.deb_stanza.specs.Stanza.{fault_of, head_fault, paragraphs_of, same_name, told_at};
@@ -14,14 +15,15 @@ ghost use Rattle.deb_stanza.specs.View.{IsSoundTable, line_of, table_paragraphs}
 
 use crate::error::{CONTINUES_NO_FIELD, FIELD_TWICE, MOST_BYTES};
 use crate::fields::{fault, head_name};
+use crate::key::{Latest, key_of};
 use crate::names::Names;
 use crate::table::{Table, empty_table};
 use deb_text::{Class, Fault, Line, begins_with, is_blank_line, is_comment, next_line};
 use std::alloc::{AllocError, Global};
 
-/// From so many fields on, the names of a paragraph are kept in a set. Of fewer, each name is
-/// compared with a new one.
-const MANY: usize = 16;
+/// From so many fields on, the names of a paragraph are kept in a set. Of fewer, each key is
+/// compared with that of a new name.
+const MANY: usize = 64;
 
 /// The paragraphs so far. Where the last one is open and has many fields, `names` has their names
 /// in small letters.
@@ -30,6 +32,7 @@ pub struct Draft {
     pub table: Table,
     pub is_open: bool,
     pub names: Option<Names>,
+    pub latest: Latest,
 }
 
 /// A draft without paragraphs.
@@ -42,6 +45,7 @@ pub fn empty_draft(alloc: Global) -> Draft
         table: empty_table(alloc),
         is_open: false,
         names: None,
+        latest: Latest::new(),
     }
 }
 
@@ -81,8 +85,40 @@ impl Draft {
     }
 
     /// Puts a field of this line into the open paragraph, or into a new one.
-    fn add_head(&mut self, line: Line) -> Result<(), Fault>
+    fn add_text(&mut self, line: Line, key: u8) -> Result<(), Fault>
         requires sound { IsSoundTable self.old.table }
+        requires colon { has_colon line.bytes.now ≡ true }
+        requires key { key ≡ text_key line.bytes.now }
+        requires some { self.old.is_open ≡ true → is_nil self.old.table.paragraphs.items ≡ false }
+        requires text { 0 < length line.bytes.now }
+        requires room { HasRoom self.old line.bytes.now }
+        ensures state { OnOk result (draft_state self.new
+            ≡ with_head (draft_state self.old) (line_of line.entry)) }
+        ensures sound { OnOk result (IsSoundTable self.new.table) }
+        ensures some { OnOk result (is_nil self.new.table.paragraphs.items ≡ false) }
+        ensures kept { self.new.names ≡ self.old.names }
+        ensures latest { self.new.latest ≡ self.old.latest }
+        ensures bytes { OnOk result (self.new.table.bytes.items
+            ≡ self.old.table.bytes.items ++ line.entry.bytes.now) }
+        ensures keys { OnOk result (self.new.table.keys.items
+            ≡ self.old.table.keys.items ++ key ∷ []) }
+        ensures memory { IfErr result (λ e. refusal_of e ≡ None) }
+    {
+        if self.is_open {
+            self.table.add_field(line.bytes, key)?;
+        } else {
+            self.table.add_paragraph(line.number, line.bytes, key)?;
+            self.is_open = true;
+        }
+        Ok(())
+    }
+
+    /// The same, and keeps how far the key of the field's name reaches.
+    fn add_head(&mut self, line: Line, key: u8) -> Result<(), Fault>
+        requires sound { IsSoundTable self.old.table }
+        requires latest { StandBelow self.old.latest.counts self.old.table.keys.items }
+        requires colon { has_colon line.bytes.now ≡ true }
+        requires key { key ≡ text_key line.bytes.now }
         requires some { self.old.is_open ≡ true → is_nil self.old.table.paragraphs.items ≡ false }
         requires text { 0 < length line.bytes.now }
         requires room { HasRoom self.old line.bytes.now }
@@ -91,16 +127,14 @@ impl Draft {
         ensures sound { OnOk result (IsSoundTable self.new.table) }
         ensures some { OnOk result (is_nil self.new.table.paragraphs.items ≡ false) }
         ensures names { self.new.names ≡ self.old.names }
+        ensures latest { OnOk result
+            (StandBelow self.new.latest.counts self.new.table.keys.items) }
         ensures bytes { OnOk result (self.new.table.bytes.items
             ≡ self.old.table.bytes.items ++ line.entry.bytes.now) }
         ensures memory { IfErr result (λ e. refusal_of e ≡ None) }
     {
-        if self.is_open {
-            self.table.add_field(line.bytes)?;
-        } else {
-            self.table.add_paragraph(line.number, line.bytes)?;
-            self.is_open = true;
-        }
+        self.add_text(line, key)?;
+        self.latest.put(key, self.table.fields.len() as u32);
         Ok(())
     }
 
@@ -140,6 +174,7 @@ impl Draft {
             (λ set. HasNames set (open_names (draft_state self.old) ++ name.now ∷ []))) }
         ensures state { draft_state self.new ≡ draft_state self.old }
         ensures table { self.new.table ≡ self.old.table }
+        ensures latest { self.new.latest ≡ self.old.latest }
     {
         match &mut self.names {
             Some(names) => names.insert(alloc, name),
@@ -147,21 +182,33 @@ impl Draft {
         }
     }
 
+    /// Tells whether a field of the open paragraph has this name. Mostly none has its key.
+    fn has_name(&self, name: &[u8], key: u8) -> bool
+        requires fit { IsFitDraft self.now }
+        requires key { key ≡ key_of name.now }
+        ensures { result ≡ list_any (same_name name.now) (open_names (draft_state self.now)) }
+    {
+        let start = self.open_start();
+        self.latest.reaches(key, start) && self.table.has_name(start, name, key)
+    }
+
     /// Tells whether no field of the open paragraph has this name. A set of names has it then. Where
     /// a set seems to have it already, the fields are looked at one by one.
-    fn takes_name(&mut self, alloc: Global, name: &[u8]) -> Result<bool, AllocError>
+    fn takes_name(&mut self, alloc: Global, name: &[u8], key: u8) -> Result<bool, AllocError>
         requires fit { IsFitDraft self.old }
+        requires key { key ≡ key_of name.now }
         ensures new { IfOk result (λ is_new. is_new
             ≡ not (list_any (same_name name.now) (open_names (draft_state self.old)))) }
         ensures names { OnOk result (IfSome self.new.names
             (λ set. HasNames set (open_names (draft_state self.old) ++ name.now ∷ []))) }
         ensures state { draft_state self.new ≡ draft_state self.old }
         ensures table { self.new.table ≡ self.old.table }
+        ensures latest { self.new.latest ≡ self.old.latest }
     {
         if self.is_put(alloc, name)? {
             return Ok(true);
         }
-        Ok(!self.table.has_name(self.open_start(), name))
+        Ok(!self.has_name(name, key))
     }
 
     /// Takes a line that begins a field.
@@ -177,11 +224,12 @@ impl Draft {
             ≤ length self.old.table.bytes.items + length line.entry.bytes.now + 1) }
     {
         let name = head_name(line)?;
+        let key = key_of(name);
         self.keep_names(alloc)?;
-        if !self.takes_name(alloc, name)? {
+        if !self.takes_name(alloc, name, key)? {
             return Err(fault(line.number, FIELD_TWICE));
         }
-        self.add_head(line)?;
+        self.add_head(line, key)?;
         Ok(())
     }
 

@@ -1,16 +1,17 @@
 //! The lines that begin a field.
 
-ghost use Rattle.std.specs.Prelude.{◌≡◌, nat_le, not, ◌&&◌, [], IfNone, IfOk, IfSome, true, false, if◌then◌else◌, Some, None};
-ghost use Rattle.std.specs.List.{list_all, list_any};
+ghost use Rattle.std.specs.Prelude.{◌≡◌, [], IfNone, IfOk, IfSome, true, false, if◌then◌else◌, Some, None};
+ghost use Rattle.std.specs.List.{list_any};
 ghost use Rattle.std.specs.Option.{option_map};
 ghost use Rattle.deb_text.specs.Answers.{Gives, refusal_of, fault_at};
 ghost use Rattle.deb_text.specs.Bytes.{is_byte};
-ghost use Rattle.deb_text.specs.Cuts.{first_is, is_nil, after};
+ghost use Rattle.deb_text.specs.Cuts.{first_is, is_nil, after, front, behind};
 ghost use Rattle.deb_text.specs.Steps.{answer};
-ghost use Rattle.deb_stanza.specs.Stanza.{is_colon, is_field_name, name_of, name_fault, told_at, same_name};
+ghost use Rattle.deb_stanza.specs.Keys.{is_name_byte, is_named};
+ghost use Rattle.deb_stanza.specs.Stanza.{is_colon, name_of, name_fault, told_at, same_name};
 
 use crate::error::{BAD_FIELD_NAME, NO_COLON};
-use deb_text::{Fault, Line, cut_at_first};
+use deb_text::{Fault, Line, cut_at_first, is_same_text};
 
 /// A code told at a line.
 pub fn fault(line: u32, code: u16) -> Fault
@@ -23,10 +24,24 @@ pub fn fault(line: u32, code: u16) -> Fault
     }
 }
 
-fn are_name_bytes(name: &[u8]) -> bool
-    ensures { result ≡ list_all (λ b. nat_le 33 b && nat_le b 126) name.now }
+/// Tells whether a byte may stand in a name.
+fn is_name_byte(b: u8) -> bool
+    ensures { result ≡ is_name_byte b }
 {
-    name.iter().all(|b| 33 <= *b && *b <= 126)
+    b != b':' && 33 <= b && b <= 126
+}
+
+/// The bytes in front of a text that may stand in a name, and the rest.
+fn split_name(text: &[u8]) -> (&[u8], &[u8])
+    ensures name { result.0.now ≡ front is_name_byte text.now }
+    ensures rest { result.1.now ≡ behind is_name_byte text.now }
+{
+    for (place, byte) in text.iter().enumerate() {
+        if !is_name_byte(*byte) {
+            return text.split_at(place);
+        }
+    }
+    text.split_at(text.len())
 }
 
 fn begins_with_hyphen(name: &[u8]) -> bool
@@ -35,10 +50,29 @@ fn begins_with_hyphen(name: &[u8]) -> bool
     name.first() == Some(&b'-')
 }
 
-fn is_field_name(name: &[u8]) -> bool
-    ensures { result ≡ is_field_name name.now }
+fn begins_with_colon(text: &[u8]) -> bool
+    ensures { result ≡ first_is is_colon text.now }
 {
-    !name.is_empty() && !begins_with_hyphen(name) && are_name_bytes(name)
+    text.first() == Some(&b':')
+}
+
+/// Tells whether the bytes in front are a name: a colon stands behind them, and no hyphen first.
+fn is_named(name: &[u8], rest: &[u8]) -> bool
+    ensures { result ≡ is_named name.now rest.now }
+{
+    begins_with_colon(rest) && !name.is_empty() && !begins_with_hyphen(name)
+}
+
+/// The fault of a line in front of which stands no name with a colon behind it.
+fn name_fault(line: Line) -> Fault
+    ensures { result ≡ fault_at 0 line.entry.number
+        (if list_any is_colon line.entry.bytes.now then BAD_FIELD_NAME else NO_COLON) }
+{
+    if line.bytes.contains(&b':') {
+        fault(line.number, BAD_FIELD_NAME)
+    } else {
+        fault(line.number, NO_COLON)
+    }
 }
 
 /// The name before the first colon of a line.
@@ -52,13 +86,12 @@ pub fn head_name(line: Line<'_>) -> Result<&[u8], Fault>
         (name_of line.entry.bytes.now)) }
     ensures colon { IfOk result (λ _. list_any is_colon line.entry.bytes.now ≡ true) }
 {
-    let Some((name, _)) = cut_at_first(b':', line.bytes) else {
-        return Err(fault(line.number, NO_COLON));
-    };
-    if !is_field_name(name) {
-        return Err(fault(line.number, BAD_FIELD_NAME));
+    let (name, rest) = split_name(line.bytes);
+    if is_named(name, rest) {
+        Ok(name)
+    } else {
+        Err(name_fault(line))
     }
-    Ok(name)
 }
 
 /// What stands before the first colon of a text, or all of it.
@@ -75,6 +108,10 @@ pub fn name_part(text: &[u8]) -> &[u8]
 fn is_same_name(a: &[u8], b: &[u8]) -> bool
     ensures { result ≡ same_name a.now b.now }
 {
+    // Most names are spelled alike.
+    if is_same_text(a, b) {
+        return true;
+    }
     a.eq_ignore_ascii_case(b)
 }
 

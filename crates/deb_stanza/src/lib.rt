@@ -9,6 +9,7 @@
 mod draft;
 mod error;
 mod fields;
+mod key;
 mod names;
 mod paragraphs;
 mod plain;

@@ -1,15 +1,17 @@
 //! The fields of all paragraphs, in one run of bytes.
 
-ghost use Rattle.std.specs.Prelude.{◌≡◌, ◌+◌, ◌<◌, ◌≤◌, ◌^◌, slice_index_or, slice_range, [], ◌∷◌, ◌++◌, length, drop, OnOk, IfOk};
+ghost use Rattle.std.specs.Prelude.{◌≡◌, ◌+◌, ◌<◌, ◌≤◌, ◌^◌, slice_index_or, slice_range, [], ◌∷◌, ◌++◌, length, drop, OnOk, IfOk, true};
 ghost use Rattle.std.specs.List.{list_any};
 ghost use Rattle.std.specs.Option.{option_map};
 ghost use Rattle.deb_stanza.specs.Cut.{end_at, onto_last};
 ghost use Rattle.deb_stanza.specs.Draft.{last_texts, longer, larger, names_from};
+ghost use Rattle.deb_stanza.specs.Keys.{has_colon, key_of, text_key};
 ghost use Rattle.deb_stanza.specs.Names.{HasNames};
 ghost use Rattle.deb_stanza.specs.Stanza.{name_of, paragraph_at, same_name, value_of};
 ghost use Rattle.deb_stanza.specs.View.{IsSoundTable, first_of_start, own, table_paragraphs, table_raws, table_texts, value_among, value_named};
 
 use crate::fields::{behind_name, name_part};
+use crate::key::key_of;
 use crate::names::Names;
 use deb_text::trim;
 use std::alloc::{AllocError, Global};
@@ -25,11 +27,13 @@ pub struct Start {
 }
 
 /// The fields of all paragraphs. A field's text is its line and the lines that continue it,
-/// joined by newlines; it ends where the next one begins, and so does a paragraph.
+/// joined by newlines; it ends where the next one begins, and so does a paragraph. Each field has
+/// the key of its name, beside which its text is read only where a name has that key.
 #[derive(Drop)]
 pub struct Table {
     pub bytes: Vec<u8>,
     pub fields: Vec<u32>,
+    pub keys: Vec<u8>,
     pub paragraphs: Vec<Start>,
 }
 
@@ -76,23 +80,27 @@ pub fn empty_table(alloc: Global) -> Table
     ensures raws { table_raws result ≡ [] }
     ensures sound { IsSoundTable result }
     ensures bytes { result.bytes.items ≡ [] }
+    ensures keys { result.keys.items ≡ [] }
 {
     Table {
         bytes: Vec::new(alloc),
         fields: Vec::new(alloc),
+        keys: Vec::new(alloc),
         paragraphs: Vec::new(alloc),
     }
 }
 
 impl Table {
-    fn push_text(&mut self, text: &[u8]) -> Result<(), AllocError>
+    fn push_text(&mut self, text: &[u8], key: u8) -> Result<(), AllocError>
         requires room { length self.old.bytes.items + length text.now + 1 < 2 ^ 32 }
         ensures bytes { OnOk result (self.new.bytes.items ≡ self.old.bytes.items ++ text.now) }
         ensures fields { OnOk result (self.new.fields.items
             ≡ self.old.fields.items ++ length self.old.bytes.items ∷ []) }
+        ensures keys { OnOk result (self.new.keys.items ≡ self.old.keys.items ++ key ∷ []) }
         ensures paragraphs { self.new.paragraphs.items ≡ self.old.paragraphs.items }
     {
         self.fields.push(self.bytes.len() as u32)?;
+        self.keys.push(key)?;
         self.bytes.extend_from_slice(text)?;
         Ok(())
     }
@@ -102,17 +110,20 @@ impl Table {
     /// # Errors
     ///
     /// [`AllocError`] where memory is refused. What the table has then is not said.
-    pub fn add_field(&mut self, text: &[u8]) -> Result<(), AllocError>
+    pub fn add_field(&mut self, text: &[u8], key: u8) -> Result<(), AllocError>
         requires sound { IsSoundTable self.old }
+        requires colon { has_colon text.now ≡ true }
+        requires key { key ≡ text_key text.now }
         requires some { 0 < length text.now }
         requires room { length self.old.bytes.items + length text.now + 1 < 2 ^ 32 }
         ensures raws { OnOk result (table_raws self.new
             ≡ onto_last (larger text.now) (table_raws self.old)) }
         ensures sound { OnOk result (IsSoundTable self.new) }
         ensures bytes { OnOk result (self.new.bytes.items ≡ self.old.bytes.items ++ text.now) }
+        ensures keys { OnOk result (self.new.keys.items ≡ self.old.keys.items ++ key ∷ []) }
         ensures paragraphs { self.new.paragraphs.items ≡ self.old.paragraphs.items }
     {
-        self.push_text(text)?;
+        self.push_text(text, key)?;
         Ok(())
     }
 
@@ -121,18 +132,21 @@ impl Table {
     /// # Errors
     ///
     /// [`AllocError`] where memory is refused. What the table has then is not said.
-    pub fn add_paragraph(&mut self, line: u32, text: &[u8]) -> Result<(), AllocError>
+    pub fn add_paragraph(&mut self, line: u32, text: &[u8], key: u8) -> Result<(), AllocError>
         requires sound { IsSoundTable self.old }
+        requires colon { has_colon text.now ≡ true }
+        requires key { key ≡ text_key text.now }
         requires some { 0 < length text.now }
         requires room { length self.old.bytes.items + length text.now + 1 < 2 ^ 32 }
         ensures raws { OnOk result (table_raws self.new
             ≡ table_raws self.old ++ record { line = line; texts = text.now ∷ [] } ∷ []) }
         ensures sound { OnOk result (IsSoundTable self.new) }
         ensures bytes { OnOk result (self.new.bytes.items ≡ self.old.bytes.items ++ text.now) }
+        ensures keys { OnOk result (self.new.keys.items ≡ self.old.keys.items ++ key ∷ []) }
     {
         let first = self.fields.len() as u32;
         self.paragraphs.push(Start { first, line })?;
-        self.push_text(text)?;
+        self.push_text(text, key)?;
         Ok(())
     }
 
@@ -147,6 +161,7 @@ impl Table {
             ≡ onto_last (longer line.now) (table_raws self.old)) }
         ensures sound { OnOk result (IsSoundTable self.new) }
         ensures bytes { OnOk result (self.new.bytes.items ≡ self.old.bytes.items ++ 10 ∷ line.now) }
+        ensures keys { self.new.keys.items ≡ self.old.keys.items }
         ensures paragraphs { self.new.paragraphs.items ≡ self.old.paragraphs.items }
     {
         push_line(&mut self.bytes, line)?;
@@ -167,25 +182,30 @@ impl Table {
         )
     }
 
-    /// The value of a field, if this is its name.
-    fn value_named(&self, field: usize, name: &[u8]) -> Option<&[u8]>
+    /// The value of a field, if this is its name, of which the key is given.
+    fn value_named(&self, field: usize, name: &[u8], key: u8) -> Option<&[u8]>
         requires sound { IsSoundTable self.now }
+        requires key { key ≡ key_of name.now }
         requires within { field < length self.now.fields.items }
         ensures { option_map (λ value. value.now) result
             ≡ value_named name.now (slice_index_or (table_texts self.now) field []) }
     {
+        if self.keys[field] != key {
+            return None;
+        }
         Some(trim(behind_name(name, self.text(field))?))
     }
 
-    /// The value of the first of some fields that has this name.
-    fn value_among(&self, from: usize, to: usize, name: &[u8]) -> Option<&[u8]>
+    /// The value of the first of some fields that has this name, of which the key is given.
+    fn value_among(&self, from: usize, to: usize, name: &[u8], key: u8) -> Option<&[u8]>
         requires sound { IsSoundTable self.now }
+        requires key { key ≡ key_of name.now }
         requires within { to ≤ length self.now.fields.items }
         ensures { option_map (λ value. value.now) result
             ≡ value_among name.now (slice_range (table_texts self.now) from to) }
     {
         for field in from..to {
-            if let Some(value) = self.value_named(field, name) {
+            if let Some(value) = self.value_named(field, name, key) {
                 return Some(value);
             }
         }
@@ -204,12 +224,14 @@ impl Table {
         }
     }
 
-    /// Tells whether a field from this one on has that name.
-    pub fn has_name(&self, start: usize, name: &[u8]) -> bool
-        requires { IsSoundTable self.now }
+    /// Tells whether a field from this one on has that name, of which the key is given.
+    pub fn has_name(&self, start: usize, name: &[u8], key: u8) -> bool
+        requires sound { IsSoundTable self.now }
+        requires key { key ≡ key_of name.now }
         ensures { result ≡ list_any (same_name name.now) (names_from self.now start) }
     {
-        self.value_among(start, self.fields.len(), name).is_some()
+        self.value_among(start, self.fields.len(), name, key)
+            .is_some()
     }
 
     /// The name of a field.
@@ -263,6 +285,6 @@ impl Table {
     {
         let start = self.paragraphs[paragraph].first as usize;
         let end = start_end(&self.paragraphs, paragraph, self.fields.len());
-        self.value_among(start, end, name)
+        self.value_among(start, end, name, key_of(name))
     }
 }

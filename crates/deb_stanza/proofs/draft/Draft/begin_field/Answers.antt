@@ -51,4 +51,5 @@ returns-clause-fit c =
           (c.in_ok-takes_name.ensures.state ∙ kept))
           (sym named.1) c.in_ok-name.ensures.colon has);
       some = λ _. c.in_ok-add_head.ensures.some;
+      latest = c.in_ok-add_head.ensures.latest;
     }

@@ -16,4 +16,5 @@ returns-clause-fit c =
           (known-longer old.names (10 ∷ c.args.line.bytes.now) (last_texts raws)
           (rw is_open at c.requires.fit.known));
       some = λ is. rw c.in_ok-go_on.ensures.paragraphs (c.requires.fit.some is);
+      latest = rw c.in_ok-go_on.ensures.keys c.requires.fit.latest;
     }

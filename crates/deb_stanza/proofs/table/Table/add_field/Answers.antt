@@ -1,3 +1,4 @@
+use Rattle.deb_stanza.proofs.KeyLaws.{keys-push, colons-push}
 use Rattle.deb_stanza.proofs.TableLaws.{raws-larger, fields-push, paragraphs-more}
 use Rattle.deb_stanza.proofs.table.Table.add_field.Goals as goal
 
@@ -22,4 +23,14 @@ returns-clause-sound c =
           rw (e.fields, e.paragraphs)
           (paragraphs-more t.bytes.items t.fields.items t.paragraphs.items c.args.text.now
           c.requires.sound.fields c.requires.sound.paragraphs);
+      keys =
+          rw (e.bytes, e.fields, e.keys)
+          (keys-push t.bytes.items t.fields.items t.paragraphs.items c.args.text.now
+          c.requires.sound.fields c.requires.sound.paragraphs t.keys.items
+          c.requires.sound.keys c.requires.sound.colons c.args.key c.requires.key);
+      colons =
+          rw (e.bytes, e.fields)
+          (colons-push t.bytes.items t.fields.items t.paragraphs.items c.args.text.now
+          c.requires.sound.fields c.requires.sound.paragraphs t.keys.items
+          c.requires.sound.keys c.requires.sound.colons c.requires.colon);
     }

@@ -1,5 +1,6 @@
 use Rattle.std.proofs.Common.{arith, length, ◌≡◌}
 use Rattle.deb_stanza.proofs.CutLaws.{IsCut-count}
+use Rattle.deb_stanza.proofs.KeyLaws.{keys-push, colons-push}
 use Rattle.deb_stanza.proofs.TableLaws.{raws-push, fields-push, paragraphs-push}
 use Rattle.deb_stanza.proofs.table.Table.add_paragraph.Goals as goal
 
@@ -38,4 +39,14 @@ returns-clause-sound c =
           rw (e.fields, e.paragraphs, c.in_ok-push.ensures.items, count)
           (paragraphs-push t.bytes.items t.fields.items t.paragraphs.items c.args.text.now
           c.requires.sound.fields c.requires.sound.paragraphs c.args.line);
+      keys =
+          rw (e.bytes, e.fields, e.keys)
+          (keys-push t.bytes.items t.fields.items t.paragraphs.items c.args.text.now
+          c.requires.sound.fields c.requires.sound.paragraphs t.keys.items
+          c.requires.sound.keys c.requires.sound.colons c.args.key c.requires.key);
+      colons =
+          rw (e.bytes, e.fields)
+          (colons-push t.bytes.items t.fields.items t.paragraphs.items c.args.text.now
+          c.requires.sound.fields c.requires.sound.paragraphs t.keys.items
+          c.requires.sound.keys c.requires.sound.colons c.requires.colon);
     }

@@ -1,3 +1,4 @@
+use Rattle.deb_stanza.proofs.KeyLaws.{keys-go_on, colons-go_on}
 use Rattle.deb_stanza.proofs.TableLaws.{raws-longer, fields-longer}
 use Rattle.deb_stanza.proofs.table.Table.go_on.Goals as goal
 
@@ -17,4 +18,14 @@ returns-clause-sound c =
           (fields-longer t.bytes.items t.fields.items t.paragraphs.items c.args.line.now
           c.requires.sound.fields c.requires.sound.paragraphs);
       paragraphs = c.requires.sound.paragraphs;
+      keys =
+          rw c.in_ok-push_line.ensures
+          (keys-go_on t.bytes.items t.fields.items t.paragraphs.items c.args.line.now
+          c.requires.sound.fields c.requires.sound.paragraphs t.keys.items
+          c.requires.sound.keys c.requires.sound.colons);
+      colons =
+          rw c.in_ok-push_line.ensures
+          (colons-go_on t.bytes.items t.fields.items t.paragraphs.items c.args.line.now
+          c.requires.sound.fields c.requires.sound.paragraphs t.keys.items
+          c.requires.sound.keys c.requires.sound.colons);
     }
