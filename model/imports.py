@@ -177,12 +177,11 @@ class Import:
         self.builds = [Build(it, self.architectures, target, sources) for it in wish.recipes]
         self.sources = sources
         self.given = Pool(it for build in self.builds for it in build.outputs)
-        self.begin, self.unmet = Pool(), {}
+        self.begin, self.asked = Pool(), set()
         self.chroots = [(it, self.chroot(it)) for it in wish.chroots]
-        if wish.archive is not None:
-            self.close([(entry, "Archive") for entry in reduce_field(wish.archive, self.architectures)], True)
-        needs = [(entry, f"recipe {build.name} Build-Depends") for build in self.builds for entry in build.needs]
-        self.close(needs, wish.archive is None)
+        self.archive_field = [] if wish.archive is None else reduce_field(wish.archive, self.architectures)
+        self.close([*self.archive_field], True)
+        self.close([entry for build in self.builds for entry in build.needs], wish.archive is None)
         self.count_builds()
 
     def count_builds(self):
@@ -196,20 +195,19 @@ class Import:
 
     def close(self, entries, from_archive):
         """Takes the best that meets each entry, and what that needs: of the archive's index where that is allowed, and of
-        what the builds give. `entries` are pairs of an entry and who has it. What is taken does not depend on their order."""
+        what the builds give. What is taken does not depend on the order of the entries."""
         seen = set()
-        for entry, who in entries:  # grows while it is gone through
+        for entry in entries:  # grows while it is gone through
             if shown(entry) in seen:
                 continue
             seen.add(shown(entry))
             there, given = self.archive.best(entry) if from_archive else None, self.given.best(entry)
             if there is not None:
                 self.begin.add(there)
-            elif given is None and self.begin.best(entry) is None:
-                self.unmet.setdefault(shown(entry), (entry, who))
             for it in (there, given):
                 if it is not None:
-                    entries.extend((need, str(it)) for need in it.needs())
+                    self.asked.add(id(it))
+                    entries.extend(it.needs())
 
     def chroot(self, wished):
         """The variants of a base chroot, which the archive has too."""
@@ -266,12 +264,38 @@ class Import:
             "relation entries": sum(it.entries for it in [*self.begin.members, *given]),
         }
 
-    def notes(self):
+    def wanted_outputs(self, universe):
+        """The variants that builds give, and whose needs are wanted."""
+        return [
+            universe.find(it.name, Version(build.version_of(it)))
+            for build in self.builds for it in build.outputs if id(it) in self.asked
+        ]
+
+    def needs(self, universe):
+        """What is asked for, and by whom: what the archive was to hold, what recipes need, what is there at the beginning and
+        what outputs that are wanted need."""
+        yield from (("Archive", entry) for entry in self.archive_field)
+        for recipe in universe.recipes.values():
+            yield from ((f"recipe {recipe.name} Build-Depends", entry) for entry in recipe.needs)
+        for asking in (universe.archive, self.wanted_outputs(universe)):
+            for it in universe.all_variants():
+                if it in asking:
+                    yield from ((f"{it.name} (= {it.version.text})", entry) for entry in it.needs())
+
+    def unmet(self, universe):
+        """What is asked for and nothing in the farm meets, by its words, with who asks for it first."""
+        there, unmet = Pool(universe.all_variants()), {}
+        for who, entry in self.needs(universe):
+            if shown(entry) not in unmet and not there.meets(entry):
+                unmet[shown(entry)] = entry, who
+        return unmet.values()
+
+    def notes(self, universe):
         """What is odd: needs that nothing meets, and which source would give what meets them."""
         yield from self.wish.notes
         for build in self.builds:
             yield from build.notes
-        for entry, who in self.unmet.values():
+        for entry, who in self.unmet(universe):
             it = self.target.best(entry) or self.archive.best(entry)
             giver = "" if it is None else f"; source {it.source} gives {it}"
             yield f"{who}: {shown(entry)} is met by nothing{giver}"
@@ -335,7 +359,7 @@ def make_texts(wish_text, archive, packages, sources):
     counts = made.counts(packages, sources)
     check_limits(made, counts)
     texts = {"packages": HEAD + packages, "sources": HEAD + sources, "farm": HEAD + made.farm()}
-    read_universe(texts)
+    universe = read_universe(texts)
     limits = {what: "" if most is None else f" of {most}" for what, most in LIMITS.items()}
     told = [f"{what} {count}{limits[what]}" for what, count in counts.items()]
-    return texts, [*told, *(f"note: {note}" for note in made.notes())]
+    return texts, [*told, *(f"note: {note}" for note in made.notes(universe))]

@@ -225,6 +225,10 @@ class Pool:
         named = lambda name: [it for it in self.by_name.get(name, []) if it.name == name]  # noqa: E731
         return best(entry, named, lambda name: self.by_name.get(name, []))
 
+    def meets(self, entry):
+        """Whether one of them satisfies an alternative of the entry."""
+        return any(it.satisfies(entry) for alternative in entry for it in self.by_name.get(alternative.name, []))
+
     def in_order(self):
         return sorted(self.members, key=lambda it: (it.name, by_order(it.version)))
 

@@ -12,7 +12,7 @@ mod shelf;
 mod variants;
 
 pub use chroot::{ChrootStop, chroot_members};
-pub use closure::{Closure, Pools, Unmet, Wanted, Wanter};
+pub use closure::{Closure, Pools};
 pub use looks::{Look, Unreadable};
 pub use shelf::Shelf;
 pub use variants::{Variant, Variants};

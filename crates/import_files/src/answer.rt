@@ -55,7 +55,7 @@ fn answer<F: Folder, S: Sink>(
     ensures { IfOk result (λ status. (status ≡ FINE) ⊎ (status ≡ REFUSED)) }
 {
     match read_and_import(alloc, folder, paths)? {
-        Imported::Texts(texts, lines) => {
+        Imported::Texts(texts, _unmet, lines) => {
             if !paths.force {
                 judge_files(alloc, folder, paths.folder)?;
             }

@@ -11,6 +11,7 @@ use Rattle.index_cut.specs.declared.blocks.Block.{Block}
 use Rattle.imported_farm.specs.declared.imported.NamedText.{NamedText}
 use Rattle.deb_stanza.specs.Stanza.{Paragraph, paragraphs_at}
 use Rattle.import_wish.specs.Wish.{Wish, wish_at}
+use Rattle.unmet_needs.specs.declared.needs.Unmet.{Unmet}
 use Rattle.imported_farm.specs.Imported.{AreTextsOf, wish_in}
 use Rattle.imported_farm.specs.declared.imported.ImportedTexts.{ImportedTexts}
 use Rattle.imported_farm.specs.declared.imported.TheConstants.{HEAD}
@@ -143,21 +144,18 @@ pub one-of : (Is : List ℕ → Type 0) (blocks : List (Bor (List ℕ)))
 one-of Is blocks all bytes is =
     subst Is (sym is.2) (All-contains (λ (b : Bor (List ℕ)). Is b.now) blocks is.0 all is.1)
 
--- such texts of blocks that are all such
-pub texts-weaker : (P Q : List ℕ → Type 0) (packages sources : List (Bor (List ℕ)))
-    → All (λ block. P block.now) packages → All (λ block. Q block.now) sources → (wish : Wish)
-    → (texts : ImportedTexts) → AreTextsOf (IsOneOf packages) (IsOneOf sources) wish texts
-    → AreTextsOf P Q wish texts
-texts-weaker P Q packages sources ps ss wish texts are =
+-- such texts of paragraphs of other kinds
+pub texts-weaker : (P Q P2 Q2 : List ℕ → Type 0) → ((p : List ℕ) → P p → P2 p)
+    → ((p : List ℕ) → Q p → Q2 p) → (wish : Wish) (texts : ImportedTexts) (unmet : List Unmet)
+    → AreTextsOf P Q wish texts unmet → AreTextsOf P2 Q2 wish texts unmet
+texts-weaker P Q P2 Q2 ps qs wish texts unmet are =
     record {
       farm = are.farm;
       packages =
-          made-weaker (IsWholeOrAnew (IsOneOf packages)) (IsWholeOrAnew P)
-          (whole_or_anew-weaker (IsOneOf packages) P (one-of P packages ps)) HEAD.now
+          made-weaker (IsWholeOrAnew P) (IsWholeOrAnew P2) (whole_or_anew-weaker P P2 ps) HEAD.now
           texts.packages.items are.packages;
       sources =
-          made-weaker (IsWhole (IsOneOf sources)) (IsWhole Q)
-          (whole-weaker (IsOneOf sources) Q (one-of Q sources ss)) HEAD.now texts.sources.items
+          made-weaker (IsWhole Q) (IsWhole Q2) (whole-weaker Q Q2 qs) HEAD.now texts.sources.items
           are.sources;
     }
 

@@ -1,8 +1,8 @@
 -- What was written of what was taken.
 --
 --   OnTexts P drawn    where there are texts, P holds of them
-use Rattle.imported_farm.specs.declared.imported.Drawn.{Drawn}
-use Rattle.imported_farm.specs.declared.imported.Drawn.TheVariants.{Texts, Over}
+use Rattle.imported_farm.specs.declared.written.Drawn.{Drawn}
+use Rattle.imported_farm.specs.declared.written.Drawn.TheVariants.{Texts, Over}
 use Rattle.imported_farm.specs.declared.imported.ImportedTexts.{ImportedTexts}
 
 abbrev pub OnTexts : (ImportedTexts → Type 0) → Drawn → Type 0

@@ -38,7 +38,7 @@ fn entries_at(shelf: &Shelf, number: u32) -> usize {
 /// The entries of what is there at the beginning and of what builds give.
 fn all_entries(shelf: &Shelf, taken: &Taken) -> usize {
     let mut count: usize = 0;
-    for number in &taken.closure.begin {
+    for number in &taken.there.closure.begin {
         count = count.saturating_add(entries_at(shelf, *number));
     }
     for build in &taken.builds {
@@ -61,15 +61,15 @@ fn limited(what: &'static [u8], count: usize, most: usize) -> Count {
 /// many bytes the longer one has.
 pub fn counts(shelf: &Shelf, taken: &Taken, sources: usize, bytes: usize) -> [Count; 7] {
     [
-        limited(b"names", taken.variants.names(), MOST_NAMES),
+        limited(b"names", taken.numbered.variants.names(), MOST_NAMES),
         Count {
             what: b"variants",
-            count: taken.variants.count(),
+            count: taken.numbered.variants.count(),
             most: None,
         },
         limited(b"sources", sources, MOST_SOURCES),
         limited(b"recipes", taken.builds.len(), MOST_RECIPES),
-        limited(b"base chroots", taken.chroots.len(), MOST_BASES),
+        limited(b"base chroots", taken.there.chroots.len(), MOST_BASES),
         limited(b"bytes of a text", bytes, MOST_BYTES),
         limited(b"relation entries", all_entries(shelf, taken), MOST_ENTRIES),
     ]

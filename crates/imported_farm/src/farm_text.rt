@@ -151,7 +151,7 @@ fn push_recipes(
 ) -> Result<(), AllocError> {
     for at in 0..recipes.len() {
         if let Some(build) = taken.builds.get(at) {
-            let before = taken.counts.get(at).copied().unwrap_or(0);
+            let before = taken.numbered.counts.get(at).copied().unwrap_or(0);
             push_recipe(alloc, text, shelf, &recipes[at], build, before)?;
         }
     }
@@ -176,9 +176,9 @@ pub fn push_farm(
         text,
         &[b"Architecture-Names: ", architectures, b"\nArchive: "],
     )?;
-    push_variants(text, &taken.begin)?;
+    push_variants(text, &taken.numbered.begin)?;
     push_recipes(alloc, text, shelf, recipes, taken)?;
-    for chroot in &taken.chroots {
+    for chroot in &taken.there.chroots {
         push_chroot(text, chroot)?;
     }
     Ok(())

@@ -2,9 +2,10 @@
 //!
 //! Proved by the contract of `import`: texts that are given out are read without a fault, as every
 //! command reads them; they have a recipe and a base chroot for each of the wish, by name and in its
-//! order; each paragraph of a source is one of the Sources indexes, byte for byte, and each paragraph
-//! of a package is one of the Packages indexes, or has another version in `Version` and in what stands
-//! in brackets in its relations. Not proved: that what the builds need is taken, which versions builds
+//! order; beside them stands all that their recipes and their archive need and nothing in them meets;
+//! each paragraph of a source is one of the Sources indexes, byte for byte, and each paragraph of a
+//! package is one of the Packages indexes, or has another version in `Version` and in what stands in
+//! brackets in its relations. Not proved: that no more is taken than is wanted, which versions builds
 //! give, what a recipe says beside its name, and how notes and refusals are worded; cases hold that.
 #![tactic(auto)]
 
@@ -14,6 +15,7 @@ mod farm_names;
 mod farm_text;
 mod imported;
 mod indexes;
+mod judge;
 mod lines;
 mod notes;
 mod packages_text;
@@ -22,5 +24,6 @@ mod shares;
 mod taken;
 mod versions;
 mod wish_notes;
+mod written;
 
 pub use imported::{HEAD, Imported, ImportedTexts, Inputs, NamedText, import};

@@ -2,28 +2,38 @@
 
 use crate::indexes::Packages;
 use crate::lines::{push, push_number, push_package};
-use crate::taken::Taken;
+use crate::taken::{Read, Taken};
 use deb_relation::Entry;
 use deb_stanza::Paragraphs;
-use import_builds::SourceShelf;
-use import_closure::{Shelf, Unmet, Unreadable, Wanter};
+use farm_universe::{Universe, Variant};
+use import_builds::{Build, SourceShelf};
+use import_closure::{Shelf, Unreadable};
 use import_wish::WishedRecipe;
 use plan_asm::push_entry;
 use std::alloc::{AllocError, Global};
 use std::collections::BTreeSet;
+use unmet_needs::{Asker, Unmet};
 
-/// The recipes of a wish, and what is taken for them.
+/// What an import was given, and what was taken of it.
 #[derive(Clone, Copy)]
 pub struct Told<'a> {
-    pub recipes: &'a [WishedRecipe],
+    pub read: Read<'a>,
     pub taken: &'a Taken,
 }
 
+/// The farm that was made, and what nothing in it meets.
+#[derive(Clone, Copy)]
+pub struct Farm<'a> {
+    pub universe: &'a Universe,
+    pub unmet: &'a [Unmet],
+}
+
 /// Puts a note on a recipe behind a text whose packages are those of another version.
-fn push_stand_in(text: &mut Vec<u8>, told: Told, at: usize) -> Result<(), AllocError> {
-    let (Some(wished), Some(build)) = (told.recipes.get(at), told.taken.builds.get(at)) else {
-        return Ok(());
-    };
+fn push_stand_in(
+    text: &mut Vec<u8>,
+    wished: &WishedRecipe,
+    build: &Build,
+) -> Result<(), AllocError> {
     let Some(version) = &build.stand_in else {
         return Ok(());
     };
@@ -33,23 +43,43 @@ fn push_stand_in(text: &mut Vec<u8>, told: Told, at: usize) -> Result<(), AllocE
     text.extend_from_slice(b"\n")
 }
 
-/// Puts who wants an entry behind a text.
-fn push_wanter(
+/// The same of each recipe.
+fn push_stand_ins(
     text: &mut Vec<u8>,
-    shelf: &Shelf,
-    told: Told,
-    wanter: Wanter,
+    recipes: &[WishedRecipe],
+    builds: &[Build],
 ) -> Result<(), AllocError> {
-    match wanter {
-        Wanter::Archive => text.extend_from_slice(b"Archive"),
-        Wanter::Recipe(recipe) => match told.recipes.get(recipe as usize) {
-            Some(wished) => push(text, &[b"recipe ", &wished.name, b" Build-Depends"]),
-            None => Ok(()),
-        },
-        Wanter::Package(number) => match shelf.given(number) {
-            Some(given) => push_package(text, &given.name, given.version.text()),
-            None => Ok(()),
-        },
+    for (wished, build) in recipes.iter().zip(builds) {
+        push_stand_in(text, wished, build)?;
+    }
+    Ok(())
+}
+
+/// Puts a package that asks for something behind a text.
+fn push_variant(
+    text: &mut Vec<u8>,
+    universe: &Universe,
+    variant: Variant,
+) -> Result<(), AllocError> {
+    if variant.name >= universe.names() || variant.bit >= universe.variants(variant.name) {
+        return Ok(());
+    }
+    push_package(
+        text,
+        universe.name_text(variant.name),
+        universe.version(variant).text(),
+    )
+}
+
+/// Puts who asks for an entry behind a text.
+fn push_asker(text: &mut Vec<u8>, universe: &Universe, asker: Asker) -> Result<(), AllocError> {
+    match asker {
+        Asker::Archive => text.extend_from_slice(b"Archive"),
+        Asker::Recipe(number) => push(
+            text,
+            &[b"recipe ", universe.recipe_name(number), b" Build-Depends"],
+        ),
+        Asker::Package(variant) => push_variant(text, universe, variant),
     }
 }
 
@@ -75,17 +105,17 @@ fn best_anywhere(
     }
 }
 
-/// Puts a note on an entry that nothing meets behind a text, unless its words are told already.
+/// Puts a note on an entry that nothing meets behind a text.
 fn push_unmet(
     alloc: Global,
     text: &mut Vec<u8>,
     shelf: &mut Shelf,
     packages: &Packages,
-    told: Told,
+    universe: &Universe,
     unmet: &Unmet,
 ) -> Result<(), AllocError> {
     text.extend_from_slice(b"note: ")?;
-    push_wanter(text, shelf, told, unmet.wanter)?;
+    push_asker(text, universe, unmet.asker)?;
     text.extend_from_slice(b": ")?;
     push_entry(text, &unmet.entry)?;
     text.extend_from_slice(b" is met by nothing")?;
@@ -102,18 +132,18 @@ fn words_of(alloc: Global, entry: &Entry) -> Result<Vec<u8>, AllocError> {
     Ok(words)
 }
 
-/// Puts a note on each entry that nothing meets behind a text, each once.
+/// Puts a note on each entry that nothing meets behind a text, those of the same words once.
 fn push_all_unmet(
     alloc: Global,
     text: &mut Vec<u8>,
     shelf: &mut Shelf,
     packages: &Packages,
-    told: Told,
+    farm: Farm,
 ) -> Result<(), AllocError> {
     let mut seen = BTreeSet::new(alloc);
-    for unmet in &told.taken.closure.unmet {
+    for unmet in farm.unmet {
         if seen.insert(words_of(alloc, &unmet.entry)?)? {
-            push_unmet(alloc, text, shelf, packages, told, unmet)?;
+            push_unmet(alloc, text, shelf, packages, farm.universe, unmet)?;
         }
     }
     Ok(())
@@ -199,12 +229,10 @@ pub fn push_notes(
     text: &mut Vec<u8>,
     shelf: &mut Shelf,
     sources: &SourceShelf,
-    packages: &Packages,
     told: Told,
+    farm: Farm,
 ) -> Result<(), AllocError> {
-    for at in 0..told.recipes.len() {
-        push_stand_in(text, told, at)?;
-    }
-    push_all_unmet(alloc, text, shelf, packages, told)?;
+    push_stand_ins(text, &told.read.of.wish.items.recipes, &told.taken.builds)?;
+    push_all_unmet(alloc, text, shelf, told.read.of.packages, farm)?;
     push_unreadable(alloc, text, shelf, sources)
 }

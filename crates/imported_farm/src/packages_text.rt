@@ -48,7 +48,7 @@ fn all_sisters(
     taken: &Taken,
 ) -> Result<Vec<Vec<Sister>>, AllocError> {
     let mut all = Vec::new(alloc);
-    for (build, before) in taken.builds.iter().zip(&taken.counts) {
+    for (build, before) in taken.builds.iter().zip(&taken.numbered.counts) {
         all.push(sisters_of(alloc, shelf, build, *before)?)?;
     }
     Ok(all)
@@ -157,12 +157,21 @@ pub fn push_packages(
     ensures { OnOk result (IsMadeOf (IsWholeOrAnew (IsOneOf blocks.now)) text.old.items text.new.items) }
 {
     let all = all_sisters(alloc, shelf, taken)?;
-    for variants in taken.variants.by_name.values() {
+    for variants in taken.numbered.variants.by_name.values() {
         for variant in variants {
             push_variant(text, shelf, blocks, taken, &all, variant)?;
         }
     }
     Ok(())
+}
+
+/// The source of a build.
+fn source_of(build: &Build) -> Result<Variant, AllocError> {
+    Ok(Variant {
+        version: build.source.version.clone()?,
+        number: build.source.number,
+        recipe: None,
+    })
 }
 
 /// The sources of builds, by name and version.
@@ -177,12 +186,7 @@ pub fn chosen_sources(
 ) -> Result<Variants, AllocError> {
     let mut chosen = Variants::new(alloc);
     for (wished, build) in recipes.iter().zip(builds) {
-        let variant = Variant {
-            version: build.source.version.clone()?,
-            number: build.source.number,
-            recipe: None,
-        };
-        chosen.add(alloc, &wished.source.name, variant)?;
+        chosen.add(alloc, &wished.source.name, source_of(build)?)?;
     }
     Ok(chosen)
 }

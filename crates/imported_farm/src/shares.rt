@@ -109,7 +109,7 @@ impl Walk {
     /// Takes those of blocks that were taken, or are given by the build.
     fn take(&mut self, pools: Pools, build: &Build, found: &[u32]) -> Result<(), AllocError> {
         for number in found {
-            if pools.taken.closure.begin.contains(number) || build.outputs.contains(number) {
+            if pools.taken.there.closure.begin.contains(number) || build.outputs.contains(number) {
                 if self.seen.insert(*number)? {
                     self.blocks.push(*number)?;
                 }
@@ -155,6 +155,24 @@ fn push_names(
     Ok(())
 }
 
+/// The blocks that a build takes.
+fn blocks_taken(
+    alloc: Global,
+    shelf: &mut Shelf,
+    pools: Pools,
+    met: &mut Met,
+    build: &Build,
+) -> Result<Walk, AllocError> {
+    let mut walk = Walk {
+        seen: BTreeSet::new(alloc),
+        blocks: Vec::new(alloc),
+    };
+    let found = met_by(alloc, shelf, pools, &build.needs)?;
+    walk.take(pools, build, &found)?;
+    close(alloc, shelf, pools, met, build, &mut walk)?;
+    Ok(walk)
+}
+
 /// The names that a build takes and gives.
 fn names_taken(
     alloc: Global,
@@ -163,13 +181,7 @@ fn names_taken(
     met: &mut Met,
     build: &Build,
 ) -> Result<BTreeSet<Vec<u8>>, AllocError> {
-    let mut walk = Walk {
-        seen: BTreeSet::new(alloc),
-        blocks: Vec::new(alloc),
-    };
-    let found = met_by(alloc, shelf, pools, &build.needs)?;
-    walk.take(pools, build, &found)?;
-    close(alloc, shelf, pools, met, build, &mut walk)?;
+    let walk = blocks_taken(alloc, shelf, pools, met, build)?;
     let mut names = BTreeSet::new(alloc);
     push_names(alloc, shelf, &build.outputs, &mut names)?;
     push_names(alloc, shelf, &walk.blocks, &mut names)?;
@@ -223,7 +235,7 @@ fn count_all(alloc: Global, all: &[BTreeSet<Vec<u8>>]) -> Result<Counts, AllocEr
 
 /// Tells whether a chroot holds a name.
 fn is_base(taken: &Taken, name: &[u8]) -> bool {
-    for chroot in &taken.chroots {
+    for chroot in &taken.there.chroots {
         if chroot.members.by_name.get(name).is_some() {
             return true;
         }
@@ -242,6 +254,20 @@ fn own_of(taken: &Taken, counts: &Counts, names: &BTreeSet<Vec<u8>>) -> usize {
     own
 }
 
+fn share_of(
+    alloc: Global,
+    taken: &Taken,
+    counts: &Counts,
+    wished: &WishedRecipe,
+    names: &BTreeSet<Vec<u8>>,
+) -> Result<Share, AllocError> {
+    Ok(Share {
+        own: own_of(taken, counts, names),
+        whole: names.len(),
+        recipe: Vec::from_slice(alloc, &wished.name)?,
+    })
+}
+
 fn all_shares(
     alloc: Global,
     taken: &Taken,
@@ -251,11 +277,7 @@ fn all_shares(
     let counts = count_all(alloc, all)?;
     let mut shares = Vec::new(alloc);
     for (wished, names) in recipes.iter().zip(all) {
-        shares.push(Share {
-            own: own_of(taken, &counts, names),
-            whole: names.len(),
-            recipe: Vec::from_slice(alloc, &wished.name)?,
-        })?;
+        shares.push(share_of(alloc, taken, &counts, wished, names)?)?;
     }
     Ok(shares)
 }
@@ -266,6 +288,17 @@ fn push_share(text: &mut Vec<u8>, share: &Share) -> Result<(), AllocError> {
     text.extend_from_slice(b" names, ")?;
     push_number(text, share.own as u64)?;
     text.extend_from_slice(b" that nothing else needs\n")
+}
+
+/// The shares of all builds.
+fn shares_of(
+    alloc: Global,
+    shelf: &mut Shelf,
+    of: Given,
+    pools: Pools,
+) -> Result<Vec<Share>, AllocError> {
+    let all = all_taken(alloc, shelf, pools)?;
+    all_shares(alloc, pools.taken, &of.wish.items.recipes, &all)
 }
 
 /// Puts lines on the ten recipes that take the most names which nothing else needs behind a text.
@@ -286,8 +319,7 @@ pub fn push_shares(
         outputs: &outputs,
         taken,
     };
-    let all = all_taken(alloc, shelf, pools)?;
-    let mut shares = all_shares(alloc, taken, &of.wish.items.recipes, &all)?;
+    let mut shares = shares_of(alloc, shelf, of, pools)?;
     shares.sort()?;
     for share in shares.iter().rev().take(SHOWN) {
         push_share(text, share)?;

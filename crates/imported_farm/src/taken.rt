@@ -7,12 +7,12 @@ use crate::refusals::{
 use crate::versions::count_builds;
 use deb_profile::{ArchNames, ProfileSet, reduce};
 use deb_relation::{Kind, Relations};
+use deb_stanza::Paragraphs;
 use import_builds::{Build, BuildStop, Indexes, SourceShelf, WantedBuild, read_build};
-use import_closure::{
-    ChrootStop, Closure, Pools, Shelf, Variant, Variants, Wanted, Wanter, chroot_members,
-};
+use import_closure::{ChrootStop, Closure, Pools, Shelf, Variant, Variants, chroot_members};
 use import_wish::{MOST_CAPACITY, Wish, WishedRecipe, WishedSource};
 use index_names::PackageNames;
+use index_packages::Given as GivenPackage;
 use std::alloc::{AllocError, Global};
 use std::collections::BTreeSet;
 
@@ -24,16 +24,28 @@ pub struct Chroot {
     pub members: Variants,
 }
 
-/// What is taken: of each recipe its build, and after how many builds of its version it is the
-/// next one; the base chroots; what is there at the beginning, and what is there at all.
+/// The base chroots, and the blocks that are taken.
+#[derive(Drop)]
+pub struct There {
+    pub chroots: Vec<Chroot>,
+    pub closure: Closure,
+}
+
+/// What is there at the beginning, and what is there at all; of each build after how many of its
+/// version it is the next one.
+#[derive(Drop)]
+pub struct Numbered {
+    pub begin: Variants,
+    pub variants: Variants,
+    pub counts: Vec<u32>,
+}
+
+/// What is taken: of each recipe its build, what is there beside, and the versions of both.
 #[derive(Drop)]
 pub struct Taken {
     pub builds: Vec<Build>,
-    pub counts: Vec<u32>,
-    pub chroots: Vec<Chroot>,
-    pub closure: Closure,
-    pub begin: Variants,
-    pub variants: Variants,
+    pub there: There,
+    pub numbered: Numbered,
 }
 
 /// What an import looks at: a wish, the indexes, and the names of the architecture.
@@ -42,6 +54,17 @@ pub struct Given<'a> {
     pub wish: &'a Wish<'a>,
     pub packages: &'a Packages<'a>,
     pub architectures: &'a ArchNames,
+}
+
+/// What an import was given, read and cut: the text of the wish and its paragraphs, the names of the
+/// architecture as a text, and the blocks of sources.
+#[derive(Clone, Copy)]
+pub struct Read<'a> {
+    pub text: &'a [u8],
+    pub paragraphs: &'a Paragraphs,
+    pub names: &'a [u8],
+    pub sources: &'a [&'a [u8]],
+    pub of: Given<'a>,
 }
 
 /// The lines on a recipe whose build cannot be made.
@@ -73,9 +96,28 @@ fn wanted_build(wished: &WishedRecipe) -> WantedBuild<'_> {
     }
 }
 
-fn push_build(builds: &mut Vec<Build>, build: Build) -> Result<(), AllocError> {
+fn add_build(builds: &mut Vec<Build>, build: Build) -> Result<(), AllocError> {
     builds.push(build)?;
     Ok(())
+}
+
+/// Finds the build of a recipe, and puts it behind others.
+fn push_build(
+    alloc: Global,
+    of: Given,
+    shelf: &mut Shelf,
+    sources: &mut SourceShelf,
+    wished: &WishedRecipe,
+    builds: &mut Vec<Build>,
+) -> Result<(), Stop> {
+    let indexes = Indexes {
+        names: &of.packages.target,
+        architectures: of.architectures,
+    };
+    match read_build(alloc, wanted_build(wished), indexes, shelf, sources) {
+        Ok(build) => Ok(add_build(builds, build)?),
+        Err(stop) => Err(build_refusal(alloc, wished, stop)),
+    }
 }
 
 /// Finds the build of each recipe.
@@ -85,16 +127,9 @@ fn read_builds(
     shelf: &mut Shelf,
     sources: &mut SourceShelf,
 ) -> Result<Vec<Build>, Stop> {
-    let indexes = Indexes {
-        names: &of.packages.target,
-        architectures: of.architectures,
-    };
     let mut builds = Vec::new(alloc);
     for wished in &of.wish.items.recipes {
-        match read_build(alloc, wanted_build(wished), indexes, shelf, sources) {
-            Ok(build) => push_build(&mut builds, build)?,
-            Err(stop) => return Err(build_refusal(alloc, wished, stop)),
-        }
+        push_build(alloc, of, shelf, sources, wished, &mut builds)?;
     }
     Ok(builds)
 }
@@ -116,6 +151,14 @@ pub fn output_names(
     Ok(names)
 }
 
+fn variant_of(given: &GivenPackage, number: u32) -> Result<Variant, AllocError> {
+    Ok(Variant {
+        version: given.version.clone()?,
+        number,
+        recipe: None,
+    })
+}
+
 /// The packages of blocks, by name and version.
 fn variants_of(
     alloc: Global,
@@ -125,12 +168,7 @@ fn variants_of(
     let mut variants = Variants::new(alloc);
     for number in numbers {
         if let Some(given) = shelf.given(*number) {
-            let variant = Variant {
-                version: given.version.clone()?,
-                number: *number,
-                recipe: None,
-            };
-            variants.add(alloc, &given.name, variant)?;
+            variants.add(alloc, &given.name, variant_of(given, *number)?)?;
         }
     }
     Ok(variants)
@@ -172,6 +210,27 @@ struct Wished<'a> {
     packages: &'a Relations,
 }
 
+/// The members of a base chroot, which are there at the beginning too.
+fn read_variants(
+    alloc: Global,
+    of: Given,
+    shelf: &mut Shelf,
+    begin: &mut BTreeSet<u32>,
+    wished: Wished,
+) -> Result<Variants, Stop> {
+    let numbers = read_members(alloc, of, shelf, wished.name, wished.packages)?;
+    take_all(begin, &numbers)?;
+    Ok(variants_of(alloc, shelf, &numbers)?)
+}
+
+/// Refuses a base chroot that would hold two versions of a name.
+fn judge_members(alloc: Global, name: &[u8], members: &Variants) -> Result<(), Stop> {
+    match members.twice() {
+        Some(twice) => Err(twice_in_chroot(alloc, name, twice)),
+        None => Ok(()),
+    }
+}
+
 fn read_chroot(
     alloc: Global,
     of: Given,
@@ -179,22 +238,13 @@ fn read_chroot(
     begin: &mut BTreeSet<u32>,
     wished: Wished,
 ) -> Result<Chroot, Stop> {
-    let numbers = read_members(alloc, of, shelf, wished.name, wished.packages)?;
-    take_all(begin, &numbers)?;
-    let members = variants_of(alloc, shelf, &numbers)?;
-    if let Some(name) = members.twice() {
-        return Err(twice_in_chroot(alloc, wished.name, name));
-    }
+    let members = read_variants(alloc, of, shelf, begin, wished)?;
+    judge_members(alloc, wished.name, &members)?;
     Ok(Chroot {
         name: Vec::from_slice(alloc, wished.name)?,
         capacity: wished.capacity,
         members,
     })
-}
-
-fn push_chroot(chroots: &mut Vec<Chroot>, chroot: Chroot) -> Result<(), AllocError> {
-    chroots.push(chroot)?;
-    Ok(())
 }
 
 /// The packages of the base chroot that stands where the wish names none.
@@ -203,6 +253,41 @@ fn build_essential(alloc: Global) -> Result<Relations, AllocError> {
         Ok(packages) => Ok(packages),
         Err(_) => Err(AllocError),
     }
+}
+
+fn add_chroot(chroots: &mut Vec<Chroot>, chroot: Chroot) -> Result<(), AllocError> {
+    chroots.push(chroot)?;
+    Ok(())
+}
+
+/// Puts a base chroot behind others.
+fn push_chroot(
+    alloc: Global,
+    of: Given,
+    shelf: &mut Shelf,
+    begin: &mut BTreeSet<u32>,
+    wished: Wished,
+    chroots: &mut Vec<Chroot>,
+) -> Result<(), Stop> {
+    let chroot = read_chroot(alloc, of, shelf, begin, wished)?;
+    Ok(add_chroot(chroots, chroot)?)
+}
+
+/// The same of the base chroot that stands where the wish names none.
+fn push_buildd(
+    alloc: Global,
+    of: Given,
+    shelf: &mut Shelf,
+    begin: &mut BTreeSet<u32>,
+    chroots: &mut Vec<Chroot>,
+) -> Result<(), Stop> {
+    let packages = build_essential(alloc)?;
+    let wished = Wished {
+        name: b"buildd",
+        capacity: MOST_CAPACITY,
+        packages: &packages,
+    };
+    push_chroot(alloc, of, shelf, begin, wished, chroots)
 }
 
 fn read_chroots(
@@ -218,42 +303,63 @@ fn read_chroots(
             capacity: chroot.capacity,
             packages: &chroot.packages,
         };
-        push_chroot(&mut chroots, read_chroot(alloc, of, shelf, begin, wished)?)?;
+        push_chroot(alloc, of, shelf, begin, wished, &mut chroots)?;
     }
     if chroots.is_empty() {
-        let wished = Wished {
-            name: b"buildd",
-            capacity: MOST_CAPACITY,
-            packages: &build_essential(alloc)?,
-        };
-        push_chroot(&mut chroots, read_chroot(alloc, of, shelf, begin, wished)?)?;
+        push_buildd(alloc, of, shelf, begin, &mut chroots)?;
     }
     Ok(chroots)
 }
 
 /// What all builds need.
-fn all_needs(alloc: Global, builds: &[Build]) -> Result<Vec<Wanted>, AllocError> {
+fn all_needs(alloc: Global, builds: &[Build]) -> Result<Vec<Relations>, AllocError> {
     let mut wanted = Vec::new(alloc);
-    let mut recipe = 0u32;
     for build in builds {
         for field in &build.needs {
-            wanted.push(Wanted {
-                field: field.clone()?,
-                wanter: Wanter::Recipe(recipe),
-            })?;
+            wanted.push(field.clone()?)?;
         }
-        recipe = recipe.saturating_add(1);
     }
     Ok(wanted)
 }
 
-fn archive_wanted(alloc: Global, of: Given, field: &Relations) -> Result<Vec<Wanted>, AllocError> {
+/// What the wish wants to be there at the beginning, as the architecture leaves it; nothing where it
+/// does not say.
+///
+/// # Errors
+///
+/// [`AllocError`] where memory is refused.
+pub fn archive_field(alloc: Global, of: Given) -> Result<Relations, AllocError> {
+    match &of.wish.head.archive {
+        Some(field) => reduced(alloc, of, field),
+        None => Ok(Relations::from_entries(Vec::new(alloc))),
+    }
+}
+
+fn archive_wanted(alloc: Global, of: Given) -> Result<Vec<Relations>, AllocError> {
     let mut wanted = Vec::new(alloc);
-    wanted.push(Wanted {
-        field: reduced(alloc, of, field)?,
-        wanter: Wanter::Archive,
-    })?;
+    wanted.push(archive_field(alloc, of)?)?;
     Ok(wanted)
+}
+
+/// Takes what is wanted of these names.
+fn close_over(
+    alloc: Global,
+    of: Given,
+    shelf: &mut Shelf,
+    builds: &[Build],
+    outputs: &PackageNames,
+    closure: &mut Closure,
+) -> Result<(), AllocError> {
+    let mut pools = Pools {
+        archive: of.packages.archive(),
+        takes_archive: true,
+        outputs,
+    };
+    if of.wish.head.archive.is_some() {
+        closure.close(alloc, shelf, pools, archive_wanted(alloc, of)?)?;
+        pools.takes_archive = false;
+    }
+    closure.close(alloc, shelf, pools, all_needs(alloc, builds)?)
 }
 
 /// Takes what is wanted.
@@ -265,16 +371,37 @@ fn close(
     closure: &mut Closure,
 ) -> Result<(), AllocError> {
     let outputs = output_names(alloc, shelf, builds)?;
-    let mut pools = Pools {
-        archive: of.packages.archive(),
-        takes_archive: true,
-        outputs: &outputs,
-    };
-    if let Some(field) = &of.wish.head.archive {
-        closure.close(alloc, shelf, pools, archive_wanted(alloc, of, field)?)?;
-        pools.takes_archive = false;
-    }
-    closure.close(alloc, shelf, pools, all_needs(alloc, builds)?)
+    close_over(alloc, of, shelf, builds, &outputs, closure)
+}
+
+/// Takes the base chroots, and what builds want.
+fn take_there(
+    alloc: Global,
+    of: Given,
+    shelf: &mut Shelf,
+    builds: &[Build],
+) -> Result<There, Stop> {
+    let mut closure = Closure::new(alloc);
+    let chroots = read_chroots(alloc, of, shelf, &mut closure.begin)?;
+    close(alloc, of, shelf, builds, &mut closure)?;
+    Ok(There { chroots, closure })
+}
+
+/// Numbers builds behind what is there at the beginning.
+fn number(
+    alloc: Global,
+    shelf: &Shelf,
+    builds: &[Build],
+    closure: &Closure,
+) -> Result<Numbered, Stop> {
+    let begin = variants_of(alloc, shelf, &closure.begin)?;
+    let mut variants = variants_of(alloc, shelf, &closure.begin)?;
+    let counts = count_builds(alloc, shelf, &mut variants, builds)?;
+    Ok(Numbered {
+        begin,
+        variants,
+        counts,
+    })
 }
 
 /// Takes of the indexes what a wish wants.
@@ -289,18 +416,11 @@ pub fn take(
     sources: &mut SourceShelf,
 ) -> Result<Taken, Stop> {
     let builds = read_builds(alloc, of, shelf, sources)?;
-    let mut closure = Closure::new(alloc);
-    let chroots = read_chroots(alloc, of, shelf, &mut closure.begin)?;
-    close(alloc, of, shelf, &builds, &mut closure)?;
-    let begin = variants_of(alloc, shelf, &closure.begin)?;
-    let mut variants = variants_of(alloc, shelf, &closure.begin)?;
-    let counts = count_builds(alloc, shelf, &mut variants, &builds)?;
+    let there = take_there(alloc, of, shelf, &builds)?;
+    let numbered = number(alloc, shelf, &builds, &there.closure)?;
     Ok(Taken {
         builds,
-        counts,
-        chroots,
-        closure,
-        begin,
-        variants,
+        there,
+        numbered,
     })
 }

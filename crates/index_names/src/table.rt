@@ -1,19 +1,19 @@
 //! Numbers of blocks, listed under names.
 
 use std::alloc::{AllocError, Global};
-use std::collections::BTreeMap;
+use std::collections::HashMap;
 
 /// Numbers by name, in the order in which they were added.
 #[derive(Drop)]
 pub struct NameTable {
-    lists: BTreeMap<Vec<u8>, Vec<u32>>,
+    lists: HashMap<Vec<u8>, Vec<u32>>,
 }
 
 impl NameTable {
     /// A table without names.
     pub fn new(alloc: Global) -> NameTable {
         NameTable {
-            lists: BTreeMap::new(alloc),
+            lists: HashMap::new(alloc),
         }
     }
 

@@ -8,5 +8,6 @@ use Rattle.imported_farm.proofs.imported.import_cut.Goals as goal
 pub returns : goal.returns
 returns c =
     subst (λ (sources : List (Bor (List ℕ))). IfOk c.import_read.result
-    (λ written. AreTextsOf (IsOneOf c.args.packages.blocks.items) (IsOneOf sources)
-    (wish_view c.args.wish.wish.now) written.texts)) c.deref-2.ensures.value c.import_read.ensures
+    (λ judged. AreTextsOf (IsOneOf c.args.packages.blocks.items) (IsOneOf sources)
+    (wish_view c.args.wish.wish.now) judged.written.texts judged.unmet.items))
+    c.deref-2.ensures.value c.import_read.ensures

@@ -3,7 +3,7 @@ use Rattle.std.specs.Prelude.{IfOk}
 use Rattle.imported_farm.specs.Drawn.{OnTexts}
 use Rattle.imported_farm.specs.Made.{IsMadeOf, IsOneOf, IsWholeOrAnew}
 use Rattle.imported_farm.specs.declared.imported.TheConstants.{HEAD}
-use Rattle.imported_farm.proofs.imported.draw.Goals as goal
+use Rattle.imported_farm.proofs.written.draw.Goals as goal
 
 pub returns-clause-packages : goal.returns-clause-packages
 returns-clause-packages c =

@@ -1,6 +1,6 @@
 use Rattle.std.proofs.Common.{ℕ, List, subst}
 use Rattle.imported_farm.specs.Made.{IsMadeOf, IsOneOf, IsWholeOrAnew}
-use Rattle.imported_farm.proofs.imported.write_packages.Goals as goal
+use Rattle.imported_farm.proofs.written.write_packages.Goals as goal
 
 pub returns : goal.returns
 returns c =

@@ -1,6 +1,6 @@
 use Rattle.std.proofs.Common.{ℕ, List, subst}
 use Rattle.imported_farm.specs.Made.{IsMadeOf, IsOneOf, IsWhole}
-use Rattle.imported_farm.proofs.imported.write_sources.Goals as goal
+use Rattle.imported_farm.proofs.written.write_sources.Goals as goal
 
 pub returns : goal.returns
 returns c =

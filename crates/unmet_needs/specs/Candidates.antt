@@ -1,0 +1,38 @@
+-- Which names may have a variant that satisfies an alternative. The project's own words.
+--
+--   IsCandidate, AreCandidates   a name is listed under its text and under what its variants
+--                                provide; each name of a universe is
+--   HasAll                       whose variants satisfy an alternative of this name is among them
+--   NoneOf                       no variant of a name satisfies an entry
+--   NoneAmong, NoneBy            none of these names; none of a name with a variant that satisfies
+--                                an alternative
+use Rattle.std.specs.Prelude.{◌≡◌, ℕ, ◌<◌, true, false, List, [], Some, slice_get, slice_index_or}
+use Rattle.deb_relation.specs.Relations.{Atom, Entry}
+use Rattle.farm_model.specs.Below.{some_below}
+use Rattle.farm_model.specs.Universe.{Universe}
+use Rattle.farm_model.specs.Packages.{names, variant, variants, package_of, satisfies, satisfies_entry}
+use Rattle.item_index.specs.declared.item.Item.{Item}
+use Rattle.item_index.specs.Items.{item, IsListed, IsListedField}
+
+pub record IsCandidate (u : Universe) (n : ℕ) (lists : List (List (Item ℕ))) : Type 0 where
+  pub own : IsListed lists (slice_index_or u.names n []) (item n 0 0)
+  pub provided : (b : ℕ) → b < variants u n
+      → IsListedField lists n (package_of u (variant n b)).provides
+
+abbrev pub AreCandidates : Universe → List (List (Item ℕ)) → Type 0
+AreCandidates u lists = (n : ℕ) → n < names u → IsCandidate u n lists
+
+abbrev pub HasAll : Universe → List ℕ → List (Item ℕ) → Type 0
+HasAll u name items = (a : Atom) → a.name ≡ name → (n b : ℕ) → b < variants u n
+    → satisfies u a (variant n b) ≡ true
+    → (k : ℕ) × (at : Item ℕ) × (slice_get items k ≡ Some at) × (at.owner ≡ n)
+
+abbrev pub NoneOf : Universe → Entry → ℕ → Type 0
+NoneOf u e n = some_below (variants u n) (λ b. satisfies_entry u e (variant n b)) ≡ false
+
+abbrev pub NoneAmong : Universe → Entry → List (Item ℕ) → Type 0
+NoneAmong u e items = (k : ℕ) (at : Item ℕ) → slice_get items k ≡ Some at → at.owner < names u
+    → NoneOf u e at.owner
+
+abbrev pub NoneBy : Universe → Entry → Atom → Type 0
+NoneBy u e a = (n b : ℕ) → b < variants u n → satisfies u a (variant n b) ≡ true → NoneOf u e n
