@@ -98,11 +98,45 @@ class Reason:
         self.lane, self.may = rows.plan[number], may
         self.it = self.lane.instructions[place]
         self.known, self.there = rows.known[number][place], rows.may_be_published(number, place)
+        # the variants that the reason is about, and the entry that is not surely met
+        self.about, self.entry = [], None
 
     def told(self, trap):
-        """The kind of the reason and its lines."""
+        """The kind of the reason and its lines, with where that comes from which it is about."""
         lines = list(getattr(self, trap.lower())())
-        return KINDS.get(trap) or ("unmet" if len(lines) > 1 else "unsettled"), lines
+        kind = KINDS.get(trap) or ("unmet" if len(lines) > 1 else "unsettled")
+        several = [it for it in self.about if len(self.universe.variants[it.name]) > 1]
+        return kind, [*lines, *map(self.origin, several), *self.remedy()]
+
+    def source(self, variant):
+        """How a variant comes into the archive, or None."""
+        if variant in self.universe.archive:
+            return "it is in the archive from the start"
+        found = published(self.rows.plan, variant)
+        if found is None:
+            return None
+        number, place = found
+        later = " later" if number == self.number and place >= self.place else ""
+        lane = "this lane" if number == self.number else f"lane {self.rows.plan[number].name}"
+        return f"{lane} publishes it{later} {behind(self.rows.plan[number], place)}"
+
+    def origin(self, variant):
+        """Where a variant comes from that may be held, or that may be taken here."""
+        unpacks = [n for n, it in enumerate(self.lane.instructions[:self.place + 1], 1)
+                   if it.verb == "unpack" and it.wanted.name == variant.name]
+        if not unpacks:
+            return f"{spelled(variant)} is in the base chroot"
+        return f"{spelled(variant)} may be taken by {where(self.lane, unpacks[-1])}; {self.source(variant)}"
+
+    def remedy(self):
+        """The first variant that satisfies an entry that is not surely met and that comes into the archive, and how it does;
+        and if it need not be there by now, that too."""
+        for it in self.universe.all_variants() if self.entry else ():
+            source = it.satisfies(self.entry) and self.source(it)
+            if source:
+                is_sure = it in self.known or it in self.universe.archive or " later (" in source
+                yield f"{spelled(it)} satisfies it: {source}{'' if is_sure else ', and no wait makes sure of it here'}"
+                return
 
     def slot(self, name):
         return self.may.slots.get(name) or MaySlot(ABSENT, set(), set())
@@ -137,6 +171,7 @@ class Reason:
         """The first entry of a field that is not surely met, with what could satisfy it; nothing where all are."""
         for entry in variant.relations[field]:
             if not is_met(entry):
+                self.about, self.entry = [variant], entry
                 return [f"{spelled(variant)} {field}: {entry_text(entry)}", *self.names_for(entry, is_ahead)]
         return []
 
@@ -150,6 +185,7 @@ class Reason:
         """How one variant excludes another of another name, by the first entry; nothing where it does not."""
         for entry in one.relations[field]:
             if one.name != other.name and other.satisfies(entry):
+                self.about = [one, other]
                 return [f"{spelled(one)} {field}: {entry_text(entry)}", f"{spelled(other)} satisfies it"]
         return []
 
@@ -221,6 +257,7 @@ class Reason:
             for field in ("Depends", "Pre-Depends"):
                 for entry in owner.relations[field]:
                     if any(it.satisfies(entry) for it in taken) and not is_surely(entry, left):
+                        self.about = [owner]
                         return [f"{spelled(owner)} {field}: {entry_text(entry)}"]
         return []
 
@@ -236,14 +273,15 @@ class Reason:
         return []
 
     def x11(self):
-        entry = next(entry for entry in self.it.recipe.needs if not self.is_met(entry))
-        yield f"recipe {self.it.recipe.name} Build-Depends: {entry_text(entry)}"
-        yield from self.names_for(entry)
+        self.entry = next(entry for entry in self.it.recipe.needs if not self.is_met(entry))
+        yield f"recipe {self.it.recipe.name} Build-Depends: {entry_text(self.entry)}"
+        yield from self.names_for(self.entry)
 
     def x12(self):
         for it in self.others(None):
             for entry in self.it.recipe.clashes:
                 if it.satisfies(entry):
+                    self.about = [it]
                     return [
                         f"recipe {self.it.recipe.name} Build-Conflicts: {entry_text(entry)}", f"{spelled(it)} satisfies it"]
         return []
@@ -260,7 +298,8 @@ class Reason:
         return 1 + max(it.size for it in self.candidates()) // 1024
 
     def x15(self):
-        yield f"{spelled(next(it for it in self.members() if it.is_essential))} is Essential"
+        self.about = [next(it for it in self.members() if it.is_essential)]
+        yield f"{spelled(self.about[0])} is Essential"
 
 
 def parting(universe, first, second):

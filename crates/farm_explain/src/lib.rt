@@ -12,6 +12,7 @@ mod laws;
 mod missing;
 mod note;
 mod notes;
+mod origins;
 mod parting;
 pub mod place;
 mod reasons;

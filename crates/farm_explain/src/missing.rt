@@ -20,9 +20,9 @@ pub struct LaneText<'a> {
 
 /// Where a variant is published: the lane's number, and the instruction's, from 1.
 #[derive(Clone, Copy)]
-struct Publishing {
-    lane: usize,
-    instruction: usize,
+pub struct Publishing {
+    pub lane: usize,
+    pub instruction: usize,
 }
 
 /// Tells whether an instruction publishes a variant.
@@ -36,7 +36,7 @@ fn publishes(universe: &Universe, instruction: &Instruction, variant: Variant) -
 }
 
 /// The lane and the instruction that publish a variant first, in file order.
-fn publication(universe: &Universe, plan: &Plan, variant: Variant) -> Option<Publishing> {
+pub fn publication(universe: &Universe, plan: &Plan, variant: Variant) -> Option<Publishing> {
     for lane in 0..plan.lanes() {
         let instructions = plan.lane(lane).instructions();
         for place in 0..instructions.len() {

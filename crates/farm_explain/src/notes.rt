@@ -10,6 +10,7 @@ ghost use Rattle.refusal_reasons.specs.Reasons.{reason_at};
 use crate::could_meet::ChrootText;
 use crate::missing::LaneText;
 use crate::note::{Note, note_place};
+use crate::origins::push_origins;
 use crate::parting::push_parting;
 use crate::place::push_where;
 use crate::reasons::push_reason;
@@ -66,6 +67,7 @@ fn push_why<K: KnownWords>(
     requires stage { IsStage stage.now.universe.now stage.now.plan.now.lanes
         stage.now.tables.now stage.now.outputs.now (K.known stage.now.known.now) }
     requires lane { of.number < length stage.now.plan.now.lanes }
+    requires same { of.plan.now ≡ stage.now.plan.now }
     requires place { place < length (lane stage.now.plan.now.lanes of.number).instructions }
 {
     let chroot = ChrootText {
@@ -74,7 +76,8 @@ fn push_why<K: KnownWords>(
         is_unpack: is_unpack(stage.plan, of.number, place),
     };
     let known = known_word(stage, of.number, place, reason);
-    push_reason(text, of, chroot, known, reason)
+    push_reason(text, of, chroot, known, reason)?;
+    push_origins(text, stage, of, place, reason)
 }
 
 /// A trap that the instruction of this number, from 1, may meet.

@@ -37,7 +37,30 @@ pub fn push_place(text: &mut Vec<u8>, origin: Option<Origin>) -> Result<(), Allo
     }
 }
 
-/// Puts the line of an instruction in the plan behind a text, with the instruction.
+/// Puts where an instruction of a lane stands in the plan behind a text, with the instruction.
+///
+/// # Errors
+///
+/// [`AllocError`] where memory is refused.
+pub fn push_instruction_line(
+    text: &mut Vec<u8>,
+    universe: &Universe,
+    plan: &Plan,
+    lines: &PlanLines,
+    number: usize,
+    place: usize,
+) -> Result<(), AllocError>
+    requires { number < length plan.now.lanes }
+{
+    push_place(text, lines.origin(number, place))?;
+    push_pieces(text, &[b": "])?;
+    match plan.lane(number).instructions().get(place) {
+        Some(instruction) => push_instruction(text, universe, instruction),
+        None => Ok(()),
+    }
+}
+
+/// The same as a line.
 ///
 /// # Errors
 ///
@@ -52,11 +75,7 @@ pub fn push_where(
 ) -> Result<(), AllocError>
     requires { number < length plan.now.lanes }
 {
-    push_place(text, lines.origin(number, place))?;
-    push_pieces(text, &[b": "])?;
-    if let Some(instruction) = plan.lane(number).instructions().get(place) {
-        push_instruction(text, universe, instruction)?;
-    }
+    push_instruction_line(text, universe, plan, lines, number, place)?;
     push_pieces(text, &[b"\n"])
 }
 

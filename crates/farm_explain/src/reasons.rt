@@ -18,7 +18,7 @@ use refusal_reasons::{Field, Reason};
 use std::alloc::AllocError;
 
 /// Tells whether a variant is one of the universe.
-fn is_known(universe: &Universe, variant: Variant) -> bool
+pub fn is_known(universe: &Universe, variant: Variant) -> bool
     ensures { result ≡ nat_lt variant.bit (variants universe.now variant.name) }
 {
     variant.bit < variant_count(universe, variant.name)
