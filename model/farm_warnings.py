@@ -1,5 +1,6 @@
 """Warnings: what is odd in the texts of a farm and refuses no plan. FORMATS, section 15."""
 
+from architectures import architecture_names
 from texts import lines, paragraphs, pieces
 
 HEAD = ["Architecture-Names", "Archive"]
@@ -43,17 +44,30 @@ def unknown_fields(farm):
                 yield f"farm line {line}: the field {name} is not known, and is passed over"
 
 
+def needs(universe):
+    """The alternatives in the build relations of all sources."""
+    relations = [fields for sources in universe.sources.values() for _, fields, _ in sources]
+    return [it for fields in relations for field in fields.values() for entry in field for it in entry]
+
+
 def unasked_profiles(universe, recipes):
     """The profiles of recipes that no build relation of a source names."""
-    relations = [fields for sources in universe.sources.values() for _, fields, _ in sources]
-    entries = [entry for fields in relations for field in fields.values() for entry in field]
-    asked = {word for entry in entries for it in entry for items in it.profiles for word, _ in items}
+    asked = {word for it in needs(universe) for items in it.profiles for word, _ in items}
     for fields in recipes:
         for line, name, value in fields:
             if is_one_of(name, ["Profiles"]):
                 for word in pieces(value):
                     if word not in asked:
                         yield f"farm line {line}: no source asks for the profile {word}"
+
+
+def forgotten_names(universe):
+    """The names that match the farm's architecture, the first of its names, by which a build relation is restricted, and
+    that the farm does not have."""
+    asked = {word for it in needs(universe) for word, _ in it.architectures or ()}
+    for name in architecture_names(universe.architectures[0]) if universe.architectures else ():
+        if name in asked and name not in universe.architectures:
+            yield f"farm: the Architecture-Names lack {name}, by which sources restrict what they need"
 
 
 def unbuilt_recipes(universe, plan, recipes):
@@ -97,6 +111,7 @@ def warnings(universe, plan, texts):
     found = [
         *unknown_fields(farm),
         *unasked_profiles(universe, recipes),
+        *forgotten_names(universe),
         *unbuilt_recipes(universe, plan, recipes),
         *unsized(packages),
         *foreign(universe, packages),

@@ -4,7 +4,9 @@ pub mod Sets
 pub mod Lines
 pub mod Fields
 pub mod Recipes
-pub mod Profiles
 pub mod Packages
+pub mod Restricting
+pub mod Profiles
+pub mod Wildcards
 pub mod Waits
 pub mod Warnings

@@ -1,6 +1,7 @@
 -- Warnings: what is odd in the texts of a farm and refuses no plan. The project's own format.
 --
---   all_warnings       all of them: fields of the farm text, profiles, recipes, packages, waits
+--   all_warnings       all of them: fields of the farm text, profiles, names of the architecture,
+--                      recipes, packages, waits
 use Rattle.std.specs.Prelude.{List, ◌++◌}
 use Rattle.farm_input.specs.Input.{Texts}
 use Rattle.farm_model.specs.Universe.{Universe}
@@ -12,10 +13,11 @@ use Rattle.farm_warnings.specs.Profiles.{profile_warnings}
 use Rattle.farm_warnings.specs.Recipes.{recipe_warnings}
 use Rattle.farm_warnings.specs.Waits.{wait_warnings}
 use Rattle.farm_warnings.specs.Warned.{WarningFacts}
+use Rattle.farm_warnings.specs.Wildcards.{wildcard_warnings}
 
 -- of four texts, of the universe that they describe, and of the plan over it, whose lines these are
 unfoldable pub all_warnings : Texts → Universe → Plan → List LaneLines → List WarningFacts
 all_warnings texts u p ls =
     field_warnings texts.farm ++ (profile_warnings texts.sources texts.farm
-    ++ (recipe_warnings u p texts.farm ++ (package_warnings u texts.packages
-    ++ wait_warnings u p ls)))
+    ++ (wildcard_warnings u texts.sources ++ (recipe_warnings u p texts.farm
+    ++ (package_warnings u texts.packages ++ wait_warnings u p ls))))

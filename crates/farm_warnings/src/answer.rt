@@ -10,6 +10,7 @@ use crate::profiles::push_profiles;
 use crate::recipes::push_recipes;
 use crate::waits::push_waits;
 use crate::warning::Warnings;
+use crate::wildcards::push_wildcards;
 use farm_input::Texts;
 use farm_universe::Universe;
 use plan_asm::Plan;
@@ -17,7 +18,7 @@ use plan_lines::PlanLines;
 use std::alloc::{AllocError, Global};
 
 /// Gives the warnings of a farm: of fields of the farm text that are passed over, of
-/// profiles that no source asks for, of recipes that no lane builds, of packages without an
+/// profiles that no source asks for, of names of the architecture that the farm lacks, of recipes that no lane builds, of packages without an
 /// `Installed-Size` or of a foreign architecture, and of waits that nothing could end; nothing
 /// where all is well. The universe is what the texts describe, and `lines` are those of the plan's
 /// text.
@@ -39,6 +40,7 @@ pub fn warnings(
     let mut found = Warnings::new(alloc);
     push_fields(&mut found, texts.farm)?;
     push_profiles(alloc, &mut found, texts.sources, texts.farm)?;
+    push_wildcards(alloc, &mut found, universe, texts.sources)?;
     push_recipes(alloc, &mut found, universe, plan, texts.farm)?;
     push_packages(alloc, &mut found, universe, texts.packages)?;
     push_waits(alloc, &mut found, universe, plan, lines)?;

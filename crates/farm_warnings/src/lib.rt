@@ -11,12 +11,13 @@ mod kind;
 mod lines;
 mod packages;
 mod paragraphs;
-mod profile_words;
 mod profiles;
 mod provided;
 mod recipes;
+mod restricting;
 mod waits;
 mod warning;
+mod wildcards;
 mod word_set;
 
 pub use answer::warnings;

@@ -25,7 +25,11 @@ pub enum Lack {
 }
 
 /// The names of the farm's architecture, as a set.
-fn architecture_set(alloc: Global, universe: &Universe) -> Result<WordSet, AllocError>
+///
+/// # Errors
+///
+/// [`AllocError`] where memory is refused.
+pub fn architecture_set(alloc: Global, universe: &Universe) -> Result<WordSet, AllocError>
     ensures { IfOk result (λ set. set ≡ distinct bytes_eq universe.now.architectures) }
 {
     let mut set = WordSet::new(alloc);
@@ -38,7 +42,7 @@ fn architecture_set(alloc: Global, universe: &Universe) -> Result<WordSet, Alloc
 }
 
 /// Tells whether a name is one of the farm's architecture, whose names are in the set.
-fn is_named(universe: &Universe, names: &WordSet, name: &[u8]) -> bool
+pub fn is_named(universe: &Universe, names: &WordSet, name: &[u8]) -> bool
     requires { names.now ≡ distinct bytes_eq universe.now.architectures }
     ensures { result ≡ is_among universe.now.architectures name.now }
 {

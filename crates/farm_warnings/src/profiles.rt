@@ -9,7 +9,7 @@ ghost use Rattle.farm_warnings.specs.Profiles as spec;
 
 use crate::field_name::FieldName;
 use crate::lines::{Line, Lines, ParagraphLines};
-use crate::profile_words::asked_for;
+use crate::restricting::{Restriction, restricting};
 use crate::warning::{About, Warnings};
 use crate::word_set::WordSet;
 use deb_text::{cut_at_first, next_word};
@@ -154,6 +154,6 @@ pub fn push_profiles(
     ensures { OnOk result (found.new
         ≡ found.old ++ spec.profile_warnings sources.now farm.now) }
 {
-    let asked = asked_for(alloc, sources)?;
+    let asked = restricting(alloc, Restriction::Profiles, sources)?;
     push_all(found, &asked, farm)
 }

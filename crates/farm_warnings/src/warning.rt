@@ -18,6 +18,8 @@ pub enum About {
     Field(usize),
     /// A profile that no source asks for, in the field at this line.
     Profile(usize),
+    /// A name that matches the architecture and that the farm does not have.
+    Wildcard,
     /// A recipe that no lane builds, whose paragraph begins at this line.
     Recipe(u32, usize),
     /// So many packages lack this, the first of which begins at this line.
@@ -26,7 +28,8 @@ pub enum About {
     Wait(Option<Origin>),
 }
 
-/// A warning: what it is about, and the name of the field or the profile, for others none.
+/// A warning: what it is about, and the name of the field, the profile or the architecture, for
+/// others none.
 #[derive(Drop)]
 pub struct Warning {
     pub about: About,
@@ -116,6 +119,13 @@ fn push_line(text: &mut Vec<u8>, universe: &Universe, warning: &Warning) -> Resu
         About::Profile(line) => {
             push_head(text, b"warning: farm line ", line as u64)?;
             push_pieces(text, &[b"no source asks for the profile ", name, b"\n"])
+        }
+        About::Wildcard => {
+            push_pieces(
+                text,
+                &[b"warning: farm: the Architecture-Names lack ", name],
+            )?;
+            push_pieces(text, &[b", by which sources restrict what they need\n"])
         }
         About::Recipe(recipe, line) => {
             push_head(text, b"warning: farm line ", line as u64)?;

@@ -1,13 +1,14 @@
 use Rattle.std.proofs.Common.{◌≡◌, length}
+use Rattle.std.specs.List.{flat_map}
 use Rattle.std.specs.Str.{bytes_eq}
-use Rattle.farm_warnings.specs.Profiles.{list_profiles}
+use Rattle.farm_warnings.specs.Restricting.{entry_words}
 use Rattle.farm_warnings.specs.Sets.{with_all}
-use Rattle.farm_warnings.proofs.profile_words.note_list.Given as goal
+use Rattle.farm_warnings.proofs.restricting.note_entry.Given as goal
 
 abbrev pub invariant-loop-left : goal.invariant-loop-left
 invariant-loop-left l =
-    with_all bytes_eq l.fn.asked (list_profiles l.fn.list)
-    ≡ with_all bytes_eq l.asked (list_profiles l.left)
+    with_all bytes_eq l.fn.found (entry_words l.of l.fn.entry)
+    ≡ with_all bytes_eq l.found (entry_words l.of l.left)
 
 abbrev pub decreases-loop-left : goal.decreases-loop-left
 decreases-loop-left l = length l.left
