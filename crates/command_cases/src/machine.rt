@@ -226,6 +226,7 @@ impl<'s, 'c, R: Wait + Sync> DriveSource for Machine<'s, Driver<'s, 'c, R>> {
             stage: self.driver.stage,
             most: self.driver.most_entries,
             has_failed: false,
+            is_kept: false,
         })
     }
 }

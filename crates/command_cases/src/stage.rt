@@ -12,16 +12,18 @@ pub struct State<'c> {
     pub steps: &'c [u8],
     /// What was written, but for the lines that a step has expected.
     pub written: Vec<u8>,
-    /// How many lines were written, and how many by the journal.
+    /// How many lines were written, and how often the journal was kept.
     pub lines: usize,
-    pub entries: usize,
+    pub keeps: usize,
     /// How many of the lines that are left were answered behind the last step.
     answered: usize,
-    /// The machine went down: nothing of what is written from here on is kept.
+    /// The machine went down: nothing of what is written from here on counts.
     pub is_dead: bool,
     /// A line was there that no step had expected by then.
     pub is_loud: bool,
     pub journal: Vec<u8>,
+    /// How many bytes of the journal stay if the machine goes down.
+    pub kept: usize,
 }
 
 /// What comes of a look at the next step.
@@ -114,6 +116,11 @@ impl<'c> State<'c> {
         Ok(true)
     }
 
+    /// What stays of the journal if the machine goes down.
+    fn kept_part(&self) -> &[u8] {
+        &self.journal[..self.kept.min(self.journal.len())]
+    }
+
     /// Answers what is not answered yet, behind the last step.
     fn answer(&mut self) -> Result<Next, AllocError> {
         let Some(line) = request_at(whole_part(&self.written), self.answered) else {
@@ -144,7 +151,10 @@ impl<'c> State<'c> {
         if step == b"send".as_slice() {
             return self.said(b"", true);
         }
-        self.is_dead = step == b"kill".as_slice();
+        if step == b"kill".as_slice() {
+            self.is_dead = true;
+            self.journal.truncate(self.kept);
+        }
         Ok(Next::End)
     }
 
@@ -155,7 +165,7 @@ impl<'c> State<'c> {
             return Ok(if self.take(line)? { Some(true) } else { None });
         }
         if let Some(line) = step.strip_prefix(b"kept ") {
-            let is_kept = place_of(whole_part(&self.journal), line).is_some();
+            let is_kept = place_of(whole_part(self.kept_part()), line).is_some();
             return Ok(if is_kept { Some(true) } else { None });
         }
         if step != b"quiet".as_slice() {
@@ -204,7 +214,7 @@ pub struct Stage<'c, R: Wait> {
 }
 
 impl<'c, R: Wait> Stage<'c, R> {
-    /// A life of these steps, with this journal.
+    /// A life of these steps, with this journal, of which nothing stays before it is kept.
     pub fn new(rt: &'c R, alloc: Global, steps: &'c [u8], journal: Vec<u8>) -> Stage<'c, R> {
         Stage {
             rt,
@@ -213,11 +223,12 @@ impl<'c, R: Wait> Stage<'c, R> {
                 steps,
                 written: Vec::new(alloc),
                 lines: 0,
-                entries: 0,
+                keeps: 0,
                 answered: 0,
                 is_dead: false,
                 is_loud: false,
                 journal,
+                kept: 0,
             }),
             changed: Condvar::new(),
         }
@@ -231,16 +242,14 @@ impl<'c, R: Wait> Stage<'c, R> {
     pub fn say(&self) -> Result<Vec<u8>, AllocError> {
         for _ in self.rt.forever() {
             let mut state = self.state.lock(self.rt);
-            let seen = (state.lines, state.entries);
+            let seen = (state.lines, state.keeps);
             match state.next()? {
                 Next::Say(text) => return Ok(text),
                 Next::End => break,
                 Next::Wait => {
-                    let _state = self.changed.wait_while(
-                        self.rt,
-                        state,
-                        |state| (state.lines, state.entries) == seen,
-                    );
+                    let _state = self
+                        .changed
+                        .wait_while(self.rt, state, |state| (state.lines, state.keeps) == seen);
                 }
             }
         }

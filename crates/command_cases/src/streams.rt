@@ -69,6 +69,8 @@ pub struct StageJournal<'s, 'c, R: Wait> {
     pub stage: &'s Stage<'c, R>,
     pub most: usize,
     pub has_failed: bool,
+    /// Whether it was kept behind the last write.
+    pub is_kept: bool,
 }
 
 impl<R: Wait> Sink for StageJournal<'_, '_, R> {
@@ -77,6 +79,7 @@ impl<R: Wait> Sink for StageJournal<'_, '_, R> {
     ghost state = { λ j. record { contents = None; failed = j.has_failed } };
 
     fn write(&mut self, bytes: &[u8]) -> Result<usize, SinkFailed> {
+        self.is_kept = false;
         let mut state = self.stage.state.lock(self.stage.rt);
         if state.is_dead {
             return Ok(bytes.len());
@@ -87,8 +90,6 @@ impl<R: Wait> Sink for StageJournal<'_, '_, R> {
         }
         if bytes.ends_with(b"\n") {
             self.most -= 1;
-            state.entries = state.entries.saturating_add(1);
-            self.stage.changed.notify_all();
         }
         Ok(bytes.len())
     }
@@ -99,7 +100,14 @@ impl<R: Wait> Sink for StageJournal<'_, '_, R> {
 }
 
 impl<R: Wait> Journal for StageJournal<'_, '_, R> {
+    ghost is_kept = { λ j. j.is_kept };
+
     fn keep(&mut self) -> bool {
+        let mut state = self.stage.state.lock(self.stage.rt);
+        state.kept = state.journal.len();
+        state.keeps = state.keeps.saturating_add(1);
+        self.stage.changed.notify_all();
+        self.is_kept = true;
         true
     }
 }
@@ -113,6 +121,8 @@ impl<R: Wait> JournalFile for StageJournal<'_, '_, R> {
     fn cut(&mut self, count: usize) -> bool {
         let mut state = self.stage.state.lock(self.stage.rt);
         state.journal.truncate(count);
+        state.kept = count;
+        self.is_kept = true;
         true
     }
 

@@ -15,6 +15,8 @@ pub struct FileJournal {
     file: File,
     folder: File,
     sink: WriteSink<File>,
+    /// Whether the file was synced behind the last write.
+    is_synced: bool,
 }
 
 /// The folder of a file.
@@ -42,7 +44,12 @@ fn open_file<R: Files<File = File>>(rt: &R, path: &str) -> io::Result<FileJourna
         .create(true)
         .open(rt, path)?;
     let sink = WriteSink::new(file.try_clone()?);
-    Ok(FileJournal { file, folder, sink })
+    Ok(FileJournal {
+        file,
+        folder,
+        sink,
+        is_synced: false,
+    })
 }
 
 /// Opens the journal of this name, and locks it.
@@ -67,6 +74,7 @@ impl Sink for FileJournal {
     } };
 
     fn write(&mut self, bytes: &[u8]) -> Result<usize, SinkFailed> {
+        self.is_synced = false;
         self.sink.write(bytes)
     }
 
@@ -76,8 +84,11 @@ impl Sink for FileJournal {
 }
 
 impl Journal for FileJournal {
+    ghost is_kept = { λ j. j.is_synced };
+
     fn keep(&mut self) -> bool {
-        self.file.sync_data().is_ok()
+        self.is_synced = self.file.sync_data().is_ok();
+        self.is_synced
     }
 }
 
@@ -89,7 +100,8 @@ impl JournalFile for FileJournal {
     }
 
     fn cut(&mut self, count: usize) -> bool {
-        self.file.set_len(count as u64).is_ok() && self.file.sync_all().is_ok()
+        self.is_synced = self.file.set_len(count as u64).is_ok() && self.file.sync_all().is_ok();
+        self.is_synced
     }
 
     fn keep_name(&mut self) -> bool {

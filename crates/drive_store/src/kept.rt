@@ -1,6 +1,6 @@
 //! What a journal is written to.
 
-ghost use Rattle.std.specs.Prelude.{◌≡◌, IfOk, IfSome, true};
+ghost use Rattle.std.specs.Prelude.{◌≡◌, Bool, IfOk, IfSome, true};
 ghost use Rattle.drive_store.specs.Resuming.{IsCut};
 
 use report_sink::{Sink, SinkFailed};
@@ -9,9 +9,14 @@ use std::io;
 
 /// Where a journal goes: a sink whose entries can be kept for good.
 pub trait Journal: Sink {
-    /// Tells whether all that was written stays, even if the machine goes down.
+    // Whether all that was taken is known to stay, even if the machine goes down. Nothing is said
+    // of it behind a write.
+    ghost is_kept: { Self → Bool };
+
+    /// Keeps all that was written, and tells whether that is done.
     fn keep(&mut self) -> bool
-        ensures { Self.state self.new ≡ Self.state self.old };
+        ensures same { Self.state self.new ≡ Self.state self.old }
+        ensures kept { is_kept self.new ≡ result };
 }
 
 /// A journal that stands in a file, whose lock is held. What its sink has taken is what the file
@@ -29,11 +34,13 @@ pub trait JournalFile: Journal {
 
     /// Cuts the file to so many of its first bytes, for good, and tells whether that is done.
     fn cut(&mut self, count: usize) -> bool
-        ensures { result ≡ true → IsCut (Self.state self.old) (Self.state self.new) count };
+        ensures cut { result ≡ true → IsCut (Self.state self.old) (Self.state self.new) count }
+        ensures kept { result ≡ true → Self.is_kept self.new ≡ true };
 
     /// Tells whether the file's name stays, even if the machine goes down.
     fn keep_name(&mut self) -> bool
-        ensures { Self.state self.new ≡ Self.state self.old };
+        ensures same { Self.state self.new ≡ Self.state self.old }
+        ensures kept { Self.is_kept self.new ≡ Self.is_kept self.old };
 }
 
 /// Why a journal is not opened.
@@ -64,6 +71,11 @@ impl Sink for Unkept {
 }
 
 impl Journal for Unkept {
+    ghost use Rattle.std.specs.Prelude.{true};
+
+    // it holds nothing that could be lost
+    ghost is_kept = { λ _. true };
+
     fn keep(&mut self) -> bool {
         true
     }

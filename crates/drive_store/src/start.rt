@@ -1,6 +1,6 @@
 //! How a run goes on by its journal.
 
-ghost use Rattle.std.specs.Prelude.{◌≡◌, [], IfErr, IfOk, IfSome, length};
+ghost use Rattle.std.specs.Prelude.{◌≡◌, [], IfErr, IfOk, IfSome, length, true};
 ghost use Rattle.deb_text.specs.Lines.{lines_of};
 ghost use Rattle.drive_head.specs.HeadText.{IsFresh, IsKnown};
 ghost use Rattle.drive_store.specs.Resuming.{GoesOn, IsBegun, IsNoMisfit, IsRefused, IsResumed, taken};
@@ -51,6 +51,7 @@ fn begin<J: JournalFile>(
 ) -> Result<(), StoreFault>
     ensures begun { IfOk result (λ _. IsBegun head.now stamp.now (J.state journal.old)
         (J.state journal.new)) }
+    ensures kept { IfOk result (λ _. J.is_kept journal.new ≡ true) }
     ensures fault { IfErr result IsNoMisfit }
 {
     let line = run_line_of(alloc, stamp)?;
@@ -64,14 +65,21 @@ fn begin<J: JournalFile>(
     }
 }
 
-/// Cuts a journal to so many of the bytes that it holds.
+/// Cuts a journal to so many of the bytes that it holds, for good: what a run that was killed has
+/// written is not kept yet.
 fn cut_to<J: JournalFile>(journal: &mut J, held: usize, count: usize) -> Result<(), StoreFault>
     requires { IfSome (J.state journal.old).contents (λ bytes. length bytes ≡ held) }
     ensures cut { IfOk result (λ _. (J.state journal.new).contents
         ≡ taken count (J.state journal.old).contents) }
+    ensures kept { IfOk result (λ _. J.is_kept journal.new ≡ true) }
     ensures fault { IfErr result IsNoMisfit }
 {
-    if count == held || journal.cut(count) {
+    let is_done = if count == held {
+        journal.keep()
+    } else {
+        journal.cut(count)
+    };
+    if is_done {
         Ok(())
     } else {
         Err(StoreFault::Failed)
@@ -89,6 +97,7 @@ fn begin_anew<J: JournalFile>(
     requires { IfSome (J.state journal.old).contents (λ bytes. bytes ≡ text.now) }
     ensures begun { IfOk result (λ run. IfSome (J.state journal.old).contents (λ _.
         GoesOn head.now stamp.now text.now IsFresh (J.state journal.new).contents run)) }
+    ensures kept { IfOk result (λ _. J.is_kept journal.new ≡ true) }
     ensures fault { IfErr result IsNoMisfit }
 {
     let run = Resumed {
@@ -113,6 +122,7 @@ fn go_on<J: JournalFile>(
     ensures goes { IfOk result (λ r. IfSome (J.state journal.old).contents (λ _.
         GoesOn [] [] text.now (IsKnown run.now (lines_of entries.now)) (J.state journal.new).contents
         r)) }
+    ensures kept { IfOk result (λ _. J.is_kept journal.new ≡ true) }
     ensures fault { IfErr result IsNoMisfit }
 {
     let resumed = Resumed {
@@ -134,6 +144,7 @@ fn resume_text<J: JournalFile>(
     requires { IfSome (J.state journal.old).contents (λ bytes. bytes ≡ text.now) }
     ensures resumed { IfOk result (IsResumed head.now stamp.now (J.state journal.old)
         (J.state journal.new)) }
+    ensures kept { IfOk result (λ _. J.is_kept journal.new ≡ true) }
     ensures refused { IfErr result (IsRefused head.now (J.state journal.old)
         (J.state journal.new)) }
 {
@@ -160,6 +171,7 @@ pub fn resume<J: JournalFile>(
 ) -> Result<Resumed, StoreFault>
     ensures resumed { IfOk result (IsResumed head.now stamp.now (J.state journal.old)
         (J.state journal.new)) }
+    ensures kept { IfOk result (λ _. J.is_kept journal.new ≡ true) }
     ensures refused { IfErr result (IsRefused head.now (J.state journal.old)
         (J.state journal.new)) }
 {

@@ -4,8 +4,10 @@
 --   reply_to request ended    what comes of a request, where the driver says more or not
 --   desks_given, desks_behind   the desks behind an answer, and behind what was heard
 --   is_heard d heard          it was an answer to what was asked, or none
---   IsKept old new e          the journal keeps an entry, by its states before and after
-use Rattle.std.specs.Prelude.{◌≡◌, ℕ, Bool, true, false, List, if◌then◌else◌}
+--   IsKept old new kept e     the journal keeps an entry, by its states before and after, and
+--                             whether all that it has taken stays
+--   IsLost new kept           it has failed, or may lose what it has taken
+use Rattle.std.specs.Prelude.{◌≡◌, ◌⊎◌, ℕ, Bool, true, false, List, if◌then◌else◌}
 use Rattle.drive_desk.specs.LaneDesks.{Desks, is_open_in, posted, request_at, stopped}
 use Rattle.drive_desk.specs.declared.desk.Request.{Request}
 use Rattle.drive_desk.specs.declared.desk.Request.TheVariants as request
@@ -44,6 +46,10 @@ is_heard d (Line (answer.Done l n)) = is_open_in (request_at d l) n
 is_heard d (Line (answer.Failed l n)) = is_open_in (request_at d l) n
 is_heard d _ = true
 
--- its line is written whole, and nothing has failed
-abbrev pub IsKept : SinkState → SinkState → Noted → Type 0
-IsKept old new e = IsWritten old new (noted_text e) × (new.failed ≡ false)
+-- its line is written whole, nothing has failed, and all stays, even if the machine goes down
+abbrev pub IsKept : SinkState → SinkState → Bool → Noted → Type 0
+IsKept old new kept e =
+    IsWritten old new (noted_text e) × (new.failed ≡ false) × (kept ≡ true)
+
+abbrev pub IsLost : SinkState → Bool → Type 0
+IsLost new kept = (new.failed ≡ true) ⊎ (kept ≡ false)

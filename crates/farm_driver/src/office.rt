@@ -1,11 +1,11 @@
 //! What a gate keeps under its lock.
 
-ghost use Rattle.std.specs.Prelude.{◌≡◌, IfSome, is_some};
+ghost use Rattle.std.specs.Prelude.{◌≡◌, IfNone, IfSome, is_some};
 ghost use Rattle.drive_desk.specs.LaneDesks as desks;
 ghost use Rattle.drive_journal.specs.Entries.{IsDone};
 ghost use Rattle.drive_journal.specs.Said.{note_in};
 ghost use Rattle.farm_driver.specs.Replies as spec;
-ghost use Rattle.farm_driver.specs.Replies.{IsKept};
+ghost use Rattle.farm_driver.specs.Replies.{IsKept, IsLost};
 
 use crate::known::{Known, LaneWords};
 use crate::question::{Question, write_question};
@@ -288,9 +288,13 @@ impl<J: Journal + Drop> Office<J> {
 
     /// Writes an entry to the journal, and gives it where it is kept; else the run stops.
     pub fn note(&mut self, lane: &[u8], number: u32, said: Said<'_>) -> Option<Kept>
-        ensures { IfSome result (λ kept. (kept.number ≡ number)
+        ensures kept { IfSome result (λ kept. (kept.number ≡ number)
             × IsKept (J.state self.old.journal) (J.state self.new.journal)
+            (J.is_kept self.new.journal)
             (record { lane = lane.now; number = number; note = note_in said.entry })) }
+        ensures lost { IfNone result (IsLost (J.state self.new.journal)
+            (J.is_kept self.new.journal)) }
+        ensures stopped { IfNone result (self.new.desk ≡ desks.stopped self.old.desk) }
     {
         let entry = Entry {
             lane,
@@ -307,9 +311,13 @@ impl<J: Journal + Drop> Office<J> {
     /// Notes that what a lane has asked for is done, and gives the entry where it is kept; else the
     /// run stops.
     pub fn note_done(&mut self, lane: &[u8], answered: Answered) -> Option<Kept>
-        ensures { IfSome result (λ kept. (kept.number ≡ answered.number)
+        ensures kept { IfSome result (λ kept. (kept.number ≡ answered.number)
             × IsKept (J.state self.old.journal) (J.state self.new.journal)
+            (J.is_kept self.new.journal)
             (record { lane = lane.now; number = answered.number; note = IsDone })) }
+        ensures lost { IfNone result (IsLost (J.state self.new.journal)
+            (J.is_kept self.new.journal)) }
+        ensures stopped { IfNone result (self.new.desk ≡ desks.stopped self.old.desk) }
     {
         self.note(lane, answered.number, Said::Done)
     }
