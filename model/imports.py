@@ -85,10 +85,20 @@ class Build:
         given = sorted(here) if given is None else given
         self.outputs = [here[name] for name in dict.fromkeys(self.chosen(given, here)) if name in here]
         if not self.outputs:
-            line = f"  the Packages indexes have nothing that recipe {self.name} gives"
-            raise Refused(f"refused 704 wish line {wish.line}", line)
+            raise Refused(f"refused 704 wish line {wish.line}", f"  {self.lack(architectures)}")
         relations = (self.source.relations["Build-Depends" + part] for part in MODES[wish.mode])
         self.needs = [entry for own in relations for entry in reduce_field(own, architectures, wish.profiles)]
+
+    def lack(self, architectures):
+        """Why nothing is given."""
+        profiles, mode = self.wish.profiles, self.wish.mode
+        if listed(self.source, architectures, profiles, mode) != []:
+            return f"the Packages indexes have nothing that recipe {self.name} gives"
+        if not listed(self.source, architectures, profiles, "full"):
+            return f"recipe {self.name} gives nothing: its source has no package for the architecture and the profiles"
+        if mode == "arch":
+            return f"recipe {self.name} gives nothing in mode arch: all that its source has here is of architecture all"
+        return f"recipe {self.name} gives nothing in mode indep: its source has nothing of architecture all here"
 
     def choose(self, fitting, made):
         """Chooses the source, and gives what the index has of it by name."""

@@ -21,6 +21,9 @@ struct Part<'a> {
     is_broken: bool,
 }
 
+/// The file of a machine whose error output is a terminal.
+const TERMINAL: &[u8] = b"/dev/tty";
+
 /// What a machine has.
 #[derive(Drop)]
 pub struct Parts<'a> {
@@ -98,6 +101,8 @@ pub struct Machine<'a, D> {
     parts: &'a Parts<'a>,
     driver: D,
     done: Cell<Vec<u8>>,
+    /// How often its clock was looked at.
+    looks: Cell<u64>,
 }
 
 impl<'a, D> Machine<'a, D> {
@@ -107,6 +112,7 @@ impl<'a, D> Machine<'a, D> {
             parts,
             driver,
             done: Cell::new(Vec::new(alloc)),
+            looks: Cell::new(0),
         }
     }
 
@@ -152,6 +158,7 @@ impl<D: Drop> Machine<'_, D> {
             parts: _,
             driver: _driver,
             done,
+            looks: _,
         } = self;
         done.into_inner()
     }
@@ -251,5 +258,16 @@ impl<D> Folder for Machine<'_, D> {
 
     fn rename_file(&self, from: &str, to: &str) -> io::Result<()> {
         self.note(&["renamed ", from, " to ", to], b"")
+    }
+
+    fn has_watcher(&self) -> bool {
+        self.part(TERMINAL).is_some()
+    }
+
+    /// 200 more at each look.
+    fn milliseconds(&self) -> u64 {
+        let looks = self.looks.get();
+        self.looks.set(looks.saturating_add(1));
+        looks.saturating_mul(200)
     }
 }

@@ -231,6 +231,7 @@ fn with_indexes<'a>(alloc: Global, command: Command<'a>) -> Result<Command<'a>, 
 fn import<'a>(alloc: Global) -> Result<Command<'a>, AllocError> {
     let command = Command::new(alloc, IMPORT)
         .about(help::IMPORT)
+        .override_usage(help::IMPORT_USAGE)
         .after_long_help(help::IMPORT_MORE);
     let command = with_indexes(alloc, command)?;
     let command = command.arg(flag(alloc, FORCE, help::FORCE))?;

@@ -262,6 +262,11 @@ Status: 0 drafted, 1 refused, 2 wrong words, 3 nothing could be answered";
 pub const IMPORT: &str = "\
 Makes the texts of a farm of whole indexes, by a wish";
 
+/// How `import` is called, within 80 columns.
+pub const IMPORT_USAGE: &str = "\
+portfarm import [OPTIONS] --packages <INDEX>... --sources <INDEX>...
+           <WISH> <DIR>";
+
 /// What the help of `import` says behind that line.
 pub const IMPORT_MORE: &str = "\
 The texts are the files `packages`, `sources` and `farm` of the folder: what the
@@ -269,8 +274,10 @@ recipes of the wish need, closed over what that needs. A wish is a farm text
 that leaves out what the indexes say. The answer is a line for each count, with
 its limit, and notes, as on a need that nothing meets. Or it is a refusal, as
 `refused 702 wish line 5` for a source that no index has; then nothing is
-written. A file that import has not made is replaced with `--force` alone. `-`
-in place of the name of one file is standard input.
+written. A file that import has not made is replaced with `--force` alone.
+
+Each option that names an index may be repeated. `-` in place of the name of one
+file is standard input.
 
 Example:
   xzcat Packages.xz | portfarm import --packages - --sources Sources wish farm

@@ -3,13 +3,23 @@
 use deb_relation::RelationError;
 use std::alloc::AllocError;
 
+/// Why the indexes have nothing that a build gives: they lack it; its source has packages for the
+/// architecture and the profiles, and those that its mode leaves out are all of them; or it has none.
+#[derive(Clone, Copy)]
+pub enum Lack {
+    Unindexed,
+    OnlyAll,
+    NoAll,
+    NotHere,
+}
+
 /// Why a build cannot be made of the indexes: no source fits; this one of the outputs that are
 /// wanted is none; the indexes have nothing that it gives; or memory is refused.
 #[derive(Drop)]
 pub enum BuildStop {
     UnknownSource,
     NotGiven(Vec<u8>),
-    NothingGiven,
+    NothingGiven(Lack),
     OutOfMemory,
 }
 

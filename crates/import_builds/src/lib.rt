@@ -11,5 +11,5 @@ mod packages;
 mod sources;
 
 pub use build::{Build, Indexes, StandIn, WantedBuild, read_build};
-pub use error::BuildStop;
+pub use error::{BuildStop, Lack};
 pub use sources::{SourceHere, SourceShelf};

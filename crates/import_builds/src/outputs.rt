@@ -1,9 +1,10 @@
 //! What a build gives.
 
-use crate::error::BuildStop;
+use crate::error::{BuildStop, Lack};
 use crate::packages::MadePackages;
 use control_fields::Paragraph;
 use deb_version::Version;
+use farm_model::Mode;
 use package_list::{Build as Listed, given_names};
 use std::alloc::{AllocError, Global};
 use std::collections::BTreeSet;
@@ -75,6 +76,35 @@ impl Made<'_> {
         }
     }
 
+    /// Tells whether a list has packages that builds of a mode make.
+    fn has_some(&self, alloc: Global, list: &[u8], mode: Mode) -> Result<bool, AllocError> {
+        let build = Listed {
+            names: self.build.names,
+            profiles: self.build.profiles,
+            mode,
+        };
+        let names = given_names(alloc, list, &build)?;
+        Ok(!names.is_empty())
+    }
+
+    /// Why the indexes have nothing that the source gives.
+    fn lack(&self, alloc: Global, paragraph: &Paragraph) -> Result<Lack, AllocError> {
+        let Some(list) = paragraph.field(b"Package-List") else {
+            return Ok(Lack::Unindexed);
+        };
+        let mode = self.build.mode;
+        if self.has_some(alloc, list, mode)? {
+            return Ok(Lack::Unindexed);
+        }
+        if !self.has_some(alloc, list, Mode::Full)? {
+            return Ok(Lack::NotHere);
+        }
+        match mode {
+            Mode::Indep => Ok(Lack::NoAll),
+            _ => Ok(Lack::OnlyAll),
+        }
+    }
+
     /// Of the blocks of what the source gives those of the names that are wanted.
     fn wanted(
         &self,
@@ -111,7 +141,7 @@ impl Made<'_> {
             None => given,
         };
         if outputs.blocks.is_empty() {
-            return Err(BuildStop::NothingGiven);
+            return Err(BuildStop::NothingGiven(self.lack(alloc, paragraph)?));
         }
         Ok(outputs.blocks)
     }

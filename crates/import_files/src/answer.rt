@@ -4,6 +4,7 @@ ghost use Rattle.std.specs.Prelude.{◌≡◌, ◌⊎◌, IfOk};
 
 use crate::folder::Folder;
 use crate::inputs::{MOST_WISH, named_texts, read_indexes, read_one};
+use crate::progress::Progress;
 use crate::tell::{FINE, ImportFault, REFUSED, tell};
 use crate::texts::{judge_files, write_files};
 use imported_farm::{Imported, Inputs, import};
@@ -24,11 +25,13 @@ pub struct ImportPaths<'a> {
 }
 
 /// Reads the files of an import and makes the texts.
-fn read_and_import<F: Folder>(
+fn read_and_import<F: Folder, E: Sink>(
     alloc: Global,
     folder: &F,
     paths: ImportPaths,
+    errors: &mut E,
 ) -> Result<Imported, ImportFault> {
+    let mut progress = Progress::new(folder, errors);
     let archive = read_indexes(alloc, folder, paths.archive)?;
     let packages = read_indexes(alloc, folder, paths.packages)?;
     let sources = read_indexes(alloc, folder, paths.sources)?;
@@ -42,19 +45,22 @@ fn read_and_import<F: Folder>(
         archive: &archive,
         sources: &sources,
     };
-    Ok(import(alloc, inputs)?)
+    let imported = import(alloc, inputs, &mut progress);
+    progress.clear();
+    Ok(imported?)
 }
 
 /// Makes the texts, writes the files and the answer, and gives the status.
-fn answer<F: Folder, S: Sink>(
+fn answer<F: Folder, S: Sink, E: Sink>(
     alloc: Global,
     folder: &F,
     paths: ImportPaths,
     out: &mut S,
+    errors: &mut E,
 ) -> Result<u8, ImportFault>
     ensures { IfOk result (λ status. (status ≡ FINE) ⊎ (status ≡ REFUSED)) }
 {
-    match read_and_import(alloc, folder, paths)? {
+    match read_and_import(alloc, folder, paths, errors)? {
         Imported::Texts(texts, _unmet, lines) => {
             if !paths.force {
                 judge_files(alloc, folder, paths.folder)?;
@@ -85,7 +91,7 @@ pub fn import_files<F: Folder, S: Sink, E: Sink>(
 ) -> u8
     ensures { (result ≡ 0) ⊎ (result ≡ 1) ⊎ (result ≡ 3) }
 {
-    match answer(alloc, folder, paths, out) {
+    match answer(alloc, folder, paths, out, errors) {
         Ok(status) => status,
         Err(fault) => tell(&fault, errors),
     }

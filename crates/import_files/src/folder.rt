@@ -1,9 +1,9 @@
-//! Where files are read and written.
+//! Where files are read and written, and whether somebody looks on.
 
 use std::alloc::Global;
 use std::io;
 
-/// Files by their names, and standard input.
+/// Files by their names, standard input, a clock, and whether the error output is a terminal.
 pub trait Folder {
     /// The first bytes, at most so many, of the file of a name.
     ///
@@ -40,4 +40,10 @@ pub trait Folder {
     ///
     /// Where it cannot be done.
     fn rename_file(&self, from: &str, to: &str) -> io::Result<()>;
+
+    /// Tells whether the error output is a terminal, where progress is told.
+    fn has_watcher(&self) -> bool;
+
+    /// What a clock shows, in milliseconds.
+    fn milliseconds(&self) -> u64;
 }

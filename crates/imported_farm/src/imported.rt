@@ -12,6 +12,7 @@ use crate::judge::tell;
 use crate::notes::Told;
 use crate::refusals::{Stop, fault_in};
 use crate::taken::{Given, Read, Taken, take};
+use crate::watch::Watch;
 use crate::written::{Written, draw_all};
 use deb_profile::ArchNames;
 use deb_stanza::Paragraphs;
@@ -185,7 +186,12 @@ fn import_cut<'a>(
 }
 
 /// Reads the indexes, and takes what a wish wants of them.
-fn import_wished<'a>(alloc: Global, inputs: Inputs<'a>, wish: WishRead<'a>) -> Result<Judged, Stop>
+fn import_wished<'a, W: Watch>(
+    alloc: Global,
+    inputs: Inputs<'a>,
+    wish: WishRead<'a>,
+    watch: &mut W,
+) -> Result<Judged, Stop>
     ensures { IfOk result (λ judged. AreTextsOf
         (IsBlockIn (inputs.entry.packages.now ++ inputs.entry.archive.now))
         (IsBlockIn inputs.entry.sources.now) (wish_view wish.entry.wish.now)
@@ -193,14 +199,25 @@ fn import_wished<'a>(alloc: Global, inputs: Inputs<'a>, wish: WishRead<'a>) -> R
 {
     let names = all_names(alloc, &wish.wish.head.architectures)?;
     let architectures = architectures_of(alloc, &names)?;
-    let packages = read_packages(alloc, &architectures, inputs.packages, inputs.archive)?;
-    let sources = read_sources(alloc, inputs.sources)?;
+    let packages = read_packages(
+        alloc,
+        &architectures,
+        inputs.packages,
+        inputs.archive,
+        watch,
+    )?;
+    let sources = read_sources(alloc, inputs.sources, watch)?;
     let judged = import_cut(alloc, wish, names, architectures, packages, sources)?;
     Ok(judged)
 }
 
 /// Reads a wish of these paragraphs, and makes the texts of it.
-fn import_paragraphs(alloc: Global, inputs: Inputs, paragraphs: &Paragraphs) -> Result<Judged, Stop>
+fn import_paragraphs<W: Watch>(
+    alloc: Global,
+    inputs: Inputs,
+    paragraphs: &Paragraphs,
+    watch: &mut W,
+) -> Result<Judged, Stop>
     ensures { IfOk result (λ judged. IsOfWish inputs.entry paragraphs.now judged.written.texts
         judged.unmet.items) }
 {
@@ -210,29 +227,34 @@ fn import_paragraphs(alloc: Global, inputs: Inputs, paragraphs: &Paragraphs) -> 
         paragraphs,
         wish: &wish,
     };
-    import_wished(alloc, inputs, read)
+    import_wished(alloc, inputs, read, watch)
 }
 
 /// Reads a wish, and makes the texts of it.
-fn import_text(alloc: Global, inputs: Inputs) -> Result<Imported, Stop>
+fn import_text<W: Watch>(alloc: Global, inputs: Inputs, watch: &mut W) -> Result<Imported, Stop>
     ensures { IfOk result (AreImported inputs.entry) }
 {
     let paragraphs = wish_paragraphs(alloc, inputs.wish)?;
-    let judged = import_paragraphs(alloc, inputs, &paragraphs)?;
+    let judged = import_paragraphs(alloc, inputs, &paragraphs, watch)?;
     let Judged { written, unmet } = judged;
     let Written { texts, lines } = written;
     Ok(Imported::Texts(texts, unmet, lines))
 }
 
-/// Makes the texts of a farm of a wish and of indexes, and tells of them.
+/// Makes the texts of a farm of a wish and of indexes, and tells of them. Meanwhile somebody hears
+/// how far the reading of the indexes has come.
 ///
 /// # Errors
 ///
 /// [`AllocError`] where memory is refused.
-pub fn import(alloc: Global, inputs: Inputs) -> Result<Imported, AllocError>
+pub fn import<W: Watch>(
+    alloc: Global,
+    inputs: Inputs,
+    watch: &mut W,
+) -> Result<Imported, AllocError>
     ensures { IfOk result (AreImported inputs.entry) }
 {
-    match import_text(alloc, inputs) {
+    match import_text(alloc, inputs, watch) {
         Ok(imported) => Ok(imported),
         Err(Stop::Refused(lines)) => Ok(Imported::Refused(lines)),
         Err(Stop::Wrong) => Ok(Imported::Wrong),

@@ -6,6 +6,7 @@ ghost use Rattle.index_cut.specs.Index.{AreBlocks};
 
 use crate::imported::NamedText;
 use crate::refusals::{Stop, fault_in};
+use crate::watch::Watch;
 use deb_profile::ArchNames;
 use deb_text::Fault;
 use index_cut::{Block, cut_index};
@@ -61,36 +62,103 @@ fn push_text<'a>(alloc: Global, blocks: &mut Vec<&'a [u8]>, text: NamedText<'a>)
     }
 }
 
-/// Puts the blocks of several indexes behind others.
-fn push_all<'a>(
+/// Where blocks are listed by names.
+trait Listing {
+    /// Lists the block of a number.
+    ///
+    /// # Errors
+    ///
+    /// [`AllocError`] where memory is refused.
+    fn add(&mut self, alloc: Global, number: u32, block: &[u8]) -> Result<(), AllocError>;
+}
+
+/// The packages of an architecture.
+#[derive(Drop)]
+struct PackageListing<'a> {
+    architectures: &'a ArchNames,
+    names: PackageNames,
+}
+
+impl Listing for PackageListing<'_> {
+    fn add(&mut self, alloc: Global, number: u32, block: &[u8]) -> Result<(), AllocError> {
+        self.names
+            .add_block(alloc, self.architectures, number, block)
+    }
+}
+
+/// Sources.
+#[derive(Drop)]
+struct SourceListing {
+    names: NameTable,
+}
+
+impl Listing for SourceListing {
+    fn add(&mut self, alloc: Global, number: u32, block: &[u8]) -> Result<(), AllocError> {
+        add_source_block(alloc, &mut self.names, number, block)
+    }
+}
+
+/// Blocks, those of the index of a name from a number on.
+#[derive(Clone, Copy)]
+struct Added<'a> {
+    blocks: &'a [&'a [u8]],
+    first: usize,
+    name: &'a str,
+}
+
+/// Lists the blocks of an index.
+fn list<L: Listing, W: Watch>(
     alloc: Global,
-    blocks: &mut Vec<&'a [u8]>,
-    texts: &[NamedText<'a>],
-) -> Result<(), Stop>
-    ensures { OnOk result (GetsBlocks (IsBlockIn texts.now) blocks.old.items blocks.new.items) }
-{
-    for text in texts {
-        push_text(alloc, blocks, *text)?;
+    listing: &mut L,
+    added: Added,
+    watch: &mut W,
+) -> Result<(), AllocError> {
+    let blocks = added.blocks.get(added.first..).unwrap_or(&[]);
+    let mut number = u32::try_from(added.first).unwrap_or(u32::MAX);
+    for (at, block) in blocks.iter().enumerate() {
+        watch.reads(added.name, at, blocks.len());
+        listing.add(alloc, number, block)?;
+        number = number.saturating_add(1);
     }
     Ok(())
 }
 
-/// The names of the blocks from a number on.
-fn names_from(
+/// Puts the blocks of an index behind others, and lists them.
+fn add_text<'a, L: Listing, W: Watch>(
     alloc: Global,
-    architectures: &ArchNames,
-    blocks: &[&[u8]],
-    first: usize,
-) -> Result<PackageNames, AllocError> {
-    let mut names = PackageNames::new(alloc);
-    let mut number = 0u32;
-    for (at, block) in blocks.iter().enumerate() {
-        if at >= first {
-            names.add_block(alloc, architectures, number, block)?;
-        }
-        number = number.saturating_add(1);
+    blocks: &mut Vec<&'a [u8]>,
+    listing: &mut L,
+    text: NamedText<'a>,
+    watch: &mut W,
+) -> Result<(), Stop>
+    ensures { OnOk result (GetsBlocks (IsBlockOf text.entry.bytes.now) blocks.old.items blocks.new.items) }
+{
+    watch.reads(text.name, 0, 1);
+    let first = blocks.len();
+    push_text(alloc, blocks, text)?;
+    let added = Added {
+        blocks,
+        first,
+        name: text.name,
+    };
+    list(alloc, listing, added, watch)?;
+    Ok(())
+}
+
+/// The same of several indexes.
+fn add_all<'a, L: Listing, W: Watch>(
+    alloc: Global,
+    blocks: &mut Vec<&'a [u8]>,
+    listing: &mut L,
+    texts: &[NamedText<'a>],
+    watch: &mut W,
+) -> Result<(), Stop>
+    ensures { OnOk result (GetsBlocks (IsBlockIn texts.now) blocks.old.items blocks.new.items) }
+{
+    for text in texts {
+        add_text(alloc, blocks, listing, *text, watch)?;
     }
-    Ok(names)
+    Ok(())
 }
 
 /// Cuts Packages indexes, and lists their packages by names.
@@ -98,29 +166,35 @@ fn names_from(
 /// # Errors
 ///
 /// The first fault of the form of an index, of those of what builds give first.
-pub fn read_packages<'a>(
+pub fn read_packages<'a, W: Watch>(
     alloc: Global,
     architectures: &ArchNames,
     target: &[NamedText<'a>],
     archive: &[NamedText<'a>],
+    watch: &mut W,
 ) -> Result<Packages<'a>, Stop>
     ensures { IfOk result (λ packages.
         All (λ block. IsBlockIn (target.now ++ archive.now) block.now) packages.blocks.items) }
 {
     let mut blocks = Vec::new(alloc);
-    push_all(alloc, &mut blocks, target)?;
-    let names = names_from(alloc, architectures, &blocks, 0)?;
-    let first = blocks.len();
-    push_all(alloc, &mut blocks, archive)?;
-    let own = if archive.is_empty() {
-        None
-    } else {
-        Some(names_from(alloc, architectures, &blocks, first)?)
+    let mut made = PackageListing {
+        architectures,
+        names: PackageNames::new(alloc),
     };
+    add_all(alloc, &mut blocks, &mut made, target, watch)?;
+    let mut own = PackageListing {
+        architectures,
+        names: PackageNames::new(alloc),
+    };
+    add_all(alloc, &mut blocks, &mut own, archive, watch)?;
     Ok(Packages {
         blocks,
-        target: names,
-        own,
+        target: made.names,
+        own: if archive.is_empty() {
+            None
+        } else {
+            Some(own.names)
+        },
     })
 }
 
@@ -131,26 +205,25 @@ pub struct Sources<'a> {
     pub names: NameTable,
 }
 
-fn source_names(alloc: Global, blocks: &[&[u8]]) -> Result<NameTable, AllocError> {
-    let mut names = NameTable::new(alloc);
-    let mut number = 0u32;
-    for block in blocks {
-        add_source_block(alloc, &mut names, number, block)?;
-        number = number.saturating_add(1);
-    }
-    Ok(names)
-}
-
 /// Cuts Sources indexes, and lists their sources by names.
 ///
 /// # Errors
 ///
 /// The first fault of the form of an index.
-pub fn read_sources<'a>(alloc: Global, texts: &[NamedText<'a>]) -> Result<Sources<'a>, Stop>
+pub fn read_sources<'a, W: Watch>(
+    alloc: Global,
+    texts: &[NamedText<'a>],
+    watch: &mut W,
+) -> Result<Sources<'a>, Stop>
     ensures { IfOk result (λ sources. All (λ block. IsBlockIn texts.now block.now) sources.blocks.items) }
 {
     let mut blocks = Vec::new(alloc);
-    push_all(alloc, &mut blocks, texts)?;
-    let names = source_names(alloc, &blocks)?;
-    Ok(Sources { blocks, names })
+    let mut listing = SourceListing {
+        names: NameTable::new(alloc),
+    };
+    add_all(alloc, &mut blocks, &mut listing, texts, watch)?;
+    Ok(Sources {
+        blocks,
+        names: listing.names,
+    })
 }

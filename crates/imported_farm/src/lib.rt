@@ -23,7 +23,9 @@ mod refusals;
 mod shares;
 mod taken;
 mod versions;
+mod watch;
 mod wish_notes;
 mod written;
 
 pub use imported::{HEAD, Imported, ImportedTexts, Inputs, NamedText, import};
+pub use watch::Watch;

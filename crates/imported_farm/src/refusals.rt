@@ -3,6 +3,7 @@
 use crate::lines::{push, push_number};
 use deb_relation::Entry;
 use deb_text::Fault;
+use import_builds::Lack;
 use import_wish::WishedRecipe;
 use plan_asm::push_entry;
 use std::alloc::{AllocError, Global};
@@ -85,16 +86,38 @@ pub fn not_given(alloc: Global, wished: &WishedRecipe, name: &[u8]) -> Stop {
     Stop::from(with_output(alloc, wished, name))
 }
 
-fn without_output(alloc: Global, wished: &WishedRecipe) -> Result<Vec<u8>, AllocError> {
+/// What stands before the name of a recipe that gives nothing, and behind it.
+fn around_name(lack: Lack) -> (&'static [u8], &'static [u8]) {
+    match lack {
+        Lack::Unindexed => (
+            b"  the Packages indexes have nothing that recipe ",
+            b" gives\n",
+        ),
+        Lack::OnlyAll => (
+            b"  recipe ",
+            b" gives nothing in mode arch: all that its source has here is of architecture all\n",
+        ),
+        Lack::NoAll => (
+            b"  recipe ",
+            b" gives nothing in mode indep: its source has nothing of architecture all here\n",
+        ),
+        Lack::NotHere => (
+            b"  recipe ",
+            b" gives nothing: its source has no package for the architecture and the profiles\n",
+        ),
+    }
+}
+
+fn without_output(alloc: Global, wished: &WishedRecipe, lack: Lack) -> Result<Vec<u8>, AllocError> {
+    let (front, end) = around_name(lack);
     let mut text = wish_line(alloc, 704, wished.line)?;
-    text.extend_from_slice(b"  the Packages indexes have nothing that recipe ")?;
-    push(&mut text, &[&wished.name, b" gives\n"])?;
+    push(&mut text, &[front, &wished.name, end])?;
     Ok(text)
 }
 
 /// The indexes have nothing that a recipe gives.
-pub fn nothing_given(alloc: Global, wished: &WishedRecipe) -> Stop {
-    Stop::from(without_output(alloc, wished))
+pub fn nothing_given(alloc: Global, wished: &WishedRecipe, lack: Lack) -> Stop {
+    Stop::from(without_output(alloc, wished, lack))
 }
 
 fn chroot_line(alloc: Global, chroot: &[u8]) -> Result<Vec<u8>, AllocError> {

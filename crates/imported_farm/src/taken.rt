@@ -72,7 +72,7 @@ fn build_refusal(alloc: Global, wished: &WishedRecipe, stop: BuildStop) -> Stop 
     match stop {
         BuildStop::UnknownSource => unknown_source(alloc, wished),
         BuildStop::NotGiven(name) => not_given(alloc, wished, &name),
-        BuildStop::NothingGiven => nothing_given(alloc, wished),
+        BuildStop::NothingGiven(lack) => nothing_given(alloc, wished, lack),
         BuildStop::OutOfMemory => Stop::OutOfMemory,
     }
 }

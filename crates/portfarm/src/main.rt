@@ -86,7 +86,7 @@ where
     }
 }
 
-impl<R: Files + Input> Folder for Machine<'_, R> {
+impl<R: Files + Input + Clock> Folder for Machine<'_, R> {
     fn read_part(&self, alloc: Global, path: &str, most: u32) -> io::Result<Vec<u8>> {
         read_up_to(alloc, File::open(self.rt, path)?, most)
     }
@@ -105,6 +105,17 @@ impl<R: Files + Input> Folder for Machine<'_, R> {
 
     fn rename_file(&self, from: &str, to: &str) -> io::Result<()> {
         fs::rename(self.rt, from, to)
+    }
+
+    fn has_watcher(&self) -> bool {
+        self.is_watched
+    }
+
+    fn milliseconds(&self) -> u64 {
+        match self.rt.since_1970() {
+            Ok(time) => u64::try_from(time.as_millis()).unwrap_or(0),
+            Err(_) => 0,
+        }
     }
 }
 

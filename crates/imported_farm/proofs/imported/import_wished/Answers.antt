@@ -5,7 +5,7 @@ use Rattle.imported_farm.proofs.MadeLaws.{one-of, texts-weaker}
 use Rattle.imported_farm.proofs.imported.import_wished.Goals as goal
 
 pub returns : goal.returns
-returns c =
+returns g c =
     let packages = c.in_ok-packages.packages.blocks.items in
     let sources = c.in_ok-sources.sources.blocks.items in
     let Is = IsBlockIn (c.args.inputs.packages.now ++ c.args.inputs.archive.now) in

@@ -4,9 +4,9 @@ use Rattle.imported_farm.proofs.MadeLaws.{blocks-both}
 use Rattle.imported_farm.proofs.indexes.read_packages.Goals as goal
 
 pub returns : goal.returns
-returns c =
-    blocks-both c.args.target.now c.args.archive.now c.push_all.new.blocks.items
-    c.push_all-2.new.blocks.items
+returns g c =
+    blocks-both c.args.target.now c.args.archive.now c.add_all.new.blocks.items
+    c.add_all-2.new.blocks.items
     (subst (λ (old : List (Bor (List ℕ))). GetsBlocks (IsBlockIn c.args.target.now) old
-    c.push_all.new.blocks.items) c.new-blocks.ensures.items c.in_ok-push_all.ensures)
-    c.in_ok-push_all-2.ensures
+    c.add_all.new.blocks.items) c.new-blocks.ensures.items c.in_ok-add_all.ensures)
+    c.in_ok-add_all-2.ensures

@@ -4,8 +4,8 @@ use Rattle.imported_farm.proofs.MadeLaws.{all-gotten}
 use Rattle.imported_farm.proofs.indexes.read_sources.Goals as goal
 
 pub returns : goal.returns
-returns c =
+returns g c =
     let Is = IsBlockIn c.args.texts.now in
-    all-gotten Is c.push_all.new.blocks.items
-    (subst (λ (old : List (Bor (List ℕ))). GetsBlocks Is old c.push_all.new.blocks.items)
-    c.new-blocks.ensures.items c.in_ok-push_all.ensures)
+    all-gotten Is c.add_all.new.blocks.items
+    (subst (λ (old : List (Bor (List ℕ))). GetsBlocks Is old c.add_all.new.blocks.items)
+    c.new-blocks.ensures.items c.in_ok-add_all.ensures)
