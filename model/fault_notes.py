@@ -1,10 +1,10 @@
-"""What is said of a fault of a text, for a person: FORMATS, section 16. The sentences are read from its table."""
+"""What is said of a fault of a text, for a person: FORMATS, section 16."""
 
-from pathlib import Path
+from field_notes import CODES, field_note
+from plan_causes import plan_cause
+from texts import lines, paragraphs, pieces
+from word_notes import word_note
 
-from texts import lines
-
-FORMATS = Path(__file__).resolve().parent.parent / "docs" / "FORMATS.md"
 SHOWN = 200
 LOOKED_AT = (101, 102, 103, 121, 201, 301)
 BEGINNINGS = [
@@ -23,16 +23,76 @@ ORDERS = [
     ("Package:", ("farm", "plan"), "an index"),
     ("Architecture-Names:", ("packages", "sources", "plan"), "the farm"),
 ]
-
-
-def sentences():
-    """The sentence of each code, from the table of section 16."""
-    rows = (row.split(" | ", 1) for row in FORMATS.read_text().splitlines() if row.startswith("| "))
-    return {code[2:]: rest.removesuffix(" |") for code, rest in rows if rest.startswith("expected ")}
+# fields that stand in the other index alone: what 205 and 206 of the farm look for in the first paragraphs
+EXCHANGED = [
+    ("packages", ("package-list", "binary", "build-depends"), "a Sources index"),
+    ("sources", ("filename", "installed-size"), "a Packages index"),
+]
+# what was expected, by the code of the refusal
+SENTENCES = {
+    101: "expected a field above a line that begins with a blank and goes on with it",
+    102: "expected a field, as in `Name: value`: this line has no colon",
+    103: "expected a field name: printable ASCII without blanks, not begun by `-`",
+    104: "expected each field once in a paragraph, whatever the case of its letters",
+    105: "expected a text of at most 67,108,864 bytes",
+    111: "expected a version, and nothing empty beside its first colon or last hyphen",
+    112: "expected a version of letters, digits and `. + - ~`, its epoch of digits",
+    113: "expected a version with an epoch of at most 2147483647",
+    114: "expected a version of at most 512 bytes",
+    121: "expected a name of two or more of `a-z 0-9 + - .`, and only its relation behind",
+    122: "expected one of the operators `<<`, `<=`, `=`, `>=` and `>>`",
+    123: "expected a version behind the operator, as in `gcc (>= 4:14.2.0-3)`",
+    124: "expected architectures between `[` and `]`, `!` at all of them or at none",
+    125: "expected a closing bracket",
+    126: "expected one package in each entry of this field, without alternatives",
+    127: "expected no `[..]` or `<..>`, which stand in build relations alone",
+    128: "expected the operator `=`, the only one in this field",
+    129: "expected an alternative on each side of the bar",
+    130: "expected build profiles between `<` and `>`",
+    131: "expected words with blanks between them",
+    201: "expected a field that is absent from this paragraph",
+    202: "expected a number within its limit, or one of the words of this field",
+    203: "expected each name, version and item once: this one stands above already",
+    204: "expected at most 64 versions of a name",
+    205: "expected versions that the packages text has in the lists of this paragraph",
+    206: "expected one source in `Source`, as `gcc (= 14-1)`, that the sources text has",
+    207: "expected outputs that are not in `Archive` and that no earlier recipe gives",
+    208: "expected at least one output in `Outputs`",
+    209: "expected one version of each name, all needs met, no clash, and room for all",
+    210: "expected names, entries, sources, recipes and chroots within the limits",
+    301: "expected `plan 1` before all other lines",
+    302: "expected `lane`, `block`, `use`, `end` or an instruction, whole and in its place",
+    303: "expected a package, chroot or recipe that the other texts have",
+    304: "expected each package once in a line",
+    305: "expected a block that ended above this line",
+    306: "expected `end` for what begins here",
+    307: "expected each recipe to be published at most once in all lanes",
+    308: "expected a name that no earlier lane has, or for a block no earlier block",
+    309: "expected at most 64 lanes, and 65,536 instructions in all lanes and in a block",
+    451: "expected the line of a certificate of this plan that comes next",
+    452: "expected no more of a lane than it can know there",
+    453: "expected an instruction that is safe by what the certificate says",
+    454: "expected an order of steps that can be made, to the end of the plan",
+    455: "expected two branches that leave each package in one phase",
+    900: "expected more memory",
+}
 
 
 def escaped(text):
     return "".join(byte if " " <= byte <= "~" and byte != "\\" else f"\\x{ord(byte):02x}" for byte in text)
+
+
+def shown(text):
+    """The first bytes of a value, with one blank in place of each run of them."""
+    return " ".join(map(escaped, pieces(text[:SHOWN])))
+
+
+def begun(text):
+    """The text from its first line on that is neither a comment nor blank."""
+    rest = lines(text)
+    while rest and (rest[0].startswith("#") or not rest[0].strip(" \t")):
+        rest = rest[1:]
+    return rest[0] if rest else ""
 
 
 def look(text, file, line):
@@ -41,20 +101,50 @@ def look(text, file, line):
         if text.startswith(beginning):
             return sentence
     for beginning, files, what in ORDERS:
-        if text.startswith(beginning) and file in files:
+        if begun(text).startswith(beginning) and file in files:
             return f"the text begins as {what} does: are the texts in another order?"
     return "the line ends in a carriage return: end lines in a newline alone" if line.endswith("\r") else None
 
 
+def exchanged(texts):
+    """The sign that packages and sources are exchanged, or None."""
+    for file, names, what in EXCHANGED:
+        first = paragraphs(texts[file], file)[:1]
+        if first and set(names) & set(first[0].fields):
+            return f"the {file} text begins as {what} does: are the texts in another order?"
+    return None
+
+
+def sign_of(texts, fault, refused):
+    if fault.code in (205, 206):
+        return exchanged(texts)
+    return look(texts[fault.file], fault.file, refused) if fault.code in LOOKED_AT else None
+
+
+def expected(text, fault, refused):
+    """What was expected: of 302 the cause, where there is one."""
+    above = lines(text)[: fault.line - 1]
+    cause = plan_cause(above, refused, shown, SENTENCES) if fault.code == 302 else None
+    return cause or SENTENCES.get(fault.code, "expected another text")
+
+
+def about(texts, fault, refused):
+    """The line on the field or word that the refusal is about, or None."""
+    if fault.code in CODES and fault.file != "plan":
+        return field_note(texts, fault, shown)
+    return word_note(texts, refused, shown) if fault.code == 303 else fault.about
+
+
 def fault_lines(texts, fault):
     """The lines below that of the refusal."""
-    text, known = texts[fault.file], sentences()
+    text = texts[fault.file]
     refused = lines(text)[fault.line - 1] if fault.line else ""
     if fault.line:
         yield f"{fault.file} line {fault.line}: {escaped(refused[:SHOWN])}"
-    yield f"  {known.get(str(fault.code), known['other'])}"
-    sign = look(text, fault.file, refused) if fault.code in LOOKED_AT else None
+    yield f"  {expected(text, fault, refused)}"
+    sign = sign_of(texts, fault, refused)
     if sign:
         yield f"  {sign}"
-    if fault.about:
-        yield f"  {fault.about}"
+    note = about(texts, fault, refused)
+    if note:
+        yield f"  {note}"

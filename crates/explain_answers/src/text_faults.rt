@@ -13,11 +13,15 @@ use deb_text::Fault;
 use deb_text::files::{FARM, PACKAGES, PLAN, SOURCES};
 use farm_explain::{Note, Told};
 use farm_input::Texts;
-use farm_notes::{FarmNote, Texts as FarmTexts, farm_note, index_limit};
+use farm_notes::{
+    FarmNote, Texts as FarmTexts, farm_note, field_note, index_limit, is_of_field, word_note,
+};
+use farm_universe::{UNKNOWN_SOURCE, UNKNOWN_VARIANT};
 use farm_warnings::Warnings;
-use fault_notes::write_fault_note;
+use fault_notes::{exchanged_look, write_fault_note, write_look};
+use plan_asm::UNKNOWN_NAME;
 use plan_verifier::Refusal;
-use report_sink::{WriteFailed, WriteSink, write_text};
+use report_sink::{Sink, WriteFailed, WriteSink, whether_written, write_text};
 use std::alloc::{AllocError, Global};
 
 /// The text of the file of a number; no byte for another number.
@@ -31,6 +35,15 @@ fn text_in<'a>(texts: Texts<'a>, file: u8) -> &'a [u8] {
     }
 }
 
+/// The texts that describe a farm.
+fn farm_texts<'a>(texts: Texts<'a>) -> FarmTexts<'a> {
+    FarmTexts {
+        packages: texts.packages,
+        sources: texts.sources,
+        farm: texts.farm,
+    }
+}
+
 /// The item that a fault of the farm text is about, or the limit that a fault of the packages or
 /// the sources is about.
 fn item_text(alloc: Global, fault: &Fault, texts: Texts<'_>) -> Result<Vec<u8>, AllocError> {
@@ -41,24 +54,44 @@ fn item_text(alloc: Global, fault: &Fault, texts: Texts<'_>) -> Result<Vec<u8>, 
             None => Ok(Vec::new(alloc)),
         };
     }
-    let of = FarmTexts {
-        packages: texts.packages,
-        sources: texts.sources,
-        farm: texts.farm,
-    };
-    let FarmNote { text, .. } = farm_note(alloc, &of, fault.code, fault.line)?;
+    let FarmNote { text, .. } = farm_note(alloc, &farm_texts(texts), fault.code, fault.line)?;
     Ok(text)
 }
 
-/// The lines on a fault, and the item that it is about.
+/// The field, the word, the item or the limit that a fault is about.
+fn about_text(alloc: Global, fault: &Fault, texts: Texts<'_>) -> Result<Vec<u8>, AllocError> {
+    if is_of_field(fault.code) && fault.file != PLAN {
+        field_note(alloc, fault, text_in(texts, fault.file))
+    } else if fault.code == UNKNOWN_NAME && fault.file == PLAN {
+        word_note(alloc, &farm_texts(texts), texts.plan, fault.line)
+    } else {
+        item_text(alloc, fault, texts)
+    }
+}
+
+/// Writes the lines on a fault but for what it is about.
+fn write_fault<S: Sink>(
+    out: &mut S,
+    fault: &Fault,
+    texts: Texts<'_>,
+) -> Result<(), WriteFailed> {
+    write_fault_note(out, fault, text_in(texts, fault.file))?;
+    if fault.code == UNKNOWN_VARIANT || fault.code == UNKNOWN_SOURCE {
+        write_look(out, exchanged_look(texts.packages, texts.sources))
+    } else {
+        whether_written(out)
+    }
+}
+
+/// The lines on a fault, and what it is about.
 fn fault_text(alloc: Global, fault: Fault, texts: Texts<'_>) -> Result<Vec<u8>, AllocError> {
-    let item = item_text(alloc, &fault, texts)?;
+    let about = about_text(alloc, &fault, texts)?;
     let mut out = WriteSink::new(Vec::new(alloc));
-    match write_fault_note(&mut out, &fault, text_in(texts, fault.file)) {
+    match write_fault(&mut out, &fault, texts) {
         Ok(()) => {}
         Err(WriteFailed) => return Err(AllocError),
     }
-    match write_text(&mut out, &item) {
+    match write_text(&mut out, &about) {
         Ok(()) => Ok(out.into_inner()),
         Err(WriteFailed) => Err(AllocError),
     }

@@ -150,7 +150,11 @@ pub fn number_in(value: Option<&[u8]>) -> u64
 }
 
 /// Reads the universe that three texts describe; `None` where they have a fault.
-fn read_universe(
+///
+/// # Errors
+///
+/// [`AllocError`] where memory is refused.
+pub fn read_universe(
     alloc: Global,
     packages: &[u8],
     sources: &[u8],

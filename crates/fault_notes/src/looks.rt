@@ -1,6 +1,13 @@
 //! What the bytes of a refused text look like.
 
 use deb_text::files::{FARM, PLAN};
+use deb_text::{cut_at_first, is_blank_line, is_comment, next_line};
+
+/// Fields that a Sources index has, and no Packages index.
+const OF_SOURCES: [&[u8]; 3] = [b"Package-List", b"Binary", b"Build-Depends"];
+
+/// Fields that a Packages index has, and no Sources index.
+const OF_PACKAGES: [&[u8]; 2] = [b"Filename", b"Installed-Size"];
 
 /// What a text looks like that is not what it was given as.
 #[derive(Clone, Copy, PartialEq, Eq)]
@@ -22,6 +29,10 @@ pub enum Look {
     Index,
     /// It begins as the farm text, and is given as another text.
     Farm,
+    /// It is given as the packages, and begins as sources do.
+    Sources,
+    /// It is given as the sources, and begins as packages do.
+    Packages,
     /// The line ends in a carriage return.
     CarriageReturn,
 }
@@ -41,6 +52,12 @@ impl Look {
             Look::Plan => b"the text begins as a plan does: are the texts in another order?",
             Look::Index => b"the text begins as an index does: are the texts in another order?",
             Look::Farm => b"the text begins as the farm does: are the texts in another order?",
+            Look::Sources => {
+                b"the packages text begins as a Sources index does: are the texts in another order?"
+            }
+            Look::Packages => {
+                b"the sources text begins as a Packages index does: are the texts in another order?"
+            }
             Look::CarriageReturn => {
                 b"the line ends in a carriage return: end lines in a newline alone"
             }
@@ -79,7 +96,20 @@ fn packed_look(text: &[u8]) -> Option<Look> {
     }
 }
 
+/// A text from its first line on that is neither a comment nor blank.
+fn begun(text: &[u8]) -> &[u8] {
+    let mut rest = text;
+    while let Some((line, behind)) = next_line(rest) {
+        if !is_comment(line) && !is_blank_line(line) {
+            return rest;
+        }
+        rest = behind;
+    }
+    rest
+}
+
 fn kind_look(file: u8, text: &[u8]) -> Option<Look> {
+    let text = begun(text);
     if text.starts_with(b"plan 1") && file != PLAN {
         Some(Look::Plan)
     } else if text.starts_with(b"Package:") && (file == FARM || file == PLAN) {
@@ -114,4 +144,38 @@ pub fn look_of(file: u8, text: &[u8], line: &[u8]) -> Option<Look> {
         .or(packed_look(text))
         .or(signed_look(file, text))
         .or(carriage_look(line))
+}
+
+/// Tells whether a line begins a field of one of these names.
+fn begins_one(line: &[u8], names: &[&[u8]]) -> bool {
+    match cut_at_first(b':', line) {
+        Some((head, _)) => names.iter().any(|name| name.eq_ignore_ascii_case(head)),
+        None => false,
+    }
+}
+
+/// Tells whether the first paragraph of a text has a field of one of these names.
+fn begins_with_one(text: &[u8], names: &[&[u8]]) -> bool {
+    let mut rest = begun(text);
+    while let Some((line, behind)) = next_line(rest) {
+        if is_blank_line(line) {
+            return false;
+        }
+        if begins_one(line, names) {
+            return true;
+        }
+        rest = behind;
+    }
+    false
+}
+
+/// Tells whether packages and sources may be exchanged, by the fields of their first paragraphs.
+pub fn exchanged_look(packages: &[u8], sources: &[u8]) -> Option<Look> {
+    if begins_with_one(packages, &OF_SOURCES) {
+        Some(Look::Sources)
+    } else if begins_with_one(sources, &OF_PACKAGES) {
+        Some(Look::Packages)
+    } else {
+        None
+    }
 }

@@ -1,20 +1,14 @@
 //! What is said of a text that is refused.
 
+use crate::cause_words::write_cause;
+use crate::causes::cause_of;
 use crate::escapes::write_escaped;
 use crate::looks::{Look, is_looked_at, look_of};
 use crate::places::{file_name, line_at};
-use crate::sentences::sentence;
+use crate::values::shown;
 use deb_text::Fault;
 use itoa::Buffer;
 use report_sink::{Sink, WriteFailed, whether_written, write_pieces, write_text};
-
-/// The most bytes of a line that are shown.
-const MOST_SHOWN: usize = 200;
-
-/// The first bytes of a line.
-fn shown(line: &[u8]) -> &[u8] {
-    &line[..MOST_SHOWN.min(line.len())]
-}
 
 /// A line of a text, as `plan line 5: unpak libgmp`.
 fn write_line<S: Sink>(
@@ -42,13 +36,20 @@ fn write_place<S: Sink>(
     }
 }
 
-fn write_sentence<S: Sink>(out: &mut S, sentence: &[u8]) -> Result<(), WriteFailed> {
-    write_pieces(out, &[b"  ", sentence, b"\n"])
+fn write_why<S: Sink>(out: &mut S, fault: &Fault, text: &[u8]) -> Result<(), WriteFailed> {
+    write_text(out, b"  ")?;
+    write_cause(out, cause_of(fault, text))?;
+    write_text(out, b"\n")
 }
 
-fn write_look<S: Sink>(out: &mut S, look: Option<Look>) -> Result<(), WriteFailed> {
+/// Writes what a text looks like, if it looks like anything.
+///
+/// # Errors
+///
+/// [`WriteFailed`] where the sink has failed. It has then taken a first part of the line.
+pub fn write_look<S: Sink>(out: &mut S, look: Option<Look>) -> Result<(), WriteFailed> {
     match look {
-        Some(look) => write_sentence(out, look.sentence()),
+        Some(look) => write_pieces(out, &[b"  ", look.sentence(), b"\n"]),
         None => whether_written(out),
     }
 }
@@ -62,8 +63,8 @@ fn fault_look(fault: &Fault, text: &[u8], line: Option<&[u8]>) -> Option<Look> {
 }
 
 /// Writes what is to say of a text that is refused, below the line of its refusal: the line where
-/// there is one, what was expected there, and what the text looks like where it is of another
-/// kind. It takes no memory, and a sink that had failed before is not written to.
+/// there is one, why it is refused, and what the text looks like where it is of another kind. It
+/// takes no memory, and a sink that had failed before is not written to.
 ///
 /// # Errors
 ///
@@ -75,6 +76,6 @@ pub fn write_fault_note<S: Sink>(
 ) -> Result<(), WriteFailed> {
     let line = line_at(text, fault.line);
     write_place(out, fault, line)?;
-    write_sentence(out, sentence(fault.code))?;
+    write_why(out, fault, text)?;
     write_look(out, fault_look(fault, text, line))
 }
