@@ -21,7 +21,10 @@ use wait_order::KnownWords;
 
 /// Tells whether a variant is in the archive from the start.
 fn is_initial(universe: &Universe, variant: Variant) -> bool {
-    is_known(universe, variant) && has_bit(universe.initial(variant.name), variant.bit)
+    if variant.name >= universe.names() || variant.bit >= 64 {
+        return false;
+    }
+    has_bit(universe.initial(variant.name), variant.bit)
 }
 
 /// Tells whether a variant satisfies an entry.
@@ -34,15 +37,13 @@ fn last_unpack(of: LaneText<'_>, place: usize, name: u32) -> Option<usize>
     requires { of.number < length of.plan.now.lanes }
 {
     let mut found = None;
-    let mut at = 0;
-    for instruction in of.plan.lane(of.number).instructions() {
+    for (at, instruction) in of.plan.lane(of.number).instructions().iter().enumerate() {
         if at > place {
             return found;
         }
         if matches!(instruction, Instruction::Unpack { name: unpacked, .. } if *unpacked == name) {
             found = Some(at);
         }
-        at += 1;
     }
     found
 }
@@ -173,7 +174,10 @@ fn need_not_be_there<K: KnownWords>(
     requires lane { of.number < length stage.now.plan.now.lanes }
     requires place { place < length (lane stage.now.plan.now.lanes of.number).instructions }
 {
-    if !is_known(stage.universe, variant) || is_initial(stage.universe, variant) {
+    if is_initial(stage.universe, variant) {
+        return false;
+    }
+    if variant.name >= stage.universe.names() || variant.bit >= 64 {
         return false;
     }
     let is_later = matches!(publication(of.universe, of.plan, variant),
