@@ -201,7 +201,7 @@ fn odd_word(value: &[u8]) -> Option<OddItem<'_>> {
 }
 
 /// A value that cannot be read, unless it can.
-fn unless(is_well: bool, text: &[u8], odd: Odd<'static>) -> Option<OddItem<'_>> {
+fn unless<'a>(is_well: bool, text: &'a [u8], odd: Odd<'static>) -> Option<OddItem<'a>> {
     if is_well {
         None
     } else {
@@ -255,9 +255,9 @@ pub fn odd_field(file: u8, paragraphs: &Paragraphs, place: usize) -> Option<OddF
     requires { place < length paragraphs.now }
 {
     for (name, wanted) in fields_of(file, paragraphs, place) {
-        if let Some(value) = paragraphs.field(place, name) {
+        if let Some(value) = paragraphs.field(place, *name) {
             if let Some(item) = odd_item(value, *wanted) {
-                return Some(OddField { name, item });
+                return Some(OddField { name: *name, item });
             }
         }
     }

@@ -17,17 +17,42 @@ use std::alloc::{AllocError, Global};
 /// The most base chroots that are told where none is near.
 const MOST_BASES_TOLD: u32 = 3;
 
-/// What of a line is not known.
+/// What a word of a plan names.
 #[derive(Clone, Copy)]
-enum Unknown<'a> {
-    Chroot(&'a [u8]),
-    Recipe(&'a [u8]),
-    Package(&'a [u8]),
-    /// A package that stands at this place of the line, the first being 1.
-    PackageAt(&'a [u8], usize),
+enum Kind {
+    Package,
+    Recipe,
+    Chroot,
 }
 
-/// The first package that is not known, and its place.
+impl Kind {
+    fn text(self) -> &'static [u8] {
+        match self {
+            Kind::Package => b"package",
+            Kind::Recipe => b"recipe",
+            Kind::Chroot => b"base chroot",
+        }
+    }
+}
+
+/// A word that is not known, and its place where it stands among several packages, the first being
+/// 1.
+#[derive(Clone, Copy)]
+struct Unknown<'a> {
+    kind: Kind,
+    word: &'a [u8],
+    place: Option<usize>,
+}
+
+fn alone(kind: Kind, word: &[u8]) -> Unknown<'_> {
+    Unknown {
+        kind,
+        word,
+        place: None,
+    }
+}
+
+/// The first package that is not known.
 fn first_unknown<'a>(universe: &Universe, text: &'a [u8]) -> Unknown<'a> {
     let mut rest = text;
     let mut place: usize = 0;
@@ -35,15 +60,15 @@ fn first_unknown<'a>(universe: &Universe, text: &'a [u8]) -> Unknown<'a> {
         place = place.saturating_add(1);
         if universe.find(word).is_none() {
             let is_alone = place == 1 && next_word(behind).is_none();
-            return if is_alone {
-                Unknown::Package(word)
-            } else {
-                Unknown::PackageAt(word, place)
+            return Unknown {
+                kind: Kind::Package,
+                word,
+                place: if is_alone { None } else { Some(place) },
             };
         }
         rest = behind;
     }
-    Unknown::Package(b"")
+    alone(Kind::Package, b"")
 }
 
 /// The chroot of a `lane` line, of which this is behind the first word.
@@ -58,12 +83,12 @@ fn chroot_in(text: &[u8]) -> &[u8] {
 fn unknown_in<'a>(universe: &Universe, line: &'a [u8]) -> Unknown<'a> {
     let (head, text) = first_word(line);
     if head == b"lane".as_slice() {
-        Unknown::Chroot(chroot_in(text))
+        alone(Kind::Chroot, chroot_in(text))
     } else if head == b"build".as_slice() || head == b"publish".as_slice() {
-        Unknown::Recipe(first_word(text).0)
+        alone(Kind::Recipe, first_word(text).0)
     } else if head == b"unpack".as_slice() || head == b"when".as_slice() {
         let (name, _) = split_front(Class::Name, skip_front(Class::Blank, text));
-        Unknown::Package(name)
+        alone(Kind::Package, name)
     } else {
         first_unknown(universe, text)
     }
@@ -131,65 +156,33 @@ fn write_provider<S: Sink>(
     )
 }
 
-/// The names of packages that are near a word.
-fn write_near_packages<S: Sink>(
+/// The name of a number; `None` behind the last.
+fn name_of(universe: &Universe, kind: Kind, number: u32) -> Option<&[u8]> {
+    match kind {
+        Kind::Package if number < universe.names() => Some(universe.name_text(number)),
+        Kind::Recipe if number < universe.recipes() => Some(universe.recipe_name(number)),
+        Kind::Chroot if number < universe.bases() => Some(universe.base(number).name()),
+        _ => None,
+    }
+}
+
+/// Writes the names that are near a word, and gives how many.
+fn write_near_names<S: Sink>(
     out: &mut S,
     universe: &Universe,
+    kind: Kind,
     word: &[u8],
-) -> Result<(), WriteFailed> {
+) -> Result<usize, WriteFailed> {
     let mut count = 0;
-    for name in 0..universe.names() {
-        let text = universe.name_text(name);
-        if is_near_or_longer(word, text) {
-            count = write_near(out, count, text, b"")?;
-        }
-    }
-    write_text(out, b"\n")
-}
-
-fn write_word<S: Sink>(out: &mut S, what: &[u8], word: &[u8]) -> Result<(), WriteFailed> {
-    write_pieces(out, &[b"  no ", what, b" is called `"])?;
-    write_value(out, word)?;
-    write_text(out, b"`")
-}
-
-/// The place of a package among several.
-fn write_place<S: Sink>(out: &mut S, place: usize) -> Result<(), WriteFailed> {
-    let mut digits = Buffer::new();
-    let place = digits.format(place);
-    write_pieces(out, &[b" (package ", place.as_bytes(), b" of the line)"])
-}
-
-fn write_package<S: Sink>(
-    out: &mut S,
-    universe: &Universe,
-    word: &[u8],
-    place: Option<usize>,
-) -> Result<(), WriteFailed> {
-    if let Some(variant) = provider_of(universe, word) {
-        return write_provider(out, universe, word, variant);
-    }
-    write_word(out, b"package", word)?;
-    if let Some(place) = place {
-        write_place(out, place)?;
-    }
-    write_near_packages(out, universe, word)
-}
-
-fn write_recipe<S: Sink>(
-    out: &mut S,
-    universe: &Universe,
-    word: &[u8],
-) -> Result<(), WriteFailed> {
-    write_word(out, b"recipe", word)?;
-    let mut count = 0;
-    for recipe in 0..universe.recipes() {
-        let name = universe.recipe_name(recipe);
+    for number in 0..u32::MAX {
+        let Some(name) = name_of(universe, kind, number) else {
+            return Ok(count);
+        };
         if is_near_or_longer(word, name) {
             count = write_near(out, count, name, b"")?;
         }
     }
-    write_text(out, b"\n")
+    Ok(count)
 }
 
 /// The first base chroots of a farm.
@@ -205,35 +198,46 @@ fn write_bases<S: Sink>(out: &mut S, universe: &Universe) -> Result<(), WriteFai
     whether_written(out)
 }
 
-fn write_chroot<S: Sink>(
-    out: &mut S,
-    universe: &Universe,
-    word: &[u8],
-) -> Result<(), WriteFailed> {
-    write_word(out, b"base chroot", word)?;
-    let mut count = 0;
-    for base in 0..universe.bases() {
-        let name = universe.base(base).name();
-        if is_near_or_longer(word, name) {
-            count = write_near(out, count, name, b"")?;
-        }
-    }
-    if count == 0 {
-        write_bases(out, universe)?;
-    }
-    write_text(out, b"\n")
+/// The place of a package among several.
+fn write_place<S: Sink>(out: &mut S, place: Option<usize>) -> Result<(), WriteFailed> {
+    let Some(place) = place else {
+        return whether_written(out);
+    };
+    let mut digits = Buffer::new();
+    let place = digits.format(place);
+    write_pieces(out, &[b" (package ", place.as_bytes(), b" of the line)"])
 }
 
+/// Writes which word is not known, and what may be meant.
 fn write_unknown<S: Sink>(
     out: &mut S,
     universe: &Universe,
     unknown: Unknown<'_>,
 ) -> Result<(), WriteFailed> {
-    match unknown {
-        Unknown::Chroot(word) => write_chroot(out, universe, word),
-        Unknown::Recipe(word) => write_recipe(out, universe, word),
-        Unknown::Package(word) => write_package(out, universe, word, None),
-        Unknown::PackageAt(word, place) => write_package(out, universe, word, Some(place)),
+    let Unknown { kind, word, place } = unknown;
+    write_pieces(out, &[b"  no ", kind.text(), b" is called `"])?;
+    write_value(out, word)?;
+    write_text(out, b"`")?;
+    write_place(out, place)?;
+    let count = write_near_names(out, universe, kind, word)?;
+    if count == 0 && matches!(kind, Kind::Chroot) {
+        write_bases(out, universe)?;
+    }
+    write_text(out, b"\n")
+}
+
+/// Writes that a package is virtual, where it is, or which word is not known.
+fn write_note<S: Sink>(
+    out: &mut S,
+    universe: &Universe,
+    unknown: Unknown<'_>,
+) -> Result<(), WriteFailed> {
+    match unknown.kind {
+        Kind::Package => match provider_of(universe, unknown.word) {
+            Some(variant) => write_provider(out, universe, unknown.word, variant),
+            None => write_unknown(out, universe, unknown),
+        },
+        Kind::Recipe | Kind::Chroot => write_unknown(out, universe, unknown),
     }
 }
 
@@ -261,7 +265,7 @@ pub fn word_note(
         return Ok(Vec::new(alloc));
     };
     let mut out = WriteSink::new(Vec::new(alloc));
-    match write_unknown(&mut out, &universe, unknown_in(&universe, line)) {
+    match write_note(&mut out, &universe, unknown_in(&universe, line)) {
         Ok(()) => Ok(out.into_inner()),
         Err(WriteFailed) => Err(AllocError),
     }
