@@ -111,7 +111,9 @@ fn around_name(lack: Lack) -> (&'static [u8], &'static [u8]) {
 fn without_output(alloc: Global, wished: &WishedRecipe, lack: Lack) -> Result<Vec<u8>, AllocError> {
     let (front, end) = around_name(lack);
     let mut text = wish_line(alloc, 704, wished.line)?;
-    push(&mut text, &[front, &wished.name, end])?;
+    text.extend_from_slice(front)?;
+    text.extend_from_slice(&wished.name)?;
+    text.extend_from_slice(end)?;
     Ok(text)
 }
 
