@@ -99,10 +99,7 @@ fn is_provider(universe: &Universe, variant: Variant, name: &[u8]) -> bool
     requires { IsKnown universe.now variant }
 {
     universe.relations(variant).provides.entries().iter().any(|entry| {
-        entry
-            .alternatives()
-            .iter()
-            .any(|item| item.name() == name)
+        entry.alternatives().iter().any(|item| item.name() == name)
     })
 }
 
@@ -140,7 +137,7 @@ fn write_provider<S: Sink>(
 ) -> Result<(), WriteFailed>
     requires { IsKnown universe.now variant }
 {
-    let name = universe.name_text(variant.name);
+    let name = plan_asm::name_of(universe, variant.name);
     let version = universe.version(variant).text();
     write_pieces(
         out,
