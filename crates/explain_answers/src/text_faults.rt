@@ -35,15 +35,6 @@ fn text_in<'a>(texts: Texts<'a>, file: u8) -> &'a [u8] {
     }
 }
 
-/// The texts that describe a farm.
-fn farm_texts<'a>(texts: Texts<'a>) -> FarmTexts<'a> {
-    FarmTexts {
-        packages: texts.packages,
-        sources: texts.sources,
-        farm: texts.farm,
-    }
-}
-
 /// The item that a fault of the farm text is about, or the limit that a fault of the packages or
 /// the sources is about.
 fn item_text(alloc: Global, fault: &Fault, texts: Texts<'_>) -> Result<Vec<u8>, AllocError> {
@@ -54,8 +45,23 @@ fn item_text(alloc: Global, fault: &Fault, texts: Texts<'_>) -> Result<Vec<u8>, 
             None => Ok(Vec::new(alloc)),
         };
     }
-    let FarmNote { text, .. } = farm_note(alloc, &farm_texts(texts), fault.code, fault.line)?;
+    let of = FarmTexts {
+        packages: texts.packages,
+        sources: texts.sources,
+        farm: texts.farm,
+    };
+    let FarmNote { text, .. } = farm_note(alloc, &of, fault.code, fault.line)?;
     Ok(text)
+}
+
+/// The word of a plan that is not known.
+fn word_text(alloc: Global, fault: &Fault, texts: Texts<'_>) -> Result<Vec<u8>, AllocError> {
+    let of = FarmTexts {
+        packages: texts.packages,
+        sources: texts.sources,
+        farm: texts.farm,
+    };
+    word_note(alloc, &of, texts.plan, fault.line)
 }
 
 /// The field, the word, the item or the limit that a fault is about.
@@ -63,18 +69,14 @@ fn about_text(alloc: Global, fault: &Fault, texts: Texts<'_>) -> Result<Vec<u8>,
     if is_of_field(fault.code) && fault.file != PLAN {
         field_note(alloc, fault, text_in(texts, fault.file))
     } else if fault.code == UNKNOWN_NAME && fault.file == PLAN {
-        word_note(alloc, &farm_texts(texts), texts.plan, fault.line)
+        word_text(alloc, fault, texts)
     } else {
         item_text(alloc, fault, texts)
     }
 }
 
 /// Writes the lines on a fault but for what it is about.
-fn write_fault<S: Sink>(
-    out: &mut S,
-    fault: &Fault,
-    texts: Texts<'_>,
-) -> Result<(), WriteFailed> {
+fn write_fault<S: Sink>(out: &mut S, fault: &Fault, texts: Texts<'_>) -> Result<(), WriteFailed> {
     write_fault_note(out, fault, text_in(texts, fault.file))?;
     if fault.code == UNKNOWN_VARIANT || fault.code == UNKNOWN_SOURCE {
         write_look(out, exchanged_look(texts.packages, texts.sources))

@@ -48,7 +48,14 @@ fn write_field<S: Sink>(
     let name = field.name;
     write_pieces(
         out,
-        &[b"  ", file_name(file), b" line ", line.as_bytes(), b": ", name],
+        &[
+            b"  ",
+            file_name(file),
+            b" line ",
+            line.as_bytes(),
+            b": ",
+            name,
+        ],
     )?;
     if field.item.text.is_empty() {
         return write_text(out, b" is empty\n");
@@ -109,10 +116,7 @@ fn write_lacks<S: Sink>(out: &mut S, absent: Absent) -> Result<(), WriteFailed> 
 }
 
 /// The field that may be meant for an absent one.
-fn write_near_field<S: Sink>(
-    out: &mut S,
-    near: Option<(u32, &[u8])>,
-) -> Result<(), WriteFailed> {
+fn write_near_field<S: Sink>(out: &mut S, near: Option<(u32, &[u8])>) -> Result<(), WriteFailed> {
     let Some((line, name)) = near else {
         return write_text(out, b"\n");
     };

@@ -137,7 +137,8 @@ fn fields_of(file: u8, paragraphs: &Paragraphs, place: usize) -> &'static [(&'st
 fn bracket_before_name(item: &[u8]) -> Option<&[u8]> {
     let mut rest = item;
     while let [byte, behind @ ..] = rest {
-        if matches!(*byte, b')' | b']') && begins_with(Class::Lower, skip_front(Class::Blank, behind))
+        if matches!(*byte, b')' | b']')
+            && begins_with(Class::Lower, skip_front(Class::Blank, behind))
         {
             return rest.get(..1);
         }

@@ -1,6 +1,6 @@
 //! What is said of a word of a plan that is not known.
 
-ghost use Rattle.std.specs.Prelude.{◌<◌, IfSome};
+ghost use Rattle.std.specs.Prelude.{◌<◌};
 ghost use Rattle.farm_model.specs.Packages.{names};
 ghost use Rattle.farm_model.specs.Sound.{IsKnown};
 
@@ -11,6 +11,7 @@ use farm_model::Variant;
 use farm_universe::Universe;
 use fault_notes::{first_word, is_near_or_longer, line_at, write_near, write_value};
 use itoa::Buffer;
+use plan_asm::{name_of, version_of};
 use report_sink::{Sink, WriteFailed, WriteSink, whether_written, write_pieces, write_text};
 use std::alloc::{AllocError, Global};
 
@@ -99,17 +100,13 @@ fn is_provider(universe: &Universe, variant: Variant, name: &[u8]) -> bool
     requires { IsKnown universe.now variant }
 {
     universe.relations(variant).provides.entries().iter().any(|entry| {
-        entry
-            .alternatives()
-            .iter()
-            .any(|item| item.name() == name)
+        entry.alternatives().iter().any(|item| item.name() == name)
     })
 }
 
 /// The first variant of a name that provides another.
 fn provider_among(universe: &Universe, name: u32, wanted: &[u8]) -> Option<Variant>
     requires { name < names universe.now }
-    ensures { IfSome result (IsKnown universe.now) }
 {
     for bit in 0..universe.variants(name) {
         let variant = Variant { name, bit };
@@ -121,9 +118,7 @@ fn provider_among(universe: &Universe, name: u32, wanted: &[u8]) -> Option<Varia
 }
 
 /// The first variant that provides a name.
-fn provider_of(universe: &Universe, wanted: &[u8]) -> Option<Variant>
-    ensures { IfSome result (IsKnown universe.now) }
-{
+fn provider_of(universe: &Universe, wanted: &[u8]) -> Option<Variant> {
     for name in 0..universe.names() {
         if let Some(variant) = provider_among(universe, name, wanted) {
             return Some(variant);
@@ -137,27 +132,21 @@ fn write_provider<S: Sink>(
     universe: &Universe,
     word: &[u8],
     variant: Variant,
-) -> Result<(), WriteFailed>
-    requires { IsKnown universe.now variant }
-{
-    let name = universe.name_text(variant.name);
-    let version = universe.version(variant).text();
+) -> Result<(), WriteFailed> {
+    write_pieces(out, &[b"  ", word, b" is virtual: "])?;
     write_pieces(
         out,
         &[
-            b"  ",
-            word,
-            b" is virtual: ",
-            name,
+            name_of(universe, variant.name),
             b" (= ",
-            version,
+            version_of(universe, variant),
             b") provides it\n",
         ],
     )
 }
 
 /// The name of a number; `None` behind the last.
-fn name_of(universe: &Universe, kind: Kind, number: u32) -> Option<&[u8]> {
+fn known_name(universe: &Universe, kind: Kind, number: u32) -> Option<&[u8]> {
     match kind {
         Kind::Package if number < universe.names() => Some(universe.name_text(number)),
         Kind::Recipe if number < universe.recipes() => Some(universe.recipe_name(number)),
@@ -175,7 +164,7 @@ fn write_near_names<S: Sink>(
 ) -> Result<usize, WriteFailed> {
     let mut count = 0;
     for number in 0..u32::MAX {
-        let Some(name) = name_of(universe, kind, number) else {
+        let Some(name) = known_name(universe, kind, number) else {
             return Ok(count);
         };
         if is_near_or_longer(word, name) {
