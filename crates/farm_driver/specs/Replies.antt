@@ -6,8 +6,8 @@
 --   is_heard d heard          it was an answer to what was asked, or none
 --   IsKept old new kept e     the journal keeps an entry, by its states before and after, and
 --                             whether all that it has taken stays
---   IsLost new kept           it has failed, or may lose what it has taken
-use Rattle.std.specs.Prelude.{◌≡◌, ◌⊎◌, ℕ, Bool, true, false, List, if◌then◌else◌}
+--   may_lose new kept         it has failed, or may lose what it has taken
+use Rattle.std.specs.Prelude.{◌≡◌, ◌||◌, ℕ, Bool, true, false, List, not, if◌then◌else◌}
 use Rattle.drive_desk.specs.LaneDesks.{Desks, is_open_in, posted, request_at, stopped}
 use Rattle.drive_desk.specs.declared.desk.Request.{Request}
 use Rattle.drive_desk.specs.declared.desk.Request.TheVariants as request
@@ -51,5 +51,5 @@ abbrev pub IsKept : SinkState → SinkState → Bool → Noted → Type 0
 IsKept old new kept e =
     IsWritten old new (noted_text e) × (new.failed ≡ false) × (kept ≡ true)
 
-abbrev pub IsLost : SinkState → Bool → Type 0
-IsLost new kept = (new.failed ≡ true) ⊎ (kept ≡ false)
+abbrev pub may_lose : SinkState → Bool → Bool
+may_lose new kept = new.failed || not kept

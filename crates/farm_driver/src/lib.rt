@@ -2,12 +2,13 @@
 //!
 //! Proved: it is safe and may give up, as a `Gate`. What is heard goes to the desk of the lane that
 //! asked; a request is done only by such an answer; an entry counts as kept only where the journal
-//! has its whole line. What a lane waits for, and a request's line, take these as values that
-//! nothing else makes. Nothing is proved of turns, ranks and waking.
+//! has its whole line, and has kept it for good. What a lane waits for, and a request's line, take
+//! these as values that nothing else makes. Nothing is proved of turns, ranks and waking.
 #![tactic(auto)]
 
 mod bells;
 mod gate;
+mod keeping;
 mod known;
 mod office;
 mod question;

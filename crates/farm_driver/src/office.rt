@@ -1,17 +1,18 @@
 //! What a gate keeps under its lock.
 
-ghost use Rattle.std.specs.Prelude.{◌≡◌, IfNone, IfSome, is_some};
+ghost use Rattle.std.specs.Prelude.{◌≡◌, IfNone, IfSome, is_none, is_some};
 ghost use Rattle.drive_desk.specs.LaneDesks as desks;
 ghost use Rattle.drive_journal.specs.Entries.{IsDone};
 ghost use Rattle.drive_journal.specs.Said.{note_in};
 ghost use Rattle.farm_driver.specs.Replies as spec;
-ghost use Rattle.farm_driver.specs.Replies.{IsKept, IsLost};
+ghost use Rattle.farm_driver.specs.Replies.{IsKept, may_lose};
 
+use crate::keeping::keep_entry;
 use crate::known::{Known, LaneWords};
 use crate::question::{Question, write_question};
 use drive_desk::{Desk, Request};
 use drive_input::Heard;
-use drive_journal::{Entry, Said, write_entry};
+use drive_journal::{Entry, Said};
 use drive_notes::{Note, Notes};
 use drive_store::Journal;
 use drive_words::Answer;
@@ -195,7 +196,8 @@ impl<J: Journal + Drop> Office<J> {
 
     /// Nothing more is to be asked.
     pub fn stop(&mut self)
-        ensures { self.new.desk ≡ desks.stopped self.old.desk }
+        ensures desk { self.new.desk ≡ desks.stopped self.old.desk }
+        ensures journal { self.new.journal ≡ self.old.journal }
     {
         self.desk.stop();
         if self.phase == Phase::Open {
@@ -205,7 +207,8 @@ impl<J: Journal + Drop> Office<J> {
 
     /// Stops for a fault: nothing more is read either.
     pub fn fail(&mut self, fault: Fault)
-        ensures { self.new.desk ≡ desks.stopped self.old.desk }
+        ensures desk { self.new.desk ≡ desks.stopped self.old.desk }
+        ensures journal { self.new.journal ≡ self.old.journal }
     {
         if self.fault.is_none() {
             self.fault = Some(fault);
@@ -292,8 +295,8 @@ impl<J: Journal + Drop> Office<J> {
             × IsKept (J.state self.old.journal) (J.state self.new.journal)
             (J.is_kept self.new.journal)
             (record { lane = lane.now; number = number; note = note_in said.entry })) }
-        ensures lost { IfNone result (IsLost (J.state self.new.journal)
-            (J.is_kept self.new.journal)) }
+        ensures told { is_none result ≡ may_lose (J.state self.new.journal)
+            (J.is_kept self.new.journal) }
         ensures stopped { IfNone result (self.new.desk ≡ desks.stopped self.old.desk) }
     {
         let entry = Entry {
@@ -301,11 +304,11 @@ impl<J: Journal + Drop> Office<J> {
             number: u64::from(number),
             said,
         };
-        if write_entry(&mut self.journal, entry).is_err() || !self.journal.keep() {
-            self.fail(Fault::JournalFailed);
-            return None;
+        if keep_entry(&mut self.journal, entry) {
+            return Some(Kept { number });
         }
-        Some(Kept { number })
+        self.fail(Fault::JournalFailed);
+        None
     }
 
     /// Notes that what a lane has asked for is done, and gives the entry where it is kept; else the
@@ -315,8 +318,8 @@ impl<J: Journal + Drop> Office<J> {
             × IsKept (J.state self.old.journal) (J.state self.new.journal)
             (J.is_kept self.new.journal)
             (record { lane = lane.now; number = answered.number; note = IsDone })) }
-        ensures lost { IfNone result (IsLost (J.state self.new.journal)
-            (J.is_kept self.new.journal)) }
+        ensures told { is_none result ≡ may_lose (J.state self.new.journal)
+            (J.is_kept self.new.journal) }
         ensures stopped { IfNone result (self.new.desk ≡ desks.stopped self.old.desk) }
     {
         self.note(lane, answered.number, Said::Done)
