@@ -224,6 +224,7 @@ class Reason:
             for other in self.others(one.name):
                 found = self.excluded(one, other, "Conflicts") or self.excluded(other, one, "Conflicts")
                 if found:
+                    self.about = [one, other]
                     return found
         return []
 
