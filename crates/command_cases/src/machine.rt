@@ -6,7 +6,7 @@ use crate::streams::{StageInput, StageJournal};
 use bounded_read::read_up_to;
 use deb_text::next_line;
 use drive_store::OpenFault;
-use farm_commands::{DriveSource, Folder, Source};
+use farm_commands::{DriveSource, Folder, Source, Watch};
 use std::alloc::{AllocError, Global};
 use std::cell::Cell;
 use std::io::{self, BufReader, ErrorKind, Read};
@@ -126,6 +126,12 @@ impl<'a, D> Machine<'a, D> {
         push_lines(&mut done, b"> ", bytes)?;
         self.done.set(done);
         Ok(())
+    }
+
+    /// Notes how far a draft has come.
+    fn note_places(&self, done: usize, whole: usize) -> io::Result<()> {
+        let line = format!(in self.alloc; "placed {done} of {whole}")?;
+        self.note(&[line.as_str()], b"")
     }
 
     /// Fails where the file of this name is broken.
@@ -270,4 +276,15 @@ impl<D> Folder for Machine<'_, D> {
         self.looks.set(looks.saturating_add(1));
         looks.saturating_mul(200)
     }
+}
+
+impl<D> Watch for Machine<'_, D> {
+    /// Notes it, where the error output is a terminal.
+    fn places(&self, done: usize, whole: usize) {
+        if self.has_watcher() {
+            let _noted = self.note_places(done, whole);
+        }
+    }
+
+    fn ends(&self) {}
 }

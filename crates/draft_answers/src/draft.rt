@@ -8,7 +8,7 @@ ghost use Rattle.draft_answers.specs.View.{farm_in_files};
 ghost use Rattle.farm_input.specs.View.{texts_view};
 
 use command_line::{FarmPaths, Paths};
-use drafted_plan::{Drafted, draft_by_number, draft_by_sketch};
+use drafted_plan::{Drafted, Watch, draft_by_number, draft_by_sketch};
 use farm_answers::{
     FINE, OUTSIDE, OutsideFault, REFUSED, Source, answer_verdict, read_file, read_files, say,
     write_answer,
@@ -101,14 +101,15 @@ pub struct ByNumber<'a> {
     pub partial: bool,
 }
 
-/// Answers with a plan by the sketch of files, or with why there is none, and gives the status.
+/// Answers with a plan by the sketch of files, or with why there is none, and gives the status. The
+/// source hears how far that has come.
 ///
 /// # Errors
 ///
 /// [`OutsideFault::CannotRead`] for the first file that cannot be read;
 /// [`OutsideFault::OutOfMemory`] where memory is refused, and nothing is written then; and
 /// [`OutsideFault::WriteFailed`] where the sink fails, with a first part of the answer.
-pub fn draft_files<'a, F: Source, S: Sink, E: Sink>(
+pub fn draft_files<'a, F: Source + Watch, S: Sink, E: Sink>(
     rt: &(impl Threads + Sync),
     alloc: Global,
     source: &F,
@@ -123,7 +124,7 @@ pub fn draft_files<'a, F: Source, S: Sink, E: Sink>(
     ensures quiet { OnErr result (E.state errors.new ≡ E.state errors.old) }
 {
     let files = read_files(alloc, source, of.paths)?;
-    let drafted = draft_by_sketch(rt, alloc, files.texts(), of.rest, of.partial)?;
+    let drafted = draft_by_sketch(rt, alloc, files.texts(), of.rest, of.partial, source)?;
     tell_drafted(&drafted, out, errors)
 }
 
@@ -133,7 +134,7 @@ pub fn draft_files<'a, F: Source, S: Sink, E: Sink>(
 /// # Errors
 ///
 /// As those of [`draft_files`].
-pub fn draft_lanes<'a, F: Source, S: Sink, E: Sink>(
+pub fn draft_lanes<'a, F: Source + Watch, S: Sink, E: Sink>(
     rt: &(impl Threads + Sync),
     alloc: Global,
     source: &F,
@@ -148,6 +149,6 @@ pub fn draft_lanes<'a, F: Source, S: Sink, E: Sink>(
     ensures quiet { OnErr result (E.state errors.new ≡ E.state errors.old) }
 {
     let files = read_farm_files(alloc, source, of.paths)?;
-    let drafted = draft_by_number(rt, alloc, files.texts(), of.lanes, of.partial)?;
+    let drafted = draft_by_number(rt, alloc, files.texts(), of.lanes, of.partial, source)?;
     tell_drafted(&drafted, out, errors)
 }

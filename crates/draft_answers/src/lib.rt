@@ -7,3 +7,4 @@
 mod draft;
 
 pub use draft::{ByNumber, BySketch, draft_files, draft_lanes};
+pub use drafted_plan::Watch;

@@ -9,9 +9,11 @@ mod levels;
 mod order;
 mod placing;
 mod refusal;
+mod watch;
 mod wish;
 
 pub use order::{Ground, Order};
 pub use placing::{Placed, place};
 pub use refusal::Refusal;
+pub use watch::Watch;
 pub use wish::{LaneWish, Wish, before_of};

@@ -4,6 +4,7 @@ use crate::install::{Build, install};
 use crate::levels::{build_cost, lane_cost, levels};
 use crate::order::Order;
 use crate::refusal::Refusal;
+use crate::watch::Watch;
 use crate::wish::Wish;
 use draft_lane::{Lane, Published};
 use draft_search::Search;
@@ -371,17 +372,18 @@ impl Placing {
 
 /// Places all builds of an order: of those that can begin soonest the one with the most work behind
 /// it, in the lane in which it ends first. A build is placed behind all that it waits for, so waits
-/// are never circular.
+/// are never circular. Meanwhile somebody hears how far that has come.
 ///
 /// # Errors
 ///
 /// [`AllocError`] where memory is refused.
-pub fn place(
+pub fn place<W: Watch>(
     alloc: Global,
     farm: &FarmNumbers,
     search: &mut Search,
     wish: &Wish,
     order: &Order,
+    watch: &W,
 ) -> Result<Placed, AllocError> {
     let given = Given {
         alloc,
@@ -392,6 +394,7 @@ pub fn place(
     let mut placing = Placing::new(given)?;
     let count = order.through().len().saturating_add(1);
     for _ in 0..count.saturating_mul(count) {
+        watch.places(placing.placed, order.through().len());
         match placing.next(given) {
             Some(ready) => match placing.place_one(given, search, ready)? {
                 Some(refusal) => return Ok(Placed::Refused(refusal)),

@@ -17,6 +17,7 @@ use crate::wanted::{by_number, by_sketch};
 use crate::wish::{recipes_of, wish_of};
 use deb_text::Fault;
 use draft_notes::{About, no_chroot_note};
+use draft_order::Watch;
 use draft_wish::{Wanted, follows};
 use farm_input::Texts;
 use farm_numbering::numbers_of;
@@ -69,12 +70,13 @@ fn write_found(about: &About<'_>, found: Lanes) -> Result<Written, AllocError> {
 }
 
 /// Looks for a plan, and writes it.
-fn write(
+fn write<W: Watch>(
     alloc: Global,
     texts: Texts<'_>,
     universe: &Universe,
     wanted: &Wanted,
     is_partial: bool,
+    watch: &W,
 ) -> Result<Written, AllocError> {
     let numbers = numbers_of(alloc, universe)?;
     let about = About {
@@ -84,7 +86,7 @@ fn write(
         texts,
         lanes: &wanted.lanes,
     };
-    match look(&about, wish_of(alloc, wanted)?, is_partial)? {
+    match look(&about, wish_of(alloc, wanted)?, is_partial, watch)? {
         Looked::Found(found) => write_found(&about, found),
         Looked::Refused(lines) => Ok(Written::Refused(lines)),
         Looked::Nothing => Ok(Written::Nothing),
@@ -203,18 +205,18 @@ fn judge(
     }
 }
 
-/// Looks for a plan, writes it, and judges it.
+/// Judges a plan that was looked for and written, where there is one.
 fn answer(
     rt: &(impl Threads + Sync),
     alloc: Global,
     texts: Texts<'_>,
-    universe: &Universe,
     wanted: &Wanted,
     is_partial: bool,
+    written: Written,
 ) -> Result<Drafted, AllocError>
     ensures { IfOk result (Answers (texts_view texts.entry) is_partial wanted.now) }
 {
-    match write(alloc, texts, universe, wanted, is_partial)? {
+    match written {
         Written::Plan(text, left, told) => {
             judge(rt, alloc, texts, wanted, is_partial, (text, left, told))
         }
@@ -236,7 +238,8 @@ fn wrong(fault: Fault) -> Result<Drafted, AllocError>
 
 /// Drafts a plan by a sketch, which is the last of the texts: it has the lanes of the sketch, and
 /// each builds what the sketch builds there. With `takes_rest` all other recipes are built in some
-/// lane. With `is_partial` what is in the way is left out.
+/// lane. With `is_partial` what is in the way is left out. Meanwhile somebody hears how far that has
+/// come.
 ///
 /// The plan is accepted by [`check`], and is what was wanted.
 ///
@@ -244,12 +247,13 @@ fn wrong(fault: Fault) -> Result<Drafted, AllocError>
 ///
 /// [`AllocError`] where memory is refused.
 #[tactic(auto, unfolding(farm_input::specs::Planned::planned_of))]
-pub fn draft_by_sketch(
+pub fn draft_by_sketch<W: Watch>(
     rt: &(impl Threads + Sync),
     alloc: Global,
     texts: Texts<'_>,
     takes_rest: bool,
     is_partial: bool,
+    watch: &W,
 ) -> Result<Drafted, AllocError>
     ensures { IfOk result (AnswersSketch (texts_view texts.entry) takes_rest is_partial
         (planned_of texts.entry.packages.now texts.entry.sources.now texts.entry.farm.now
@@ -267,7 +271,8 @@ pub fn draft_by_sketch(
     match assemble(alloc, universe, texts.plan) {
         Ok(plan) => {
             let wanted = by_sketch(alloc, universe, &plan, takes_rest)?;
-            answer(rt, alloc, texts, universe, &wanted, is_partial)
+            let written = write(alloc, texts, universe, &wanted, is_partial, watch)?;
+            answer(rt, alloc, texts, &wanted, is_partial, written)
         }
         Err(fault) => wrong(fault),
     }
@@ -275,19 +280,20 @@ pub fn draft_by_sketch(
 
 /// Drafts a plan of so many lanes over the base chroots in turn, in which every recipe of the farm
 /// is built. With `is_partial` what is in the way is left out. The last of the texts is not looked
-/// at.
+/// at. Meanwhile somebody hears how far that has come.
 ///
 /// The plan is accepted by [`check`], and is what was wanted.
 ///
 /// # Errors
 ///
 /// [`AllocError`] where memory is refused.
-pub fn draft_by_number(
+pub fn draft_by_number<W: Watch>(
     rt: &(impl Threads + Sync),
     alloc: Global,
     texts: Texts<'_>,
     lanes: u32,
     is_partial: bool,
+    watch: &W,
 ) -> Result<Drafted, AllocError>
     ensures { IfOk result (AnswersNumber (texts_view texts.entry) lanes is_partial
         (universe_of texts.entry.packages.now texts.entry.sources.now texts.entry.farm.now)) }
@@ -302,5 +308,6 @@ pub fn draft_by_number(
         return Ok(Drafted::Refused(no_chroot_note(alloc)?));
     }
     let wanted = by_number(alloc, universe, lanes)?;
-    answer(rt, alloc, texts, universe, &wanted, is_partial)
+    let written = write(alloc, texts, universe, &wanted, is_partial, watch)?;
+    answer(rt, alloc, texts, &wanted, is_partial, written)
 }

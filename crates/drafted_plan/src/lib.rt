@@ -13,4 +13,5 @@ mod plan_text;
 mod wanted;
 mod wish;
 
+pub use draft_order::Watch;
 pub use drafted::{Drafted, draft_by_number, draft_by_sketch};

@@ -2,7 +2,7 @@
 
 use draft_lane::{Lane, Published};
 use draft_notes::{About, left_out_note, refusal_note, stuck_note};
-use draft_order::{Order, Placed, Wish, place};
+use draft_order::{Order, Placed, Watch, Wish, place};
 use draft_search::Search;
 use std::alloc::AllocError;
 
@@ -50,11 +50,12 @@ fn first_ones(about: &About<'_>, order: &Order, stuck: &[usize]) -> Result<Vec<u
 }
 
 /// One round: puts lines on what is in the way behind those that were told.
-fn one_round(
+fn one_round<W: Watch>(
     about: &About<'_>,
     search: &mut Search,
     wish: &Wish,
     told: &mut Vec<u8>,
+    watch: &W,
 ) -> Result<Round, AllocError> {
     let order = Order::find(about.alloc, about.numbers, search, wish)?;
     let stuck = order.stuck(about.alloc)?;
@@ -63,7 +64,9 @@ fn one_round(
         told.extend_from_slice(&lines)?;
         return Ok(Round::Stuck(first_ones(about, &order, &stuck)?));
     }
-    match place(about.alloc, about.numbers, search, wish, &order)? {
+    let placed = place(about.alloc, about.numbers, search, wish, &order, watch)?;
+    watch.ends();
+    match placed {
         Placed::Lanes(lanes, published) => Ok(Round::Found(lanes, published)),
         Placed::Refused(refusal) => {
             let lines = refusal_note(about, &refusal)?;
@@ -100,14 +103,19 @@ fn found(
 /// # Errors
 ///
 /// [`AllocError`] where memory is refused.
-pub(crate) fn look(about: &About<'_>, first: Wish, is_partial: bool) -> Result<Looked, AllocError> {
+pub(crate) fn look<W: Watch>(
+    about: &About<'_>,
+    first: Wish,
+    is_partial: bool,
+    watch: &W,
+) -> Result<Looked, AllocError> {
     let alloc = about.alloc;
     let mut search = Search::new(alloc, about.numbers)?;
     let mut wish = first;
     let mut told = Vec::new(alloc);
     let mut left: Vec<usize> = Vec::new(alloc);
     for _ in 0..=about.numbers.recipes() {
-        match one_round(about, &mut search, &wish, &mut told)? {
+        match one_round(about, &mut search, &wish, &mut told, watch)? {
             Round::Found(lanes, published) => return found(about, lanes, published, left, told),
             Round::Stuck(stuck) => {
                 if !is_partial || stuck.is_empty() {

@@ -10,6 +10,7 @@ mod imports;
 mod request;
 mod run;
 
+pub use draft_answers::Watch;
 pub use drive_answers::DriveSource;
 pub use farm_answers::{OUTSIDE, Source, WRONG_WORDS};
 pub use import_files::Folder;

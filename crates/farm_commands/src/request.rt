@@ -10,7 +10,7 @@ ghost use Rattle.farm_answers.specs.Files.{AreCalled, AreCalledWith, IsInputName
 ghost use Rattle.farm_commands.specs.Requests.{IsRequestAnswered, OnInput};
 
 use command_line::{Paths, Request};
-use draft_answers::{ByNumber, BySketch, draft_files, draft_lanes};
+use draft_answers::{ByNumber, BySketch, Watch, draft_files, draft_lanes};
 use explain_answers::answer_explain;
 use farm_answers::{
     OutsideFault, Source, answer_cert, answer_check, answer_list, answer_numbered, answer_step,
@@ -231,7 +231,7 @@ fn graph_files<'a, F: Source, S: Sink>(
 /// nothing is written then. [`OutsideFault::CutShort`] where memory is refused while a verdict is
 /// explained, and the verdict is written then, or while a certificate is written, with a first part
 /// of it. And [`OutsideFault::WriteFailed`] where the sink fails, with a first part of the answer.
-pub fn answer_request<'a, F: Source, S: Sink, E: Sink>(
+pub fn answer_request<'a, F: Source + Watch, S: Sink, E: Sink>(
     rt: &(impl Threads + Sync),
     alloc: Global,
     request: Request<'a>,

@@ -6,6 +6,7 @@ ghost use Rattle.farm_commands.specs.Runs.{ComesTo, MayComeTo, TellsFault, Tells
 use crate::imports::import_asked;
 use crate::request::answer_request;
 use command_line::{Asked, WordsFault, read_words};
+use draft_answers::Watch;
 use drive_answers::{DriveFiles, DriveSource, drive_files};
 use farm_answers::{FINE, OutsideFault, RunFiles, Source, WRONG_WORDS, run_files, say, tell};
 use import_files::Folder;
@@ -41,7 +42,7 @@ fn tell_words<'a, S: Sink, E: Sink>(
 /// # Errors
 ///
 /// The fault outside of the texts that ended it.
-fn answer_words<'a, W: AsStr, F: Source, S: Sink, E: Sink>(
+fn answer_words<'a, W: AsStr, F: Source + Watch, S: Sink, E: Sink>(
     rt: &(impl Threads + Sync),
     alloc: Global,
     words: &'a [W],
@@ -78,7 +79,7 @@ fn do_words<
     'a,
     R: Threads + Wait + Eprint + Sync,
     W: AsStr,
-    F: DriveSource + Folder,
+    F: DriveSource + Folder + Watch,
     S: Sink + Send,
     E: Sink,
 >(
@@ -133,7 +134,7 @@ fn end<E: Sink>(told: Result<u8, OutsideFault<'_>>, errors: &mut E) -> u8
 
 /// Does what words ask for, but for `run` and `drive`, which are wrong words here: as [`run_words`],
 /// for those who have no leave to wait.
-pub fn quiet_words<'a, W: AsStr, F: Source, S: Sink, E: Sink>(
+pub fn quiet_words<'a, W: AsStr, F: Source + Watch, S: Sink, E: Sink>(
     rt: &(impl Threads + Sync),
     alloc: Global,
     words: &'a [W],
@@ -164,7 +165,7 @@ pub fn run_words<
     'a,
     R: Threads + Wait + Eprint + Sync,
     W: AsStr,
-    F: DriveSource + Folder,
+    F: DriveSource + Folder + Watch,
     S: Sink + Send,
     E: Sink,
 >(rt: &R, alloc: Global, words: &'a [W], source: &F, out: &mut S, errors: &mut E) -> u8

@@ -9,12 +9,13 @@
 use bounded_read::read_up_to;
 use drive_file::{FileJournal, open_journal};
 use drive_store::OpenFault;
-use farm_commands::{DriveSource, Folder, OUTSIDE, Source, WRONG_WORDS, run_words};
+use farm_commands::{DriveSource, Folder, OUTSIDE, Source, WRONG_WORDS, Watch, run_words};
 use report_sink::{Sink, WriteSink, write_text};
 use std::alloc::{AllocError, Global};
+use std::cell::Cell;
 use std::env::{self, Env};
 use std::fs::{self, File};
-use std::io::{self, BufReader, ErrorKind, IsTerminal};
+use std::io::{self, BufReader, Eprint, ErrorKind, IsTerminal};
 use std::process::ExitCode;
 use std::rt::{Clock, Files};
 
@@ -22,12 +23,29 @@ use std::rt::{Clock, Files};
 const USAGE: &[u8] =
     b"portfarm: no words, and standard input is a terminal\nUsage: portfarm <COMMAND>, or four texts on standard input; portfarm --help tells more\n";
 
+/// How long nothing is told of a draft, and how long from one line on it to the next, in
+/// milliseconds.
+const QUIET: u64 = 500;
+
+const PACE: u64 = 100;
+
 /// The files and the standard input of a machine, and whether its error output is a terminal.
 #[derive(Drop)]
 struct Machine<'a, R> {
     rt: &'a R,
     is_watched: bool,
     is_typed: bool,
+    /// When a line on a draft is due, by its clock, and whether one stands there.
+    is_due: Cell<u64>,
+    has_told: Cell<bool>,
+}
+
+/// What a clock shows, in milliseconds.
+fn milliseconds_of(clock: &impl Clock) -> u64 {
+    match clock.since_1970() {
+        Ok(time) => u64::try_from(time.as_millis()).unwrap_or(0),
+        Err(_) => 0,
+    }
 }
 
 impl<R: Files + Input> Source for Machine<'_, R> {
@@ -112,9 +130,24 @@ impl<R: Files + Input + Clock> Folder for Machine<'_, R> {
     }
 
     fn milliseconds(&self) -> u64 {
-        match self.rt.since_1970() {
-            Ok(time) => u64::try_from(time.as_millis()).unwrap_or(0),
-            Err(_) => 0,
+        milliseconds_of(self.rt)
+    }
+}
+
+impl<R: Clock + Eprint> Watch for Machine<'_, R> {
+    fn places(&self, done: usize, whole: usize) {
+        let now = milliseconds_of(self.rt);
+        if !self.is_watched || now < self.is_due.get() {
+            return;
+        }
+        self.is_due.set(now.saturating_add(PACE));
+        self.has_told.set(true);
+        let _written = eprint!(self.rt; "\r\x1b[Kdrafting {done} of {whole} builds");
+    }
+
+    fn ends(&self) {
+        if self.has_told.replace(false) {
+            let _written = eprint!(self.rt; "\r\x1b[K");
         }
     }
 }
@@ -154,6 +187,8 @@ fn main(rt: HostRuntime) -> ExitCode {
         rt: &rt,
         is_watched: stderr.is_terminal(),
         is_typed: rt.stdin().is_terminal(),
+        is_due: Cell::new(milliseconds_of(&rt).saturating_add(QUIET)),
+        has_told: Cell::new(false),
     };
     let status = run_words(
         &rt,
