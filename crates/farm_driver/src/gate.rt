@@ -3,7 +3,7 @@
 use crate::bells::Bells;
 use crate::known::Known;
 use crate::office::{Answered, Fault, Kept, Office, Phase, Reply};
-use crate::question::{Asked, Begun, Question, instruction_at, write_question};
+use crate::question::{Asked, Begun, Listened, Question, instruction_at, write_question};
 use drive_input::{Heard, Input};
 use drive_journal::Said;
 use drive_notes::Note;
@@ -35,16 +35,6 @@ pub struct DriverGate<'a, R: Wait, I: BufRead + Drop, S: Sink + Drop, J: Journal
     input: Mutex<Input<I>>,
 }
 
-/// What a lane hears of what it has asked.
-enum Listened {
-    /// It is to read the driver's next line.
-    Read,
-    /// What it publishes is done.
-    Published(Answered),
-    /// It is done, and an entry of that is kept; or nothing comes of it.
-    Noted(Option<Kept>),
-}
-
 impl<'a, R: Wait, I: BufRead + Drop, S: Sink + Drop, J: Journal + Drop> DriverGate<'a, R, I, S, J> {
     /// A gate over these streams.
     ///
@@ -60,13 +50,14 @@ impl<'a, R: Wait, I: BufRead + Drop, S: Sink + Drop, J: Journal + Drop> DriverGa
         journal: J,
     ) -> Result<DriverGate<'a, R, I, S, J>, AllocError> {
         let office = Office::new(alloc, known.lanes.as_slice(), &known.notes, journal)?;
+        let bells = Bells::new(alloc, known.lanes.len())?;
         Ok(DriverGate {
             rt,
             alloc,
             known,
             office: Mutex::new(office),
             out: Mutex::new(out),
-            bells: Bells::new(),
+            bells,
             input: Mutex::new(input),
         })
     }
@@ -191,7 +182,7 @@ impl<R: Wait, I: BufRead + Drop, S: Sink + Drop, J: Journal + Drop> DriverGate<'
 
     /// Writes the lines that are to be written, and those that come meanwhile. One lane does it at a
     /// time, without the office's lock.
-    fn write_lines(&self, lines: Option<Vec<u8>>) {
+    fn write_lines(&self, lane: u32, lines: Option<Vec<u8>>) {
         let mut next = lines;
         for _ in self.rt.forever() {
             let Some(lines) = next else {
@@ -203,11 +194,9 @@ impl<R: Wait, I: BufRead + Drop, S: Sink + Drop, J: Journal + Drop> DriverGate<'
             }
             let mut office = self.office.lock(self.rt);
             next = office.more_lines(lines);
-            let is_idle = office.is_idle();
+            let reader = office.next_reader(lane);
             drop(office);
-            if is_idle {
-                self.bells.answered.notify_one();
-            }
+            self.bells.wake(reader);
         }
     }
 
@@ -221,7 +210,7 @@ impl<R: Wait, I: BufRead + Drop, S: Sink + Drop, J: Journal + Drop> DriverGate<'
         let begun = self.put_in(&mut office, question);
         let lines = office.lines(self.alloc);
         drop(office);
-        self.write_lines(lines);
+        self.write_lines(question.place.lane, lines);
         begun
     }
 
@@ -233,7 +222,7 @@ impl<R: Wait, I: BufRead + Drop, S: Sink + Drop, J: Journal + Drop> DriverGate<'
         let lines = office.lines(self.alloc);
         drop(office);
         self.bells.pass_on(next);
-        self.write_lines(lines);
+        self.write_lines(question.place.lane, lines);
         begun
     }
 
@@ -243,9 +232,9 @@ impl<R: Wait, I: BufRead + Drop, S: Sink + Drop, J: Journal + Drop> DriverGate<'
         let office = self.office.lock(self.rt);
         let mut office = self
             .bells
-            .answered
+            .of(lane)
             .wait_while(self.rt, office, |office| office.must_listen(lane));
-        match office.reply(lane) {
+        let listened = match office.reply(lane) {
             Reply::Read => Listened::Read,
             Reply::Failed | Reply::None => Listened::Noted(None),
             Reply::Done(answered) => {
@@ -255,7 +244,13 @@ impl<R: Wait, I: BufRead + Drop, S: Sink + Drop, J: Journal + Drop> DriverGate<'
                     Listened::Noted(office.note_done(self.known.lane(lane), answered))
                 }
             }
-        }
+        };
+        let lines = office.lines(self.alloc);
+        let reader = office.next_reader(lane);
+        drop(office);
+        self.bells.wake(reader);
+        self.write_lines(lane, lines);
+        listened
     }
 
     /// Notes that a publish was answered, with the archive's turn for so many outputs. Gives the
@@ -314,8 +309,9 @@ impl<R: Wait + Eprint, I: BufRead + Drop, S: Sink + Drop, J: Journal + Drop> Dri
         );
     }
 
-    /// Reads what the driver says, one line or those that are there, and wakes the lanes that wait.
-    fn read(&self, accepted: &Accepted) {
+    /// Reads what the driver says, one line or those that are there, and wakes the lanes that have
+    /// answers. The lane that reads looks for its own one then.
+    fn read(&self, lane: u32, accepted: &Accepted) {
         let mut input = self.input.lock(self.rt);
         let mut heard = input.next(accepted.plan());
         let mut office = self.office.lock(self.rt);
@@ -327,10 +323,12 @@ impl<R: Wait + Eprint, I: BufRead + Drop, S: Sink + Drop, J: Journal + Drop> Dri
             heard = input.next(accepted.plan());
             is_taken = office.hear(heard);
         }
-        let phase = office.phase;
+        let concerned = office.concerned(self.alloc);
+        let lines = office.lines(self.alloc);
         drop(office);
         drop(input);
-        self.bells.answer(phase);
+        self.bells.answer(&concerned);
+        self.write_lines(lane, lines);
         match heard {
             Heard::Line(answer) if !is_taken => self.tell_passed(answer),
             _ => {}
@@ -342,7 +340,7 @@ impl<R: Wait + Eprint, I: BufRead + Drop, S: Sink + Drop, J: Journal + Drop> Dri
         let lane = question.place.lane;
         for _ in self.rt.forever() {
             match self.listen(lane, outputs) {
-                Listened::Read => self.read(question.place.accepted),
+                Listened::Read => self.read(lane, question.place.accepted),
                 Listened::Published(answered) => {
                     return self.note_published(lane, answered, outputs);
                 }

@@ -7,6 +7,7 @@ ghost use Rattle.drive_journal.specs.Said.{note_in};
 ghost use Rattle.farm_driver.specs.Replies as spec;
 ghost use Rattle.farm_driver.specs.Replies.{IsKept, may_lose};
 
+use crate::bells::{Concerned, Next};
 use crate::keeping::keep_entry;
 use crate::known::{Known, LaneWords};
 use crate::question::{Question, write_question};
@@ -95,17 +96,6 @@ pub enum Reply {
     Read,
 }
 
-/// Whom the end of a turn at the archive concerns.
-#[derive(Clone, Copy, PartialEq, Eq)]
-pub enum Next {
-    /// Any one of those that wait for a turn: all of them are at something new.
-    Any,
-    /// Each of them: one alone may be next.
-    Each,
-    /// All lanes, since the run is being stopped.
-    Stopped,
-}
-
 /// What a gate keeps under its lock.
 #[derive(Drop)]
 pub struct Office<J> {
@@ -117,6 +107,11 @@ pub struct Office<J> {
     seen: Vec<u64>,
     has_ended: bool,
     is_reading: bool,
+    // how many answers no lane has taken yet, and the lanes that are to be told of theirs; where
+    // memory for that is refused, all are
+    untaken: usize,
+    answered: Vec<u32>,
+    tells_all: bool,
     // lines whose entries are kept, and whether a lane writes such
     lines: Vec<u8>,
     is_writing: bool,
@@ -160,6 +155,9 @@ impl<J: Journal + Drop> Office<J> {
             seen,
             has_ended: false,
             is_reading: false,
+            untaken: 0,
+            answered: Vec::new(alloc),
+            tells_all: false,
             lines: Vec::new(alloc),
             is_writing: false,
             cause: None,
@@ -346,9 +344,16 @@ impl<J: Journal + Drop> Office<J> {
         is_added
     }
 
-    /// The lines that the caller is to write, unless there is none, or another lane writes.
+    /// Tells whether no line is to be written yet: there is none, or a lane has an answer to take
+    /// and may ask more, which then goes out in the same write.
+    fn has_no_lines(&self) -> bool {
+        self.lines.is_empty() || (self.untaken > 0 && !self.has_ended)
+    }
+
+    /// The lines that the caller is to write, if any are, unless another lane writes. To be called
+    /// behind whatever may have made them due.
     pub fn lines(&mut self, alloc: Global) -> Option<Vec<u8>> {
-        if self.is_writing || self.lines.is_empty() {
+        if self.is_writing || self.has_no_lines() {
             return None;
         }
         self.is_writing = true;
@@ -357,7 +362,7 @@ impl<J: Journal + Drop> Office<J> {
 
     /// The lines that have come while these were written, which the caller is to write too.
     pub fn more_lines(&mut self, written: Vec<u8>) -> Option<Vec<u8>> {
-        if self.lines.is_empty() {
+        if self.has_no_lines() {
             self.is_writing = false;
             return None;
         }
@@ -382,16 +387,41 @@ impl<J: Journal + Drop> Office<J> {
         self.desk.withdraw(lane);
     }
 
-    /// Tells whether a lane is to wait while another one reads, or writes: nobody reads before what
-    /// was asked by then is out.
+    /// Tells whether a lane is to wait while another one reads, or writes.
     pub fn must_listen(&self, lane: u32) -> bool {
         let is_answered = matches!(self.desk.request(lane), Request::Answered { .. });
         !is_answered && !self.has_ended && (self.is_reading || self.is_writing)
     }
 
-    /// Tells whether no lane reads or writes.
-    pub fn is_idle(&self) -> bool {
-        !self.is_reading && !self.is_writing
+    /// The lane that is to be woken to read, once this one goes on: where nobody reads or writes,
+    /// this lane waits for nothing itself, and that one does.
+    pub fn next_reader(&self, lane: u32) -> Option<u32> {
+        let is_cared_for = self.is_reading || self.is_writing || self.has_ended;
+        if is_cared_for || !matches!(self.desk.request(lane), Request::Idle) {
+            return None;
+        }
+        self.first_open()
+    }
+
+    /// The first lane that waits for an answer.
+    fn first_open(&self) -> Option<u32> {
+        let lanes = u32::try_from(self.seen.len()).unwrap_or(u32::MAX);
+        for lane in 0..lanes {
+            if matches!(self.desk.request(lane), Request::Open(_)) {
+                return Some(lane);
+            }
+        }
+        None
+    }
+
+    /// Whom what was heard since the last call concerns.
+    pub fn concerned(&mut self, alloc: Global) -> Concerned {
+        let lanes = mem::replace(&mut self.answered, Vec::new(alloc));
+        if self.phase == Phase::Open && !self.tells_all {
+            Concerned::Lanes(lanes)
+        } else {
+            Concerned::All
+        }
     }
 
     /// The reply to what a lane has asked.
@@ -402,6 +432,7 @@ impl<J: Journal + Drop> Office<J> {
         let request = self.desk.request(lane);
         if let Request::Answered { number, done } = request {
             let _taken = self.desk.take(lane);
+            self.untaken = self.untaken.saturating_sub(1);
             return if done {
                 Reply::Done(Answered { number })
             } else {
@@ -422,6 +453,11 @@ impl<J: Journal + Drop> Office<J> {
         ensures after { self.new.desk ≡ spec.desks_given self.old.desk lane number done }
     {
         let is_taken = self.desk.post(lane, number, done);
+        if is_taken {
+            self.untaken = self.untaken.saturating_add(1);
+            let is_noted = self.answered.push(lane).is_ok();
+            self.tells_all = self.tells_all || !is_noted;
+        }
         if is_taken && !done {
             let _is_cause = self.elect(lane);
         }

@@ -1,7 +1,7 @@
 //! What a lane asks a driver for.
 
 use crate::known::Known;
-use crate::office::Kept;
+use crate::office::{Answered, Kept};
 use drive_notes::Note;
 use drive_words::{Head, write_instruction, write_open, write_unpack};
 use farm_universe::Variant;
@@ -35,6 +35,16 @@ pub enum Begun {
     Yes,
     Stopping,
     Halted,
+}
+
+/// What a lane hears of what it has asked.
+pub enum Listened {
+    /// It is to read the driver's next line.
+    Read,
+    /// What it publishes is done.
+    Published(Answered),
+    /// It is done, and an entry of that is kept; or nothing comes of it.
+    Noted(Option<Kept>),
 }
 
 /// The instruction that a lane stands at.
