@@ -387,17 +387,21 @@ impl<J: Journal + Drop> Office<J> {
         self.desk.withdraw(lane);
     }
 
-    /// Tells whether a lane is to wait while another one reads, or writes.
-    pub fn must_listen(&self, lane: u32) -> bool {
-        let is_answered = matches!(self.desk.request(lane), Request::Answered { .. });
-        !is_answered && !self.has_ended && (self.is_reading || self.is_writing)
+    /// Tells whether no lane is to begin to read: one reads or writes, or lines wait to be written,
+    /// since nobody reads before what was asked by then is out; or there is nothing more to read.
+    fn is_cared_for(&self) -> bool {
+        self.is_reading || self.is_writing || !self.lines.is_empty() || self.has_ended
     }
 
-    /// The lane that is to be woken to read, once this one goes on: where nobody reads or writes,
-    /// this lane waits for nothing itself, and that one does.
+    /// Tells whether a lane is to wait until it has an answer, or is to read.
+    pub fn must_listen(&self, lane: u32) -> bool {
+        let is_answered = matches!(self.desk.request(lane), Request::Answered { .. });
+        !is_answered && !self.has_ended && self.is_cared_for()
+    }
+
+    /// The lane that is to be woken to read, once this one goes on, which waits for nothing itself.
     pub fn next_reader(&self, lane: u32) -> Option<u32> {
-        let is_cared_for = self.is_reading || self.is_writing || self.has_ended;
-        if is_cared_for || !matches!(self.desk.request(lane), Request::Idle) {
+        if self.is_cared_for() || !matches!(self.desk.request(lane), Request::Idle) {
             return None;
         }
         self.first_open()
