@@ -19,10 +19,11 @@ use Rattle.deb_version.specs.Grammar.{version_at}
 use Rattle.deb_version.specs.Order.{Parts}
 use Rattle.farm_model.specs.Universe.{Package}
 use Rattle.farm_universe.specs.declared.limits.TheConstants.{MOST_SIZE}
+use Rattle.farm_universe.specs.FieldView.{first_relations_in}
 use Rattle.farm_universe.specs.Fields.{needed_at, package_name_at, version_text_at, up_to, size_at, flag_at}
 use Rattle.farm_universe.specs.Keyed.{keys_with, groups_with}
-use Rattle.farm_universe.specs.PackagesText.{Listed, PackageTable, is_below, table_of, packages_of}
-use Rattle.farm_universe.specs.TableSteps.{first_package_at, first_package_relations_at, put_at, code_at, add, add_paragraph, tell_paragraph}
+use Rattle.farm_universe.specs.PackagesText.{Listed, PackageTable, package_by, package_relations_by, is_below, table_of, packages_of}
+use Rattle.farm_universe.specs.TableSteps.{first_package_at, put_at, code_at, add, add_paragraph, tell_paragraph}
 use Rattle.farm_universe.specs.TableView.{IsOrderly, IsFit}
 use Rattle.farm_universe.proofs.FitLaws.{IsFit-put}
 use Rattle.farm_universe.proofs.TableLaws.{steps-packages_of}
@@ -75,7 +76,7 @@ size-has None = omega arith
 size-has (Some text) = up_to-has (number_at text)
 
 package-has : (p : Paragraph) → IfOk (first_package_at p) IsSpelledListed
-unfolding first_package_at
+unfolding package_by
 package-has p =
     let field : (name : List ℕ) → IfOk (needed_at p name) (λ _. Unit {0}) =
     λ name. always (needed_at p name) in
@@ -92,7 +93,7 @@ package-has p =
     (size-has (value_of p (codes "Installed-Size")))
     (λ size small. then-has (λ _. Unit {0}) IsSpelledListed
     (flag_at (value_of p (codes "Essential"))) _ (always _)
-    (λ _ _. then-has (λ _. Unit {0}) IsSpelledListed (first_package_relations_at p) _ (always _)
+    (λ _ _. then-has (λ _. Unit {0}) IsSpelledListed (package_relations_by first_relations_in p) _ (always _)
     (λ _ _. record { name = named; version = is; small = small })))))))
 
 -- ---- a table with one more package

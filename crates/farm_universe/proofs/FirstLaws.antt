@@ -24,11 +24,11 @@ use Rattle.farm_universe.specs.FieldView.{first_entries, first_relations_in}
 use Rattle.farm_universe.specs.Fields.{needed_at, package_name_at, version_text_at, number_up_to, size_at, flag_at, relations_in, refused_if}
 use Rattle.farm_universe.specs.Keyed.{group_at, keys_with}
 use Rattle.farm_universe.specs.Land.{Land}
-use Rattle.farm_universe.specs.PackagesText.{Listed, PackageTable, package_relations_at, package_at, entry_count, first_code, is_same}
+use Rattle.farm_universe.specs.PackagesText.{Listed, PackageTable, package_by, package_relations_by, package_at, entry_count, first_code, is_same}
 use Rattle.farm_universe.specs.RecipeSteps.{first_source_in, first_of_build, first_build_at, first_recipe_at}
-use Rattle.farm_universe.specs.RecipeText.{source_in, one_source, build_at, build_entries, is_build_over, new_outputs, recipe_at, recipe_name}
+use Rattle.farm_universe.specs.RecipeText.{source_in, one_source, build_at, build_entries, is_build_over, new_outputs, recipe_at, recipe_by, recipe_name}
 use Rattle.farm_universe.specs.SourcesText.{SourceTable}
-use Rattle.farm_universe.specs.TableSteps.{first_package_relations_at, first_package_at, put_at, code_at, add}
+use Rattle.farm_universe.specs.TableSteps.{first_package_at, put_at, code_at, add}
 use Rattle.farm_universe.specs.View.{refusal_of}
 use Rattle.farm_universe.proofs.FitLaws.{room}
 
@@ -141,9 +141,9 @@ field-behind kind value k f g same =
     ∙ cut-behind first_entries (relations_in kind value) k f g same
 
 fields-first : (p : Paragraph)
-    → first_package_relations_at p
-    ≡ (package_relations_at p >>= λ fields. Ok (first_of_fields fields))
-unfolding first_package_relations_at package_relations_at
+    → package_relations_by first_relations_in p
+    ≡ (package_relations_by relations_in p >>= λ fields. Ok (first_of_fields fields))
+unfolding package_relations_by
 fields-first p =
     field-behind Need (value_of p (codes "Pre-Depends")) _ _ _ (λ pre_depends.
     field-behind Need (value_of p (codes "Depends")) _ _ _ (λ depends.
@@ -153,7 +153,7 @@ fields-first p =
 
 package-first : (p : Paragraph)
     → first_package_at p ≡ (package_at p >>= λ listed. Ok (first_of_listed listed))
-unfolding first_package_at package_at
+unfolding package_by
 package-first p =
     goes-behind (needed_at p (codes "Package")) _ _ _ (λ given.
     goes-behind (package_name_at given) _ _ _ (λ name.
@@ -335,7 +335,7 @@ build-goes land p k h same = cut-goes first_of_build (build_at land p) k h same
 
 recipe-first : (land : Land) (before : List Recipe) (p : Paragraph) (given : List ℕ)
     → first_recipe_at land before p given ≡ recipe_at land before p given
-unfolding first_recipe_at recipe_at
+unfolding recipe_by
 recipe-first land before p given =
     goes-on (recipe_name before given) _ _ (λ name.
     build-goes land p _ _ (λ build.

@@ -1,6 +1,7 @@
 -- The packages text: a paragraph for each version of a package (Debian Policy 5.3), and what all of
 -- them say.
 --
+--   package_by read p   what a paragraph says, its relation fields by this reader of a field
 --   package_at p        what a paragraph says, or its first fault
 --   table_of ps         the names by number, and the packages of each by version
 --   package_fault       what is wrong with a package behind those before it
@@ -15,6 +16,8 @@ use Rattle.deb_text.specs.Groups.{distinct, sorted}
 use Rattle.deb_text.specs.Steps.{◌>>=◌, goods, item_fault}
 use Rattle.deb_stanza.specs.Stanza.{Paragraph, value_of}
 use Rattle.deb_version.specs.Grammar.{text_cmp}
+use Rattle.deb_relation.specs.Relations.{Relations}
+use Rattle.deb_relation.specs.declared.kind.Kind.{Kind}
 use Rattle.deb_relation.specs.declared.kind.Kind.TheVariants.{Need, Clash, Provide}
 use Rattle.farm_universe.specs.declared.error.TheConstants.{TWICE, TOO_MANY_VARIANTS, OVER_LIMIT}
 use Rattle.farm_universe.specs.declared.limits.TheConstants.{MOST_NAMES, MOST_ENTRIES, MOST_VARIANTS}
@@ -28,14 +31,16 @@ pub record Listed : Type 0 where
   pub name : List ℕ
   pub binary : Package
 
--- the relation fields in the order in which they are looked at (Policy 7)
-unfoldable pub package_relations_at : Paragraph → Result PackageRelations ℕ
-package_relations_at p = do
-  pre_depends ← relations_in Need (value_of p (codes "Pre-Depends"))
-  depends ← relations_in Need (value_of p (codes "Depends"))
-  conflicts ← relations_in Clash (value_of p (codes "Conflicts"))
-  breaks ← relations_in Clash (value_of p (codes "Breaks"))
-  provides ← relations_in Provide (value_of p (codes "Provides"))
+-- the relation fields in the order in which they are looked at (Policy 7), each by a reader of
+-- fields of its kind, which may be absent
+unfoldable pub package_relations_by : (Kind → Option (List ℕ) → Result Relations ℕ) → Paragraph
+    → Result PackageRelations ℕ
+package_relations_by read p = do
+  pre_depends ← read Need (value_of p (codes "Pre-Depends"))
+  depends ← read Need (value_of p (codes "Depends"))
+  conflicts ← read Clash (value_of p (codes "Conflicts"))
+  breaks ← read Clash (value_of p (codes "Breaks"))
+  provides ← read Provide (value_of p (codes "Provides"))
   Ok (record {
     pre_depends = pre_depends;
     depends = depends;
@@ -45,15 +50,16 @@ package_relations_at p = do
   })
 
 -- the fields in the order in which they are looked at
-unfoldable pub package_at : Paragraph → Result Listed ℕ
-package_at p = do
+unfoldable pub package_by : (Kind → Option (List ℕ) → Result Relations ℕ) → Paragraph
+    → Result Listed ℕ
+package_by read p = do
   given ← needed_at p (codes "Package")
   name ← package_name_at given
   spelled ← needed_at p (codes "Version")
   version ← version_text_at spelled
   size ← size_at (value_of p (codes "Installed-Size"))
   essential ← flag_at (value_of p (codes "Essential"))
-  relations ← package_relations_at p
+  relations ← package_relations_by read p
   Ok (record {
     name = name;
     binary = record {
@@ -67,6 +73,9 @@ package_at p = do
       provides = relations.provides;
     };
   })
+
+abbrev pub package_at : Paragraph → Result Listed ℕ
+package_at p = package_by relations_in p
 
 -- ---- what all of them say
 

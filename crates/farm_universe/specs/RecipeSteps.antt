@@ -4,20 +4,18 @@
 --   first_source_in sources text            the source that a value names
 --   first_build_at land p                   what is built, and how
 --   first_recipe_at land before p given     what a paragraph says
-use Rattle.std.specs.Prelude.{ℕ, List, map, sum, length, Result, Ok, ok_or, codes}
+use Rattle.std.specs.Prelude.{ℕ, List, Result, Ok, ok_or}
 use Rattle.deb_text.specs.Steps.{◌>>=◌}
-use Rattle.deb_stanza.specs.Stanza.{Paragraph, value_of}
+use Rattle.deb_stanza.specs.Stanza.{Paragraph}
 use Rattle.deb_relation.specs.declared.kind.Kind.TheVariants.{Provide}
 use Rattle.deb_relation.specs.Field.{first_relations_at}
 use Rattle.farm_model.specs.Universe.{Recipe}
 use Rattle.farm_universe.specs.declared.build.Build.{Build}
-use Rattle.farm_universe.specs.declared.error.TheConstants.{OVER_LIMIT, UNKNOWN_SOURCE}
-use Rattle.farm_universe.specs.declared.limits.TheConstants.{MOST_SIZE}
+use Rattle.farm_universe.specs.declared.error.TheConstants.{UNKNOWN_SOURCE}
 use Rattle.farm_universe.specs.declared.sources.Source.{Source}
 use Rattle.farm_universe.specs.FieldView.{first_entries}
-use Rattle.farm_universe.specs.Fields.{needed_at, number_up_to, size_at, refused_if}
 use Rattle.farm_universe.specs.Land.{Land}
-use Rattle.farm_universe.specs.RecipeText.{build_at, build_entries, is_build_over, new_outputs, one_source, recipe_name}
+use Rattle.farm_universe.specs.RecipeText.{build_at, one_source, recipe_by}
 use Rattle.farm_universe.specs.SourcesText.{SourceTable}
 
 -- two items tell as well as all that there is not one
@@ -35,22 +33,5 @@ first_of_build build = record {
 unfoldable pub first_build_at : Land → Paragraph → Result Build ℕ
 first_build_at land p = build_at land p >>= λ build. Ok (first_of_build build)
 
--- the fields in the order in which recipe_at looks at them
-unfoldable pub first_recipe_at : Land → List Recipe → Paragraph → List ℕ → Result Recipe ℕ
-first_recipe_at land before p given = do
-  name ← recipe_name before given
-  build ← first_build_at land p
-  spent ← needed_at p (codes "Steps")
-  steps ← number_up_to MOST_SIZE spent
-  scratch ← size_at (value_of p (codes "Scratch"))
-  outputs ← new_outputs land before p
-  free ← refused_if (is_build_over (length before) (sum (map build_entries before)) build)
-      OVER_LIMIT
-  Ok (record {
-    name = name;
-    steps = steps;
-    scratch = scratch;
-    needs = build.needs;
-    clashes = build.clashes;
-    outputs = outputs;
-  })
+abbrev pub first_recipe_at : Land → List Recipe → Paragraph → List ℕ → Result Recipe ℕ
+first_recipe_at land before p given = recipe_by first_build_at land before p given

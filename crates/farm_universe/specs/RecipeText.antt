@@ -3,7 +3,9 @@
 --
 --   source_in sources text      the source that a value `name (= version)` names
 --   mode_at, active_profiles_at  the mode of a build; its active profiles
---   recipe_at land before p     what a paragraph says, behind the recipes before it
+--   recipe_by read land before p    what a paragraph says, after the recipes before it, what is
+--                                   built by this reader
+--   recipe_at land before p     what a paragraph says, after the recipes before it
 use Rattle.std.specs.Prelude.{ℕ, ◌+◌, Bool, ◌||◌, nat_lt, nat_le, List, [], ◌∷◌, ◌++◌, map, sum, length, Option, Some, None, Result, Ok, Err, ok_or, if◌then◌else◌, codes}
 use Rattle.std.specs.List.{list_any}
 use Rattle.std.specs.Option.{option_and_then}
@@ -127,11 +129,13 @@ new_outputs land before p = do
   free ← refused_if (list_any (is_taken land.initial before) outputs) TAKEN
   Ok outputs
 
--- the fields in the order in which they are looked at; Scratch as Installed-Size is
-unfoldable pub recipe_at : Land → List Recipe → Paragraph → List ℕ → Result Recipe ℕ
-recipe_at land before p given = do
+-- the fields in the order in which they are looked at, what is built by this reader of it; Scratch
+-- as Installed-Size is
+unfoldable pub recipe_by : (Land → Paragraph → Result Build ℕ) → Land → List Recipe → Paragraph
+    → List ℕ → Result Recipe ℕ
+recipe_by read land before p given = do
   name ← recipe_name before given
-  build ← build_at land p
+  build ← read land p
   spent ← needed_at p (codes "Steps")
   steps ← number_up_to MOST_SIZE spent
   scratch ← size_at (value_of p (codes "Scratch"))
@@ -146,3 +150,6 @@ recipe_at land before p given = do
     clashes = build.clashes;
     outputs = outputs;
   })
+
+abbrev pub recipe_at : Land → List Recipe → Paragraph → List ℕ → Result Recipe ℕ
+recipe_at land before p given = recipe_by build_at land before p given

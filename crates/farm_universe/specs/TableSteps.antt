@@ -5,59 +5,20 @@
 --                         tell that there are too many
 --   put_at                the table with one more package, where its name's number is known
 --   add, add_paragraph    the table after a package, and after a paragraph
-use Rattle.std.specs.Prelude.{ℕ, ◌+◌, Option, Result, Ok, codes}
+use Rattle.std.specs.Prelude.{ℕ, ◌+◌, Option, Result}
 use Rattle.std.specs.Str.{bytes_eq}
 use Rattle.deb_text.specs.declared.fault.Fault.{Fault}
 use Rattle.deb_text.specs.declared.files.TheConstants.{PACKAGES}
 use Rattle.deb_text.specs.Groups.{in_order, place_in}
-use Rattle.deb_text.specs.Steps.{◌>>=◌, answer, read_step}
-use Rattle.deb_stanza.specs.Stanza.{Paragraph, value_of}
-use Rattle.deb_relation.specs.declared.kind.Kind.TheVariants.{Need, Clash, Provide}
-use Rattle.farm_universe.specs.declared.binary.PackageRelations.{PackageRelations}
+use Rattle.deb_text.specs.Steps.{answer, read_step}
+use Rattle.deb_stanza.specs.Stanza.{Paragraph}
 use Rattle.farm_universe.specs.FieldView.{first_relations_in}
-use Rattle.farm_universe.specs.Fields.{needed_at, package_name_at, version_text_at, size_at, flag_at}
 use Rattle.farm_universe.specs.Keyed.{keys_with, group_at, groups_with}
-use Rattle.farm_universe.specs.PackagesText.{Listed, PackageTable, entry_count, is_below, first_code, rules_of}
+use Rattle.farm_universe.specs.PackagesText.{Listed, PackageTable, package_by, entry_count, is_below, first_code, rules_of}
 use Rattle.farm_universe.specs.Told.{told}
 
-unfoldable pub first_package_relations_at : Paragraph → Result PackageRelations ℕ
-first_package_relations_at p = do
-  pre_depends ← first_relations_in Need (value_of p (codes "Pre-Depends"))
-  depends ← first_relations_in Need (value_of p (codes "Depends"))
-  conflicts ← first_relations_in Clash (value_of p (codes "Conflicts"))
-  breaks ← first_relations_in Clash (value_of p (codes "Breaks"))
-  provides ← first_relations_in Provide (value_of p (codes "Provides"))
-  Ok (record {
-    pre_depends = pre_depends;
-    depends = depends;
-    conflicts = conflicts;
-    breaks = breaks;
-    provides = provides;
-  })
-
--- the fields in the order in which package_at looks at them
-unfoldable pub first_package_at : Paragraph → Result Listed ℕ
-first_package_at p = do
-  given ← needed_at p (codes "Package")
-  name ← package_name_at given
-  spelled ← needed_at p (codes "Version")
-  version ← version_text_at spelled
-  size ← size_at (value_of p (codes "Installed-Size"))
-  essential ← flag_at (value_of p (codes "Essential"))
-  relations ← first_package_relations_at p
-  Ok (record {
-    name = name;
-    binary = record {
-      version = version;
-      size = size;
-      essential = essential;
-      pre_depends = relations.pre_depends;
-      depends = relations.depends;
-      conflicts = relations.conflicts;
-      breaks = relations.breaks;
-      provides = relations.provides;
-    };
-  })
+abbrev pub first_package_at : Paragraph → Result Listed ℕ
+first_package_at p = package_by first_relations_in p
 
 -- a package of the name with this number, or of a new name
 abbrev pub put_at : PackageTable → Option ℕ → Listed → PackageTable

@@ -3,7 +3,9 @@
 ghost use Rattle.std.specs.Prelude.{IfOk, ◌<◌, ◌≤◌, length};
 ghost use Rattle.deb_stanza.specs.Stanza.{paragraph_at};
 ghost use Rattle.deb_text.specs.Answers.{Gives};
-ghost use Rattle.farm_universe.specs.TableSteps.{first_package_at, first_package_relations_at};
+ghost use Rattle.farm_universe.specs.FieldView.{first_relations_in};
+ghost use Rattle.farm_universe.specs.PackagesText.{package_relations_by};
+ghost use Rattle.farm_universe.specs.TableSteps.{first_package_at};
 ghost use Rattle.farm_universe.specs.View.{refusal_of};
 ghost use Rattle.farm_universe.specs.Parts.{AreReads};
 ghost use Rattle.farm_universe.specs.TableView.{listed_view, IsListedPackage};
@@ -27,13 +29,13 @@ pub struct Listed {
 }
 
 /// Reads the relation fields of a paragraph.
-#[tactic(auto, unfolding(crate::specs::TableSteps::first_package_relations_at))]
+#[tactic(auto, unfolding(crate::specs::PackagesText::package_relations_by))]
 fn read_package_relations(
     alloc: Global,
     paragraph: &Paragraph,
 ) -> Result<PackageRelations, FieldFault>
     ensures { Gives refusal_of (λ relations. relations) result
-        (first_package_relations_at paragraph.now) }
+        (package_relations_by first_relations_in paragraph.now) }
 {
     Ok(PackageRelations {
         pre_depends: read_relations(alloc, Kind::Need, paragraph.field(b"Pre-Depends"))?,
@@ -51,7 +53,7 @@ fn read_package_relations(
 /// The first of 201 and 121 of `Package`, 201 and 111 to 114 of `Version`, 202 of `Installed-Size`
 /// and of `Essential`, and 121 to 129 of the relation fields. [`FieldFault::Memory`] where memory
 /// is refused.
-#[tactic(auto, unfolding(crate::specs::TableSteps::first_package_at))]
+#[tactic(auto, unfolding(crate::specs::PackagesText::package_by))]
 pub fn read_package(alloc: Global, paragraph: &Paragraph) -> Result<Listed, FieldFault>
     ensures { IsListedPackage paragraph.now result }
 {

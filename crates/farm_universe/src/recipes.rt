@@ -105,7 +105,7 @@ fn is_over(list: &RecipeList, build: &Build) -> bool
 
 /// Reads a recipe behind others, where the first entries of its build tell whether there are too
 /// many.
-#[tactic(auto, unfolding(crate::specs::RecipeSteps::first_recipe_at))]
+#[tactic(auto, unfolding(crate::specs::RecipeText::recipe_by))]
 fn read_first_recipe(
     alloc: Global,
     land: &Land,
