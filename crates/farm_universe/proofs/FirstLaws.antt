@@ -174,7 +174,7 @@ package-first p =
         provides = relations.provides;
       };
     })) (fields-first p)
-    ∙ cut-behind first_of_fields (package_relations_at p) _ _ _ (λ fields. refl)))))))
+    ∙ cut-behind first_of_fields (package_relations_by relations_in p) _ _ _ (λ fields. refl)))))))
 
 over-first : (n : ℕ) (v : Package)
     → nat_lt MOST_ENTRIES

@@ -46,8 +46,9 @@ fn with_archive(stating: Stating<'_>, listed: &Row) -> Result<Row, AllocError>
     ensures { IfOk result (IsRowOf stating.entry.universe.now
         (λ v. initial stating.entry.universe.now v || in_row listed.now v)) }
 {
-    let mut row = listed.clone()?;
-    row.or_into(stating.archive)?;
+    // The archive has more names than a row lists: few of them stand apart from its own.
+    let mut row = stating.archive.clone()?;
+    row.or_into(listed)?;
     Ok(row)
 }
 
