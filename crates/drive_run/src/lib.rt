@@ -7,6 +7,5 @@
 #![tactic(auto)]
 
 mod driven;
-mod lent;
 
 pub use driven::{Began, Driven, StartFault, Streams, drive};

@@ -6,13 +6,15 @@
 //! these as values that nothing else makes. Nothing is proved of turns, ranks and waking.
 #![tactic(auto)]
 
-mod bells;
-mod gate;
+mod driven;
 mod keeping;
 mod known;
+mod lines;
 mod office;
 mod question;
+mod stage;
+mod turns;
 
-pub use gate::DriverGate;
+pub use driven::{DrivenLanes, DriverStreams};
 pub use known::{Known, LaneWords, lane_words};
 pub use office::Fault;

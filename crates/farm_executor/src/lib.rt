@@ -19,6 +19,8 @@ mod providers;
 mod run;
 mod schedule;
 mod scope;
+mod turned;
+mod turner;
 mod turns;
 
 pub use bell::Bell;
@@ -27,4 +29,6 @@ pub use link::Link;
 pub use providers::Providers;
 pub use run::{FarmRun, RunFault, run_farm};
 pub use schedule::accepted_schedule;
+pub use turned::run_farm_in_turns;
+pub use turner::Turner;
 pub use turns::lanes_in_turns;
