@@ -1,24 +1,27 @@
 //! What is answered to a drive.
 
-ghost use Rattle.std.specs.Prelude.{◌≡◌, OnErr};
+ghost use Rattle.std.specs.Prelude.{◌≡◌, IfOk, OnErr};
 ghost use Rattle.std.specs.Option.{option_map};
 ghost use Rattle.deb_text.specs.Lines.{lines_of};
 ghost use Rattle.drive_answers.specs.DriveAnswers.{AnswersDrive, DrivesTo, IsDriveTold, IsMisfitOf, TellsStop, head_in, kept_in};
+ghost use Rattle.drive_head.specs.HeadText.{head_text};
 ghost use Rattle.drive_run.specs.Driven.{IsMisfitIn};
 ghost use Rattle.farm_answers.specs.FarmAnswers.{ShowsEnd};
 ghost use Rattle.farm_answers.specs.Files.{named};
 ghost use Rattle.farm_input.specs.View.{texts_view};
 
+use crate::beside::check_beside_sums;
 use crate::faults::{tell_start, tell_unkept, tell_unopened};
 use crate::machine::DriveSource;
 use crate::ran::answer_driven;
 use crate::setting::{Run, Setting, beginning_of, carry_out, run_anew, run_by};
 use command_line::Paths;
+use drive_head::Sums;
 use drive_store::Journal;
 use farm_answers::{OutsideFault, answer_verdict, read_files};
-use plan_verifier::{Accepted, check};
+use plan_verifier::Accepted;
 use report_sink::Sink;
-use std::alloc::Global;
+use std::alloc::{AllocError, Global};
 use std::io::Eprint;
 use std::mem::ManuallyDrop;
 use std::sync::Wait;
@@ -38,8 +41,8 @@ fn answer_run<
     'a,
     R: Threads + Wait + Eprint + Sync,
     F: DriveSource,
-    J: Journal + Drop + Send,
-    S: Sink + Send,
+    J: Journal + Drop,
+    S: Sink,
     E: Sink,
 >(
     setting: &Setting<'_, '_, R, F>,
@@ -62,20 +65,22 @@ fn answer_run<
 }
 
 /// Drives by the journal of this name.
-fn drive_kept<'a, R: Threads + Wait + Eprint + Sync, F: DriveSource, S: Sink + Send, E: Sink>(
+fn drive_kept<'a, R: Threads + Wait + Eprint + Sync, F: DriveSource, S: Sink, E: Sink>(
     setting: &Setting<'_, '_, R, F>,
     accepted: Accepted,
+    sums: Result<Sums, AllocError>,
     path: &str,
     out: &mut S,
     errors: &mut E,
 ) -> Result<u8, OutsideFault<'a>>
+    requires { IfOk sums (λ s. head_text s ≡ head_in (texts_view setting.now.texts)) }
     ensures told { IsDriveTold (ShowsEnd accepted) (TellsStop accepted
         (IsMisfitOf accepted (head_in (texts_view setting.now.texts))
         (F.kept setting.now.source.now path.now)) (S.state out.old) (S.state out.new))
         (S.state out.new) (E.state errors.old) (E.state errors.new) result }
     ensures quiet { OnErr result (E.state errors.new ≡ E.state errors.old) }
 {
-    let beginning = beginning_of(setting)?;
+    let beginning = beginning_of(setting, sums)?;
     let journal = match setting.source.open_journal(path) {
         Ok(journal) => journal,
         Err(fault) => return Ok(tell_unopened(fault, errors)),
@@ -87,29 +92,33 @@ fn drive_kept<'a, R: Threads + Wait + Eprint + Sync, F: DriveSource, S: Sink + S
 }
 
 /// Drives without a journal.
-fn drive_unkept<'a, R: Threads + Wait + Eprint + Sync, F: DriveSource, S: Sink + Send, E: Sink>(
+fn drive_unkept<'a, R: Threads + Wait + Eprint + Sync, F: DriveSource, S: Sink, E: Sink>(
     setting: &Setting<'_, '_, R, F>,
     accepted: Accepted,
+    sums: Result<Sums, AllocError>,
     out: &mut S,
     errors: &mut E,
 ) -> Result<u8, OutsideFault<'a>>
+    requires { IfOk sums (λ s. head_text s ≡ head_in (texts_view setting.now.texts)) }
     ensures told { IsDriveTold (ShowsEnd accepted) (TellsStop accepted (λ _. ⊥) (S.state out.old)
         (S.state out.new)) (S.state out.new) (E.state errors.old) (E.state errors.new) result }
     ensures quiet { OnErr result (E.state errors.new ≡ E.state errors.old) }
 {
-    let beginning = beginning_of(setting)?;
+    let beginning = beginning_of(setting, sums)?;
     let run = run_anew(setting.alloc, &beginning)?;
     answer_run(setting, accepted, run, out, errors)
 }
 
 /// Drives the lanes of an accepted plan, by its journal where it has one.
-fn drive_accepted<'a, R: Threads + Wait + Eprint + Sync, F: DriveSource, S: Sink + Send, E: Sink>(
+fn drive_accepted<'a, R: Threads + Wait + Eprint + Sync, F: DriveSource, S: Sink, E: Sink>(
     setting: &Setting<'_, '_, R, F>,
     accepted: Accepted,
+    sums: Result<Sums, AllocError>,
     journal: Option<&str>,
     out: &mut S,
     errors: &mut E,
 ) -> Result<u8, OutsideFault<'a>>
+    requires { IfOk sums (λ s. head_text s ≡ head_in (texts_view setting.now.texts)) }
     ensures told { IsDriveTold (ShowsEnd accepted) (TellsStop accepted
         (IsMisfitOf accepted (head_in (texts_view setting.now.texts))
         (kept_in (F.kept setting.now.source.now) (option_map (λ name. name.now) journal.entry)))
@@ -118,14 +127,14 @@ fn drive_accepted<'a, R: Threads + Wait + Eprint + Sync, F: DriveSource, S: Sink
     ensures quiet { OnErr result (E.state errors.new ≡ E.state errors.old) }
 {
     match journal {
-        Some(path) => drive_kept(setting, accepted, path, out, errors),
-        None => drive_unkept(setting, accepted, out, errors),
+        Some(path) => drive_kept(setting, accepted, sums, path, out, errors),
+        None => drive_unkept(setting, accepted, sums, out, errors),
     }
 }
 
 /// Drives the lanes of the plan that four texts stand for where it is accepted, else answers with
 /// the refusal.
-fn answer_drive<'a, R: Threads + Wait + Eprint + Sync, F: DriveSource, S: Sink + Send, E: Sink>(
+fn answer_drive<'a, R: Threads + Wait + Eprint + Sync, F: DriveSource, S: Sink, E: Sink>(
     setting: &Setting<'_, '_, R, F>,
     journal: Option<&str>,
     out: &mut S,
@@ -136,17 +145,9 @@ fn answer_drive<'a, R: Threads + Wait + Eprint + Sync, F: DriveSource, S: Sink +
         (S.state out.old) (S.state out.new) (E.state errors.old) (E.state errors.new) result }
     ensures quiet { OnErr result (E.state errors.new ≡ E.state errors.old) }
 {
-    let texts = setting.texts;
-    let verdict = check(
-        setting.rt,
-        setting.alloc,
-        texts.packages,
-        texts.sources,
-        texts.farm,
-        texts.plan,
-    );
+    let (verdict, sums) = check_beside_sums(setting.rt, setting.alloc, setting.texts);
     match verdict {
-        Ok(accepted) => drive_accepted(setting, accepted, journal, out, errors),
+        Ok(accepted) => drive_accepted(setting, accepted, sums, journal, out, errors),
         Err(refusal) => answer_verdict(Err(refusal), out),
     }
 }
@@ -160,14 +161,7 @@ fn answer_drive<'a, R: Threads + Wait + Eprint + Sync, F: DriveSource, S: Sink +
 ///
 /// Those of [`read_files`]; [`OutsideFault::OutOfMemory`] where memory is refused; and
 /// [`OutsideFault::WriteFailed`] where the output fails behind the run's end.
-pub fn drive_files<
-    'a,
-    'm,
-    R: Threads + Wait + Eprint + Sync,
-    F: DriveSource,
-    S: Sink + Send,
-    E: Sink,
->(
+pub fn drive_files<'a, 'm, R: Threads + Wait + Eprint + Sync, F: DriveSource, S: Sink, E: Sink>(
     rt: &'m R,
     alloc: Global,
     source: &'m F,

@@ -8,6 +8,7 @@
 #![tactic(auto)]
 
 mod begun;
+mod beside;
 mod driven_answer;
 mod faults;
 mod machine;

@@ -9,7 +9,7 @@ ghost use Rattle.farm_input.specs.View.{texts_view};
 
 use crate::begun::Beginning;
 use crate::machine::DriveSource;
-use drive_head::Texts as DrivenTexts;
+use drive_head::Sums;
 use drive_run::{Began, Driven, StartFault, Streams, drive};
 use drive_store::{Journal, JournalFile, Resumed, StoreFault, Unkept};
 use farm_input::Texts;
@@ -18,7 +18,6 @@ use report_sink::Sink;
 use std::alloc::{AllocError, Global};
 use std::io::Eprint;
 use std::sync::Wait;
-use std::thread::Threads;
 
 /// A drive of texts over a machine.
 #[derive(Drop)]
@@ -42,19 +41,15 @@ pub struct Run<J> {
 ///
 /// # Errors
 ///
-/// [`AllocError`] where memory is refused.
+/// [`AllocError`] where memory is refused, also for the digests.
 pub fn beginning_of<R, F: DriveSource>(
     setting: &Setting<'_, '_, R, F>,
+    sums: Result<Sums, AllocError>,
 ) -> Result<Beginning, AllocError>
+    requires { IfOk sums (λ s. head_text s ≡ head_in (texts_view setting.now.texts)) }
     ensures { IfOk result (λ b. head_text b.sums ≡ head_in (texts_view setting.now.texts)) }
 {
-    let texts = DrivenTexts {
-        packages: setting.texts.packages,
-        sources: setting.texts.sources,
-        farm: setting.texts.farm,
-        plan: setting.texts.plan,
-    };
-    Beginning::of(setting.alloc, texts, setting.source.nanoseconds())
+    Beginning::of(setting.alloc, sums?, setting.source.nanoseconds())
 }
 
 /// The run of a journal.
@@ -119,12 +114,7 @@ fn tell_typed<R: Eprint, F: DriveSource>(setting: &Setting<'_, '_, R, F>) {
 /// # Errors
 ///
 /// Those of [`drive`].
-pub fn carry_out<
-    R: Threads + Wait + Eprint + Sync,
-    F: DriveSource,
-    J: Journal + Drop + Send,
-    S: Sink + Send,
->(
+pub fn carry_out<R: Wait + Eprint, F: DriveSource, J: Journal + Drop, S: Sink>(
     setting: &Setting<'_, '_, R, F>,
     accepted: Accepted,
     run: Run<J>,
