@@ -6,6 +6,7 @@ use Rattle.std.proofs.lemmas.Bool.{cases_eq, cases_lt, or_cases, or_left, or_rig
 use Rattle.std.proofs.lemmas.List.{take-take}
 use Rattle.std.proofs.lemmas.Option.{slice_get-get_or, get_or_from_slice_get, slice_get_within}
 use Rattle.bit_rows.specs.Sets.{variants_of, IsSubset, HaveCommon}
+use Rattle.cert_text.specs.Certificates.{IsNewRow}
 use Rattle.farm_laws.proofs.Archive.{list_any-take, same-true}
 use Rattle.std.proofs.lemmas.List.Elements.{All-head, All-tail}
 use Rattle.farm_model.specs.declared.types.Variant.{Variant}
@@ -123,6 +124,26 @@ with-known u r n known all_known outs v e =
               (All-head (IsKnown u) w ws all)
           | inr rest ↦ contained ws (All-tail (IsKnown u) w ws all) rest
         ]
+
+-- what is in the initial archive beside a set tells nothing of what is not there
+module _ (u : Universe) (sources : Variant → Bool) (new : List ℕ) (listed all : Variant → Bool)
+    (r : ℕ) (fresh : IsNewRow u new) (holds : (v : Variant) → all v ≡ (initial u v || listed v)) where
+  pub known_apart : (answer : Bool) → (IsTrue answer ↔ IsKnownWith u sources (in_row new) listed r)
+      → IsTrue answer ↔ IsKnownWith u sources (in_row new) all r
+  known_apart answer decides = (
+    λ e m c v at hit here. elim (decides.0 e m c v at hit here) [
+      | inl old ↦ inl (holds v ∙ or_right (initial u v) _ old)
+      | inr out ↦ inr out
+    ],
+    λ h. decides.1 (λ m c v at hit here. elim (h m c v at hit here) [
+      | inl old ↦
+          elim (or_cases (initial u v) (listed v) (sym (holds v) ∙ old)) [
+            | inl first ↦ absurd (both_ways (initial u v) (fresh.new v.name v.bit here) first)
+            | inr some ↦ inl some
+          ]
+      | inr out ↦ inr out
+    ]),
+  )
 
 module _ (u : Universe) (p : Plan) (rows : Rows) (sources new : Variant → Bool) where
   -- of the publish that is there

@@ -1,10 +1,11 @@
 -- Rows behind instructions, by subsets of rows.
 use Rattle.std.proofs.Common.{◌≡◌, ℕ, zero, suc, ◌<◌, ◌≤◌, Bool, true, false, not, ◌||◌, nat_lt, List, [], length, take, Some, None, inl, inr, refl, sym, ap, subst, ◌∙◌, arith}
 use Rattle.std.specs.Prelude.{◌↔◌, IsTrue}
-use Rattle.std.proofs.lemmas.Bool.{cases_Bool, or_cases, or_left, or_right, and_parts, and_from, both_ways, lt-ltb, not-true, not_from_false, false≢true}
+use Rattle.std.proofs.lemmas.Bool.{cases_Bool, or_cases, or_left, or_right, or_parts, and_parts, and_from, both_ways, lt-ltb, not-true, not_from_false, false≢true}
 use Rattle.std.proofs.lemmas.List.{take_all}
 use Rattle.std.proofs.lemmas.Option.{none-some, same_Some, slice_get_within}
 use Rattle.bit_rows.specs.Sets.{variants_of, IsSubset, IsDifference, IsIntersection}
+use Rattle.cert_text.specs.Certificates.{IsNewRow}
 use Rattle.farm_model.specs.declared.types.Variant.{Variant}
 use Rattle.farm_model.specs.Universe.{Universe}
 use Rattle.farm_model.specs.Packages.{variant, variants, contains, outputs, initial, satisfies_entry}
@@ -16,13 +17,11 @@ use Rattle.plan_model.specs.Plan.{Plan, lane, instruction_at}
 use Rattle.verdict_laws.specs.Places.{IsJustified, IsFirstUnjustified}
 use Rattle.sat_rows.specs.Rows.{IsRowOf}
 use Rattle.verdict_laws.proofs.Inclusions.{possible-known}
-use Rattle.verdict_laws.proofs.RowBefore.{row_before-le}
 use Rattle.wait_order.specs.Points.{asked}
 use Rattle.plan_cert.specs.Facts.{AreFacts}
 use Rattle.plan_cert.specs.Stated.{in_row}
-use Rattle.plan_cert.specs.Places.{HaveKnown}
 use Rattle.plan_cert.specs.Checked.{IsLaneFault}
-use Rattle.plan_cert.proofs.StatedLaws.{row-has}
+use Rattle.plan_cert.proofs.StatedLaws.{new-known, row-has}
 use Rattle.plan_cert.proofs.FactLaws.{with-known}
 
 -- what a wait or a `when` adds is what follows from what it looks for
@@ -133,28 +132,37 @@ module _ (u : Universe) (p : Plan) (rows : Rows) (l i : ℕ) (x : Instruction)
         ]))),
   )
 
--- the row behind an instruction, by what is in it
-module _ (u : Universe) (p : Plan) (rows : Rows) (l i : ℕ) (lt : l < length p)
-    (below : i < length (lane p l).instructions) (known : HaveKnown u p rows) (x : Instruction)
+-- the row behind an instruction, by what is listed ahead of it and behind it
+module _ (u : Universe) (p : Plan) (rows : Rows) (l i : ℕ) (x : Instruction)
     (at : instruction_at p l i ≡ Some x) (before after : List ℕ)
-    (before_is : IsRowOf u (rows l (row_before p l i x)) before)
-    (after_is : IsRowOf u (rows l (suc i)) after) where
-  before-has : (v : Variant) → in_row before v ≡ rows l (row_before p l i x) v
-  before-has =
-      row-has u (rows l (row_before p l i x)) before before_is
-      (λ v e. known l (row_before p l i x) v lt
-      (let le = row_before-le p l i x in omega (arith, below, le)) e)
-
-  after-has : (v : Variant) → in_row after v ≡ rows l (suc i) v
-  after-has =
-      row-has u (rows l (suc i)) after after_is
-      (λ v e. known l (suc i) v lt (omega (arith, below)) e)
-
+    (before_holds : (v : Variant)
+    → rows l (row_before p l i x) v ≡ (initial u v || in_row before v))
+    (after_holds : (v : Variant) → rows l (suc i) v ≡ (initial u v || in_row after v))
+    (fresh : IsNewRow u after) where
   abbrev Old : Instruction → Variant → Type 0
   Old y v = rows l (row_before p l i y) v ≡ true
 
   is-there : (y : Instruction) → instruction_at p l i ≡ Some y → x ≡ y
   is-there y there = same_Some x y (sym at ∙ there)
+
+  -- what is listed behind it, and known ahead of it, is listed ahead of it
+  old-listed : (v : Variant) → in_row after v ≡ true → Old x v → in_row before v ≡ true
+  old-listed v some old =
+      elim (or_cases (initial u v) (in_row before v) (sym (before_holds v) ∙ old)) [
+        | inl first ↦ absurd (both_ways (initial u v) (fresh.new v.name v.bit some) first)
+        | inr here ↦ here
+      ]
+
+  -- what is known behind it, and not ahead of it, is listed behind it
+  new-listed : (v : Variant) → rows l (suc i) v ≡ true → rows l (row_before p l i x) v ≡ false
+      → in_row after v ≡ true
+  new-listed v here none =
+      elim (or_cases (initial u v) (in_row after v) (sym (after_holds v) ∙ here)) [
+        | inl first ↦
+            absurd (both_ways (rows l (row_before p l i x) v) none
+            (before_holds v ∙ or_left (initial u v) _ first))
+        | inr some ↦ some
+      ]
 
   -- one that looks for something
   pub asked-justified : (test : Variant → Bool) → asked u x ≡ Some test → (new : List ℕ)
@@ -165,60 +173,64 @@ module _ (u : Universe) (p : Plan) (rows : Rows) (l i : ℕ) (lt : l < length p)
     λ t y v there here.
         elim (cases_Bool (rows l (row_before p l i x) v)) [
           | inl old ↦ inl (subst (λ z. Old z v) (is-there y there) old)
-          | inr none ↦ inr (subst (Adds u p rows l i v) (is-there y there)
+          | inr none ↦
+              let unlisted : in_row before v ≡ false =
+              (or_parts (initial u v) (in_row before v) (sym (before_holds v) ∙ none)).1 in
+              inr (subst (Adds u p rows l i v) (is-there y there)
               (asked-adds u p rows l i v test x asks (follows.0 t v
-              (less v.name v.bit ∙ and_from _ _ (after-has v ∙ here)
-              (not_from_false _ (before-has v ∙ none))))))
+              (less v.name v.bit ∙ and_from _ _ (new-listed v here none)
+              (not_from_false _ unlisted)))))
         ],
     λ j. follows.1 (λ v some.
         let parts = and_parts (in_row after v) (not (in_row before v))
         (sym (less v.name v.bit) ∙ some) in
-        elim (j x v at (sym (after-has v) ∙ parts.0)) [
-          | inl old ↦ absurd (both_ways (in_row before v) (not-true _ parts.1) (before-has v ∙ old))
+        elim (j x v at (after_holds v ∙ or_right (initial u v) _ parts.0)) [
+          | inl old ↦
+              absurd (both_ways (in_row before v) (not-true _ parts.1) (old-listed v parts.0 old))
           | inr new ↦ asked-follows u p rows l i v test x asks new
         ]),
   )
 
--- behind a publish
-module _ (u : Universe) (p : Plan) (rows : Rows) (l i : ℕ) (lt : l < length p)
-    (below : i < length (lane p l).instructions) (known : HaveKnown u p rows)
-    (before after : List ℕ) (before_is : IsRowOf u (rows l i) before)
-    (after_is : IsRowOf u (rows l (suc i)) after) where
-  end-has : (v : Variant) → in_row after v ≡ rows l (suc i) v
-  end-has =
-      row-has u (rows l (suc i)) after after_is
-      (λ v e. known l (suc i) v lt (omega (arith, below)) e)
-
-  pub publish-justified : (r n : ℕ) → instruction_at p l i ≡ Some (Publish r) → IsUniverse u
+  -- one that publishes
+  pub publish-justified : (r n : ℕ) → x ≡ Publish r → IsUniverse u → IsNewRow u before
       → n ≡ length (outputs u r) → (row : List ℕ)
-      → IsRowOf u (λ v. rows l i v || contains (take n (outputs u r)) v) row → (answer : Bool)
-      → (IsTrue answer ↔ IsSubset (variants_of after) (variants_of row))
+      → IsRowOf u (λ v. in_row before v || contains (take n (outputs u r)) v) row
+      → (answer : Bool) → (IsTrue answer ↔ IsSubset (variants_of after) (variants_of row))
       → IsTrue answer ↔ IsJustified u p rows l (suc i)
-  publish-justified r n at sound is row row_is answer subset = (
-    λ t y v there e.
-        let same : Publish r ≡ y = cc in
-        elim (or_cases (rows l i v) _
-        (sym (row-holds v) ∙ subset.0 t v.name v.bit (end-has v ∙ e))) [
-          | inl old ↦ inl (subst (λ x. rows l (row_before p l i x) v ≡ true) same old)
-          | inr new ↦ inr (subst (Adds u p rows l i v) same
-              (sym (ap (λ vs. contains vs v) all) ∙ new))
+  publish-justified r n publish sound first is row row_is answer subset = (
+    λ t y v there here.
+        elim (cases_Bool (rows l (row_before p l i x) v)) [
+          | inl old ↦ inl (subst (λ z. Old z v) (is-there y there) old)
+          | inr none ↦
+              elim (or_cases (in_row before v) _
+              (sym (row-holds v) ∙ subset.0 t v.name v.bit (new-listed v here none))) [
+                | inl old ↦
+                    absurd (both_ways (rows l (row_before p l i x) v) none
+                    (before_holds v ∙ or_right (initial u v) _ old))
+                | inr new ↦
+                    inr (subst (Adds u p rows l i v) (is-there y there)
+                    (subst (Adds u p rows l i v) (sym publish)
+                    (sym (ap (λ vs. contains vs v) all) ∙ new)))
+              ]
         ],
     λ j. subset.1 (λ m b some.
         let v = variant m b in
-        row-holds v ∙ (elim (j (Publish r) v at (sym (end-has v) ∙ some)) [
-          | inl old ↦ or_left (rows l i v) _ old
-          | inr new ↦ or_right (rows l i v) _ (ap (λ vs. contains vs v) all ∙ new)
+        row-holds v ∙ (elim (j x v at (after_holds v ∙ or_right (initial u v) _ some)) [
+          | inl old ↦ or_left (in_row before v) _ (old-listed v some old)
+          | inr new ↦
+              or_right (in_row before v) _ (ap (λ vs. contains vs v) all
+              ∙ subst (Adds u p rows l i v) publish new)
         ])),
   )
     where
       all : take n (outputs u r) ≡ outputs u r
       all = take_all n (outputs u r) (omega (arith, is))
 
-      row-holds : (v : Variant) → in_row row v ≡ (rows l i v || contains (take n (outputs u r)) v)
+      row-holds : (v : Variant)
+          → in_row row v ≡ (in_row before v || contains (take n (outputs u r)) v)
       row-holds =
-          row-has u (λ v. rows l i v || contains (take n (outputs u r)) v) row row_is
-          (with-known u r n (rows l i) (λ v e. known l i v lt (omega (arith, below)) e)
-          (sound.outputs_known r))
+          row-has u (λ v. in_row before v || contains (take n (outputs u r)) v) row row_is
+          (with-known u r n (in_row before) (new-known u before first) (sound.outputs_known r))
 
 -- all places of a lane
 pub past-justified : (u : Universe) (p : Plan) (rows : Rows) (l n : ℕ)

@@ -4,6 +4,7 @@ use Rattle.std.specs.Cmp.{both_ways as same_tests}
 use Rattle.std.proofs.lemmas.Bool.{or_cases, and_parts, and_from, cases_lt, lt-ltb, false≢true}
 use Rattle.std.proofs.lemmas.List.{get_or_past}
 use Rattle.std.proofs.lemmas.List.Sums.{sum_by-append}
+use Rattle.bit_rows.specs.Sets.{variants_of, IsDifference}
 use Rattle.cert_text.specs.Certificates.{Certificate, lane_rows, count_rows, IsNewRow, IsCertificate}
 use Rattle.clause_kernel.proofs.Words.{word_has_zero}
 use Rattle.farm_laws.proofs.Archive.{take_some}
@@ -18,7 +19,7 @@ use Rattle.sat_rows.specs.Rows.{IsRowOf}
 use Rattle.wait_order.proofs.ArchiveRows.{row_same}
 use Rattle.plan_cert.proofs.HeldLaws.{held-quiet, held-learns}
 use Rattle.plan_cert.specs.PlaceRows.{IsRowAt}
-use Rattle.plan_cert.specs.Stated.{rows_before, held_at, in_row, last_row_lists, stated_rows}
+use Rattle.plan_cert.specs.Stated.{rows_before, held_at, in_row, last_row_lists, listed_rows, stated_rows}
 
 module _ (p : Plan) (l i : ℕ) (x : Instruction) (at : instruction_at p l i ≡ Some x) where
   abbrev one : Instruction → ℕ
@@ -45,9 +46,35 @@ module _ (p : Plan) (l i : ℕ) (x : Instruction) (at : instruction_at p l i ≡
       let whole = ap (count_by teaches) (take-append-drop (i + 1) is) in
       omega (arith, next-learns e, split, whole)
 
+-- a row of known variants is that of its own
+pub new-row : (u : Universe) (row : List ℕ) → IsNewRow u row → IsRowOf u (in_row row) row
+new-row u row new = record {
+  long = new.long;
+  set = λ n b. same_tests _ _
+      (λ e. and_from _ _ (lt-ltb b (variants u n) (new.known n b e)) e)
+      (λ e. (and_parts (nat_lt b (variants u n)) (variants_of row n b) e).1);
+}
+
+-- what is left of a row without another
+pub left-new : (u : Universe) (row other left : List ℕ) → IsNewRow u row
+    → length left ≡ length row
+    → IsDifference (variants_of row) (variants_of other) (variants_of left) → IsNewRow u left
+left-new u row other left new long less = record {
+  long = long ∙ new.long;
+  known = λ n b e. new.known n b (has n b e);
+  new = λ n b e. new.new n b (has n b e);
+}
+  where
+    has : (n b : ℕ) → variants_of left n b ≡ true → variants_of row n b ≡ true
+    has n b e = (and_parts (variants_of row n b) _ (sym (less n b) ∙ e)).0
+
+pub new-known : (u : Universe) (row : List ℕ) → IsNewRow u row → (v : Variant)
+    → in_row row v ≡ true → IsKnown u v
+new-known u row new v e = new.known v.name v.bit e
+
 -- a certificate of the plan
 module _ (u : Universe) (p : Plan) (c : Certificate) (is : IsCertificate u p c) where
-  lists-known : (l k : ℕ) (v : Variant) → last_row_lists (lane_rows c l) k v ≡ true → IsKnown u v
+  pub lists-known : (l k : ℕ) (v : Variant) → last_row_lists (lane_rows c l) k v ≡ true → IsKnown u v
   lists-known l zero v e = absurd (false≢true e)
   lists-known l (suc k) v e =
       elim (cases_lt k (length (lane_rows c l))) [
@@ -76,31 +103,38 @@ module _ (u : Universe) (p : Plan) (c : Certificate) (is : IsCertificate u p c) 
       ]
 
   -- behind an instruction without a row
+  listed-quiet : (l i : ℕ) (x : Instruction) (v : Variant) → instruction_at p l i ≡ Some x
+      → teaches x ≡ false → listed_rows p c l (suc i) v ≡ listed_rows p c l (row_before p l i x) v
+  listed-quiet l i x v at quiet =
+      ap (λ k. last_row_lists (lane_rows c l) k v) (held-quiet p l i x at quiet)
+
   pub stated-quiet : (l i : ℕ) (x : Instruction) (v : Variant) → instruction_at p l i ≡ Some x
       → teaches x ≡ false
       → stated_rows u p c l (suc i) v ≡ stated_rows u p c l (row_before p l i x) v
-  stated-quiet l i x v at quiet =
-      ap (λ k. initial u v || last_row_lists (lane_rows c l) k v) (held-quiet p l i x at quiet)
+  stated-quiet l i x v at quiet = ap (λ held. initial u v || held) (listed-quiet l i x v at quiet)
 
   pub row-quiet : (l i n : ℕ) (x : Instruction) (rows : List (List ℕ))
       → instruction_at p l i ≡ Some x → teaches x ≡ false
-      → IsRowAt u (stated_rows u p c l (row_before p l i x)) rows n
-      → IsRowAt u (stated_rows u p c l (i + 1)) rows n
+      → IsRowAt u (listed_rows p c l (row_before p l i x)) rows n
+      → IsRowAt u (listed_rows p c l (i + 1)) rows n
   row-quiet l i n x rows at quiet r = record {
     within = r.within;
-    row = row_same u (stated_rows u p c l (row_before p l i x)) (stated_rows u p c l (i + 1))
+    row = row_same u (listed_rows p c l (row_before p l i x)) (listed_rows p c l (i + 1))
         (slice_index_or rows n [])
-        (λ v. sym (stated-quiet l i x v at quiet)
-        ∙ ap (λ k. stated_rows u p c l k v) (let e : suc i ≡ i + 1 = omega arith in e)) r.row;
+        (λ v. sym (listed-quiet l i x v at quiet)
+        ∙ ap (λ k. listed_rows p c l k v) (let e : suc i ≡ i + 1 = omega arith in e)) r.row;
   }
 
+  pub listed-new : (l k : ℕ) (listed : List ℕ) → k < length (lane_rows c l)
+      → listed ≡ get_or (lane_rows c l) k listed → IsNewRow u listed
+  listed-new l k listed lt at = subst (IsNewRow u) (sym at) (is.rows l k listed lt)
+
   -- and behind one with a row, of which so many are listed before it
-  pub row-listed : (l i k : ℕ) (x : Instruction) (listed row : List ℕ)
+  pub row-listed : (l i k : ℕ) (x : Instruction) (listed : List ℕ)
       → instruction_at p l i ≡ Some x → teaches x ≡ true → k ≡ rows_before p l i
       → k < length (lane_rows c l) → listed ≡ get_or (lane_rows c l) k listed
-      → IsRowOf u (λ v. initial u v || in_row listed v) row
-      → IsRowOf u (stated_rows u p c l (i + 1)) row
-  row-listed l i k x listed row there learnt used lt at r =
+      → IsRowOf u (listed_rows p c l (i + 1)) listed
+  row-listed l i k x listed there learnt used lt at =
       let more = next-learns p l i x there learnt in
       let i_next : i + 1 ≡ suc i = omega arith in
       let next : (held_at p l (i + 1)).here ≡ suc k =
@@ -109,19 +143,15 @@ module _ (u : Universe) (p : Plan) (c : Certificate) (is : IsCertificate u p c) 
       ∙ (let n : rows_before p l (i + 1) ≡ suc k = omega (arith, more, used) in n) in
       let here : listed ≡ get_or (lane_rows c l) k [] = at
       ∙ same-at (lane_rows c l) k listed [] lt in
-      row_same u _ _ row
-      (λ v. ap (λ r. initial u v || in_row r v) here
-      ∙ ap (λ n. initial u v || last_row_lists (lane_rows c l) n v) (sym next)) r
+      row_same u _ _ listed
+      (λ v. ap (λ r. in_row r v) here ∙ ap (λ n. last_row_lists (lane_rows c l) n v) (sym next))
+      (new-row u listed (listed-new l k listed lt at))
     where
       same-at : (xs : List (List ℕ)) (i : ℕ) (a b : List ℕ) → i < length xs → get_or xs i a
           ≡ get_or xs i b
       same-at [] i a b h = absurd (omega arith)
       same-at (x ∷ xs) zero a b h = refl
       same-at (x ∷ xs) (suc i) a b h = same-at xs i a b (omega arith)
-
-  pub listed-new : (l k : ℕ) (listed : List ℕ) → k < length (lane_rows c l)
-      → listed ≡ get_or (lane_rows c l) k listed → IsNewRow u listed
-  listed-new l k listed lt at = subst (IsNewRow u) (sym at) (is.rows l k listed lt)
 
 -- the row of a test of known variants has just those that pass
 pub row-has : (u : Universe) (test : Variant → Bool) (row : List ℕ) → IsRowOf u test row

@@ -3,10 +3,11 @@ use Rattle.std.proofs.Common.{◌≡◌, ℕ, ◌+◌, ◌<◌, List, [], ◌∷
 use Rattle.std.proofs.lemmas.Bool.{cases_eq}
 use Rattle.std.proofs.lemmas.List.{length-append, get_or_append_left}
 use Rattle.std.proofs.Math.Seq.{get_or-append_seam}
+use Rattle.cert_text.specs.Certificates.{IsNewRow}
 use Rattle.farm_model.specs.Universe.{Universe}
 use Rattle.plan_model.specs.Known.{Rows}
 use Rattle.plan_model.specs.Plan.{Plan, lane}
-use Rattle.plan_cert.specs.PlaceRows.{IsRowIn, ArePlaceRows, IsExtended, AreRowNumbers}
+use Rattle.plan_cert.specs.PlaceRows.{ArePlaceRows, IsExtended, AreRowNumbers}
 use Rattle.plan_cert.proofs.PlaceLaws.{numbers_kept}
 use Rattle.plan_cert.specs.Places.{AreRowsOfLanes}
 
@@ -38,12 +39,12 @@ rows_next u p known n places more_places rows more new items so_far ext is =
     })
 
 pub rows_kept : (u : Universe) (p : Plan) (known : Rows) (places rows : List (List ℕ))
-    → AreRowsOfLanes u p known (length p) places rows → All (IsRowIn u) rows
+    → AreRowsOfLanes u p known (length p) places rows → All (IsNewRow u) rows
     → ArePlaceRows u p places rows
-rows_kept u p known places rows are all_in =
+rows_kept u p known places rows are all_new =
     record {
       lanes = are.long;
       each = λ l lt. (are.each l lt).long;
       within = λ l i lt le. ((are.each l lt).each i le).within;
-      rows = all_in;
+      rows = all_new;
     }

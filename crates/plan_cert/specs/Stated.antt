@@ -62,7 +62,11 @@ abbrev pub last_row_lists : List (List ℕ) → ℕ → Variant → Bool
 last_row_lists rows zero v = false
 last_row_lists rows (suc k) v = in_row (slice_index_or rows k []) v
 
--- at each place the initial archive and the row that holds there: that behind the last wait,
--- publish or `when`; behind an `else` and an `end` the one ahead of their `when`
+-- at each place the row that holds there: that behind the last wait, publish or `when`; behind an
+-- `else` and an `end` the one ahead of their `when`
+abbrev pub listed_rows : Plan → Certificate → Rows
+listed_rows p c l i v = last_row_lists (lane_rows c l) (held_at p l i).here v
+
+-- and the initial archive
 abbrev pub stated_rows : Universe → Plan → Certificate → Rows
-stated_rows u p c l i v = initial u v || last_row_lists (lane_rows c l) (held_at p l i).here v
+stated_rows u p c l i v = initial u v || listed_rows p c l i v

@@ -1,6 +1,7 @@
 //! What is in the archive whenever some variant of a set is.
 
 ghost use Rattle.std.specs.Prelude.{◌≡◌, ◌↔◌, ◌<◌, ◌≤◌, ◌||◌, ℕ, Bool, true, IsTrue, length, take, All, IfOk, IsNone, IfSome};
+ghost use Rattle.cert_text.specs.Certificates.{IsNewRow};
 ghost use Rattle.farm_model.specs.declared.types.Variant.{Variant};
 ghost use Rattle.farm_model.specs.Packages.{names, outputs, contains, initial};
 ghost use Rattle.farm_model.specs.Sound.{IsUniverse, IsKnown};
@@ -18,8 +19,8 @@ use farm_universe::{Universe, Variant};
 use plan_asm::Instruction;
 use std::alloc::AllocError;
 
-/// Two sets of variants under a claim: what may be facts of all variants of `sources`, and where
-/// what is in an archive comes from.
+/// Two sets of variants under a claim: what may be facts of all variants of `sources`, none of it in
+/// the initial archive, and where what is in an archive comes from.
 #[derive(Clone, Copy)]
 pub struct Question<'a> {
     pub claim: Claim<'a>,
@@ -29,7 +30,7 @@ pub struct Question<'a> {
     ghost sound: { IsUniverse claim.universe.now },
     ghost origins_are: { AreOrigins claim.universe.now claim.plan.now.lanes origins.now },
     ghost sources_long: { length sources.now ≡ names claim.universe.now },
-    ghost new_long: { length new.now ≡ names claim.universe.now },
+    ghost new_is: { IsNewRow claim.universe.now new.now },
 }
 
 /// The first of these variants that is among the sources.
@@ -111,7 +112,7 @@ fn is_known_at(question: Question<'_>, number: usize, place: usize) -> Result<bo
     let Some(recipe) = claim.plan.lane(number).instructions()[place].published() else {
         return Ok(true);
     };
-    let before = claim.known.row(number, place);
+    let before = claim.known.listed(number, place);
     let yes = is_known_with(question, before, recipe)?;
     Ok(yes)
 }

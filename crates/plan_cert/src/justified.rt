@@ -1,6 +1,7 @@
 //! Which rows of a plan are justified: each has no more than the inclusions allow.
 
 ghost use Rattle.std.specs.Prelude.{◌≡◌, ◌≢◌, ◌↔◌, ◌<◌, ℕ, Bool, suc, true, IsTrue, length, Some, IfOk, IsNone, IfSome};
+ghost use Rattle.cert_text.specs.Certificates.{IsNewRow};
 ghost use Rattle.deb_relation.specs.Relations as relations;
 ghost use Rattle.farm_model.specs.declared.types.Variant.{Variant};
 ghost use Rattle.farm_model.specs.Packages.{names, initial};
@@ -53,7 +54,7 @@ struct At<'a> {
 fn may_follow(at: At<'_>, asked: Row, new: &Row) -> Result<bool, AllocError>
     requires sound { IsUniverse at.claim.universe.now }
     requires asked { length asked ≡ names at.claim.universe.now }
-    requires new { length new.now ≡ names at.claim.universe.now }
+    requires new { IsNewRow at.claim.universe.now new.now }
     ensures { IfOk result (λ yes. (test : Variant → Bool)
         → IsRowOf at.entry.claim.universe.now test asked → IsTrue yes
         ↔ ((v : Variant) → in_row new.now v ≡ true → Follows at.entry.claim.universe.now
@@ -156,8 +157,8 @@ fn is_justified(alloc: Global, at: At<'_>) -> Result<bool, AllocError>
     if claim.known.knows_within(number, place + 1, from) {
         return Ok(true);
     }
-    let before = claim.known.row(number, from);
-    let after = claim.known.row(number, place + 1);
+    let before = claim.known.listed(number, from);
+    let after = claim.known.listed(number, place + 1);
     if let Some(recipe) = instruction.published() {
         let count = claim.universe.outputs(recipe).len();
         let row = with_outputs(claim.universe, before, recipe, count)?;

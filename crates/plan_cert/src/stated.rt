@@ -1,16 +1,14 @@
 //! The known rows that a certificate states.
 
-ghost use Rattle.std.specs.Prelude.{◌≡◌, ◌+◌, ◌<◌, ◌≤◌, ◌||◌, length, Some, IfOk, OnOk};
-ghost use Rattle.cert_text.specs.Certificates.{IsNewRow, IsCertificate};
-ghost use Rattle.farm_model.specs.Packages.{initial};
+ghost use Rattle.std.specs.Prelude.{◌≡◌, ◌+◌, ◌<◌, length, Some, IfOk, OnOk};
+ghost use Rattle.cert_text.specs.Certificates.{IsCertificate};
 ghost use Rattle.farm_model.specs.Sound.{IsUniverse};
 ghost use Rattle.plan_model.specs.Plan.{lane, instruction_at};
 ghost use Rattle.verdict_laws.specs.Agreeing.{Agree};
-ghost use Rattle.sat_rows.specs.Rows.{IsRowOf};
 ghost use Rattle.plan_cert.specs.PlaceRows.{place_rows_of};
 ghost use Rattle.plan_model.specs.Known.{row_before};
 ghost use Rattle.plan_cert.specs.PlaceRows.{IsRowAt, IsExtended, AreRowNumbers};
-ghost use Rattle.plan_cert.specs.Stated.{rows_before, in_row, stated_rows};
+ghost use Rattle.plan_cert.specs.Stated.{rows_before, listed_rows, stated_rows};
 
 use crate::opens::{open_behind, place_before};
 use crate::stated_rows::{LanePlaces, StatedRows};
@@ -21,15 +19,13 @@ use plan_asm::{Instruction, Plan};
 use std::alloc::{AllocError, Global};
 use wait_order::initial_row;
 
-/// A certificate of a plan over a universe, and the initial archive.
+/// A certificate of a plan over a universe.
 #[derive(Clone, Copy)]
 struct Stating<'a> {
     universe: &'a Universe,
     plan: &'a Plan,
     certificate: &'a Certificate,
-    archive: &'a Row,
     ghost certificate_is: { IsCertificate universe.now plan.now.lanes certificate.now },
-    ghost archive_is: { IsRowOf universe.now (initial universe.now) archive.now },
 }
 
 /// An instruction of a lane, by its place.
@@ -38,18 +34,6 @@ struct LaneAt<'a> {
     number: usize,
     place: usize,
     instruction: &'a Instruction,
-}
-
-/// A row of a certificate, and the initial archive.
-fn with_archive(stating: Stating<'_>, listed: &Row) -> Result<Row, AllocError>
-    requires { IsNewRow stating.universe.now listed.now }
-    ensures { IfOk result (IsRowOf stating.entry.universe.now
-        (λ v. initial stating.entry.universe.now v || in_row listed.now v)) }
-{
-    // The archive has more names than a row lists: few of them stand apart from its own.
-    let mut row = stating.archive.clone()?;
-    row.or_into(listed)?;
-    Ok(row)
 }
 
 /// Puts the row behind an instruction behind the others, where there is one. Gives how many rows of
@@ -67,7 +51,7 @@ fn add_row(
         ≡ Some at.instruction.now }
     requires used { used ≡ rows_before stating.plan.now.lanes at.number at.place }
     requires before { IsRowAt stating.universe.now
-        (stated_rows stating.universe.now stating.plan.now.lanes stating.certificate.now at.number
+        (listed_rows stating.plan.now.lanes stating.certificate.now at.number
         (row_before stating.plan.now.lanes at.number at.place at.instruction.now))
         rows.old.items before }
     ensures used { IfOk result (λ next. next.0
@@ -75,15 +59,14 @@ fn add_row(
     ensures more { OnOk result
         (IsExtended stating.entry.universe.now rows.old.items rows.new.items) }
     ensures row { IfOk result (λ next. IsRowAt stating.entry.universe.now
-        (stated_rows stating.entry.universe.now stating.entry.plan.now.lanes
-        stating.entry.certificate.now at.entry.number (at.entry.place + 1)) rows.new.items
-        next.1) }
+        (listed_rows stating.entry.plan.now.lanes stating.entry.certificate.now at.entry.number
+        (at.entry.place + 1)) rows.new.items next.1) }
 {
     if !at.instruction.teaches() {
         return Ok((used, before));
     }
     let listed = &stating.certificate.lane_rows(at.number)[used];
-    rows.push(with_archive(stating, listed)?)?;
+    rows.push(listed.clone()?)?;
     Ok((used + 1, rows.len() - 1))
 }
 
@@ -98,15 +81,14 @@ fn lane_places(
     ensures more { OnOk result
         (IsExtended stating.entry.universe.now rows.old.items rows.new.items) }
     ensures numbers { IfOk result (λ places. AreRowNumbers stating.entry.universe.now
-        (stated_rows stating.entry.universe.now stating.entry.plan.now.lanes
-        stating.entry.certificate.now number)
+        (listed_rows stating.entry.plan.now.lanes stating.entry.certificate.now number)
         (length (lane stating.entry.plan.now.lanes number).instructions) places rows.new.items) }
 {
     let instructions = stating.plan.lane(number).instructions();
     let mut numbers = Vec::new(alloc);
     let mut used = 0;
     let mut when = None;
-    rows.push(stating.archive.clone()?)?;
+    rows.push(Row::new(alloc, stating.universe.names() as usize)?)?;
     numbers.push(rows.len() - 1)?;
     for place in 0..instructions.len() {
         let instruction = &instructions[place];
@@ -151,10 +133,9 @@ pub fn stated_known(
         universe,
         plan,
         certificate,
-        archive: &archive,
     };
     for number in 0..plan.lanes() {
         places.push(lane_places(alloc, stating, number, &mut rows)?)?;
     }
-    Ok(StatedRows::new(universe, plan, places, rows))
+    Ok(StatedRows::new(universe, plan, places, archive, rows))
 }

@@ -1,10 +1,12 @@
 //! Known rows as a certificate states them: one for each place of a plan at which they change.
 
 ghost use Rattle.std.specs.Prelude.{◌≡◌, ◌<◌, ◌≤◌, ◌↔◌, true, IsTrue, length, slice_index};
+ghost use Rattle.cert_text.specs.Certificates.{IsNewRow};
 ghost use Rattle.farm_model.specs.declared.types.Variant.{Variant};
+ghost use Rattle.farm_model.specs.Packages.{initial};
 ghost use Rattle.plan_model.specs.Plan.{lane};
 ghost use Rattle.sat_rows.specs.Rows.{IsRowOf};
-ghost use Rattle.plan_cert.specs.PlaceRows.{place_rows_of, ArePlaceRows};
+ghost use Rattle.plan_cert.specs.PlaceRows.{listed_at, place_rows_of, ArePlaceRows};
 
 use bit_rows::Row;
 use farm_universe::Universe;
@@ -43,18 +45,21 @@ impl LanePlaces {
     }
 }
 
-/// What each lane of a plan knows of the archive at each place, as rows, which need not be those of
-/// clocks. Places between which nothing is learned share a row. A contract sees the universe, the
-/// plan, the places and the rows.
+/// What each lane of a plan knows of the archive at each place: the initial archive, and a row of
+/// what else is there, which need not be those of clocks. Places between which nothing is learned
+/// share a row. A contract sees the universe, the plan, the places and the rows.
 #[derive(Drop)]
 pub struct StatedRows {
     universe: Snapshot<Universe>,
     plan: Snapshot<Plan>,
     places: Vec<LanePlaces>,
+    archive: Row,
     rows: Vec<Row>,
 }
 
 impl Model for StatedRows {
+    ghost use Rattle.farm_model.specs.Packages.{initial};
+    ghost use Rattle.sat_rows.specs.Rows.{IsRowOf};
     ghost use Rattle.plan_cert.specs.PlaceRows as spec;
     ghost use Rattle.plan_cert.specs.PlaceRows.{ArePlaceRows};
 
@@ -64,48 +69,53 @@ impl Model for StatedRows {
       universe = stated.universe.value;
       plan = stated.plan.value.lanes;
       places = stated.places.items;
-      words = stated.rows.items;
+      listed = stated.rows.items;
     } };
 
     ghost invariant = { λ stated. ArePlaceRows stated.universe.value stated.plan.value.lanes
-        stated.places.items stated.rows.items };
+        stated.places.items stated.rows.items
+        × IsRowOf stated.universe.value (initial stated.universe.value) stated.archive };
 }
 
 impl StatedRows {
-    /// Puts rows and the places of each lane together.
+    /// Puts the initial archive, rows, and the places of each lane together.
     pub fn new(
         universe: &Universe,
         plan: &Plan,
         places: Vec<LanePlaces>,
+        archive: Row,
         rows: Vec<Row>,
     ) -> StatedRows
-        requires { ArePlaceRows universe.now plan.now.lanes places.items rows.items }
+        requires places { ArePlaceRows universe.now plan.now.lanes places.items rows.items }
+        requires archive { IsRowOf universe.now (initial universe.now) archive }
         ensures { result ≡ record {
           universe = universe.now;
           plan = plan.now.lanes;
           places = places.items;
-          words = rows.items;
+          listed = rows.items;
         } }
     {
         StatedRows {
             universe: Snapshot::of(universe),
             plan: Snapshot::of(plan),
             places,
+            archive,
             rows,
         }
     }
 
-    /// What a lane knows at a place: the variants that are in the archive whenever it stands there.
-    pub fn row(&self, number: usize, place: usize) -> &Row
+    /// What a lane knows at a place beside the initial archive: the variants that are there whenever
+    /// it stands there.
+    pub fn listed(&self, number: usize, place: usize) -> &Row
         requires lane { number < length self.now.plan }
         requires place { place ≤ length (lane self.now.plan number).instructions }
-        ensures { IsRowOf self.now.universe (place_rows_of self.now number place) result.now }
+        ensures row { result.now ≡ listed_at self.now number place }
+        ensures new { IsNewRow self.now.universe result.now }
     {
         &self.rows[self.places[number].number(place)]
     }
 
-    /// Tells whether all that a lane knows at a place is known to it at another, too. Places that
-    /// share a row are not compared.
+    /// Tells whether all that a lane knows at a place is known to it at another, too.
     pub fn knows_within(&self, number: usize, place: usize, other: usize) -> bool
         requires lane { number < length self.now.plan }
         requires place { place ≤ length (lane self.now.plan number).instructions }
@@ -113,9 +123,9 @@ impl StatedRows {
         ensures { IsTrue result ↔ ((v : Variant) → place_rows_of self.now number place v ≡ true
             → place_rows_of self.now number other v ≡ true) }
     {
-        let places = &self.places[number];
-        let (here, there) = (places.number(place), places.number(other));
-        here == there || self.rows[here].within(&self.rows[there])
+        let here = self.listed(number, place);
+        let there = self.listed(number, other);
+        here.within(there)
     }
 }
 
@@ -127,6 +137,7 @@ impl KnownWords for StatedRows {
     } };
 
     fn word(&self, _universe: &Universe, number: usize, place: usize, name: u32) -> u64 {
-        self.row(number, place).word(name as usize)
+        let name = name as usize;
+        self.archive.word(name) | self.listed(number, place).word(name)
     }
 }

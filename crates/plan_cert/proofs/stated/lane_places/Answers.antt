@@ -1,16 +1,14 @@
 use Rattle.std.proofs.Common.{◌≡◌, Some, slice_index, ap, sym, subst, ◌∙◌, arith}
-use Rattle.farm_model.specs.Packages.{initial}
 use Rattle.plan_model.specs.Known.{row_before}
 use Rattle.plan_model.specs.Plan.{instruction_at}
-use Rattle.sat_rows.specs.Rows.{IsRowOf}
 use Rattle.verdict_laws.proofs.RowBefore.{row_before-le}
 use Rattle.wait_order.proofs.Leading.{read_at}
 use Rattle.std.proofs.lemmas.List.{get_or_default}
 use Rattle.plan_cert.specs.Opens.{open_behind, place_before}
 use Rattle.plan_cert.specs.PlaceRows.{IsRowAt}
 use Rattle.plan_cert.proofs.HeldLaws.{before-is, open-next}
-use Rattle.plan_cert.proofs.PlaceLaws.{extended_push, extended_twice, numbers_next}
-use Rattle.plan_cert.specs.Stated.{stated_rows}
+use Rattle.plan_cert.proofs.PlaceLaws.{empty-new, extended_push, extended_twice, numbers_next}
+use Rattle.plan_cert.specs.Stated.{listed_rows}
 use Rattle.plan_cert.proofs.stated.lane_places.Goals as goal
 
 pub add_row-requires-clause-at : goal.add_row-requires-clause-at
@@ -37,7 +35,7 @@ add_row-requires-clause-before c =
     let u = c.args.stating.universe.now in
     let p = c.args.stating.plan.now.lanes in
     let l = c.args.number in
-    let known = stated_rows u p c.args.stating.certificate.now l in
+    let known = listed_rows p c.args.stating.certificate.now l in
     let i = c.loop-place.place in
     let x = c.index-instructions-place.result in
     let place : c.place_before.result ≡ row_before p l i x =
@@ -59,7 +57,7 @@ loop-place-preserved c =
     let u = c.args.stating.universe.now in
     let p = c.args.stating.plan.now.lanes in
     let l = c.args.number in
-    let known = stated_rows u p c.args.stating.certificate.now l in
+    let known = listed_rows p c.args.stating.certificate.now l in
     let i = c.loop-place.place in
     let x = c.index-instructions-place.result in
     let here : instruction_at p l i ≡ Some x =
@@ -83,7 +81,8 @@ pub returns-clause-more : goal.returns-clause-more
 returns-clause-more c =
     let u = c.args.stating.universe.now in
     extended_twice u c.args.rows.now.items c.push.new.self.items c.loop-place.rows.items
-    (extended_push u (initial u) c.args.rows.now.items c.push.new.self.items c.in_ok-clone.field-0
+    (extended_push u c.args.rows.now.items c.push.new.self.items c.in_ok-new.field-0
     c.in_ok-push.ensures.items
-    (subst (IsRowOf u (initial u)) (sym c.in_ok-clone.ensures.cases) c.args.stating.archive_is))
+    (empty-new u c.in_ok-new.field-0 (c.in_ok-new.ensures.len ∙ c.names.ensures.number)
+    c.in_ok-new.ensures.set))
     c.loop-place.invariant.more

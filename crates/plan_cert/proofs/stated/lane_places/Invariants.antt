@@ -1,7 +1,7 @@
 use Rattle.std.proofs.Common.{◌≡◌}
 use Rattle.plan_cert.specs.Opens.{open_at}
 use Rattle.plan_cert.specs.PlaceRows.{IsExtended, AreRowNumbers}
-use Rattle.plan_cert.specs.Stated.{rows_before, stated_rows}
+use Rattle.plan_cert.specs.Stated.{rows_before, listed_rows}
 use Rattle.plan_cert.proofs.stated.lane_places.Given as goal
 
 -- the places so far
@@ -12,7 +12,6 @@ invariant-loop-place l =
       more : IsExtended l.stating.universe.now l.initial.rows.items l.rows.items;
       when_is : l.when ≡ open_at l.stating.plan.now.lanes l.number l.place;
       numbers : AreRowNumbers l.stating.universe.now
-          (stated_rows l.stating.universe.now l.stating.plan.now.lanes l.stating.certificate.now
-          l.number)
+          (listed_rows l.stating.plan.now.lanes l.stating.certificate.now l.number)
           l.place l.numbers.items l.rows.items;
     }
