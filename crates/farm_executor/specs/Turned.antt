@@ -27,6 +27,6 @@ abbrev pub IsRested : LaneStop → Type 0
 IsRested stop = ((stop.code ≡ 0) × (stop.instruction ≡ 0)) ⊎ (stop.code ≡ HALTED)
 
 -- the cause gave up, and no other lane did
-pub record IsStopIn (cause k : ℕ) (stop : LaneStop) : Type 0 where
-  pub gave_up : k ≡ cause → stop.code ≡ GAVE_UP
-  pub rested : k ≢ cause → IsRested stop
+abbrev pub IsStopIn : ℕ → ℕ → LaneStop → Type 0
+IsStopIn cause k stop =
+    ((k ≡ cause) × (stop.code ≡ GAVE_UP)) ⊎ ((k ≢ cause) × IsRested stop)
