@@ -169,6 +169,44 @@ fn ends_of<E: LaneArchive + Drop>(
 /// # Errors
 ///
 /// [`AllocError`] where memory is refused.
+fn turn_lanes<'a, T: Turner>(
+    alloc: Global,
+    accepted: &'a Accepted,
+    turner: &mut T,
+    archive: &'a SharedArchive<'_>,
+    providers: &'a Providers,
+    seats: LaneSeats,
+) -> Result<Result<(Outcomes, LaneSeats), Stop>, AllocError>
+    requires about { archive.now.accepted.now ≡ accepted.now }
+    requires seats { seats ≡ opened_seats archive.now.table.shared.table_id
+        archive.now.accepted.now }
+    ensures same { IfOk result (λ r. IfOk r (λ o. (o.1.table ≡ seats.table)
+        × (o.1.about ≡ seats.about))) }
+    ensures were { IfOk result (λ r. IfOk r (λ o. (records : List Record)
+        × (o.1.logs ≡ map (λ x. Some x) records)
+        × WereRun accepted.now (Unit {0}) o.0.stops.items o.0.chroots.items o.0.spent.items
+        o.1.stopped records)) }
+    ensures stopped { IfOk result (λ r. IfErr r (λ s. IsStoppedRun accepted.now (Unit {0})
+        s.ends.items GAVE_UP s.lane)) }
+{
+    let count = accepted.plan().lanes();
+    let outcomes = Outcomes::with_room(alloc, count)?;
+    let ends = Vec::with_capacity(alloc, count)?;
+    let stops = Vec::with_capacity(alloc, count)?;
+    let (mut lanes, seats) = lanes_in_turns(alloc, accepted, archive, providers, seats)?;
+    let told = turner.take_turns(&mut lanes);
+    if let Some(lane) = cause_of(&lanes, told) {
+        let ends = stops_of(&lanes, lane, stops);
+        return Ok(Err(Stop { lane, ends }));
+    }
+    Ok(Ok(give_back(ends_of(lanes, ends), seats, outcomes)))
+}
+
+/// Lets all lanes take their turns as [`turn_lanes`] does, over who provides each name.
+///
+/// # Errors
+///
+/// [`AllocError`] where memory is refused.
 fn turn_seats<T: Turner>(
     alloc: Global,
     accepted: &Accepted,
@@ -188,18 +226,8 @@ fn turn_seats<T: Turner>(
     ensures stopped { IfOk result (λ r. IfErr r (λ s. IsStoppedRun accepted.now (Unit {0})
         s.ends.items GAVE_UP s.lane)) }
 {
-    let count = accepted.plan().lanes();
-    let outcomes = Outcomes::with_room(alloc, count)?;
-    let ends = Vec::with_capacity(alloc, count)?;
-    let stops = Vec::with_capacity(alloc, count)?;
     let providers = Providers::of(alloc, accepted.universe())?;
-    let (mut lanes, seats) = lanes_in_turns(alloc, accepted, archive, &providers, seats)?;
-    let told = turner.take_turns(&mut lanes);
-    if let Some(lane) = cause_of(&lanes, told) {
-        let ends = stops_of(&lanes, lane, stops);
-        return Ok(Err(Stop { lane, ends }));
-    }
-    Ok(Ok(give_back(ends_of(lanes, ends), seats, outcomes)))
+    turn_lanes(alloc, accepted, turner, archive, &providers, seats)
 }
 
 /// Opens the archive of the plan, lets its lanes take their turns, and closes the archive, unless
@@ -227,6 +255,29 @@ fn turn_archive<T: Turner>(
     }
 }
 
+/// Tells what the lanes came to: an end, or a stop.
+fn told_of(accepted: Accepted, turned: Result<Played, Stop>) -> Result<FarmRun, RunFault>
+    requires few { length accepted.plan < 2 ^ 32 }
+    requires played { IfOk turned (λ p. IsPlayed accepted (Unit {0}) p.outcomes.stops.items
+        p.outcomes.chroots.items p.outcomes.spent.items p.history.items) }
+    requires stopped { IfErr turned (λ s. IsStoppedRun accepted (Unit {0}) s.ends.items GAVE_UP
+        s.lane) }
+    ensures run { IfOk result (λ run. (run.accepted ≡ accepted)
+        × IsFarmRun accepted run.chroots.items run.spent.items run.history.items) }
+    ensures fault { IfErr result (IsFault accepted (Unit {0})) }
+{
+    accepted.keeps();
+    match turned {
+        Ok(played) => told(accepted, played),
+        Err(Stop { lane, ends }) => Err(RunFault::Stopped {
+            code: GAVE_UP,
+            lane,
+            ends,
+            accepted,
+        }),
+    }
+}
+
 /// Runs the lanes of an accepted plan in one thread, over one archive: they take their turns as
 /// `turner` lets them. What the archive has come to is told once all have ended.
 ///
@@ -249,13 +300,7 @@ pub fn run_farm_in_turns<T: Turner>(
     accepted.keeps();
     let _lanes = accepted.plan().lanes();
     match turn_archive(alloc, &accepted, turner) {
-        Ok(Ok(played)) => told(accepted, played),
-        Ok(Err(Stop { lane, ends })) => Err(RunFault::Stopped {
-            code: GAVE_UP,
-            lane,
-            ends,
-            accepted,
-        }),
+        Ok(turned) => told_of(accepted, turned),
         Err(_) => Err(RunFault::Memory),
     }
 }

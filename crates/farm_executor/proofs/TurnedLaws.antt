@@ -5,7 +5,7 @@ use Rattle.chroot_state.specs.Held.{Held, IsHeld}
 use Rattle.farm_executor.specs.FarmRuns.{IsStoppedRun}
 use Rattle.farm_executor.specs.LaneEnds.{AreRising}
 use Rattle.farm_executor.specs.Played.{HasRun}
-use Rattle.farm_executor.specs.Seated.{blank_seat}
+use Rattle.farm_executor.specs.Seated.{IsSeatOf, blank_seat}
 use Rattle.farm_executor.specs.Turned.{IsStopIn, IsTurned}
 use Rattle.farm_laws.proofs.Archive.{element}
 use Rattle.lane_records.specs.Records.{Record}
@@ -45,6 +45,17 @@ turned_on h a l r h' of w c a' l' r' h'' of' w' c' a'' l'' r'' p q = record {
   };
   running = q.running;
 }
+
+-- a lane that began with a blank seat, at the same end
+pub turned_seat : (t : TableId) (a : AcceptedPlan) (k : ℕ) (q : LaneSeatOf) (of : AcceptedPlan)
+    (w : Runner) (c : Held) (q' : LaneSeatOf) → q ≡ blank_seat t a k
+    → IsTurned q.table q.about q.lane q.log q'.table of w c q'.about q'.lane q'.log
+    → IsSeatOf t a k q'
+turned_seat t a k q of w c q' seat turned =
+    let table = turned.same.home_is ∙ ap (λ (s : LaneSeatOf). s.table) seat in
+    let about = turned.same.about_is ∙ ap (λ (s : LaneSeatOf). s.about) seat in
+    let lane = turned.same.lane_is ∙ ap (λ (s : LaneSeatOf). s.lane) seat in
+    λ i. record { table = table i; about = about i; lane = lane i; log = q'.log }
 
 -- a lane that began with a blank seat, and is at its end
 pub turned_run : (t : TableId) (a : AcceptedPlan) (gives_up : Type 0) (k : ℕ) (q : LaneSeatOf)
