@@ -2,10 +2,10 @@
 
 ghost use Rattle.std.specs.Prelude.{◌≡◌, [], IfErr, IfOk};
 ghost use Rattle.std.specs.String.{string_bytes};
-ghost use Rattle.drive_head.specs.HeadText.{head_text, run_name, stamp_text};
+ghost use Rattle.drive_head.specs.HeadText.{head_text, run_name, stamp_text, sums_of};
 ghost use Rattle.drive_store.specs.Resuming.{IsRefused, IsResumed};
 
-use drive_head::{Sums, head_of, run_name_of, stamp_of};
+use drive_head::{Sums, Texts, head_of, run_name_of, stamp_of};
 use drive_store::{JournalFile, Resumed, StoreFault, resume};
 use std::alloc::{AllocError, Global};
 
@@ -17,17 +17,20 @@ pub struct Beginning {
 }
 
 impl Beginning {
-    /// How a drive of texts with these digests begins at a time, in nanoseconds since 1970.
+    /// How a drive of these texts begins at a time, in nanoseconds since 1970.
     ///
     /// # Errors
     ///
     /// [`AllocError`] where memory is refused.
-    pub fn of(alloc: Global, sums: Sums, nanoseconds: u64) -> Result<Beginning, AllocError>
-        ensures sums { IfOk result (λ b. b.sums ≡ sums) }
+    pub fn of(alloc: Global, texts: Texts<'_>, nanoseconds: u64) -> Result<Beginning, AllocError>
+        ensures sums { IfOk result (λ b. b.sums ≡ sums_of texts.entry.packages.now
+            texts.entry.sources.now texts.entry.farm.now texts.entry.plan.now) }
         ensures stamp { IfOk result (λ b. string_bytes b.stamp ≡ stamp_text nanoseconds) }
     {
-        let stamp = stamp_of(alloc, nanoseconds)?;
-        Ok(Beginning { sums, stamp })
+        Ok(Beginning {
+            sums: Sums::of(alloc, texts)?,
+            stamp: stamp_of(alloc, nanoseconds)?,
+        })
     }
 
     /// A run that nobody means to resume.

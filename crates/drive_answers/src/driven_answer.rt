@@ -1,27 +1,24 @@
 //! What is answered to a drive.
 
-ghost use Rattle.std.specs.Prelude.{◌≡◌, IfOk, OnErr};
+ghost use Rattle.std.specs.Prelude.{◌≡◌, OnErr};
 ghost use Rattle.std.specs.Option.{option_map};
 ghost use Rattle.deb_text.specs.Lines.{lines_of};
 ghost use Rattle.drive_answers.specs.DriveAnswers.{AnswersDrive, DrivesTo, IsDriveTold, IsMisfitOf, TellsStop, head_in, kept_in};
-ghost use Rattle.drive_head.specs.HeadText.{head_text};
 ghost use Rattle.drive_run.specs.Driven.{IsMisfitIn};
 ghost use Rattle.farm_answers.specs.FarmAnswers.{ShowsEnd};
 ghost use Rattle.farm_answers.specs.Files.{named};
 ghost use Rattle.farm_input.specs.View.{texts_view};
 
-use crate::beside::check_beside_sums;
 use crate::faults::{tell_start, tell_unkept, tell_unopened};
 use crate::machine::DriveSource;
 use crate::ran::answer_driven;
 use crate::setting::{Run, Setting, beginning_of, carry_out, run_anew, run_by};
 use command_line::Paths;
-use drive_head::Sums;
 use drive_store::Journal;
 use farm_answers::{OutsideFault, answer_verdict, read_files};
-use plan_verifier::Accepted;
+use plan_verifier::{Accepted, check};
 use report_sink::Sink;
-use std::alloc::{AllocError, Global};
+use std::alloc::Global;
 use std::io::Eprint;
 use std::mem::ManuallyDrop;
 use std::sync::Wait;
@@ -68,19 +65,17 @@ fn answer_run<
 fn drive_kept<'a, R: Threads + Wait + Eprint + Sync, F: DriveSource, S: Sink, E: Sink>(
     setting: &Setting<'_, '_, R, F>,
     accepted: Accepted,
-    sums: Result<Sums, AllocError>,
     path: &str,
     out: &mut S,
     errors: &mut E,
 ) -> Result<u8, OutsideFault<'a>>
-    requires { IfOk sums (λ s. head_text s ≡ head_in (texts_view setting.now.texts)) }
     ensures told { IsDriveTold (ShowsEnd accepted) (TellsStop accepted
         (IsMisfitOf accepted (head_in (texts_view setting.now.texts))
         (F.kept setting.now.source.now path.now)) (S.state out.old) (S.state out.new))
         (S.state out.new) (E.state errors.old) (E.state errors.new) result }
     ensures quiet { OnErr result (E.state errors.new ≡ E.state errors.old) }
 {
-    let beginning = beginning_of(setting, sums)?;
+    let beginning = beginning_of(setting)?;
     let journal = match setting.source.open_journal(path) {
         Ok(journal) => journal,
         Err(fault) => return Ok(tell_unopened(fault, errors)),
@@ -95,16 +90,14 @@ fn drive_kept<'a, R: Threads + Wait + Eprint + Sync, F: DriveSource, S: Sink, E:
 fn drive_unkept<'a, R: Threads + Wait + Eprint + Sync, F: DriveSource, S: Sink, E: Sink>(
     setting: &Setting<'_, '_, R, F>,
     accepted: Accepted,
-    sums: Result<Sums, AllocError>,
     out: &mut S,
     errors: &mut E,
 ) -> Result<u8, OutsideFault<'a>>
-    requires { IfOk sums (λ s. head_text s ≡ head_in (texts_view setting.now.texts)) }
     ensures told { IsDriveTold (ShowsEnd accepted) (TellsStop accepted (λ _. ⊥) (S.state out.old)
         (S.state out.new)) (S.state out.new) (E.state errors.old) (E.state errors.new) result }
     ensures quiet { OnErr result (E.state errors.new ≡ E.state errors.old) }
 {
-    let beginning = beginning_of(setting, sums)?;
+    let beginning = beginning_of(setting)?;
     let run = run_anew(setting.alloc, &beginning)?;
     answer_run(setting, accepted, run, out, errors)
 }
@@ -113,12 +106,10 @@ fn drive_unkept<'a, R: Threads + Wait + Eprint + Sync, F: DriveSource, S: Sink, 
 fn drive_accepted<'a, R: Threads + Wait + Eprint + Sync, F: DriveSource, S: Sink, E: Sink>(
     setting: &Setting<'_, '_, R, F>,
     accepted: Accepted,
-    sums: Result<Sums, AllocError>,
     journal: Option<&str>,
     out: &mut S,
     errors: &mut E,
 ) -> Result<u8, OutsideFault<'a>>
-    requires { IfOk sums (λ s. head_text s ≡ head_in (texts_view setting.now.texts)) }
     ensures told { IsDriveTold (ShowsEnd accepted) (TellsStop accepted
         (IsMisfitOf accepted (head_in (texts_view setting.now.texts))
         (kept_in (F.kept setting.now.source.now) (option_map (λ name. name.now) journal.entry)))
@@ -127,8 +118,8 @@ fn drive_accepted<'a, R: Threads + Wait + Eprint + Sync, F: DriveSource, S: Sink
     ensures quiet { OnErr result (E.state errors.new ≡ E.state errors.old) }
 {
     match journal {
-        Some(path) => drive_kept(setting, accepted, sums, path, out, errors),
-        None => drive_unkept(setting, accepted, sums, out, errors),
+        Some(path) => drive_kept(setting, accepted, path, out, errors),
+        None => drive_unkept(setting, accepted, out, errors),
     }
 }
 
@@ -145,9 +136,17 @@ fn answer_drive<'a, R: Threads + Wait + Eprint + Sync, F: DriveSource, S: Sink, 
         (S.state out.old) (S.state out.new) (E.state errors.old) (E.state errors.new) result }
     ensures quiet { OnErr result (E.state errors.new ≡ E.state errors.old) }
 {
-    let (verdict, sums) = check_beside_sums(setting.rt, setting.alloc, setting.texts);
+    let texts = setting.texts;
+    let verdict = check(
+        setting.rt,
+        setting.alloc,
+        texts.packages,
+        texts.sources,
+        texts.farm,
+        texts.plan,
+    );
     match verdict {
-        Ok(accepted) => drive_accepted(setting, accepted, sums, journal, out, errors),
+        Ok(accepted) => drive_accepted(setting, accepted, journal, out, errors),
         Err(refusal) => answer_verdict(Err(refusal), out),
     }
 }

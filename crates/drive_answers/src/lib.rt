@@ -8,7 +8,6 @@
 #![tactic(auto)]
 
 mod begun;
-mod beside;
 mod driven_answer;
 mod faults;
 mod machine;

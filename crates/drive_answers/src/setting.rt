@@ -9,7 +9,7 @@ ghost use Rattle.farm_input.specs.View.{texts_view};
 
 use crate::begun::Beginning;
 use crate::machine::DriveSource;
-use drive_head::Sums;
+use drive_head::Texts as DrivenTexts;
 use drive_run::{Began, Driven, StartFault, Streams, drive};
 use drive_store::{Journal, JournalFile, Resumed, StoreFault, Unkept};
 use farm_input::Texts;
@@ -41,15 +41,19 @@ pub struct Run<J> {
 ///
 /// # Errors
 ///
-/// [`AllocError`] where memory is refused, also for the digests.
+/// [`AllocError`] where memory is refused.
 pub fn beginning_of<R, F: DriveSource>(
     setting: &Setting<'_, '_, R, F>,
-    sums: Result<Sums, AllocError>,
 ) -> Result<Beginning, AllocError>
-    requires { IfOk sums (λ s. head_text s ≡ head_in (texts_view setting.now.texts)) }
     ensures { IfOk result (λ b. head_text b.sums ≡ head_in (texts_view setting.now.texts)) }
 {
-    Beginning::of(setting.alloc, sums?, setting.source.nanoseconds())
+    let texts = DrivenTexts {
+        packages: setting.texts.packages,
+        sources: setting.texts.sources,
+        farm: setting.texts.farm,
+        plan: setting.texts.plan,
+    };
+    Beginning::of(setting.alloc, texts, setting.source.nanoseconds())
 }
 
 /// The run of a journal.

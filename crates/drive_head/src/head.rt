@@ -2,7 +2,7 @@
 
 ghost use Rattle.std.specs.Prelude.{◌≡◌, ◌++◌, IfOk, OnOk};
 ghost use Rattle.std.specs.String.{string_bytes};
-ghost use Rattle.drive_head.specs.HeadText.{head_text, run_line, run_name, stamp_text, sum_line, sum_of};
+ghost use Rattle.drive_head.specs.HeadText.{head_text, run_line, run_name, stamp_text, sum_line, sum_of, sums_of};
 
 use deb_text::push_pieces;
 use sha2::{Digest, Sha256};
@@ -21,10 +21,10 @@ pub struct Texts<'t> {
 /// The SHA-256 digests of four texts, each as 64 hex digits.
 #[derive(Drop)]
 pub struct Sums {
-    pub(crate) packages: String,
-    pub(crate) sources: String,
-    pub(crate) farm: String,
-    pub(crate) plan: String,
+    packages: String,
+    sources: String,
+    farm: String,
+    plan: String,
 }
 
 impl Model for Sums {
@@ -41,15 +41,29 @@ impl Model for Sums {
     } };
 }
 
-/// The digest of a text.
-///
-/// # Errors
-///
-/// [`AllocError`] where memory is refused.
-pub fn sum_of(alloc: Global, text: &[u8]) -> Result<String, AllocError>
+fn sum_of(alloc: Global, text: &[u8]) -> Result<String, AllocError>
     ensures { IfOk result (λ sum. string_bytes sum ≡ sum_of text.now) }
 {
     hex::encode(alloc, Sha256::digest(text))
+}
+
+impl Sums {
+    /// The digests of these texts.
+    ///
+    /// # Errors
+    ///
+    /// [`AllocError`] where memory is refused.
+    pub fn of(alloc: Global, texts: Texts<'_>) -> Result<Sums, AllocError>
+        ensures { IfOk result (λ sums. sums ≡ sums_of texts.entry.packages.now
+            texts.entry.sources.now texts.entry.farm.now texts.entry.plan.now) }
+    {
+        Ok(Sums {
+            packages: sum_of(alloc, texts.packages)?,
+            sources: sum_of(alloc, texts.sources)?,
+            farm: sum_of(alloc, texts.farm)?,
+            plan: sum_of(alloc, texts.plan)?,
+        })
+    }
 }
 
 fn push_sum(head: &mut Vec<u8>, name: &[u8], sum: &str) -> Result<(), AllocError>

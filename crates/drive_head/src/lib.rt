@@ -6,9 +6,7 @@
 #![tactic(auto)]
 
 mod begun;
-mod beside;
 mod head;
 
 pub use begun::{Found, find};
-pub use beside::SumsBeside;
 pub use head::{Sums, Texts, head_of, run_line_of, run_name_of, stamp_of};
