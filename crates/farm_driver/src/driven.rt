@@ -179,20 +179,22 @@ impl<R: Wait, I: BufRead + Drop, S: Sink, J: Journal + Drop> DrivenLanes<'_, R, 
 
     /// Asks for the lane's chroot, ahead of its first instruction.
     pub(crate) fn open(&mut self, place: Place<'_>) -> bool {
+        let note = self.known.notes.of(place.lane, 0);
         self.ask(Question {
             place,
             number: 0,
-            note: self.known.notes.of(place.lane, 0),
+            note,
             asked: Asked::Chroot,
         })
     }
 
     /// Asks for the unpack of a variant, which the lane has picked.
     pub(crate) fn unpack(&mut self, place: Place<'_>, variant: Variant) -> bool {
+        let note = self.note_of(place);
         self.ask(Question {
             place,
             number: place.instruction,
-            note: self.note_of(place),
+            note,
             asked: Asked::Unpack(variant),
         })
     }
@@ -282,8 +284,9 @@ impl<R: Wait, I: BufRead + Drop, S: Sink, J: Journal + Drop> DrivenLanes<'_, R, 
 
     /// Tells whether a lane waits for the driver.
     fn some_wait(&self) -> bool {
-        for lane in 0..self.known.lanes.len() {
-            if self.office.has_asked(lane as u32) {
+        let lanes = u32::try_from(self.known.lanes.len()).unwrap_or(u32::MAX);
+        for lane in 0..lanes {
+            if self.office.has_asked(lane) {
                 return true;
             }
         }
@@ -302,7 +305,8 @@ impl<R: Wait + Eprint, I: BufRead + Drop, S: Sink, J: Journal + Drop> DrivenLane
         if !is_last {
             return true;
         }
-        self.office.make(self.note_of(place));
+        let note = self.note_of(place);
+        self.office.make(note);
         self.go_to(place.lane, Stage::Ahead)
     }
 

@@ -108,8 +108,8 @@ impl<R: Wait + Eprint, I: BufRead + Drop, S: Sink, J: Journal + Drop> DrivenLane
             (E.about t.end) (E.lane t.end) (E.log t.end) }
     {
         let mut has_moved = false;
-        for lane in lanes.iter_mut() {
-            if self.visit(lane) {
+        for number in 0..lanes.len() {
+            if self.visit(&mut lanes[number]) {
                 has_moved = true;
             }
         }
@@ -120,10 +120,10 @@ impl<R: Wait + Eprint, I: BufRead + Drop, S: Sink, J: Journal + Drop> DrivenLane
 impl<R: Wait + Eprint, I: BufRead + Drop, S: Sink, J: Journal + Drop> Turner
     for DrivenLanes<'_, R, I, S, J> {
     fn take_turns<E: LaneArchive + Drop>(&mut self, lanes: &mut [LaneTurns<'_, E>]) -> Option<u32> {
-        let accepted = match lanes {
-            [first, ..] => first.accepted,
-            [] => return None,
-        };
+        if lanes.is_empty() {
+            return None;
+        }
+        let accepted = lanes[0].accepted;
         for _ in self.rt.forever() {
             if !self.round(lanes) && !self.hear(accepted) {
                 break;

@@ -1,5 +1,5 @@
 use Rattle.farm_executor.specs.Turned.{IsTurned}
-use Rattle.farm_driver.proofs.turns.DrivenLanes.visit.Given as goal
+use Rattle.farm_driver.proofs.driven.DrivenLanes.visit.Given as goal
 
 abbrev pub invariant-loop : goal.invariant-loop
 invariant-loop g l = record {
