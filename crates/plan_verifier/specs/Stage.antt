@@ -1,5 +1,6 @@
 -- What the walks over the lanes of a plan go by.
 --
+--   PlanStage    a universe, a plan over it, and what its lanes know
 --   IsStage      its parts belong together
 use Rattle.std.specs.Prelude.{◌≡◌}
 use Rattle.farm_model.specs.Universe.{Universe}
@@ -8,6 +9,11 @@ use Rattle.plan_model.specs.Plan.{Plan}
 use Rattle.plan_model.specs.Sound.{IsSound}
 use Rattle.wait_order.specs.KnownRows.{Knowledge}
 use Rattle.wait_order.specs.Outputs.{PlanOutputs}
+
+pub record PlanStage : Type 0 where
+  pub universe : Universe
+  pub plan : Plan
+  pub known : Knowledge
 
 -- A sound plan over a universe; the tables are of that universe, the outputs and what is known are
 -- of both, and the rows of what is known keep to the inclusions:

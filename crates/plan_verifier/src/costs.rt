@@ -7,7 +7,6 @@ ghost use Rattle.plan_model.specs.Safety.{Meets, Parts};
 ghost use Rattle.plan_model.specs.Sound.{IsSound};
 ghost use Rattle.plan_verifier.specs.Costs.{AreWalked, IsWalked, IsToldUnsafe};
 ghost use Rattle.plan_verifier.specs.SideBySide.{AreWalks};
-ghost use Rattle.plan_verifier.specs.Stage.{IsStage};
 ghost use Rattle.plan_verifier.specs.Walk.{Walked};
 ghost use Rattle.wait_order.specs.KnownRows.{rows_of};
 
@@ -28,10 +27,10 @@ fn costs_of<K: KnownWords>(
     stage: &Stage<'_, K>,
     walks: &[Result<u64, WalkError>],
 ) -> Result<Vec<u64>, WalkError>
-    requires walks { AreWalks (Walked stage.now.universe.now stage.now.plan.now.lanes
-        (K.known stage.now.known.now).rows) (length stage.now.plan.now.lanes) walks.now }
-    ensures { AreWalked stage.now.universe.now stage.now.plan.now.lanes
-        (K.known stage.now.known.now).rows result }
+    requires walks { AreWalks (Walked stage.now.universe stage.now.plan
+        stage.now.known.rows) (length stage.now.plan) walks.now }
+    ensures { AreWalked stage.now.universe stage.now.plan
+        stage.now.known.rows result }
 {
     let mut costs = Vec::new(alloc);
     for number in 0..stage.plan.lanes() {
@@ -57,10 +56,8 @@ pub fn walk_lanes<K: KnownWords + Sync>(
     alloc: Global,
     stage: &Stage<'_, K>,
 ) -> Result<Vec<u64>, WalkError>
-    requires stage { IsStage stage.now.universe.now stage.now.plan.now.lanes
-        stage.now.tables.now stage.now.outputs.now (K.known stage.now.known.now) }
-    ensures { AreWalked stage.now.universe.now stage.now.plan.now.lanes
-        (K.known stage.now.known.now).rows result }
+    ensures { AreWalked stage.now.universe stage.now.plan
+        stage.now.known.rows result }
 {
     let least = lanes_at_once(stage.plan);
     let walks = walk_each(rt, alloc, stage, stage.plan.lanes(), least)?;
@@ -113,13 +110,7 @@ pub fn check_lanes(
     requires keeps { KeepsRows universe.now plan.now.lanes (rows_of known.now) }
     ensures { IsWalked universe.now plan.now.lanes (rows_of known.now) result }
 {
-    let stage = Stage {
-        universe,
-        tables,
-        plan,
-        outputs: known.outputs(),
-        known,
-    };
+    let stage = Stage::new(universe, tables, plan, known.outputs(), known);
     match walk_lanes(rt, alloc, &stage) {
         Ok(costs) => Ok(costs),
         Err(

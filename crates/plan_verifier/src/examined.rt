@@ -7,7 +7,6 @@ ghost use Rattle.plan_model.specs.Plan.{count};
 ghost use Rattle.plan_model.specs.Sound.{IsSound};
 ghost use Rattle.plan_verifier.specs.Costs.{IsWalked};
 ghost use Rattle.plan_verifier.specs.Examined.{accepted_with, knowledge_of, IsGrounds};
-ghost use Rattle.plan_verifier.specs.Stage.{IsStage};
 ghost use Rattle.plan_verifier.specs.Verdict.{IsVerdictOn};
 ghost use Rattle.wait_order.specs.Answer.{IsWhyNone};
 ghost use Rattle.wait_order.specs.KnownRows.{rows_of};
@@ -208,19 +207,14 @@ impl Examined {
 
     /// What walks over the plan's lanes go by.
     pub fn stage(&self) -> Stage<'_, Known>
-        ensures universe { result.universe.now ≡ self.now.universe }
-        ensures plan { result.plan.now.lanes ≡ self.now.plan }
-        ensures known { result.known.now ≡ self.now.known }
-        ensures stage { IsStage self.now.universe self.now.plan result.tables.now
-            result.outputs.now (knowledge_of self.now.known) }
+        ensures { result ≡ record {
+          universe = self.now.universe;
+          plan = self.now.plan;
+          known = knowledge_of self.now.known;
+        } }
     {
-        Stage {
-            universe: &self.planned.universe,
-            tables: &self.tables,
-            plan: &self.planned.plan,
-            outputs: self.known.outputs(),
-            known: &self.known,
-        }
+        let Planned { universe, plan } = &self.planned;
+        Stage::new(universe, &self.tables, plan, self.known.outputs(), &self.known)
     }
 
     /// The verdict: what an acceptance rests on, or why the plan is refused.

@@ -8,7 +8,6 @@ ghost use Rattle.plan_model.specs.Plan.{lane};
 ghost use Rattle.plan_model.specs.Plan as model;
 ghost use Rattle.plan_verifier.specs.Branch.{IsAt};
 ghost use Rattle.plan_verifier.specs.Pieces.{IsSafeAhead, MayGoOn};
-ghost use Rattle.plan_verifier.specs.Stage.{IsStage};
 ghost use Rattle.plan_verifier.specs.Walk.{Walked, WalkedTo};
 
 use crate::ahead::pass_to;
@@ -28,8 +27,6 @@ const LONG: usize = 16384;
 
 /// What walks over lanes and over pieces of them, by the lanes' numbers.
 pub trait LaneWalks {
-    // what the walks rest on
-    ghost ready: { Self → Type 0 };
     // over which universe and plan they go, and what the plan's lanes know
     ghost universe: { Self → Universe };
 
@@ -43,7 +40,6 @@ pub trait LaneWalks {
     ///
     /// As those of [`walk`].
     fn walk_lane(&self, alloc: Global, number: usize) -> Result<u64, WalkError>
-        requires ready { ready self.now }
         requires there { number < length (plan self.now) }
         ensures { Walked (universe self.now) (plan self.now) (rows self.now) number result };
 
@@ -53,7 +49,6 @@ pub trait LaneWalks {
     ///
     /// As those of [`walk_to`].
     fn begin(&self, alloc: Global, number: usize) -> Result<LaneMay, WalkError>
-        requires ready { ready self.now }
         requires there { number < length (plan self.now) }
         ensures { WalkedTo (universe self.now) (plan self.now) (rows self.now) number 0 result };
 
@@ -77,7 +72,6 @@ pub trait LaneWalks {
         to: usize,
         may: LaneMay,
     ) -> Result<LaneMay, WalkError>
-        requires ready { ready self.now }
         requires on { MayGoOn (universe self.now) (plan self.now) (rows self.now) number from to
             may }
         ensures at { IfOk result
@@ -88,7 +82,6 @@ pub trait LaneWalks {
     /// What may be held further on, where others tell whether the way there is safe, if that is
     /// told.
     fn pass_to(&self, number: usize, from: usize, to: usize, may: LaneMay) -> Option<LaneMay>
-        requires ready { ready self.now }
         requires on { MayGoOn (universe self.now) (plan self.now) (rows self.now) number from to
             may }
         ensures { IfSome result
@@ -101,7 +94,6 @@ pub trait LaneWalks {
     ///
     /// As those of [`walk`].
     fn walk_rest(&self, number: usize, from: usize, may: LaneMay) -> Result<u64, WalkError>
-        requires ready { ready self.now }
         requires there { number < length (plan self.now) }
         requires from { from ≤ length (lane (plan self.now) number).instructions }
         requires at { IsAt (universe self.now) (plan self.now) (rows self.now) number from may }
@@ -117,16 +109,14 @@ fn walk_on<K: KnownWords>(
     to: usize,
     mut may: LaneMay,
 ) -> Result<LaneMay, WalkError>
-    requires stage { IsStage stage.now.universe.now stage.now.plan.now.lanes
-        stage.now.tables.now stage.now.outputs.now (K.known stage.now.known.now) }
-    requires on { MayGoOn stage.now.universe.now stage.now.plan.now.lanes
-        (K.known stage.now.known.now).rows number from to may }
-    ensures at { IfOk result (IsAt stage.now.universe.now stage.now.plan.now.lanes
-        (K.known stage.now.known.now).rows number to) }
-    ensures walked { IsSafeAhead stage.now.universe.now stage.now.plan.now.lanes
-        (K.known stage.now.known.now).rows number from
-        → WalkedTo stage.now.universe.now stage.now.plan.now.lanes
-        (K.known stage.now.known.now).rows number to result }
+    requires on { MayGoOn stage.now.universe stage.now.plan
+        stage.now.known.rows number from to may }
+    ensures at { IfOk result (IsAt stage.now.universe stage.now.plan
+        stage.now.known.rows number to) }
+    ensures walked { IsSafeAhead stage.now.universe stage.now.plan
+        stage.now.known.rows number from
+        → WalkedTo stage.now.universe stage.now.plan
+        stage.now.known.rows number to result }
 {
     for place in from..to {
         advance(stage, number, place, &mut may)?;
@@ -141,16 +131,14 @@ fn walk_rest<K: KnownWords>(
     from: usize,
     may: LaneMay,
 ) -> Result<u64, WalkError>
-    requires stage { IsStage stage.now.universe.now stage.now.plan.now.lanes
-        stage.now.tables.now stage.now.outputs.now (K.known stage.now.known.now) }
-    requires lane { number < length stage.now.plan.now.lanes }
-    requires from { from ≤ length (lane stage.now.plan.now.lanes number).instructions }
-    requires at { IsAt stage.now.universe.now stage.now.plan.now.lanes
-        (K.known stage.now.known.now).rows number from may }
-    ensures { IsSafeAhead stage.now.universe.now stage.now.plan.now.lanes
-        (K.known stage.now.known.now).rows number from
-        → Walked stage.now.universe.now stage.now.plan.now.lanes
-        (K.known stage.now.known.now).rows number result }
+    requires lane { number < length stage.now.plan }
+    requires from { from ≤ length (lane stage.now.plan number).instructions }
+    requires at { IsAt stage.now.universe stage.now.plan
+        stage.now.known.rows number from may }
+    ensures { IsSafeAhead stage.now.universe stage.now.plan
+        stage.now.known.rows number from
+        → Walked stage.now.universe stage.now.plan
+        stage.now.known.rows number result }
 {
     let end = stage.plan.lane(number).instructions().len();
     let may = walk_on(stage, number, from, end, may)?;
@@ -158,14 +146,11 @@ fn walk_rest<K: KnownWords>(
 }
 
 impl<K: KnownWords> LaneWalks for Stage<'_, K> {
-    ghost ready = { λ stage. IsStage stage.universe.now stage.plan.now.lanes
-        stage.tables.now stage.outputs.now (K.known stage.known.now) };
+    ghost universe = { λ stage. stage.universe };
 
-    ghost universe = { λ stage. stage.universe.now };
+    ghost plan = { λ stage. stage.plan };
 
-    ghost plan = { λ stage. stage.plan.now.lanes };
-
-    ghost rows = { λ stage. (K.known stage.known.now).rows };
+    ghost rows = { λ stage. stage.known.rows };
 
     fn walk_lane(&self, alloc: Global, number: usize) -> Result<u64, WalkError> {
         walk(alloc, self, number)
@@ -214,7 +199,6 @@ fn walk_pieces<R: Threads + Sync, W: LaneWalks + Sync>(
     from: usize,
     may: LaneMay,
 ) -> Result<u64, WalkError>
-    requires ready { W.ready walks.now }
     requires there { number < length (W.plan walks.now) }
     requires from { from ≤ length (lane (W.plan walks.now) number).instructions }
     requires at { IsAt (W.universe walks.now) (W.plan walks.now) (W.rows walks.now) number from
@@ -228,9 +212,8 @@ fn walk_pieces<R: Threads + Sync, W: LaneWalks + Sync>(
     let to = from + PIECE;
     let here = may.copy(alloc)?;
     let piece = move || -> Result<LaneMay, WalkError>
-        requires { W.ready walks.now
-            × MayGoOn (W.universe walks.now) (W.plan walks.now) (W.rows walks.now) number from to
-            here }
+        requires { MayGoOn (W.universe walks.now) (W.plan walks.now) (W.rows walks.now) number from
+            to here }
         ensures { IfOk result (IsAt (W.universe walks.entry.now) (W.plan walks.entry.now)
             (W.rows walks.entry.now) number to)
             × (IsSafeAhead (W.universe walks.entry.now) (W.plan walks.entry.now)
@@ -239,7 +222,7 @@ fn walk_pieces<R: Threads + Sync, W: LaneWalks + Sync>(
             (W.rows walks.entry.now) number to result) }
     { walks.walk_on(number, from, to, here) };
     let behind = move || -> Option<Result<u64, WalkError>>
-        requires { IsSync R.row × IsSync W.row × (from < to) × W.ready walks.now
+        requires { IsSync R.row × IsSync W.row × (from < to)
             × MayGoOn (W.universe walks.now) (W.plan walks.now) (W.rows walks.now) number from to
             may }
         ensures { IfSome result (λ rest. IsSafeAhead (W.universe walks.entry.now)
@@ -277,7 +260,6 @@ pub fn walk_side_by_side<R: Threads + Sync, W: LaneWalks + Sync>(
     walks: &W,
     number: usize,
 ) -> Result<u64, WalkError>
-    requires ready { W.ready walks.now }
     requires there { number < length (W.plan walks.now) }
     ensures { Walked (W.universe walks.now) (W.plan walks.now) (W.rows walks.now) number result }
 {

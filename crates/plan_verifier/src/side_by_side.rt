@@ -36,7 +36,6 @@ pub fn walk_each<R: Threads + Sync, W: LaneWalks + Sync>(
     lanes: usize,
     least: usize,
 ) -> Result<Vec<Result<u64, WalkError>>, AllocError>
-    requires ready { W.ready walks.now }
     requires lanes { lanes ≡ length (W.plan walks.now) }
     ensures { IfOk result (λ all. AreWalks
         (Walked (W.universe walks.now) (W.plan walks.now) (W.rows walks.now)) lanes all.items) }
@@ -46,7 +45,6 @@ pub fn walk_each<R: Threads + Sync, W: LaneWalks + Sync>(
         .with_min_len(least)
         .map(
             move |number: usize| -> Result<u64, WalkError>
-                requires ready { W.ready walks.now }
                 requires there { number < length (W.plan walks.now) }
                 ensures { Walked (W.universe walks.entry.now) (W.plan walks.entry.now)
                     (W.rows walks.entry.now) number result }

@@ -6,7 +6,6 @@ ghost use Rattle.may_rows.specs.Walk.{AreWordsFor};
 ghost use Rattle.plan_model.specs.Known.{possible};
 ghost use Rattle.plan_model.specs.Plan.{lane, instruction_at};
 ghost use Rattle.plan_model.specs.Sound.{IsInstruction};
-ghost use Rattle.plan_verifier.specs.Stage.{IsStage};
 ghost use Rattle.plan_verifier.specs.Branch.{IsAt};
 ghost use Rattle.plan_verifier.specs.Walk.{is_plain, IsAdvanced, Walked, WalkedTo};
 
@@ -66,14 +65,12 @@ pub fn words_at<K: KnownWords>(
     place: usize,
     instruction: &Instruction,
 ) -> ArchiveWords
-    requires stage { IsStage stage.now.universe.now stage.now.plan.now.lanes
-        stage.now.tables.now stage.now.outputs.now (K.known stage.now.known.now) }
-    requires instruction { IsInstruction stage.now.universe.now instruction.now }
-    requires lane { number < length stage.now.plan.now.lanes }
-    requires place { place ≤ length (lane stage.now.plan.now.lanes number).instructions }
-    ensures words { AreWordsFor stage.now.universe.now
-        ((K.known stage.now.known.now).rows number place)
-        (possible stage.now.universe.now stage.now.plan.now.lanes number place) instruction.now
+    requires instruction { IsInstruction stage.now.universe instruction.now }
+    requires lane { number < length stage.now.plan }
+    requires place { place ≤ length (lane stage.now.plan number).instructions }
+    ensures words { AreWordsFor stage.now.universe
+        (stage.now.known.rows number place)
+        (possible stage.now.universe stage.now.plan number place) instruction.now
         result }
     ensures known_there { (b : ℕ) → word_has result.known b ≡ true
         → word_has result.there b ≡ true }
@@ -105,16 +102,14 @@ fn step_on<K: KnownWords>(
     instruction: &Instruction,
     may: &mut LaneMay,
 ) -> Result<(), WalkError>
-    requires stage { IsStage stage.now.universe.now stage.now.plan.now.lanes
-        stage.now.tables.now stage.now.outputs.now (K.known stage.now.known.now) }
-    requires lane { number < length stage.now.plan.now.lanes }
-    requires here { instruction_at stage.now.plan.now.lanes number place ≡ Some instruction.now }
-    requires place { place < length (lane stage.now.plan.now.lanes number).instructions }
+    requires lane { number < length stage.now.plan }
+    requires here { instruction_at stage.now.plan number place ≡ Some instruction.now }
+    requires place { place < length (lane stage.now.plan number).instructions }
     requires plain { is_plain instruction.now ≡ true }
-    requires at { IsAt stage.now.universe.now stage.now.plan.now.lanes
-        (K.known stage.now.known.now).rows number place may.old }
-    ensures { IsAdvanced stage.now.universe.now stage.now.plan.now.lanes
-        (K.known stage.now.known.now).rows number place may.new result }
+    requires at { IsAt stage.now.universe stage.now.plan
+        stage.now.known.rows number place may.old }
+    ensures { IsAdvanced stage.now.universe stage.now.plan
+        stage.now.known.rows number place may.new result }
 {
     let _lanes = stage.plan.lanes();
     let lane = stage.plan.lane(number);
@@ -147,14 +142,12 @@ pub fn advance<K: KnownWords>(
     place: usize,
     may: &mut LaneMay,
 ) -> Result<(), WalkError>
-    requires stage { IsStage stage.now.universe.now stage.now.plan.now.lanes
-        stage.now.tables.now stage.now.outputs.now (K.known stage.now.known.now) }
-    requires lane { number < length stage.now.plan.now.lanes }
-    requires place { place < length (lane stage.now.plan.now.lanes number).instructions }
-    requires at { IsAt stage.now.universe.now stage.now.plan.now.lanes
-        (K.known stage.now.known.now).rows number place may.old }
-    ensures { IsAdvanced stage.now.universe.now stage.now.plan.now.lanes
-        (K.known stage.now.known.now).rows number place may.new result }
+    requires lane { number < length stage.now.plan }
+    requires place { place < length (lane stage.now.plan number).instructions }
+    requires at { IsAt stage.now.universe stage.now.plan
+        stage.now.known.rows number place may.old }
+    ensures { IsAdvanced stage.now.universe stage.now.plan
+        stage.now.known.rows number place may.new result }
 {
     let _lanes = stage.plan.lanes();
     let instruction = &stage.plan.lane(number).instructions()[place];
@@ -197,12 +190,10 @@ pub fn walk_to<K: KnownWords>(
     number: usize,
     end: usize,
 ) -> Result<LaneMay, WalkError>
-    requires stage { IsStage stage.now.universe.now stage.now.plan.now.lanes
-        stage.now.tables.now stage.now.outputs.now (K.known stage.now.known.now) }
-    requires lane { number < length stage.now.plan.now.lanes }
-    requires end { end ≤ length (lane stage.now.plan.now.lanes number).instructions }
-    ensures { WalkedTo stage.now.universe.now stage.now.plan.now.lanes
-        (K.known stage.now.known.now).rows number end result }
+    requires lane { number < length stage.now.plan }
+    requires end { end ≤ length (lane stage.now.plan number).instructions }
+    ensures { WalkedTo stage.now.universe stage.now.plan
+        stage.now.known.rows number end result }
 {
     let _lanes = stage.plan.lanes();
     let lane = stage.plan.lane(number);
@@ -228,11 +219,9 @@ pub fn walk<K: KnownWords>(
     stage: &Stage<'_, K>,
     number: usize,
 ) -> Result<u64, WalkError>
-    requires stage { IsStage stage.now.universe.now stage.now.plan.now.lanes
-        stage.now.tables.now stage.now.outputs.now (K.known stage.now.known.now) }
-    requires lane { number < length stage.now.plan.now.lanes }
-    ensures { Walked stage.now.universe.now stage.now.plan.now.lanes
-        (K.known stage.now.known.now).rows number result }
+    requires lane { number < length stage.now.plan }
+    ensures { Walked stage.now.universe stage.now.plan
+        stage.now.known.rows number result }
 {
     let end = stage.plan.lane(number).instructions().len();
     let may = walk_to(alloc, stage, number, end)?;

@@ -9,14 +9,14 @@ use Rattle.plan_verifier.proofs.ahead.pass_plain.Goals as goal
 
 pub returns : goal.returns
 returns g c could =
-    let u = c.args.stage.now.universe.now in
-    let p = c.args.stage.now.plan.now.lanes in
-    let rows = (g.K.KnownWords.known c.args.stage.now.known.now).rows in
+    let u = c.args.stage.now.universe in
+    let p = c.args.stage.now.plan in
+    let rows = c.args.stage.now.known.rows in
     let l = c.args.number in
     let i = c.args.place in
     let x = c.args.instruction.now in
-    let branched = c.requires.stage.sound.plan.branched l c.requires.lane in
-    let archive = of_archive u p rows c.requires.stage.sound.universe c.requires.stage.keeps l i
+    let branched = c.stage.invariant.sound.plan.branched l c.requires.lane in
+    let archive = of_archive u p rows c.stage.invariant.sound.universe c.stage.invariant.keeps l i
     c.requires.lane (omega (arith, c.requires.place)) in
     past-at u p rows l i branched x c.requires.plain c.requires.here c.args.may.now c.requires.at
     c.go_past.new.state c.forget.new.self

@@ -18,17 +18,17 @@ returns-in-Err g c =
     let below : l < length c.args.walks.now =
     omega (arith, c.loop-number-test.true, c.lanes-number-end.ensures.lanes, c.requires.walks.long)
     in
-    walk_ends c.args.stage.now.universe.now c.args.stage.now.plan.now.lanes
-    (g.K.KnownWords.known c.args.stage.now.known.now).rows l
+    walk_ends c.args.stage.now.universe c.args.stage.now.plan
+    c.args.stage.now.known.rows l
     (omega (arith, c.lanes-number-end.ensures.lanes)) c.loop-number.invariant.safe c.in-Err.error
     (c.requires.walks.each l (Err c.in-Err.error)
     (slice_get-get_or c.args.walks.now l (Ok 0) below ∙ ap Some c.in-Err.is))
 
 pub loop-number-preserved : goal.loop-number-preserved
 loop-number-preserved g c =
-    let u = c.args.stage.now.universe.now in
-    let p = c.args.stage.now.plan.now.lanes in
-    let rows = (g.K.KnownWords.known c.args.stage.now.known.now).rows in
+    let u = c.args.stage.now.universe in
+    let p = c.args.stage.now.plan in
+    let rows = c.args.stage.now.known.rows in
     let l = c.loop-number.number in
     let below : l < length c.args.walks.now =
     omega (arith, c.loop-number-test.true, c.lanes-number-end.ensures.lanes, c.requires.walks.long)
@@ -47,9 +47,9 @@ loop-number-preserved g c =
 
 pub returns : goal.returns
 returns g c =
-    let u = c.args.stage.now.universe.now in
-    let p = c.args.stage.now.plan.now.lanes in
-    let rows = (g.K.KnownWords.known c.args.stage.now.known.now).rows in
+    let u = c.args.stage.now.universe in
+    let p = c.args.stage.now.plan in
+    let rows = c.args.stage.now.known.rows in
     let end : c.loop-number.number ≡ length p = omega (arith, c.lanes-number-end.ensures.lanes) in (
       λ l i lt. c.loop-number.invariant.safe l i (omega arith),
       subst (λ n. AreCosts u p rows n c.loop-number.costs.items) end c.loop-number.invariant.costs,

@@ -6,8 +6,8 @@ use Rattle.plan_verifier.proofs.costs.costs_of.Given as goal
 abbrev pub invariant-loop-number : goal.invariant-loop-number
 invariant-loop-number g l = record {
   safe : (j i : ℕ) → j < l.number
-      → hazard_at l.stage.universe.now l.stage.plan.now.lanes
-      (g.K.KnownWords.known l.stage.known.now).rows j i ≡ None;
-  costs : AreCosts l.stage.universe.now l.stage.plan.now.lanes
-      (g.K.KnownWords.known l.stage.known.now).rows l.number l.costs.items;
+      → hazard_at l.stage.universe l.stage.plan
+      l.stage.known.rows j i ≡ None;
+  costs : AreCosts l.stage.universe l.stage.plan
+      l.stage.known.rows l.number l.costs.items;
 }

@@ -4,10 +4,10 @@ use Rattle.plan_verifier.proofs.pieces.walk_on.Given as goal
 
 abbrev pub invariant-loop-place : goal.invariant-loop-place
 invariant-loop-place g l = record {
-  at : IsAt l.fn.stage.universe.now l.fn.stage.plan.now.lanes
-      (g.K.KnownWords.known l.fn.stage.known.now).rows l.fn.number l.place l.may;
-  safe : IsSafeAhead l.fn.stage.universe.now l.fn.stage.plan.now.lanes
-      (g.K.KnownWords.known l.fn.stage.known.now).rows l.fn.number l.fn.from
-      → IsSafeAhead l.fn.stage.universe.now l.fn.stage.plan.now.lanes
-      (g.K.KnownWords.known l.fn.stage.known.now).rows l.fn.number l.place;
+  at : IsAt l.fn.stage.universe l.fn.stage.plan
+      l.fn.stage.known.rows l.fn.number l.place l.may;
+  safe : IsSafeAhead l.fn.stage.universe l.fn.stage.plan
+      l.fn.stage.known.rows l.fn.number l.fn.from
+      → IsSafeAhead l.fn.stage.universe l.fn.stage.plan
+      l.fn.stage.known.rows l.fn.number l.place;
 }

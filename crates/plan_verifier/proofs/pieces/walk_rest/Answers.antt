@@ -13,16 +13,16 @@ pub returns-in_err-may : goal.returns-in_err-may
 returns-in_err-may g c ahead =
     let e = err_from_is_err_and c.from_residual.result c.from_residual.ensures.1 in
     rw (e.1, e.2)
-    (told-whole c.args.stage.now.universe.now c.args.stage.now.plan.now.lanes
-    (g.K.KnownWords.known c.args.stage.now.known.now).rows c.args.number
+    (told-whole c.args.stage.now.universe c.args.stage.now.plan
+    c.args.stage.now.known.rows c.args.number
     (length c.instructions-end.result.now) c.in_err-may.field-0.0 (c.in_err-may.ensures.walked ahead))
 
 pub returns : goal.returns
 unfolding lane_cost
 returns g c ahead =
-    let u = c.args.stage.now.universe.now in
-    let p = c.args.stage.now.plan.now.lanes in
-    let rows = (g.K.KnownWords.known c.args.stage.now.known.now).rows in
+    let u = c.args.stage.now.universe in
+    let p = c.args.stage.now.plan in
+    let rows = c.args.stage.now.known.rows in
     let xs = (lane p c.args.number).instructions in
     let long : length xs ≡ length c.instructions-end.result.now =
     ap length (sym (c.instructions-end.ensures ∙ ap (λ (o : Lane). o.instructions) c.lane.ensures))

@@ -8,8 +8,8 @@ use Rattle.plan_verifier.specs.Walk.{Walked}
 use Rattle.plan_verifier.proofs.SideBySide.{are_walks}
 use Rattle.plan_verifier.proofs.side_by_side.walk_each.Goals as goal
 
-pub collect-requires-clause-ready : goal.collect-requires-clause-ready
-collect-requires-clause-ready g c κs within =
+pub collect-requires-clause-there : goal.collect-requires-clause-there
+collect-requires-clause-there g c κs within =
     let ends = c.into_par_iter.ensures in
     let n = c.args.lanes in
     let r = c.type_bounds.sync-R in
@@ -18,11 +18,8 @@ collect-requires-clause-ready g c κs within =
     rw (c.map.ensures.base, c.map.ensures.f, c.with_min_len.ensures.base, ends.0, ends.1)
     (λ k d lt. (
       (
-        c.requires.ready,
-        (
-          subst (λ m. get_or (nat_range 0 n) k d < m) c.requires.lanes (inside k d lt),
-          (search (sendable) depth 20, search (sendable) depth 20),
-        ),
+        subst (λ m. get_or (nat_range 0 n) k d < m) c.requires.lanes (inside k d lt),
+        (search (sendable) depth 20, search (sendable) depth 20),
       ),
       λ y p. tt,
     ))

@@ -11,27 +11,27 @@ overflow_cast-place g c =
     omega (
       arith,
       c.requires.place,
-      lane-few c.args.stage.now.plan.now.lanes c.args.number
+      lane-few c.args.stage.now.plan c.args.number
           c.requires.lane c.lanes-lanes.ensures.limits,
     )
 
 pub step_on-requires-clause-here : goal.step_on-requires-clause-here
 step_on-requires-clause-here g c =
-    instruction-is c.args.stage.now.plan.now.lanes c.args.number c.args.place c.lane.result.now
+    instruction-is c.args.stage.now.plan c.args.number c.args.place c.lane.result.now
     c.instructions.result.now c.index-instructions-place.result c.lane.ensures
     c.instructions.ensures
-    (below-lane c.args.stage.now.plan.now.lanes c.args.number c.args.place c.lane.result.now
+    (below-lane c.args.stage.now.plan c.args.number c.args.place c.lane.result.now
     c.instructions.result.now c.lane.ensures c.instructions.ensures c.requires.place)
     c.index-instructions-place.is
 
 pub returns-in_ok-begin-in-When : goal.returns-in_ok-begin-in-When
 returns-in_ok-begin-in-When g c =
-    let u = c.args.stage.now.universe.now in
-    let p = c.args.stage.now.plan.now.lanes in
-    let rows = (g.K.KnownWords.known c.args.stage.now.known.now).rows in
+    let u = c.args.stage.now.universe in
+    let p = c.args.stage.now.plan in
+    let rows = c.args.stage.now.known.rows in
     let l = c.args.number in
     let i = c.args.place in
-    let branched = c.requires.stage.sound.plan.branched l c.requires.lane in
+    let branched = c.stage.invariant.sound.plan.branched l c.requires.lane in
     let is = instruction-is p l i c.lane.result.now
     c.instructions.result.now c.index-instructions-place.result c.lane.ensures
     c.instructions.ensures
@@ -47,12 +47,12 @@ returns-in_ok-begin-in-When g c =
 
 pub returns-in-Otherwise : goal.returns-in-Otherwise
 returns-in-Otherwise g c =
-    let u = c.args.stage.now.universe.now in
-    let p = c.args.stage.now.plan.now.lanes in
-    let rows = (g.K.KnownWords.known c.args.stage.now.known.now).rows in
+    let u = c.args.stage.now.universe in
+    let p = c.args.stage.now.plan in
+    let rows = c.args.stage.now.known.rows in
     let l = c.args.number in
     let i = c.args.place in
-    let branched = c.requires.stage.sound.plan.branched l c.requires.lane in
+    let branched = c.stage.invariant.sound.plan.branched l c.requires.lane in
     let is = instruction-is p l i c.lane.result.now
     c.instructions.result.now c.index-instructions-place.result c.lane.ensures
     c.instructions.ensures
@@ -67,12 +67,12 @@ returns-in-Otherwise g c =
 
 pub overflow_add-result : goal.overflow_add-result
 overflow_add-result g c =
-    let u = c.args.stage.now.universe.now in
-    let p = c.args.stage.now.plan.now.lanes in
-    let rows = (g.K.KnownWords.known c.args.stage.now.known.now).rows in
+    let u = c.args.stage.now.universe in
+    let p = c.args.stage.now.plan in
+    let rows = c.args.stage.now.known.rows in
     let l = c.args.number in
     let i = c.args.place in
-    let branched = c.requires.stage.sound.plan.branched l c.requires.lane in
+    let branched = c.stage.invariant.sound.plan.branched l c.requires.lane in
     let is = instruction-is p l i c.lane.result.now
     c.instructions.result.now c.index-instructions-place.result c.lane.ensures
     c.instructions.ensures
@@ -95,12 +95,12 @@ overflow_add-result g c =
 
 pub returns-in-Some : goal.returns-in-Some
 returns-in-Some g c =
-    let u = c.args.stage.now.universe.now in
-    let p = c.args.stage.now.plan.now.lanes in
-    let rows = (g.K.KnownWords.known c.args.stage.now.known.now).rows in
+    let u = c.args.stage.now.universe in
+    let p = c.args.stage.now.plan in
+    let rows = c.args.stage.now.known.rows in
     let l = c.args.number in
     let i = c.args.place in
-    let branched = c.requires.stage.sound.plan.branched l c.requires.lane in
+    let branched = c.stage.invariant.sound.plan.branched l c.requires.lane in
     let is = instruction-is p l i c.lane.result.now
     c.instructions.result.now c.index-instructions-place.result c.lane.ensures
     c.instructions.ensures
@@ -117,12 +117,12 @@ returns-in-Some g c =
 
 pub returns-in-None : goal.returns-in-None
 returns-in-None g c =
-    let u = c.args.stage.now.universe.now in
-    let p = c.args.stage.now.plan.now.lanes in
-    let rows = (g.K.KnownWords.known c.args.stage.now.known.now).rows in
+    let u = c.args.stage.now.universe in
+    let p = c.args.stage.now.plan in
+    let rows = c.args.stage.now.known.rows in
     let l = c.args.number in
     let i = c.args.place in
-    let branched = c.requires.stage.sound.plan.branched l c.requires.lane in
+    let branched = c.stage.invariant.sound.plan.branched l c.requires.lane in
     let is = instruction-is p l i c.lane.result.now
     c.instructions.result.now c.index-instructions-place.result c.lane.ensures
     c.instructions.ensures

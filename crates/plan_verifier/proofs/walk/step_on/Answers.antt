@@ -13,7 +13,7 @@ overflow_cast-result-in-Err g c =
     omega (
       arith,
       c.requires.place,
-      lane-few c.args.stage.now.plan.now.lanes c.args.number
+      lane-few c.args.stage.now.plan c.args.number
           c.requires.lane c.lanes-lanes.ensures.limits,
     )
 
@@ -22,20 +22,20 @@ overflow_add-result g c =
     omega (
       arith,
       c.requires.place,
-      lane-few c.args.stage.now.plan.now.lanes c.args.number
+      lane-few c.args.stage.now.plan c.args.number
           c.requires.lane c.lanes-lanes.ensures.limits,
     )
 
 pub returns-in-Ok : goal.returns-in-Ok
 returns-in-Ok g c =
-    let u = c.args.stage.now.universe.now in
-    let p = c.args.stage.now.plan.now.lanes in
-    let rows = (g.K.KnownWords.known c.args.stage.now.known.now).rows in
+    let u = c.args.stage.now.universe in
+    let p = c.args.stage.now.plan in
+    let rows = c.args.stage.now.known.rows in
     let l = c.args.number in
     let i = c.args.place in
     let x = c.args.instruction.now in
-    let branched = c.requires.stage.sound.plan.branched l c.requires.lane in
-    let archive = of_archive u p rows c.requires.stage.sound.universe c.requires.stage.keeps l i
+    let branched = c.stage.invariant.sound.plan.branched l c.requires.lane in
+    let archive = of_archive u p rows c.stage.invariant.sound.universe c.stage.invariant.keeps l i
     c.requires.lane (omega (arith, c.requires.place)) in
     let answer = c.in-Ok.ensures.answer (rows l i) (possible u p l i) archive
     c.words_at-words.ensures.words in
@@ -50,14 +50,14 @@ returns-in-Ok g c =
 
 pub returns-in-Err : goal.returns-in-Err
 returns-in-Err g c =
-    let u = c.args.stage.now.universe.now in
-    let p = c.args.stage.now.plan.now.lanes in
-    let rows = (g.K.KnownWords.known c.args.stage.now.known.now).rows in
+    let u = c.args.stage.now.universe in
+    let p = c.args.stage.now.plan in
+    let rows = c.args.stage.now.known.rows in
     let l = c.args.number in
     let i = c.args.place in
     let x = c.args.instruction.now in
-    let branched = c.requires.stage.sound.plan.branched l c.requires.lane in
-    let archive = of_archive u p rows c.requires.stage.sound.universe c.requires.stage.keeps l i
+    let branched = c.stage.invariant.sound.plan.branched l c.requires.lane in
+    let archive = of_archive u p rows c.stage.invariant.sound.universe c.stage.invariant.keeps l i
     c.requires.lane (omega (arith, c.requires.place)) in
     let answer = c.in-Err.ensures.answer (rows l i) (possible u p l i) archive
     c.words_at-words.ensures.words in

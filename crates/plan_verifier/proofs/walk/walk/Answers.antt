@@ -10,9 +10,9 @@ use Rattle.plan_verifier.proofs.walk.walk.Goals as goal
 pub returns : goal.returns
 unfolding lane_cost
 returns g c =
-    let u = c.args.stage.now.universe.now in
-    let p = c.args.stage.now.plan.now.lanes in
-    let rows = (g.K.KnownWords.known c.args.stage.now.known.now).rows in
+    let u = c.args.stage.now.universe in
+    let p = c.args.stage.now.plan in
+    let rows = c.args.stage.now.known.rows in
     let xs = (lane p c.args.number).instructions in
     let long : length xs ≡ length c.instructions-end.result.now =
     ap length (sym (c.instructions-end.ensures ∙ ap (λ (o : Lane). o.instructions) c.lane.ensures))
