@@ -38,8 +38,8 @@ fn answer_run<
     'a,
     R: Threads + Wait + Eprint + Sync,
     F: DriveSource,
-    J: Journal + Drop + Send,
-    S: Sink + Send,
+    J: Journal + Drop,
+    S: Sink,
     E: Sink,
 >(
     setting: &Setting<'_, '_, R, F>,
@@ -62,7 +62,7 @@ fn answer_run<
 }
 
 /// Drives by the journal of this name.
-fn drive_kept<'a, R: Threads + Wait + Eprint + Sync, F: DriveSource, S: Sink + Send, E: Sink>(
+fn drive_kept<'a, R: Threads + Wait + Eprint + Sync, F: DriveSource, S: Sink, E: Sink>(
     setting: &Setting<'_, '_, R, F>,
     accepted: Accepted,
     path: &str,
@@ -87,7 +87,7 @@ fn drive_kept<'a, R: Threads + Wait + Eprint + Sync, F: DriveSource, S: Sink + S
 }
 
 /// Drives without a journal.
-fn drive_unkept<'a, R: Threads + Wait + Eprint + Sync, F: DriveSource, S: Sink + Send, E: Sink>(
+fn drive_unkept<'a, R: Threads + Wait + Eprint + Sync, F: DriveSource, S: Sink, E: Sink>(
     setting: &Setting<'_, '_, R, F>,
     accepted: Accepted,
     out: &mut S,
@@ -103,7 +103,7 @@ fn drive_unkept<'a, R: Threads + Wait + Eprint + Sync, F: DriveSource, S: Sink +
 }
 
 /// Drives the lanes of an accepted plan, by its journal where it has one.
-fn drive_accepted<'a, R: Threads + Wait + Eprint + Sync, F: DriveSource, S: Sink + Send, E: Sink>(
+fn drive_accepted<'a, R: Threads + Wait + Eprint + Sync, F: DriveSource, S: Sink, E: Sink>(
     setting: &Setting<'_, '_, R, F>,
     accepted: Accepted,
     journal: Option<&str>,
@@ -125,7 +125,7 @@ fn drive_accepted<'a, R: Threads + Wait + Eprint + Sync, F: DriveSource, S: Sink
 
 /// Drives the lanes of the plan that four texts stand for where it is accepted, else answers with
 /// the refusal.
-fn answer_drive<'a, R: Threads + Wait + Eprint + Sync, F: DriveSource, S: Sink + Send, E: Sink>(
+fn answer_drive<'a, R: Threads + Wait + Eprint + Sync, F: DriveSource, S: Sink, E: Sink>(
     setting: &Setting<'_, '_, R, F>,
     journal: Option<&str>,
     out: &mut S,
@@ -160,14 +160,7 @@ fn answer_drive<'a, R: Threads + Wait + Eprint + Sync, F: DriveSource, S: Sink +
 ///
 /// Those of [`read_files`]; [`OutsideFault::OutOfMemory`] where memory is refused; and
 /// [`OutsideFault::WriteFailed`] where the output fails behind the run's end.
-pub fn drive_files<
-    'a,
-    'm,
-    R: Threads + Wait + Eprint + Sync,
-    F: DriveSource,
-    S: Sink + Send,
-    E: Sink,
->(
+pub fn drive_files<'a, 'm, R: Threads + Wait + Eprint + Sync, F: DriveSource, S: Sink, E: Sink>(
     rt: &'m R,
     alloc: Global,
     source: &'m F,

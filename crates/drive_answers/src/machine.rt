@@ -12,9 +12,9 @@ pub trait DriveSource: Source {
     // The bytes of the journal of a name, where they are known.
     ghost kept: { Self → List ℕ → Option (List ℕ) };
 
-    type Answers: BufRead + Drop + Send;
+    type Answers: BufRead + Drop;
 
-    type Journal: JournalFile + Drop + Send;
+    type Journal: JournalFile + Drop;
 
     /// Standard input, by which the driver answers.
     ///

@@ -18,7 +18,6 @@ use report_sink::Sink;
 use std::alloc::{AllocError, Global};
 use std::io::Eprint;
 use std::sync::Wait;
-use std::thread::Threads;
 
 /// A drive of texts over a machine.
 #[derive(Drop)]
@@ -119,12 +118,7 @@ fn tell_typed<R: Eprint, F: DriveSource>(setting: &Setting<'_, '_, R, F>) {
 /// # Errors
 ///
 /// Those of [`drive`].
-pub fn carry_out<
-    R: Threads + Wait + Eprint + Sync,
-    F: DriveSource,
-    J: Journal + Drop + Send,
-    S: Sink + Send,
->(
+pub fn carry_out<R: Wait + Eprint, F: DriveSource, J: Journal + Drop, S: Sink>(
     setting: &Setting<'_, '_, R, F>,
     accepted: Accepted,
     run: Run<J>,

@@ -22,7 +22,7 @@ use Rattle.plan_model.specs.Plan.{count}
 use Rattle.plan_verifier.specs.Accepted.{AcceptedPlan}
 use Rattle.report_sink.specs.Sinks.{SinkState}
 
--- a run of the core in which all lanes came to their ends; or a stop, over a gate that may give up
+-- a run of the core in which all lanes came to their ends; or a stop, in which a lane may give up
 abbrev pub IsRan : AcceptedPlan → Result FarmRun RunFault → Type 0
 IsRan a ran =
     IfOk ran (λ run. (run.accepted ≡ a)

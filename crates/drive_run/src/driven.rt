@@ -3,20 +3,18 @@
 ghost use Rattle.std.specs.Prelude.{◌≡◌, IfErr, IfOk};
 ghost use Rattle.drive_run.specs.Driven.{IsMisfitOf, IsNotBegun, IsRan};
 
-use crate::lent::Lent;
-use drive_input::Input;
 use drive_notes::{Notes, ReplayFault, replay};
 use drive_store::Journal;
-use farm_driver::{DriverGate, Fault, Known, lane_words};
-use farm_executor::{FarmRun, RunFault, run_farm};
+use farm_driver::{DrivenLanes, DriverStreams, Fault, Known, lane_words};
+use farm_executor::{FarmRun, RunFault, run_farm_in_turns};
+use plan_asm::Plan;
 use plan_verifier::Accepted;
 use recipe_words::read_recipe_words;
 use report_sink::{Sink, WriteFailed, write_pieces};
-use run_teller::Teller;
+use run_teller::Told;
 use std::alloc::{AllocError, Global};
 use std::io::{BufRead, Eprint};
 use std::sync::Wait;
-use std::thread::Threads;
 
 /// The line of a journal in which the first entry stands.
 const FIRST_ENTRY: u64 = 7;
@@ -130,77 +128,32 @@ fn begin<S: Sink>(
     Ok(known)
 }
 
-/// The gate at which the lanes ask, by these streams.
-fn gate_of<
-    'a,
-    R: Threads + Wait + Eprint + Sync,
-    I: BufRead + Drop + Send,
-    S: Sink + Send,
-    J: Journal + Drop + Send,
->(
+/// The lanes as a driver carries them out, by these streams.
+fn lanes_of<'a, R: Wait, I: BufRead + Drop, S: Sink, J: Journal + Drop>(
     rt: &'a R,
     alloc: Global,
+    plan: &Plan,
     known: Known,
-    streams: Streams<I, J>,
-    out: &'a mut S,
-) -> Result<DriverGate<'a, R, I, Lent<'a, S>, J>, AllocError> {
-    let Streams { input, journal } = streams;
-    let input = Input::new(alloc, input);
-    DriverGate::new(rt, alloc, known, input, Lent { sink: out }, journal)
-}
-
-/// Runs the lanes over a gate, and tells what failed outside.
-fn run_gate<
-    R: Threads + Wait + Eprint + Sync,
-    I: BufRead + Drop + Send,
-    S: Sink + Drop + Send,
-    J: Journal + Drop + Send,
->(
-    rt: &R,
-    alloc: Global,
-    accepted: Accepted,
-    gate: &Teller<'_, R, DriverGate<'_, R, I, S, J>>,
-) -> Driven
-    ensures { IsRan accepted result.ran }
-{
-    let ran = run_farm(rt, alloc, accepted, gate);
-    let fault = gate.gate().fault();
-    Driven { ran, fault }
-}
-
-/// Runs the lanes over a gate that may be told of.
-fn run_told<
-    R: Threads + Wait + Eprint + Sync,
-    I: BufRead + Drop + Send,
-    S: Sink + Drop + Send,
-    J: Journal + Drop + Send,
->(
-    rt: &R,
-    alloc: Global,
-    accepted: Accepted,
-    gate: DriverGate<'_, R, I, S, J>,
+    streams: DriverStreams<'a, I, S, J>,
     tells: bool,
-) -> Result<Driven, AllocError>
-    ensures { IfOk result (λ driven. IsRan accepted driven.ran) }
-{
-    let gate = Teller::new(rt, alloc, accepted.plan(), gate, tells)?;
-    Ok(run_gate(rt, alloc, accepted, &gate))
+) -> Result<DrivenLanes<'a, R, I, S, J>, AllocError> {
+    let told = if tells {
+        Some(Told::new(alloc, plan)?)
+    } else {
+        None
+    };
+    DrivenLanes::new(rt, alloc, known, streams, told)
 }
 
-/// Runs the lanes of an accepted plan, each in a thread of its own, by what a driver answers. Of an
-/// earlier run the entries of its journal are followed first.
+/// Runs the lanes of an accepted plan by what a driver answers, in one thread. Of an earlier run
+/// the entries of its journal are followed first.
 ///
 /// # Errors
 ///
 /// [`StartFault::Misfit`] of the first line of the journal that does not fit: nothing is written
 /// then. [`StartFault::WriteFailed`] where the first line could not be written, and
 /// [`StartFault::Memory`] where memory is refused: no more than that line is out then.
-pub fn drive<
-    R: Threads + Wait + Eprint + Sync,
-    I: BufRead + Drop + Send,
-    S: Sink + Send,
-    J: Journal + Drop + Send,
->(
+pub fn drive<R: Wait + Eprint, I: BufRead + Drop, S: Sink, J: Journal + Drop>(
     rt: &R,
     alloc: Global,
     accepted: Accepted,
@@ -213,7 +166,14 @@ pub fn drive<
         (S.state out.new)) }
 {
     let known = begin(alloc, &accepted, began, out)?;
-    let gate = gate_of(rt, alloc, known, streams, out)?;
-    let driven = run_told(rt, alloc, accepted, gate, began.tells)?;
-    Ok(driven)
+    let Streams { input, journal } = streams;
+    let streams = DriverStreams {
+        input,
+        out,
+        journal,
+    };
+    let mut lanes = lanes_of(rt, alloc, accepted.plan(), known, streams, began.tells)?;
+    let ran = run_farm_in_turns(alloc, accepted, &mut lanes);
+    let fault = lanes.fault();
+    Ok(Driven { ran, fault })
 }

@@ -80,7 +80,7 @@ fn do_words<
     R: Threads + Wait + Eprint + Sync,
     W: AsStr,
     F: DriveSource + Folder + Watch,
-    S: Sink + Send,
+    S: Sink,
     E: Sink,
 >(
     rt: &R,
@@ -166,7 +166,7 @@ pub fn run_words<
     R: Threads + Wait + Eprint + Sync,
     W: AsStr,
     F: DriveSource + Folder + Watch,
-    S: Sink + Send,
+    S: Sink,
     E: Sink,
 >(rt: &R, alloc: Global, words: &'a [W], source: &F, out: &mut S, errors: &mut E) -> u8
     ensures { (told : Result ℕ OutsideFault) × (result ≡ status_told told)

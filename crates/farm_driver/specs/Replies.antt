@@ -24,7 +24,7 @@ abbrev pub reply_to : Request → Bool → Reply
 reply_to (request.Answered n true) ended = reply.Done (record { number = n })
 reply_to (request.Answered n false) ended = reply.Failed
 reply_to _ true = reply.None
-reply_to _ false = reply.Read
+reply_to _ false = reply.Open
 
 -- an answer to what was asked; a failure stops the run
 abbrev pub desks_given : Desks → ℕ → ℕ → Bool → Desks

@@ -1,4 +1,4 @@
-//! What a gate keeps under its lock.
+//! What a driver was asked for and has answered.
 
 ghost use Rattle.std.specs.Prelude.{◌≡◌, IfNone, IfSome, is_none, is_some};
 ghost use Rattle.drive_desk.specs.LaneDesks as desks;
@@ -8,28 +8,14 @@ ghost use Rattle.farm_driver.specs.Replies as spec;
 ghost use Rattle.farm_driver.specs.Replies.{IsKept, may_lose};
 
 use crate::keeping::keep_entry;
-use crate::known::{Known, LaneWords};
-use crate::question::{Question, write_question};
+use crate::known::LaneWords;
 use drive_desk::{Desk, Request};
 use drive_input::Heard;
 use drive_journal::{Entry, Said};
 use drive_notes::{Note, Notes};
 use drive_store::Journal;
 use drive_words::Answer;
-use report_sink::WriteSink;
 use std::alloc::{AllocError, Global};
-use std::mem;
-
-/// How far a run is from its stop.
-#[derive(Clone, Copy, PartialEq, Eq)]
-pub enum Phase {
-    /// The driver is asked.
-    Open,
-    /// Nothing more is asked; a lane gives up at what it would ask next.
-    Stopping,
-    /// A lane has halted the archive.
-    Halted,
-}
 
 /// What ends a run from outside of the plan.
 #[derive(Clone, Copy, PartialEq, Eq)]
@@ -42,15 +28,6 @@ pub enum Fault {
     JournalMisfit,
     /// A line of the driver is no answer.
     BadAnswer,
-}
-
-/// The lane that is between a look at the archive, or a change of it, and its telling; how many
-/// tellings are to come; and the rank that the event is noted with.
-#[derive(Clone, Copy)]
-struct ArchiveTurn {
-    lane: u32,
-    left: usize,
-    rank: Option<u64>,
 }
 
 /// The number of what a lane has asked for and the driver has answered to be done. An office makes
@@ -78,6 +55,16 @@ impl Kept {
         None
     }
 
+    /// What an earlier run has noted as done.
+    pub fn done_before(note: Note, number: u32) -> Option<Kept>
+        ensures { is_some result ≡ note.done }
+    {
+        if note.done {
+            return Some(Kept { number });
+        }
+        None
+    }
+
     pub fn number(&self) -> u32
         ensures { result ≡ self.now.number }
     {
@@ -91,52 +78,32 @@ pub enum Reply {
     Failed,
     /// None comes: the driver says nothing more.
     None,
-    /// The lane is to read the driver's next line.
-    Read,
+    /// None has come yet.
+    Open,
 }
 
-/// Whom the end of a turn at the archive concerns.
-#[derive(Clone, Copy, PartialEq, Eq)]
-pub enum Next {
-    /// Any one of those that wait for a turn: all of them are at something new.
-    Any,
-    /// Each of them: one alone may be next.
-    Each,
-    /// All lanes, since the run is being stopped.
-    Stopped,
-}
-
-/// What a gate keeps under its lock.
+/// What a driver was asked for and has answered, and the journal of that.
 #[derive(Drop)]
 pub struct Office<J> {
     pub journal: J,
-    pub phase: Phase,
     pub fault: Option<Fault>,
     desk: Desk,
-    // how often the bell had rung when the lane last looked
-    seen: Vec<u64>,
+    // nothing more is asked; the driver says nothing more
+    is_stopping: bool,
     has_ended: bool,
-    is_reading: bool,
-    // lines whose entries are kept, and whether a lane writes such
-    lines: Vec<u8>,
-    is_writing: bool,
     cause: Option<u32>,
-    turn: Option<ArchiveTurn>,
+    // how many noted events at the archive are made again, and how many there are
     next_rank: u64,
     ranks: u64,
-    rings: u64,
 }
 
-/// The desks of lanes, of which none has heard the bell.
-fn places_of(alloc: Global, lanes: &[LaneWords]) -> Result<(Desk, Vec<u64>), AllocError> {
+/// The desks of lanes.
+fn desk_of(alloc: Global, lanes: &[LaneWords]) -> Result<Desk, AllocError> {
     let mut least = Vec::new(alloc);
-    let mut seen = Vec::new(alloc);
     for lane in lanes {
         least.push(lane.least)?;
-        seen.push(0)?;
     }
-    let desk = Desk::new(alloc, least.as_slice())?;
-    Ok((desk, seen))
+    Desk::new(alloc, least.as_slice())
 }
 
 impl<J: Journal + Drop> Office<J> {
@@ -151,45 +118,17 @@ impl<J: Journal + Drop> Office<J> {
         notes: &Notes,
         journal: J,
     ) -> Result<Office<J>, AllocError> {
-        let (desk, seen) = places_of(alloc, lanes)?;
+        let desk = desk_of(alloc, lanes)?;
         Ok(Office {
             journal,
-            phase: Phase::Open,
             fault: None,
             desk,
-            seen,
+            is_stopping: false,
             has_ended: false,
-            is_reading: false,
-            lines: Vec::new(alloc),
-            is_writing: false,
             cause: None,
-            turn: None,
             next_rank: 0,
             ranks: notes.ranks(),
-            rings: 0,
         })
-    }
-
-    // ---- the bell
-
-    /// Notes how often the bell has rung by now.
-    pub fn see(&mut self, lane: u32) {
-        let rings = self.rings;
-        if let Some(seen) = self.seen.get_mut(lane as usize) {
-            *seen = rings;
-        }
-    }
-
-    /// Tells whether a lane is to wait for the bell.
-    pub fn is_still(&self, lane: u32) -> bool {
-        match self.seen.get(lane as usize) {
-            Some(seen) => *seen == self.rings && self.phase != Phase::Halted,
-            None => false,
-        }
-    }
-
-    pub fn ring(&mut self) {
-        self.rings = self.rings.wrapping_add(1);
     }
 
     // ---- stopping
@@ -200,9 +139,7 @@ impl<J: Journal + Drop> Office<J> {
         ensures journal { self.new.journal ≡ self.old.journal }
     {
         self.desk.stop();
-        if self.phase == Phase::Open {
-            self.phase = Phase::Stopping;
-        }
+        self.is_stopping = true;
     }
 
     /// Stops for a fault: nothing more is read either.
@@ -217,74 +154,50 @@ impl<J: Journal + Drop> Office<J> {
         self.stop();
     }
 
-    /// Tells whether this lane is the one that gives up.
-    pub fn elect(&mut self, lane: u32) -> bool
+    /// A lane gives up: the first one that does is the cause of the stop.
+    pub fn give_up(&mut self, lane: u32)
         ensures { self.new.desk ≡ desks.stopped self.old.desk }
     {
         self.stop();
-        match self.cause {
-            Some(cause) => cause == lane,
-            None => {
-                self.cause = Some(lane);
-                true
-            }
+        if self.cause.is_none() {
+            self.cause = Some(lane);
         }
     }
 
-    // ---- the archive's turn
+    pub fn is_stopping(&self) -> bool {
+        self.is_stopping
+    }
 
-    /// Tells whether a lane is to wait ahead of an event: until nobody is at another one, and all
-    /// that was made before it is made again.
+    pub fn has_ended(&self) -> bool {
+        self.has_ended
+    }
+
+    /// The lane that is the cause of the stop, once one has given up.
+    pub fn cause(&self) -> Option<u32> {
+        self.cause
+    }
+
+    // ---- what was made before
+
+    /// Tells whether a lane is to wait ahead of an event at the archive, until all that was made
+    /// before it is made again.
     pub fn must_wait(&self, note: Note) -> bool {
-        let is_due = self.turn.is_none() && self.next_rank == note.rank.unwrap_or(self.ranks);
-        match self.phase {
-            Phase::Open => !is_due,
-            Phase::Stopping => !is_due && note.rank.is_some(),
-            Phase::Halted => false,
+        match note.rank {
+            Some(rank) => rank != self.next_rank,
+            None => self.must_hold(),
         }
     }
 
     /// Tells whether what is new is to wait until all that was made before is made again.
     pub fn must_hold(&self) -> bool {
-        self.phase == Phase::Open && self.next_rank != self.ranks
+        !self.is_stopping && self.next_rank != self.ranks
     }
 
-    /// Tells whether a lane that has published is to wait for the archive's turn.
-    pub fn has_no_turn(&self) -> bool {
-        self.turn.is_some() && self.phase != Phase::Halted
-    }
-
-    /// Gives the turn to a lane, for so many tellings of an event of this rank.
-    pub fn begin_turn(&mut self, lane: u32, left: usize, rank: Option<u64>) {
-        self.turn = Some(ArchiveTurn { lane, left, rank });
-    }
-
-    /// Whom the end of a turn at an event of this rank concerns.
-    fn next(&self, rank: Option<u64>) -> Next {
-        match (self.phase, rank) {
-            (Phase::Open, None) => Next::Any,
-            (Phase::Open, Some(_)) => Next::Each,
-            _ => Next::Stopped,
-        }
-    }
-
-    /// Ends the turn of a lane with its last telling, and tells whom that concerns.
-    pub fn end_turn(&mut self, lane: u32) -> Next {
-        let Some(turn) = self.turn else {
-            return self.next(None);
-        };
-        if turn.lane != lane {
-            return self.next(None);
-        }
-        if turn.left > 1 {
-            self.begin_turn(lane, turn.left - 1, turn.rank);
-            return self.next(None);
-        }
-        self.turn = None;
-        if turn.rank == Some(self.next_rank) {
+    /// Notes that an event is made; of one that was made before, that the next one may be.
+    pub fn make(&mut self, note: Note) {
+        if note.rank == Some(self.next_rank) {
             self.next_rank = self.next_rank.wrapping_add(1);
         }
-        self.next(turn.rank)
     }
 
     // ---- asking
@@ -325,48 +238,6 @@ impl<J: Journal + Drop> Office<J> {
         self.note(lane, answered.number, Said::Done)
     }
 
-    /// Puts the line of a question whose entry is kept to those that are to be written, and tells
-    /// whether there was memory for it.
-    pub fn add_line(
-        &mut self,
-        alloc: Global,
-        known: &Known,
-        question: Question<'_>,
-        kept: &Kept,
-    ) -> bool
-        ensures { self.new.desk ≡ self.old.desk }
-    {
-        let whole = self.lines.len();
-        let mut lines = WriteSink::new(mem::replace(&mut self.lines, Vec::new(alloc)));
-        let is_added = write_question(&mut lines, known, question, kept).is_ok();
-        self.lines = lines.into_inner();
-        if !is_added {
-            self.lines.truncate(whole);
-        }
-        is_added
-    }
-
-    /// The lines that the caller is to write, unless there is none, or another lane writes.
-    pub fn lines(&mut self, alloc: Global) -> Option<Vec<u8>> {
-        if self.is_writing || self.lines.is_empty() {
-            return None;
-        }
-        self.is_writing = true;
-        Some(mem::replace(&mut self.lines, Vec::new(alloc)))
-    }
-
-    /// The lines that have come while these were written, which the caller is to write too.
-    pub fn more_lines(&mut self, written: Vec<u8>) -> Option<Vec<u8>> {
-        if self.lines.is_empty() {
-            self.is_writing = false;
-            return None;
-        }
-        let mut more = written;
-        more.clear();
-        mem::swap(&mut self.lines, &mut more);
-        Some(more)
-    }
-
     /// Notes that a lane asks, if it may, and tells whether it is so.
     pub fn ask(&mut self, lane: u32, number: u32) -> bool
         ensures told { result ≡ desks.may_ask self.old.desk lane number }
@@ -382,16 +253,9 @@ impl<J: Journal + Drop> Office<J> {
         self.desk.withdraw(lane);
     }
 
-    /// Tells whether a lane is to wait while another one reads, or writes: nobody reads before what
-    /// was asked by then is out.
-    pub fn must_listen(&self, lane: u32) -> bool {
-        let is_answered = matches!(self.desk.request(lane), Request::Answered { .. });
-        !is_answered && !self.has_ended && (self.is_reading || self.is_writing)
-    }
-
-    /// Tells whether no lane reads or writes.
-    pub fn is_idle(&self) -> bool {
-        !self.is_reading && !self.is_writing
+    /// Tells whether a lane has asked for something and has not read what came of it.
+    pub fn has_asked(&self, lane: u32) -> bool {
+        !matches!(self.desk.request(lane), Request::Idle)
     }
 
     /// The reply to what a lane has asked.
@@ -412,8 +276,7 @@ impl<J: Journal + Drop> Office<J> {
             self.desk.withdraw(lane);
             return Reply::None;
         }
-        self.is_reading = true;
-        Reply::Read
+        Reply::Open
     }
 
     /// Gives an answer to the lane that has asked, and tells whether one has.
@@ -423,7 +286,7 @@ impl<J: Journal + Drop> Office<J> {
     {
         let is_taken = self.desk.post(lane, number, done);
         if is_taken && !done {
-            let _is_cause = self.elect(lane);
+            self.give_up(lane);
         }
         is_taken
     }
@@ -442,7 +305,6 @@ impl<J: Journal + Drop> Office<J> {
         ensures told { result ≡ spec.is_heard self.old.desk heard }
         ensures after { self.new.desk ≡ spec.desks_behind self.old.desk heard }
     {
-        self.is_reading = false;
         match heard {
             Heard::End => self.hear_end(),
             Heard::Line(Answer::Done { lane, number }) => return self.give(lane, number, true),

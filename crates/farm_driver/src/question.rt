@@ -29,14 +29,6 @@ pub struct Question<'a> {
     pub asked: Asked,
 }
 
-/// Whether a lane has asked, or is at its turn, and else why not.
-#[derive(Clone, Copy, PartialEq, Eq)]
-pub enum Begun {
-    Yes,
-    Stopping,
-    Halted,
-}
-
 /// The instruction that a lane stands at.
 pub fn instruction_at<'a>(place: Place<'a>) -> Option<&'a Instruction> {
     let plan = place.accepted.plan();

@@ -4,3 +4,4 @@ pub mod Publications
 pub mod FarmRuns
 pub mod Seated
 pub mod Played
+pub mod Turned

@@ -1,6 +1,7 @@
-//! Runs of an accepted plan: a whole farm, with a thread for each lane, or a schedule.
+//! Runs of an accepted plan: a whole farm, with a thread for each lane or by turns in one thread, or
+//! a schedule.
 //!
-//! Proved, where `run_farm` returns: the run's chroots, costs and history are those of one run of
+//! Proved, where `run_farm` or `run_farm_in_turns` returns: the run's chroots, costs and history are those of one run of
 //! the definitions that ends all lanes (`IsFarmRun`), or why it stopped (`IsFault`);
 //! `accepted_schedule` meets no trap and comes to what the definitions say. Not proved: that it
 //! returns, that lanes run on threads of their own, that the bell wakes anyone (run_cases tests
@@ -19,6 +20,8 @@ mod providers;
 mod run;
 mod schedule;
 mod scope;
+mod turned;
+mod turner;
 mod turns;
 
 pub use bell::Bell;
@@ -27,4 +30,6 @@ pub use link::Link;
 pub use providers::Providers;
 pub use run::{FarmRun, RunFault, run_farm};
 pub use schedule::accepted_schedule;
+pub use turned::run_farm_in_turns;
+pub use turner::Turner;
 pub use turns::lanes_in_turns;

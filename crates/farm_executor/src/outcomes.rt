@@ -31,7 +31,7 @@ pub struct Outcomes {
 
 impl Outcomes {
     /// Room for so many lanes.
-    fn with_room(alloc: Global, lanes: usize) -> Result<Outcomes, AllocError>
+    pub fn with_room(alloc: Global, lanes: usize) -> Result<Outcomes, AllocError>
         ensures stops { IfOk result (λ o. (o.stops.items ≡ []) × (lanes ≤ vec_capacity o.stops)) }
         ensures chroots { IfOk result (λ o. (o.chroots.items ≡ [])
             × (lanes ≤ vec_capacity o.chroots)) }
@@ -46,7 +46,7 @@ impl Outcomes {
 }
 
 /// Takes all seats back, and puts the rest of the ends into the outcomes.
-fn give_back(
+pub fn give_back(
     ends: Vec<LaneEnd<Link<'_, '_>>>,
     mut seats: LaneSeats,
     mut outcomes: Outcomes,

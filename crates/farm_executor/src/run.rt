@@ -44,9 +44,9 @@ pub enum RunFault {
 
 /// What was played: how the lanes ended, and what was published, by serial.
 #[derive(Drop)]
-struct Played {
-    outcomes: Outcomes,
-    history: Vec<Publication>,
+pub struct Played {
+    pub outcomes: Outcomes,
+    pub history: Vec<Publication>,
 }
 
 /// Opens the archive of the plan, runs its lanes, and closes the archive.
@@ -69,7 +69,7 @@ fn run_archive<R: Threads + Wait + Sync, G: Gate + Sync>(
 }
 
 /// Tells what was played: an end, or a cause.
-fn told(accepted: Accepted, played: Played) -> Result<FarmRun, RunFault>
+pub fn told(accepted: Accepted, played: Played) -> Result<FarmRun, RunFault>
     requires few { length played.outcomes.stops.items < 2 ^ 32 }
     ensures ended { IfOk result (λ run. (run.accepted ≡ accepted)
         × HaveEnded played.outcomes.stops.items × (run.chroots ≡ played.outcomes.chroots)

@@ -72,10 +72,7 @@ impl<R: Files + Input> Source for Machine<'_, R> {
     }
 }
 
-impl<R: Files<File = File> + Input + Clock> DriveSource for Machine<'_, R>
-where
-    R::Reader: Send,
-{
+impl<R: Files<File = File> + Input + Clock> DriveSource for Machine<'_, R> {
     ghost use Rattle.std.specs.Prelude.{None};
 
     ghost kept = { λ _ _. None };

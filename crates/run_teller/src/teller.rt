@@ -3,22 +3,15 @@
 ghost use Rattle.std.specs.Prelude.{◌≡◌, IfOk};
 ghost use Rattle.lane_runner.specs.declared.gate.Go.TheVariants.{GiveUp};
 
+use crate::told::Told;
 use farm_archive::Publication;
 use farm_universe::Variant;
 use lane_runner::{Gate, Go, LaneArchive, Place};
-use plan_asm::{Plan, lane_name, name_of, version_of};
+use plan_asm::Plan;
 use plan_verifier::Accepted;
 use std::alloc::{AllocError, Global};
 use std::io::Eprint;
 use std::sync::{Mutex, Wait};
-
-/// The name of a lane, and the instruction at which it was last told that it waits: 0 where that
-/// was never told.
-#[derive(Drop)]
-struct ToldLane {
-    name: Vec<u8>,
-    waits_at: u32,
-}
 
 /// A gate that may tell of the run by lines on the error output of the machine: of each
 /// publication, and of each lane that begins to wait. Else it is as the gate in it is. What it
@@ -29,19 +22,7 @@ pub struct Teller<'a, R: Wait, G: Gate + Drop> {
     gate: G,
     tells: bool,
     // held while a line is written, so that lines stand one behind the other
-    lanes: Mutex<Vec<ToldLane>>,
-}
-
-/// The lanes of a plan, of which nothing was told.
-fn untold(alloc: Global, plan: &Plan) -> Result<Vec<ToldLane>, AllocError> {
-    let mut lanes = Vec::new(alloc);
-    for number in 0..plan.lanes() {
-        lanes.push(ToldLane {
-            name: plan.lane(number).name().to_vec(alloc)?,
-            waits_at: 0,
-        })?;
-    }
-    Ok(lanes)
+    told: Mutex<Told>,
 }
 
 impl<'a, R: Wait, G: Gate + Drop> Teller<'a, R, G> {
@@ -59,51 +40,13 @@ impl<'a, R: Wait, G: Gate + Drop> Teller<'a, R, G> {
     ) -> Result<Teller<'a, R, G>, AllocError>
         ensures { IfOk result (λ t. t.gate ≡ gate) }
     {
-        let lanes = untold(alloc, plan)?;
+        let told = Told::new(alloc, plan)?;
         Ok(Teller {
             rt,
             gate,
             tells,
-            lanes: Mutex::new(lanes),
+            told: Mutex::new(told),
         })
-    }
-
-    /// The gate in it.
-    pub fn gate(&self) -> &G
-        ensures { result.now ≡ self.now.gate }
-    {
-        &self.gate
-    }
-}
-
-impl<R: Wait + Eprint, G: Gate + Drop> Teller<'_, R, G> {
-    /// Tells that a lane waits, unless that was told of this wait before.
-    fn tell_wait(&self, lane: u32, instruction: u32) {
-        let mut lanes = self.lanes.lock(self.rt);
-        let Some(told) = lanes.get_mut(lane as usize) else {
-            return;
-        };
-        if told.waits_at != instruction {
-            told.waits_at = instruction;
-            let name = told.name.escape_ascii();
-            let _written = eprintln!(self.rt; "lane {name} waits at instruction {instruction}");
-        }
-    }
-
-    fn tell_publication(&self, accepted: &Accepted, publication: Publication) {
-        let Publication {
-            serial,
-            lane,
-            variant,
-        } = publication;
-        let universe = accepted.universe();
-        let lane = lane_name(accepted.plan(), lane as usize).escape_ascii();
-        let name = name_of(universe, variant.name).escape_ascii();
-        let version = version_of(universe, variant).escape_ascii();
-        let _lanes = self.lanes.lock(self.rt);
-        let _written = eprintln!(self.rt;
-            "lane {lane} published {name} {version} (serial {serial})"
-        );
     }
 }
 
@@ -124,14 +67,18 @@ impl<R: Wait + Eprint, G: Gate + Drop> Gate for Teller<'_, R, G> {
 
     fn pause(&self, lane: u32, instruction: u32) -> Go {
         if self.tells {
-            self.tell_wait(lane, instruction);
+            self.told
+                .lock(self.rt)
+                .tell_wait(self.rt, lane, instruction);
         }
         self.gate.pause(lane, instruction)
     }
 
     fn published<A: LaneArchive>(&self, accepted: &Accepted, end: &A, publication: Publication) {
         if self.tells {
-            self.tell_publication(accepted, publication);
+            self.told
+                .lock(self.rt)
+                .tell_publication(self.rt, accepted, publication);
         }
         self.gate.published(accepted, end, publication);
     }
