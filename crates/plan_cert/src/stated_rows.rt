@@ -115,7 +115,19 @@ impl StatedRows {
         &self.rows[self.places[number].number(place)]
     }
 
-    /// Tells whether all that a lane knows at a place is known to it at another, too.
+    /// Tells whether two places of a lane share a row.
+    fn share_a_row(&self, number: usize, place: usize, other: usize) -> bool
+        requires lane { number < length self.now.plan }
+        requires place { place ≤ length (lane self.now.plan number).instructions }
+        requires other { other ≤ length (lane self.now.plan number).instructions }
+        ensures { result ≡ true → listed_at self.now number place ≡ listed_at self.now number other }
+    {
+        let places = &self.places[number];
+        places.number(place) == places.number(other)
+    }
+
+    /// Tells whether all that a lane knows at a place is known to it at another, too. Places that
+    /// share a row are not compared.
     pub fn knows_within(&self, number: usize, place: usize, other: usize) -> bool
         requires lane { number < length self.now.plan }
         requires place { place ≤ length (lane self.now.plan number).instructions }
@@ -123,6 +135,9 @@ impl StatedRows {
         ensures { IsTrue result ↔ ((v : Variant) → place_rows_of self.now number place v ≡ true
             → place_rows_of self.now number other v ≡ true) }
     {
+        if self.share_a_row(number, place, other) {
+            return true;
+        }
         let here = self.listed(number, place);
         let there = self.listed(number, other);
         here.within(there)
