@@ -3,8 +3,8 @@ on. Each event takes its cost in steps as time; each output of a publish takes o
 step ends. Of what happens at one moment outputs come first, then whatever begins, each in the order of the lanes."""
 
 from core import Farm
-from explain import place_text, spelled
 from json_answers import shown
+from reasons import place_text, spelled
 
 LONGEST, SLACK, PATH, BAR = 5, 10, 40, 80
 

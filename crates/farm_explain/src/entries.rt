@@ -43,7 +43,24 @@ pub fn push_said(
     push_pieces(text, &[words, b"\n"])
 }
 
-/// Puts the line of an entry behind a text, `word` being the name of its field.
+/// Puts an entry behind a text with who has it, `word` being the name of its field.
+///
+/// # Errors
+///
+/// [`AllocError`] where memory is refused.
+pub fn push_owned_entry(
+    text: &mut Vec<u8>,
+    universe: &Universe,
+    owner: Owner,
+    word: &[u8],
+    entry: &Entry,
+) -> Result<(), AllocError> {
+    push_owner(text, universe, owner)?;
+    push_pieces(text, &[word])?;
+    push_entry(text, entry)
+}
+
+/// The same as a line.
 ///
 /// # Errors
 ///
@@ -56,9 +73,7 @@ pub fn push_entry_line(
     entry: &Entry,
 ) -> Result<(), AllocError> {
     push_pieces(text, &[b"  "])?;
-    push_owner(text, universe, owner)?;
-    push_pieces(text, &[word])?;
-    push_entry(text, entry)?;
+    push_owned_entry(text, universe, owner, word, entry)?;
     push_pieces(text, &[b"\n"])
 }
 

@@ -2,18 +2,25 @@
 //!
 //! Proved: `unsafe_notes` gives exactly the notes of the first unsafe instruction of each lane, as
 //! data, memory apart; laws say that the first is on the instruction of the refusal, and that each
-//! note on a trap has a reason. How a note is spelled is only tested.
+//! note on a trap has a reason. How a note is spelled is only tested, and so is which further lines
+//! stand below a reason.
 #![tactic(auto)]
 
+mod also_unmet;
+mod builds;
 pub mod could_meet;
 pub mod entries;
 mod held;
 mod laws;
+mod limits;
 mod missing;
+mod more;
 mod note;
 mod notes;
 mod origins;
+mod outputs;
 mod parting;
+mod pins;
 pub mod place;
 mod reasons;
 mod told;

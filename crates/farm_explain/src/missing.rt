@@ -18,20 +18,23 @@ pub struct LaneText<'a> {
     pub number: usize,
 }
 
-/// Where a variant is published: the lane's number, and the instruction's, from 1.
+/// Where a variant is published: the lane's number, the instruction's, from 1, and the recipe.
 #[derive(Clone, Copy)]
 pub struct Publishing {
     pub lane: usize,
     pub instruction: usize,
+    pub recipe: u32,
 }
 
-/// Tells whether an instruction publishes a variant.
-fn publishes(universe: &Universe, instruction: &Instruction, variant: Variant) -> bool {
+/// The recipe that an instruction publishes, where a variant is one of its outputs.
+fn published_by(universe: &Universe, instruction: &Instruction, variant: Variant) -> Option<u32> {
     match instruction {
-        Instruction::Publish(recipe) => universe.outputs(*recipe).iter().any(|output| output.name
-            == variant.name
-            && output.bit == variant.bit),
-        _ => false,
+        Instruction::Publish(recipe)
+            if universe
+                .outputs(*recipe)
+                .iter()
+                .any(|output| *output == variant) => { Some(*recipe) }
+        _ => None,
     }
 }
 
@@ -40,9 +43,12 @@ pub fn publication(universe: &Universe, plan: &Plan, variant: Variant) -> Option
     for lane in 0..plan.lanes() {
         let instructions = plan.lane(lane).instructions();
         for place in 0..instructions.len() {
-            if publishes(universe, &instructions[place], variant) {
-                let instruction = place + 1;
-                return Some(Publishing { lane, instruction });
+            if let Some(recipe) = published_by(universe, &instructions[place], variant) {
+                return Some(Publishing {
+                    lane,
+                    instruction: place + 1,
+                    recipe,
+                });
             }
         }
     }

@@ -9,6 +9,7 @@ ghost use Rattle.refusal_reasons.specs.Reasons.{reason_at};
 
 use crate::could_meet::ChrootText;
 use crate::missing::LaneText;
+use crate::more::{Refused, push_more};
 use crate::note::{Note, note_place};
 use crate::origins::push_origins;
 use crate::parting::push_parting;
@@ -142,6 +143,13 @@ fn trap_told<K: KnownWords>(
     let told = reason(alloc, stage, number, place, &may, met.trap)?;
     if let Some(reason) = told {
         push_why(&mut text, stage, of, place, &may, reason)?;
+        let at = Refused {
+            of,
+            place,
+            may: &may,
+            reason,
+        };
+        push_more(&mut text, alloc, stage, at)?;
     }
     Ok((told, text))
 }

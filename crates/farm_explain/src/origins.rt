@@ -6,6 +6,7 @@ ghost use Rattle.plan_verifier.specs.Stage.{IsStage};
 
 use crate::entries::entry_of;
 use crate::missing::{LaneText, Publishing, publication};
+use crate::outputs::{is_surely_there, push_one_by_one};
 use crate::place::{push_at, push_instruction_line};
 use crate::reasons::is_known;
 use deb_relation::Entry;
@@ -33,7 +34,7 @@ fn satisfies(universe: &Universe, entry: &Entry, variant: Variant) -> bool {
 }
 
 /// The place of the last unpack of a name among a lane's instructions up to this one.
-fn last_unpack(of: LaneText<'_>, place: usize, name: u32) -> Option<usize>
+pub fn last_unpack(of: LaneText<'_>, place: usize, name: u32) -> Option<usize>
     requires { of.number < length of.plan.now.lanes }
 {
     let mut found = None;
@@ -177,15 +178,9 @@ fn need_not_be_there<K: KnownWords>(
     if is_initial(stage.universe, variant) {
         return false;
     }
-    if variant.name >= stage.universe.names() || variant.bit >= 64 {
-        return false;
-    }
     let is_later = matches!(publication(of.universe, of.plan, variant),
         Some(found) if found.lane == of.number && found.instruction > place);
-    let word = stage
-        .known
-        .word(stage.universe, of.number, place, variant.name);
-    !is_later && !has_bit(word, variant.bit)
+    !is_later && !is_surely_there(stage, of.number, place, variant)
 }
 
 /// What would meet an entry, and whether it is there by then.
@@ -211,7 +206,8 @@ fn push_remedy<K: KnownWords>(
     if need_not_be_there(stage, of, place, variant) {
         push_pieces(text, &[b", and no wait makes sure of it here"])?;
     }
-    push_pieces(text, &[b"\n"])
+    push_pieces(text, &[b"\n"])?;
+    push_one_by_one(text, stage, of, place, variant)
 }
 
 /// The variants that a reason is about.
@@ -228,7 +224,7 @@ fn variants_of(reason: Reason) -> (Option<Variant>, Option<Variant>) {
 }
 
 /// The entry that is not surely met, where a reason is one.
-fn unmet_entry(universe: &Universe, reason: Reason) -> Option<&Entry> {
+pub fn unmet_entry(universe: &Universe, reason: Reason) -> Option<&Entry> {
     match reason {
         Reason::Unmet {
             variant,

@@ -7,3 +7,6 @@ pub mod Told
 pub mod HitNames
 pub mod Excluded
 pub mod EntryRows
+pub mod ListLaws
+pub mod OnWay
+pub mod Costs

@@ -3,3 +3,7 @@ pub mod Reasons
 pub mod Place
 pub mod Changed
 pub mod Hits
+pub mod Cost
+pub mod Builder
+pub mod Pins
+pub mod Unmet

@@ -1,23 +1,26 @@
 //! Why a build or a publish may meet a trap.
 
-ghost use Rattle.std.specs.Prelude.{◌≡◌, ◌<◌, Some, None, not, length, option_map, if◌then◌else◌};
+ghost use Rattle.std.specs.Prelude.{◌≡◌, ◌<◌, ◌++◌, Some, None, not, length, option_map, OnOk, if◌then◌else◌};
 ghost use Rattle.farm_model.specs.Packages as packages;
 ghost use Rattle.plan_model.specs.May as may;
 ghost use Rattle.may_rows.specs.Words.{AreWords, may_of};
 ghost use Rattle.refusal_reasons.specs.First as first;
 ghost use Rattle.refusal_reasons.specs.Reasons as reasons;
 ghost use Rattle.refusal_reasons.specs.Place.{IsPlaceOfLane};
+ghost use Rattle.refusal_reasons.specs.Unmet as unmet;
 ghost use Rattle.refusal_reasons.specs.declared.types.Reason.{Reason};
 
 use crate::entries::UnmetEntry;
 use crate::first::{EntryTest, NameFinder, VariantFinder, first_name, first_place};
 use crate::held::{Held, first_held};
 use crate::limits::{over_budget, too_full};
+use crate::listed::{Asker, list_names, list_passing};
 use crate::place::Place;
 use crate::types::Reason;
 use farm_universe::{Trap, Universe, Variant};
 use may_rows::MayHold;
 use sat_rows::Tables;
+use std::alloc::AllocError;
 
 /// The names that are unpacked alone, or may hold a variant with an entry that may not be met.
 #[derive(Drop)]
@@ -87,6 +90,45 @@ fn unmet_need(at: &Place, recipe: u32) -> Option<Reason>
         Some(entry) => Some(Reason::BuildNeed { recipe, entry }),
         None => None,
     }
+}
+
+/// Puts the needs of a recipe that may not be met behind others.
+///
+/// # Errors
+///
+/// [`AllocError`] where memory is refused.
+pub fn list_unmet_needs(at: &Place, recipe: u32, found: &mut Vec<Reason>) -> Result<(), AllocError>
+    requires place { IsPlaceOfLane at.now.universe.now at.now.tables.now at.now.lane.now
+        at.now.state.now }
+    requires known { recipe < length at.now.universe.now.recipes }
+    ensures { OnOk result (found.new.items ≡ found.old.items
+        ++ unmet.unmet_needs at.now.universe.now (may_of at.now.state.now) recipe) }
+{
+    let count = at.universe.recipe(recipe).needs().len();
+    let test = UnmetNeeds {
+        tables: at.tables,
+        state: at.state,
+        recipe,
+    };
+    list_passing(at.universe, count, &test, Asker::Recipe(recipe), found)
+}
+
+/// Puts the entries of all variants that may be held and that may not be met behind others.
+///
+/// # Errors
+///
+/// [`AllocError`] where memory is refused.
+pub fn list_unmet_held(at: &Place, found: &mut Vec<Reason>) -> Result<(), AllocError>
+    requires { IsPlaceOfLane at.now.universe.now at.now.tables.now at.now.lane.now
+        at.now.state.now }
+    ensures { OnOk result (found.new.items ≡ found.old.items
+        ++ unmet.unmet_held at.now.universe.now (may_of at.now.state.now)) }
+{
+    let lister = UnmetEntry {
+        tables: at.tables,
+        state: at.state,
+    };
+    list_names(at.universe, at.state, &lister, found)
 }
 
 /// The variants that satisfy a clash of a recipe.

@@ -1,12 +1,13 @@
 //! Why a configure may meet a trap.
 
-ghost use Rattle.std.specs.Prelude.{◌≡◌, IfOk};
-ghost use Rattle.plan_model.specs.May.{surely_met_with};
+ghost use Rattle.std.specs.Prelude.{◌≡◌, ◌++◌, IfOk, OnOk};
+ghost use Rattle.plan_model.specs.May.{surely_met, surely_met_with};
 ghost use Rattle.plan_model.specs.Sound.{IsNameSet};
-ghost use Rattle.may_rows.specs.Words.{may_of};
+ghost use Rattle.may_rows.specs.Words.{AreWords, may_of};
 ghost use Rattle.refusal_reasons.specs.First as first;
 ghost use Rattle.refusal_reasons.specs.Reasons as reasons;
 ghost use Rattle.refusal_reasons.specs.Place.{IsPlaceOfLane};
+ghost use Rattle.refusal_reasons.specs.Unmet as unmet;
 ghost use Rattle.refusal_reasons.specs.declared.types.Field.{Field};
 
 use crate::changed::with_configured;
@@ -16,9 +17,11 @@ use crate::first::{VariantFinder, first_among};
 use crate::held::Held;
 use crate::hits::here_words;
 use crate::limits::{NotUnpacked, over_budget};
+use crate::listed::list_members;
 use crate::place::Place;
 use crate::types::{Field, Reason};
 use farm_universe::Trap;
+use may_rows::MayHold;
 use std::alloc::AllocError;
 
 /// The answer of the first variant that a member may hold and that has one.
@@ -55,6 +58,57 @@ fn unmet_depends(at: &Place, members: &[u32]) -> Result<Option<Reason>, AllocErr
         field: Field::Depends,
     };
     Ok(first_member(at, members, &finder))
+}
+
+/// Puts the entries of a field behind others that a state may not meet, of what members may hold.
+fn list_unmet_by(
+    at: &Place,
+    members: &[u32],
+    state: &MayHold,
+    field: Field,
+    found: &mut Vec<Reason>,
+) -> Result<(), AllocError>
+    requires place { IsPlaceOfLane at.now.universe.now at.now.tables.now at.now.lane.now
+        at.now.state.now }
+    requires words { AreWords at.now.universe.now state.now }
+    ensures { OnOk result (found.new.items ≡ found.old.items
+        ++ unmet.all_members at.now.universe.now members.now (may_of at.now.state.now)
+        (unmet.unmet_in_field at.now.universe.now
+        (surely_met at.now.universe.now (may_of state.now)) field)) }
+{
+    let lister = UnmetField {
+        tables: at.tables,
+        state,
+        field,
+    };
+    list_members(at.universe, at.state, members, &lister, found)
+}
+
+/// Puts the entries of a field behind others that may not be met of what members may hold, where
+/// the members are configured together if the field is Depends.
+///
+/// # Errors
+///
+/// [`AllocError`] where memory is refused.
+pub fn list_unmet_members(
+    at: &Place,
+    members: &[u32],
+    field: Field,
+    found: &mut Vec<Reason>,
+) -> Result<(), AllocError>
+    requires place { IsPlaceOfLane at.now.universe.now at.now.tables.now at.now.lane.now
+        at.now.state.now }
+    requires members { IsNameSet at.now.universe.now members.now }
+    ensures { OnOk result (found.new.items ≡ found.old.items
+        ++ unmet.unmet_configure at.now.universe.now members.now (may_of at.now.state.now) field) }
+{
+    match field {
+        Field::PreDepends => list_unmet_by(at, members, at.state, Field::PreDepends, found),
+        Field::Depends => {
+            let after = with_configured(at.universe, at.state, members)?;
+            list_unmet_by(at, members, &after, Field::Depends, found)
+        }
+    }
 }
 
 /// The first variant of a member that one of another name may break.

@@ -1,6 +1,6 @@
 //! The first entry of a variant that may not be met.
 
-ghost use Rattle.std.specs.Prelude.{◌≡◌, ◌<◌, not, length};
+ghost use Rattle.std.specs.Prelude.{◌≡◌, ◌<◌, ◌++◌, not, length, OnOk};
 ghost use Rattle.farm_model.specs.Packages.{satisfies_entry};
 ghost use Rattle.farm_model.specs.Sound.{IsKnown};
 ghost use Rattle.plan_model.specs.May.{surely_met};
@@ -8,13 +8,16 @@ ghost use Rattle.sat_rows.specs.Rows.{IsRowOf, nth_entry};
 ghost use Rattle.may_rows.specs.Words.{AreWords, may_of};
 ghost use Rattle.refusal_reasons.specs.Reasons as reasons;
 ghost use Rattle.refusal_reasons.specs.Reasons.{asked_in_field};
+ghost use Rattle.refusal_reasons.specs.Unmet as unmet;
 
 use crate::first::{EntryTest, VariantFinder, first_place};
+use crate::listed::{Asker, ReasonLister, list_passing};
 use crate::types::{Field, Reason};
 use bit_rows::Row;
 use farm_universe::{Universe, Variant};
 use may_rows::MayHold;
 use sat_rows::Tables;
+use std::alloc::AllocError;
 
 /// How many entries a field of a variant has.
 pub fn entry_count(universe: &Universe, variant: Variant, field: Field) -> usize
@@ -97,6 +100,31 @@ impl VariantFinder for UnmetField<'_> {
     }
 }
 
+impl ReasonLister for UnmetField<'_> {
+    ghost fits = { λ u t. (t.tables.now ≡ u) × AreWords u t.state.now };
+
+    ghost answers = { λ u t v.
+        unmet.unmet_in_field u (surely_met u (may_of t.state.now)) t.field v };
+
+    fn list(
+        &self,
+        universe: &Universe,
+        variant: Variant,
+        found: &mut Vec<Reason>,
+    ) -> Result<(), AllocError> {
+        let field = self.field;
+        let count = entry_count(universe, variant, field);
+        let test = UnmetEntries {
+            tables: self.tables,
+            state: self.state,
+            variant,
+            field,
+        };
+        let asker = Asker::Package(variant, field);
+        list_passing(universe, count, &test, asker, found)
+    }
+}
+
 /// Answers a variant by its first entry that may not be met, Depends before Pre-Depends.
 #[derive(Drop)]
 pub struct UnmetEntry<'a> {
@@ -119,6 +147,28 @@ impl UnmetEntry<'_> {
         };
         finder.find(universe, variant)
     }
+
+    fn list_field(
+        &self,
+        universe: &Universe,
+        variant: Variant,
+        field: Field,
+        found: &mut Vec<Reason>,
+    ) -> Result<(), AllocError>
+        requires same { self.now.tables.now ≡ universe.now }
+        requires words { AreWords universe.now self.now.state.now }
+        requires known { IsKnown universe.now variant }
+        ensures { OnOk result (found.new.items ≡ found.old.items
+            ++ unmet.unmet_in_field universe.now
+            (surely_met universe.now (may_of self.now.state.now)) field variant) }
+    {
+        let lister = UnmetField {
+            tables: self.tables,
+            state: self.state,
+            field,
+        };
+        lister.list(universe, variant, found)
+    }
 }
 
 impl VariantFinder for UnmetEntry<'_> {
@@ -131,5 +181,21 @@ impl VariantFinder for UnmetEntry<'_> {
             Some(reason) => Some(reason),
             None => self.unmet_field(universe, variant, Field::PreDepends),
         }
+    }
+}
+
+impl ReasonLister for UnmetEntry<'_> {
+    ghost fits = { λ u t. (t.tables.now ≡ u) × AreWords u t.state.now };
+
+    ghost answers = { λ u t v. unmet.unmet_in u (surely_met u (may_of t.state.now)) v };
+
+    fn list(
+        &self,
+        universe: &Universe,
+        variant: Variant,
+        found: &mut Vec<Reason>,
+    ) -> Result<(), AllocError> {
+        self.list_field(universe, variant, Field::Depends, found)?;
+        self.list_field(universe, variant, Field::PreDepends, found)
     }
 }

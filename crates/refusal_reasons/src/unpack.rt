@@ -1,6 +1,6 @@
 //! Why an unpack may meet a trap.
 
-ghost use Rattle.std.specs.Prelude.{◌≡◌, ◌<◌, IfOk};
+ghost use Rattle.std.specs.Prelude.{◌≡◌, ◌<◌, ◌++◌, IfOk, OnOk};
 ghost use Rattle.clause_kernel.specs.Rows.{word_has};
 ghost use Rattle.farm_model.specs.Packages as packages;
 ghost use Rattle.plan_model.specs.May.{surely_pre_met};
@@ -9,6 +9,7 @@ ghost use Rattle.may_rows.specs.Words.{may_of};
 ghost use Rattle.refusal_reasons.specs.First as first;
 ghost use Rattle.refusal_reasons.specs.Reasons as reasons;
 ghost use Rattle.refusal_reasons.specs.Place.{IsPlaceOfLane};
+ghost use Rattle.refusal_reasons.specs.Unmet as unmet;
 ghost use Rattle.refusal_reasons.specs.declared.types.Field.{Field};
 
 use crate::ahead::UnmetAhead;
@@ -17,6 +18,7 @@ use crate::exclude::{Breaks, Conflicts};
 use crate::held::first_of;
 use crate::hits::{here_words, ready_words};
 use crate::limits::{over_budget, too_full};
+use crate::listed::list_set;
 use crate::place::Place;
 use crate::types::Reason;
 use farm_universe::{Trap, Universe};
@@ -48,7 +50,7 @@ pub fn missing(name: u32, trap: Trap) -> Option<Reason>
 }
 
 /// What an unpack of a variant of a set costs at most.
-fn unpack_cost(universe: &Universe, name: u32, set: u64) -> u64
+pub fn unpack_cost(universe: &Universe, name: u32, set: u64) -> u64
     ensures { result ≡ greatest_cost universe.now name (word_has set) }
 {
     1 + greatest_size(universe, name, set) / 1024
@@ -69,6 +71,34 @@ fn unmet_ahead(at: &Place, name: u32, set: u64) -> Result<Option<Reason>, AllocE
         state: &left,
     };
     Ok(first_of(at.universe, name, set, &finder))
+}
+
+/// Puts the Pre-Depends entries of the variants of a set behind others that may not be met ahead of
+/// their unpack.
+///
+/// # Errors
+///
+/// [`AllocError`] where memory is refused.
+pub fn list_unmet_ahead(
+    at: &Place,
+    name: u32,
+    set: u64,
+    found: &mut Vec<Reason>,
+) -> Result<(), AllocError>
+    requires place { IsPlaceOfLane at.now.universe.now at.now.tables.now at.now.lane.now
+        at.now.state.now }
+    requires named { name < packages.names at.now.universe.now }
+    ensures { OnOk result (found.new.items ≡ found.old.items
+        ++ unmet.all_of at.now.universe.now name (word_has set)
+        (unmet.unmet_in_field at.now.universe.now
+        (surely_pre_met at.now.universe.now name (may_of at.now.state.now)) Field.PreDepends)) }
+{
+    let left = without_name(at.universe, at.state, name)?;
+    let lister = UnmetAhead {
+        tables: at.tables,
+        state: &left,
+    };
+    list_set(at.universe, name, set, &lister, found)
 }
 
 /// The lowest variant of a set that may be in conflict with one of another name.

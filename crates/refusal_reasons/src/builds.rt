@@ -1,0 +1,104 @@
+//! Where a recipe is built that is not surely built.
+
+ghost use Rattle.std.specs.Prelude.{◌≡◌, ◌<◌, true, Some, IfSome, length};
+ghost use Rattle.plan_model.specs.Branches as branches;
+ghost use Rattle.plan_model.specs.Plan.{lane, instruction_at};
+ghost use Rattle.refusal_reasons.specs.Builder as spec;
+
+use plan_asm::{Instruction, Plan};
+
+/// Outside of all branches, or in the first or the second branch of the `when` at a place.
+#[derive(Clone, Copy)]
+pub enum Side {
+    Outside,
+    First(usize),
+    Second(usize),
+}
+
+/// Where a recipe is built. Lanes and instructions go by their places, from 0.
+#[derive(Clone, Copy)]
+pub enum Builder {
+    /// Ahead, in this branch alone of its `when`.
+    Branch(Side),
+    /// By the lane itself, further on.
+    Later { place: usize },
+    /// By another lane.
+    Other { lane: usize, place: usize },
+    /// By no lane.
+    Nobody,
+}
+
+/// On which side it goes on behind the instruction at a place of a lane.
+fn side_behind(plan: &Plan, number: usize, place: usize, side: Side) -> Side
+    requires { number < length plan.now.lanes }
+    ensures { spec.side_of result ≡ branches.side_behind_some place (spec.side_of side)
+        (instruction_at plan.now.lanes number place) }
+{
+    match plan.lane(number).instructions().get(place) {
+        Some(Instruction::When { .. }) => Side::First(place),
+        Some(Instruction::Otherwise) => match side {
+            Side::First(when) => Side::Second(when),
+            Side::Outside | Side::Second(_) => side,
+        },
+        Some(Instruction::EndWhen) => Side::Outside,
+        _ => side,
+    }
+}
+
+/// On which side a place of a lane lies.
+fn side_at(plan: &Plan, number: usize, end: usize) -> Side
+    requires { number < length plan.now.lanes }
+    ensures { spec.side_of result ≡ branches.side_at (lane plan.now.lanes number).instructions end }
+{
+    let mut side = Side::Outside;
+    for place in 0..end {
+        side = side_behind(plan, number, place, side);
+    }
+    side
+}
+
+/// Tells whether the instruction of a lane at a place, if there is one, builds a recipe.
+fn builds(plan: &Plan, number: usize, place: usize, recipe: u32) -> bool
+    requires { number < length plan.now.lanes }
+    ensures { result ≡ true
+        → instruction_at plan.now.lanes number place ≡ Some (Instruction.Build recipe) }
+{
+    match plan.lane(number).instructions().get(place) {
+        Some(Instruction::Build(built)) => *built == recipe,
+        _ => false,
+    }
+}
+
+/// The place of the first build of a recipe in a lane.
+fn first_build(plan: &Plan, number: usize, recipe: u32) -> Option<usize>
+    requires { number < length plan.now.lanes }
+    ensures { IfSome result (λ place. instruction_at plan.now.lanes number place
+        ≡ Some (Instruction.Build recipe)) }
+{
+    for place in 0..plan.lane(number).instructions().len() {
+        if builds(plan, number, place, recipe) {
+            return Some(place);
+        }
+    }
+    None
+}
+
+/// Where a recipe is built that is not surely built at a place of a lane: its first build in this
+/// lane, or else in the first lane that has one.
+pub fn find_builder(plan: &Plan, number: usize, place: usize, recipe: u32) -> Builder
+    requires { number < length plan.now.lanes }
+    ensures { spec.IsBuilder plan.now.lanes number place recipe result }
+{
+    if let Some(built) = first_build(plan, number, recipe) {
+        if built < place {
+            return Builder::Branch(side_at(plan, number, built));
+        }
+        return Builder::Later { place: built };
+    }
+    for lane in 0..plan.lanes() {
+        if let Some(place) = first_build(plan, lane, recipe) {
+            return Builder::Other { lane, place };
+        }
+    }
+    Builder::Nobody
+}

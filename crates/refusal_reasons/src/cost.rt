@@ -1,0 +1,129 @@
+//! What a lane costs at most, also past an unsafe instruction.
+
+ghost use Rattle.std.specs.Prelude.{◌≡◌, ◌<◌, ℕ, suc, Bool, true, IfSome, length};
+ghost use Rattle.clause_kernel.specs.Rows.{word_has};
+ghost use Rattle.farm_model.specs.declared.types.Variant.{Variant};
+ghost use Rattle.plan_model.specs.MayAt as may_at;
+ghost use Rattle.plan_model.specs.Plan.{lane};
+ghost use Rattle.plan_model.specs.Sound.{IsInstruction};
+ghost use Rattle.plan_verifier.specs.Stage.{IsStage};
+ghost use Rattle.may_rows.specs.Picks.{AreOfArchive};
+ghost use Rattle.may_rows.specs.Walk.{AreWordsFor};
+ghost use Rattle.refusal_reasons.specs.Cost as spec;
+
+use crate::unpack::unpack_cost;
+use farm_universe::Universe;
+use may_rows::ArchiveWords;
+use may_rows::pick::pick;
+use plan_asm::Instruction;
+use plan_verifier::{Stage, words_at};
+use wait_order::KnownWords;
+
+/// What may be spent at a place, ahead of the open `when`, and at the end of its first branch.
+#[derive(Clone, Copy)]
+pub struct Spent {
+    pub here: u64,
+    pub ahead: u64,
+    pub first: u64,
+}
+
+/// What an instruction costs at most: none of an unpack of which no variant that is surely in the
+/// archive is wanted. `words` is what of the name that it unpacks, if it does, is there.
+fn instruction_cost(
+    universe: &Universe,
+    instruction: &Instruction,
+    words: ArchiveWords,
+) -> Option<u64>
+    requires instruction { IsInstruction universe.now instruction.now }
+    requires known_there { (b : ℕ) → word_has words.known b ≡ true → word_has words.there b ≡ true }
+    ensures { (in_it may_be : Variant → Bool) → AreOfArchive universe.now in_it may_be
+        → AreWordsFor universe.now in_it may_be instruction.now words
+        → IfSome result (spec.IsCost universe.now in_it may_be instruction.now) }
+{
+    match instruction {
+        Instruction::Unpack { name, relation } => {
+            let set = pick(universe, *name, relation, words.known, words.there)?;
+            Some(unpack_cost(universe, *name, set))
+        }
+        Instruction::Configure(members)
+        | Instruction::Deconfigure(members)
+        | Instruction::Remove(members) => Some(members.as_slice().len() as u64),
+        Instruction::Build(recipe) => Some(universe.recipe(*recipe).steps()),
+        Instruction::Publish(recipe) => Some(universe.outputs(*recipe).len() as u64),
+        Instruction::Wait(_)
+        | Instruction::When { .. }
+        | Instruction::Otherwise
+        | Instruction::EndWhen => Some(0),
+    }
+}
+
+impl Spent {
+    /// What may be spent behind an instruction of this cost; none where that is too much for the
+    /// type.
+    fn behind(self, instruction: &Instruction, cost: u64) -> Option<Spent>
+        ensures { IfSome result (λ next. spec.IsSpentBehind self instruction.now cost next) }
+    {
+        match instruction {
+            Instruction::When { .. } => Some(Spent {
+                ahead: self.here,
+                ..self
+            }),
+            Instruction::Otherwise => Some(Spent {
+                here: self.ahead,
+                first: self.here,
+                ..self
+            }),
+            Instruction::EndWhen => Some(Spent {
+                here: self.first.max(self.here),
+                ..self
+            }),
+            _ => Some(Spent {
+                here: self.here.checked_add(cost)?,
+                ..self
+            }),
+        }
+    }
+}
+
+/// What may be spent behind the instruction at a place of a lane.
+fn pass<K: KnownWords>(
+    stage: &Stage<'_, K>,
+    number: usize,
+    place: usize,
+    spent: Spent,
+) -> Option<Spent>
+    requires stage { IsStage stage.now.universe.now stage.now.plan.now.lanes
+        stage.now.tables.now stage.now.outputs.now (K.known stage.now.known.now) }
+    requires lane { number < length stage.now.plan.now.lanes }
+    requires place { place < length (lane stage.now.plan.now.lanes number).instructions }
+    ensures { spent ≡ spec.spent_at stage.now.universe.now stage.now.plan.now.lanes
+        (K.known stage.now.known.now).rows number place
+        → IfSome result (λ next. next ≡ spec.spent_at stage.now.universe.now
+        stage.now.plan.now.lanes (K.known stage.now.known.now).rows number (suc place)) }
+{
+    let _lanes = stage.plan.lanes();
+    let instruction = &stage.plan.lane(number).instructions()[place];
+    let words = words_at(stage, number, place, instruction);
+    let cost = instruction_cost(stage.universe, instruction, words)?;
+    spent.behind(instruction, cost)
+}
+
+/// The most that a lane spends, in steps, also where it may meet a trap: none where an unpack
+/// wants no variant that is surely in the archive, whose cost is not known.
+pub fn lane_cost<K: KnownWords>(stage: &Stage<'_, K>, number: usize) -> Option<u64>
+    requires stage { IsStage stage.now.universe.now stage.now.plan.now.lanes
+        stage.now.tables.now stage.now.outputs.now (K.known stage.now.known.now) }
+    requires lane { number < length stage.now.plan.now.lanes }
+    ensures { IfSome result (λ cost. cost ≡ may_at.lane_cost stage.now.universe.now
+        stage.now.plan.now.lanes (K.known stage.now.known.now).rows number) }
+{
+    let mut spent = Spent {
+        here: 0,
+        ahead: 0,
+        first: 0,
+    };
+    for place in 0..stage.plan.lane(number).instructions().len() {
+        spent = pass(stage, number, place, spent)?;
+    }
+    Some(spent.here)
+}
