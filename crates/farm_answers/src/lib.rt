@@ -3,7 +3,8 @@
 //!
 //! Proved, over files, readers and sinks whose bytes are known: each answer is exactly the text of
 //! its definition, with its status, or a first part where the sink fails (`IsAnswered`); a fault
-//! outside of the texts is exactly its line (`tell`). Not proved: that `answer_run` returns.
+//! outside of the texts is exactly its line (`tell`), and the word that is no lane the first one of
+//! its file. Not proved: that `answer_run` returns, and how such a word is told.
 #![tactic(auto)]
 
 mod answers;
@@ -14,6 +15,7 @@ mod fault;
 mod files;
 mod source;
 mod status;
+mod turn_note;
 mod turns;
 
 pub use answers::{
