@@ -3,11 +3,12 @@
 ghost use Rattle.std.specs.Prelude.{◌≡◌, ℕ, List, IfErr, IfOk, IsOkAnd, length, map};
 ghost use Rattle.command_line.specs.Words.{AreFarmWords, ArePathWords, IsAskedBy, IsRefusedFor, IsRequestedBy};
 
-use crate::among::{are_farm_words, are_words, ends_word, is_word};
+use crate::among::{are_farm_words, are_words, ends_word};
+use crate::certificates::{explain_of, verify_of};
 use crate::command::{
-    BARS, CERT, CERTIFICATE, CHECK, DRAFT, DRIVE, EXPLAIN, FARM, FULL, GRAPH, IMPORT, INPUT, JSON,
-    LANES, LIST, NUMBER, PACKAGES, PARTIAL, PLAN, PROGRESS, REST, RUN, SCHEDULE, SKETCH, SOURCES,
-    STEP, SVG, TIMELINE, VERIFY_CERT, portfarm,
+    BARS, BY_CERT, CERT, CERTIFICATE, CHECK, DRAFT, DRIVE, EXPLAIN, FARM, FULL, GRAPH, IMPORT,
+    INPUT, JSON, LANES, LIST, NUMBER, PACKAGES, PARTIAL, PLAN, PROGRESS, REST, RUN, SCHEDULE,
+    SKETCH, SOURCES, STEP, SVG, TIMELINE, VERIFY_CERT, portfarm,
 };
 use crate::drive::drive_of;
 use crate::import::{ImportWords, import_of};
@@ -64,6 +65,11 @@ pub enum Request<'a> {
     Explain {
         paths: Paths<'a>,
         json: bool,
+    },
+    /// The verdict on the certificate of a plan, which stands in a file too, and why it is one.
+    ExplainCert {
+        cert: &'a str,
+        paths: Paths<'a>,
     },
     /// The listing of a plan; and whether its lines are numbered.
     List {
@@ -190,6 +196,7 @@ fn paths_of<'a>(matches: &ArgMatches<'a>) -> Paths<'a> {
 fn one_more<'a>(command: &str, matches: &ArgMatches<'a>) -> &'a str {
     match command {
         VERIFY_CERT => word_of(matches, CERTIFICATE),
+        EXPLAIN => word_of(matches, BY_CERT),
         STEP => word_of(matches, SCHEDULE).strip_prefix('@').unwrap_or(""),
         _ => "",
     }
@@ -227,23 +234,6 @@ fn step_of<'a, S: AsStr>(
     }
 }
 
-/// What `verify-cert` asks for, by the name of the certificate.
-fn verify_of<'a, S: AsStr>(
-    alloc: Global,
-    words: &'a [S],
-    cert: &'a str,
-    paths: Paths<'a>,
-) -> Result<Request<'a>, WordsFault>
-    requires paths { ArePathWords (map S.text words.now) paths }
-    ensures asked { IfOk result (IsRequestedBy (map S.text words.entry.now)) }
-    ensures refused { IfErr result (IsRefusedFor (map S.text words.entry.now)) }
-{
-    if !is_word(words, cert) {
-        return Err(not_there(alloc));
-    }
-    Ok(Request::VerifyCert { cert, paths })
-}
-
 /// How a timeline is to be shown; the parser lets one option alone stand for that.
 fn form_of(matches: &ArgMatches<'_>) -> TimelineForm {
     if matches.get_flag(JSON) {
@@ -273,10 +263,7 @@ fn request_of<'a, S: AsStr>(
             paths,
             json: matches.get_flag(JSON),
         }),
-        EXPLAIN => Ok(Request::Explain {
-            paths,
-            json: matches.get_flag(JSON),
-        }),
+        EXPLAIN => explain_of(alloc, words, matches, paths),
         LIST => Ok(Request::List {
             paths,
             number: matches.get_flag(NUMBER),

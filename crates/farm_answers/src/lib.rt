@@ -22,7 +22,7 @@ pub use answers::{
     answer_check, answer_list, answer_numbered, answer_step, answer_step_by, answer_verdict,
     show_verdict, status_of, write_answer,
 };
-pub use certificates::{answer_cert, answer_verify_cert};
+pub use certificates::{answer_cert, answer_verify_cert, check_text};
 pub use errors::{say, tell};
 pub use farm_run::{RunFiles, answer_end, answer_run, run_files};
 pub use fault::OutsideFault;
