@@ -163,14 +163,27 @@ impl From<AllocError> for WordsFault {
     }
 }
 
-/// What the parser says in place of matches.
-fn fault_of(alloc: Global, error: Error) -> WordsFault
+/// What is said of four words of which the first is no command.
+const FOUR_FILES: &str =
+    "\nFour files are checked by `portfarm check PACKAGES SOURCES FARM PLAN`.\n";
+
+/// What the parser says in place of matches of so many words.
+fn said_of(alloc: Global, error: &Error, count: usize) -> Result<String, AllocError> {
+    let mut text = error.to_string(alloc)?;
+    if error.kind() == ErrorKind::InvalidSubcommand && count == 4 {
+        text.push_str(FOUR_FILES)?;
+    }
+    Ok(text)
+}
+
+/// Why the parser gives no matches of so many words.
+fn fault_of(alloc: Global, error: Error, count: usize) -> WordsFault
     ensures { (words : List (List ℕ)) → IsRefusedFor words result }
 {
     if error.kind() == ErrorKind::OutOfMemory {
         return WordsFault::Memory;
     }
-    match error.to_string(alloc) {
+    match said_of(alloc, &error, count) {
         Ok(text) if error.use_stderr() => WordsFault::Wrong(text),
         Ok(text) => WordsFault::Help(text),
         Err(AllocError) => WordsFault::Memory,
@@ -435,7 +448,7 @@ pub fn read_words<'a, S: AsStr>(alloc: Global, words: &'a [S]) -> Result<Asked<'
     }
     let matches = match portfarm(alloc)?.try_get_matches_from(words) {
         Ok(matches) => matches,
-        Err(error) => return Err(fault_of(alloc, error)),
+        Err(error) => return Err(fault_of(alloc, error, words.len())),
     };
     match matches.subcommand() {
         Some((DRAFT, matches)) => draft_of(alloc, words, matches),
