@@ -16,7 +16,7 @@ from drives import some_requests
 from json_answers import member_line
 from plans import read_plan
 from imports import HEAD
-from portfarm import FILES, answer, cut_input, drafted, read_draft_words, read_schedule, told_import
+from portfarm import BadSchedule, FILES, answer, cut_input, drafted, read_draft_words, read_schedule, told_import
 from relations import NEED, read_field
 from texts import Fault
 from universe import read_universe
@@ -290,6 +290,13 @@ def on_drive(case):
     return [f"not asked: {it}" for it in others] or case.wanted.split("\n")[:-1]
 
 
+def schedule_of(files, word):
+    """The turns of a schedule, or the text of its file; None where it is none or not there."""
+    if word and word.startswith("@"):
+        return None if word == "@-" else files.get(word[1:])
+    return None if word is None else read_schedule("" if word == '""' else word)
+
+
 def on_words(machine, question):
     """Answers `run WORDS` and `member PATH WORDS`, where the words name files that are there; else None."""
     word, *words = question.split(" ")
@@ -299,12 +306,14 @@ def on_words(machine, question):
         return None if word != "run" or broken else on_draft(files, words[1:])
     if words[:1] == ["import"]:
         return None if word != "run" or broken else on_import(files, words[1:])
+    if words[:2] == ["explain", "--cert"] and len(words) > 2:
+        words = ["explain --cert", *words[3:], words[2]]
     options = [it for it in words[1:] if it in ("--json", "--bars", "--full")]
     words = [it for it in words if it and it not in options]
     schedule = words.pop(2) if words[:2] == ["step", "--schedule"] and len(words) > 2 else None
     paths = [it for it in words[1:] if it != "--schedule"]
     four = ("check", "explain", "list", "cert", "step", "timeline", "graph")
-    wanted = (dict.fromkeys(four, 4) | {"verify-cert": 5}).get(words[0] if words else "")
+    wanted = (dict.fromkeys(four, 4) | {"verify-cert": 5, "explain --cert": 5}).get(words[0] if words else "")
     if word not in ("run", "member") or broken or not all(name in files for name in paths) or words and len(paths) != wanted:
         return None
     if paths.count("-") > 1:
@@ -312,12 +321,15 @@ def on_words(machine, question):
     if not words:
         written, status = answer("check", cut_input(files[""]))
     else:
-        more = files[paths[4]] if words[0] == "verify-cert" else " ".join(options) or None
+        more = files[paths[4]] if len(paths) == 5 else " ".join(options) or None
         if words[0] == "step":
-            more = read_schedule("" if schedule in (None, '""') else schedule)
-            if schedule is None or more is None:
+            more = schedule_of(files, schedule)
+            if more is None:
                 return None
-        written, status = answer(words[0], dict(zip(FILES, (files[name] for name in paths))), more)
+        try:
+            written, status = answer(words[0], dict(zip(FILES, (files[name] for name in paths))), more)
+        except BadSchedule as fault:
+            return ["status 2", "! portfarm: bad schedule", f"! {fault}"]
     if path is not None:
         written = [member_line(written, path)]
     return [f"status {status}", *(f"| {line}" for line in written)]

@@ -1,7 +1,10 @@
 """Warnings: what is odd in the texts of a farm and refuses no plan. FORMATS, section 15."""
 
 from architectures import architecture_names
+from imports import is_given
+from relations import PROVIDE, read_field
 from texts import lines, paragraphs, pieces
+from universe import read_source_head
 
 HEAD = ["Architecture-Names", "Archive"]
 RECIPE = ["Recipe", "Source", "Mode", "Profiles", "Steps", "Scratch", "Outputs"]
@@ -77,6 +80,30 @@ def unbuilt_recipes(universe, plan, recipes):
             yield f"farm line {fields[0][0]}: no lane builds the recipe {name}"
 
 
+def package_list(sources, recipe):
+    """The rows for packages in the Package-List of a recipe's source, each as its words."""
+    [[item]] = read_field(recipe.get("Source"), PROVIDE)
+    for source in sources:
+        name, version = read_source_head(source)
+        if name == item.name and version.compare(item.version) == 0:
+            rows = [pieces(row) for row in (source.get("Package-List") or "").split("\n")]
+            return [row for row in rows if len(row) > 3 and row[1] == "deb"]
+    return []
+
+
+def unmade_outputs(universe, texts):
+    """The outputs of recipes that the sources list, and do not give to such a build."""
+    sources = paragraphs(texts["sources"], "sources")
+    for recipe in paragraphs(texts["farm"], "farm")[1:]:
+        if recipe.get("Recipe") is None:
+            continue
+        rows, profiles, mode = package_list(sources, recipe), pieces(recipe.get("Profiles") or ""), recipe.get("Mode") or "full"
+        given = [row[0] for row in rows if is_given(row, universe.architectures, profiles, mode)]
+        for [item] in read_field(recipe.get("Outputs"), PROVIDE):
+            if item.name not in given and any(row[0] == item.name for row in rows):
+                yield f"farm line {recipe.line}: by the Package-List of its source this recipe does not build {item.name}"
+
+
 def lacking(packages, words):
     """One line of the paragraphs that lack something, where there are some."""
     if packages:
@@ -113,6 +140,7 @@ def warnings(universe, plan, texts):
         *unasked_profiles(universe, recipes),
         *forgotten_names(universe),
         *unbuilt_recipes(universe, plan, recipes),
+        *unmade_outputs(universe, texts),
         *unsized(packages),
         *foreign(universe, packages),
         *endless_waits(universe, plan),

@@ -5,6 +5,7 @@
   model/portfarm.py check|explain --json PACKAGES SOURCES FARM PLAN
   model/portfarm.py list --number PACKAGES SOURCES FARM PLAN
   model/portfarm.py verify-cert PACKAGES SOURCES FARM PLAN CERT
+  model/portfarm.py explain --cert CERT PACKAGES SOURCES FARM PLAN
   model/portfarm.py step --schedule LIST|@FILE PACKAGES SOURCES FARM PLAN
   model/portfarm.py timeline [--json|--bars] [--full] PACKAGES SOURCES FARM PLAN
   model/portfarm.py graph [--json] PACKAGES SOURCES FARM PLAN
@@ -30,18 +31,19 @@ from drafts import draft
 from drives import drive, first, run_name
 from explain import Note, left_lines, stuck_notes, unsafe_notes, waits_notes
 from farm_warnings import warnings
-from fault_notes import fault_lines
+from fault_notes import fault_lines, shown
 from imports import HEAD, make_texts
 from imports import Refused as NotMade
 from json_answers import json_line, lines_of, reasons_of, verdict_members
 from plan_graph import graph_lines, graph_members
 from plans import listing, numbered, read_plan
-from texts import DIGITS, FILES, Fault
+from texts import DIGITS, FILES, Fault, pieces
 from timeline import TimedRun, json_members, text_lines
 from universe import read_universe
 from verdict import judge
 
-COMMANDS = ("check", "explain", "list", "cert", "verify-cert", "step", "timeline", "graph", "drive")
+MOST_LANES = 8
+COMMANDS = ("check", "explain", "explain --cert", "list", "cert", "verify-cert", "step", "timeline", "graph", "drive")
 OPTIONS = {
     "list": ["--number"], "check": ["--json"], "explain": ["--json"], "timeline": ["--json", "--bars", "--full"],
     "graph": ["--json"],
@@ -75,16 +77,27 @@ def read_schedule(text):
     return [int(piece) for piece in found]
 
 
+class BadSchedule(Exception):
+    """A file of lanes has a word that is none; what is said of the first one."""
+
+
 def named_turns(plan, text):
-    """The lanes of a schedule that stands in a file, by number or name, or None where a word is no lane's."""
+    """The lanes of a schedule that stands in a file, by number or name."""
     numbers = {lane.name: number for number, lane in reversed(list(enumerate(plan)))}
     found = []
-    for word in text.replace(",", " ").replace("\t", " ").replace("\n", " ").split(" "):
-        if word and set(word) <= DIGITS:
-            found.append(int(word) if int(word) < len(plan) else None)
-        elif word:
-            found.append(numbers.get(word))
-    return None if None in found else found
+    for line, content in enumerate(text.split("\n"), 1):
+        for place, word in enumerate(pieces(content.replace(",", " ")), 1):
+            lane = int(word) if set(word) <= DIGITS else numbers.get(word)
+            if lane is None or lane >= len(plan):
+                raise BadSchedule(f"  line {line}, word {place}: {shown(word)} is no lane ({few_lanes(plan)})")
+            found.append(lane)
+    return found
+
+
+def few_lanes(plan):
+    """The first lanes of a plan, and how many others it has."""
+    told = ", ".join(f"{number} {shown(lane.name)}" for number, lane in enumerate(plan[:MOST_LANES]))
+    return f"{told}, and {len(plan) - MOST_LANES} more" if len(plan) > MOST_LANES else told or "the plan has none"
 
 
 def numbered_line(number, line, content):
@@ -137,14 +150,13 @@ def answer(command, texts, more=None):
         return listing(plan), 0
     if command == "step" and isinstance(more, str):
         more = named_turns(plan, more)
-    if command == "step" and more is None:
-        return None, 2
     if command == "step":
         written, is_well = step(universe, plan, more)
         return written, 0 if is_well else 1
-    if command == "verify-cert":
+    if command in ("verify-cert", "explain --cert"):
         line, is_one = certificates.check(universe, plan, more)
-        return [line], 0 if is_one else 1
+        notes = certificates.notes(universe, plan, more, line) if command != "verify-cert" and not is_one else []
+        return [line, *notes], 0 if is_one else 1
     written, accepts, rows, order = judge(universe, plan)
     status = 0 if accepts else 1
     if command in ("timeline", "graph") and accepts:
@@ -289,19 +301,23 @@ def main(words):
             if more is None:
                 print("portfarm: bad schedule", file=sys.stderr)
                 return 2
+        by_cert = command == "explain" and rest[:1] == ["--cert"] and len(rest) > 1
+        if by_cert:
+            command, rest = "explain --cert", [*rest[2:], rest[1]]
         while rest and rest[0] in OPTIONS.get(command, ()):
             more, rest = f"{more} {rest[0]}" if more else rest[0], rest[1:]
-        paths = 5 if command == "verify-cert" or by_file else 4
+        paths = 5 if command == "verify-cert" or by_cert or by_file else 4
         if command not in COMMANDS or len(rest) != paths:
             print(__doc__, file=sys.stderr)
             return 2
         found = [text_of(path) for path in rest]
         texts = dict(zip(FILES, found))
         more = found[4] if paths == 5 else more
-    written, status = answer(command, texts, more)
-    if written is None:
-        print("portfarm: bad schedule", file=sys.stderr)
-        return status
+    try:
+        written, status = answer(command, texts, more)
+    except BadSchedule as fault:
+        print("portfarm: bad schedule", fault, sep="\n", file=sys.stderr)
+        return 2
     sys.stdout.buffer.write("".join(f"{line}\n" for line in written).encode("latin-1"))
     return status
 

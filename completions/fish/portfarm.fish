@@ -17,6 +17,7 @@ complete -c portfarm -n "not __fish_seen_subcommand_from $commands" -a import -d
 complete -c portfarm -n "not __fish_seen_subcommand_from $commands" -a help -d 'Show help'
 complete -c portfarm -n "not __fish_seen_subcommand_from $commands" -s V -l version -d 'Show the version'
 complete -c portfarm -s h -l help -d 'Show help'
+complete -c portfarm -n "__fish_seen_subcommand_from explain" -l cert -r -d 'Explain the answer to a certificate'
 complete -c portfarm -n "__fish_seen_subcommand_from check explain timeline graph" -l json -d 'Answer with one JSON object'
 complete -c portfarm -n "__fish_seen_subcommand_from list" -l number -d 'Put numbers before each line'
 complete -c portfarm -n "__fish_seen_subcommand_from step" -l schedule -r -d 'Lanes in the order of turns'

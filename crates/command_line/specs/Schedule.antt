@@ -4,14 +4,13 @@
 --
 --   lane_at item          the number of a lane
 --   schedule_of text      the numbers of a schedule, if the text is one
---   lane_words text       the words of a file of lanes
-use Rattle.std.specs.Prelude.{ℕ, Bool, not, ◌&&◌, ◌==◌, nat_le, List, [], map, Option, Some, None, Result, Ok, Err, if◌then◌else◌}
+--   spaced b              a byte of a file of lanes, its commas as spaces
+use Rattle.std.specs.Prelude.{ℕ, Bool, not, ◌&&◌, ◌==◌, nat_le, List, [], Option, Some, None, Result, Ok, Err, if◌then◌else◌}
 use Rattle.std.specs.List.{list_all, slice_split}
 use Rattle.deb_text.specs.Bytes.{is_byte, is_digit}
 use Rattle.deb_text.specs.Cuts.{is_nil}
 use Rattle.deb_text.specs.Numbers.{number}
 use Rattle.deb_text.specs.Steps.{traverse}
-use Rattle.deb_text.specs.Words.{words}
 use Rattle.command_line.specs.declared.schedule.ScheduleFault.{ScheduleFault}
 use Rattle.command_line.specs.declared.schedule.ScheduleFault.TheVariants.{BadSchedule, Memory}
 use Rattle.command_line.specs.declared.schedule.TheConstants.{MOST_LANE}
@@ -30,10 +29,6 @@ schedule_of text = if is_nil text then Ok [] else traverse lane_at (slice_split 
 -- a comma is as good as a space
 abbrev pub spaced : ℕ → ℕ
 spaced b = if b == 44 then 32 else b
-
--- what stands between commas, spaces, tabs and newlines
-abbrev pub lane_words : List ℕ → List (List ℕ)
-lane_words text = words (map spaced text)
 
 -- the fault, unless memory ran out
 abbrev pub refusal_of : ScheduleFault → Option ScheduleFault

@@ -19,7 +19,7 @@ use Rattle.command_line.specs.declared.import.ImportWords.{ImportWords}
 use Rattle.command_line.specs.declared.request.FarmPaths.{FarmPaths}
 use Rattle.command_line.specs.declared.request.Paths.{Paths}
 use Rattle.command_line.specs.declared.request.Request.{Request}
-use Rattle.command_line.specs.declared.request.Request.TheVariants.{CheckInput, Check, Explain, List as ListPlan, Cert, VerifyCert, Step, StepBy, Timeline, Graph, Draft, DraftLanes}
+use Rattle.command_line.specs.declared.request.Request.TheVariants.{CheckInput, Check, Explain, ExplainCert, List as ListPlan, Cert, VerifyCert, Step, StepBy, Timeline, Graph, Draft, DraftLanes}
 use Rattle.command_line.specs.declared.request.WordsFault.{WordsFault}
 use Rattle.command_line.specs.declared.request.WordsFault.TheVariants.{Help, Wrong, BadSchedule, Memory}
 use Rattle.command_line.specs.declared.schedule.ScheduleFault.{ScheduleFault}
@@ -59,6 +59,7 @@ abbrev pub IsRequestedBy : List (List ℕ) → Request → Type 0
 IsRequestedBy words CheckInput = words ≡ []
 IsRequestedBy words (Check paths json) = ArePathWords words paths
 IsRequestedBy words (Explain paths json) = ArePathWords words paths
+IsRequestedBy words (ExplainCert cert paths) = EndsWord words cert.now × ArePathWords words paths
 IsRequestedBy words (ListPlan paths number) = ArePathWords words paths
 IsRequestedBy words (Cert paths) = ArePathWords words paths
 IsRequestedBy words (VerifyCert cert paths) = IsWord words cert.now × ArePathWords words paths

@@ -105,6 +105,9 @@ pub const BARS: &str = "bars";
 /// The option `--full`.
 pub const FULL: &str = "full";
 
+/// The option `--cert`.
+pub const BY_CERT: &str = "cert";
+
 /// What stands for standard input in place of the name of a file.
 pub const INPUT: &str = "-";
 
@@ -313,6 +316,13 @@ fn or_json<'a>(
     on_files(alloc, name, about, more)?.arg(flag(alloc, JSON, help::JSON))
 }
 
+/// The command that says why a plan or a certificate is refused.
+fn explain<'a>(alloc: Global) -> Result<Command<'a>, AllocError> {
+    let cert = Arg::new(alloc, BY_CERT).long(BY_CERT).value_name("CERT");
+    let command = or_json(alloc, EXPLAIN, help::EXPLAIN, help::EXPLAIN_MORE)?;
+    with(command, cert.help(help::BY_CERT).conflicts_with(JSON))
+}
+
 /// The program with one command more.
 fn and<'a>(
     program: Command<'a>,
@@ -328,10 +338,7 @@ fn with_verdicts<'a>(alloc: Global) -> Result<Command<'a>, AllocError> {
         program,
         or_json(alloc, CHECK, help::CHECK, help::CHECK_MORE),
     )?;
-    let program = and(
-        program,
-        or_json(alloc, EXPLAIN, help::EXPLAIN, help::EXPLAIN_MORE),
-    )?;
+    let program = and(program, explain(alloc))?;
     and(program, on_files(alloc, CERT, help::CERT, help::CERT_MORE))
 }
 

@@ -6,7 +6,7 @@ pub const VERSION: &str = "0.2.0";
 /// What `--version` says behind the name. Only a proved program stays as a file.
 pub const LONG_VERSION: &str = "\
 0.2.0
-proved and built with rattle-kit-13f, logic dac8208d650f15bf";
+proved and built with Rattle, logic dac8208d650f15bf";
 
 /// What the program is for, in a line.
 pub const PORTFARM: &str = "\
@@ -60,6 +60,9 @@ of a text these are the line and what was expected there. For an instruction
 that may go wrong they are its line in the plan and the first reason; and the
 same for each further lane that has one. With `--json` it is one JSON object on
 a line, in which `reasons` is a list of objects and `warnings` one of lines.
+
+With `--cert` the answer is that of `verify-cert`, and where the certificate is
+refused, why: its line, what was expected there, and the line of the plan.
 
 Example:
   portfarm explain packages sources farm plan
@@ -317,6 +320,9 @@ pub const PLAN: &str = "The plan: lanes of instructions, and blocks";
 
 /// What the certificate is, in a line.
 pub const CERTIFICATE: &str = "The certificate of the plan, as `cert` prints it";
+
+/// What `--cert` does, in a line.
+pub const BY_CERT: &str = "Explain the answer to a certificate of the plan";
 
 /// What the sketch is, in a line.
 pub const SKETCH: &str = "A plan of which lanes and builds are taken alone";

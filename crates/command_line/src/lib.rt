@@ -7,6 +7,7 @@
 #![tactic(auto)]
 
 mod among;
+mod certificates;
 mod command;
 mod drive;
 mod help;

@@ -3,11 +3,12 @@
 ghost use Rattle.std.specs.Prelude.{◌≡◌, ℕ, List, IfErr, IfOk, IsOkAnd, length, map};
 ghost use Rattle.command_line.specs.Words.{AreFarmWords, ArePathWords, IsAskedBy, IsRefusedFor, IsRequestedBy};
 
-use crate::among::{are_farm_words, are_words, ends_word, is_word};
+use crate::among::{are_farm_words, are_words, ends_word};
+use crate::certificates::{explain_of, verify_of};
 use crate::command::{
-    BARS, CERT, CERTIFICATE, CHECK, DRAFT, DRIVE, EXPLAIN, FARM, FULL, GRAPH, IMPORT, INPUT, JSON,
-    LANES, LIST, NUMBER, PACKAGES, PARTIAL, PLAN, PROGRESS, REST, RUN, SCHEDULE, SKETCH, SOURCES,
-    STEP, SVG, TIMELINE, VERIFY_CERT, portfarm,
+    BARS, BY_CERT, CERT, CERTIFICATE, CHECK, DRAFT, DRIVE, EXPLAIN, FARM, FULL, GRAPH, IMPORT,
+    INPUT, JSON, LANES, LIST, NUMBER, PACKAGES, PARTIAL, PLAN, PROGRESS, REST, RUN, SCHEDULE,
+    SKETCH, SOURCES, STEP, SVG, TIMELINE, VERIFY_CERT, portfarm,
 };
 use crate::drive::drive_of;
 use crate::import::{ImportWords, import_of};
@@ -64,6 +65,11 @@ pub enum Request<'a> {
     Explain {
         paths: Paths<'a>,
         json: bool,
+    },
+    /// The verdict on the certificate of a plan, which stands in a file too, and why it is one.
+    ExplainCert {
+        cert: &'a str,
+        paths: Paths<'a>,
     },
     /// The listing of a plan; and whether its lines are numbered.
     List {
@@ -157,14 +163,27 @@ impl From<AllocError> for WordsFault {
     }
 }
 
-/// What the parser says in place of matches.
-fn fault_of(alloc: Global, error: Error) -> WordsFault
+/// What is said of four words of which the first is no command.
+const FOUR_FILES: &str =
+    "\nFour files are checked by `portfarm check PACKAGES SOURCES FARM PLAN`.\n";
+
+/// What the parser says in place of matches of so many words.
+fn said_of(alloc: Global, error: &Error, count: usize) -> Result<String, AllocError> {
+    let mut text = error.to_string(alloc)?;
+    if error.kind() == ErrorKind::InvalidSubcommand && count == 4 {
+        text.push_str(FOUR_FILES)?;
+    }
+    Ok(text)
+}
+
+/// Why the parser gives no matches of so many words.
+fn fault_of(alloc: Global, error: Error, count: usize) -> WordsFault
     ensures { (words : List (List ℕ)) → IsRefusedFor words result }
 {
     if error.kind() == ErrorKind::OutOfMemory {
         return WordsFault::Memory;
     }
-    match error.to_string(alloc) {
+    match said_of(alloc, &error, count) {
         Ok(text) if error.use_stderr() => WordsFault::Wrong(text),
         Ok(text) => WordsFault::Help(text),
         Err(AllocError) => WordsFault::Memory,
@@ -190,6 +209,7 @@ fn paths_of<'a>(matches: &ArgMatches<'a>) -> Paths<'a> {
 fn one_more<'a>(command: &str, matches: &ArgMatches<'a>) -> &'a str {
     match command {
         VERIFY_CERT => word_of(matches, CERTIFICATE),
+        EXPLAIN => word_of(matches, BY_CERT),
         STEP => word_of(matches, SCHEDULE).strip_prefix('@').unwrap_or(""),
         _ => "",
     }
@@ -227,23 +247,6 @@ fn step_of<'a, S: AsStr>(
     }
 }
 
-/// What `verify-cert` asks for, by the name of the certificate.
-fn verify_of<'a, S: AsStr>(
-    alloc: Global,
-    words: &'a [S],
-    cert: &'a str,
-    paths: Paths<'a>,
-) -> Result<Request<'a>, WordsFault>
-    requires paths { ArePathWords (map S.text words.now) paths }
-    ensures asked { IfOk result (IsRequestedBy (map S.text words.entry.now)) }
-    ensures refused { IfErr result (IsRefusedFor (map S.text words.entry.now)) }
-{
-    if !is_word(words, cert) {
-        return Err(not_there(alloc));
-    }
-    Ok(Request::VerifyCert { cert, paths })
-}
-
 /// How a timeline is to be shown; the parser lets one option alone stand for that.
 fn form_of(matches: &ArgMatches<'_>) -> TimelineForm {
     if matches.get_flag(JSON) {
@@ -273,10 +276,7 @@ fn request_of<'a, S: AsStr>(
             paths,
             json: matches.get_flag(JSON),
         }),
-        EXPLAIN => Ok(Request::Explain {
-            paths,
-            json: matches.get_flag(JSON),
-        }),
+        EXPLAIN => explain_of(alloc, words, matches, paths),
         LIST => Ok(Request::List {
             paths,
             number: matches.get_flag(NUMBER),
@@ -448,7 +448,7 @@ pub fn read_words<'a, S: AsStr>(alloc: Global, words: &'a [S]) -> Result<Asked<'
     }
     let matches = match portfarm(alloc)?.try_get_matches_from(words) {
         Ok(matches) => matches,
-        Err(error) => return Err(fault_of(alloc, error)),
+        Err(error) => return Err(fault_of(alloc, error, words.len())),
     };
     match matches.subcommand() {
         Some((DRAFT, matches)) => draft_of(alloc, words, matches),

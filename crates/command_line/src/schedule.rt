@@ -1,14 +1,13 @@
 //! Schedules as the command line has them.
 
-ghost use Rattle.std.specs.Prelude.{◌≡◌, ◌+◌, ◌≤◌, min, true, IfOk};
+ghost use Rattle.std.specs.Prelude.{◌≡◌, ◌+◌, ◌≤◌, map, min, true, IfOk};
 ghost use Rattle.std.specs.List.{list_all, slice_split};
 ghost use Rattle.deb_text.specs.Answers.{Gives};
 ghost use Rattle.deb_text.specs.Bytes.{is_byte, is_digit};
 ghost use Rattle.deb_text.specs.Numbers.{number};
 ghost use Rattle.deb_text.specs.Steps.{traverse};
-ghost use Rattle.deb_text.specs.Words.{words};
 ghost use Rattle.command_line.specs.Schedule as spec;
-ghost use Rattle.command_line.specs.Schedule.{lane_at, lane_words, schedule_of, refusal_of};
+ghost use Rattle.command_line.specs.Schedule.{lane_at, schedule_of, refusal_of};
 
 use deb_text::{Class, all_in, next_part};
 use std::alloc::{AllocError, AllocFailed, Global};
@@ -97,13 +96,13 @@ fn spaced(byte: u8) -> u8
     if byte == b',' { b' ' } else { byte }
 }
 
-/// Puts spaces in place of the commas of a file of lanes. Its words are then those between blanks.
+/// Puts spaces in place of the commas of a file of lanes.
 ///
 /// # Errors
 ///
 /// Where memory is refused.
 pub fn space_lanes(alloc: Global, text: &[u8]) -> Result<Vec<u8>, AllocError>
-    ensures { IfOk result (λ lanes. words lanes.items ≡ lane_words text.now) }
+    ensures { IfOk result (λ lanes. lanes.items ≡ map spec.spaced text.now) }
 {
     text.iter().map(|byte| spaced(*byte)).collect(alloc)
 }

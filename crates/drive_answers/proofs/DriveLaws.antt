@@ -156,7 +156,7 @@ pub unless_driven : (Names : List ℕ → Type 0) (R A : List ℕ → ℕ → Ty
 unless_driven Names R A S old new before after (Ok status) is = is
 unless_driven Names R A S old new before after (Err WriteFailed) is = is
 unless_driven Names R A S old new before after (Err CutShort) is = is
-unless_driven Names R A S old new before after (Err BadSchedule) is = is
+unless_driven Names R A S old new before after (Err (BadSchedule note)) is = is
 unless_driven Names R A S old new before after (Err OutOfMemory) is = is
 unless_driven Names R A S old new before after (Err (CannotRead name)) (inl is) = absurd is
 unless_driven Names R A S old new before after (Err (CannotRead name)) (inr (inl is)) =
@@ -213,7 +213,7 @@ module _ (held : List ℕ → Option (List ℕ)) (kept : Option (List ℕ)) (pat
       drive_before refuses ends (stops old new) old new before after later OutOfMemory is
   drives_before old new before after later (Err CutShort) same is =
       drive_before refuses ends (stops old new) old new before after later CutShort is
-  drives_before old new before after later (Err BadSchedule) same is =
-      drive_before refuses ends (stops old new) old new before after later BadSchedule is
+  drives_before old new before after later (Err (BadSchedule note)) same is =
+      drive_before refuses ends (stops old new) old new before after later (BadSchedule note) is
   drives_before old new before after later (Err WriteFailed) same is =
       drive_before refuses ends (stops old new) old new before after later WriteFailed is

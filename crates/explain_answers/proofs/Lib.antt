@@ -1,1 +1,2 @@
+pub mod CertLaws
 pub mod ExplainLaws

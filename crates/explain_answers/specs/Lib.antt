@@ -1,1 +1,2 @@
+pub mod CertExplained
 pub mod Explanations

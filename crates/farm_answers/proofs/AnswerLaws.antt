@@ -13,7 +13,7 @@ pub answered-by : (A B : List ℕ → ℕ → Type 0) (old new : SinkState) (tol
 answered-by A B old new (Ok status) by is = (is.0, by is.0 status is.1, is.2, is.3)
 answered-by A B old new (Err WriteFailed) by is = (is.0, is.1, by is.0 is.1 is.2, is.3, is.4)
 answered-by A B old new (Err CutShort) by is = (is.0, by is.0 no_status is.1, is.2, is.3)
-answered-by A B old new (Err BadSchedule) by is = (by [] WRONG_WORDS is.0, is.1)
+answered-by A B old new (Err (BadSchedule note)) by is = (by [] WRONG_WORDS is.0, is.1)
 answered-by A B old new (Err OutOfMemory) by is = is
 answered-by A B old new (Err (CannotRead name)) by is = is
 
@@ -24,6 +24,6 @@ pub unless-answered : (Names : List ℕ → Type 0) (A : List ℕ → ℕ → Ty
 unless-answered Names A old new (Ok status) is = is
 unless-answered Names A old new (Err WriteFailed) is = is
 unless-answered Names A old new (Err CutShort) is = is
-unless-answered Names A old new (Err BadSchedule) is = is
+unless-answered Names A old new (Err (BadSchedule note)) is = is
 unless-answered Names A old new (Err OutOfMemory) is = is
 unless-answered Names A old new (Err (CannotRead name)) is = absurd is

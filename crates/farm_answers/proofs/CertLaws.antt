@@ -35,7 +35,7 @@ pub unless-certified : (Names : List ℕ → Type 0) (A : List ℕ → ℕ → T
 unless-certified Names A old new (Ok status) is = is
 unless-certified Names A old new (Err outside.WriteFailed) is = is
 unless-certified Names A old new (Err outside.CutShort) is = is
-unless-certified Names A old new (Err outside.BadSchedule) is = is
+unless-certified Names A old new (Err (outside.BadSchedule note)) is = is
 unless-certified Names A old new (Err outside.OutOfMemory) is = is
 unless-certified Names A old new (Err (outside.CannotRead name)) (inl is) = absurd is
 unless-certified Names A old new (Err (outside.CannotRead name)) (inr cut) =

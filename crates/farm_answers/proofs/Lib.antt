@@ -2,3 +2,4 @@ pub mod AnswerLaws
 pub mod CertLaws
 pub mod ReadLaws
 pub mod RunLaws
+pub mod TurnLaws

@@ -38,7 +38,7 @@ pub unless-ended : (Names : List ℕ → Type 0) (A : List ℕ → ℕ → Type 
 unless-ended Names A S old new before after (Ok status) is = is
 unless-ended Names A S old new before after (Err WriteFailed) is = is
 unless-ended Names A S old new before after (Err CutShort) is = is
-unless-ended Names A S old new before after (Err BadSchedule) is = is
+unless-ended Names A S old new before after (Err (BadSchedule note)) is = is
 unless-ended Names A S old new before after (Err OutOfMemory) is = is
 unless-ended Names A S old new before after (Err (CannotRead name)) (inl is) = absurd is
 unless-ended Names A S old new before after (Err (CannotRead name)) (inr is) =
@@ -99,7 +99,7 @@ module _ (held : List ℕ → Option (List ℕ)) (paths : Paths) where
       ended-before answers stops old new before after later OutOfMemory is
   runs-before old new before after later (Err CutShort) same is =
       ended-before answers stops old new before after later CutShort is
-  runs-before old new before after later (Err BadSchedule) same is =
-      ended-before answers stops old new before after later BadSchedule is
+  runs-before old new before after later (Err (BadSchedule note)) same is =
+      ended-before answers stops old new before after later (BadSchedule note) is
   runs-before old new before after later (Err WriteFailed) same is =
       ended-before answers stops old new before after later WriteFailed is

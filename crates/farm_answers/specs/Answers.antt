@@ -8,7 +8,6 @@
 use Rattle.std.specs.Prelude.{◌≡◌, ◌≢◌, ℕ, ◌^◌, Bool, true, false, List, [], length, Option, Result, Ok, Err, if◌then◌else◌}
 use Rattle.std.specs.Option.{is_none}
 use Rattle.std.specs.Result.{is_ok}
-use Rattle.command_line.specs.declared.schedule.ScheduleFault.{ScheduleFault}
 use Rattle.deb_text.specs.declared.fault.Fault.{Fault}
 use Rattle.farm_core.specs.Endings.{ended}
 use Rattle.farm_core.specs.Farm.{Farm}
@@ -33,7 +32,7 @@ use Rattle.report_sink.specs.Sinks.{SinkState, IsWritten}
 use Rattle.farm_answers.specs.declared.fault.OutsideFault.{OutsideFault}
 use Rattle.farm_answers.specs.declared.fault.OutsideFault.TheVariants.{CannotRead, OutOfMemory, CutShort, BadSchedule, WriteFailed}
 use Rattle.farm_answers.specs.declared.status.TheConstants.{FINE, REFUSED, WRONG_WORDS}
-use Rattle.farm_answers.specs.Turns.{turns_of}
+use Rattle.farm_answers.specs.Turns.{PlacedWord, turns_of}
 
 -- what four texts stand for, or their first fault
 abbrev pub planned_in : Texts → Result FarmPlan Fault
@@ -118,9 +117,9 @@ abbrev pub AnswersStep : List ℕ → Texts → List ℕ → ℕ → Type 0
 AnswersStep schedule texts text status = Steps schedule (planned_in texts) text status
 
 -- what a schedule of a file comes to; of a file that has none no text, and its status
-abbrev pub TakesTurns : FarmPlan → Result (List ℕ) ScheduleFault → List ℕ → ℕ → Type 0
+abbrev pub TakesTurns : FarmPlan → Result (List ℕ) PlacedWord → List ℕ → ℕ → Type 0
 TakesTurns of (Ok schedule) text status = ShowsRun of.universe of.plan schedule text status
-TakesTurns of (Err fault) text status = (text ≡ []) × (status ≡ WRONG_WORDS)
+TakesTurns of (Err word) text status = (text ≡ []) × (status ≡ WRONG_WORDS)
 
 -- that, or the first fault of the texts
 abbrev pub StepsBy : List ℕ → Result FarmPlan Fault → List ℕ → ℕ → Type 0
@@ -152,7 +151,7 @@ IsAnswered Answers old new (Err WriteFailed) =
     × (new.failed ≡ true)
 IsAnswered Answers old new (Err CutShort) =
     (text : List ℕ) × Answers text no_status × IsWritten old new text × (new.failed ≡ false)
-IsAnswered Answers old new (Err BadSchedule) = Answers [] WRONG_WORDS × (new ≡ old)
+IsAnswered Answers old new (Err (BadSchedule note)) = Answers [] WRONG_WORDS × (new ≡ old)
 IsAnswered Answers old new (Err OutOfMemory) = new ≡ old
 IsAnswered Answers old new (Err (CannotRead name)) = ⊥
 
@@ -163,7 +162,7 @@ UnlessUnread Names Same Else (Ok status) = Else
 UnlessUnread Names Same Else (Err (CannotRead name)) = Names name.now × Same
 UnlessUnread Names Same Else (Err OutOfMemory) = Else
 UnlessUnread Names Same Else (Err CutShort) = Else
-UnlessUnread Names Same Else (Err BadSchedule) = Else
+UnlessUnread Names Same Else (Err (BadSchedule note)) = Else
 UnlessUnread Names Same Else (Err WriteFailed) = Else
 
 -- the fault of one of these names, of a file or standard input, or of memory
@@ -171,5 +170,5 @@ abbrev pub IsReadFault : (List ℕ → Type 0) → OutsideFault → Type 0
 IsReadFault Names (CannotRead name) = Names name.now
 IsReadFault Names OutOfMemory = Unit {0}
 IsReadFault Names CutShort = ⊥
-IsReadFault Names BadSchedule = ⊥
+IsReadFault Names (BadSchedule note) = ⊥
 IsReadFault Names WriteFailed = ⊥

@@ -1,7 +1,7 @@
 -- What a fault outside of the texts is told as. The project's own rules.
 --
 --   fault_status        its status
---   outside_fault_line  its line
+--   outside_fault_line  what is said of it
 use Rattle.std.specs.Prelude.{ℕ, List, ◌++◌, codes}
 use Rattle.farm_answers.specs.declared.fault.OutsideFault.{OutsideFault}
 use Rattle.farm_answers.specs.declared.fault.OutsideFault.TheVariants.{CannotRead, OutOfMemory, CutShort, BadSchedule, WriteFailed}
@@ -13,7 +13,7 @@ abbrev pub fault_status : OutsideFault → ℕ
 fault_status (CannotRead name) = OUTSIDE
 fault_status OutOfMemory = OUTSIDE
 fault_status CutShort = OUTSIDE
-fault_status BadSchedule = WRONG_WORDS
+fault_status (BadSchedule note) = WRONG_WORDS
 fault_status WriteFailed = OUTSIDE
 
 -- a name, of which those bytes are escaped that are not printable ASCII
@@ -23,10 +23,14 @@ escaped_line name = escaped name ++ codes "\n"
 abbrev pub cannot_read_line : List ℕ → List ℕ
 cannot_read_line name = codes "portfarm: cannot read " ++ escaped_line name
 
--- the line that is said of a fault outside of the texts
+-- a line, and one below it
+abbrev pub bad_schedule_lines : List ℕ → List ℕ
+bad_schedule_lines note = codes "portfarm: bad schedule\n" ++ note
+
+-- what is said of a fault outside of the texts
 abbrev pub outside_fault_line : OutsideFault → List ℕ
 outside_fault_line (CannotRead name) = cannot_read_line name.now
 outside_fault_line OutOfMemory = codes "portfarm: out of memory\n"
 outside_fault_line CutShort = codes "portfarm: out of memory\n"
-outside_fault_line BadSchedule = codes "portfarm: bad schedule\n"
+outside_fault_line (BadSchedule note) = bad_schedule_lines note.now
 outside_fault_line WriteFailed = codes "portfarm: write failed\n"

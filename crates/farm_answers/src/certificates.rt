@@ -104,7 +104,7 @@ pub fn answer_cert<'a, S: Sink, E: Sink>(
 /// # Errors
 ///
 /// The fault of the text, or else of the certificate.
-fn check_text(
+pub fn check_text(
     rt: &(impl Threads + Sync),
     alloc: Global,
     ready: &Ready,

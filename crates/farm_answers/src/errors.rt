@@ -1,13 +1,13 @@
 //! What is said on the error output.
 
 ghost use Rattle.std.specs.Prelude.{◌≡◌, is_err};
-ghost use Rattle.farm_answers.specs.FaultLines.{cannot_read_line, escaped_line, outside_fault_line, fault_status};
+ghost use Rattle.farm_answers.specs.FaultLines.{bad_schedule_lines, cannot_read_line, escaped_line, outside_fault_line, fault_status};
 ghost use Rattle.report_sink.specs.Sinks.{IsWritten};
 
 use crate::fault::OutsideFault;
 use crate::status::{OUTSIDE, WRONG_WORDS};
 use fault_notes::write_escaped;
-use report_sink::{Sink, WriteFailed, write_text};
+use report_sink::{Sink, WriteFailed, write_pieces, write_text};
 
 /// Says a text on the error output, and gives the status.
 pub fn say<E: Sink>(errors: &mut E, text: &[u8], status: u8) -> u8
@@ -44,6 +44,17 @@ fn tell_unread<E: Sink>(errors: &mut E, name: &[u8]) -> u8
     OUTSIDE
 }
 
+/// Says that a schedule is none, and this below it, and gives the status.
+fn tell_schedule<E: Sink>(errors: &mut E, note: &[u8]) -> u8
+    ensures status { result ≡ WRONG_WORDS }
+    ensures line { IsWritten (E.state errors.old) (E.state errors.new)
+        (bad_schedule_lines note.now) }
+{
+    let head: &[u8] = b"portfarm: bad schedule\n";
+    let _written = write_pieces(errors, &[head, note]);
+    WRONG_WORDS
+}
+
 /// Ends with a fault outside of the texts: says it on the error output, without memory of its own.
 pub fn tell<E: Sink>(fault: OutsideFault<'_>, errors: &mut E) -> u8
     ensures status { result ≡ fault_status fault.entry }
@@ -54,7 +65,7 @@ pub fn tell<E: Sink>(fault: OutsideFault<'_>, errors: &mut E) -> u8
         OutsideFault::CannotRead(name) => tell_unread(errors, name.as_bytes()),
         OutsideFault::OutOfMemory => say(errors, b"portfarm: out of memory\n", OUTSIDE),
         OutsideFault::CutShort => say(errors, b"portfarm: out of memory\n", OUTSIDE),
-        OutsideFault::BadSchedule => say(errors, b"portfarm: bad schedule\n", WRONG_WORDS),
+        OutsideFault::BadSchedule(note) => tell_schedule(errors, note),
         OutsideFault::WriteFailed => say(errors, b"portfarm: write failed\n", OUTSIDE),
     }
 }

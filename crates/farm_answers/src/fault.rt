@@ -3,7 +3,6 @@
 ghost use Rattle.std.specs.Prelude.{◌≡◌};
 
 use cert_writer::CertStop;
-use command_line::ScheduleFault;
 use report_sink::WriteFailed;
 use std::alloc::AllocError;
 
@@ -17,8 +16,9 @@ pub enum OutsideFault<'a> {
     /// Memory was refused behind a text of the answer that can stand alone, or in the middle of a
     /// certificate, of which a first part is written.
     CutShort,
-    /// A schedule that stands in a file has a word that is no lane of the plan.
-    BadSchedule,
+    /// A schedule that stands in a file has a word that is no lane of the plan, and this line tells
+    /// the first one.
+    BadSchedule(&'a [u8]),
     /// The answer could not be written whole.
     WriteFailed,
 }
@@ -30,19 +30,6 @@ impl From<AllocError> for OutsideFault<'_> {
 
     fn from(_error: AllocError) -> Self {
         OutsideFault::OutOfMemory
-    }
-}
-
-impl From<ScheduleFault> for OutsideFault<'_> {
-    ghost use Rattle.farm_answers.specs.Turns.{is_turns_fault};
-
-    ghost from_gives = { is_turns_fault };
-
-    fn from(fault: ScheduleFault) -> Self {
-        match fault {
-            ScheduleFault::BadSchedule => OutsideFault::BadSchedule,
-            ScheduleFault::Memory => OutsideFault::OutOfMemory,
-        }
     }
 }
 

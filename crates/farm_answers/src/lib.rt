@@ -3,7 +3,8 @@
 //!
 //! Proved, over files, readers and sinks whose bytes are known: each answer is exactly the text of
 //! its definition, with its status, or a first part where the sink fails (`IsAnswered`); a fault
-//! outside of the texts is exactly its line (`tell`). Not proved: that `answer_run` returns.
+//! outside of the texts is exactly its line (`tell`), and the word that is no lane the first one of
+//! its file. Not proved: that `answer_run` returns, and how such a word is told.
 #![tactic(auto)]
 
 mod answers;
@@ -14,13 +15,14 @@ mod fault;
 mod files;
 mod source;
 mod status;
+mod turn_note;
 mod turns;
 
 pub use answers::{
     answer_check, answer_list, answer_numbered, answer_step, answer_step_by, answer_verdict,
     show_verdict, status_of, write_answer,
 };
-pub use certificates::{answer_cert, answer_verify_cert};
+pub use certificates::{answer_cert, answer_verify_cert, check_text};
 pub use errors::{say, tell};
 pub use farm_run::{RunFiles, answer_end, answer_run, run_files};
 pub use fault::OutsideFault;

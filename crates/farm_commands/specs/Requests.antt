@@ -5,10 +5,11 @@
 use Rattle.std.specs.Prelude.{◌≡◌, ℕ, false, List, Option, Result}
 use Rattle.farm_input.specs.Input.{input_texts}
 use Rattle.command_line.specs.declared.request.Request.{Request}
-use Rattle.command_line.specs.declared.request.Request.TheVariants.{CheckInput, Check, Explain, List as ListPlan, Cert, VerifyCert, Step, StepBy, Timeline, Graph, Draft, DraftLanes}
+use Rattle.command_line.specs.declared.request.Request.TheVariants.{CheckInput, Check, Explain, ExplainCert, List as ListPlan, Cert, VerifyCert, Step, StepBy, Timeline, Graph, Draft, DraftLanes}
 use Rattle.farm_answers.specs.Answers.{AnswersCheck, AnswersListing, AnswersStep, AnswersStepBy, IsAnswered, UnlessUnread}
 use Rattle.farm_answers.specs.CertAnswers.{AnswersCert, AnswersVerifyCert, IsCertAnswered}
 use Rattle.draft_answers.specs.Drafts.{AnswersDraft, AnswersLanes}
+use Rattle.explain_answers.specs.CertExplained.{AnswersExplainCert}
 use Rattle.explain_answers.specs.Explanations.{AnswersExplain}
 use Rattle.picture_answers.specs.Pictures.{AnswersGraph, AnswersTimeline, is_json}
 use Rattle.farm_answers.specs.Files.{AreCalled, AreCalledWith, AreFarmCalled, IsInput, IsInputName, OnFarmFiles, OnFiles, OnFilesAndOne, named}
@@ -28,6 +29,8 @@ AnswersRequest held given (Check paths json) text status =
     OnFiles (named held given) paths (AnswersCheck json) text status
 AnswersRequest held given (Explain paths json) text status =
     OnFiles (named held given) paths (AnswersExplain json) text status
+AnswersRequest held given (ExplainCert cert paths) text status =
+    OnFilesAndOne (named held given) paths cert.now AnswersExplainCert text status
 AnswersRequest held given (ListPlan paths number) text status =
     OnFiles (named held given) paths (AnswersListing number) text status
 AnswersRequest held given (Cert paths) text status =
@@ -52,6 +55,7 @@ abbrev pub AreCalledFor : Request → List ℕ → Type 0
 AreCalledFor CheckInput told = IsInputName told
 AreCalledFor (Check paths json) told = AreCalled paths told
 AreCalledFor (Explain paths json) told = AreCalled paths told
+AreCalledFor (ExplainCert cert paths) told = AreCalledWith paths cert.now told
 AreCalledFor (ListPlan paths number) told = AreCalled paths told
 AreCalledFor (Cert paths) told = AreCalled paths told
 AreCalledFor (VerifyCert cert paths) told = AreCalledWith paths cert.now told

@@ -3,6 +3,7 @@
 ghost use Rattle.std.specs.Prelude.{OnErr, ◌≡◌};
 ghost use Rattle.farm_answers.specs.Answers.{AnswersCheck, AnswersListing, AnswersStep, AnswersStepBy, IsAnswered, UnlessUnread};
 ghost use Rattle.farm_answers.specs.CertAnswers.{AnswersCert, AnswersVerifyCert, IsCertAnswered};
+ghost use Rattle.explain_answers.specs.CertExplained.{AnswersExplainCert};
 ghost use Rattle.explain_answers.specs.Explanations.{AnswersExplain};
 ghost use Rattle.picture_answers.specs.Pictures.{AnswersGraph, AnswersTimeline, is_json};
 ghost use Rattle.farm_input.specs.View.{texts_view};
@@ -11,7 +12,7 @@ ghost use Rattle.farm_commands.specs.Requests.{IsRequestAnswered, OnInput};
 
 use command_line::{Paths, Request};
 use draft_answers::{ByNumber, BySketch, Watch, draft_files, draft_lanes};
-use explain_answers::answer_explain;
+use explain_answers::{answer_explain, answer_explain_cert};
 use farm_answers::{
     OutsideFault, Source, answer_cert, answer_check, answer_list, answer_numbered, answer_step,
     answer_step_by, answer_verify_cert, read_file, read_files, read_input,
@@ -71,6 +72,25 @@ fn explain_files<'a, F: Source, S: Sink>(
 {
     let files = read_files(alloc, source, paths)?;
     answer_explain(rt, alloc, files.texts(), json, out)
+}
+
+/// The verdict on a certificate of the plan of files, and why it is one. It is read behind these.
+fn explain_cert_files<'a, F: Source, S: Sink>(
+    rt: &(impl Threads + Sync),
+    alloc: Global,
+    source: &F,
+    paths: Paths<'a>,
+    cert: &'a str,
+    out: &mut S,
+) -> Result<u8, OutsideFault<'a>>
+    ensures { UnlessUnread (AreCalledWith paths.entry cert.entry.now)
+        (S.state out.new ≡ S.state out.old)
+        (IsAnswered (OnFilesAndOne (named (F.held source.now) (F.given source.now)) paths.entry
+        cert.entry.now AnswersExplainCert) (S.state out.old) (S.state out.new) result) result }
+{
+    let files = read_files(alloc, source, paths)?;
+    let read = read_file(alloc, source, cert)?;
+    answer_explain_cert(rt, alloc, files.texts(), &read, out)
 }
 
 /// The listing of a plan, with numbers or without.
@@ -247,6 +267,9 @@ pub fn answer_request<'a, F: Source + Watch, S: Sink, E: Sink>(
         Request::CheckInput => check_input(rt, alloc, source, out),
         Request::Check { paths, json } => check_files(rt, alloc, source, paths, json, out),
         Request::Explain { paths, json } => explain_files(rt, alloc, source, paths, json, out),
+        Request::ExplainCert { cert, paths } => {
+            explain_cert_files(rt, alloc, source, paths, cert, out)
+        }
         Request::List { paths, number } => list_files(alloc, source, paths, number, out),
         Request::Cert(paths) => cert_files(rt, alloc, source, paths, out, errors),
         Request::VerifyCert { cert, paths } => { verify_files(rt, alloc, source, paths, cert, out) }

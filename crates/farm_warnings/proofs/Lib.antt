@@ -1,3 +1,4 @@
 pub mod LineLaws
 pub mod SetLaws
 pub mod BelowLaws
+pub mod OutputLaws

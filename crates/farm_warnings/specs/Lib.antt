@@ -8,5 +8,6 @@ pub mod Packages
 pub mod Restricting
 pub mod Profiles
 pub mod Wildcards
+pub mod Outputs
 pub mod Waits
 pub mod Warnings

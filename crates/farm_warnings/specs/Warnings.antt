@@ -1,13 +1,14 @@
 -- Warnings: what is odd in the texts of a farm and refuses no plan. The project's own format.
 --
 --   all_warnings       all of them: fields of the farm text, profiles, names of the architecture,
---                      recipes, packages, waits
+--                      recipes, their outputs, packages, waits
 use Rattle.std.specs.Prelude.{List, ◌++◌}
 use Rattle.farm_input.specs.Input.{Texts}
 use Rattle.farm_model.specs.Universe.{Universe}
 use Rattle.plan_lines.specs.Origins.{LaneLines}
 use Rattle.plan_model.specs.Plan.{Plan}
 use Rattle.farm_warnings.specs.Fields.{field_warnings}
+use Rattle.farm_warnings.specs.Outputs.{output_warnings}
 use Rattle.farm_warnings.specs.Packages.{package_warnings}
 use Rattle.farm_warnings.specs.Profiles.{profile_warnings}
 use Rattle.farm_warnings.specs.Recipes.{recipe_warnings}
@@ -20,4 +21,5 @@ unfoldable pub all_warnings : Texts → Universe → Plan → List LaneLines →
 all_warnings texts u p ls =
     field_warnings texts.farm ++ (profile_warnings texts.sources texts.farm
     ++ (wildcard_warnings u texts.sources ++ (recipe_warnings u p texts.farm
-    ++ (package_warnings u texts.packages ++ wait_warnings u p ls))))
+    ++ (output_warnings u texts.sources texts.farm
+    ++ (package_warnings u texts.packages ++ wait_warnings u p ls)))))

@@ -5,6 +5,7 @@ ghost use Rattle.farm_input.specs.View.{texts_view};
 ghost use Rattle.farm_warnings.specs.Warnings.{all_warnings};
 
 use crate::fields::push_fields;
+use crate::outputs::push_outputs;
 use crate::packages::push_packages;
 use crate::profiles::push_profiles;
 use crate::recipes::push_recipes;
@@ -17,11 +18,11 @@ use plan_asm::Plan;
 use plan_lines::PlanLines;
 use std::alloc::{AllocError, Global};
 
-/// Gives the warnings of a farm: of fields of the farm text that are passed over, of
-/// profiles that no source asks for, of names of the architecture that the farm lacks, of recipes that no lane builds, of packages without an
-/// `Installed-Size` or of a foreign architecture, and of waits that nothing could end; nothing
-/// where all is well. The universe is what the texts describe, and `lines` are those of the plan's
-/// text.
+/// Gives the warnings of a farm: of fields of the farm text that are passed over, of profiles that
+/// no source asks for, of names of the architecture that the farm lacks, of recipes that no lane
+/// builds, of outputs that their source does not build so, of packages without an `Installed-Size`
+/// or of a foreign architecture, and of waits that nothing could end; nothing where all is well. The
+/// universe is what the texts describe, and `lines` are those of the plan's text.
 ///
 /// # Errors
 ///
@@ -42,6 +43,7 @@ pub fn warnings(
     push_profiles(alloc, &mut found, texts.sources, texts.farm)?;
     push_wildcards(alloc, &mut found, universe, texts.sources)?;
     push_recipes(alloc, &mut found, universe, plan, texts.farm)?;
+    push_outputs(alloc, &mut found, universe, texts.sources, texts.farm)?;
     push_packages(alloc, &mut found, universe, texts.packages)?;
     push_waits(alloc, &mut found, universe, plan, lines)?;
     Ok(found)

@@ -22,14 +22,17 @@ pub enum About {
     Wildcard,
     /// A recipe that no lane builds, whose paragraph begins at this line.
     Recipe(u32, usize),
+    /// An output that its source does not build so, of the recipe whose paragraph begins at this
+    /// line.
+    Output(u32),
     /// So many packages lack this, the first of which begins at this line.
     Lacking(Lack, usize, u32),
     /// A wait whose entry no package could meet, which comes from this line of the plan.
     Wait(Option<Origin>),
 }
 
-/// A warning: what it is about, and the name of the field, the profile or the architecture, for
-/// others none.
+/// A warning: what it is about, and the name of the field, the profile, the architecture or the
+/// output, for others none.
 #[derive(Drop)]
 pub struct Warning {
     pub about: About,
@@ -96,6 +99,12 @@ fn push_head(text: &mut Vec<u8>, words: &[u8], number: u64) -> Result<(), AllocE
     push_pieces(text, &[words, number.as_bytes(), b": "])
 }
 
+/// What warnings of the farm text begin with.
+const FARM_LINE: &[u8] = b"warning: farm line ";
+
+/// What is said of an output, ahead of its name.
+const OUTPUT_WORDS: &[u8] = b"by the Package-List of its source this recipe does not build ";
+
 /// What a package lacks, behind the number of those that do.
 fn lack_words(lack: Lack) -> &'static [u8] {
     match lack {
@@ -106,18 +115,35 @@ fn lack_words(lack: Lack) -> &'static [u8] {
     }
 }
 
+/// The line on packages that lack something.
+fn push_lacking(text: &mut Vec<u8>, lack: Lack, count: usize, line: u32) -> Result<(), AllocError> {
+    push_head(text, b"warning: packages line ", u64::from(line))?;
+    let mut digits = Buffer::new();
+    let number = digits.format(count as u64);
+    push_pieces(text, &[number.as_bytes(), lack_words(lack)])
+}
+
+/// The line on a wait.
+fn push_wait(text: &mut Vec<u8>, origin: Option<Origin>) -> Result<(), AllocError> {
+    match origin {
+        Some(origin) => push_head(text, b"warning: plan line ", u64::from(origin.line))?,
+        None => push_pieces(text, &[b"warning: plan: "])?,
+    }
+    push_pieces(text, &[b"no package is or provides what this waits for\n"])
+}
+
 fn push_line(text: &mut Vec<u8>, universe: &Universe, warning: &Warning) -> Result<(), AllocError> {
     let name = warning.name.as_slice();
     match warning.about {
         About::Field(line) => {
-            push_head(text, b"warning: farm line ", line as u64)?;
+            push_head(text, FARM_LINE, line as u64)?;
             push_pieces(
                 text,
                 &[b"the field ", name, b" is not known, and is passed over\n"],
             )
         }
         About::Profile(line) => {
-            push_head(text, b"warning: farm line ", line as u64)?;
+            push_head(text, FARM_LINE, line as u64)?;
             push_pieces(text, &[b"no source asks for the profile ", name, b"\n"])
         }
         About::Wildcard => {
@@ -128,23 +154,15 @@ fn push_line(text: &mut Vec<u8>, universe: &Universe, warning: &Warning) -> Resu
             push_pieces(text, &[b", by which sources restrict what they need\n"])
         }
         About::Recipe(recipe, line) => {
-            push_head(text, b"warning: farm line ", line as u64)?;
+            push_head(text, FARM_LINE, line as u64)?;
             let name = universe.recipe_name(recipe);
             push_pieces(text, &[b"no lane builds the recipe ", name, b"\n"])
         }
-        About::Lacking(lack, count, line) => {
-            push_head(text, b"warning: packages line ", u64::from(line))?;
-            let mut digits = Buffer::new();
-            let number = digits.format(count as u64);
-            push_pieces(text, &[number.as_bytes()])?;
-            push_pieces(text, &[lack_words(lack)])
+        About::Output(line) => {
+            push_head(text, FARM_LINE, u64::from(line))?;
+            push_pieces(text, &[OUTPUT_WORDS, name, b"\n"])
         }
-        About::Wait(origin) => {
-            match origin {
-                Some(origin) => push_head(text, b"warning: plan line ", u64::from(origin.line))?,
-                None => push_pieces(text, &[b"warning: plan: "])?,
-            }
-            push_pieces(text, &[b"no package is or provides what this waits for\n"])
-        }
+        About::Lacking(lack, count, line) => push_lacking(text, lack, count, line),
+        About::Wait(origin) => push_wait(text, origin),
     }
 }

@@ -13,6 +13,6 @@ returns g c =
     (λ text status is. subst (λ planned. StepsBy c.args.list.now planned text status)
     (sym c.in-Ok.ensures.read)
     (subst (λ turns. TakesTurns (record { universe = u; plan = p }) turns text status)
-    (sym c.in_ok-schedule.ensures)
+    (sym c.in_ok-schedule.ensures.read)
     (subst (λ lanes. ShowsRun u p lanes text status) c.deref.ensures.value is)))
     c.answer_turns.ensures

@@ -1,13 +1,17 @@
-use Rattle.std.proofs.Common.{◌≡◌, length}
+use Rattle.std.proofs.Common.{◌≡◌, ◌+◌, ◌≤◌, length}
 use Rattle.deb_text.specs.Steps.{traverse, with_front}
 use Rattle.deb_text.specs.Words.{words}
-use Rattle.farm_answers.specs.Turns.{lane_of_word}
+use Rattle.farm_answers.specs.Turns.{placed_from, turn_of}
 use Rattle.farm_answers.proofs.turns.read_words.Given as goal
 
 abbrev pub invariant-loop-word : goal.invariant-loop-word
-invariant-loop-word l =
-    with_front l.turns.items (traverse (lane_of_word l.plan.lanes) (words l.rest))
-    ≡ traverse (lane_of_word l.plan.lanes) (words l.text)
+invariant-loop-word l = record {
+  same : with_front l.turns.items
+      (traverse (turn_of l.plan.lanes) (placed_from l.line l.place (words l.rest)))
+      ≡ with_front l.fn.turns.items
+      (traverse (turn_of l.plan.lanes) (placed_from l.line 1 (words l.text)));
+  in_range : l.place + length l.rest ≤ 1 + length l.text;
+}
 
 abbrev pub decreases-loop-word : goal.decreases-loop-word
 decreases-loop-word l = length l.rest

@@ -1,6 +1,6 @@
 use Rattle.std.proofs.Common.{sym, ◌∙◌}
 use Rattle.command_line.proofs.WordLaws.{is-word}
-use Rattle.command_line.proofs.request.verify_of.Goals as goal
+use Rattle.command_line.proofs.certificates.verify_of.Goals as goal
 
 pub returns-then-not-is_word-clause-refused : goal.returns-then-not-is_word-clause-refused
 returns-then-not-is_word-clause-refused g c = c.not_there.ensures _

@@ -1,0 +1,13 @@
+use Rattle.std.proofs.Common.{sym, ◌∙◌}
+use Rattle.command_line.proofs.WordLaws.{ends-word}
+use Rattle.command_line.proofs.certificates.explain_by.Goals as goal
+
+pub returns-then-not-ends_word-clause-refused : goal.returns-then-not-ends_word-clause-refused
+returns-then-not-ends_word-clause-refused g c = c.not_there.ensures _
+
+pub returns-clause-asked : goal.returns-clause-asked
+returns-clause-asked g c = (
+  ends-word g.S.AsStr.text c.args.words.now c.args.cert.now
+      (sym c.ends_word.ensures ∙ c.if-not-ends_word.false),
+  c.requires.paths,
+)

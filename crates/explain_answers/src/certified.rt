@@ -1,0 +1,140 @@
+//! What is answered where the verdict on a certificate is explained.
+
+ghost use Rattle.std.specs.Prelude.{◌≡◌, ◌++◌, is_err};
+ghost use Rattle.std.specs.Result.{is_ok};
+ghost use Rattle.farm_answers.specs.Answers.{IsAnswered, IsJust};
+ghost use Rattle.farm_answers.specs.Answers as answers;
+ghost use Rattle.farm_answers.specs.CertAnswers.{TellsCert};
+ghost use Rattle.farm_input.specs.View.{texts_view};
+ghost use Rattle.farm_report.specs.CertText.{cert_text};
+ghost use Rattle.explain_answers.specs.CertExplained.{AnswersExplainCert, BeginsAs};
+ghost use Rattle.report_sink.specs.Sinks.{IsWritten};
+
+use cert_notes::{About, cert_notes};
+use cert_text::CertFault;
+use farm_answers::{OutsideFault, answer_verdict, check_text, status_of};
+use farm_input::Texts;
+use farm_report::write_cert_verdict;
+use plan_asm::Plan;
+use plan_lines::PlanLines;
+use plan_verifier::{Ready, Refusal, read_ready};
+use report_sink::{Sink, WriteFailed, write_text};
+use std::alloc::{AllocError, Global};
+use std::mem::ManuallyDrop;
+use std::thread::Threads;
+
+/// A certificate of a plan, whose text this is.
+#[derive(Clone, Copy)]
+struct Certified<'a> {
+    ready: &'a Ready,
+    plan: &'a [u8],
+    cert: &'a [u8],
+}
+
+/// The lines that tell why a certificate is refused; none where it is not.
+fn notes_on(
+    alloc: Global,
+    of: Certified<'_>,
+    verdict: &Result<(), CertFault>,
+) -> Result<Vec<u8>, AllocError> {
+    let Err(fault) = verdict else {
+        return Ok(Vec::new(alloc));
+    };
+    let Ok(lines) = PlanLines::read(alloc, of.plan) else {
+        return Err(AllocError);
+    };
+    let about = About {
+        universe: &of.ready.planned.universe,
+        plan: &of.ready.planned.plan,
+        lines: &lines,
+        cert: of.cert,
+    };
+    cert_notes(alloc, about, *fault)
+}
+
+/// Writes the line of a verdict on a certificate, and these below it.
+fn write_lines<S: Sink>(
+    out: &mut S,
+    plan: &Plan,
+    verdict: &Result<(), CertFault>,
+    rest: &[u8],
+) -> Result<(), WriteFailed>
+    ensures written { IsWritten (S.state out.old) (S.state out.new)
+        (cert_text plan.now.lanes verdict.now ++ rest.now) }
+    ensures told { is_err result ≡ (S.state out.new).failed }
+{
+    write_cert_verdict(out, plan, verdict)?;
+    write_text(out, rest)
+}
+
+/// The same, and gives the status.
+fn write_explained<'a, S: Sink>(
+    plan: &Plan,
+    verdict: &Result<(), CertFault>,
+    rest: &[u8],
+    out: &mut S,
+) -> Result<u8, OutsideFault<'a>>
+    ensures { IsAnswered (IsJust (cert_text plan.now.lanes verdict.now ++ rest.now)
+        (answers.status_of (is_ok verdict.now))) (S.state out.old) (S.state out.new) result }
+{
+    write_lines(out, plan, verdict, rest)?;
+    Ok(status_of(verdict.is_ok()))
+}
+
+/// Answers with the verdict on a certificate, and why it is refused. Want of memory is none.
+fn answer_certified<'a, S: Sink>(
+    alloc: Global,
+    of: Certified<'_>,
+    verdict: Result<(), CertFault>,
+    out: &mut S,
+) -> Result<u8, OutsideFault<'a>>
+    ensures { IsAnswered (BeginsAs (TellsCert of.entry.ready.now.planned.plan.lanes verdict))
+        (S.state out.old) (S.state out.new) result }
+{
+    if verdict == Err(CertFault::Memory) {
+        return Err(OutsideFault::OutOfMemory);
+    }
+    let notes = notes_on(alloc, of, &verdict)?;
+    write_explained(&of.ready.planned.plan, &verdict, &notes, out)
+}
+
+/// Answers as `verify-cert` does, and says below a refusal why: the line of the certificate, the
+/// line of the plan, what was expected there, and of a row with too much the first variant.
+///
+/// # Errors
+///
+/// [`OutsideFault::OutOfMemory`] where memory is refused, and nothing is written then; and
+/// [`OutsideFault::WriteFailed`] where the sink fails, with a first part of the answer.
+pub fn answer_explain_cert<'a, S: Sink>(
+    rt: &(impl Threads + Sync),
+    alloc: Global,
+    texts: Texts<'_>,
+    cert: &[u8],
+    out: &mut S,
+) -> Result<u8, OutsideFault<'a>>
+    ensures { IsAnswered (AnswersExplainCert cert.now (texts_view texts.entry)) (S.state out.old)
+        (S.state out.new) result }
+{
+    let made = read_ready(
+        rt,
+        alloc,
+        texts.packages,
+        texts.sources,
+        texts.farm,
+        texts.plan,
+    );
+    let ready = match made {
+        Ok(ready) => ready,
+        Err(fault) => return answer_verdict(Err(Refusal::from(fault)), out),
+    };
+    // The program ends with its answer: what it has read goes with it.
+    let kept = ManuallyDrop::new(ready);
+    let ready = &*kept;
+    let verdict = check_text(rt, alloc, ready, cert);
+    let of = Certified {
+        ready,
+        plan: texts.plan,
+        cert,
+    };
+    answer_certified(alloc, of, verdict, out)
+}

@@ -1,0 +1,28 @@
+use Rattle.std.proofs.Common.{subst}
+use Rattle.explain_answers.specs.CertExplained.{AnswersExplainCert}
+use Rattle.farm_answers.specs.Files.{AreCalledWith, named, OnFilesAndOne}
+use Rattle.farm_answers.specs.View.{texts_in_files}
+use Rattle.farm_answers.proofs.AnswerLaws.{answered-by, unless-answered}
+use Rattle.farm_commands.proofs.request.explain_cert_files.Goals as goal
+use Rattle.farm_input.specs.View.{texts_view}
+
+pub returns : goal.returns
+returns g c =
+    unless-answered (AreCalledWith c.args.paths c.args.cert.now) _ _ _ _
+    (answered-by (AnswersExplainCert c.deref.result.now (texts_view c.texts.result))
+    (OnFilesAndOne (named (g.F.Source.held c.args.source.now) (g.F.Source.given c.args.source.now))
+    c.args.paths c.args.cert.now
+    AnswersExplainCert) _ _ _
+    (λ text status is. (
+      c.in_ok-read.read.items,
+      c.in_ok-read.ensures.bytes,
+      (
+        texts_in_files c.in_ok-files.files,
+        c.in_ok-files.ensures.read,
+        subst (λ bytes. AnswersExplainCert bytes (texts_in_files c.in_ok-files.files) text status)
+            c.deref.ensures.value
+            (subst (λ texts. AnswersExplainCert c.deref.result.now texts text status)
+            c.texts.ensures is),
+      ),
+    ))
+    c.answer_explain_cert.ensures)
