@@ -5,7 +5,10 @@ use Rattle.command_line.specs.declared.request.Paths.{Paths}
 use Rattle.deb_text.proofs.LineLaws.{lines_of-nil}
 use Rattle.deb_text.specs.Lines.{lines_of}
 use Rattle.drive_answers.specs.DriveAnswers.{DrivesTo, IsDriveAnswered, IsDriveTold, Finishes, IsFirstMisfit, IsMisfitOf, Refuses, Stops, TellsRan, TellsStop}
-use Rattle.drive_answers.specs.DriveLines.{IsLineTold, fault_line, misfit_line, start_line, store_line}
+use Rattle.drive_answers.specs.DriveLines.{IsLineTold, fault_line, misfit_line, no_run_line, open_line, start_line, store_line}
+use Rattle.drive_answers.specs.KeptRuns.{IsWhyNone}
+use Rattle.drive_answers.specs.declared.kept.NoRun.{NoRun}
+use Rattle.drive_answers.specs.declared.kept.NoRun.TheVariants as no_run
 use Rattle.drive_head.specs.HeadText.{Finding, IsFresh, IsKnown, IsMisfit, finding}
 use Rattle.drive_run.specs.Driven.{IsMisfitIn, IsNotBegun}
 use Rattle.drive_run.specs.declared.driven.StartFault.{StartFault}
@@ -124,6 +127,19 @@ store_told a head kept journal later new before after Failed told known is line 
 store_told a head kept journal later new before after Memory told known is line =
     no_memory (ShowsEnd a) (TellsStop a (IsMisfitOf a head kept) new new) new before after told
     line.0
+
+-- why there is no run by a journal
+pub none_told : (a : AcceptedPlan) (head : List ℕ) (kept : Option (List ℕ))
+    (new before after : SinkState) (none : NoRun) (told : Result ℕ OutsideFault)
+    → IsWhyNone head kept none → IsLineTold (no_run_line none) before after told
+    → IsDriveTold (ShowsEnd a) (TellsStop a (IsMisfitOf a head kept) new new) new before after told
+none_told a head kept new before after (no_run.Unopened fault) told why line =
+    inr (line.0, open_line fault, inr (refl, inr (inl (fault, refl))), line.1)
+none_told a head kept new before after (no_run.Unkept fault) told (inl memory) line =
+    no_memory (ShowsEnd a) (TellsStop a (IsMisfitOf a head kept) new new) new before after told
+    (subst (λ f. IsLineTold (store_line f) before after told) memory line).0
+none_told a head kept new before after (no_run.Unkept fault) told (inr why) line =
+    store_told a head kept why.0 why.1 new before after fault told why.2 why.3 line
 
 found_misfit : (a : AcceptedPlan) (head stamp text : List ℕ) (found : Finding)
     (bytes : Option (List ℕ)) (run : Resumed) (n : ℕ) → GoesOn head stamp text found bytes run

@@ -4,10 +4,13 @@
 --   fault_line       what failed while it went on
 --   misfit_line      the line of a journal that does not fit
 --   open_line        why a journal is not opened
---   store_line, start_line   why no run goes on by a journal; why a drive does not begin
+--   store_line, no_run_line, start_line   why no run goes on by a journal, once it is open or not;
+--                    why a drive does not begin
 --   IsLineTold       a line is told, or want of memory
 use Rattle.std.specs.Prelude.{◌≡◌, ℕ, ◌==◌, List, ◌++◌, codes, Option, Some, None, Result, Ok, Err, if◌then◌else◌}
 use Rattle.std.specs.Fmt.{decimal}
+use Rattle.drive_answers.specs.declared.kept.NoRun.{NoRun}
+use Rattle.drive_answers.specs.declared.kept.NoRun.TheVariants as none
 use Rattle.drive_run.specs.declared.driven.StartFault.{StartFault}
 use Rattle.drive_run.specs.declared.driven.StartFault.TheVariants as start
 use Rattle.drive_store.specs.declared.kept.OpenFault.{OpenFault}
@@ -62,6 +65,10 @@ store_line Unread = Some (codes "portfarm: cannot open journal\n")
 store_line (Misfit n) = Some (misfit_line n)
 store_line Failed = Some (codes "portfarm: journal failed\n")
 store_line Memory = None
+
+abbrev pub no_run_line : NoRun → Option (List ℕ)
+no_run_line (none.Unopened f) = Some (open_line f)
+no_run_line (none.Unkept f) = store_line f
 
 abbrev pub start_line : StartFault → Option (List ℕ)
 start_line (start.Misfit n) = Some (misfit_line n)

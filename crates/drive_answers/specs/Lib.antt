@@ -1,2 +1,3 @@
 pub mod DriveAnswers
 pub mod DriveLines
+pub mod KeptRuns

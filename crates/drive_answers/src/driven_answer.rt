@@ -9,16 +9,17 @@ ghost use Rattle.farm_answers.specs.FarmAnswers.{ShowsEnd};
 ghost use Rattle.farm_answers.specs.Files.{named};
 ghost use Rattle.farm_input.specs.View.{texts_view};
 
-use crate::faults::{tell_start, tell_unkept, tell_unopened};
+use crate::faults::{tell_no_run, tell_start};
+use crate::kept::{run_kept, run_unkept};
 use crate::machine::DriveSource;
 use crate::ran::answer_driven;
-use crate::setting::{Run, Setting, beginning_of, carry_out, run_anew, run_by};
+use crate::setting::{Run, Setting, carry_out};
 use command_line::Paths;
 use drive_store::Journal;
 use farm_answers::{OutsideFault, answer_verdict, read_files};
 use plan_verifier::{Accepted, check};
 use report_sink::Sink;
-use std::alloc::Global;
+use std::alloc::{AllocError, Global};
 use std::io::Eprint;
 use std::mem::ManuallyDrop;
 use std::sync::Wait;
@@ -75,14 +76,9 @@ fn drive_kept<'a, R: Threads + Wait + Eprint + Sync, F: DriveSource, S: Sink, E:
         (S.state out.new) (E.state errors.old) (E.state errors.new) result }
     ensures quiet { OnErr result (E.state errors.new ≡ E.state errors.old) }
 {
-    let beginning = beginning_of(setting)?;
-    let journal = match setting.source.open_journal(path) {
-        Ok(journal) => journal,
-        Err(fault) => return Ok(tell_unopened(fault, errors)),
-    };
-    match run_by(setting.alloc, &beginning, journal) {
+    match run_kept(setting, path) {
         Ok(run) => answer_run(setting, accepted, run, out, errors),
-        Err(fault) => tell_unkept(fault, errors),
+        Err(none) => tell_no_run(none, errors),
     }
 }
 
@@ -97,9 +93,10 @@ fn drive_unkept<'a, R: Threads + Wait + Eprint + Sync, F: DriveSource, S: Sink, 
         (S.state out.new)) (S.state out.new) (E.state errors.old) (E.state errors.new) result }
     ensures quiet { OnErr result (E.state errors.new ≡ E.state errors.old) }
 {
-    let beginning = beginning_of(setting)?;
-    let run = run_anew(setting.alloc, &beginning)?;
-    answer_run(setting, accepted, run, out, errors)
+    match run_unkept(setting) {
+        Ok(run) => answer_run(setting, accepted, run, out, errors),
+        Err(AllocError) => Err(OutsideFault::OutOfMemory),
+    }
 }
 
 /// Drives the lanes of an accepted plan, by its journal where it has one.

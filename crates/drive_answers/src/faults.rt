@@ -3,10 +3,11 @@
 ghost use Rattle.std.specs.Prelude.{◌≡◌};
 ghost use Rattle.std.specs.Option.{option_map};
 ghost use Rattle.drive_answers.specs.DriveLines as spec;
-ghost use Rattle.drive_answers.specs.DriveLines.{IsLineTold, entry_line, fault_line, misfit_line, open_line, other_line, start_line, stopped_line, store_line};
+ghost use Rattle.drive_answers.specs.DriveLines.{IsLineTold, entry_line, fault_line, misfit_line, no_run_line, open_line, other_line, start_line, stopped_line, store_line};
 ghost use Rattle.farm_answers.specs.declared.status.TheConstants.{OUTSIDE};
 ghost use Rattle.report_sink.specs.Sinks.{IsWritten};
 
+use crate::kept::NoRun;
 use drive_run::StartFault;
 use drive_store::{OpenFault, StoreFault};
 use farm_answers::{OUTSIDE, OutsideFault, say};
@@ -62,7 +63,7 @@ fn tell_misfit<E: Sink>(line: u64, errors: &mut E) -> u8
 }
 
 /// Says why a journal is not opened, and gives the status.
-pub fn tell_unopened<E: Sink>(fault: OpenFault, errors: &mut E) -> u8
+fn tell_unopened<E: Sink>(fault: OpenFault, errors: &mut E) -> u8
     ensures status { result ≡ OUTSIDE }
     ensures line { IsWritten (E.state errors.old) (E.state errors.new) (open_line fault) }
 {
@@ -77,7 +78,7 @@ pub fn tell_unopened<E: Sink>(fault: OpenFault, errors: &mut E) -> u8
 /// # Errors
 ///
 /// [`OutsideFault::OutOfMemory`] where memory was refused.
-pub fn tell_unkept<'a, E: Sink>(fault: StoreFault, errors: &mut E) -> Result<u8, OutsideFault<'a>>
+fn tell_unkept<'a, E: Sink>(fault: StoreFault, errors: &mut E) -> Result<u8, OutsideFault<'a>>
     ensures { IsLineTold (store_line fault) (E.state errors.old) (E.state errors.new) result }
 {
     match fault {
@@ -85,6 +86,20 @@ pub fn tell_unkept<'a, E: Sink>(fault: StoreFault, errors: &mut E) -> Result<u8,
         StoreFault::Misfit(line) => Ok(tell_misfit(line, errors)),
         StoreFault::Failed => Ok(say(errors, b"portfarm: journal failed\n", OUTSIDE)),
         StoreFault::Memory => Err(OutsideFault::OutOfMemory),
+    }
+}
+
+/// Says why there is no run by a journal, and gives the status.
+///
+/// # Errors
+///
+/// [`OutsideFault::OutOfMemory`] where memory was refused.
+pub fn tell_no_run<'a, E: Sink>(none: NoRun, errors: &mut E) -> Result<u8, OutsideFault<'a>>
+    ensures { IsLineTold (no_run_line none) (E.state errors.old) (E.state errors.new) result }
+{
+    match none {
+        NoRun::Unopened(fault) => Ok(tell_unopened(fault, errors)),
+        NoRun::Unkept(fault) => tell_unkept(fault, errors),
     }
 }
 

@@ -10,6 +10,7 @@
 mod begun;
 mod driven_answer;
 mod faults;
+mod kept;
 mod machine;
 mod ran;
 mod setting;
