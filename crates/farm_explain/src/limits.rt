@@ -1,7 +1,7 @@
 //! What helps where a budget or a chroot does not suffice, as lines.
 
 ghost use Rattle.std.specs.Prelude.{◌<◌, length};
-ghost use Rattle.plan_verifier.specs.Stage.{IsStage};
+ghost use Rattle.plan_verifier.specs.Stage.{IsWhole};
 
 use crate::place::push_count;
 use deb_text::push_pieces;
@@ -26,8 +26,7 @@ pub fn push_whole_cost<K: KnownWords>(
     stage: &Stage<'_, K>,
     number: usize,
 ) -> Result<(), AllocError>
-    requires stage { IsStage stage.now.universe.now stage.now.plan.now.lanes
-        stage.now.tables.now stage.now.outputs.now (K.known stage.now.known.now) }
+    requires stage { IsWhole K.known stage.now }
     requires lane { number < length stage.now.plan.now.lanes }
 {
     match lane_cost(stage, number) {

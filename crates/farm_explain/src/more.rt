@@ -3,7 +3,7 @@
 ghost use Rattle.std.specs.Prelude.{◌≡◌, ◌<◌, length};
 ghost use Rattle.plan_model.specs.Plan.{lane};
 ghost use Rattle.plan_verifier.specs.Branch.{IsAt};
-ghost use Rattle.plan_verifier.specs.Stage.{IsStage};
+ghost use Rattle.plan_verifier.specs.Stage.{IsWhole, OfStage};
 
 use crate::also_unmet::push_also_unmet;
 use crate::builds::push_builder;
@@ -33,13 +33,11 @@ fn push_unmet<K: KnownWords>(
     stage: &Stage<'_, K>,
     at: Refused<'_>,
 ) -> Result<(), AllocError>
-    requires stage { IsStage stage.now.universe.now stage.now.plan.now.lanes
-        stage.now.tables.now stage.now.outputs.now (K.known stage.now.known.now) }
+    requires stage { IsWhole K.known stage.now }
     requires lane { at.of.number < length stage.now.plan.now.lanes }
     requires same { at.of.plan.now ≡ stage.now.plan.now }
     requires place { at.place < length (lane stage.now.plan.now.lanes at.of.number).instructions }
-    requires at { IsAt stage.now.universe.now stage.now.plan.now.lanes
-        (K.known stage.now.known.now).rows at.of.number at.place at.may.now }
+    requires at { OfStage K.known stage.now IsAt at.of.number at.place at.may.now }
 {
     let unmet = unmet_entries(alloc, stage, at.of.number, at.place, at.may, at.reason)?;
     push_also_unmet(text, stage.universe, unmet.as_slice())?;
@@ -57,13 +55,11 @@ pub fn push_more<K: KnownWords>(
     stage: &Stage<'_, K>,
     at: Refused<'_>,
 ) -> Result<(), AllocError>
-    requires stage { IsStage stage.now.universe.now stage.now.plan.now.lanes
-        stage.now.tables.now stage.now.outputs.now (K.known stage.now.known.now) }
+    requires stage { IsWhole K.known stage.now }
     requires lane { at.of.number < length stage.now.plan.now.lanes }
     requires same { at.of.plan.now ≡ stage.now.plan.now }
     requires place { at.place < length (lane stage.now.plan.now.lanes at.of.number).instructions }
-    requires at { IsAt stage.now.universe.now stage.now.plan.now.lanes
-        (K.known stage.now.known.now).rows at.of.number at.place at.may.now }
+    requires at { OfStage K.known stage.now IsAt at.of.number at.place at.may.now }
 {
     match at.reason {
         Reason::OverBudget { .. } => push_whole_cost(text, stage, at.of.number),

@@ -2,7 +2,7 @@
 
 ghost use Rattle.std.specs.Prelude.{◌≡◌, ◌<◌, ◌≤◌, ◌-◌, ◌++◌, length, IfOk, OnOk};
 ghost use Rattle.plan_model.specs.Plan.{lane};
-ghost use Rattle.plan_verifier.specs.Stage.{IsStage};
+ghost use Rattle.plan_verifier.specs.Stage.{IsWhole, of_stage};
 ghost use Rattle.farm_explain.specs.LaneNotes as spec;
 ghost use Rattle.farm_explain.specs.Notes.{all_facts, facts, found_facts};
 ghost use Rattle.refusal_reasons.specs.Reasons.{reason_at};
@@ -33,8 +33,7 @@ fn known_word<K: KnownWords>(
     place: usize,
     reason: Reason,
 ) -> u64
-    requires stage { IsStage stage.now.universe.now stage.now.plan.now.lanes
-        stage.now.tables.now stage.now.outputs.now (K.known stage.now.known.now) }
+    requires stage { IsWhole K.known stage.now }
     requires lane { number < length stage.now.plan.now.lanes }
     requires place { place < length (lane stage.now.plan.now.lanes number).instructions }
 {
@@ -65,8 +64,7 @@ fn push_why<K: KnownWords>(
     may: &LaneMay,
     reason: Reason,
 ) -> Result<(), AllocError>
-    requires stage { IsStage stage.now.universe.now stage.now.plan.now.lanes
-        stage.now.tables.now stage.now.outputs.now (K.known stage.now.known.now) }
+    requires stage { IsWhole K.known stage.now }
     requires lane { of.number < length stage.now.plan.now.lanes }
     requires same { of.plan.now ≡ stage.now.plan.now }
     requires place { place < length (lane stage.now.plan.now.lanes of.number).instructions }
@@ -118,14 +116,12 @@ fn trap_told<K: KnownWords>(
     number: usize,
     met: Met,
 ) -> Result<(Option<Reason>, Vec<u8>), AllocError>
-    requires stage { IsStage stage.now.universe.now stage.now.plan.now.lanes
-        stage.now.tables.now stage.now.outputs.now (K.known stage.now.known.now) }
+    requires stage { IsWhole K.known stage.now }
     requires lane { number < length stage.now.plan.now.lanes }
     requires instruction { 0 < met.instruction }
     requires place { met.instruction
         ≤ length (lane stage.now.plan.now.lanes number).instructions }
-    ensures { IfOk result (λ told. told.0 ≡ reason_at stage.now.universe.now
-        stage.now.plan.now.lanes (K.known stage.now.known.now).rows number
+    ensures { IfOk result (λ told. told.0 ≡ of_stage K.known stage.now reason_at number
         (met.instruction - 1) met.trap) }
 {
     let place = met.instruction as usize - 1;
@@ -162,14 +158,12 @@ fn trap_note<K: KnownWords>(
     number: usize,
     met: Met,
 ) -> Result<Note, AllocError>
-    requires stage { IsStage stage.now.universe.now stage.now.plan.now.lanes
-        stage.now.tables.now stage.now.outputs.now (K.known stage.now.known.now) }
+    requires stage { IsWhole K.known stage.now }
     requires lane { number < length stage.now.plan.now.lanes }
     requires instruction { 0 < met.instruction }
     requires place { met.instruction
         ≤ length (lane stage.now.plan.now.lanes number).instructions }
-    ensures { IfOk result (λ note. facts note ≡ spec.trap_note stage.now.universe.now
-        stage.now.plan.now.lanes (K.known stage.now.known.now).rows lines.now.lanes number
+    ensures { IfOk result (λ note. facts note ≡ of_stage K.known stage.now spec.trap_note lines.now.lanes number
         (met.instruction - 1) met.trap) }
 {
     let instruction = u64::from(met.instruction);
@@ -218,12 +212,10 @@ fn uneven_note<K: KnownWords>(
     number: usize,
     instruction: u32,
 ) -> Result<Note, AllocError>
-    requires stage { IsStage stage.now.universe.now stage.now.plan.now.lanes
-        stage.now.tables.now stage.now.outputs.now (K.known stage.now.known.now) }
+    requires stage { IsWhole K.known stage.now }
     requires lane { number < length stage.now.plan.now.lanes }
     requires instruction { 0 < instruction }
-    ensures { IfOk result (λ note. facts note ≡ spec.parting_note stage.now.universe.now
-        stage.now.plan.now.lanes (K.known stage.now.known.now).rows lines.now.lanes number
+    ensures { IfOk result (λ note. facts note ≡ of_stage K.known stage.now spec.parting_note lines.now.lanes number
         (instruction - 1)) }
 {
     let of = u64::from(instruction);
@@ -245,11 +237,9 @@ fn lane_note<K: KnownWords>(
     lines: &PlanLines,
     number: usize,
 ) -> Result<Option<Note>, AllocError>
-    requires stage { IsStage stage.now.universe.now stage.now.plan.now.lanes
-        stage.now.tables.now stage.now.outputs.now (K.known stage.now.known.now) }
+    requires stage { IsWhole K.known stage.now }
     requires lane { number < length stage.now.plan.now.lanes }
-    ensures { IfOk result (λ note. found_facts note ≡ spec.lane_notes stage.now.universe.now
-        stage.now.plan.now.lanes (K.known stage.now.known.now).rows lines.now.lanes number) }
+    ensures { IfOk result (λ note. found_facts note ≡ of_stage K.known stage.now spec.lane_notes lines.now.lanes number) }
 {
     match walk(alloc, stage, number) {
         Ok(_) => Ok(None),
@@ -294,10 +284,8 @@ pub fn unsafe_notes<K: KnownWords>(
     stage: &Stage<'_, K>,
     lines: &PlanLines,
 ) -> Result<Vec<Note>, AllocError>
-    requires { IsStage stage.now.universe.now stage.now.plan.now.lanes
-        stage.now.tables.now stage.now.outputs.now (K.known stage.now.known.now) }
-    ensures { IfOk result (λ notes. all_facts notes.items ≡ spec.unsafe_notes
-        stage.now.universe.now stage.now.plan.now.lanes (K.known stage.now.known.now).rows
+    requires { IsWhole K.known stage.now }
+    ensures { IfOk result (λ notes. all_facts notes.items ≡ of_stage K.known stage.now spec.unsafe_notes
         lines.now.lanes) }
 {
     let mut notes = Vec::new(alloc);

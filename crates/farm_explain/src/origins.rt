@@ -2,7 +2,7 @@
 
 ghost use Rattle.std.specs.Prelude.{◌≡◌, ◌<◌, length};
 ghost use Rattle.plan_model.specs.Plan.{lane};
-ghost use Rattle.plan_verifier.specs.Stage.{IsStage};
+ghost use Rattle.plan_verifier.specs.Stage.{IsWhole};
 
 use crate::entries::entry_of;
 use crate::missing::{LaneText, Publishing, publication};
@@ -170,8 +170,7 @@ fn need_not_be_there<K: KnownWords>(
     place: usize,
     variant: Variant,
 ) -> bool
-    requires stage { IsStage stage.now.universe.now stage.now.plan.now.lanes
-        stage.now.tables.now stage.now.outputs.now (K.known stage.now.known.now) }
+    requires stage { IsWhole K.known stage.now }
     requires lane { of.number < length stage.now.plan.now.lanes }
     requires place { place < length (lane stage.now.plan.now.lanes of.number).instructions }
 {
@@ -191,8 +190,7 @@ fn push_remedy<K: KnownWords>(
     place: usize,
     entry: &Entry,
 ) -> Result<(), AllocError>
-    requires stage { IsStage stage.now.universe.now stage.now.plan.now.lanes
-        stage.now.tables.now stage.now.outputs.now (K.known stage.now.known.now) }
+    requires stage { IsWhole K.known stage.now }
     requires lane { of.number < length stage.now.plan.now.lanes }
     requires place { place < length (lane stage.now.plan.now.lanes of.number).instructions }
 {
@@ -251,8 +249,7 @@ pub fn push_origins<K: KnownWords>(
     place: usize,
     reason: Reason,
 ) -> Result<(), AllocError>
-    requires stage { IsStage stage.now.universe.now stage.now.plan.now.lanes
-        stage.now.tables.now stage.now.outputs.now (K.known stage.now.known.now) }
+    requires stage { IsWhole K.known stage.now }
     requires lane { of.number < length stage.now.plan.now.lanes }
     requires same { of.plan.now ≡ stage.now.plan.now }
     requires place { place < length (lane stage.now.plan.now.lanes of.number).instructions }

@@ -2,7 +2,7 @@
 
 ghost use Rattle.std.specs.Prelude.{◌<◌, ◌≤◌, length};
 ghost use Rattle.plan_model.specs.Plan.{lane};
-ghost use Rattle.plan_verifier.specs.Stage.{IsStage};
+ghost use Rattle.plan_verifier.specs.Stage.{IsWhole};
 
 use crate::missing::{LaneText, publication};
 use deb_text::push_pieces;
@@ -21,8 +21,7 @@ pub fn is_surely_there<K: KnownWords>(
     place: usize,
     variant: Variant,
 ) -> bool
-    requires stage { IsStage stage.now.universe.now stage.now.plan.now.lanes
-        stage.now.tables.now stage.now.outputs.now (K.known stage.now.known.now) }
+    requires stage { IsWhole K.known stage.now }
     requires lane { number < length stage.now.plan.now.lanes }
     requires place { place ≤ length (lane stage.now.plan.now.lanes number).instructions }
 {
@@ -43,8 +42,7 @@ fn last_ahead<K: KnownWords>(
     outputs: &[Variant],
     variant: Variant,
 ) -> Option<Variant>
-    requires stage { IsStage stage.now.universe.now stage.now.plan.now.lanes
-        stage.now.tables.now stage.now.outputs.now (K.known stage.now.known.now) }
+    requires stage { IsWhole K.known stage.now }
     requires lane { number < length stage.now.plan.now.lanes }
     requires place { place ≤ length (lane stage.now.plan.now.lanes number).instructions }
 {
@@ -77,8 +75,7 @@ fn behind_another<K: KnownWords>(
     place: usize,
     variant: Variant,
 ) -> Option<Behind>
-    requires stage { IsStage stage.now.universe.now stage.now.plan.now.lanes
-        stage.now.tables.now stage.now.outputs.now (K.known stage.now.known.now) }
+    requires stage { IsWhole K.known stage.now }
     requires lane { of.number < length stage.now.plan.now.lanes }
     requires place { place ≤ length (lane stage.now.plan.now.lanes of.number).instructions }
 {
@@ -125,8 +122,7 @@ pub fn push_one_by_one<K: KnownWords>(
     place: usize,
     variant: Variant,
 ) -> Result<(), AllocError>
-    requires stage { IsStage stage.now.universe.now stage.now.plan.now.lanes
-        stage.now.tables.now stage.now.outputs.now (K.known stage.now.known.now) }
+    requires stage { IsWhole K.known stage.now }
     requires lane { of.number < length stage.now.plan.now.lanes }
     requires place { place ≤ length (lane stage.now.plan.now.lanes of.number).instructions }
 {
@@ -149,8 +145,7 @@ pub fn push_wanted_one_by_one<K: KnownWords>(
     place: usize,
     name: u32,
 ) -> Result<(), AllocError>
-    requires stage { IsStage stage.now.universe.now stage.now.plan.now.lanes
-        stage.now.tables.now stage.now.outputs.now (K.known stage.now.known.now) }
+    requires stage { IsWhole K.known stage.now }
     requires lane { of.number < length stage.now.plan.now.lanes }
     requires place { place ≤ length (lane stage.now.plan.now.lanes of.number).instructions }
 {

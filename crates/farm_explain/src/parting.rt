@@ -4,7 +4,7 @@ ghost use Rattle.std.specs.Prelude.{◌≡◌, ◌<◌, length, Some, IfOk, IfSo
 ghost use Rattle.may_rows.specs.Words.{may_of};
 ghost use Rattle.plan_model.specs.Join as join;
 ghost use Rattle.plan_model.specs.Plan.{lane, instruction_at};
-ghost use Rattle.plan_verifier.specs.Stage.{IsStage};
+ghost use Rattle.plan_verifier.specs.Stage.{IsWhole, of_stage};
 ghost use Rattle.farm_explain.specs.Parting as spec;
 
 use crate::held::push_slot;
@@ -125,12 +125,10 @@ fn push_ends<K: KnownWords>(
     number: usize,
     end: usize,
 ) -> Result<Option<u32>, AllocError>
-    requires stage { IsStage stage.now.universe.now stage.now.plan.now.lanes
-        stage.now.tables.now stage.now.outputs.now (K.known stage.now.known.now) }
+    requires stage { IsWhole K.known stage.now }
     requires lane { number < length stage.now.plan.now.lanes }
     requires end { end < length (lane stage.now.plan.now.lanes number).instructions }
-    ensures { IfOk result (λ found. found ≡ spec.name_at stage.now.universe.now
-        stage.now.plan.now.lanes (K.known stage.now.known.now).rows number (Some end)) }
+    ensures { IfOk result (λ found. found ≡ of_stage K.known stage.now spec.name_at number (Some end)) }
 {
     // The walk has come to this place before: it can end for want of memory alone.
     let Ok(may) = walk_to(alloc, stage, number, end) else {
@@ -155,11 +153,9 @@ pub fn push_parting<K: KnownWords>(
     number: usize,
     start: usize,
 ) -> Result<Option<u32>, AllocError>
-    requires stage { IsStage stage.now.universe.now stage.now.plan.now.lanes
-        stage.now.tables.now stage.now.outputs.now (K.known stage.now.known.now) }
+    requires stage { IsWhole K.known stage.now }
     requires lane { number < length stage.now.plan.now.lanes }
-    ensures { IfOk result (λ found. found ≡ spec.parting_at stage.now.universe.now
-        stage.now.plan.now.lanes (K.known stage.now.known.now).rows number start) }
+    ensures { IfOk result (λ found. found ≡ of_stage K.known stage.now spec.parting_at number start) }
 {
     match end_behind(stage.plan, number, start) {
         Some(end) => push_ends(text, alloc, stage, number, end),

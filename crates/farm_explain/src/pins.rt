@@ -2,7 +2,7 @@
 
 ghost use Rattle.std.specs.Prelude.{◌≡◌, ◌<◌, length};
 ghost use Rattle.plan_model.specs.Plan.{lane};
-ghost use Rattle.plan_verifier.specs.Stage.{IsStage};
+ghost use Rattle.plan_verifier.specs.Stage.{IsWhole};
 
 use crate::could_meet::could_meet;
 use crate::more::Refused;
@@ -53,8 +53,7 @@ fn own_unpack(at: Refused<'_>, name: u32) -> Option<usize>
 
 /// The variants that an unpack of a name wants and that are surely in the archive there, as a word.
 fn sure_word<K: KnownWords>(stage: &Stage<'_, K>, number: usize, place: usize, name: u32) -> u64
-    requires stage { IsStage stage.now.universe.now stage.now.plan.now.lanes
-        stage.now.tables.now stage.now.outputs.now (K.known stage.now.known.now) }
+    requires stage { IsWhole K.known stage.now }
     requires lane { number < length stage.now.plan.now.lanes }
     requires place { place < length (lane stage.now.plan.now.lanes number).instructions }
 {
@@ -75,8 +74,7 @@ fn mending<K: KnownWords>(
     name: u32,
     left: &mut u32,
 ) -> Result<Option<Pin>, AllocError>
-    requires stage { IsStage stage.now.universe.now stage.now.plan.now.lanes
-        stage.now.tables.now stage.now.outputs.now (K.known stage.now.known.now) }
+    requires stage { IsWhole K.known stage.now }
     requires lane { at.of.number < length stage.now.plan.now.lanes }
     requires place { at.place < length (lane stage.now.plan.now.lanes at.of.number).instructions }
 {
@@ -111,8 +109,7 @@ fn mending_pin<K: KnownWords>(
     stage: &Stage<'_, K>,
     at: Refused<'_>,
 ) -> Result<Option<Pin>, AllocError>
-    requires stage { IsStage stage.now.universe.now stage.now.plan.now.lanes
-        stage.now.tables.now stage.now.outputs.now (K.known stage.now.known.now) }
+    requires stage { IsWhole K.known stage.now }
     requires lane { at.of.number < length stage.now.plan.now.lanes }
     requires same { at.of.plan.now ≡ stage.now.plan.now }
     requires place { at.place < length (lane stage.now.plan.now.lanes at.of.number).instructions }
@@ -144,8 +141,7 @@ pub fn push_pin<K: KnownWords>(
     stage: &Stage<'_, K>,
     at: Refused<'_>,
 ) -> Result<(), AllocError>
-    requires stage { IsStage stage.now.universe.now stage.now.plan.now.lanes
-        stage.now.tables.now stage.now.outputs.now (K.known stage.now.known.now) }
+    requires stage { IsWhole K.known stage.now }
     requires lane { at.of.number < length stage.now.plan.now.lanes }
     requires same { at.of.plan.now ≡ stage.now.plan.now }
     requires place { at.place < length (lane stage.now.plan.now.lanes at.of.number).instructions }

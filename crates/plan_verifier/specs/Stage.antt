@@ -1,11 +1,14 @@
 -- What the walks over the lanes of a plan go by.
 --
---   IsStage      its parts belong together
+--   IsStage            its parts belong together
+--   IsWhole k stage    those of a stage do, k being what its known words show
+--   OfStage k stage F  F of a stage's universe, plan and known rows
 use Rattle.std.specs.Prelude.{◌≡◌}
 use Rattle.farm_model.specs.Universe.{Universe}
-use Rattle.plan_model.specs.Known.{KeepsRows}
+use Rattle.plan_model.specs.Known.{KeepsRows, Rows}
 use Rattle.plan_model.specs.Plan.{Plan}
 use Rattle.plan_model.specs.Sound.{IsSound}
+use Rattle.plan_verifier.specs.declared.stage.Stage.{Stage}
 use Rattle.wait_order.specs.KnownRows.{Knowledge}
 use Rattle.wait_order.specs.Outputs.{PlanOutputs}
 
@@ -19,3 +22,21 @@ pub record IsStage (u : Universe) (p : Plan) (tables : Universe) (outputs : Plan
   pub of_universe : known.universe ≡ u
   pub of_plan : known.plan ≡ p
   pub keeps : KeepsRows u p known.rows
+
+abbrev pub IsWhole : {K : Type 0} → (K → Knowledge) → Stage K → Type 0
+IsWhole known stage =
+    IsStage stage.universe.now stage.plan.now.lanes stage.tables.now stage.outputs.now
+    (known stage.known.now)
+
+abbrev pub stage_rows : {K : Type 0} → (K → Knowledge) → Stage K → Rows
+stage_rows known stage = (known stage.known.now).rows
+
+-- what is said of a universe, a plan and known rows, said of those of a stage
+abbrev pub OfStage : {K : Type 0} → {A : Type 1} → (K → Knowledge) → Stage K
+    → (Universe → Plan → Rows → A) → A
+OfStage known stage f = f stage.universe.now stage.plan.now.lanes (stage_rows known stage)
+
+-- the same of a value
+abbrev pub of_stage : {K : Type 0} → {A : Type 0} → (K → Knowledge) → Stage K
+    → (Universe → Plan → Rows → A) → A
+of_stage known stage f = f stage.universe.now stage.plan.now.lanes (stage_rows known stage)

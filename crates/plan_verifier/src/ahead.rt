@@ -4,7 +4,7 @@ ghost use Rattle.std.specs.Prelude.{◌≡◌, ◌<◌, suc, true, Some, IfSome,
 ghost use Rattle.plan_model.specs.Plan.{lane, instruction_at};
 ghost use Rattle.plan_verifier.specs.Branch.{IsAt};
 ghost use Rattle.plan_verifier.specs.Pieces.{MayGoOn};
-ghost use Rattle.plan_verifier.specs.Stage.{IsStage};
+ghost use Rattle.plan_verifier.specs.Stage.{IsWhole, OfStage};
 ghost use Rattle.plan_verifier.specs.Walk.{is_plain};
 
 use crate::branch::LaneMay;
@@ -22,16 +22,13 @@ fn pass_plain<K: KnownWords>(
     instruction: &Instruction,
     may: &mut LaneMay,
 ) -> bool
-    requires stage { IsStage stage.now.universe.now stage.now.plan.now.lanes
-        stage.now.tables.now stage.now.outputs.now (K.known stage.now.known.now) }
+    requires stage { IsWhole K.known stage.now }
     requires lane { number < length stage.now.plan.now.lanes }
     requires here { instruction_at stage.now.plan.now.lanes number place ≡ Some instruction.now }
     requires place { place < length (lane stage.now.plan.now.lanes number).instructions }
     requires plain { is_plain instruction.now ≡ true }
-    requires at { IsAt stage.now.universe.now stage.now.plan.now.lanes
-        (K.known stage.now.known.now).rows number place may.old }
-    ensures { result ≡ true → IsAt stage.now.universe.now stage.now.plan.now.lanes
-        (K.known stage.now.known.now).rows number (suc place) may.new }
+    requires at { OfStage K.known stage.now IsAt number place may.old }
+    ensures { result ≡ true → OfStage K.known stage.now IsAt number (suc place) may.new }
 {
     let lane = stage.plan.lane(number);
     let words = words_at(stage, number, place, instruction);
@@ -46,14 +43,11 @@ fn pass_plain<K: KnownWords>(
 
 /// Goes past the instruction at a place of a lane. Tells whether it could.
 fn pass<K: KnownWords>(stage: &Stage<'_, K>, number: usize, place: usize, may: &mut LaneMay) -> bool
-    requires stage { IsStage stage.now.universe.now stage.now.plan.now.lanes
-        stage.now.tables.now stage.now.outputs.now (K.known stage.now.known.now) }
+    requires stage { IsWhole K.known stage.now }
     requires lane { number < length stage.now.plan.now.lanes }
     requires place { place < length (lane stage.now.plan.now.lanes number).instructions }
-    requires at { IsAt stage.now.universe.now stage.now.plan.now.lanes
-        (K.known stage.now.known.now).rows number place may.old }
-    ensures { result ≡ true → IsAt stage.now.universe.now stage.now.plan.now.lanes
-        (K.known stage.now.known.now).rows number (suc place) may.new }
+    requires at { OfStage K.known stage.now IsAt number place may.old }
+    ensures { result ≡ true → OfStage K.known stage.now IsAt number (suc place) may.new }
 {
     let _lanes = stage.plan.lanes();
     let instruction = &stage.plan.lane(number).instructions()[place];
@@ -89,12 +83,9 @@ pub fn pass_to<K: KnownWords>(
     to: usize,
     mut may: LaneMay,
 ) -> Option<LaneMay>
-    requires stage { IsStage stage.now.universe.now stage.now.plan.now.lanes
-        stage.now.tables.now stage.now.outputs.now (K.known stage.now.known.now) }
-    requires on { MayGoOn stage.now.universe.now stage.now.plan.now.lanes
-        (K.known stage.now.known.now).rows number from to may }
-    ensures { IfSome result (IsAt stage.now.universe.now stage.now.plan.now.lanes
-        (K.known stage.now.known.now).rows number to) }
+    requires stage { IsWhole K.known stage.now }
+    requires on { OfStage K.known stage.now MayGoOn number from to may }
+    ensures { IfSome result (OfStage K.known stage.now IsAt number to) }
 {
     for place in from..to {
         if !pass(stage, number, place, &mut may) {

@@ -7,7 +7,7 @@ ghost use Rattle.plan_model.specs.Safety.{Meets, Parts};
 ghost use Rattle.plan_model.specs.Sound.{IsSound};
 ghost use Rattle.plan_verifier.specs.Costs.{AreWalked, IsWalked, IsToldUnsafe};
 ghost use Rattle.plan_verifier.specs.SideBySide.{AreWalks};
-ghost use Rattle.plan_verifier.specs.Stage.{IsStage};
+ghost use Rattle.plan_verifier.specs.Stage.{IsWhole, OfStage};
 ghost use Rattle.plan_verifier.specs.Walk.{Walked};
 ghost use Rattle.wait_order.specs.KnownRows.{rows_of};
 
@@ -28,10 +28,8 @@ fn costs_of<K: KnownWords>(
     stage: &Stage<'_, K>,
     walks: &[Result<u64, WalkError>],
 ) -> Result<Vec<u64>, WalkError>
-    requires walks { AreWalks (Walked stage.now.universe.now stage.now.plan.now.lanes
-        (K.known stage.now.known.now).rows) (length stage.now.plan.now.lanes) walks.now }
-    ensures { AreWalked stage.now.universe.now stage.now.plan.now.lanes
-        (K.known stage.now.known.now).rows result }
+    requires walks { AreWalks (OfStage K.known stage.now Walked) (length stage.now.plan.now.lanes) walks.now }
+    ensures { OfStage K.known stage.now AreWalked result }
 {
     let mut costs = Vec::new(alloc);
     for number in 0..stage.plan.lanes() {
@@ -57,10 +55,8 @@ pub fn walk_lanes<K: KnownWords + Sync>(
     alloc: Global,
     stage: &Stage<'_, K>,
 ) -> Result<Vec<u64>, WalkError>
-    requires stage { IsStage stage.now.universe.now stage.now.plan.now.lanes
-        stage.now.tables.now stage.now.outputs.now (K.known stage.now.known.now) }
-    ensures { AreWalked stage.now.universe.now stage.now.plan.now.lanes
-        (K.known stage.now.known.now).rows result }
+    requires stage { IsWhole K.known stage.now }
+    ensures { OfStage K.known stage.now AreWalked result }
 {
     let least = lanes_at_once(stage.plan);
     let walks = walk_each(rt, alloc, stage, stage.plan.lanes(), least)?;

@@ -8,7 +8,7 @@ ghost use Rattle.plan_model.specs.Plan.{lane};
 ghost use Rattle.plan_model.specs.Plan as model;
 ghost use Rattle.plan_verifier.specs.Branch.{IsAt};
 ghost use Rattle.plan_verifier.specs.Pieces.{IsSafeAhead, MayGoOn};
-ghost use Rattle.plan_verifier.specs.Stage.{IsStage};
+ghost use Rattle.plan_verifier.specs.Stage.{IsWhole, OfStage};
 ghost use Rattle.plan_verifier.specs.Walk.{Walked, WalkedTo};
 
 use crate::ahead::pass_to;
@@ -117,16 +117,11 @@ fn walk_on<K: KnownWords>(
     to: usize,
     mut may: LaneMay,
 ) -> Result<LaneMay, WalkError>
-    requires stage { IsStage stage.now.universe.now stage.now.plan.now.lanes
-        stage.now.tables.now stage.now.outputs.now (K.known stage.now.known.now) }
-    requires on { MayGoOn stage.now.universe.now stage.now.plan.now.lanes
-        (K.known stage.now.known.now).rows number from to may }
-    ensures at { IfOk result (IsAt stage.now.universe.now stage.now.plan.now.lanes
-        (K.known stage.now.known.now).rows number to) }
-    ensures walked { IsSafeAhead stage.now.universe.now stage.now.plan.now.lanes
-        (K.known stage.now.known.now).rows number from
-        → WalkedTo stage.now.universe.now stage.now.plan.now.lanes
-        (K.known stage.now.known.now).rows number to result }
+    requires stage { IsWhole K.known stage.now }
+    requires on { OfStage K.known stage.now MayGoOn number from to may }
+    ensures at { IfOk result (OfStage K.known stage.now IsAt number to) }
+    ensures walked { OfStage K.known stage.now IsSafeAhead number from
+        → OfStage K.known stage.now WalkedTo number to result }
 {
     for place in from..to {
         advance(stage, number, place, &mut may)?;
@@ -141,16 +136,12 @@ fn walk_rest<K: KnownWords>(
     from: usize,
     may: LaneMay,
 ) -> Result<u64, WalkError>
-    requires stage { IsStage stage.now.universe.now stage.now.plan.now.lanes
-        stage.now.tables.now stage.now.outputs.now (K.known stage.now.known.now) }
+    requires stage { IsWhole K.known stage.now }
     requires lane { number < length stage.now.plan.now.lanes }
     requires from { from ≤ length (lane stage.now.plan.now.lanes number).instructions }
-    requires at { IsAt stage.now.universe.now stage.now.plan.now.lanes
-        (K.known stage.now.known.now).rows number from may }
-    ensures { IsSafeAhead stage.now.universe.now stage.now.plan.now.lanes
-        (K.known stage.now.known.now).rows number from
-        → Walked stage.now.universe.now stage.now.plan.now.lanes
-        (K.known stage.now.known.now).rows number result }
+    requires at { OfStage K.known stage.now IsAt number from may }
+    ensures { OfStage K.known stage.now IsSafeAhead number from
+        → OfStage K.known stage.now Walked number result }
 {
     let end = stage.plan.lane(number).instructions().len();
     let may = walk_on(stage, number, from, end, may)?;
@@ -158,8 +149,7 @@ fn walk_rest<K: KnownWords>(
 }
 
 impl<K: KnownWords> LaneWalks for Stage<'_, K> {
-    ghost ready = { λ stage. IsStage stage.universe.now stage.plan.now.lanes
-        stage.tables.now stage.outputs.now (K.known stage.known.now) };
+    ghost ready = { λ stage. IsWhole K.known stage };
 
     ghost universe = { λ stage. stage.universe.now };
 

@@ -6,7 +6,7 @@ ghost use Rattle.may_rows.specs.Walk.{AreWordsFor};
 ghost use Rattle.plan_model.specs.Known.{possible};
 ghost use Rattle.plan_model.specs.Plan.{lane, instruction_at};
 ghost use Rattle.plan_model.specs.Sound.{IsInstruction};
-ghost use Rattle.plan_verifier.specs.Stage.{IsStage};
+ghost use Rattle.plan_verifier.specs.Stage.{IsWhole, OfStage, stage_rows};
 ghost use Rattle.plan_verifier.specs.Branch.{IsAt};
 ghost use Rattle.plan_verifier.specs.Walk.{is_plain, IsAdvanced, Walked, WalkedTo};
 
@@ -66,13 +66,12 @@ pub fn words_at<K: KnownWords>(
     place: usize,
     instruction: &Instruction,
 ) -> ArchiveWords
-    requires stage { IsStage stage.now.universe.now stage.now.plan.now.lanes
-        stage.now.tables.now stage.now.outputs.now (K.known stage.now.known.now) }
+    requires stage { IsWhole K.known stage.now }
     requires instruction { IsInstruction stage.now.universe.now instruction.now }
     requires lane { number < length stage.now.plan.now.lanes }
     requires place { place ≤ length (lane stage.now.plan.now.lanes number).instructions }
     ensures words { AreWordsFor stage.now.universe.now
-        ((K.known stage.now.known.now).rows number place)
+        ((stage_rows K.known stage.now) number place)
         (possible stage.now.universe.now stage.now.plan.now.lanes number place) instruction.now
         result }
     ensures known_there { (b : ℕ) → word_has result.known b ≡ true
@@ -105,16 +104,13 @@ fn step_on<K: KnownWords>(
     instruction: &Instruction,
     may: &mut LaneMay,
 ) -> Result<(), WalkError>
-    requires stage { IsStage stage.now.universe.now stage.now.plan.now.lanes
-        stage.now.tables.now stage.now.outputs.now (K.known stage.now.known.now) }
+    requires stage { IsWhole K.known stage.now }
     requires lane { number < length stage.now.plan.now.lanes }
     requires here { instruction_at stage.now.plan.now.lanes number place ≡ Some instruction.now }
     requires place { place < length (lane stage.now.plan.now.lanes number).instructions }
     requires plain { is_plain instruction.now ≡ true }
-    requires at { IsAt stage.now.universe.now stage.now.plan.now.lanes
-        (K.known stage.now.known.now).rows number place may.old }
-    ensures { IsAdvanced stage.now.universe.now stage.now.plan.now.lanes
-        (K.known stage.now.known.now).rows number place may.new result }
+    requires at { OfStage K.known stage.now IsAt number place may.old }
+    ensures { OfStage K.known stage.now IsAdvanced number place may.new result }
 {
     let _lanes = stage.plan.lanes();
     let lane = stage.plan.lane(number);
@@ -147,14 +143,11 @@ pub fn advance<K: KnownWords>(
     place: usize,
     may: &mut LaneMay,
 ) -> Result<(), WalkError>
-    requires stage { IsStage stage.now.universe.now stage.now.plan.now.lanes
-        stage.now.tables.now stage.now.outputs.now (K.known stage.now.known.now) }
+    requires stage { IsWhole K.known stage.now }
     requires lane { number < length stage.now.plan.now.lanes }
     requires place { place < length (lane stage.now.plan.now.lanes number).instructions }
-    requires at { IsAt stage.now.universe.now stage.now.plan.now.lanes
-        (K.known stage.now.known.now).rows number place may.old }
-    ensures { IsAdvanced stage.now.universe.now stage.now.plan.now.lanes
-        (K.known stage.now.known.now).rows number place may.new result }
+    requires at { OfStage K.known stage.now IsAt number place may.old }
+    ensures { OfStage K.known stage.now IsAdvanced number place may.new result }
 {
     let _lanes = stage.plan.lanes();
     let instruction = &stage.plan.lane(number).instructions()[place];
@@ -197,12 +190,10 @@ pub fn walk_to<K: KnownWords>(
     number: usize,
     end: usize,
 ) -> Result<LaneMay, WalkError>
-    requires stage { IsStage stage.now.universe.now stage.now.plan.now.lanes
-        stage.now.tables.now stage.now.outputs.now (K.known stage.now.known.now) }
+    requires stage { IsWhole K.known stage.now }
     requires lane { number < length stage.now.plan.now.lanes }
     requires end { end ≤ length (lane stage.now.plan.now.lanes number).instructions }
-    ensures { WalkedTo stage.now.universe.now stage.now.plan.now.lanes
-        (K.known stage.now.known.now).rows number end result }
+    ensures { OfStage K.known stage.now WalkedTo number end result }
 {
     let _lanes = stage.plan.lanes();
     let lane = stage.plan.lane(number);
@@ -228,11 +219,9 @@ pub fn walk<K: KnownWords>(
     stage: &Stage<'_, K>,
     number: usize,
 ) -> Result<u64, WalkError>
-    requires stage { IsStage stage.now.universe.now stage.now.plan.now.lanes
-        stage.now.tables.now stage.now.outputs.now (K.known stage.now.known.now) }
+    requires stage { IsWhole K.known stage.now }
     requires lane { number < length stage.now.plan.now.lanes }
-    ensures { Walked stage.now.universe.now stage.now.plan.now.lanes
-        (K.known stage.now.known.now).rows number result }
+    ensures { OfStage K.known stage.now Walked number result }
 {
     let end = stage.plan.lane(number).instructions().len();
     let may = walk_to(alloc, stage, number, end)?;

@@ -73,8 +73,7 @@ impl EntryTest for UnmetNeeds<'_> {
 
 /// The first need of a recipe that may not be met.
 fn unmet_need(at: &Place, recipe: u32) -> Option<Reason>
-    requires place { IsPlaceOfLane at.now.universe.now at.now.tables.now at.now.lane.now
-        at.now.state.now }
+    requires place { IsPlaceOfLane at.now }
     requires known { recipe < length at.now.universe.now.recipes }
     ensures { result ≡ option_map (λ i. Reason.BuildNeed recipe i) (first.first_place
         (λ e. not (may.surely_met at.now.universe.now (may_of at.now.state.now) e))
@@ -98,8 +97,7 @@ fn unmet_need(at: &Place, recipe: u32) -> Option<Reason>
 ///
 /// [`AllocError`] where memory is refused.
 pub fn list_unmet_needs(at: &Place, recipe: u32, found: &mut Vec<Reason>) -> Result<(), AllocError>
-    requires place { IsPlaceOfLane at.now.universe.now at.now.tables.now at.now.lane.now
-        at.now.state.now }
+    requires place { IsPlaceOfLane at.now }
     requires known { recipe < length at.now.universe.now.recipes }
     ensures { OnOk result (found.new.items ≡ found.old.items
         ++ unmet.unmet_needs at.now.universe.now (may_of at.now.state.now) recipe) }
@@ -119,8 +117,7 @@ pub fn list_unmet_needs(at: &Place, recipe: u32, found: &mut Vec<Reason>) -> Res
 ///
 /// [`AllocError`] where memory is refused.
 pub fn list_unmet_held(at: &Place, found: &mut Vec<Reason>) -> Result<(), AllocError>
-    requires { IsPlaceOfLane at.now.universe.now at.now.tables.now at.now.lane.now
-        at.now.state.now }
+    requires { IsPlaceOfLane at.now }
     ensures { OnOk result (found.new.items ≡ found.old.items
         ++ unmet.unmet_held at.now.universe.now (may_of at.now.state.now)) }
 {
@@ -160,8 +157,7 @@ impl VariantFinder for Clashing<'_> {
 
 /// Why a build of a recipe may meet a trap.
 pub fn build_reason(at: &Place, recipe: u32, trap: Trap) -> Option<Reason>
-    requires place { IsPlaceOfLane at.now.universe.now at.now.tables.now at.now.lane.now
-        at.now.state.now }
+    requires place { IsPlaceOfLane at.now }
     requires known { recipe < length at.now.universe.now.recipes }
     ensures { result ≡ reasons.build_reason at.now.universe.now at.now.lane.now
         (may_of at.now.state.now) recipe trap }
@@ -193,8 +189,7 @@ pub fn build_reason(at: &Place, recipe: u32, trap: Trap) -> Option<Reason>
 
 /// Why a publish of a recipe may meet a trap.
 pub fn publish_reason(at: &Place, recipe: u32, trap: Trap) -> Option<Reason>
-    requires place { IsPlaceOfLane at.now.universe.now at.now.tables.now at.now.lane.now
-        at.now.state.now }
+    requires place { IsPlaceOfLane at.now }
     ensures { result ≡ reasons.publish_reason at.now.universe.now at.now.lane.now
         (may_of at.now.state.now) recipe trap }
 {

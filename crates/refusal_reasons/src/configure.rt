@@ -26,8 +26,7 @@ use std::alloc::AllocError;
 
 /// The answer of the first variant that a member may hold and that has one.
 pub fn first_member<T: VariantFinder>(at: &Place, members: &[u32], finder: &T) -> Option<Reason>
-    requires place { IsPlaceOfLane at.now.universe.now at.now.tables.now at.now.lane.now
-        at.now.state.now }
+    requires place { IsPlaceOfLane at.now }
     requires fits { T.fits at.now.universe.now finder.now }
     requires members { IsNameSet at.now.universe.now members.now }
     ensures { result ≡ first.first_member at.now.universe.now members.now (may_of at.now.state.now)
@@ -43,8 +42,7 @@ pub fn first_member<T: VariantFinder>(at: &Place, members: &[u32], finder: &T) -
 /// The first variant of a member with a Depends entry that may not be met, where the members are
 /// configured together.
 fn unmet_depends(at: &Place, members: &[u32]) -> Result<Option<Reason>, AllocError>
-    requires place { IsPlaceOfLane at.now.universe.now at.now.tables.now at.now.lane.now
-        at.now.state.now }
+    requires place { IsPlaceOfLane at.now }
     requires members { IsNameSet at.now.universe.now members.now }
     ensures { IfOk result (λ told. told ≡ first.first_member at.now.universe.now members.now
         (may_of at.now.state.now) (reasons.unmet_field at.now.universe.now
@@ -68,8 +66,7 @@ fn list_unmet_by(
     field: Field,
     found: &mut Vec<Reason>,
 ) -> Result<(), AllocError>
-    requires place { IsPlaceOfLane at.now.universe.now at.now.tables.now at.now.lane.now
-        at.now.state.now }
+    requires place { IsPlaceOfLane at.now }
     requires words { AreWords at.now.universe.now state.now }
     ensures { OnOk result (found.new.items ≡ found.old.items
         ++ unmet.all_members at.now.universe.now members.now (may_of at.now.state.now)
@@ -96,8 +93,7 @@ pub fn list_unmet_members(
     field: Field,
     found: &mut Vec<Reason>,
 ) -> Result<(), AllocError>
-    requires place { IsPlaceOfLane at.now.universe.now at.now.tables.now at.now.lane.now
-        at.now.state.now }
+    requires place { IsPlaceOfLane at.now }
     requires members { IsNameSet at.now.universe.now members.now }
     ensures { OnOk result (found.new.items ≡ found.old.items
         ++ unmet.unmet_configure at.now.universe.now members.now (may_of at.now.state.now) field) }
@@ -113,8 +109,7 @@ pub fn list_unmet_members(
 
 /// The first variant of a member that one of another name may break.
 fn broken_member(at: &Place, members: &[u32]) -> Result<Option<Reason>, AllocError>
-    requires place { IsPlaceOfLane at.now.universe.now at.now.tables.now at.now.lane.now
-        at.now.state.now }
+    requires place { IsPlaceOfLane at.now }
     requires members { IsNameSet at.now.universe.now members.now }
     ensures { IfOk result (λ told. told ≡ reasons.configure_reason at.now.universe.now
         at.now.lane.now (may_of at.now.state.now) members.now Trap.Broken) }
@@ -138,8 +133,7 @@ pub fn configure_reason(
     members: &[u32],
     trap: Trap,
 ) -> Result<Option<Reason>, AllocError>
-    requires place { IsPlaceOfLane at.now.universe.now at.now.tables.now at.now.lane.now
-        at.now.state.now }
+    requires place { IsPlaceOfLane at.now }
     requires members { IsNameSet at.now.universe.now members.now }
     ensures { IfOk result (λ told. told ≡ reasons.configure_reason at.now.universe.now
         at.now.lane.now (may_of at.now.state.now) members.now trap) }

@@ -6,7 +6,7 @@ ghost use Rattle.farm_model.specs.declared.types.Variant.{Variant};
 ghost use Rattle.plan_model.specs.MayAt as may_at;
 ghost use Rattle.plan_model.specs.Plan.{lane};
 ghost use Rattle.plan_model.specs.Sound.{IsInstruction};
-ghost use Rattle.plan_verifier.specs.Stage.{IsStage};
+ghost use Rattle.plan_verifier.specs.Stage.{IsWhole, of_stage};
 ghost use Rattle.may_rows.specs.Picks.{AreOfArchive};
 ghost use Rattle.may_rows.specs.Walk.{AreWordsFor};
 ghost use Rattle.refusal_reasons.specs.Cost as spec;
@@ -92,14 +92,11 @@ fn pass<K: KnownWords>(
     place: usize,
     spent: Spent,
 ) -> Option<Spent>
-    requires stage { IsStage stage.now.universe.now stage.now.plan.now.lanes
-        stage.now.tables.now stage.now.outputs.now (K.known stage.now.known.now) }
+    requires stage { IsWhole K.known stage.now }
     requires lane { number < length stage.now.plan.now.lanes }
     requires place { place < length (lane stage.now.plan.now.lanes number).instructions }
-    ensures { spent ≡ spec.spent_at stage.now.universe.now stage.now.plan.now.lanes
-        (K.known stage.now.known.now).rows number place
-        → IfSome result (λ next. next ≡ spec.spent_at stage.now.universe.now
-        stage.now.plan.now.lanes (K.known stage.now.known.now).rows number (suc place)) }
+    ensures { spent ≡ of_stage K.known stage.now spec.spent_at number place
+        → IfSome result (λ next. next ≡ of_stage K.known stage.now spec.spent_at number (suc place)) }
 {
     let _lanes = stage.plan.lanes();
     let instruction = &stage.plan.lane(number).instructions()[place];
@@ -111,11 +108,9 @@ fn pass<K: KnownWords>(
 /// The most that a lane spends, in steps, also where it may meet a trap: none where an unpack
 /// wants no variant that is surely in the archive, whose cost is not known.
 pub fn lane_cost<K: KnownWords>(stage: &Stage<'_, K>, number: usize) -> Option<u64>
-    requires stage { IsStage stage.now.universe.now stage.now.plan.now.lanes
-        stage.now.tables.now stage.now.outputs.now (K.known stage.now.known.now) }
+    requires stage { IsWhole K.known stage.now }
     requires lane { number < length stage.now.plan.now.lanes }
-    ensures { IfSome result (λ cost. cost ≡ may_at.lane_cost stage.now.universe.now
-        stage.now.plan.now.lanes (K.known stage.now.known.now).rows number) }
+    ensures { IfSome result (λ cost. cost ≡ of_stage K.known stage.now may_at.lane_cost number) }
 {
     let mut spent = Spent {
         here: 0,

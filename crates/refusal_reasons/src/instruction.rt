@@ -35,8 +35,7 @@ fn pick_reason(
     words: ArchiveWords,
     trap: Trap,
 ) -> Result<Option<Reason>, AllocError>
-    requires place { IsPlaceOfLane at.now.universe.now at.now.tables.now at.now.lane.now
-        at.now.state.now }
+    requires place { IsPlaceOfLane at.now }
     requires named { name < packages.names at.now.universe.now }
     requires known_there { (b : ℕ) → word_has words.known b ≡ true → word_has words.there b ≡ true }
     ensures { (in_it may_be : Variant → Bool) → AreOfArchive at.now.universe.now in_it may_be
@@ -63,8 +62,7 @@ pub fn instruction_reason(
     words: ArchiveWords,
     trap: Trap,
 ) -> Result<Option<Reason>, AllocError>
-    requires place { IsPlaceOfLane at.now.universe.now at.now.tables.now at.now.lane.now
-        at.now.state.now }
+    requires place { IsPlaceOfLane at.now }
     requires instruction { IsInstruction at.now.universe.now instruction.now }
     requires known_there { (b : ℕ) → word_has words.known b ≡ true → word_has words.there b ≡ true }
     ensures { (in_it may_be : Variant → Bool) → AreOfArchive at.now.universe.now in_it may_be

@@ -174,8 +174,7 @@ impl NameFinder for NeededOwner<'_> {
 ///
 /// [`AllocError`] where memory is refused.
 pub fn still_needed(at: &Place, members: &[u32]) -> Result<Option<Reason>, AllocError>
-    requires place { IsPlaceOfLane at.now.universe.now at.now.tables.now at.now.lane.now
-        at.now.state.now }
+    requires place { IsPlaceOfLane at.now }
     requires members { IsNameSet at.now.universe.now members.now }
     ensures { IfOk result (λ told. told ≡ reasons.still_needed_reason at.now.universe.now
         members.now

@@ -6,7 +6,7 @@ ghost use Rattle.farm_model.specs.Sound.{IsKnown};
 ghost use Rattle.may_rows.specs.Words.{Words, AreWords};
 ghost use Rattle.plan_model.specs.Plan.{Lane, lane};
 ghost use Rattle.plan_model.specs.Sound.{IsInstruction};
-ghost use Rattle.plan_verifier.specs.Stage.{IsStage};
+ghost use Rattle.plan_verifier.specs.Stage.{IsWhole};
 ghost use Rattle.refusal_reasons.specs.Pins.{IsOnWay};
 
 use deb_relation::Op;
@@ -46,8 +46,7 @@ fn try_step<K: KnownWords>(
     instruction: &Instruction,
     may: &mut LaneMay,
 ) -> bool
-    requires stage { IsStage stage.now.universe.now stage.now.plan.now.lanes
-        stage.now.tables.now stage.now.outputs.now (K.known stage.now.known.now) }
+    requires stage { IsWhole K.known stage.now }
     requires lane { number < length stage.now.plan.now.lanes }
     requires place { place < length (lane stage.now.plan.now.lanes number).instructions }
     requires instruction { IsInstruction stage.now.universe.now instruction.now }
@@ -88,8 +87,7 @@ fn go_on<K: KnownWords>(
     place: usize,
     may: &mut LaneMay,
 ) -> Result<bool, AllocError>
-    requires stage { IsStage stage.now.universe.now stage.now.plan.now.lanes
-        stage.now.tables.now stage.now.outputs.now (K.known stage.now.known.now) }
+    requires stage { IsWhole K.known stage.now }
     requires lane { number < length stage.now.plan.now.lanes }
     requires place { place < length (lane stage.now.plan.now.lanes number).instructions }
     requires on_way { IsOnWay stage.now.universe.now (lane stage.now.plan.now.lanes number) may.old }
@@ -121,8 +119,7 @@ fn is_safe_behind<K: KnownWords>(
     pin: Pin,
     may: &mut LaneMay,
 ) -> Result<bool, AllocError>
-    requires stage { IsStage stage.now.universe.now stage.now.plan.now.lanes
-        stage.now.tables.now stage.now.outputs.now (K.known stage.now.known.now) }
+    requires stage { IsWhole K.known stage.now }
     requires lane { number < length stage.now.plan.now.lanes }
     requires place { place < length (lane stage.now.plan.now.lanes number).instructions }
     requires ahead { pin.place ≤ place }
@@ -155,8 +152,7 @@ pub fn is_safe_with<K: KnownWords>(
     place: usize,
     pin: Pin,
 ) -> Result<bool, AllocError>
-    requires stage { IsStage stage.now.universe.now stage.now.plan.now.lanes
-        stage.now.tables.now stage.now.outputs.now (K.known stage.now.known.now) }
+    requires stage { IsWhole K.known stage.now }
     requires lane { number < length stage.now.plan.now.lanes }
     requires place { place < length (lane stage.now.plan.now.lanes number).instructions }
     requires ahead { pin.place ≤ place }

@@ -8,7 +8,7 @@ ghost use Rattle.plan_model.specs.Plan.{lane, instruction_at};
 ghost use Rattle.plan_model.specs.Safety.{risk_at};
 ghost use Rattle.plan_model.specs.Sound.{IsInstruction};
 ghost use Rattle.plan_verifier.specs.Branch.{IsAt};
-ghost use Rattle.plan_verifier.specs.Stage.{IsStage};
+ghost use Rattle.plan_verifier.specs.Stage.{IsWhole, OfStage, of_stage};
 ghost use Rattle.refusal_reasons.specs.Reasons.{reason_at};
 
 use crate::instruction::instruction_reason;
@@ -36,16 +36,12 @@ pub fn reason<K: KnownWords>(
     may: &LaneMay,
     trap: Trap,
 ) -> Result<Option<Reason>, AllocError>
-    requires stage { IsStage stage.now.universe.now stage.now.plan.now.lanes
-        stage.now.tables.now stage.now.outputs.now (K.known stage.now.known.now) }
+    requires stage { IsWhole K.known stage.now }
     requires lane { number < length stage.now.plan.now.lanes }
     requires place { place < length (lane stage.now.plan.now.lanes number).instructions }
-    requires at { IsAt stage.now.universe.now stage.now.plan.now.lanes
-        (K.known stage.now.known.now).rows number place may.now }
-    ensures told { IfOk result (λ told. told ≡ reason_at stage.now.universe.now
-        stage.now.plan.now.lanes (K.known stage.now.known.now).rows number place trap) }
-    ensures there { risk_at stage.now.universe.now stage.now.plan.now.lanes
-        (K.known stage.now.known.now).rows number place ≡ Some trap → IfOk result IsSome }
+    requires at { OfStage K.known stage.now IsAt number place may.now }
+    ensures told { IfOk result (λ told. told ≡ of_stage K.known stage.now reason_at number place trap) }
+    ensures there { of_stage K.known stage.now risk_at number place ≡ Some trap → IfOk result IsSome }
 {
     let lane = stage.plan.lane(number);
     let instruction = &lane.instructions()[place];

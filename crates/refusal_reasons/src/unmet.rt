@@ -12,7 +12,7 @@ ghost use Rattle.may_rows.specs.Picks.{AreOfArchive};
 ghost use Rattle.may_rows.specs.Walk.{AreWordsFor};
 ghost use Rattle.may_rows.specs.Words.{may_of};
 ghost use Rattle.plan_verifier.specs.Branch.{IsAt};
-ghost use Rattle.plan_verifier.specs.Stage.{IsStage};
+ghost use Rattle.plan_verifier.specs.Stage.{IsWhole, OfStage, of_stage};
 ghost use Rattle.refusal_reasons.specs.Place.{IsPlaceOfLane};
 ghost use Rattle.refusal_reasons.specs.Unmet as unmet;
 
@@ -39,8 +39,7 @@ fn list_unmet_unpack(
     words: ArchiveWords,
     found: &mut Vec<Reason>,
 ) -> Result<(), AllocError>
-    requires place { IsPlaceOfLane at.now.universe.now at.now.tables.now at.now.lane.now
-        at.now.state.now }
+    requires place { IsPlaceOfLane at.now }
     requires named { name < names at.now.universe.now }
     requires known_there { (b : ℕ) → word_has words.known b ≡ true → word_has words.there b ≡ true }
     ensures { (in_it may_be : Variant → Bool) → AreOfArchive at.now.universe.now in_it may_be
@@ -64,8 +63,7 @@ fn list_unmet(
     reason: Reason,
     found: &mut Vec<Reason>,
 ) -> Result<(), AllocError>
-    requires place { IsPlaceOfLane at.now.universe.now at.now.tables.now at.now.lane.now
-        at.now.state.now }
+    requires place { IsPlaceOfLane at.now }
     requires instruction { IsInstruction at.now.universe.now instruction.now }
     requires known_there { (b : ℕ) → word_has words.known b ≡ true → word_has words.there b ≡ true }
     ensures { (in_it may_be : Variant → Bool) → AreOfArchive at.now.universe.now in_it may_be
@@ -103,14 +101,11 @@ pub fn unmet_entries<K: KnownWords>(
     may: &LaneMay,
     reason: Reason,
 ) -> Result<Vec<Reason>, AllocError>
-    requires stage { IsStage stage.now.universe.now stage.now.plan.now.lanes
-        stage.now.tables.now stage.now.outputs.now (K.known stage.now.known.now) }
+    requires stage { IsWhole K.known stage.now }
     requires lane { number < length stage.now.plan.now.lanes }
     requires place { place < length (lane stage.now.plan.now.lanes number).instructions }
-    requires at { IsAt stage.now.universe.now stage.now.plan.now.lanes
-        (K.known stage.now.known.now).rows number place may.now }
-    ensures { IfOk result (λ found. found.items ≡ unmet.unmet_at stage.now.universe.now
-        stage.now.plan.now.lanes (K.known stage.now.known.now).rows number place reason) }
+    requires at { OfStage K.known stage.now IsAt number place may.now }
+    ensures { IfOk result (λ found. found.items ≡ of_stage K.known stage.now unmet.unmet_at number place reason) }
 {
     let lane = stage.plan.lane(number);
     let instruction = &lane.instructions()[place];

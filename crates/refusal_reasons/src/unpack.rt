@@ -58,8 +58,7 @@ pub fn unpack_cost(universe: &Universe, name: u32, set: u64) -> u64
 
 /// The lowest variant of a set with a Pre-Depends entry that may not be met ahead of its unpack.
 fn unmet_ahead(at: &Place, name: u32, set: u64) -> Result<Option<Reason>, AllocError>
-    requires place { IsPlaceOfLane at.now.universe.now at.now.tables.now at.now.lane.now
-        at.now.state.now }
+    requires place { IsPlaceOfLane at.now }
     requires named { name < packages.names at.now.universe.now }
     ensures { IfOk result (λ told. told ≡ first.first_of at.now.universe.now name (word_has set)
         (reasons.unmet_field at.now.universe.now
@@ -85,8 +84,7 @@ pub fn list_unmet_ahead(
     set: u64,
     found: &mut Vec<Reason>,
 ) -> Result<(), AllocError>
-    requires place { IsPlaceOfLane at.now.universe.now at.now.tables.now at.now.lane.now
-        at.now.state.now }
+    requires place { IsPlaceOfLane at.now }
     requires named { name < packages.names at.now.universe.now }
     ensures { OnOk result (found.new.items ≡ found.old.items
         ++ unmet.all_of at.now.universe.now name (word_has set)
@@ -103,8 +101,7 @@ pub fn list_unmet_ahead(
 
 /// The lowest variant of a set that may be in conflict with one of another name.
 fn conflict_of(at: &Place, name: u32, set: u64) -> Result<Option<Reason>, AllocError>
-    requires { IsPlaceOfLane at.now.universe.now at.now.tables.now at.now.lane.now
-        at.now.state.now }
+    requires { IsPlaceOfLane at.now }
     ensures { IfOk result (λ told. told
         ≡ reasons.unpack_reason at.now.universe.now at.now.lane.now (may_of at.now.state.now) name
         (word_has set) Trap.Conflict) }
@@ -120,8 +117,7 @@ fn conflict_of(at: &Place, name: u32, set: u64) -> Result<Option<Reason>, AllocE
 
 /// The lowest variant of a set that may break a configured one of another name.
 fn broken_by(at: &Place, name: u32, set: u64) -> Result<Option<Reason>, AllocError>
-    requires { IsPlaceOfLane at.now.universe.now at.now.tables.now at.now.lane.now
-        at.now.state.now }
+    requires { IsPlaceOfLane at.now }
     ensures { IfOk result (λ told. told
         ≡ reasons.unpack_reason at.now.universe.now at.now.lane.now (may_of at.now.state.now) name
         (word_has set) Trap.BreaksOther) }
@@ -146,8 +142,7 @@ pub fn unpack_reason(
     set: u64,
     trap: Trap,
 ) -> Result<Option<Reason>, AllocError>
-    requires place { IsPlaceOfLane at.now.universe.now at.now.tables.now at.now.lane.now
-        at.now.state.now }
+    requires place { IsPlaceOfLane at.now }
     requires named { name < packages.names at.now.universe.now }
     ensures { IfOk result (λ told. told ≡ reasons.unpack_reason at.now.universe.now at.now.lane.now
         (may_of at.now.state.now) name (word_has set) trap) }

@@ -44,8 +44,7 @@ pub fn deconfigure_reason(
     members: &[u32],
     trap: Trap,
 ) -> Result<Option<Reason>, AllocError>
-    requires place { IsPlaceOfLane at.now.universe.now at.now.tables.now at.now.lane.now
-        at.now.state.now }
+    requires place { IsPlaceOfLane at.now }
     requires members { IsNameSet at.now.universe.now members.now }
     ensures { IfOk result (λ told. told ≡ reasons.deconfigure_reason at.now.universe.now
         at.now.lane.now (may_of at.now.state.now) members.now trap) }
@@ -76,8 +75,7 @@ pub fn deconfigure_reason(
 ///
 /// [`AllocError`] where memory is refused.
 pub fn remove_reason(at: &Place, members: &[u32], trap: Trap) -> Result<Option<Reason>, AllocError>
-    requires place { IsPlaceOfLane at.now.universe.now at.now.tables.now at.now.lane.now
-        at.now.state.now }
+    requires place { IsPlaceOfLane at.now }
     requires members { IsNameSet at.now.universe.now members.now }
     ensures { IfOk result (λ told. told ≡ reasons.remove_reason at.now.universe.now
         at.now.lane.now (may_of at.now.state.now) members.now trap) }

@@ -22,8 +22,7 @@ use std::alloc::AllocError;
 
 /// Tells whether an entry of a field of a variant is lost.
 fn loses_entry(of: &Search, variant: Variant, field: Field, number: usize) -> bool
-    requires search { IsSearch of.now.universe.now of.now.tables.now of.now.members.now
-        of.now.state.now of.now.outside.now }
+    requires search { IsSearch of.now }
     requires known { IsKnown of.now.universe.now variant }
     requires there { number < length (asked_in_field of.now.universe.now variant field) }
     ensures { result ≡ spec.loses of.now.universe.now of.now.members.now (may_of of.now.state.now)
@@ -35,8 +34,7 @@ fn loses_entry(of: &Search, variant: Variant, field: Field, number: usize) -> bo
 
 /// The place of the first entry of a field that is lost.
 fn lost_place(of: &Search, variant: Variant, field: Field) -> Option<usize>
-    requires search { IsSearch of.now.universe.now of.now.tables.now of.now.members.now
-        of.now.state.now of.now.outside.now }
+    requires search { IsSearch of.now }
     requires known { IsKnown of.now.universe.now variant }
     ensures { result ≡ first.first_place (spec.loses of.now.universe.now of.now.members.now
         (may_of of.now.state.now)) (asked_in_field of.now.universe.now variant field) }
@@ -52,8 +50,7 @@ fn lost_place(of: &Search, variant: Variant, field: Field) -> Option<usize>
 
 /// The first entry of a field that is lost.
 fn lost_field(of: &Search, variant: Variant, field: Field) -> Option<Reason>
-    requires search { IsSearch of.now.universe.now of.now.tables.now of.now.members.now
-        of.now.state.now of.now.outside.now }
+    requires search { IsSearch of.now }
     requires known { IsKnown of.now.universe.now variant }
     ensures { result ≡ needed_field of.now.universe.now (spec.loses of.now.universe.now
         of.now.members.now (may_of of.now.state.now)) field variant }
@@ -70,8 +67,7 @@ fn lost_field(of: &Search, variant: Variant, field: Field) -> Option<Reason>
 
 /// The first entry of a variant that is lost, Depends before Pre-Depends.
 fn lost_entry(of: &Search, variant: Variant) -> Option<Reason>
-    requires search { IsSearch of.now.universe.now of.now.tables.now of.now.members.now
-        of.now.state.now of.now.outside.now }
+    requires search { IsSearch of.now }
     requires known { IsKnown of.now.universe.now variant }
     ensures { result ≡ needed_entry of.now.universe.now (spec.loses of.now.universe.now
         of.now.members.now (may_of of.now.state.now)) variant }
@@ -84,8 +80,7 @@ fn lost_entry(of: &Search, variant: Variant) -> Option<Reason>
 
 /// The same of the variant of a bit, where it is in the set.
 fn lost_in(of: &Search, name: u32, set: u64, bit: u32) -> Option<Reason>
-    requires search { IsSearch of.now.universe.now of.now.tables.now of.now.members.now
-        of.now.state.now of.now.outside.now }
+    requires search { IsSearch of.now }
     requires known { bit < variants of.now.universe.now name }
     requires within { bit < 64 }
     ensures { result ≡ (if word_has set bit then needed_entry of.now.universe.now
@@ -101,8 +96,7 @@ fn lost_in(of: &Search, name: u32, set: u64, bit: u32) -> Option<Reason>
 
 /// The same of the lowest variant of a set that has one.
 fn lost_of(of: &Search, name: u32, set: u64) -> Option<Reason>
-    requires search { IsSearch of.now.universe.now of.now.tables.now of.now.members.now
-        of.now.state.now of.now.outside.now }
+    requires search { IsSearch of.now }
     ensures { result ≡ first.first_of of.now.universe.now name (word_has set)
         (needed_entry of.now.universe.now (spec.loses of.now.universe.now of.now.members.now
         (may_of of.now.state.now))) }
@@ -118,8 +112,7 @@ fn lost_of(of: &Search, name: u32, set: u64) -> Option<Reason>
 
 /// The same of a name outside the set that is unpacked and not configured.
 fn lost_name(of: &Search, name: u32) -> Option<Reason>
-    requires search { IsSearch of.now.universe.now of.now.tables.now of.now.members.now
-        of.now.state.now of.now.outside.now }
+    requires search { IsSearch of.now }
     ensures { result ≡ spec.first_unpacked of.now.universe.now (needed_entry of.now.universe.now
         (spec.loses of.now.universe.now of.now.members.now (may_of of.now.state.now))) name
         ((may_of of.now.outside.now).slots name) }
@@ -133,8 +126,7 @@ fn lost_name(of: &Search, name: u32) -> Option<Reason>
 
 /// The same of the first name that has one.
 fn lost_first(of: &Search) -> Option<Reason>
-    requires search { IsSearch of.now.universe.now of.now.tables.now of.now.members.now
-        of.now.state.now of.now.outside.now }
+    requires search { IsSearch of.now }
     ensures { result ≡ first.first_name of.now.universe.now (may_of of.now.outside.now)
         (spec.first_unpacked of.now.universe.now (needed_entry of.now.universe.now
         (spec.loses of.now.universe.now of.now.members.now (may_of of.now.state.now)))) }

@@ -28,8 +28,7 @@ pub struct Search<'a> {
 
 /// Tells whether a name may hold a variant in a row.
 fn may_hit_at(of: &Search, name: u32, row: &Row) -> bool
-    requires search { IsSearch of.now.universe.now of.now.tables.now of.now.members.now
-        of.now.state.now of.now.outside.now }
+    requires search { IsSearch of.now }
     requires within { name < length row.now }
     ensures { (e : Entry)
         → IsRowOf of.now.universe.now (packages.satisfies_entry of.now.universe.now e) row.now
@@ -42,8 +41,7 @@ fn may_hit_at(of: &Search, name: u32, row: &Row) -> bool
 
 /// Tells whether some member may hold a variant in a row.
 fn may_hit(of: &Search, row: &Row) -> bool
-    requires search { IsSearch of.now.universe.now of.now.tables.now of.now.members.now
-        of.now.state.now of.now.outside.now }
+    requires search { IsSearch of.now }
     requires long { length row.now ≡ packages.names of.now.universe.now }
     ensures { (e : Entry)
         → IsRowOf of.now.universe.now (packages.satisfies_entry of.now.universe.now e) row.now
@@ -60,8 +58,7 @@ fn may_hit(of: &Search, row: &Row) -> bool
 
 /// Tells whether the entry of a row is lost.
 pub fn loses(of: &Search, row: &Row) -> bool
-    requires search { IsSearch of.now.universe.now of.now.tables.now of.now.members.now
-        of.now.state.now of.now.outside.now }
+    requires search { IsSearch of.now }
     requires long { length row.now ≡ packages.names of.now.universe.now }
     ensures { (e : Entry)
         → IsRowOf of.now.universe.now (packages.satisfies_entry of.now.universe.now e) row.now

@@ -9,7 +9,7 @@ ghost use Rattle.plan_model.specs.Plan as plans;
 ghost use Rattle.plan_model.specs.Plan.{lane};
 ghost use Rattle.plan_model.specs.Sound.{IsInstruction};
 ghost use Rattle.plan_verifier.specs.Branch.{IsAt};
-ghost use Rattle.plan_verifier.specs.Stage.{IsStage};
+ghost use Rattle.plan_verifier.specs.Stage.{IsWhole, OfStage, of_stage};
 ghost use Rattle.remove_warnings.specs.Warnings as spec;
 
 use crate::first::left_unmet;
@@ -61,14 +61,11 @@ fn left_at<K: KnownWords>(
     place: usize,
     may: &LaneMay,
 ) -> Result<Option<Reason>, AllocError>
-    requires stage { IsStage stage.now.universe.now stage.now.plan.now.lanes
-        stage.now.tables.now stage.now.outputs.now (K.known stage.now.known.now) }
+    requires stage { IsWhole K.known stage.now }
     requires lane { number < length stage.now.plan.now.lanes }
-    requires at { IsAt stage.now.universe.now stage.now.plan.now.lanes
-        (K.known stage.now.known.now).rows number place may.now }
+    requires at { OfStage K.known stage.now IsAt number place may.now }
     ensures { IfOk result (λ told. told ≡ spec.left_of stage.now.universe.now
-        (may_at stage.now.universe.now stage.now.plan.now.lanes
-        (K.known stage.now.known.now).rows number place)
+        (of_stage K.known stage.now may_at number place)
         (plans.instruction_at stage.now.plan.now.lanes number place)) }
 {
     match instruction_at(stage.plan, number, place) {
@@ -102,12 +99,10 @@ fn looked_at<K: KnownWords>(
     stage: &Stage<'_, K>,
     number: usize,
 ) -> Result<usize, AllocError>
-    requires stage { IsStage stage.now.universe.now stage.now.plan.now.lanes
-        stage.now.tables.now stage.now.outputs.now (K.known stage.now.known.now) }
+    requires stage { IsWhole K.known stage.now }
     requires lane { number < length stage.now.plan.now.lanes }
     ensures { IfOk result (λ count. count ≡ spec.looked_at stage.now.plan.now.lanes number
-        (first_hazard stage.now.universe.now stage.now.plan.now.lanes
-        (K.known stage.now.known.now).rows number)) }
+        (of_stage K.known stage.now first_hazard number)) }
 {
     match walk(alloc, stage, number) {
         Ok(_) => Ok(stage.plan.lane(number).instructions().len()),
@@ -123,11 +118,9 @@ fn first_held<K: KnownWords>(
     stage: &Stage<'_, K>,
     number: usize,
 ) -> Result<LaneMay, AllocError>
-    requires stage { IsStage stage.now.universe.now stage.now.plan.now.lanes
-        stage.now.tables.now stage.now.outputs.now (K.known stage.now.known.now) }
+    requires stage { IsWhole K.known stage.now }
     requires lane { number < length stage.now.plan.now.lanes }
-    ensures { IfOk result (λ may. IsAt stage.now.universe.now stage.now.plan.now.lanes
-        (K.known stage.now.known.now).rows number 0 may) }
+    ensures { IfOk result (λ may. OfStage K.known stage.now IsAt number 0 may) }
 {
     // Ahead of the first instruction it can end for want of memory alone.
     match walk_to(alloc, stage, number, 0) {
@@ -144,11 +137,9 @@ fn push_lane<K: KnownWords>(
     lines: &PlanLines,
     number: usize,
 ) -> Result<(), AllocError>
-    requires stage { IsStage stage.now.universe.now stage.now.plan.now.lanes
-        stage.now.tables.now stage.now.outputs.now (K.known stage.now.known.now) }
+    requires stage { IsWhole K.known stage.now }
     requires lane { number < length stage.now.plan.now.lanes }
-    ensures { OnOk result (warnings.new.items ≡ warnings.old.items ++ spec.lane_left
-        stage.now.universe.now stage.now.plan.now.lanes (K.known stage.now.known.now).rows
+    ensures { OnOk result (warnings.new.items ≡ warnings.old.items ++ of_stage K.known stage.now spec.lane_left
         lines.now.lanes number) }
 {
     let count = looked_at(alloc, stage, number)?;
@@ -175,10 +166,8 @@ pub fn left_warnings<K: KnownWords>(
     stage: &Stage<'_, K>,
     lines: &PlanLines,
 ) -> Result<Vec<Left>, AllocError>
-    requires { IsStage stage.now.universe.now stage.now.plan.now.lanes
-        stage.now.tables.now stage.now.outputs.now (K.known stage.now.known.now) }
-    ensures { IfOk result (λ warnings. warnings.items ≡ spec.left_warnings stage.now.universe.now
-        stage.now.plan.now.lanes (K.known stage.now.known.now).rows lines.now.lanes) }
+    requires { IsWhole K.known stage.now }
+    ensures { IfOk result (λ warnings. warnings.items ≡ of_stage K.known stage.now spec.left_warnings lines.now.lanes) }
 {
     let mut warnings = Vec::new(alloc);
     for number in 0..stage.plan.lanes() {

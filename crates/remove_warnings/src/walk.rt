@@ -1,7 +1,7 @@
 //! One step of the walk over a lane whose instructions are safe up to a place.
 
 ghost use Rattle.std.specs.Prelude.{◌<◌, ◌+◌, ◌-◌, OnOk, length};
-ghost use Rattle.plan_verifier.specs.Stage.{IsStage};
+ghost use Rattle.plan_verifier.specs.Stage.{IsWhole, OfStage};
 ghost use Rattle.plan_verifier.specs.Branch.{IsAt};
 
 use plan_verifier::walk::advance;
@@ -20,13 +20,10 @@ fn go_on<K: KnownWords>(
     place: usize,
     may: &mut LaneMay,
 ) -> Result<(), AllocError>
-    requires stage { IsStage stage.now.universe.now stage.now.plan.now.lanes
-        stage.now.tables.now stage.now.outputs.now (K.known stage.now.known.now) }
+    requires stage { IsWhole K.known stage.now }
     requires lane { number < length stage.now.plan.now.lanes }
-    requires at { IsAt stage.now.universe.now stage.now.plan.now.lanes
-        (K.known stage.now.known.now).rows number place may.old }
-    ensures { OnOk result (IsAt stage.now.universe.now stage.now.plan.now.lanes
-        (K.known stage.now.known.now).rows number (place + 1) may.new) }
+    requires at { OfStage K.known stage.now IsAt number place may.old }
+    ensures { OnOk result (OfStage K.known stage.now IsAt number (place + 1) may.new) }
 {
     // The walk has come behind this place before: it can end for want of memory alone.
     if place >= stage.plan.lane(number).instructions().len() {
@@ -50,13 +47,10 @@ pub fn go_to<K: KnownWords>(
     place: usize,
     may: &mut LaneMay,
 ) -> Result<(), AllocError>
-    requires stage { IsStage stage.now.universe.now stage.now.plan.now.lanes
-        stage.now.tables.now stage.now.outputs.now (K.known stage.now.known.now) }
+    requires stage { IsWhole K.known stage.now }
     requires lane { number < length stage.now.plan.now.lanes }
-    requires at { IsAt stage.now.universe.now stage.now.plan.now.lanes
-        (K.known stage.now.known.now).rows number (place - 1) may.old }
-    ensures { OnOk result (IsAt stage.now.universe.now stage.now.plan.now.lanes
-        (K.known stage.now.known.now).rows number place may.new) }
+    requires at { OfStage K.known stage.now IsAt number (place - 1) may.old }
+    ensures { OnOk result (OfStage K.known stage.now IsAt number place may.new) }
 {
     if place == 0 {
         return Ok(());

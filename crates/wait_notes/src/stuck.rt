@@ -3,7 +3,7 @@
 ghost use Rattle.std.specs.Prelude.{◌≡◌, ◌<◌, ◌++◌, Some, length, IfOk, OnOk};
 ghost use Rattle.farm_explain.specs.Notes.{all_facts, facts};
 ghost use Rattle.plan_model.specs.Plan.{lane};
-ghost use Rattle.plan_verifier.specs.Stage.{IsStage};
+ghost use Rattle.plan_verifier.specs.Stage.{IsWhole};
 ghost use Rattle.wait_order.specs.Standing.{place_of};
 ghost use Rattle.wait_notes.specs.Shown.{ShowsStuck};
 ghost use Rattle.wait_notes.specs.Stuck as spec;
@@ -225,8 +225,7 @@ pub fn stuck_notes<K: KnownWords>(
     stage: &Stage<'_, K>,
     lines: &PlanLines,
 ) -> Result<Vec<Note>, AllocError>
-    requires { IsStage stage.now.universe.now stage.now.plan.now.lanes
-        stage.now.tables.now stage.now.outputs.now (K.known stage.now.known.now) }
+    requires { IsWhole K.known stage.now }
     ensures { IfOk result (λ notes. ShowsStuck stage.now.universe.now stage.now.plan.now.lanes
         lines.now.lanes (all_facts notes.items)) }
 {

@@ -6,7 +6,7 @@ ghost use Rattle.std.specs.Option.{option_map};
 ghost use Rattle.farm_explain.specs.Notes.{all_facts, facts};
 ghost use Rattle.farm_model.specs.Packages.{initial};
 ghost use Rattle.plan_model.specs.Plan.{lane};
-ghost use Rattle.plan_verifier.specs.Stage.{IsStage};
+ghost use Rattle.plan_verifier.specs.Stage.{IsWhole};
 ghost use Rattle.wait_notes.specs.Places.{IsTableOf, first_publication, publication_place};
 ghost use Rattle.wait_notes.specs.Waits as spec;
 ghost use Rattle.wait_notes.specs.Waiting as waiting;
@@ -276,8 +276,7 @@ pub fn waits_notes<K: KnownWords>(
     stage: &Stage<'_, K>,
     lines: &PlanLines,
 ) -> Result<Vec<Note>, AllocError>
-    requires { IsStage stage.now.universe.now stage.now.plan.now.lanes
-        stage.now.tables.now stage.now.outputs.now (K.known stage.now.known.now) }
+    requires { IsWhole K.known stage.now }
     ensures { IfOk result (λ notes. all_facts notes.items ≡ spec.waits_notes
         stage.now.universe.now stage.now.plan.now.lanes lines.now.lanes) }
 {

@@ -2,6 +2,7 @@
 -- project's own words.
 --
 --   IsSupply      its parts belong together
+--   IsWhole       those of a supply do
 use Rattle.std.specs.Prelude.{◌≡◌, ℕ, List, length}
 use Rattle.farm_model.specs.Universe.{Universe}
 use Rattle.farm_model.specs.Packages.{names, initial}
@@ -12,6 +13,7 @@ use Rattle.wait_order.specs.ByName.{AreListedByName}
 use Rattle.wait_order.specs.Marks.{AreLanes}
 use Rattle.wait_order.specs.declared.by_name.OutputPlace.{OutputPlace}
 use Rattle.wait_order.specs.declared.marks.LaneOutputs.{LaneOutputs}
+use Rattle.wait_order.specs.declared.supply.Supply.{Supply}
 
 -- A sound plan over a universe; the tables and the archive are of that universe, the outputs of the
 -- lanes are the plan's, and each is listed under its name:
@@ -23,3 +25,8 @@ pub record IsSupply (u : Universe) (p : Plan) (tables : Universe) (archive : Lis
   pub lanes_are : AreLanes u p lanes
   pub long : length lists ≡ names u
   pub listed : AreListedByName lists lanes (length lanes)
+
+abbrev pub IsWhole : Supply → Type 0
+IsWhole supply =
+    IsSupply supply.universe.now supply.plan.now.lanes supply.tables.now supply.archive.now
+    supply.lanes.now supply.by_name.now

@@ -7,7 +7,7 @@ ghost use Rattle.wait_order.specs.Entries.{IsLonger};
 ghost use Rattle.wait_order.specs.EntrySources.{IsNumber, AreMarkNumbers, AreAllSources};
 ghost use Rattle.wait_order.specs.Hits.{AreEntrySources};
 ghost use Rattle.wait_order.specs.Marks.{AreThere};
-ghost use Rattle.wait_order.specs.Supply.{IsSupply};
+ghost use Rattle.wait_order.specs.Supply.{IsWhole};
 
 use crate::column::Source;
 use crate::entries::Entries;
@@ -103,8 +103,7 @@ fn entry_sources(
     entries: &Entries<'_>,
     number: usize,
 ) -> Result<Sources, AllocError>
-    requires supply { IsSupply supply.universe.now supply.plan.now.lanes supply.tables.now
-        supply.archive.now supply.lanes.now supply.by_name.now }
+    requires supply { IsWhole supply }
     requires there { number < length entries.now }
     ensures { IfOk result (λ sources. (e : relations.Entry) → slice_get entries.now number ≡ Some e
         → AreEntrySources supply.entry.universe.now supply.entry.plan.now.lanes e sources) }
@@ -127,8 +126,7 @@ pub fn all_sources(
     supply: Supply<'_>,
     entries: &Entries<'_>,
 ) -> Result<Vec<Sources>, AllocError>
-    requires { IsSupply supply.universe.now supply.plan.now.lanes supply.tables.now
-        supply.archive.now supply.lanes.now supply.by_name.now }
+    requires { IsWhole supply }
     ensures { IfOk result (λ all. AreAllSources supply.entry.universe.now
         supply.entry.plan.now.lanes entries.now all.items) }
 {
@@ -150,8 +148,7 @@ pub fn all_sources_side_by_side(
     supply: Supply<'_>,
     entries: &Entries<'_>,
 ) -> Result<Vec<Sources>, AllocError>
-    requires { IsSupply supply.universe.now supply.plan.now.lanes supply.tables.now
-        supply.archive.now supply.lanes.now supply.by_name.now }
+    requires { IsWhole supply }
     ensures { IfOk result (λ all. AreAllSources supply.entry.universe.now
         supply.entry.plan.now.lanes entries.now all.items) }
 {
@@ -160,8 +157,7 @@ pub fn all_sources_side_by_side(
         .with_min_len(ENTRIES_AT_ONCE)
         .map(
             move |number: usize| -> Result<Sources, AllocError>
-                requires supply { IsSupply supply.universe.now supply.plan.now.lanes
-                    supply.tables.now supply.archive.now supply.lanes.now supply.by_name.now }
+                requires supply { IsWhole supply }
                 requires there { number < length entries.now }
                 ensures { IfOk result (λ sources. (e : relations.Entry)
                     → slice_get entries.entry.now number ≡ Some e

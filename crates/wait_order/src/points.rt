@@ -11,7 +11,7 @@ ghost use Rattle.wait_order.specs.Points.{AreSources, ArePoints};
 ghost use Rattle.wait_order.specs.Marks.{all_marks, AreLanes, IsMark};
 ghost use Rattle.wait_order.specs.EntrySources.{IsFoundFor, AreFoundFor};
 ghost use Rattle.wait_order.specs.Hits as hits;
-ghost use Rattle.wait_order.specs.Supply.{IsSupply};
+ghost use Rattle.wait_order.specs.Supply.{IsWhole};
 ghost use Rattle.wait_order.specs.Hits.{IsPointOf};
 
 use crate::column::{Point, Source};
@@ -83,8 +83,7 @@ fn when_sources(
     name: u32,
     relation: &Option<(Op, Version)>,
 ) -> Result<Vec<Source>, AllocError>
-    requires supply { IsSupply supply.universe.now supply.plan.now.lanes supply.tables.now
-        supply.archive.now supply.lanes.now supply.by_name.now }
+    requires supply { IsWhole supply }
     requires mark { IsMark supply.universe.now supply.plan.now.lanes mark }
     requires name { name < names supply.universe.now }
     ensures { IfOk result (λ sources. AreSources supply.entry.universe.now
@@ -132,8 +131,7 @@ fn point_of(
     number: usize,
     all: &[Sources],
 ) -> Result<Point, AllocError>
-    requires supply { IsSupply supply.universe.now supply.plan.now.lanes supply.tables.now
-        supply.archive.now supply.lanes.now supply.by_name.now }
+    requires supply { IsWhole supply }
     requires mark { IsMark supply.universe.now supply.plan.now.lanes mark }
     requires sources { IsFoundFor supply.universe.now supply.plan.now.lanes all.now mark number }
     ensures { IfOk result
@@ -167,8 +165,7 @@ fn points_by(
     numbers: &[usize],
     all: &[Sources],
 ) -> Result<Vec<Point>, AllocError>
-    requires supply { IsSupply supply.universe.now supply.plan.now.lanes supply.tables.now
-        supply.archive.now supply.lanes.now supply.by_name.now }
+    requires supply { IsWhole supply }
     requires marks { marks.now
         ≡ all_marks supply.universe.now supply.plan.now.lanes (length supply.plan.now.lanes) }
     requires sources { AreFoundFor supply.universe.now supply.plan.now.lanes all.now marks.now

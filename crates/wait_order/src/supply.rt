@@ -8,7 +8,7 @@ ghost use Rattle.plan_model.specs.Sound.{IsSound};
 ghost use Rattle.sat_rows.specs.Rows.{IsRowOf};
 ghost use Rattle.wait_order.specs.Points.{AreSources};
 ghost use Rattle.wait_order.specs.Marks.{AreLanes};
-ghost use Rattle.wait_order.specs.Supply.{IsSupply};
+ghost use Rattle.wait_order.specs.Supply.{IsSupply, IsWhole};
 ghost use Rattle.wait_order.specs.Hits.{IsFirst, IsPushed, AreSourcesBelow};
 
 use crate::by_name::ByName;
@@ -90,8 +90,7 @@ fn push_hit(
 
 /// The source of the initial variants that a row has, where there are any.
 fn initial_sources(alloc: Global, supply: Supply<'_>, row: &Row) -> Result<Vec<Source>, AllocError>
-    requires supply { IsSupply supply.universe.now supply.plan.now.lanes supply.tables.now
-        supply.archive.now supply.lanes.now supply.by_name.now }
+    requires supply { IsWhole supply }
     requires row { length row.now ≡ names supply.universe.now }
     ensures { IfOk result (λ sources. (test : Variant → Bool)
         → IsRowOf supply.entry.universe.now test row.now → (p : model.Plan) (l i : ℕ)
@@ -115,8 +114,7 @@ fn initial_sources(alloc: Global, supply: Supply<'_>, row: &Row) -> Result<Vec<S
 ///
 /// [`AllocError`] where memory is refused.
 pub fn sources_of(alloc: Global, supply: Supply<'_>, row: &Row) -> Result<Vec<Source>, AllocError>
-    requires supply { IsSupply supply.universe.now supply.plan.now.lanes supply.tables.now
-        supply.archive.now supply.lanes.now supply.by_name.now }
+    requires supply { IsWhole supply }
     requires row { length row.now ≡ names supply.universe.now }
     ensures { IfOk result (λ sources. (test : Variant → Bool)
         → IsRowOf supply.entry.universe.now test row.now
