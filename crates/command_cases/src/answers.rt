@@ -52,8 +52,64 @@ fn heads_text(
     Ok(text)
 }
 
-/// What one run after another comes to, each once where it comes again: with an output that fails
-/// from its first write on, then from its second, and so on up to one that fails in none.
+/// Puts what a run comes to whose output fails after so many writes behind a text, unless it is what
+/// the last one came to; and tells whether the output was cut.
+fn push_stop(
+    rt: &(impl Threads + Wait + Eprint + Sync),
+    parts: &Parts,
+    words: &[&str],
+    manner: Manner,
+    whole: &[u8],
+    stops: &mut Stops,
+) -> Result<bool, AllocError> {
+    let alloc = *stops.text.allocator();
+    let run = run_on(rt, alloc, parts, words, manner, Manner::WHOLE);
+    if !run.is_cut {
+        push_run(&mut stops.text, &run)?;
+        return Ok(false);
+    }
+    stops.push(cut_text(alloc, &run, whole)?)?;
+    Ok(true)
+}
+
+/// What runs came to that were cut, and what the last of them did.
+#[derive(Drop)]
+struct Stops {
+    text: Vec<u8>,
+    last: Vec<u8>,
+}
+
+impl Stops {
+    /// Puts what one more came to behind the others, unless it is what the last one did.
+    fn push(&mut self, cut: Vec<u8>) -> Result<(), AllocError> {
+        if cut != self.last {
+            self.text.extend_from_slice(&cut)?;
+            self.last = cut;
+        }
+        Ok(())
+    }
+}
+
+/// What one run after another comes to: with an output that fails from its first write on, then from
+/// its second, and so on up to one that fails in none.
+fn push_stops(
+    rt: &(impl Threads + Wait + Eprint + Sync),
+    parts: &Parts,
+    words: &[&str],
+    failure: Failure,
+    whole: &[u8],
+    stops: &mut Stops,
+) -> Result<(), AllocError> {
+    for writes in 0..u64::MAX {
+        let manner = Manner::stops_after(writes, failure);
+        if !push_stop(rt, parts, words, manner, whole, stops)? {
+            return Ok(());
+        }
+    }
+    Ok(())
+}
+
+/// The same, each once where it comes again.
 fn stops_text(
     rt: &(impl Threads + Wait + Eprint + Sync),
     alloc: Global,
@@ -62,22 +118,12 @@ fn stops_text(
     failure: Failure,
 ) -> Result<Vec<u8>, AllocError> {
     let whole = run_on(rt, alloc, parts, words, Manner::WHOLE, Manner::WHOLE);
-    let mut text = Vec::new(alloc);
-    let mut last = Vec::new(alloc);
-    for writes in 0..u64::MAX {
-        let manner = Manner::stops_after(writes, failure);
-        let run = run_on(rt, alloc, parts, words, manner, Manner::WHOLE);
-        if !run.is_cut {
-            push_run(&mut text, &run)?;
-            return Ok(text);
-        }
-        let cut = cut_text(alloc, &run, &whole.output)?;
-        if cut != last {
-            text.extend_from_slice(&cut)?;
-            last = cut;
-        }
-    }
-    Ok(text)
+    let mut stops = Stops {
+        text: Vec::new(alloc),
+        last: Vec::new(alloc),
+    };
+    push_stops(rt, parts, words, failure, &whole.output, &mut stops)?;
+    Ok(stops.text)
 }
 
 /// The status, and what stands at a path of the answer, which is read as JSON; the path is the

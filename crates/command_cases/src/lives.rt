@@ -98,6 +98,63 @@ fn drive_words<'w>(alloc: Global, words: &[&'w str]) -> Result<Vec<&'w str>, All
     Ok(all)
 }
 
+/// What words have come to: the status, the lines of the error output, and what was done with files.
+#[derive(Drop)]
+struct Played {
+    status: u8,
+    errors: Vec<u8>,
+    done: Vec<u8>,
+}
+
+/// Runs words on a machine with the driver of a stage.
+fn play<'c, R: Threads + Wait + Eprint + Sync>(
+    rt: &'c R,
+    alloc: Global,
+    parts: &Parts<'_>,
+    words: &[&str],
+    life: Life<'c>,
+    stage: &Stage<'c, R>,
+) -> Played {
+    let driver = Driver {
+        stage,
+        most_entries: life.most_entries,
+        is_locked: life.is_locked,
+    };
+    let machine = Machine::new(alloc, parts, driver);
+    let mut out = WriteSink::new(StageOutput {
+        stage,
+        most: life.most_lines,
+    });
+    let mut told = WriteSink::new(Output::new(alloc, Manner::WHOLE));
+    let status = run_words(rt, alloc, words, &machine, &mut out, &mut told);
+    Played {
+        status,
+        errors: told.into_inner().into_taken(),
+        done: machine.into_done(),
+    }
+}
+
+/// What a life has come to whose words came to this.
+fn lived_on<R: Wait>(
+    alloc: Global,
+    stage: &Stage<'_, R>,
+    played: Played,
+) -> Result<Lived, AllocError> {
+    let left = stage.end(alloc)?;
+    let run = Run {
+        status: played.status,
+        is_cut: left.is_dead,
+        output: left.written,
+        errors: played.errors,
+        done: played.done,
+    };
+    Ok(Lived {
+        run,
+        journal: left.journal,
+        is_loud: left.is_loud,
+    })
+}
+
 /// Runs a drive on a machine with a driver, from this journal on.
 fn live<'c, R: Threads + Wait + Eprint + Sync>(
     rt: &'c R,
@@ -107,35 +164,25 @@ fn live<'c, R: Threads + Wait + Eprint + Sync>(
     life: Life<'c>,
     journal: Vec<u8>,
 ) -> Result<Lived, AllocError> {
-    let stage = Stage::new(rt, alloc, life.steps, journal);
-    let driver = Driver {
-        stage: &stage,
-        most_entries: life.most_entries,
-        is_locked: life.is_locked,
-    };
-    let machine = Machine::new(alloc, parts, driver);
-    let mut out = WriteSink::new(StageOutput {
-        stage: &stage,
-        most: life.most_lines,
-    });
-    let mut told = WriteSink::new(Output::new(alloc, Manner::WHOLE));
     let words = drive_words(alloc, words)?;
-    let status = run_words(rt, alloc, words.as_slice(), &machine, &mut out, &mut told);
-    let errors = told.into_inner().into_taken();
-    let done = machine.into_done();
-    let left = stage.end(alloc)?;
-    let run = Run {
-        status,
-        is_cut: left.is_dead,
-        output: left.written,
-        errors,
-        done,
-    };
-    Ok(Lived {
-        run,
-        journal: left.journal,
-        is_loud: left.is_loud,
-    })
+    let stage = Stage::new(rt, alloc, life.steps, journal);
+    let played = play(rt, alloc, parts, words.as_slice(), life, &stage);
+    lived_on(alloc, &stage, played)
+}
+
+/// Puts what a life comes to that begins with this journal behind a text, and gives the journal that
+/// it leaves.
+fn push_life<'c, R: Threads + Wait + Eprint + Sync>(
+    rt: &'c R,
+    parts: &Parts<'_>,
+    words: &[&str],
+    life: Life<'c>,
+    journal: Vec<u8>,
+    text: &mut Vec<u8>,
+) -> Result<Vec<u8>, AllocError> {
+    let lived = live(rt, *text.allocator(), parts, words, life, journal)?;
+    push_lived(text, &lived)?;
+    Ok(lived.journal)
 }
 
 /// What one life after another comes to, and what the journal holds then where that is asked.
@@ -158,9 +205,7 @@ pub fn drive_text(
         let Some((life, behind)) = next_life(rest) else {
             break;
         };
-        let lived = live(rt, alloc, parts, words, life, journal)?;
-        push_lived(&mut text, &lived)?;
-        journal = lived.journal;
+        journal = push_life(rt, parts, words, life, journal, &mut text)?;
         rest = behind;
     }
     if rest.starts_with(b"%% journal\n") {
@@ -238,6 +283,44 @@ const WHOLE: Life<'static> = Life {
     is_locked: false,
 };
 
+/// Tells whether a drive whose journal has these bytes ends as the whole one, and asks for what is
+/// not done, by `again` where it was asked. Where it does not, what it comes to is put behind a text.
+fn ends_so(
+    rt: &(impl Threads + Wait + Eprint + Sync),
+    parts: &Parts<'_>,
+    words: &[&str],
+    journal: &[u8],
+    whole: &[u8],
+    text: &mut Vec<u8>,
+) -> Result<bool, AllocError> {
+    let alloc = *text.allocator();
+    let begun = Vec::from_slice(alloc, journal)?;
+    let lived = live(rt, alloc, parts, words, WHOLE, begun)?;
+    let output = lived.run.output.as_slice();
+    if end_of(output) == end_of(whole) && are_rightly_asked(journal, output) {
+        return Ok(true);
+    }
+    push_run(text, &lived.run)?;
+    Ok(false)
+}
+
+/// The same of each first part of a journal.
+fn push_cuts(
+    rt: &(impl Threads + Wait + Eprint + Sync),
+    parts: &Parts<'_>,
+    words: &[&str],
+    whole: &Lived,
+    text: &mut Vec<u8>,
+) -> Result<(), AllocError> {
+    let journal = whole.journal.as_slice();
+    for count in 0..journal.len() {
+        if !ends_so(rt, parts, words, &journal[..count], &whole.run.output, text)? {
+            return Ok(());
+        }
+    }
+    text.extend_from_slice(b"so behind each byte\n")
+}
+
 /// What drives come to whose journal is cut behind each of its bytes in turn: whether each ends as
 /// the whole one, and asks for what is not done, by `again` where it was asked.
 ///
@@ -253,16 +336,6 @@ pub fn cuts_text(
     let whole = live(rt, alloc, parts, words, WHOLE, Vec::new(alloc))?;
     let mut text = Vec::new(alloc);
     push_run(&mut text, &whole.run)?;
-    for count in 0..whole.journal.len() {
-        let cut = Vec::from_slice(alloc, &whole.journal[..count])?;
-        let kept = Vec::from_slice(alloc, &whole.journal[..count])?;
-        let lived = live(rt, alloc, parts, words, WHOLE, cut)?;
-        let ends = end_of(&lived.run.output) == end_of(&whole.run.output);
-        if !ends || !are_rightly_asked(&kept, &lived.run.output) {
-            push_run(&mut text, &lived.run)?;
-            return Ok(text);
-        }
-    }
-    text.extend_from_slice(b"so behind each byte\n")?;
+    push_cuts(rt, parts, words, &whole, &mut text)?;
     Ok(text)
 }
