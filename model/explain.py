@@ -7,11 +7,11 @@ from verdict import MaySlot, Unsafe, Walk, find_order, is_surely
 
 
 class Note:
-    """Lines that tell one thing of a plan, with its kind. They are about an instruction of a lane, by its number, or about
-    none; and of one that may trap about that trap."""
+    """Lines that tell one thing of a plan, with its kind, and what they tell as data, by the names of its members in JSON.
+    They are about an instruction of a lane, by its number, or about none; and of one that may trap about that trap."""
 
-    def __init__(self, kind, lines, lane=None, number=None, trap=None):
-        self.kind, self.lines, self.lane, self.number, self.trap = kind, lines, lane, number, trap
+    def __init__(self, kind, lines, facts, lane=None, number=None, trap=None):
+        self.kind, self.lines, self.facts, self.lane, self.number, self.trap = kind, lines, facts, lane, number, trap
 
 
 def first_unsafe(rows, number):
@@ -26,13 +26,13 @@ def first_unsafe(rows, number):
 
 
 def parting(universe, first, second):
-    """The first name that two branches leave in different phases, with what may be held of it behind each."""
+    """The first name that two branches leave in different phases, and what may be held of it behind each, as lines."""
     for name in universe.variants:
         if first is not None and first.phase(name) != second.phase(name):
-            for words, may in (("first", first), ("second", second)):
-                slot = may.slots.get(name) or MaySlot(ABSENT, set(), set())
-                yield f"behind the {words} branch {slot_line(universe, name, slot)}"
-            return
+            slots = [may.slots.get(name) or MaySlot(ABSENT, set(), set()) for may in (first, second)]
+            return {"package": name}, [f"behind the {words} branch {slot_line(universe, name, slot)}"
+                                       for words, slot in zip(("first", "second"), slots)]
+    return {}, []
 
 
 def unsafe_note(universe, rows, number):
@@ -40,12 +40,15 @@ def unsafe_note(universe, rows, number):
     unsafe, way, place = first_unsafe(rows, number)
     if unsafe is None:
         return None
-    kind, reasons = "uneven", parting(universe, way.first, way.may)
-    if unsafe.trap is not None:
-        kind, reasons = Reason(universe, rows, number, place, way.may).told(unsafe.trap)
+    if unsafe.trap is None:
+        kind, (facts, reasons) = "uneven", parting(universe, way.first, way.may)
+    else:
+        reason = Reason(universe, rows, number, place, way.may)
+        kind, reasons = reason.told(unsafe.trap)
+        facts = reason.facts
     lane, head = rows.plan[number], unsafe.text(trapping=401, uneven=403)
     lines = [head, where(lane, unsafe.instruction), *(f"  {line}" for line in reasons)]
-    return Note(kind, lines, lane, unsafe.instruction, unsafe.trap)
+    return Note(kind, lines, facts, lane, unsafe.instruction, unsafe.trap)
 
 
 def unsafe_notes(universe, rows):
@@ -131,7 +134,8 @@ class Stuck:
         lane, place, group = self.plan[number], self.places[number], self.group(number)
         head = f"lane {lane.name} instruction {place + 1} {GROUPS[group]}"
         lines = [head, where(lane, place + 1), *(f"  {line}" for line in self.sources(number))]
-        return Note(group, lines, lane, place + 1)
+        other = self.waits_for(number)
+        return Note(group, lines, {} if other is None else {"waits_for": self.plan[other].name}, lane, place + 1)
 
 
 def stuck_notes(universe, plan):
@@ -144,34 +148,36 @@ def stuck_notes(universe, plan):
     circle = next(filter(None, map(stuck.circle, stuck.lanes)), None)
     if circle:
         names = [plan[number].name for number in circle]
-        yield Note("circle", [", ".join(f"{one} waits for {other}" for one, other in zip(names, names[1:] + names[:1]))])
+        line = ", ".join(f"{one} waits for {other}" for one, other in zip(names, names[1:] + names[:1]))
+        yield Note("circle", [line], {"lane": names[0]})
 
 
-def wait_line(universe, plan, number, place):
-    """What a wait waits for: the line, or None where nothing could let it pass."""
+def wait_note(universe, plan, number, place):
+    """What a wait waits for, or None where nothing could let it pass."""
     lane, entry = plan[number], plan[number].instructions[place].entry
     satisfying = [it for it in universe.all_variants() if it.satisfies(entry)]
     head = f"lane {lane.name} instruction {place + 1} waits for"
     for it in satisfying:
         if it in universe.archive:
-            return f"{head} nothing: {spelled(it)} is in the archive from the start"
+            line = f"{head} nothing: {spelled(it)} is in the archive from the start"
+            return Note("wait", [line], {"variant": spelled(it)}, lane, place + 1)
     coming = [(it, published(plan, it)) for it in satisfying]
     coming = [(it, at) for it, at in coming if at is not None and not (at[0] == number and at[1] >= place)]
     if not coming:
         return None
     (first, (other, its_place)), more = coming[0], len(coming) - 1
     line = f"{head} {spelled(first)} of lane {plan[other].name} instruction {its_place + 1}"
-    return line + (f", or {more} more" if more else "")
+    line += f", or {more} more" if more else ""
+    return Note("wait", [line], {"variant": spelled(first), "more": more}, lane, place + 1)
 
 
 def waits_notes(universe, plan):
     """What each wait of an accepted plan waits for, lane by lane and in each lane in order."""
     for number, lane in enumerate(plan):
         for place, it in enumerate(lane.instructions):
-            if it.verb == "wait":
-                line = wait_line(universe, plan, number, place)
-                if line is not None:
-                    yield Note("wait", [line], lane, place + 1)
+            note = wait_note(universe, plan, number, place) if it.verb == "wait" else None
+            if note is not None:
+                yield note
 
 
 def left_unmet(universe, may, names):

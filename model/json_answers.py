@@ -37,7 +37,8 @@ def lines_of(lines):
 
 def reason_of(note):
     """The members of a note, without those that it does not have."""
-    members = {"kind": note.kind, "lines": lines_of(note.lines)}
+    data = {word: shown(value) if isinstance(value, str) else value for word, value in note.facts.items()}
+    members = {"kind": note.kind, "lines": lines_of(note.lines)} | data
     if note.lane is not None:
         line, used = note.lane.lines[note.number - 1]
         members |= {"lane": shown(note.lane.name), "instruction": note.number, "plan_line": line}

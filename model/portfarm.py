@@ -117,7 +117,7 @@ def refused(command, texts, more, fault):
     notes = list(fault_lines(texts, fault)) if command == "explain" else []
     if "--json" not in (more or ""):
         return [*written, *notes]
-    told = {"reasons": reasons_of([Note("text", notes)]), "warnings": []} if command == "explain" else {}
+    told = {"reasons": reasons_of([Note("text", notes, {})]), "warnings": []} if command == "explain" else {}
     return [json_line(verdict_members(written) | told)]
 
 

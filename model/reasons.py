@@ -17,6 +17,11 @@ def entry_text(entry):
     return " | ".join(str(alternative) for alternative in entry)
 
 
+def entry_facts(owner, field, entry):
+    """The data of an entry of a variant."""
+    return {"variant": spelled(owner), "field": field, "entry": entry_text(entry)}
+
+
 def place_text(lane, number):
     """The line of an instruction in the plan, with that of the `use` that brings it in."""
     line, used = lane.lines[number - 1]
@@ -126,9 +131,11 @@ class Reason:
         self.known = rows.known[number][place]
         # the variants that the reason is about, the entry that is not surely met, and the further ones as they are told
         self.about, self.entry, self.further = [], None, []
+        # the data of the reason, by the names of its members in JSON
+        self.facts = {}
 
     def told(self, trap):
-        """The kind of the reason and its lines, with where that comes from which it is about."""
+        """The kind of the reason and its lines, with where that comes from which it is about; its data is in `facts` then."""
         lines = list(getattr(self, trap.lower())())
         kind = KINDS.get(trap) or ("unmet" if len(lines) > 1 else "unsettled")
         several = [it for it in self.about if len(self.universe.variants[it.name]) > 1]
@@ -247,6 +254,7 @@ class Reason:
                  if not is_met(entry)]
         told = [f"{spelled(it)} {field}: {entry_text(entry)}" for it, field, entry in found]
         self.about, self.entry, self.further = [found[0][0]], found[0][2], told[1:]
+        self.facts = entry_facts(*found[0])
         return [told[0], *self.names_for(self.entry, is_ahead)]
 
     def is_met(self, entry):
@@ -257,6 +265,7 @@ class Reason:
         for entry in one.relations[field]:
             if one.name != other.name and other.satisfies(entry):
                 self.about = [one, other]
+                self.facts = {"variant": spelled(one), "other": spelled(other)}
                 return [f"{spelled(one)} {field}: {entry_text(entry)}", f"{spelled(other)} satisfies it"]
         return []
 
@@ -265,6 +274,7 @@ class Reason:
 
     def x1(self):
         name = self.it.wanted.name
+        self.facts = {"package": name}
         sure = [it for it in self.universe.variants[name] if it in self.known]
         if not sure:
             yield f"surely in the archive: no version of {name}"
@@ -298,6 +308,7 @@ class Reason:
                 found = self.excluded(one, other, "Conflicts") or self.excluded(other, one, "Conflicts")
                 if found:
                     self.about = [one, other]
+                    self.facts = {"variant": spelled(one), "other": spelled(other)}
                     return found
         return []
 
@@ -307,6 +318,7 @@ class Reason:
 
     def x5(self):
         more = self.it.recipe.scratch if self.it.recipe else max(it.size for it in self.candidates())
+        self.facts = {"used": self.may.used(), "added": more, "capacity": self.lane.chroot.capacity}
         yield f"in use at most {self.may.used()} KiB, {more} more, capacity {self.lane.chroot.capacity}"
         held = [max(self.held(name), key=lambda it: it.size) for name in self.universe.variants if self.held(name)]
         for it in sorted(held, key=lambda it: -it.size)[:3]:
@@ -317,6 +329,7 @@ class Reason:
         wrong = {"configure": lambda phase: phase in (ABSENT, CONFIGURED), "deconfigure": lambda phase: phase != CONFIGURED,
                  "remove": lambda phase: phase == ABSENT}[self.it.verb]
         name = next(name for name in self.it.names if wrong(self.may.phase(name)))
+        self.facts = {"package": name}
         yield slot_line(self.universe, name, self.slot(name))
 
     def x7(self):
@@ -335,7 +348,7 @@ class Reason:
             for field in ("Depends", "Pre-Depends"):
                 for entry in owner.relations[field]:
                     if any(it.satisfies(entry) for it in taken) and not is_surely(entry, left):
-                        self.about = [owner]
+                        self.about, self.facts = [owner], entry_facts(owner, field, entry)
                         return [f"{spelled(owner)} {field}: {entry_text(entry)}"]
         return []
 
@@ -343,6 +356,7 @@ class Reason:
         for name in self.universe.variants:
             slot = self.slot(name)
             if slot.phase not in (ABSENT, CONFIGURED):
+                self.facts = {"package": name}
                 return [slot_line(self.universe, name, slot)]
             if any(not self.is_met(entry) for it in self.held(name) for entry in it.needs()):
                 break
@@ -352,6 +366,7 @@ class Reason:
         unmet = [entry for entry in self.it.recipe.needs if not self.is_met(entry)]
         told = [f"recipe {self.it.recipe.name} Build-Depends: {entry_text(entry)}" for entry in unmet]
         self.entry, self.further = unmet[0], told[1:]
+        self.facts = {"recipe": self.it.recipe.name, "field": "Build-Depends", "entry": entry_text(self.entry)}
         yield told[0]
         yield from self.names_for(self.entry)
 
@@ -360,11 +375,13 @@ class Reason:
             for entry in self.it.recipe.clashes:
                 if it.satisfies(entry):
                     self.about = [it]
+                    self.facts = {"recipe": self.it.recipe.name, "variant": spelled(it)}
                     return [
                         f"recipe {self.it.recipe.name} Build-Conflicts: {entry_text(entry)}", f"{spelled(it)} satisfies it"]
         return []
 
     def x13(self):
+        self.facts = {"recipe": self.it.recipe.name}
         yield f"recipe {self.it.recipe.name} is not surely built"
         yield self.builder()
 
@@ -386,6 +403,7 @@ class Reason:
 
     def x14(self):
         cost = cost_at(self.universe, self.rows, self.number, self.place)
+        self.facts = {"spent": self.may.cost, "cost": cost, "budget": self.lane.budget}
         yield f"spent at most {self.may.cost}, {cost} more, budget {self.lane.budget}"
         whole = lane_cost(self.universe, self.rows, self.number)
         if whole is not None:
@@ -393,4 +411,5 @@ class Reason:
 
     def x15(self):
         self.about = [next(it for it in self.members() if it.is_essential)]
+        self.facts = {"variant": spelled(self.about[0])}
         yield f"{spelled(self.about[0])} is Essential"

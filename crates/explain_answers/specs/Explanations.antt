@@ -1,12 +1,12 @@
 -- What `explain` answers: a text and a status. What its notes tell is said as data; how they are
 -- spelled is not said here. The project's own rules.
 -- Parameters: texts the four texts, of the farm and the plan that they stand for, lines those of
--- the plan's text; json whether the answer is JSON.
+-- the plan's text; json whether the answer is JSON, e an explanation.
 --
 --   IsExplanation       of four texts, a verdict and what explains it
 --   Tells               the text and the status of these
 --   AnswersExplain      that this text and this status are what `explain` answers
-use Rattle.std.specs.Option.{IfSome}
+use Rattle.std.specs.Option.{IfSome, option_map}
 use Rattle.std.specs.Result.{is_ok}
 use Rattle.std.specs.Prelude.{◌≡◌, ◌≢◌, ◌⊎◌, ℕ, Bool, true, false, List, [], ◌∷◌, ◌++◌, Option, Some, None, Result, Ok, Err}
 use Rattle.deb_text.specs.declared.fault.Fault.{Fault}
@@ -23,6 +23,7 @@ use Rattle.farm_warnings.specs.Warnings.{all_warnings}
 use Rattle.plan_lines.specs.Readings.{TextLines, plan_lines_of}
 use Rattle.plan_model.specs.Known.{Rows, IsGreatest}
 use Rattle.plan_verifier.specs.Accepted.{AcceptedPlan}
+use Rattle.plan_verifier.specs.Examined.{ExaminedPlan}
 use Rattle.plan_verifier.specs.Verdict.{IsVerdictOn}
 use Rattle.plan_verifier.specs.declared.refusal.Refusal.{Refusal}
 use Rattle.plan_verifier.specs.declared.refusal.Refusal.TheVariants.{Text, Unsafe, Uneven, Stuck, Memory}
@@ -30,7 +31,7 @@ use Rattle.remove_warnings.specs.declared.warning.Left.{Left}
 use Rattle.remove_warnings.specs.Warnings.{left_warnings}
 use Rattle.wait_notes.specs.Shown.{ShowsStuck}
 use Rattle.wait_notes.specs.Waits.{waits_notes}
-use Rattle.farm_answers.specs.Answers.{no_status, planned_in, status_of, told_verdict}
+use Rattle.farm_answers.specs.Answers.{farm_in, no_status, planned_in, status_of, told_verdict}
 use Rattle.explain_answers.specs.declared.explanation.Explanation.{Explanation}
 use Rattle.explain_answers.specs.declared.explanation.Notes.{Notes}
 
@@ -95,11 +96,17 @@ AreNotes texts of lines verdict notes =
     IsWhy of lines verdict (all_facts notes.reasons.items)
     × AreWarnings texts of lines notes.found notes.left.items
 
--- the verdict on a plan, which is not want of memory, and these, unless memory was refused behind
--- it
+-- the farm of an accepted plan; or that of a refused one, if any
+abbrev pub farm_of : Result AcceptedPlan Refusal → Option ExaminedPlan → Option FarmPlan
+farm_of (Ok a) refused = Some (record { universe = a.universe; plan = a.plan })
+farm_of (Err refusal) refused = option_map farm_in refused
+
+-- the verdict on a plan, which is not want of memory, with the plan, and these, unless memory was
+-- refused behind it
 abbrev pub IsExplained : Texts → FarmPlan → TextLines → Explanation → Type 0
 IsExplained texts of lines e =
     IsVerdictOn of.universe of.plan e.verdict × (e.verdict ≢ Err Memory)
+    × (farm_of e.verdict e.refused ≡ Some of)
     × IfSome e.notes (AreNotes texts of lines e.verdict)
 
 -- by the lines of the plan's text
@@ -125,31 +132,32 @@ BeginsWith head text = (rest : List ℕ) × (text ≡ head ++ rest)
 
 -- as JSON the object of a verdict, its notes and its warnings; else a text that begins with the
 -- lines of the verdict
-abbrev pub IsTold : Bool → Result AcceptedPlan Refusal → Notes → List ℕ → Type 0
-IsTold true verdict notes text =
-    text ≡ explain_line verdict notes.reasons.items notes.warnings.items
-IsTold false verdict notes text = BeginsWith (verdict_text verdict) text
+abbrev pub IsTold : Bool → Explanation → Notes → List ℕ → Type 0
+IsTold true e notes text =
+    text ≡ explain_line (farm_of e.verdict e.refused) e.verdict notes.reasons.items
+    notes.warnings.items
+IsTold false e notes text = BeginsWith (verdict_text e.verdict) text
 
 -- a verdict with its notes, and the verdict's status
-abbrev pub TellsAll : Bool → Result AcceptedPlan Refusal → Notes → List ℕ → ℕ → Type 0
-TellsAll json verdict notes text status =
-    IsTold json verdict notes text × (status ≡ status_of (is_ok verdict))
+abbrev pub TellsAll : Bool → Explanation → Notes → List ℕ → ℕ → Type 0
+TellsAll json e notes text status =
+    IsTold json e notes text × (status ≡ status_of (is_ok e.verdict))
 
 -- the verdict alone, where memory is refused behind it
 abbrev pub TellsAlone : Bool → Result AcceptedPlan Refusal → List ℕ → ℕ → Type 0
 TellsAlone json verdict text status = (text ≡ told_verdict json verdict) × (status ≡ no_status)
 
 -- either
-abbrev pub TellsSome : Bool → Result AcceptedPlan Refusal → Notes → List ℕ → ℕ → Type 0
-TellsSome json verdict notes text status =
-    TellsAll json verdict notes text status ⊎ TellsAlone json verdict text status
+abbrev pub TellsSome : Bool → Explanation → Notes → List ℕ → ℕ → Type 0
+TellsSome json e notes text status =
+    TellsAll json e notes text status ⊎ TellsAlone json e.verdict text status
 
-abbrev pub TellsNotes : Bool → Result AcceptedPlan Refusal → Option Notes → List ℕ → ℕ → Type 0
-TellsNotes json verdict None text status = TellsAlone json verdict text status
-TellsNotes json verdict (Some notes) text status = TellsSome json verdict notes text status
+abbrev pub TellsNotes : Bool → Explanation → Option Notes → List ℕ → ℕ → Type 0
+TellsNotes json e None text status = TellsAlone json e.verdict text status
+TellsNotes json e (Some notes) text status = TellsSome json e notes text status
 
 abbrev pub Tells : Bool → Explanation → List ℕ → ℕ → Type 0
-Tells json e text status = TellsNotes json e.verdict e.notes text status
+Tells json e text status = TellsNotes json e e.notes text status
 
 -- `explain`, as JSON or not
 abbrev pub AnswersExplain : Bool → Texts → List ℕ → ℕ → Type 0

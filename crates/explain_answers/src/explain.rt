@@ -9,7 +9,7 @@ ghost use Rattle.farm_input.specs.View.{texts_view};
 ghost use Rattle.plan_model.specs.Plan.{count};
 ghost use Rattle.plan_model.specs.Sound.{IsSound};
 
-use crate::explanation::{Explained, Explanation, explain_accepted, explain_refused};
+use crate::explanation::{Explanation, explain_accepted, explain_refused};
 use crate::text_faults::explain_fault;
 use crate::told::write_explanation;
 use farm_answers::OutsideFault;
@@ -39,12 +39,8 @@ fn explain_examined(
             Ok(explain_accepted(alloc, examined, grounds, lines, texts))
         }
         Err(refusal) => {
-            let of = Explained {
-                examined: &*examined,
-                lines,
-                texts,
-            };
-            explain_refused(alloc, of, refusal)
+            let examined = ManuallyDrop::into_inner(examined);
+            explain_refused(alloc, examined, refusal, lines, texts)
         }
     }
 }

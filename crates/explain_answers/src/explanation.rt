@@ -31,10 +31,12 @@ pub struct Notes {
     pub warnings: Vec<u8>,
 }
 
-/// A verdict, and what explains it; of which there is nothing where memory was refused behind it.
+/// A verdict, the plan that was refused, if one was read, and what explains the verdict; of which
+/// there is nothing where memory was refused behind it.
 #[derive(Drop)]
 pub struct Explanation {
     pub verdict: Result<Accepted, Refusal>,
+    pub refused: Option<Examined>,
     pub notes: Option<Notes>,
 }
 
@@ -204,6 +206,7 @@ pub fn explain_accepted(
     let notes = notes_accepted(alloc, of).ok();
     Explanation {
         verdict: Ok(examined.accept(grounds)),
+        refused: None,
         notes,
     }
 }
@@ -215,20 +218,26 @@ pub fn explain_accepted(
 /// Where the refusal is want of memory.
 pub fn explain_refused(
     alloc: Global,
-    of: Explained<'_>,
+    examined: Examined,
     refusal: Refusal,
+    lines: &PlanLines,
+    texts: Texts<'_>,
 ) -> Result<Explanation, AllocError>
-    requires examined { IsExamined of.examined.now }
-    requires verdict { IsVerdictOn of.examined.now.universe of.examined.now.plan (Err refusal) }
-    ensures { IfOk result (IsExplained (texts_view of.entry.texts)
-        (farm_in of.entry.examined.now) of.entry.lines.now) }
+    requires { IsVerdictOn examined.universe examined.plan (Err refusal) }
+    ensures { IfOk result (IsExplained (texts_view texts.entry) (farm_in examined) lines.now) }
 {
     if matches!(&refusal, Refusal::Memory) {
         return Err(AllocError);
     }
+    let of = Explained {
+        examined: &examined,
+        lines,
+        texts,
+    };
     let notes = notes_refused(alloc, of, &refusal).ok();
     Ok(Explanation {
         verdict: Err(refusal),
+        refused: Some(examined),
         notes,
     })
 }

@@ -137,6 +137,7 @@ pub fn explain_fault(
     let notes = notes_on(alloc, fault, texts).ok();
     Ok(Explanation {
         verdict: Err(Refusal::Text(fault)),
+        refused: None,
         notes,
     })
 }

@@ -1,21 +1,23 @@
 //! How a verdict and what explains it are written.
 
 ghost use Rattle.std.specs.Prelude.{◌≡◌, ◌++◌, false, true, is_err};
+ghost use Rattle.std.specs.Option.{option_map};
 ghost use Rattle.std.specs.Result.{is_ok};
-ghost use Rattle.farm_answers.specs.Answers.{IsAnswered, IsJust, no_status, told_verdict};
+ghost use Rattle.farm_answers.specs.Answers.{IsAnswered, IsJust, farm_in, no_status, told_verdict};
 ghost use Rattle.farm_answers.specs.Answers as answers;
 ghost use Rattle.explain_answers.specs.Explanations as spec;
 ghost use Rattle.explain_answers.specs.Explanations.{Tells};
 ghost use Rattle.farm_json.specs.Verdicts.{check_line};
+ghost use Rattle.farm_json.specs.View.{read_view};
 ghost use Rattle.farm_report.specs.VerdictText.{verdict_text};
 ghost use Rattle.report_sink.specs.Sinks.{IsWritten};
 
 use crate::explanation::{Explanation, Notes, is_hazard};
 use deb_text::next_line;
 use farm_answers::{OutsideFault, status_of, write_answer};
-use farm_json::{check_json, explain_json};
+use farm_json::{Farm, check_json, explain_json};
 use farm_report::write_check;
-use plan_verifier::{Accepted, Refusal};
+use plan_verifier::{Accepted, Examined, Refusal};
 use report_sink::{Sink, WriteFailed, write_text};
 use std::alloc::{AllocError, Global};
 
@@ -112,18 +114,46 @@ fn write_alone<'a, S: Sink>(
     }
 }
 
+/// The universe and the plan of an explanation, if any.
+fn farm_of(explanation: &Explanation) -> Option<Farm<'_>>
+    ensures { read_view result ≡ spec.farm_of explanation.now.verdict explanation.now.refused }
+{
+    match &explanation.verdict {
+        Ok(accepted) => Some(Farm {
+            universe: accepted.universe(),
+            plan: accepted.plan(),
+        }),
+        Err(_) => farm_refused(&explanation.refused),
+    }
+}
+
+/// The universe and the plan that was refused, if any.
+fn farm_refused(refused: &Option<Examined>) -> Option<Farm<'_>>
+    ensures { read_view result ≡ option_map farm_in refused.now }
+{
+    match refused {
+        Some(examined) => Some(Farm {
+            universe: examined.universe(),
+            plan: examined.plan(),
+        }),
+        None => None,
+    }
+}
+
 /// Writes a verdict and what explains it as JSON, or the verdict alone where memory is refused.
 fn write_json<'a, S: Sink>(
     alloc: Global,
-    verdict: &Result<Accepted, Refusal>,
+    explanation: &Explanation,
     notes: &Notes,
     out: &mut S,
 ) -> Result<u8, OutsideFault<'a>>
-    ensures { IsAnswered (spec.TellsSome true verdict.now notes.now) (S.state out.old)
+    ensures { IsAnswered (spec.TellsSome true explanation.now notes.now) (S.state out.old)
         (S.state out.new) result }
 {
+    let verdict = &explanation.verdict;
     match explain_json(
         alloc,
+        farm_of(explanation),
         verdict,
         notes.reasons.as_slice(),
         notes.warnings.as_slice(),
@@ -136,13 +166,14 @@ fn write_json<'a, S: Sink>(
 /// Writes a verdict and what explains it as lines, or the verdict alone where memory is refused.
 fn write_plain<'a, S: Sink>(
     alloc: Global,
-    verdict: &Result<Accepted, Refusal>,
+    explanation: &Explanation,
     notes: &Notes,
     out: &mut S,
 ) -> Result<u8, OutsideFault<'a>>
-    ensures { IsAnswered (spec.TellsSome false verdict.now notes.now) (S.state out.old)
+    ensures { IsAnswered (spec.TellsSome false explanation.now notes.now) (S.state out.old)
         (S.state out.new) result }
 {
+    let verdict = &explanation.verdict;
     match spelled(alloc, notes) {
         Ok(text) => write_explained(verdict, behind_head(verdict, &text), out),
         Err(AllocError) => write_plain_alone(verdict, out),
@@ -152,18 +183,18 @@ fn write_plain<'a, S: Sink>(
 /// Writes a verdict and what explains it, as JSON or not.
 fn write_noted<'a, S: Sink>(
     alloc: Global,
-    verdict: &Result<Accepted, Refusal>,
+    explanation: &Explanation,
     notes: &Notes,
     json: bool,
     out: &mut S,
 ) -> Result<u8, OutsideFault<'a>>
-    ensures { IsAnswered (spec.TellsSome json verdict.now notes.now) (S.state out.old)
+    ensures { IsAnswered (spec.TellsSome json explanation.now notes.now) (S.state out.old)
         (S.state out.new) result }
 {
     if json {
-        write_json(alloc, verdict, notes, out)
+        write_json(alloc, explanation, notes, out)
     } else {
-        write_plain(alloc, verdict, notes, out)
+        write_plain(alloc, explanation, notes, out)
     }
 }
 
@@ -183,7 +214,7 @@ pub fn write_explanation<'a, S: Sink>(
     ensures { IsAnswered (Tells json explanation.now) (S.state out.old) (S.state out.new) result }
 {
     match &explanation.notes {
-        Some(notes) => write_noted(alloc, &explanation.verdict, notes, json, out),
+        Some(notes) => write_noted(alloc, explanation, notes, json, out),
         None => write_alone(alloc, &explanation.verdict, json, out),
     }
 }

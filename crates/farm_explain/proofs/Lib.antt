@@ -1,4 +1,5 @@
 pub mod Phases
+pub mod Fields
 pub mod Below
 pub mod NoteLaws
 pub mod Beginning

@@ -1,6 +1,9 @@
 //! Entries of packages and recipes, as lines.
 
+ghost use Rattle.std.specs.Prelude.{◌≡◌, slice_get};
+ghost use Rattle.std.specs.Option.{option_map};
 ghost use Rattle.farm_model.specs.Sound.{IsKnown};
+ghost use Rattle.refusal_reasons.specs.Reasons.{asked_in_field};
 
 use crate::could_meet::{ChrootText, push_could_meet};
 use deb_relation::{Entry, Relations};
@@ -86,12 +89,16 @@ pub fn field_word(field: Field) -> &'static [u8] {
 }
 
 /// The entry of a number of a variant's field; none past the last, and of no variant.
+#[tactic(auto, using(crate::proofs::Fields::none_asked))]
 pub fn entry_of(
     universe: &Universe,
     variant: Variant,
     field: Field,
     number: usize,
-) -> Option<&Entry> {
+) -> Option<&Entry>
+    ensures { option_map (λ e. e.now) result
+        ≡ slice_get (asked_in_field universe.now variant field) number }
+{
     if variant.bit >= variant_count(universe, variant.name) {
         return None;
     }

@@ -9,11 +9,11 @@ use Rattle.answer_json.specs.Texts.{lines_data, text_data}
 use Rattle.deb_text.specs.Lists.{lists}
 use Rattle.farm_explain.specs.Notes.{PlaceFacts, facts}
 use Rattle.farm_explain.specs.declared.note.Note.{Note}
-use Rattle.farm_json.specs.Reasons.{reason_data, reasons_data, told_members, with_number, with_origin, with_place, with_trap, with_use}
+use Rattle.farm_input.specs.Planned.{FarmPlan}
+use Rattle.farm_json.specs.Facts.{Fact, Number, Words, facts_in, line_facts, number_facts, trap_facts, with_fact, with_facts, with_place}
+use Rattle.farm_json.specs.Reasons.{reason_data, reasons_data, told_members}
 use Rattle.farm_json.specs.Refusals.{name_data, number_data}
 use Rattle.farm_json.specs.Verdicts.{data_below, explained_members, lane_data, verdict_members}
-use Rattle.farm_model.specs.declared.types.Trap.{Trap}
-use Rattle.plan_lines.specs.declared.origin.Origin.{Origin}
 use Rattle.plan_verifier.specs.Accepted.{AcceptedPlan}
 use Rattle.plan_verifier.specs.declared.refusal.Refusal.{Refusal}
 use Rattle.plan_verifier.specs.declared.refusal.Refusal.TheVariants.{Text, Unsafe, Uneven, Stuck, Memory}
@@ -46,42 +46,33 @@ no_float_put k d (member l e ms) none before =
 
 -- ---- notes
 
-in_trap : (trap : Option Trap) (ms : Members) → members_have_float ms ≡ false
-    → members_have_float (with_trap trap ms) ≡ false
-in_trap None ms none = none
-in_trap (Some trap) ms none = no_float_put _ _ ms refl none
+in_fact : (fact : Fact) (ms : Members) → members_have_float ms ≡ false
+    → members_have_float (with_fact fact ms) ≡ false
+in_fact (Number word n) ms none = no_float_put word (number_data n) ms refl none
+in_fact (Words word text) ms none = no_float_put word (text_data text) ms refl none
 
-in_use : (used : Option ℕ) (ms : Members) → members_have_float ms ≡ false
-    → members_have_float (with_use used ms) ≡ false
-in_use None ms none = none
-in_use (Some line) ms none = no_float_put _ _ ms refl none
-
-in_origin : (origin : Option Origin) (ms : Members) → members_have_float ms ≡ false
-    → members_have_float (with_origin origin ms) ≡ false
-in_origin None ms none = none
-in_origin (Some origin) ms none = in_use origin.used _ (no_float_put _ _ ms refl none)
-
-in_number : (place : PlaceFacts) (ms : Members) → members_have_float ms ≡ false
-    → members_have_float (with_number place ms) ≡ false
-in_number place ms none =
-    no_float_put (codes "lane") (text_data place.lane)
-    (put (codes "instruction") (number_data place.instruction) ms) refl
-    (no_float_put (codes "instruction") (number_data place.instruction) ms refl none)
+in_facts : (facts : List Fact) (ms : Members) → members_have_float ms ≡ false
+    → members_have_float (with_facts facts ms) ≡ false
+in_facts [] ms none = none
+in_facts (fact ∷ facts) ms none = in_facts facts (with_fact fact ms) (in_fact fact ms none)
 
 in_place : (place : Option PlaceFacts) (ms : Members) → members_have_float ms ≡ false
     → members_have_float (with_place place ms) ≡ false
 in_place None ms none = none
 in_place (Some place) ms none =
-    in_trap place.trap _ (in_origin place.origin _ (in_number place ms none))
+    in_facts (trap_facts place.trap) _
+    (in_facts (line_facts place.origin) _ (in_facts (number_facts place) ms none))
 
-in_note : (note : Note) → has_float (reason_data note) ≡ false
-in_note note =
-    in_place (facts note).place (told_members note)
-    (both (has_float (lines_data note.text.items)) false (no_float_in_lines note.text.items) refl)
+in_note : (of : Option FarmPlan) (note : Note) → has_float (reason_data of note) ≡ false
+in_note of note =
+    in_place (facts note).place _
+    (in_facts (facts_in of note.told) (told_members note)
+    (both (has_float (lines_data note.text.items)) false (no_float_in_lines note.text.items) refl))
 
-in_notes : (notes : List Note) → has_float (reasons_data notes) ≡ false
-in_notes [] = refl
-in_notes (note ∷ notes) = both (has_float (reason_data note)) _ (in_note note) (in_notes notes)
+in_notes : (of : Option FarmPlan) (notes : List Note) → has_float (reasons_data of notes) ≡ false
+in_notes of [] = refl
+in_notes of (note ∷ notes) =
+    both (has_float (reason_data of note)) _ (in_note of note) (in_notes of notes)
 
 -- ---- verdicts
 
@@ -110,10 +101,11 @@ no_float_in_verdict (Err (Uneven name instruction)) = refl
 no_float_in_verdict (Err (Stuck names)) = both _ false (in_names (lists names.items)) refl
 no_float_in_verdict (Err Memory) = refl
 
-pub no_float_in_explained : (verdict : Result AcceptedPlan Refusal) (notes : List Note)
-    (warnings : List ℕ) → members_have_float (explained_members verdict notes warnings) ≡ false
-no_float_in_explained verdict notes warnings =
-    no_float_put (codes "reasons") (reasons_data notes)
-    (put (codes "warnings") (lines_data warnings) (verdict_members verdict)) (in_notes notes)
+pub no_float_in_explained : (of : Option FarmPlan) (verdict : Result AcceptedPlan Refusal)
+    (notes : List Note) (warnings : List ℕ)
+    → members_have_float (explained_members of verdict notes warnings) ≡ false
+no_float_in_explained of verdict notes warnings =
+    no_float_put (codes "reasons") (reasons_data of notes)
+    (put (codes "warnings") (lines_data warnings) (verdict_members verdict)) (in_notes of notes)
     (no_float_put (codes "warnings") (lines_data warnings) (verdict_members verdict)
     (no_float_in_lines warnings) (no_float_in_verdict verdict))

@@ -1,13 +1,14 @@
 -- Verdicts as objects, whose members stand in the order of their names. The project's own format.
--- Parameter: a an accepted plan.
+-- Parameters: a an accepted plan; of the universe and the plan that notes are on, if any.
 --
---   verdict_members verdict               the members of a verdict
---   explained_members                     the same with what explains it
---   check_line verdict                    the line of a verdict
---   explain_line verdict notes warnings   the line of a verdict with what explains it
-use Rattle.std.specs.Prelude.{ℕ, zero, suc, List, [], ◌∷◌, ◌++◌, length, codes, Result, Ok, Err}
+--   verdict_members verdict                  the members of a verdict
+--   explained_members                        the same with what explains it
+--   check_line verdict                       the line of a verdict
+--   explain_line of verdict notes warnings   the line of a verdict with what explains it
+use Rattle.std.specs.Prelude.{ℕ, zero, suc, List, [], ◌∷◌, ◌++◌, length, codes, Option, Result, Ok, Err}
 use Rattle.answer_json.specs.Texts.{answer_line, lines_data}
 use Rattle.farm_explain.specs.declared.note.Note.{Note}
+use Rattle.farm_input.specs.Planned.{FarmPlan}
 use Rattle.plan_model.specs.MayAt.{lane_cost}
 use Rattle.plan_model.specs.Plan.{count, lane}
 use Rattle.plan_verifier.specs.Accepted.{AcceptedPlan, known_rows}
@@ -43,14 +44,16 @@ verdict_members (Ok a) = accepted_members a
 verdict_members (Err refusal) = refusal_members refusal
 
 -- with the notes that explain it, and the lines of the warnings
-abbrev pub explained_members : Result AcceptedPlan Refusal → List Note → List ℕ → Members
-explained_members verdict notes warnings =
-    put (codes "reasons") (reasons_data notes)
+abbrev pub explained_members : Option FarmPlan → Result AcceptedPlan Refusal → List Note → List ℕ
+    → Members
+explained_members of verdict notes warnings =
+    put (codes "reasons") (reasons_data of notes)
     (put (codes "warnings") (lines_data warnings) (verdict_members verdict))
 
 abbrev pub check_line : Result AcceptedPlan Refusal → List ℕ
 check_line verdict = answer_line (object (verdict_members verdict))
 
-abbrev pub explain_line : Result AcceptedPlan Refusal → List Note → List ℕ → List ℕ
-explain_line verdict notes warnings =
-    answer_line (object (explained_members verdict notes warnings))
+abbrev pub explain_line : Option FarmPlan → Result AcceptedPlan Refusal → List Note → List ℕ
+    → List ℕ
+explain_line of verdict notes warnings =
+    answer_line (object (explained_members of verdict notes warnings))

@@ -2,10 +2,12 @@
 
 ghost use Rattle.std.specs.Prelude.{◌≡◌, ◌<◌, IfOk, length};
 ghost use Rattle.farm_json.specs.Verdicts as spec;
+ghost use Rattle.farm_json.specs.View.{read_view};
 ghost use Rattle.serde_json.specs.View.{members_view, view};
 
 use crate::reasons::reason_list;
 use crate::refusals::of_refusal;
+use crate::told::Farm;
 use answer_json::{line_list, text_value};
 use farm_explain::Note;
 use plan_verifier::{Accepted, Refusal};
@@ -80,15 +82,21 @@ pub fn of_verdict(
 /// [`AllocError`] where memory is refused.
 pub fn of_explained(
     alloc: Global,
+    farm: Option<Farm<'_>>,
     verdict: &Result<Accepted, Refusal>,
     notes: &[Note],
     warnings: &[u8],
 ) -> Result<Map<String, Value>, AllocError>
     ensures { IfOk result (λ members. members_view members.entries
-        ≡ spec.explained_members verdict.now notes.now warnings.now) }
+        ≡ spec.explained_members (read_view farm.entry) verdict.now notes.now warnings.now) }
 {
     let mut members = of_verdict(alloc, verdict)?;
     put(&mut members, alloc, "warnings", line_list(alloc, warnings)?)?;
-    put(&mut members, alloc, "reasons", reason_list(alloc, notes)?)?;
+    put(
+        &mut members,
+        alloc,
+        "reasons",
+        reason_list(alloc, farm, notes)?,
+    )?;
     Ok(members)
 }

@@ -1,11 +1,17 @@
 //! Notes as objects.
 
 ghost use Rattle.std.specs.Prelude.{◌≡◌, IfOk, OnOk};
+ghost use Rattle.std.specs.Option.{option_map};
 ghost use Rattle.farm_explain.specs.Notes.{place_facts};
+ghost use Rattle.farm_json.specs.Facts as facts;
+ghost use Rattle.farm_json.specs.Facts.{with_facts, with_place};
 ghost use Rattle.farm_json.specs.Reasons as spec;
+ghost use Rattle.farm_json.specs.View.{read_view};
 ghost use Rattle.serde_json.specs.View.{members_view, view};
 
-use answer_json::{line_list, text_value};
+use crate::facts::{put_number, put_text};
+use crate::told::{Farm, put_told};
+use answer_json::line_list;
 use farm_explain::{Note, NotePlace};
 use farm_universe::Trap;
 use plan_lines::Origin;
@@ -19,15 +25,10 @@ fn put_trap(
     trap: Option<Trap>,
 ) -> Result<(), AllocError>
     ensures { OnOk result (members_view members.new.entries
-        ≡ spec.with_trap trap (members_view members.old.entries)) }
+        ≡ with_facts (facts.trap_facts trap) (members_view members.old.entries)) }
 {
     match trap {
-        Some(trap) => put(
-            members,
-            alloc,
-            "trap",
-            Value::try_from_str(alloc, trap.text())?,
-        ),
+        Some(trap) => put_text(members, alloc, "trap", trap.text().as_bytes()),
         None => Ok(()),
     }
 }
@@ -39,47 +40,45 @@ fn put_use(
     used: Option<u32>,
 ) -> Result<(), AllocError>
     ensures { OnOk result (members_view members.new.entries
-        ≡ spec.with_use used (members_view members.old.entries)) }
+        ≡ with_facts (facts.use_facts used) (members_view members.old.entries)) }
 {
     match used {
-        Some(line) => put(members, alloc, "use_line", Value::from(line)),
+        Some(line) => put_number(members, alloc, "use_line", u64::from(line)),
         None => Ok(()),
     }
 }
 
-/// Puts an instruction's lines in the plan among members.
-fn put_origin(
+/// Puts an instruction's lines in the plan among members, where they are known.
+fn put_lines(
     members: &mut Map<String, Value>,
     alloc: Global,
     origin: Option<Origin>,
 ) -> Result<(), AllocError>
     ensures { OnOk result (members_view members.new.entries
-        ≡ spec.with_origin origin (members_view members.old.entries)) }
+        ≡ with_facts (facts.line_facts origin) (members_view members.old.entries)) }
 {
     let Some(origin) = origin else {
         return Ok(());
     };
-    put(members, alloc, "plan_line", Value::from(origin.line))?;
+    put_number(members, alloc, "plan_line", u64::from(origin.line))?;
     put_use(members, alloc, origin.used)
 }
 
-/// Puts an instruction, and what is known of it, among members.
+/// Puts an instruction, and what is known of it, among members, where there is one.
 fn put_place(
     members: &mut Map<String, Value>,
     alloc: Global,
-    place: &NotePlace,
+    place: &Option<NotePlace>,
 ) -> Result<(), AllocError>
     ensures { OnOk result (members_view members.new.entries
-        ≡ spec.with_instruction (place_facts place.now) (members_view members.old.entries)) }
+        ≡ with_place (option_map place_facts place.now) (members_view members.old.entries)) }
 {
-    put(
-        members,
-        alloc,
-        "instruction",
-        Value::from(place.instruction),
-    )?;
-    put(members, alloc, "lane", text_value(alloc, &place.lane)?)?;
-    put_origin(members, alloc, place.origin)?;
+    let Some(place) = place else {
+        return Ok(());
+    };
+    put_number(members, alloc, "instruction", place.instruction)?;
+    put_text(members, alloc, "lane", &place.lane)?;
+    put_lines(members, alloc, place.origin)?;
     put_trap(members, alloc, place.trap)
 }
 
@@ -96,27 +95,32 @@ fn told_members(alloc: Global, note: &Note) -> Result<Map<String, Value>, AllocE
 }
 
 /// A note as an object.
-fn reason_value(alloc: Global, note: &Note) -> Result<Value, AllocError>
-    ensures { IfOk result (λ value. view value ≡ spec.reason_data note.now) }
+fn reason_value(alloc: Global, farm: Option<Farm<'_>>, note: &Note) -> Result<Value, AllocError>
+    ensures { IfOk result (λ value. view value
+        ≡ spec.reason_data (read_view farm.entry) note.now) }
 {
     let mut members = told_members(alloc, note)?;
-    if let Some(place) = &note.place {
-        put_place(&mut members, alloc, place)?;
-    }
+    put_told(&mut members, alloc, farm, note.told)?;
+    put_place(&mut members, alloc, &note.place)?;
     Ok(Value::Object(members))
 }
 
-/// Gives notes as a list of objects.
+/// Gives notes on a farm as a list of objects; on texts that cannot be read there is none.
 ///
 /// # Errors
 ///
 /// [`AllocError`] where memory is refused.
-pub fn reason_list(alloc: Global, notes: &[Note]) -> Result<Value, AllocError>
-    ensures { IfOk result (λ value. view value ≡ spec.reasons_data notes.now) }
+pub fn reason_list(
+    alloc: Global,
+    farm: Option<Farm<'_>>,
+    notes: &[Note],
+) -> Result<Value, AllocError>
+    ensures { IfOk result (λ value. view value
+        ≡ spec.reasons_data (read_view farm.entry) notes.now) }
 {
     let mut values = Vec::new(alloc);
     for note in notes {
-        values.push(reason_value(alloc, note)?)?;
+        values.push(reason_value(alloc, farm, note)?)?;
     }
     Ok(Value::Array(values))
 }

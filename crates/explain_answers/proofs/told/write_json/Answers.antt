@@ -7,13 +7,14 @@ use Rattle.farm_json.specs.Verdicts.{check_line, explain_line}
 
 pub returns-in-Ok : goal.returns-in-Ok
 returns-in-Ok g c =
-    let verdict = c.args.verdict.now in
+    let e = c.args.explanation.now in
+    let verdict = e.verdict in
     answered-by (IsJust c.as_slice-in-Ok.result.now c.status_of.result)
-    (TellsSome true verdict c.args.notes.now) _ _ _
+    (TellsSome true e c.args.notes.now) _ _ _
     (λ text status is. inl (
       is.0 ∙ c.as_slice-in-Ok.ensures.value
           ∙ c.in-Ok.ensures
-          ∙ (λ k. explain_line verdict (c.as_slice.ensures.value k)
+          ∙ (λ k. explain_line (c.farm_of.ensures k) verdict (c.as_slice.ensures.value k)
           (c.as_slice-2.ensures.value k)),
       is.1 ∙ c.status_of.ensures ∙ ap status_of c.is_ok.ensures.value,
     ))
@@ -21,7 +22,6 @@ returns-in-Ok g c =
 
 pub returns-in-Err : goal.returns-in-Err
 returns-in-Err g c =
-    let verdict = c.args.verdict.now in
-    answered-by (IsJust (check_line verdict) no_status) (TellsSome true verdict c.args.notes.now) _
-    _ _
+    let e = c.args.explanation.now in
+    answered-by (IsJust (check_line e.verdict) no_status) (TellsSome true e c.args.notes.now) _ _ _
     (λ text status is. inr is) c.write_json_alone.ensures

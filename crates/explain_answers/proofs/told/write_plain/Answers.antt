@@ -8,15 +8,16 @@ use Rattle.farm_report.specs.VerdictText.{verdict_text}
 
 pub returns-in-Ok : goal.returns-in-Ok
 returns-in-Ok g c =
-    let verdict = c.args.verdict.now in
+    let e = c.args.explanation.now in
+    let verdict = e.verdict in
     answered-by
     (IsJust (verdict_text verdict ++ c.behind_head.result.now) (status_of (is_ok verdict)))
-    (TellsSome false verdict c.args.notes.now) _ _ _
+    (TellsSome false e c.args.notes.now) _ _ _
     (λ text status is. inl ((c.behind_head.result.now, is.0), is.1)) c.write_explained.ensures
 
 pub returns-in-Err : goal.returns-in-Err
 returns-in-Err g c =
-    let verdict = c.args.verdict.now in
-    answered-by (IsJust (verdict_text verdict) no_status) (TellsSome false verdict c.args.notes.now)
-    _ _ _
+    let e = c.args.explanation.now in
+    answered-by (IsJust (verdict_text e.verdict) no_status) (TellsSome false e c.args.notes.now) _ _
+    _
     (λ text status is. inr is) c.write_plain_alone.ensures
