@@ -25,7 +25,7 @@ pub use answers::{
 pub use certificates::{answer_cert, answer_verify_cert, check_text};
 pub use errors::{say, tell};
 pub use farm_run::{RunFiles, answer_end, answer_run, run_files};
-pub use fault::OutsideFault;
+pub use fault::{OutsideFault, Unread};
 pub use files::{FileTexts, read_files};
 pub use source::{MOST_FILE, Source, read_file, read_input};
 pub use status::{FINE, OUTSIDE, REFUSED, WRONG_WORDS};
