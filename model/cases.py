@@ -13,7 +13,7 @@ from pathlib import Path
 import certificates
 from core import TRAPS, Farm, step
 from drives import some_requests
-from files import REASONS, Unread
+from files import REASONS, Unread, none_line
 from json_answers import member_line
 from plans import read_plan
 from imports import HEAD
@@ -315,9 +315,12 @@ def schedule_of(word):
     return read_schedule("" if word == '""' else word)
 
 
-def unread_lines(fault):
-    """What is answered where a file cannot be read."""
-    return ["status 3", f"! portfarm: {fault}"]
+def unread_lines(fault, words, path):
+    """What is answered where a file cannot be read; with what stands at a path of the answer, where one is given."""
+    told = none_line(fault, words)
+    if told and path is not None:
+        told = member_line([told], path)
+    return ["status 3", *([f"| {told}"] if told else []), f"! portfarm: {fault}"]
 
 
 def on_words(machine, question):
@@ -334,7 +337,7 @@ def on_words(machine, question):
             return on_import(files, stops, words[1:])
         return on_farm_words(files, stops, words, path)
     except Unread as fault:
-        return unread_lines(fault)
+        return unread_lines(fault, words, path)
 
 
 def on_farm_words(files, stops, words, path):

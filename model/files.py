@@ -3,6 +3,7 @@
 import sys
 
 from fault_notes import escaped
+from json_answers import json_line
 
 MOST_INPUT = 300_000_000
 REASONS = {
@@ -18,6 +19,12 @@ class Unread(Exception):
     def __init__(self, path, reason=None):
         name = "standard input" if path == "-" else escaped(path)
         super().__init__(f"cannot read {name}: {reason}" if reason else f"cannot read {name}")
+
+
+def none_line(fault, words):
+    """What is answered as JSON where a file cannot be read, if that is asked for; else None."""
+    asks = words[:1] in (["check"], ["explain"]) and "--json" in words
+    return json_line({"verdict": "none", "error": str(fault)}) if asks else None
 
 
 def bytes_at(path):

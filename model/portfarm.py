@@ -32,7 +32,7 @@ from drives import drive, first, run_name
 from explain import Note, left_lines, stuck_notes, unsafe_notes, waits_notes
 from farm_warnings import warnings
 from fault_notes import fault_lines, shown
-from files import Unread, all_input, text_of
+from files import Unread, all_input, none_line, text_of
 from imports import HEAD, make_texts
 from imports import Refused as NotMade
 from json_answers import json_line, lines_of, reasons_of, verdict_members
@@ -321,6 +321,8 @@ def run(words):
     try:
         return main(words)
     except Unread as fault:
+        told = none_line(fault, words)
+        sys.stdout.write(f"{told}\n" if told else "")
         print(f"portfarm: {fault}", file=sys.stderr)
         return 3
 
