@@ -1,7 +1,6 @@
 //! What is written where a verdict is asked for as JSON, and there is none.
 
 ghost use Rattle.std.specs.Prelude.{◌≡◌, is_err};
-ghost use Rattle.bounded_read.specs.Reasons.{words_of};
 ghost use Rattle.farm_answers.specs.NoneLines.{SaysNone, TellsNone, none_line, quoted_end};
 ghost use Rattle.report_sink.specs.Sinks.{IsWritten};
 
