@@ -13,6 +13,7 @@ from pathlib import Path
 import certificates
 from core import TRAPS, Farm, step
 from drives import some_requests
+from files import REASONS, Unread, none_line
 from json_answers import member_line
 from plans import read_plan
 from imports import HEAD
@@ -25,6 +26,8 @@ from verdict import Rows, count
 CRATES = Path(__file__).resolve().parent.parent / "crates"
 # What these ask for is the parser's own text, or how an output fails: no rule of a farm.
 NOT_OF_FARMS = ("failing", "heads", "mute", "narrow", "stuck")
+# Why a file cannot be read, by the first word of its heading.
+STOPS = {"broken": None, "closed": REASONS[PermissionError], "folder": REASONS[IsADirectoryError]}
 
 
 class Case:
@@ -261,20 +264,35 @@ def on_certificate(texts, text, question):
     return written if word == "print" else [f"{sum(len(line) + 1 for line in written)} bytes"]
 
 
+def heading_of(heading):
+    """The name of a file that a heading tells, empty for standard input, and in one word why it cannot be read."""
+    word, _, rest = heading.partition(" ")
+    name = rest if word in STOPS else heading
+    return name.removeprefix("file ").removeprefix("input"), word if word in STOPS else None
+
+
 def files_of(machine):
-    """The files of a machine, standard input as `-`, and the names of those that are broken."""
-    files, broken, current = {"": ""}, [], ""
+    """The files of a machine, standard input as `-`, and of those that cannot be read why, where that has a name."""
+    files, stops, current = {"": ""}, {}, ""
     for line in re.findall("[^\n]*\n|[^\n]+", machine):
         if line.startswith("%% "):
-            current = line[3:].removesuffix("\n").removeprefix("broken ").removeprefix("file ").removeprefix("input")
-            broken += [current] if line.startswith("%% broken") else []
+            current, stop = heading_of(line[3:].removesuffix("\n"))
             # of two files of a name the first counts
             current = current if current not in files or current == "" else None
+            if stop and current is not None:
+                stops[current or "-"] = STOPS[stop]
             files[current] = ""
         else:
             files[current] += line
     files["-"] = files[""]
-    return files, broken
+    return files, stops
+
+
+def judge_files(files, stops, paths):
+    """Ends where one of these files cannot be read: the first."""
+    for path in paths:
+        if path not in files or path in stops:
+            raise Unread(path, stops.get(path, REASONS[FileNotFoundError]))
 
 
 def on_drive(case):
@@ -290,42 +308,60 @@ def on_drive(case):
     return [f"not asked: {it}" for it in others] or case.wanted.split("\n")[:-1]
 
 
-def schedule_of(files, word):
-    """The turns of a schedule, or the text of its file; None where it is none or not there."""
-    if word and word.startswith("@"):
-        return None if word == "@-" else files.get(word[1:])
-    return None if word is None else read_schedule("" if word == '""' else word)
+def schedule_of(word):
+    """The turns of a schedule, or the word that names its file; None where it is none."""
+    if word.startswith("@"):
+        return word
+    return read_schedule("" if word == '""' else word)
+
+
+def unread_lines(fault, words, path):
+    """What is answered where a file cannot be read; with what stands at a path of the answer, where one is given."""
+    told = none_line(fault, words)
+    if told and path is not None:
+        told = member_line([told], path)
+    return ["status 3", *([f"| {told}"] if told else []), f"! portfarm: {fault}"]
 
 
 def on_words(machine, question):
-    """Answers `run WORDS` and `member PATH WORDS`, where the words name files that are there; else None."""
+    """Answers `run WORDS` and `member PATH WORDS`; None for words that the model does not judge."""
     word, *words = question.split(" ")
     path = words.pop(0).replace('""', "") if word == "member" else None
-    files, broken = files_of(machine)
-    if words[:1] == ["draft"]:
-        return None if word != "run" or broken else on_draft(files, words[1:])
-    if words[:1] == ["import"]:
-        return None if word != "run" or broken else on_import(files, words[1:])
+    files, stops = files_of(machine)
+    if word not in ("run", "member"):
+        return None
+    try:
+        if words[:1] == ["draft"]:
+            return on_draft(files, stops, words[1:])
+        if words[:1] == ["import"]:
+            return on_import(files, stops, words[1:])
+        return on_farm_words(files, stops, words, path)
+    except Unread as fault:
+        return unread_lines(fault, words, path)
+
+
+def on_farm_words(files, stops, words, path):
+    """Answers other words; with what stands at a path of the answer, where one is given."""
     if words[:2] == ["explain", "--cert"] and len(words) > 2:
         words = ["explain --cert", *words[3:], words[2]]
     options = [it for it in words[1:] if it in ("--json", "--bars", "--full")]
     words = [it for it in words if it and it not in options]
     schedule = words.pop(2) if words[:2] == ["step", "--schedule"] and len(words) > 2 else None
     paths = [it for it in words[1:] if it != "--schedule"]
+    by_file = [schedule[1:]] if schedule and schedule.startswith("@") else []
     four = ("check", "explain", "list", "cert", "step", "timeline", "graph")
     wanted = (dict.fromkeys(four, 4) | {"verify-cert": 5, "explain --cert": 5}).get(words[0] if words else "")
-    if word not in ("run", "member") or broken or not all(name in files for name in paths) or words and len(paths) != wanted:
+    if words and len(paths) != wanted or [*paths, *by_file].count("-") > 1 or by_file == ["-"]:
         return None
-    if paths.count("-") > 1:
-        return None
+    if schedule and schedule_of(schedule) is None:
+        return ["status 2", "! portfarm: bad schedule"]
+    judge_files(files, stops, [*paths, *by_file] if words else ["-"])
     if not words:
         written, status = answer("check", cut_input(files[""]))
     else:
         more = files[paths[4]] if len(paths) == 5 else " ".join(options) or None
         if words[0] == "step":
-            more = schedule_of(files, schedule)
-            if more is None:
-                return None
+            more = files[by_file[0]] if by_file else schedule_of(schedule)
         try:
             written, status = answer(words[0], dict(zip(FILES, (files[name] for name in paths))), more)
         except BadSchedule as fault:
@@ -335,30 +371,35 @@ def on_words(machine, question):
     return [f"status {status}", *(f"| {line}" for line in written)]
 
 
-def on_draft(files, words):
-    """What `draft` answers to files, on both outputs; None for words or files that the model does not judge."""
+def on_draft(files, stops, words):
+    """What `draft` answers to files, on both outputs; None for words that the model does not judge."""
     read = read_draft_words(words)
-    if read is None or read[2].count("-") > 1 or not all(name in files for name in read[2]):
+    if read is None or read[2].count("-") > 1:
         return None
     flags, lanes, paths = read
+    judge_files(files, stops, paths)
     texts = dict(zip(FILES, (files[name] for name in paths)))
     written, status, told = drafted(texts, lanes, flags)
     return [f"status {status}", *(f"| {line}" for line in written), *(f"! {line}" for line in told)]
 
 
-def on_import(files, words):
+def on_import(files, stops, words):
     """What `import` answers to files, and what it does with them; None for words or files that the model does not judge."""
     given, rest, words = {"--archive": [], "--packages": [], "--sources": []}, [], list(words)
     while words:
         word = words.pop(0)
         (given[word].append(words.pop(0)) if word in given else rest.append(word))
-    paths = [rest[-2], *(path for found in given.values() for path in found)]
-    if paths.count("-") > 1 or not all(path in files for path in paths):
+    paths = [*(path for found in given.values() for path in found), rest[-2]]
+    written = [f"{rest[-1]}/{name}.new" for name in FILES]
+    if paths.count("-") > 1 or any(path in stops for path in written):
         return None
+    judge_files(files, stops, paths)
     archive, packages, sources = ([(path, files[path]) for path in found] for found in given.values())
     texts, told, status = told_import(files[rest[-2]], {"--archive": archive, "--packages": packages, "--sources": sources})
     for name in texts or ():
         path = f"{rest[-1]}/{name}"
+        if path in stops and "--force" not in rest:
+            raise Unread(path, stops[path])
         if path in files and not files[path].startswith(HEAD) and "--force" not in rest:
             return ["status 3", f"! portfarm: {path}: not made by portfarm import; --force replaces it"]
     done = [f"made {rest[-1]}"] if texts else []

@@ -54,14 +54,17 @@ def needs(universe):
 
 
 def unasked_profiles(universe, recipes):
-    """The profiles of recipes that no build relation of a source names."""
+    """The profiles of recipes that no build relation of a source names, each once."""
     asked = {word for it in needs(universe) for items in it.profiles for word, _ in items}
-    for fields in recipes:
-        for line, name, value in fields:
-            if is_one_of(name, ["Profiles"]):
-                for word in pieces(value):
-                    if word not in asked:
-                        yield f"farm line {line}: no source asks for the profile {word}"
+    named = [it for fields in recipes for it in fields if is_one_of(it[1], ["Profiles"])]
+    lines_of = {}
+    for line, _, value in named:
+        for word in pieces(value):
+            lines_of.setdefault(word, []).append(line)
+    for word, found in lines_of.items():
+        if word not in asked:
+            more = f", named {len(found)} times, first here" if len(found) > 1 else ""
+            yield f"farm line {found[0]}: no source asks for the profile {word}{more}"
 
 
 def forgotten_names(universe):

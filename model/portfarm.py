@@ -32,6 +32,7 @@ from drives import drive, first, run_name
 from explain import Note, left_lines, stuck_notes, unsafe_notes, waits_notes
 from farm_warnings import warnings
 from fault_notes import fault_lines, shown
+from files import Unread, all_input, none_line, text_of
 from imports import HEAD, make_texts
 from imports import Refused as NotMade
 from json_answers import json_line, lines_of, reasons_of, verdict_members
@@ -223,13 +224,6 @@ def draft_words(words):
     return status
 
 
-def text_of(path):
-    if path == "-":
-        return sys.stdin.buffer.read().decode("latin-1")
-    with open(path, "rb") as file:
-        return file.read().decode("latin-1")
-
-
 def told_import(wish, given):
     """The texts that are made, or None; the lines that tell of them or of a refusal; the status."""
     try:
@@ -290,7 +284,7 @@ def main(words):
     if words[:1] == ["import"]:
         return import_words(words[1:])
     if not words:
-        command, texts = "check", cut_input(sys.stdin.buffer.read().decode("latin-1"))
+        command, texts = "check", cut_input(all_input())
     else:
         command, *rest = words
         by_file = command == "step" and rest[:1] == ["--schedule"] and rest[1:2] and rest[1].startswith("@")
@@ -322,5 +316,16 @@ def main(words):
     return status
 
 
+def run(words):
+    """The same, also where a file cannot be read."""
+    try:
+        return main(words)
+    except Unread as fault:
+        told = none_line(fault, words)
+        sys.stdout.write(f"{told}\n" if told else "")
+        print(f"portfarm: {fault}", file=sys.stderr)
+        return 3
+
+
 if __name__ == "__main__":
-    sys.exit(main(sys.argv[1:]))
+    sys.exit(run(sys.argv[1:]))

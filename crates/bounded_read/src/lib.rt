@@ -1,15 +1,20 @@
-//! The bytes of a reader up to a bound, put behind each other piece by piece.
+//! The bytes of a reader up to a bound, put behind each other piece by piece; and why a file cannot be
+//! read.
 //!
-//! Proved: of a reader whose bytes are known `read_up_to` gives the first of them, up to the bound.
-//! Not proved: that it fails only where the reader or memory does.
+//! Proved: of a reader whose bytes are known `read_up_to` gives the first of them, up to the bound;
+//! which cause the kind of an error tells, and its words. Not proved: that it fails only where the
+//! reader or memory does.
 #![tactic(auto)]
 
 ghost use Rattle.std.specs.Prelude.{◌≡◌, ◌<◌, ◌++◌, false, take, length, IfOk, OnOk, IfSome};
 ghost use Rattle.std.specs.Io.KnownBytes.{IsAtEnd};
 ghost use Rattle.bounded_read.specs.Reading.{IsReadOn};
 
+mod why;
+
 use std::alloc::{AllocError, Global};
 use std::io::{self, ErrorKind, Read};
+pub use why::Unreadable;
 
 /// How many bytes are read at once.
 const PIECE: usize = 65_536;

@@ -3,7 +3,8 @@
 use crate::places::{Place, count_before, instructions, row_behind};
 use bit_rows::Row;
 use cert_text::Certificate;
-use deb_relation::{Entry, view_relation};
+use deb_relation::view_relation;
+use farm_explain::{is_initial, is_known as is_variant, publication, satisfies};
 use farm_universe::{Universe, Variant};
 use plan_asm::{Instruction, Plan};
 
@@ -49,29 +50,13 @@ fn is_known(claim: Claim<'_>, lane: usize, first: usize, variant: Variant) -> bo
 
 /// Tells whether a variant is among outputs.
 fn is_among(outputs: &[Variant], variant: Variant) -> bool {
-    outputs.iter().any(|output| output.name == variant.name && output.bit == variant.bit)
-}
-
-/// The instruction that publishes a variant.
-fn publication(claim: Claim<'_>, variant: Variant) -> Option<Place> {
-    for lane in 0..claim.plan.lanes() {
-        let all = instructions(claim.plan, lane);
-        for at in 0..all.len() {
-            if let Instruction::Publish(recipe) = all[at] {
-                if is_among(claim.universe.outputs(recipe), variant) {
-                    let instruction = at + 1;
-                    return Some(Place { lane, instruction });
-                }
-            }
-        }
-    }
-    None
+    outputs.iter().any(|output| *output == variant)
 }
 
 /// The outputs of a publish up to one of them.
 fn outputs_up_to(outputs: &[Variant], last: Variant) -> &[Variant] {
     for at in 0..outputs.len() {
-        if outputs[at].name == last.name && outputs[at].bit == last.bit {
+        if outputs[at] == last {
             return &outputs[..at + 1];
         }
     }
@@ -81,57 +66,31 @@ fn outputs_up_to(outputs: &[Variant], last: Variant) -> &[Variant] {
 /// Tells whether a variant is in the archive wherever another one is, that is not of the initial
 /// archive.
 fn comes_with(claim: Claim<'_>, variant: Variant, other: Variant) -> bool {
-    let Some(place) = publication(claim, other) else {
+    let Some(found) = publication(claim.universe, claim.plan, other) else {
         return false;
     };
-    let Some(Instruction::Publish(recipe)) = instructions(claim.plan, place.lane).get(
-        place.instruction.saturating_sub(1),
-    ) else {
-        return false;
-    };
+    let ahead = found.instruction.saturating_sub(1);
     is_among(
-        outputs_up_to(claim.universe.outputs(*recipe), other),
+        outputs_up_to(claim.universe.outputs(found.recipe), other),
         variant,
-    ) || is_known(
-        claim,
-        place.lane,
-        place.instruction.saturating_sub(1),
-        variant,
-    )
+    ) || is_known(claim, found.lane, ahead, variant)
 }
 
 /// Tells whether a variant may be in the archive ahead of an instruction.
 fn may_be_there(claim: Claim<'_>, place: Place, variant: Variant) -> bool {
-    match publication(claim, variant) {
+    match publication(claim.universe, claim.plan, variant) {
         Some(found) => found.lane != place.lane || found.instruction < place.instruction,
         None => is_initial(claim.universe, variant),
     }
 }
 
-fn is_initial(universe: &Universe, variant: Variant) -> bool {
-    variant.name < universe.names()
-        && variant.bit < 64
-        && universe.initial(variant.name) & 1 << variant.bit != 0
-}
-
-/// Tells whether a variant satisfies an entry.
-fn satisfies(universe: &Universe, variant: Variant, entry: &Entry) -> bool {
-    variant.name < universe.names()
-        && variant.bit < universe.variants(variant.name)
-        && entry
-            .alternatives()
-            .iter()
-            .any(|atom| universe.satisfies(variant, atom))
-}
-
 /// Tells whether a lane goes on behind an instruction by this variant.
 fn lets_on(universe: &Universe, instruction: &Instruction, variant: Variant) -> bool {
     match instruction {
-        Instruction::Wait(entry) => satisfies(universe, variant, entry),
+        Instruction::Wait(entry) => satisfies(universe, entry, variant),
         Instruction::When { name, relation } => {
             variant.name == *name
-                && variant.name < universe.names()
-                && variant.bit < universe.variants(variant.name)
+                && is_variant(universe, variant)
                 && universe.is_wanted(variant, view_relation(relation))
         }
         _ => false,

@@ -12,13 +12,24 @@ use std::cell::Cell;
 use std::io::{self, BufReader, ErrorKind, Read};
 use std::sync::Wait;
 
+/// How a file of a machine fails.
+#[derive(Clone, Copy, PartialEq, Eq)]
+enum Fails {
+    Never,
+    /// It cannot be opened.
+    Opened,
+    /// A read behind its bytes fails.
+    Read,
+    /// It is a folder, of which a read fails.
+    Folder,
+}
+
 /// A file of this name, or standard input, whose name is empty.
 #[derive(Drop)]
 struct Part<'a> {
     name: &'a [u8],
     text: Vec<u8>,
-    /// Whether a read behind its bytes fails.
-    is_broken: bool,
+    fails: Fails,
 }
 
 /// The file of a machine whose error output is a terminal.
@@ -30,13 +41,24 @@ pub struct Parts<'a> {
     parts: Vec<Part<'a>>,
 }
 
-/// The name that a heading tells, as `file plan` or `broken file plan`, and whether it is broken.
-fn heading_of(heading: &[u8]) -> (&[u8], bool) {
-    let (part, is_broken) = match heading.strip_prefix(b"broken ") {
-        Some(part) => (part, true),
-        None => (heading, false),
-    };
-    (part.strip_prefix(b"file ").unwrap_or(b""), is_broken)
+/// What a heading has ahead of a file's name, by how the file fails; standard input has none.
+const MARKS: [(&[u8], Fails); 6] = [
+    (b"file ", Fails::Never),
+    (b"broken file ", Fails::Read),
+    (b"broken input", Fails::Read),
+    (b"closed file ", Fails::Opened),
+    (b"folder input", Fails::Folder),
+    (b"folder ", Fails::Folder),
+];
+
+/// The name that a heading tells, as `file plan` or `broken file plan`, and how that fails.
+fn heading_of(heading: &[u8]) -> (&[u8], Fails) {
+    for (mark, fails) in &MARKS {
+        if let Some(name) = heading.strip_prefix(*mark) {
+            return (name, *fails);
+        }
+    }
+    (b"", Fails::Never)
 }
 
 /// Reads what a case gives to a machine: behind a line `%% file NAME` that file, behind
@@ -51,13 +73,9 @@ pub fn parts_of(alloc: Global, input: &[u8]) -> Result<Parts<'_>, AllocError> {
     while let Some((line, behind)) = next_line(rest) {
         rest = behind;
         if let Some(heading) = line.strip_prefix(b"%% ") {
-            let (name, is_broken) = heading_of(heading);
+            let (name, fails) = heading_of(heading);
             let text = Vec::new(alloc);
-            parts.push(Part {
-                name,
-                text,
-                is_broken,
-            })?;
+            parts.push(Part { name, text, fails })?;
         } else if let Some(part) = parts.last_mut() {
             part.text.extend_from_slice(line)?;
             part.text.extend_from_slice(b"\n")?;
@@ -82,15 +100,16 @@ impl Parts<'_> {
 #[derive(Drop)]
 pub struct TextReader<'a> {
     rest: &'a [u8],
-    is_broken: bool,
+    fails: Fails,
 }
 
 impl Read for TextReader<'_> {
     fn read(&mut self, buf: &mut [u8]) -> io::Result<usize> {
-        if self.rest.is_empty() && self.is_broken {
-            return Err(io::Error::from(ErrorKind::PermissionDenied));
+        match self.fails {
+            Fails::Folder => Err(io::Error::from(ErrorKind::IsADirectory)),
+            Fails::Read if self.rest.is_empty() => Err(io::Error::from(ErrorKind::Other)),
+            _ => self.rest.read(buf),
         }
-        self.rest.read(buf)
     }
 }
 
@@ -137,7 +156,7 @@ impl<'a, D> Machine<'a, D> {
     /// Fails where the file of this name is broken.
     fn judge(&self, path: &str) -> io::Result<()> {
         match self.part(path.as_bytes()) {
-            Some(file) if file.is_broken => Err(io::Error::from(ErrorKind::PermissionDenied)),
+            Some(file) if file.fails != Fails::Never => Err(io::Error::from(ErrorKind::Other)),
             _ => Ok(()),
         }
     }
@@ -147,7 +166,7 @@ impl<'a, D> Machine<'a, D> {
             if part.name == name {
                 return Some(TextReader {
                     rest: part.text.as_slice(),
-                    is_broken: part.is_broken,
+                    fails: part.fails,
                 });
             }
         }
@@ -183,6 +202,9 @@ impl<'a, D> Source for Machine<'a, D> {
 
     fn open(&self, path: &str) -> io::Result<TextReader<'a>> {
         match self.part(path.as_bytes()) {
+            Some(file) if file.fails == Fails::Opened => {
+                Err(io::Error::from(ErrorKind::PermissionDenied))
+            }
             Some(file) => Ok(file),
             None => Err(io::Error::from(ErrorKind::NotFound)),
         }
@@ -195,7 +217,7 @@ impl<'a, D> Source for Machine<'a, D> {
     fn input(&self) -> TextReader<'a> {
         self.part(b"").unwrap_or(TextReader {
             rest: b"",
-            is_broken: false,
+            fails: Fails::Never,
         })
     }
 }

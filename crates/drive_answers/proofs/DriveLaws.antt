@@ -174,10 +174,10 @@ unless_driven Names R A S old new before after (Err WriteFailed) is = is
 unless_driven Names R A S old new before after (Err CutShort) is = is
 unless_driven Names R A S old new before after (Err (BadSchedule note)) is = is
 unless_driven Names R A S old new before after (Err OutOfMemory) is = is
-unless_driven Names R A S old new before after (Err (CannotRead name)) (inl is) = absurd is
-unless_driven Names R A S old new before after (Err (CannotRead name)) (inr (inl is)) =
+unless_driven Names R A S old new before after (Err (CannotRead unread)) (inl is) = absurd is
+unless_driven Names R A S old new before after (Err (CannotRead unread)) (inr (inl is)) =
     absurd is.1
-unless_driven Names R A S old new before after (Err (CannotRead name)) (inr (inr is)) =
+unless_driven Names R A S old new before after (Err (CannotRead unread)) (inr (inr is)) =
     let differ = is.0 in absurd cc
 
 -- a drive of texts is one of their files
@@ -224,7 +224,7 @@ module _ (held : List ℕ → Option (List ℕ)) (kept : Option (List ℕ)) (pat
         is.2,
         subst (λ end. IsWritten before end is.1) (sym same) is.3,
       ))
-  drives_before old new before after later (Err (CannotRead name)) same is = is
+  drives_before old new before after later (Err (CannotRead unread)) same is = is
   drives_before old new before after later (Err OutOfMemory) same is =
       drive_before refuses ends (stops old new) old new before after later OutOfMemory is
   drives_before old new before after later (Err CutShort) same is =

@@ -15,7 +15,7 @@ answered-by A B old new (Err WriteFailed) by is = (is.0, is.1, by is.0 is.1 is.2
 answered-by A B old new (Err CutShort) by is = (is.0, by is.0 no_status is.1, is.2, is.3)
 answered-by A B old new (Err (BadSchedule note)) by is = (by [] WRONG_WORDS is.0, is.1)
 answered-by A B old new (Err OutOfMemory) by is = is
-answered-by A B old new (Err (CannotRead name)) by is = is
+answered-by A B old new (Err (CannotRead unread)) by is = is
 
 -- what is answered to texts that were read
 pub unless-answered : (Names : List ℕ → Type 0) (A : List ℕ → ℕ → Type 0) (old new : SinkState)
@@ -26,4 +26,4 @@ unless-answered Names A old new (Err WriteFailed) is = is
 unless-answered Names A old new (Err CutShort) is = is
 unless-answered Names A old new (Err (BadSchedule note)) is = is
 unless-answered Names A old new (Err OutOfMemory) is = is
-unless-answered Names A old new (Err (CannotRead name)) is = absurd is
+unless-answered Names A old new (Err (CannotRead unread)) is = absurd is

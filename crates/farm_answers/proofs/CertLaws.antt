@@ -37,8 +37,8 @@ unless-certified Names A old new (Err outside.WriteFailed) is = is
 unless-certified Names A old new (Err outside.CutShort) is = is
 unless-certified Names A old new (Err (outside.BadSchedule note)) is = is
 unless-certified Names A old new (Err outside.OutOfMemory) is = is
-unless-certified Names A old new (Err (outside.CannotRead name)) (inl is) = absurd is
-unless-certified Names A old new (Err (outside.CannotRead name)) (inr cut) =
+unless-certified Names A old new (Err (outside.CannotRead unread)) (inl is) = absurd is
+unless-certified Names A old new (Err (outside.CannotRead unread)) (inr cut) =
     let differ = cut.0 in absurd cc
 
 -- ---- what is written of a certificate is its answer

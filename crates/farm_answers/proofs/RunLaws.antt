@@ -40,8 +40,8 @@ unless-ended Names A S old new before after (Err WriteFailed) is = is
 unless-ended Names A S old new before after (Err CutShort) is = is
 unless-ended Names A S old new before after (Err (BadSchedule note)) is = is
 unless-ended Names A S old new before after (Err OutOfMemory) is = is
-unless-ended Names A S old new before after (Err (CannotRead name)) (inl is) = absurd is
-unless-ended Names A S old new before after (Err (CannotRead name)) (inr is) =
+unless-ended Names A S old new before after (Err (CannotRead unread)) (inl is) = absurd is
+unless-ended Names A S old new before after (Err (CannotRead unread)) (inr is) =
     let differ = is.1 in absurd cc
 
 -- a gate that never gives up stops no lane
@@ -94,7 +94,7 @@ module _ (held : List ℕ → Option (List ℕ)) (paths : Paths) where
         is.3,
         subst (λ end. IsWritten before end is.2) (sym same) is.4,
       )
-  runs-before old new before after later (Err (CannotRead name)) same is = is
+  runs-before old new before after later (Err (CannotRead unread)) same is = is
   runs-before old new before after later (Err OutOfMemory) same is =
       ended-before answers stops old new before after later OutOfMemory is
   runs-before old new before after later (Err CutShort) same is =

@@ -153,13 +153,13 @@ IsAnswered Answers old new (Err CutShort) =
     (text : List ℕ) × Answers text no_status × IsWritten old new text × (new.failed ≡ false)
 IsAnswered Answers old new (Err (BadSchedule note)) = Answers [] WRONG_WORDS × (new ≡ old)
 IsAnswered Answers old new (Err OutOfMemory) = new ≡ old
-IsAnswered Answers old new (Err (CannotRead name)) = ⊥
+IsAnswered Answers old new (Err (CannotRead unread)) = ⊥
 
 -- where it is told that a name cannot be read, that is one of these, and nothing is written; else
 -- what is told is so
 abbrev pub UnlessUnread : (List ℕ → Type 0) → Type 0 → Type 0 → Result ℕ OutsideFault → Type 0
 UnlessUnread Names Same Else (Ok status) = Else
-UnlessUnread Names Same Else (Err (CannotRead name)) = Names name.now × Same
+UnlessUnread Names Same Else (Err (CannotRead unread)) = Names unread.name.now × Same
 UnlessUnread Names Same Else (Err OutOfMemory) = Else
 UnlessUnread Names Same Else (Err CutShort) = Else
 UnlessUnread Names Same Else (Err (BadSchedule note)) = Else
@@ -167,7 +167,7 @@ UnlessUnread Names Same Else (Err WriteFailed) = Else
 
 -- the fault of one of these names, of a file or standard input, or of memory
 abbrev pub IsReadFault : (List ℕ → Type 0) → OutsideFault → Type 0
-IsReadFault Names (CannotRead name) = Names name.now
+IsReadFault Names (CannotRead unread) = Names unread.name.now
 IsReadFault Names OutOfMemory = Unit {0}
 IsReadFault Names CutShort = ⊥
 IsReadFault Names (BadSchedule note) = ⊥

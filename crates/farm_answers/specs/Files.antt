@@ -4,13 +4,18 @@
 --   IsCalled, IsInputName, AreCalled
 --                     what a name is called, standard input, and the names of four files, where
 --                     they cannot be read
+--   IsUnreadBy        what is told of a name where an error of a kind comes
 --   AreFilesRead      the texts of files, each up to the limit
 --   AreFarmFilesRead  the same of a farm without a plan
 --   OnFiles           what is answered to the texts of files
-use Rattle.std.specs.Prelude.{◌≡◌, ◌⊎◌, ◌≤◌, ℕ, List, length, take, codes, Option, IfSome, if◌then◌else◌}
+use Rattle.std.specs.Prelude.{◌≡◌, ◌≢◌, ◌⊎◌, ◌≤◌, ℕ, List, length, take, codes, Option, IfSome, if◌then◌else◌}
 use Rattle.std.specs.Str.{bytes_eq}
+use Rattle.std.specs.declared.io.ErrorKind.{ErrorKind}
+use Rattle.bounded_read.specs.Reasons.{unreadable_of}
 use Rattle.command_line.specs.declared.request.FarmPaths.{FarmPaths}
 use Rattle.command_line.specs.declared.request.Paths.{Paths}
+use Rattle.farm_answers.specs.declared.fault.OutsideFault.{OutsideFault}
+use Rattle.farm_answers.specs.declared.fault.OutsideFault.TheVariants.{CannotRead, OutOfMemory, CutShort, BadSchedule, WriteFailed}
 use Rattle.farm_answers.specs.declared.source.TheConstants.{MOST_FILE, MOST_INPUT}
 use Rattle.farm_input.specs.Input.{Texts}
 
@@ -25,6 +30,16 @@ IsInputName told = told ≡ codes "standard input"
 -- a name is called by itself, and `-` as standard input is
 abbrev pub IsCalled : List ℕ → List ℕ → Type 0
 IsCalled name told = told ≡ (if bytes_eq name (codes "-") then codes "standard input" else name)
+
+-- want of memory is that of the program, and each other error is told of the name, with its cause
+abbrev pub IsUnreadBy : ErrorKind → List ℕ → OutsideFault → Type 0
+IsUnreadBy kind name (CannotRead unread) =
+    (kind ≢ ErrorKind.OutOfMemory) × (unread.name.now ≡ name)
+    × (unread.why ≡ unreadable_of kind)
+IsUnreadBy kind name OutOfMemory = kind ≡ ErrorKind.OutOfMemory
+IsUnreadBy kind name CutShort = ⊥
+IsUnreadBy kind name (BadSchedule note) = ⊥
+IsUnreadBy kind name WriteFailed = ⊥
 
 -- one of four files is called so
 abbrev pub AreCalled : Paths → List ℕ → Type 0

@@ -2,15 +2,23 @@
 
 ghost use Rattle.std.specs.Prelude.{◌≡◌};
 
+use bounded_read::Unreadable;
 use cert_writer::CertStop;
 use report_sink::WriteFailed;
 use std::alloc::AllocError;
 
+/// A file of this name that cannot be read, or standard input, and why.
+#[derive(Clone, Copy, Debug, PartialEq, Eq)]
+pub struct Unread<'a> {
+    pub name: &'a str,
+    pub why: Unreadable,
+}
+
 /// What ends a command outside of the texts.
 #[derive(Clone, Copy, Debug, PartialEq, Eq)]
 pub enum OutsideFault<'a> {
-    /// The file of this name cannot be read, or standard input, which may have too many bytes.
-    CannotRead(&'a str),
+    /// This file cannot be read.
+    CannotRead(Unread<'a>),
     /// Memory was refused, and nothing is written.
     OutOfMemory,
     /// Memory was refused behind a text of the answer that can stand alone, or in the middle of a

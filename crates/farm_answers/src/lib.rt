@@ -3,7 +3,7 @@
 //!
 //! Proved, over files, readers and sinks whose bytes are known: each answer is exactly the text of
 //! its definition, with its status, or a first part where the sink fails (`IsAnswered`); a fault
-//! outside of the texts is exactly its line (`tell`), and the word that is no lane the first one of
+//! outside of the texts is exactly its line (`tell`), as JSON too where that is asked for (`say_none`), and the word that is no lane the first one of
 //! its file. Not proved: that `answer_run` returns, and how such a word is told.
 #![tactic(auto)]
 
@@ -13,6 +13,7 @@ mod errors;
 mod farm_run;
 mod fault;
 mod files;
+mod none;
 mod source;
 mod status;
 mod turn_note;
@@ -25,7 +26,8 @@ pub use answers::{
 pub use certificates::{answer_cert, answer_verify_cert, check_text};
 pub use errors::{say, tell};
 pub use farm_run::{RunFiles, answer_end, answer_run, run_files};
-pub use fault::OutsideFault;
+pub use fault::{OutsideFault, Unread};
 pub use files::{FileTexts, read_files};
+pub use none::say_none;
 pub use source::{MOST_FILE, Source, read_file, read_input};
 pub use status::{FINE, OUTSIDE, REFUSED, WRONG_WORDS};

@@ -2,9 +2,11 @@
 
 ghost use Rattle.std.specs.Prelude.{◌≡◌, ◌≤◌, ℕ, List, Option, IfOk, IfErr, IfSome, Some, take, vec_len};
 ghost use Rattle.farm_answers.specs.Answers.{IsReadFault};
-ghost use Rattle.farm_answers.specs.Files.{IsCalled, IsInputName, named};
+ghost use Rattle.farm_answers.specs.Files.{IsCalled, IsInputName, IsUnreadBy, named};
+ghost use Rattle.std.specs.IoError.{error_kind};
 
-use crate::fault::OutsideFault;
+use crate::fault::{OutsideFault, Unread};
+use bounded_read::Unreadable;
 use command_line::INPUT;
 use std::alloc::Global;
 use std::io::{self, ErrorKind, Read};
@@ -44,6 +46,20 @@ pub trait Source {
         ensures { IfSome (given self.now) (λ bytes. Self.Input.remaining result ≡ Some bytes) };
 }
 
+/// What an error comes to that is met at the file of a name.
+fn unread<'a>(error: &io::Error, name: &'a str) -> OutsideFault<'a>
+    ensures cause { IsUnreadBy (error_kind error.now) name.entry.now result }
+    ensures fault { IsReadFault (λ told. told ≡ name.entry.now) result }
+{
+    match error.kind() {
+        ErrorKind::OutOfMemory => OutsideFault::OutOfMemory,
+        kind => OutsideFault::CannotRead(Unread {
+            name,
+            why: Unreadable::of(kind),
+        }),
+    }
+}
+
 /// Reads the first bytes, at most `most`.
 fn read_up_to<'a, R: Read + Drop>(
     alloc: Global,
@@ -57,8 +73,7 @@ fn read_up_to<'a, R: Read + Drop>(
 {
     match bounded_read::read_up_to(alloc, reader, most) {
         Ok(read) => Ok(read),
-        Err(error) if error.kind() == ErrorKind::OutOfMemory => Err(OutsideFault::OutOfMemory),
-        Err(_) => Err(OutsideFault::CannotRead(name)),
+        Err(error) => Err(unread(&error, name)),
     }
 }
 
@@ -83,8 +98,7 @@ pub fn read_file<'a, S: Source>(
     }
     match source.open(path) {
         Ok(file) => read_up_to(alloc, file, MOST_FILE, path),
-        Err(error) if error.kind() == ErrorKind::OutOfMemory => Err(OutsideFault::OutOfMemory),
-        Err(_) => Err(OutsideFault::CannotRead(path)),
+        Err(error) => Err(unread(&error, path)),
     }
 }
 
@@ -102,7 +116,10 @@ pub fn read_input<'a, S: Source>(alloc: Global, source: &S) -> Result<Vec<u8>, O
 {
     let read = read_up_to(alloc, source.input(), MOST_INPUT + 1, INPUT_NAME)?;
     if read.len() > MOST_INPUT as usize {
-        return Err(OutsideFault::CannotRead(INPUT_NAME));
+        return Err(OutsideFault::CannotRead(Unread {
+            name: INPUT_NAME,
+            why: Unreadable::TooLong,
+        }));
     }
     Ok(read)
 }

@@ -2,7 +2,7 @@
 --
 --   AnswersRequest    that this text and this status are what is answered to a request
 --   IsRequestAnswered what is written of the answer
-use Rattle.std.specs.Prelude.{◌≡◌, ℕ, false, List, Option, Result}
+use Rattle.std.specs.Prelude.{◌≡◌, ℕ, Bool, false, List, Option, Result}
 use Rattle.farm_input.specs.Input.{input_texts}
 use Rattle.command_line.specs.declared.request.Request.{Request}
 use Rattle.command_line.specs.declared.request.Request.TheVariants.{CheckInput, Check, Explain, ExplainCert, List as ListPlan, Cert, VerifyCert, Step, StepBy, Timeline, Graph, Draft, DraftLanes}
@@ -13,6 +13,7 @@ use Rattle.explain_answers.specs.CertExplained.{AnswersExplainCert}
 use Rattle.explain_answers.specs.Explanations.{AnswersExplain}
 use Rattle.picture_answers.specs.Pictures.{AnswersGraph, AnswersTimeline, is_json}
 use Rattle.farm_answers.specs.Files.{AreCalled, AreCalledWith, AreFarmCalled, IsInput, IsInputName, OnFarmFiles, OnFiles, OnFilesAndOne, named}
+use Rattle.farm_answers.specs.NoneLines.{SaysNone}
 use Rattle.report_sink.specs.Sinks.{SinkState}
 use Rattle.farm_answers.specs.declared.fault.OutsideFault.{OutsideFault}
 
@@ -75,8 +76,21 @@ IsRequestTold held given request old new told =
     IsAnswered (AnswersRequest held given request) old new told
 
 -- that, or what is read for it cannot be
+abbrev pub IsRequestMet : (List ℕ → Option (List ℕ)) → Option (List ℕ) → Request → SinkState
+    → SinkState → Result ℕ OutsideFault → Type 0
+IsRequestMet held given request old new told =
+    UnlessUnread (AreCalledFor request) (new ≡ old) (IsRequestTold held given request old new told)
+    told
+
+-- a verdict or its explanation is asked for as JSON
+abbrev pub asks_json : Request → Bool
+asks_json (Check paths json) = json
+asks_json (Explain paths json) = json
+asks_json request = false
+
+-- the same, and behind it as JSON that there is no verdict, where it is asked for so
 abbrev pub IsRequestAnswered : (List ℕ → Option (List ℕ)) → Option (List ℕ) → Request → SinkState
     → SinkState → Result ℕ OutsideFault → Type 0
 IsRequestAnswered held given request old new told =
-    UnlessUnread (AreCalledFor request) (new ≡ old) (IsRequestTold held given request old new told)
-    told
+    (met : SinkState) × IsRequestMet held given request old met told
+    × SaysNone (asks_json request) met new told

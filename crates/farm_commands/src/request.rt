@@ -8,14 +8,15 @@ ghost use Rattle.explain_answers.specs.Explanations.{AnswersExplain};
 ghost use Rattle.picture_answers.specs.Pictures.{AnswersGraph, AnswersTimeline, is_json};
 ghost use Rattle.farm_input.specs.View.{texts_view};
 ghost use Rattle.farm_answers.specs.Files.{AreCalled, AreCalledWith, IsInputName, OnFiles, OnFilesAndOne, named};
-ghost use Rattle.farm_commands.specs.Requests.{IsRequestAnswered, OnInput};
+ghost use Rattle.farm_commands.specs.Requests as spec;
+ghost use Rattle.farm_commands.specs.Requests.{IsRequestAnswered, IsRequestMet, OnInput};
 
 use command_line::{Paths, Request};
 use draft_answers::{ByNumber, BySketch, Watch, draft_files, draft_lanes};
 use explain_answers::{answer_explain, answer_explain_cert};
 use farm_answers::{
     OutsideFault, Source, answer_cert, answer_check, answer_list, answer_numbered, answer_step,
-    answer_step_by, answer_verify_cert, read_file, read_files, read_input,
+    answer_step_by, answer_verify_cert, read_file, read_files, read_input, say_none,
 };
 use farm_input::{Texts, texts_of};
 use picture_answers::{Shape, answer_graph, answer_timeline};
@@ -239,19 +240,19 @@ fn graph_files<'a, F: Source, S: Sink>(
     answer_graph(rt, alloc, files.texts(), json, out)
 }
 
-/// Reads the texts that a request is about, all before the first is looked at, writes the answer to
-/// them, and gives its status: 0, or 1 for a refusal or a trap. The error output says where a
-/// certificate is longer than a text may be.
-///
-/// # Errors
-///
-/// [`OutsideFault::CannotRead`] where a file or standard input cannot be read, the first of them in
-/// the order of the words; [`OutsideFault::OutOfMemory`] where memory is refused; and
-/// [`OutsideFault::BadSchedule`] where a file of lanes has a word that is no lane of the plan:
-/// nothing is written then. [`OutsideFault::CutShort`] where memory is refused while a verdict is
-/// explained, and the verdict is written then, or while a certificate is written, with a first part
-/// of it. And [`OutsideFault::WriteFailed`] where the sink fails, with a first part of the answer.
-pub fn answer_request<'a, F: Source + Watch, S: Sink, E: Sink>(
+/// Tells whether a verdict or its explanation is asked for as JSON.
+fn asks_json(request: &Request<'_>) -> bool
+    ensures { result ≡ spec.asks_json request.now }
+{
+    match request {
+        Request::Check { json, .. } => *json,
+        Request::Explain { json, .. } => *json,
+        _ => false,
+    }
+}
+
+/// Answers to a request, but for what JSON says where there is no verdict.
+fn answer_asked<'a, F: Source + Watch, S: Sink, E: Sink>(
     rt: &(impl Threads + Sync),
     alloc: Global,
     request: Request<'a>,
@@ -259,7 +260,7 @@ pub fn answer_request<'a, F: Source + Watch, S: Sink, E: Sink>(
     out: &mut S,
     errors: &mut E,
 ) -> Result<u8, OutsideFault<'a>>
-    ensures answer { IsRequestAnswered (F.held source.now) (F.given source.now) request.entry
+    ensures answer { IsRequestMet (F.held source.now) (F.given source.now) request.entry
         (S.state out.old) (S.state out.new) result }
     ensures quiet { OnErr result (E.state errors.new ≡ E.state errors.old) }
 {
@@ -304,4 +305,35 @@ pub fn answer_request<'a, F: Source + Watch, S: Sink, E: Sink>(
             draft_lanes(rt, alloc, source, of, out, errors)
         }
     }
+}
+
+/// Reads the texts that a request is about, all before the first is looked at, writes the answer to
+/// them, and gives its status: 0, or 1 for a refusal or a trap. The error output says where a
+/// certificate is longer than a text may be.
+///
+/// # Errors
+///
+/// [`OutsideFault::CannotRead`] where a file or standard input cannot be read, the first of them in
+/// the order of the words, and [`OutsideFault::OutOfMemory`] where memory is refused: that is written
+/// alone where a verdict is asked for as JSON, and else nothing. [`OutsideFault::BadSchedule`] where a
+/// file of lanes has a word that is no lane of the plan: nothing is written then.
+/// [`OutsideFault::CutShort`] where memory is refused while a verdict is explained, and the verdict is
+/// written then, or while a certificate is written, with a first part of it. And
+/// [`OutsideFault::WriteFailed`] where the sink fails, with a first part of the answer.
+pub fn answer_request<'a, F: Source + Watch, S: Sink, E: Sink>(
+    rt: &(impl Threads + Sync),
+    alloc: Global,
+    request: Request<'a>,
+    source: &F,
+    out: &mut S,
+    errors: &mut E,
+) -> Result<u8, OutsideFault<'a>>
+    ensures answer { IsRequestAnswered (F.held source.now) (F.given source.now) request.entry
+        (S.state out.old) (S.state out.new) result }
+    ensures quiet { OnErr result (E.state errors.new ≡ E.state errors.old) }
+{
+    let json = asks_json(&request);
+    let told = answer_asked(rt, alloc, request, source, out, errors);
+    say_none(json, &told, out);
+    told
 }

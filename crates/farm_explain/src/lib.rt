@@ -26,6 +26,9 @@ mod reasons;
 mod told;
 
 pub use laws::{each_tells_a_reason, notes_begin_with_the_verdict};
+pub use missing::{Publishing, publication};
 pub use note::{Note, NotePlace, note_place};
 pub use notes::unsafe_notes;
+pub use origins::{is_initial, satisfies};
+pub use reasons::is_known;
 pub use told::{Group, Told};

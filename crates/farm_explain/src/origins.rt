@@ -1,6 +1,7 @@
 //! Where that comes from which a reason is about, and what would meet an entry, as lines.
 
 ghost use Rattle.std.specs.Prelude.{◌≡◌, ◌<◌, length};
+ghost use Rattle.farm_model.specs.Packages.{initial};
 ghost use Rattle.plan_model.specs.Plan.{lane};
 ghost use Rattle.plan_verifier.specs.Stage.{IsWhole};
 
@@ -13,7 +14,7 @@ use deb_relation::Entry;
 use deb_text::push_pieces;
 use farm_universe::relations::satisfies_entry;
 use farm_universe::{Universe, Variant};
-use may_rows::{has_bit, variant_count};
+use may_rows::variant_count;
 use plan_asm::{Instruction, Plan, lane_name, push_variant};
 use plan_verifier::Stage;
 use refusal_reasons::Reason;
@@ -21,15 +22,18 @@ use std::alloc::AllocError;
 use wait_order::KnownWords;
 
 /// Tells whether a variant is in the archive from the start.
-fn is_initial(universe: &Universe, variant: Variant) -> bool {
-    if variant.name >= universe.names() || variant.bit >= 64 {
+#[tactic(auto, unfolding(farm_model::specs::Packages::initial, farm_model::specs::Packages::has_bit))]
+pub fn is_initial(universe: &Universe, variant: Variant) -> bool
+    ensures { result ≡ initial universe.now variant }
+{
+    if variant.bit >= variant_count(universe, variant.name) {
         return false;
     }
-    has_bit(universe.initial(variant.name), variant.bit)
+    universe.initial(variant.name) >> variant.bit & 1 == 1
 }
 
 /// Tells whether a variant satisfies an entry.
-fn satisfies(universe: &Universe, entry: &Entry, variant: Variant) -> bool {
+pub fn satisfies(universe: &Universe, entry: &Entry, variant: Variant) -> bool {
     is_known(universe, variant) && satisfies_entry(universe, entry, variant)
 }
 

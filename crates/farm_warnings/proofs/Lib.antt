@@ -2,3 +2,4 @@ pub mod LineLaws
 pub mod SetLaws
 pub mod BelowLaws
 pub mod OutputLaws
+pub mod TallyLaws

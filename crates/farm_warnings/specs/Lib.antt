@@ -1,4 +1,5 @@
 pub mod FieldNames
+pub mod Tallies
 pub mod Warned
 pub mod Sets
 pub mod Lines

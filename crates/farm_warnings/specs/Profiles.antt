@@ -1,8 +1,8 @@
 -- The build profiles of recipes that no source asks for (BuildProfileSpec): none of its build
 -- relations names them in a restriction formula.
 --
---   profile_warnings sources farm a warning of each other word of a recipe's field Profiles
-use Rattle.std.specs.Prelude.{ℕ, List, [], ◌∷◌, ◌++◌, if◌then◌else◌}
+--   profile_warnings sources farm a warning of each other word of the recipes' fields Profiles
+use Rattle.std.specs.Prelude.{ℕ, List, [], ◌∷◌, ◌++◌, map, if◌then◌else◌}
 use Rattle.std.specs.List.{flat_map}
 use Rattle.deb_text.specs.Cuts.{after}
 use Rattle.deb_text.specs.Lines.{Line}
@@ -14,36 +14,48 @@ use Rattle.farm_warnings.specs.declared.restricting.Restriction.{Restriction}
 use Rattle.farm_warnings.specs.declared.warning.About.{About}
 use Rattle.farm_warnings.specs.Lines.{begins, recipes_in}
 use Rattle.farm_warnings.specs.Restricting.{restricting}
+use Rattle.farm_warnings.specs.Tallies.{Mention, Named, tallied}
 use Rattle.farm_warnings.specs.Warned.{WarningFacts, warned}
 
--- Parameters: asked the profiles that sources ask for, line the field's line.
+-- ---- what recipes name; line the field's line
 
-abbrev pub profile_said : List (List ℕ) → ℕ → List ℕ → List WarningFacts
-profile_said asked line profile =
-    if is_among asked profile then [] else warned (About.Profile line) profile
+abbrev pub at_line : ℕ → List ℕ → Mention
+at_line line word = (line, word)
 
--- of the words of a text
-abbrev pub words_said : List (List ℕ) → ℕ → List ℕ → List WarningFacts
-words_said asked line text = flat_map (profile_said asked line) (words text)
+-- the words of a text
+abbrev pub words_named : ℕ → List ℕ → List Mention
+words_named line text = map (at_line line) (words text)
 
 -- of the lines that go on with the field
-abbrev pub more_said : List (List ℕ) → ℕ → List Line → List WarningFacts
-more_said asked line ls = flat_map (λ (l : Line). words_said asked line l.1) ls
+abbrev pub more_named : ℕ → List Line → List Mention
+more_named line ls = flat_map (λ (l : Line). words_named line l.1) ls
 
 -- of a field: of its first line, and of the lines that go on with it
-abbrev pub field_said : List (List ℕ) → Line → List Line → List WarningFacts
-field_said asked l ls =
-    words_said asked l.0 (after is_colon l.1) ++ more_said asked l.0 (continuation ls)
+abbrev pub field_named : Line → List Line → List Mention
+field_named l ls = words_named l.0 (after is_colon l.1) ++ more_named l.0 (continuation ls)
 
 -- of a line, of whose paragraph these are left
-abbrev pub line_said : List (List ℕ) → Line → List Line → List WarningFacts
-line_said asked l ls = if begins FieldName.Profiles l then field_said asked l ls else []
+abbrev pub line_named : Line → List Line → List Mention
+line_named l ls = if begins FieldName.Profiles l then field_named l ls else []
 
 -- of a recipe's paragraph
-abbrev pub recipe_profiles : List (List ℕ) → List Line → List WarningFacts
-recipe_profiles asked [] = []
-recipe_profiles asked (l ∷ ls) = line_said asked l ls ++ recipe_profiles asked ls
+abbrev pub recipe_named : List Line → List Mention
+recipe_named [] = []
+recipe_named (l ∷ ls) = line_named l ls ++ recipe_named ls
+
+abbrev pub recipes_named : List (List Line) → List Mention
+recipes_named recipes = flat_map recipe_named recipes
+
+-- ---- what is said of them; asked the profiles that sources ask for
+
+abbrev pub profile_said : List (List ℕ) → Named → List WarningFacts
+profile_said asked n =
+    if is_among asked n.0 then [] else warned (About.Profile n.1.0 n.1.1) n.0
+
+abbrev pub profiles_said : List (List ℕ) → List Named → List WarningFacts
+profiles_said asked ns = flat_map (profile_said asked) ns
 
 unfoldable pub profile_warnings : List ℕ → List ℕ → List WarningFacts
 profile_warnings sources farm =
-    flat_map (recipe_profiles (restricting Restriction.Profiles sources)) (recipes_in farm)
+    profiles_said (restricting Restriction.Profiles sources)
+    (tallied [] (recipes_named (recipes_in farm)))

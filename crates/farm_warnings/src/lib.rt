@@ -17,6 +17,7 @@ mod provided;
 mod recipes;
 mod restricting;
 mod source_list;
+mod tally;
 mod waits;
 mod warning;
 mod wildcards;

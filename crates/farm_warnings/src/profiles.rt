@@ -1,71 +1,49 @@
 //! The build profiles of recipes that no source asks for.
 
 ghost use Rattle.std.specs.Prelude.{◌≡◌, ◌++◌, OnOk};
-ghost use Rattle.std.specs.List.{flat_map};
 ghost use Rattle.deb_text.specs.Cuts.{after};
 ghost use Rattle.deb_stanza.specs.Stanza.{continuation, is_colon};
 ghost use Rattle.farm_warnings.specs.Lines.{recipes_in};
 ghost use Rattle.farm_warnings.specs.Profiles as spec;
+ghost use Rattle.farm_warnings.specs.Tallies.{tallied};
 
 use crate::field_name::FieldName;
 use crate::lines::{Line, Lines, ParagraphLines};
 use crate::restricting::{Restriction, restricting};
+use crate::tally::Tally;
 use crate::warning::{About, Warnings};
 use crate::word_set::WordSet;
 use deb_text::{cut_at_first, next_word};
 use std::alloc::{AllocError, Global};
 
-/// What is said of a profile.
-fn push_profile(
-    found: &mut Warnings,
-    asked: &WordSet,
-    line: usize,
-    profile: &[u8],
-) -> Result<(), AllocError>
-    ensures { OnOk result (found.new
-        ≡ found.old ++ spec.profile_said asked.now line profile.now) }
-{
-    if asked.has(profile) {
-        Ok(())
-    } else {
-        found.push(About::Profile(line), profile)
-    }
-}
-
-/// What is said of the words of a text.
-fn push_words(
-    found: &mut Warnings,
-    asked: &WordSet,
-    line: usize,
-    words: &[u8],
-) -> Result<(), AllocError>
-    ensures { OnOk result (found.new
-        ≡ found.old ++ spec.words_said asked.now line words.now) }
+/// Notes the words of a text.
+fn note_words(alloc: Global, named: &mut Tally, line: usize, words: &[u8]) -> Result<(), AllocError>
+    ensures { OnOk result (named.new ≡ tallied named.old (spec.words_named line words.now)) }
 {
     let mut left = words;
     while let Some((word, rest)) = next_word(left) {
-        push_profile(found, asked, line, word)?;
+        named.add(alloc, line, word)?;
         left = rest;
     }
     Ok(())
 }
 
-/// What is said of the lines that go on with a field.
-fn push_more(
-    found: &mut Warnings,
-    asked: &WordSet,
+/// Notes the words of the lines that go on with a field.
+fn note_more(
+    alloc: Global,
+    named: &mut Tally,
     line: usize,
     more: &ParagraphLines,
 ) -> Result<(), AllocError>
-    ensures { OnOk result (found.new
-        ≡ found.old ++ spec.more_said asked.now line (continuation more.now)) }
+    ensures { OnOk result (named.new
+        ≡ tallied named.old (spec.more_named line (continuation more.now))) }
 {
     let mut left = more.copied();
     while let Some(next) = left.next() {
         if !next.continues() {
             return Ok(());
         }
-        push_words(found, asked, line, next.bytes)?;
+        note_words(alloc, named, line, next.bytes)?;
     }
     Ok(())
 }
@@ -80,66 +58,91 @@ fn behind_colon(line: &[u8]) -> &[u8]
     }
 }
 
-/// What is said of a field, of which this is the first line, and of the paragraph these are left.
-fn push_field(
-    found: &mut Warnings,
-    asked: &WordSet,
+/// Notes the words of a field, of which this is the first line, and of the paragraph these are left.
+fn note_field(
+    alloc: Global,
+    named: &mut Tally,
     line: &Line,
     more: &ParagraphLines,
 ) -> Result<(), AllocError>
-    ensures { OnOk result (found.new
-        ≡ found.old ++ spec.field_said asked.now line.now more.now) }
+    ensures { OnOk result (named.new
+        ≡ tallied named.old (spec.field_named line.now more.now)) }
 {
-    push_words(found, asked, line.number, behind_colon(line.bytes))?;
-    push_more(found, asked, line.number, more)
+    note_words(alloc, named, line.number, behind_colon(line.bytes))?;
+    note_more(alloc, named, line.number, more)
 }
 
-/// What is said of a line of a recipe, of whose paragraph these are left.
-fn push_line(
-    found: &mut Warnings,
-    asked: &WordSet,
+/// Notes the profiles of a line of a recipe, of whose paragraph these are left.
+fn note_line(
+    alloc: Global,
+    named: &mut Tally,
     line: &Line,
     more: &ParagraphLines,
 ) -> Result<(), AllocError>
-    ensures { OnOk result (found.new
-        ≡ found.old ++ spec.line_said asked.now line.now more.now) }
+    ensures { OnOk result (named.new ≡ tallied named.old (spec.line_named line.now more.now)) }
 {
     if line.begins(FieldName::Profiles) {
-        push_field(found, asked, line, more)
+        note_field(alloc, named, line, more)
     } else {
         Ok(())
     }
 }
 
-/// What is said of the profiles of a recipe.
-fn push_recipe(
-    found: &mut Warnings,
-    asked: &WordSet,
-    recipe: &ParagraphLines,
-) -> Result<(), AllocError>
-    ensures { OnOk result (found.new
-        ≡ found.old ++ spec.recipe_profiles asked.now recipe.now) }
+/// Notes the profiles of a recipe.
+fn note_recipe(alloc: Global, named: &mut Tally, recipe: &ParagraphLines) -> Result<(), AllocError>
+    ensures { OnOk result (named.new ≡ tallied named.old (spec.recipe_named recipe.now)) }
 {
     let mut left = recipe.copied();
     while let Some(line) = left.next() {
-        push_line(found, asked, &line, &left)?;
+        note_line(alloc, named, &line, &left)?;
     }
     Ok(())
 }
 
-/// What is said of the profiles of all recipes.
-fn push_all(found: &mut Warnings, asked: &WordSet, farm: &[u8]) -> Result<(), AllocError>
-    ensures { OnOk result (found.new ≡ found.old
-        ++ flat_map (spec.recipe_profiles asked.now) (recipes_in farm.now)) }
+/// Notes the profiles of all recipes.
+fn note_recipes(alloc: Global, named: &mut Tally, farm: &[u8]) -> Result<(), AllocError>
+    ensures { OnOk result (named.new
+        ≡ tallied named.old (spec.recipes_named (recipes_in farm.now))) }
 {
     let mut left = Lines::behind_first(farm);
     while let Some(recipe) = left.next_recipe() {
-        push_recipe(found, asked, &recipe)?;
+        note_recipe(alloc, named, &recipe)?;
     }
     Ok(())
 }
 
-/// Puts a warning of each profile of a recipe that no source asks for behind others.
+/// What is said of a profile that is named at this line first, and so often.
+fn push_profile(
+    found: &mut Warnings,
+    asked: &WordSet,
+    profile: &[u8],
+    line: usize,
+    count: u64,
+) -> Result<(), AllocError>
+    ensures { OnOk result (found.new
+        ≡ found.old ++ spec.profile_said asked.now (profile.now, (line, count))) }
+{
+    if asked.has(profile) {
+        Ok(())
+    } else {
+        found.push(About::Profile(line, count), profile)
+    }
+}
+
+/// What is said of profiles.
+fn push_named(found: &mut Warnings, asked: &WordSet, named: &Tally) -> Result<(), AllocError>
+    ensures { OnOk result (found.new
+        ≡ found.old ++ spec.profiles_said asked.now named.now) }
+{
+    let mut left = named.all();
+    while let Some(((profile, (line, count)), rest)) = left.split_first() {
+        push_profile(found, asked, profile, *line, *count)?;
+        left = rest;
+    }
+    Ok(())
+}
+
+/// Puts a warning of each profile of recipes that no source asks for behind others.
 ///
 /// # Errors
 ///
@@ -155,5 +158,7 @@ pub fn push_profiles(
         ≡ found.old ++ spec.profile_warnings sources.now farm.now) }
 {
     let asked = restricting(alloc, Restriction::Profiles, sources)?;
-    push_all(found, &asked, farm)
+    let mut named = Tally::new(alloc);
+    note_recipes(alloc, &mut named, farm)?;
+    push_named(found, &asked, &named)
 }

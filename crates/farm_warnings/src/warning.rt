@@ -16,8 +16,8 @@ use std::marker::Model;
 pub enum About {
     /// A field of the farm text that is passed over, at this line.
     Field(usize),
-    /// A profile that no source asks for, in the field at this line.
-    Profile(usize),
+    /// A profile that no source asks for, first in the field at this line, and named so often.
+    Profile(usize, u64),
     /// A name that matches the architecture and that the farm does not have.
     Wildcard,
     /// A recipe that no lane builds, whose paragraph begins at this line.
@@ -105,6 +105,19 @@ const FARM_LINE: &[u8] = b"warning: farm line ";
 /// What is said of an output, ahead of its name.
 const OUTPUT_WORDS: &[u8] = b"by the Package-List of its source this recipe does not build ";
 
+/// How often a word is named, where that is more than once, and the end of the line.
+fn push_times(text: &mut Vec<u8>, count: u64) -> Result<(), AllocError> {
+    if count < 2 {
+        return push_pieces(text, &[b"\n"]);
+    }
+    let mut digits = Buffer::new();
+    let number = digits.format(count);
+    push_pieces(
+        text,
+        &[b", named ", number.as_bytes(), b" times, first here\n"],
+    )
+}
+
 /// What a package lacks, behind the number of those that do.
 fn lack_words(lack: Lack) -> &'static [u8] {
     match lack {
@@ -142,9 +155,10 @@ fn push_line(text: &mut Vec<u8>, universe: &Universe, warning: &Warning) -> Resu
                 &[b"the field ", name, b" is not known, and is passed over\n"],
             )
         }
-        About::Profile(line) => {
+        About::Profile(line, count) => {
             push_head(text, FARM_LINE, line as u64)?;
-            push_pieces(text, &[b"no source asks for the profile ", name, b"\n"])
+            push_pieces(text, &[b"no source asks for the profile ", name])?;
+            push_times(text, count)
         }
         About::Wildcard => {
             push_pieces(

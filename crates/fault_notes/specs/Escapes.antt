@@ -1,5 +1,8 @@
 -- Bytes as notes show them. The project's own format.
-use Rattle.std.specs.Prelude.{ℕ, ◌/◌, ◌%◌, Bool, not, ◌&&◌, ◌==◌, nat_le, if◌then◌else◌, List, [], ◌∷◌}
+--
+--   escaped bytes     as lines have them
+--   quoted bytes      as these lines stand in a string of JSON (RFC 8259)
+use Rattle.std.specs.Prelude.{ℕ, ◌/◌, ◌%◌, Bool, not, ◌&&◌, ◌||◌, ◌==◌, nat_le, if◌then◌else◌, List, [], ◌∷◌, ◌++◌, codes}
 use Rattle.std.specs.Char.{digit_char}
 use Rattle.std.specs.List.{flat_map}
 
@@ -15,3 +18,13 @@ escaped_byte byte =
 
 abbrev pub escaped : List ℕ → List ℕ
 escaped bytes = flat_map escaped_byte bytes
+
+-- a backslash ahead of a quotation mark, and of the one with which an escaped byte begins
+abbrev pub quote_mark : ℕ → List ℕ
+quote_mark byte = if byte == 34 || not (is_plain byte) then codes "\\" else []
+
+abbrev pub quoted_byte : ℕ → List ℕ
+quoted_byte byte = quote_mark byte ++ escaped_byte byte
+
+abbrev pub quoted : List ℕ → List ℕ
+quoted bytes = flat_map quoted_byte bytes

@@ -2,8 +2,9 @@
 
 ghost use Rattle.std.specs.Prelude.{◌≡◌};
 
+use bounded_read::Unreadable;
 use fault_notes::write_escaped;
-use report_sink::{Sink, WriteFailed, write_text};
+use report_sink::{Sink, WriteFailed, write_pieces, write_text};
 use std::alloc::AllocError;
 use std::io::{self, ErrorKind};
 
@@ -16,12 +17,12 @@ pub const REFUSED: u8 = 1;
 /// The status where something outside of the texts fails.
 pub const OUTSIDE: u8 = 3;
 
-/// What ends an import outside of its texts: a file that cannot be read, one that import has not
+/// What ends an import outside of its texts: a file that cannot be read, and why; one that import has not
 /// made, one that cannot be written, texts that are not those of the wish, want of memory, or an
 /// answer that cannot be written.
 #[derive(Debug, Drop)]
 pub enum ImportFault {
-    CannotRead(Vec<u8>),
+    CannotRead(Vec<u8>, Unreadable),
     NotMade(Vec<u8>),
     CannotWrite(Vec<u8>),
     Wrong,
@@ -44,7 +45,9 @@ impl From<WriteFailed> for ImportFault {
 /// That a file of a name cannot be read.
 pub fn unread(error: &io::Error, name: Result<Vec<u8>, AllocError>) -> ImportFault {
     match name {
-        Ok(name) if error.kind() != ErrorKind::OutOfMemory => ImportFault::CannotRead(name),
+        Ok(name) if error.kind() != ErrorKind::OutOfMemory => {
+            ImportFault::CannotRead(name, Unreadable::of(error.kind()))
+        }
         _ => ImportFault::OutOfMemory,
     }
 }
@@ -65,23 +68,23 @@ fn write_line<E: Sink>(
 ) -> Result<(), WriteFailed> {
     write_text(errors, front)?;
     write_escaped(errors, name)?;
-    write_text(errors, end)
+    write_pieces(errors, &[end, b"\n"])
 }
 
 /// Writes what ended an import.
 fn write_fault<E: Sink>(errors: &mut E, fault: &ImportFault) -> Result<(), WriteFailed> {
     match fault {
-        ImportFault::CannotRead(name) => {
-            write_line(errors, b"portfarm: cannot read ", name, b"\n")
+        ImportFault::CannotRead(name, why) => {
+            write_line(errors, b"portfarm: cannot read ", name, why.words())
         }
         ImportFault::NotMade(name) => write_line(
             errors,
             b"portfarm: ",
             name,
-            b": not made by portfarm import; --force replaces it\n",
+            b": not made by portfarm import; --force replaces it",
         ),
         ImportFault::CannotWrite(name) => {
-            write_line(errors, b"portfarm: cannot write ", name, b"\n")
+            write_line(errors, b"portfarm: cannot write ", name, b"")
         }
         ImportFault::Wrong => write_text(
             errors,

@@ -18,26 +18,14 @@ use crate::waiting::wait_at;
 use deb_relation::Entry;
 use deb_text::push_pieces;
 use farm_explain::place::push_count;
-use farm_explain::{Note, Told, note_place};
+use farm_explain::{Note, Told, is_initial, note_place};
 use farm_universe::{Universe, Variant};
-use may_rows::variant_count;
 use plan_asm::{Plan, lane_name, push_variant};
 use plan_lines::PlanLines;
 use plan_verifier::Stage;
 use sat_rows::Tables;
 use std::alloc::{AllocError, Global};
 use wait_order::KnownWords;
-
-/// Tells whether a variant is in the archive from the start.
-#[tactic(auto, unfolding(farm_model::specs::Packages::initial, farm_model::specs::Packages::has_bit))]
-fn is_initial(universe: &Universe, variant: Variant) -> bool
-    ensures { result ≡ initial universe.now variant }
-{
-    if variant.bit >= variant_count(universe, variant.name) {
-        return false;
-    }
-    universe.initial(variant.name) >> variant.bit & 1 == 1
-}
 
 /// The first of these variants that is in the archive from the start.
 fn first_initial(universe: &Universe, variants: &[Variant]) -> Option<Variant>

@@ -5,10 +5,10 @@ use Rattle.report_sink.proofs.WriteLaws.{cut_short, written_twice}
 
 pub returns-in_err-write_text : goal.returns-in_err-write_text
 returns-in_err-write_text g c =
-    cut_short _ _ (codes "portfarm: cannot read ") (escaped_line c.args.name.now)
+    cut_short _ _ (codes "portfarm: cannot read ") (escaped_line c.args.name.now c.args.words.now)
     c.write_text.ensures.written (sym c.in_err-write_text.ensures.told)
 
 pub returns : goal.returns
 returns g c =
-    written_twice _ _ _ (codes "portfarm: cannot read ") (escaped_line c.args.name.now)
+    written_twice _ _ _ (codes "portfarm: cannot read ") (escaped_line c.args.name.now c.args.words.now)
     c.write_text.ensures.written c.write_name.ensures.written

@@ -1,17 +1,12 @@
-use Rattle.std.proofs.Common.{◌≡◌, subst, sym}
-use Rattle.farm_answers.specs.Answers.{AnswersStep, IsAnswered, UnlessUnread}
-use Rattle.farm_answers.specs.Files.{AreCalled, OnFiles, named}
-use Rattle.farm_commands.specs.Requests.{IsRequestAnswered}
+use Rattle.std.proofs.Common.{subst}
+use Rattle.farm_answers.specs.NoneLines.{SaysNone}
 use Rattle.farm_commands.proofs.request.answer_request.Goals as goal
 
-pub returns-in-Step-clause-answer : goal.returns-in-Step-clause-answer
-returns-in-Step-clause-answer g c =
-    let held = g.F.Source.held c.args.source.now in
-    let given = g.F.Source.given c.args.source.now in
-    let old = g.S.Sink.state c.args.out.now in
-    let new = g.S.Sink.state c.step_files.new.out in
-    subst (λ request. IsRequestAnswered held given request old new c.step_files.result)
-    (sym c.in-Step.is)
-    (subst (λ lanes. UnlessUnread (AreCalled c.in-Step.paths) (new ≡ old)
-    (IsAnswered (OnFiles (named held given) c.in-Step.paths (AnswersStep lanes)) old new
-    c.step_files.result) c.step_files.result) c.deref.ensures.value c.step_files.ensures)
+pub returns-clause-answer : goal.returns-clause-answer
+returns-clause-answer g c = (
+  g.S.Sink.state c.answer_asked-told.new.out,
+  c.answer_asked-told.ensures.answer,
+  subst (λ json. SaysNone json (g.S.Sink.state c.answer_asked-told.new.out)
+      (g.S.Sink.state c.say_none.new.out) c.answer_asked-told.result) c.asks_json-json.ensures
+      c.say_none.ensures,
+)

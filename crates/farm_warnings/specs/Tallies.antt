@@ -1,0 +1,31 @@
+-- Words that are named at lines, each once.
+--
+--   with_mention     one more word, with its line
+--   tallied          all of these behind others
+use Rattle.std.specs.Prelude.{ℕ, ◌+◌, List, [], ◌∷◌, map, fold, if◌then◌else◌}
+use Rattle.std.specs.Global.{Vec}
+use Rattle.std.specs.Str.{bytes_eq}
+
+-- a line, and the word that it names
+abbrev pub Mention : Type 0
+Mention = ℕ × List ℕ
+
+-- a word, the line that names it first, and how often it is named
+abbrev pub Named : Type 0
+Named = List ℕ × (ℕ × ℕ)
+
+-- a word that stands there is named once more, and another is put last
+abbrev pub with_mention : List Named → Mention → List Named
+with_mention [] m = (m.1, (m.0, 1)) ∷ []
+with_mention (n ∷ ns) m =
+    if bytes_eq m.1 n.0 then (n.0, (n.1.0, n.1.1 + 1)) ∷ ns else n ∷ with_mention ns m
+
+abbrev pub tallied : List Named → List Mention → List Named
+tallied ns ms = fold with_mention ns ms
+
+-- the same, as a map has them
+abbrev pub name_of_entry : Vec ℕ × (ℕ × ℕ) → Named
+name_of_entry e = (e.0.items, e.1)
+
+abbrev pub named_of : List (Vec ℕ × (ℕ × ℕ)) → List Named
+named_of es = map name_of_entry es
