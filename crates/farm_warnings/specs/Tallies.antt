@@ -2,7 +2,7 @@
 --
 --   with_mention     one more word, with its line
 --   tallied          all of these behind others
-use Rattle.std.specs.Prelude.{ℕ, ◌+◌, List, [], ◌∷◌, map, fold, if◌then◌else◌}
+use Rattle.std.specs.Prelude.{ℕ, ◌+◌, List, [], ◌∷◌, map, fold, Option, None, Some, if◌then◌else◌}
 use Rattle.std.specs.Global.{Vec}
 use Rattle.std.specs.Str.{bytes_eq}
 
@@ -14,11 +14,16 @@ Mention = ℕ × List ℕ
 abbrev pub Named : Type 0
 Named = List ℕ × (ℕ × ℕ)
 
+-- what is noted of a word that is named at a line, by what was
+abbrev pub noted : ℕ → Option (ℕ × ℕ) → ℕ × ℕ
+noted line None = (line, 1)
+noted line (Some n) = (n.0, n.1 + 1)
+
 -- a word that stands there is named once more, and another is put last
 abbrev pub with_mention : List Named → Mention → List Named
-with_mention [] m = (m.1, (m.0, 1)) ∷ []
+with_mention [] m = (m.1, noted m.0 None) ∷ []
 with_mention (n ∷ ns) m =
-    if bytes_eq m.1 n.0 then (n.0, (n.1.0, n.1.1 + 1)) ∷ ns else n ∷ with_mention ns m
+    if bytes_eq m.1 n.0 then (n.0, noted m.0 (Some n.1)) ∷ ns else n ∷ with_mention ns m
 
 abbrev pub tallied : List Named → List Mention → List Named
 tallied ns ms = fold with_mention ns ms

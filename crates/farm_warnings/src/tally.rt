@@ -1,6 +1,8 @@
 //! How often words are named.
 
-ghost use Rattle.std.specs.Prelude.{◌≡◌, [], OnOk};
+ghost use Rattle.std.specs.Prelude.{◌≡◌, [], IfOk, OnOk};
+ghost use Rattle.std.specs.Option.{option_copied};
+ghost use Rattle.farm_warnings.specs.Tallies as spec;
 ghost use Rattle.farm_warnings.specs.Tallies.{named_of, with_mention};
 
 use indexmap::IndexMap;
@@ -24,6 +26,19 @@ impl Model for Tally {
     ghost view = { λ tally. named_of tally.named.entries };
 }
 
+/// What is noted of a word that is named at a line, by what was.
+fn noted(line: usize, before: Option<&(usize, u64)>) -> Result<(usize, u64), AllocError>
+    ensures { IfOk result (λ named. named ≡ spec.noted line (option_copied before.entry)) }
+{
+    match before {
+        Some((first, count)) => match count.checked_add(1) {
+            Some(more) => Ok((*first, more)),
+            None => Err(AllocError),
+        },
+        None => Ok((line, 1)),
+    }
+}
+
 impl Tally {
     /// No word.
     pub fn new(alloc: Global) -> Tally
@@ -45,14 +60,11 @@ impl Tally {
     ///
     /// # Errors
     ///
-    /// [`AllocError`] where memory is refused, or a word is named 2 ^ 64 times.
+    /// [`AllocError`] where memory is refused, or would be for a word that is named 2 ^ 64 times.
     pub fn add(&mut self, alloc: Global, line: usize, word: &[u8]) -> Result<(), AllocError>
         ensures { OnOk result (self.new ≡ with_mention self.old (line, word.now)) }
     {
-        let named = match self.named.get(word) {
-            Some((first, count)) => (*first, count.checked_add(1).ok_or(AllocError)?),
-            None => (line, 1),
-        };
+        let named = noted(line, self.named.get(word))?;
         self.named.insert(Vec::from_slice(alloc, word)?, named)?;
         Ok(())
     }

@@ -1,5 +1,4 @@
 use Rattle.std.proofs.Common.{◌≡◌, length}
-use Rattle.std.specs.List.{flat_map}
 use Rattle.std.specs.Str.{bytes_eq}
 use Rattle.farm_warnings.specs.Restricting.{relation_words}
 use Rattle.farm_warnings.specs.Sets.{with_all}
