@@ -16,7 +16,7 @@ use Rattle.farm_explain.specs.LaneNotes.{unsafe_notes}
 use Rattle.farm_explain.specs.Notes.{NoteFacts, all_facts}
 use Rattle.farm_input.specs.Input.{Texts}
 use Rattle.farm_input.specs.Planned.{FarmPlan}
-use Rattle.farm_json.specs.Verdicts.{explain_line}
+use Rattle.explain_answers.specs.NoteMembers.{explain_line}
 use Rattle.farm_report.specs.VerdictText.{verdict_text}
 use Rattle.farm_warnings.specs.Warned.{WarningFacts}
 use Rattle.farm_warnings.specs.Warnings.{all_warnings}

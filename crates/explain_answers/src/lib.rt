@@ -7,11 +7,20 @@
 //! (`answer_explain_cert`), of which no clause speaks.
 #![tactic(auto)]
 
+mod cert_known;
+mod cert_lines;
+mod cert_notes;
+mod cert_order;
+mod cert_places;
 mod certified;
 mod explain;
+mod explain_json;
 mod explanation;
+mod fact_json;
+mod note_json;
 mod text_faults;
 mod told;
+mod told_json;
 
 pub use certified::answer_explain_cert;
 pub use explain::answer_explain;

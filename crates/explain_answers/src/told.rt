@@ -7,15 +7,16 @@ ghost use Rattle.farm_answers.specs.Answers.{IsAnswered, IsJust, farm_in, no_sta
 ghost use Rattle.farm_answers.specs.Answers as answers;
 ghost use Rattle.explain_answers.specs.Explanations as spec;
 ghost use Rattle.explain_answers.specs.Explanations.{Tells};
-ghost use Rattle.farm_json.specs.Verdicts.{check_line};
-ghost use Rattle.farm_json.specs.View.{read_view};
+ghost use Rattle.explain_answers.specs.Facts.{read_view};
+ghost use Rattle.farm_answers.specs.Verdicts.{check_line};
 ghost use Rattle.farm_report.specs.VerdictText.{verdict_text};
 ghost use Rattle.report_sink.specs.Sinks.{IsWritten};
 
+use crate::explain_json::explain_json;
 use crate::explanation::{Explanation, Notes, is_hazard};
+use crate::told_json::Farm;
 use deb_text::next_line;
-use farm_answers::{OutsideFault, status_of, write_answer};
-use farm_json::{Farm, check_json, explain_json};
+use farm_answers::{OutsideFault, check_json, status_of, write_answer};
 use farm_report::write_check;
 use plan_verifier::{Accepted, Examined, Refusal};
 use report_sink::{Sink, WriteFailed, write_text};

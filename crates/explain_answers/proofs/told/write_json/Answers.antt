@@ -3,7 +3,8 @@ use Rattle.farm_answers.specs.Answers.{IsJust, no_status, status_of}
 use Rattle.explain_answers.specs.Explanations.{TellsSome}
 use Rattle.farm_answers.proofs.AnswerLaws.{answered-by}
 use Rattle.explain_answers.proofs.told.write_json.Goals as goal
-use Rattle.farm_json.specs.Verdicts.{check_line, explain_line}
+use Rattle.explain_answers.specs.NoteMembers.{explain_line}
+use Rattle.farm_answers.specs.Verdicts.{check_line}
 
 pub returns-in-Ok : goal.returns-in-Ok
 returns-in-Ok g c =
