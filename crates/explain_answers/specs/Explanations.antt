@@ -65,20 +65,6 @@ IsWhy of lines (Err (Uneven name number)) why = TellsHazards of lines (Uneven na
 IsWhy of lines (Err (Stuck names)) why = ShowsStuck of.universe of.plan lines.lanes why
 IsWhy of lines (Err Memory) why = ⊥
 
-abbrev pub is_hazard : Refusal → Bool
-is_hazard (Text fault) = false
-is_hazard (Unsafe name number trap) = true
-is_hazard (Uneven name number) = true
-is_hazard (Stuck names) = false
-is_hazard Memory = false
-
-abbrev pub is_stuck : Refusal → Bool
-is_stuck (Text fault) = false
-is_stuck (Unsafe name number trap) = false
-is_stuck (Uneven name number) = false
-is_stuck (Stuck names) = true
-is_stuck Memory = false
-
 -- Of a plan whose text has these lines, what its `remove` may leave under the greatest known rows:
 pub record AreLeft (of : FarmPlan) (lines : TextLines) (left : List Left) : Type 0 where
   pub rows : Rows

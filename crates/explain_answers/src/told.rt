@@ -13,7 +13,7 @@ ghost use Rattle.farm_report.specs.VerdictText.{verdict_text};
 ghost use Rattle.report_sink.specs.Sinks.{IsWritten};
 
 use crate::explain_json::explain_json;
-use crate::explanation::{Explanation, Notes, is_hazard};
+use crate::explanation::{Explanation, Notes};
 use crate::told_json::Farm;
 use deb_text::next_line;
 use farm_answers::{OutsideFault, check_json, status_of, write_answer};
@@ -35,10 +35,10 @@ fn spelled(alloc: Global, notes: &Notes) -> Result<Vec<u8>, AllocError> {
 /// What stands behind the lines of a verdict, of the lines that explain it: the notes on unsafe
 /// instructions begin with its line.
 fn behind_head<'a>(verdict: &Result<Accepted, Refusal>, text: &'a [u8]) -> &'a [u8] {
-    let is_begun = match verdict {
-        Ok(_) => false,
-        Err(refusal) => is_hazard(refusal),
-    };
+    let is_begun = matches!(
+        verdict,
+        Err(Refusal::Unsafe { .. } | Refusal::Uneven { .. })
+    );
     match next_line(text) {
         Some((_, behind)) if is_begun => behind,
         _ => text,
