@@ -27,7 +27,7 @@ use Rattle.refusal_reasons.specs.declared.types.Field.{Field}
 use Rattle.refusal_reasons.specs.declared.types.Reason.{Reason}
 use Rattle.serde_json.specs.Data.{Members, put}
 use Rattle.farm_answers.specs.Refusals.{number_data}
-use Rattle.explain_answers.specs.declared.told_json.Farm.{Farm}
+use Rattle.explain_answers.specs.declared.note_json.Farm.{Farm}
 
 pub data Fact : Type 0 where
   Number : List ℕ → ℕ → Fact

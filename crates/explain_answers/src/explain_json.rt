@@ -5,8 +5,7 @@ ghost use Rattle.explain_answers.specs.Facts.{read_view};
 ghost use Rattle.explain_answers.specs.NoteMembers.{explain_line, explained_members};
 ghost use Rattle.serde_json.specs.View.{members_view};
 
-use crate::note_json::reason_list;
-use crate::told_json::Farm;
+use crate::note_json::{Farm, reason_list};
 use answer_json::{answer_line, line_list};
 use farm_answers::of_verdict;
 use farm_explain::Note;

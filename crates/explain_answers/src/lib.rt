@@ -16,11 +16,10 @@ mod certified;
 mod explain;
 mod explain_json;
 mod explanation;
-mod fact_json;
 mod note_json;
+mod note_object;
 mod text_faults;
 mod told;
-mod told_json;
 
 pub use certified::answer_explain_cert;
 pub use explain::answer_explain;

@@ -14,7 +14,7 @@ ghost use Rattle.report_sink.specs.Sinks.{IsWritten};
 
 use crate::explain_json::explain_json;
 use crate::explanation::{Explanation, Notes};
-use crate::told_json::Farm;
+use crate::note_json::Farm;
 use deb_text::next_line;
 use farm_answers::{OutsideFault, check_json, status_of, write_answer};
 use farm_report::write_check;
