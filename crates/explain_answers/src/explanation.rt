@@ -11,13 +11,13 @@ ghost use Rattle.plan_verifier.specs.Verdict.{IsVerdictOn};
 ghost use Rattle.wait_notes.specs.Shown.{ShowsStuck};
 ghost use Rattle.wait_notes.specs.Waits.{waits_notes};
 
-use farm_explain::{Note, unsafe_notes};
+use farm_explain::{Note, push_left, unsafe_notes};
 use farm_input::Texts;
 use farm_universe::Universe;
 use farm_warnings::{Warnings, warnings};
 use plan_lines::PlanLines;
 use plan_verifier::{Accepted, Examined, Grounds, Refusal};
-use remove_warnings::{Left, left_warnings, push_left};
+use refusal_reasons::{Left, left_warnings};
 use std::alloc::{AllocError, Global};
 use wait_notes::{stuck_notes, waits_notes};
 

@@ -15,9 +15,10 @@ use Rattle.plan_model.specs.Safety.{Hazard, hazard_at, hazard_of, parts_of, risk
 use Rattle.refusal_reasons.proofs.HasReason.{has-reason-at}
 use Rattle.refusal_reasons.specs.First.{first_below}
 use Rattle.refusal_reasons.specs.Reasons.{reason_at}
+use Rattle.refusal_reasons.specs.Removals.{first_hazard}
 use Rattle.refusal_reasons.specs.declared.types.Reason.{Reason}
 use Rattle.farm_explain.specs.declared.told.Told.{Told}
-use Rattle.farm_explain.specs.LaneNotes.{first_hazard, hazard_note, lane_notes, notes_of, unsafe_notes}
+use Rattle.farm_explain.specs.LaneNotes.{hazard_note, lane_notes, notes_of, unsafe_notes}
 use Rattle.farm_explain.specs.Notes.{NoteFacts, notes_below}
 use Rattle.farm_explain.specs.Told.{EachTellsAReason, TellsAReason}
 

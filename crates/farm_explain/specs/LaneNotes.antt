@@ -1,27 +1,21 @@
 -- The notes on the unsafe instructions of a plan's lanes. The project's own format. Parameters: u a
 -- universe, p a plan, rows what its lanes know, ls the lines of its text, l a lane.
 --
---   first_hazard     the place of a lane's first unsafe instruction, and what is unsafe there
---   lane_notes       a note on it
+--   lane_notes       a note on a lane's first hazard
 --   unsafe_notes     one for each lane that has such an instruction
-use Rattle.std.specs.Prelude.{ℕ, List, [], ◌∷◌, length, Option, Some, None, option_map}
+use Rattle.std.specs.Prelude.{ℕ, List, [], ◌∷◌, length, Option, Some, None}
 use Rattle.farm_model.specs.declared.types.Trap.{Trap}
 use Rattle.farm_model.specs.Universe.{Universe}
 use Rattle.plan_lines.specs.Origins.{LaneLines}
 use Rattle.plan_model.specs.Known.{Rows}
-use Rattle.plan_model.specs.Plan.{Plan, lane}
-use Rattle.plan_model.specs.Safety.{Hazard, Meets, Parts, hazard_at}
+use Rattle.plan_model.specs.Plan.{Plan}
+use Rattle.plan_model.specs.Safety.{Hazard, Meets, Parts}
 use Rattle.plan_verifier.specs.Walk.{place_told}
-use Rattle.refusal_reasons.specs.First.{first_below}
 use Rattle.refusal_reasons.specs.Reasons.{reason_at}
+use Rattle.refusal_reasons.specs.Removals.{first_hazard}
 use Rattle.farm_explain.specs.declared.told.Told.{Told}
 use Rattle.farm_explain.specs.Notes.{NoteFacts, notes_below, place_at}
 use Rattle.farm_explain.specs.Parting.{parting_at}
-
-abbrev pub first_hazard : Universe → Plan → Rows → ℕ → Option (ℕ × Hazard)
-first_hazard u p rows l =
-    first_below (length (lane p l).instructions)
-    (λ i. option_map (λ hazard. (i, hazard)) (hazard_at u p rows l i))
 
 -- of a trap: its reason
 abbrev pub trap_note : Universe → Plan → Rows → List LaneLines → (l i : ℕ) → Trap → NoteFacts

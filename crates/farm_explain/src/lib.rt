@@ -12,6 +12,7 @@ pub mod could_meet;
 pub mod entries;
 mod held;
 mod laws;
+mod left;
 mod limits;
 mod missing;
 mod more;
@@ -26,6 +27,7 @@ mod reasons;
 mod told;
 
 pub use laws::{each_tells_a_reason, notes_begin_with_the_verdict};
+pub use left::push_left;
 pub use missing::{Publishing, publication};
 pub use note::{Note, NotePlace, note_place};
 pub use notes::unsafe_notes;

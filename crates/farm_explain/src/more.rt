@@ -2,8 +2,7 @@
 
 ghost use Rattle.std.specs.Prelude.{◌≡◌, ◌<◌, length};
 ghost use Rattle.plan_model.specs.Plan.{lane};
-ghost use Rattle.plan_verifier.specs.Branch.{IsAt};
-ghost use Rattle.plan_verifier.specs.Stage.{IsWhole, OfStage};
+ghost use Rattle.plan_verifier.specs.Stage.{IsWhole};
 
 use crate::also_unmet::push_also_unmet;
 use crate::builds::push_builder;
@@ -12,18 +11,19 @@ use crate::missing::LaneText;
 use crate::outputs::push_wanted_one_by_one;
 use crate::pins::push_pin;
 use plan_verifier::{LaneMay, Stage};
-use refusal_reasons::{Reason, find_builder, unmet_entries};
+use refusal_reasons::{Reason, find_builder};
 use std::alloc::{AllocError, Global};
 use wait_order::KnownWords;
 
-/// An unsafe instruction by its place in a lane, with what may be held there and why it may meet a
-/// trap.
+/// An unsafe instruction by its place in a lane, with what may be held there, why it may meet a
+/// trap, and which of its entries may not be met.
 #[derive(Clone, Copy)]
 pub struct Refused<'a> {
     pub of: LaneText<'a>,
     pub place: usize,
     pub may: &'a LaneMay,
     pub reason: Reason,
+    pub unmet: &'a [Reason],
 }
 
 /// The further entries that may not be met, and a version that makes the instruction safe.
@@ -37,10 +37,8 @@ fn push_unmet<K: KnownWords>(
     requires lane { at.of.number < length stage.now.plan.now.lanes }
     requires same { at.of.plan.now ≡ stage.now.plan.now }
     requires place { at.place < length (lane stage.now.plan.now.lanes at.of.number).instructions }
-    requires at { OfStage K.known stage.now IsAt at.of.number at.place at.may.now }
 {
-    let unmet = unmet_entries(alloc, stage, at.of.number, at.place, at.may, at.reason)?;
-    push_also_unmet(text, stage.universe, unmet.as_slice())?;
+    push_also_unmet(text, stage.universe, at.unmet)?;
     push_pin(text, alloc, stage, at)
 }
 
@@ -59,7 +57,6 @@ pub fn push_more<K: KnownWords>(
     requires lane { at.of.number < length stage.now.plan.now.lanes }
     requires same { at.of.plan.now ≡ stage.now.plan.now }
     requires place { at.place < length (lane stage.now.plan.now.lanes at.of.number).instructions }
-    requires at { OfStage K.known stage.now IsAt at.of.number at.place at.may.now }
 {
     match at.reason {
         Reason::OverBudget { .. } => push_whole_cost(text, stage, at.of.number),

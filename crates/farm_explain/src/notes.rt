@@ -22,7 +22,7 @@ use plan_asm::{Instruction, Plan};
 use plan_lines::PlanLines;
 use plan_verifier::walk::{walk, walk_to};
 use plan_verifier::{LaneMay, Refusal, Stage, WalkError};
-use refusal_reasons::{Reason, reason};
+use refusal_reasons::{Reason, reasons, unmet_entries};
 use std::alloc::{AllocError, Global};
 use wait_order::KnownWords;
 
@@ -136,14 +136,17 @@ fn trap_told<K: KnownWords>(
     let Ok(may) = walk_to(alloc, stage, number, place) else {
         return Err(AllocError);
     };
-    let told = reason(alloc, stage, number, place, &may, met.trap)?;
+    let found = reasons(alloc, stage, number, place, &may, met.trap)?;
+    let told = found.first().copied();
     if let Some(reason) = told {
         push_why(&mut text, stage, of, place, &may, reason)?;
+        let unmet = unmet_entries(found);
         let at = Refused {
             of,
             place,
             may: &may,
             reason,
+            unmet: unmet.as_slice(),
         };
         push_more(&mut text, alloc, stage, at)?;
     }

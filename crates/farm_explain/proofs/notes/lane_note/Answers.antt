@@ -1,8 +1,9 @@
 use Rattle.std.proofs.Common.{◌≡◌, ◌-◌, [], ◌∷◌, Err, sym, ap, ◌∙◌, subst, arith}
 use Rattle.plan_model.specs.Safety.{Meets, Parts}
 use Rattle.plan_verifier.specs.Walk.{place_told, IsTold, Walked}
+use Rattle.refusal_reasons.proofs.HazardLaws.{within}
 use Rattle.farm_explain.specs.LaneNotes.{hazard_note, parting_note}
-use Rattle.farm_explain.proofs.NoteLaws.{notes_first, notes_none, within}
+use Rattle.farm_explain.proofs.NoteLaws.{notes_first, notes_none}
 use Rattle.farm_explain.proofs.notes.lane_note.Goals as goal
 
 pub trap_note-requires-clause-place : goal.trap_note-requires-clause-place
@@ -17,8 +18,7 @@ trap_note-requires-clause-place g c =
     omega (
       arith,
       told.numbered,
-      within u p rows c.args.lines.now.lanes c.args.number told.i (Meets c.in-Err-Unsafe.trap)
-          told.here,
+      within u p rows c.args.number told.i (Meets c.in-Err-Unsafe.trap) told.here,
     )
 
 pub returns-in-Ok : goal.returns-in-Ok
