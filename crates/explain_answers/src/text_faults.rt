@@ -14,11 +14,10 @@ use deb_text::files::{FARM, PACKAGES, PLAN, SOURCES};
 use farm_explain::{Note, Told};
 use farm_input::Texts;
 use farm_notes::{
-    FarmNote, Texts as FarmTexts, farm_note, field_note, index_limit, is_of_field, word_note,
+    FarmNote, Texts as FarmTexts, Warnings, exchanged_look, farm_note, field_note, index_limit,
+    is_of_field, word_note, write_fault_note, write_look,
 };
 use farm_universe::{UNKNOWN_SOURCE, UNKNOWN_VARIANT};
-use farm_warnings::Warnings;
-use fault_notes::{exchanged_look, write_fault_note, write_look};
 use plan_asm::UNKNOWN_NAME;
 use plan_verifier::Refusal;
 use report_sink::{Sink, WriteFailed, WriteSink, whether_written, write_text};

@@ -9,8 +9,8 @@ use Rattle.deb_relation.specs.Relations.{Entry, Relations}
 use Rattle.farm_model.specs.declared.types.Variant.{Variant}
 use Rattle.farm_model.specs.Packages.{variant, package_of, depends, pre_depends, size, satisfies_entry, satisfies_any}
 use Rattle.farm_model.specs.Universe.{Universe}
-use Rattle.farm_notes.specs.declared.causes.Cause.{Cause}
-use Rattle.farm_notes.specs.declared.causes.Cause.TheVariants.{Twice, UnmetDepends, UnmetPreDepends, Excludes, TooLarge}
+use Rattle.farm_notes.specs.declared.base_causes.Cause.{Cause}
+use Rattle.farm_notes.specs.declared.base_causes.Cause.TheVariants.{Twice, UnmetDepends, UnmetPreDepends, Excludes, TooLarge}
 
 -- ---- one variant of a name
 

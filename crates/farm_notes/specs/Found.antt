@@ -10,7 +10,7 @@ use Rattle.deb_stanza.specs.Stanza.{Paragraph, value_of, paragraph_at, paragraph
 use Rattle.deb_relation.specs.Relations.{Relations}
 use Rattle.farm_model.specs.Universe.{Universe}
 use Rattle.farm_universe.specs.declared.error.TheConstants.{UNKNOWN_VARIANT, UNKNOWN_SOURCE, TAKEN, UNSETTLED_BASE, OVER_LIMIT}
-use Rattle.farm_notes.specs.declared.causes.Cause.{Cause}
+use Rattle.farm_notes.specs.declared.base_causes.Cause.{Cause}
 use Rattle.farm_notes.specs.declared.found.Found.{Found}
 use Rattle.farm_notes.specs.declared.found.Found.TheVariants.{Item, Unsettled, Over}
 use Rattle.farm_notes.specs.Bases.{cause_of}

@@ -1,8 +1,8 @@
 //! The names of the fields of a paragraph, at their lines.
 
 use crate::absent::Absent;
+use crate::near::is_near;
 use deb_text::{cut_at_first, is_blank_line, next_line};
-use fault_notes::is_near;
 use std::alloc::{AllocError, Global};
 
 /// The name of the field that begins at a line, if one does.

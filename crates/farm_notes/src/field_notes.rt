@@ -4,13 +4,14 @@ ghost use Rattle.std.specs.Prelude.{◌<◌, ◌^◌, length};
 
 use crate::absent::{Absent, absent_from};
 use crate::field_names::{field_line, near_field};
-use crate::fields::{Odd, OddField, odd_field};
-use crate::lines::item_line;
+use crate::field_values::{Odd, OddField, odd_field};
+use crate::item_lines::item_line;
 use crate::parts::{paragraph_place, read_paragraphs};
+use crate::places::file_name;
+use crate::values::write_value;
 use deb_stanza::Paragraphs;
 use deb_text::Fault;
 use farm_universe::ABSENT;
-use fault_notes::{file_name, write_value};
 use itoa::Buffer;
 use report_sink::{Sink, WriteFailed, WriteSink, whether_written, write_pieces, write_text};
 use std::alloc::{AllocError, Global};

@@ -1,6 +1,6 @@
 //! What a refusal of a text is about.
 
-use crate::causes::Cause;
+use crate::base_causes::Cause;
 
 /// What a refusal of a text is about. Items are told by their places in their list, the first
 /// being 0.

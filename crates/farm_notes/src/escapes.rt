@@ -1,0 +1,91 @@
+//! Bytes as notes show them.
+
+ghost use Rattle.std.specs.Prelude.{◌≡◌, ◌<◌, is_err};
+ghost use Rattle.std.specs.Char.{digit_char};
+ghost use Rattle.farm_notes.specs.Escapes as spec;
+ghost use Rattle.report_sink.specs.Sinks.{IsWritten};
+
+use report_sink::{Sink, WriteFailed, whether_written, write_text};
+
+/// A hexadecimal digit.
+fn hex_digit(digit: u8) -> u8
+    requires { digit < 16 }
+    ensures { result ≡ digit_char digit }
+{
+    if digit < 10 {
+        b'0' + digit
+    } else {
+        b'a' + (digit - 10)
+    }
+}
+
+fn is_plain(byte: u8) -> bool
+    ensures { result ≡ spec.is_plain byte }
+{
+    32 <= byte && byte <= 126 && byte != b'\\'
+}
+
+/// Writes a byte as it is, or escaped.
+#[tactic(auto, unfolding(crate::specs::Escapes::escaped_byte))]
+fn write_byte<S: Sink>(out: &mut S, byte: u8) -> Result<(), WriteFailed>
+    ensures written { IsWritten (S.state out.old) (S.state out.new) (spec.escaped_byte byte) }
+    ensures told { is_err result ≡ (S.state out.new).failed }
+{
+    if is_plain(byte) {
+        return write_text(out, &[byte]);
+    }
+    let (high, low) = (hex_digit(byte / 16), hex_digit(byte % 16));
+    write_text(out, &[b'\\', b'x', high, low])
+}
+
+/// What a string of JSON has ahead of a byte as it is, or escaped.
+fn quote_mark(byte: u8) -> &'static [u8]
+    ensures { result.now ≡ spec.quote_mark byte }
+{
+    if byte == b'"' || !is_plain(byte) {
+        b"\\"
+    } else {
+        b""
+    }
+}
+
+/// Writes a byte as it is, or escaped, as a string of JSON has that.
+fn write_quoted_byte<S: Sink>(out: &mut S, byte: u8) -> Result<(), WriteFailed>
+    ensures written { IsWritten (S.state out.old) (S.state out.new) (spec.quoted_byte byte) }
+    ensures told { is_err result ≡ (S.state out.new).failed }
+{
+    write_text(out, quote_mark(byte))?;
+    write_byte(out, byte)
+}
+
+/// Writes bytes. One other than printable ASCII, and a backslash, is written as `\x` and two
+/// hexadecimal digits. A sink that had failed before is not written to.
+///
+/// # Errors
+///
+/// [`WriteFailed`] where the sink has failed. It has then taken a first part of the text.
+pub fn write_escaped<S: Sink>(out: &mut S, bytes: &[u8]) -> Result<(), WriteFailed>
+    ensures written { IsWritten (S.state out.old) (S.state out.new) (spec.escaped bytes.now) }
+    ensures told { is_err result ≡ (S.state out.new).failed }
+{
+    for byte in bytes {
+        write_byte(out, *byte)?;
+    }
+    whether_written(out)
+}
+
+/// Writes bytes as [`write_escaped`] does, as they stand in a string of JSON: with one more backslash
+/// ahead of each, and one ahead of a quotation mark.
+///
+/// # Errors
+///
+/// [`WriteFailed`] where the sink has failed. It has then taken a first part of the text.
+pub fn write_quoted<S: Sink>(out: &mut S, bytes: &[u8]) -> Result<(), WriteFailed>
+    ensures written { IsWritten (S.state out.old) (S.state out.new) (spec.quoted bytes.now) }
+    ensures told { is_err result ≡ (S.state out.new).failed }
+{
+    for byte in bytes {
+        write_quoted_byte(out, *byte)?;
+    }
+    whether_written(out)
+}

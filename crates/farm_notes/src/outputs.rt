@@ -1,0 +1,264 @@
+//! The outputs of recipes that their source lists and does not give to such a build.
+
+ghost use Rattle.std.specs.Prelude.{◌≡◌, ◌<◌, ◌++◌, length, map, IfOk, OnOk};
+ghost use Rattle.std.specs.Option.{option_map};
+ghost use Rattle.deb_text.specs.Words.{words};
+ghost use Rattle.deb_profile.specs.Restriction.{is_among};
+ghost use Rattle.deb_stanza.specs.Stanza.{paragraph_at};
+ghost use Rattle.farm_universe.specs.ListText as texts;
+ghost use Rattle.farm_notes.specs.Outputs as spec;
+
+use crate::paragraphs::read_paragraphs;
+use crate::source_list::source_list;
+use crate::warning::{About, Warnings};
+use deb_profile::{ArchNames, ProfileSet};
+use deb_relation::{Entry, Kind, Relations};
+use deb_stanza::Paragraphs;
+use deb_text::{MEMORY, next_line, next_word};
+use farm_model::Mode;
+use farm_universe::{Universe, pinned};
+use package_list::{Build, given_names};
+use std::alloc::{AllocError, Global};
+
+/// Tells whether a row of a Package-List is that of the package of this name.
+fn is_row(row: &[u8], name: &[u8]) -> bool
+    ensures { result ≡ spec.is_row name.now (words row.now) }
+{
+    let Some((given, rest)) = next_word(row) else {
+        return false;
+    };
+    let Some((kind, rest)) = next_word(rest) else {
+        return false;
+    };
+    let Some((_, rest)) = next_word(rest) else {
+        return false;
+    };
+    next_word(rest).is_some() && kind == b"deb".as_slice() && given == name
+}
+
+/// Tells whether a Package-List has a row of the package of this name.
+fn is_listed(list: &[u8], name: &[u8]) -> bool
+    ensures { result ≡ spec.is_listed list.now name.now }
+{
+    let mut rest = list;
+    while let Some((row, behind)) = next_line(rest) {
+        if is_row(row, name) {
+            return true;
+        }
+        rest = behind;
+    }
+    false
+}
+
+/// Tells whether a name is among those that are given.
+fn is_given(given: &[&[u8]], name: &[u8]) -> bool
+    ensures { result ≡ is_among (map (λ other. other.now) given.now) name.now }
+{
+    for place in 0..given.len() {
+        if name == given[place] {
+            return true;
+        }
+    }
+    false
+}
+
+/// The Package-List of a recipe's source, the names in it that the recipe's build gives, and the
+/// first line of the recipe's paragraph.
+#[derive(Clone, Copy)]
+struct Listed<'a> {
+    list: &'a [u8],
+    given: &'a [&'a [u8]],
+    line: u32,
+}
+
+/// What is said of an output.
+fn push_output(found: &mut Warnings, listed: Listed<'_>, name: &[u8]) -> Result<(), AllocError>
+    ensures { OnOk result (found.new ≡ found.old ++ spec.output_said listed.entry.list.now
+        (map (λ other. other.now) listed.entry.given.now) listed.entry.line name.now) }
+{
+    if is_listed(listed.list, name) && !is_given(listed.given, name) {
+        found.push(About::Output(listed.line), name)
+    } else {
+        Ok(())
+    }
+}
+
+/// What is said of an item of the field Outputs.
+fn push_item(found: &mut Warnings, listed: Listed<'_>, entry: &Entry) -> Result<(), AllocError>
+    ensures { OnOk result (found.new ≡ found.old ++ spec.item_said listed.entry.list.now
+        (map (λ other. other.now) listed.entry.given.now) listed.entry.line (texts.pinned entry.now)) }
+{
+    match pinned(entry) {
+        Some((name, _)) => push_output(found, listed, name),
+        None => Ok(()),
+    }
+}
+
+/// What is said of the items of the field Outputs.
+fn push_items(found: &mut Warnings, listed: Listed<'_>, entries: &[Entry]) -> Result<(), AllocError>
+    ensures { OnOk result (found.new ≡ found.old ++ spec.outputs_said listed.entry.list.now
+        (map (λ other. other.now) listed.entry.given.now) listed.entry.line entries.now) }
+{
+    let mut left = entries;
+    while let [entry, rest @ ..] = left {
+        push_item(found, listed, entry)?;
+        left = rest;
+    }
+    Ok(())
+}
+
+/// What is said of the outputs that a value of the field Outputs has.
+fn push_field(
+    alloc: Global,
+    found: &mut Warnings,
+    listed: Listed<'_>,
+    value: Option<&[u8]>,
+) -> Result<(), AllocError>
+    ensures { OnOk result (found.new ≡ found.old ++ spec.outputs_said listed.entry.list.now
+        (map (λ other. other.now) listed.entry.given.now) listed.entry.line
+        (spec.outputs_in (option_map (λ v. v.now) value.entry))) }
+{
+    let Some(text) = value else {
+        return Ok(());
+    };
+    match Relations::parse(alloc, text, Kind::Provide) {
+        Ok(list) => push_items(found, listed, list.entries()),
+        Err(error) if error.code == MEMORY => Err(AllocError),
+        Err(_) => Ok(()),
+    }
+}
+
+/// The mode of a value: `full` where it is absent.
+fn mode_of(value: Option<&[u8]>) -> Mode
+    ensures { result ≡ spec.mode_of (option_map (λ v. v.now) value.entry) }
+{
+    match value {
+        Some(text) if text == b"arch".as_slice() => Mode::Arch,
+        Some(text) if text == b"indep".as_slice() => Mode::Indep,
+        _ => Mode::Full,
+    }
+}
+
+/// The profiles of a value.
+fn profiles_of(alloc: Global, value: Option<&[u8]>) -> Result<ProfileSet, AllocError>
+    ensures { IfOk result
+        (λ profiles. profiles ≡ spec.profiles_of (option_map (λ v. v.now) value.entry)) }
+{
+    let Some(text) = value else {
+        return Ok(ProfileSet::none(alloc));
+    };
+    match ProfileSet::parse(alloc, text) {
+        Ok(profiles) => Ok(profiles),
+        Err(error) if error.code == MEMORY => Err(AllocError),
+        Err(_) => Ok(ProfileSet::none(alloc)),
+    }
+}
+
+/// The names in a Package-List that the build of a recipe gives, of this paragraph.
+fn given_in<'a>(
+    alloc: Global,
+    names: &ArchNames,
+    farm: &Paragraphs,
+    place: usize,
+    list: &'a [u8],
+) -> Result<Vec<&'a [u8]>, AllocError>
+    requires { place < length farm.now }
+    ensures { IfOk result (λ given. map (λ other. other.now) given.items
+        ≡ spec.given_in names.now (paragraph_at farm.now place) list.now) }
+{
+    let profiles = profiles_of(alloc, farm.field(place, b"Profiles"))?;
+    let build = Build {
+        names,
+        profiles: &profiles,
+        mode: mode_of(farm.field(place, b"Mode")),
+    };
+    given_names(alloc, list, &build)
+}
+
+/// What is said of a recipe, of this paragraph, whose source has this Package-List.
+fn push_list(
+    alloc: Global,
+    found: &mut Warnings,
+    names: &ArchNames,
+    farm: &Paragraphs,
+    place: usize,
+    list: Option<&[u8]>,
+) -> Result<(), AllocError>
+    requires { place < length farm.now }
+    ensures { OnOk result (found.new ≡ found.old ++ spec.list_said names.now
+        (paragraph_at farm.now place) (option_map (λ bytes. bytes.now) list.entry)) }
+{
+    let Some(list) = list else {
+        return Ok(());
+    };
+    let given = given_in(alloc, names, farm, place, list)?;
+    let listed = Listed {
+        list,
+        given: &given,
+        line: farm.line_of(place),
+    };
+    push_field(alloc, found, listed, farm.field(place, b"Outputs"))
+}
+
+/// What is said of a paragraph, if it is that of a recipe.
+fn push_paragraph(
+    alloc: Global,
+    found: &mut Warnings,
+    names: &ArchNames,
+    sources: &Paragraphs,
+    farm: &Paragraphs,
+    place: usize,
+) -> Result<(), AllocError>
+    requires { place < length farm.now }
+    ensures { OnOk result (found.new ≡ found.old
+        ++ spec.paragraph_said names.now sources.now (paragraph_at farm.now place)) }
+{
+    if farm.field(place, b"Recipe").is_none() {
+        return Ok(());
+    }
+    let list = source_list(alloc, sources, farm.field(place, b"Source"))?;
+    push_list(alloc, found, names, farm, place, list)
+}
+
+/// What is said of the paragraphs behind the first one.
+fn push_paragraphs(
+    alloc: Global,
+    found: &mut Warnings,
+    names: &ArchNames,
+    sources: &Paragraphs,
+    farm: &Paragraphs,
+) -> Result<(), AllocError>
+    ensures { OnOk result (found.new
+        ≡ found.old ++ spec.all_said names.now sources.now farm.now) }
+{
+    for place in 1..farm.count() {
+        push_paragraph(alloc, found, names, sources, farm, place)?;
+    }
+    Ok(())
+}
+
+/// Puts a warning behind others of each output of a recipe that the Package-List of its source has,
+/// and that is not built for the farm's architecture in the recipe's mode under its profiles.
+///
+/// # Errors
+///
+/// [`AllocError`] where memory is refused.
+#[tactic(auto, using(crate::proofs::OutputLaws::nothing_without_sources), unfolding(crate::specs::Outputs::output_warnings))]
+pub fn push_outputs(
+    alloc: Global,
+    found: &mut Warnings,
+    universe: &Universe,
+    sources: &[u8],
+    farm: &[u8],
+) -> Result<(), AllocError>
+    ensures { OnOk result (found.new
+        ≡ found.old ++ spec.output_warnings universe.now sources.now farm.now) }
+{
+    let Some(farm) = read_paragraphs(alloc, farm)? else {
+        return Ok(());
+    };
+    let Some(sources) = read_paragraphs(alloc, sources)? else {
+        return Ok(());
+    };
+    push_paragraphs(alloc, found, universe.arch_names(), &sources, &farm)
+}
